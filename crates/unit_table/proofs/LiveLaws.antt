@@ -1,5 +1,5 @@
 -- A list of runners, and one of them written.
-use Rattle.unit_table.proofs.Common.{◌≡◌, ◌≢◌, ℕ, zero, suc, ◌+◌, ◌-◌, ◌*◌, ◌<◌, ◌≤◌, inl, inr, Bool, true, false, cond, Option, Some, None, ℤ, pos, ◌+ℤ◌, ◌-ℤ◌, ◌≤ℤ◌, ◌<ℤ◌, List, [], ◌∷◌, length, refl, sym, ap, ◌∙◌, subst, arith, IfSome, slice_get, slice_set, ints, slice_get_within, cases_eq, Table, value_of, ThermalUnit, PriceLists, passed_at, Runner, Passed, going_of, live_at, left_of, left_at, places_of, IsRoomy, AreRoomy, AreSmall, IsUnder, IsBeyond, IsBelow, HaveRoom, Going, AreRunners}
+use Rattle.unit_table.proofs.Common.{◌≡◌, ◌≢◌, ℕ, zero, suc, ◌+◌, ◌-◌, ◌*◌, ◌<◌, ◌≤◌, inl, inr, Bool, true, false, cond, Option, Some, None, ℤ, pos, ◌+ℤ◌, ◌-ℤ◌, ◌≤ℤ◌, ◌<ℤ◌, List, [], ◌∷◌, length, refl, sym, ap, ◌∙◌, subst, arith, IfSome, slice_get, slice_set, ints, slice_get_within, cases_eq, Table, value_of, ThermalUnit, PriceLists, passed_at, Runner, Passed, going_of, live_at, left_of, left_at, AreRoomy, AreSmall, IsUnder, IsBeyond, IsBelow, HaveRoom, Going, AreRunners, AreFewer, IsKeptFrom, AreKept, length-set}
 use Rattle.std.proofs.Math.Nat.{mul-le-mul_right}
 
 -- the runners are small
@@ -109,137 +109,177 @@ slice_get_none [] f h = omega arith
 slice_get_none (x ∷ xs) zero h = cc
 slice_get_none (x ∷ xs) (suc f) h = (let e = slice_get_none xs f h in omega (arith, e))
 
--- ---- all stopped
+-- ---- the same runners, of which some were stopped or begun
 
--- those before n are stopped, and all have the room that they had
-pub record IsStopped {R : Type 0} (room : R → ℕ) (old : List (Runner R)) (n : ℕ) (new : List (Runner R)) : Type 0 where
-  pub off : (f : ℕ) (r : Runner R) → f < n → slice_get new f ≡ Some r → r.is_on ≡ false
-  pub kept : (f : ℕ) (r : Runner R) → slice_get new f ≡ Some r → (o : Runner R) × (slice_get old f ≡ Some o) × (room r.running ≡ room o.running) × (r.passed ≡ o.passed)
-  pub same_length : length new ≡ length old
+module _ {R : Type 0} (function : R → Table) (count room : R → ℕ) where
+  kept_one : (r : Runner R) → IsKeptFrom count room r r
+  kept_one r = record { room_same = refl; passed = refl; pieces = λ on. inr (on, refl) }
 
-pub none_stopped : {R : Type 0} (room : R → ℕ) (old : List (Runner R)) → IsStopped room old 0 old
-none_stopped room old = record {
-  off = λ f r low is. absurd (omega (arith, low));
-  kept = λ f r is. (r, is, refl, refl);
-  same_length = refl;
+  pub stopped_one : (old a : Runner R) → a.is_on ≡ false → a.running ≡ old.running → a.passed ≡ old.passed → IsKeptFrom count room old a
+  stopped_one old a off same passed = record { room_same = ap room same; passed = passed; pieces = λ on. absurd (cc) }
+
+  pub begun_one : (old a : Runner R) → count a.running ≡ 0 → room a.running ≡ room old.running → a.passed ≡ old.passed → IsKeptFrom count room old a
+  begun_one old a none same passed = record { room_same = same; passed = passed; pieces = λ on. inl none }
+
+  pub kept_none : (runners : List (Runner R)) → AreKept count room runners runners
+  kept_none runners = record { count_same = refl; each = λ f r is. (r, is, kept_one r) }
+
+  pub kept_then : (a b d : List (Runner R)) → AreKept count room a b → AreKept count room b d → AreKept count room a d
+  kept_then a b d early late = record {
+    count_same = late.count_same ∙ early.count_same;
+    each = λ f r is.
+        let n = late.each f r is in
+        let o = early.each f n.0 n.1 in (
+          o.0,
+          o.1,
+          record {
+            room_same = n.2.room_same ∙ o.2.room_same;
+            passed = n.2.passed ∙ o.2.passed;
+            pieces = λ on. elim (n.2.pieces on) [
+              | inl none ↦ inl none
+              | inr h ↦ elim (o.2.pieces h.0) [
+                | inl none ↦ inl (h.1 ∙ none)
+                | inr k ↦ inr (k.0, h.1 ∙ k.1)
+              ]
+            ];
+          },
+        );
+  }
+
+  pub kept_written : (runners runners' : List (Runner R)) (i : ℕ) (a old : Runner R) → i < length runners →
+      runners' ≡ slice_set runners i a → slice_get runners i ≡ Some old → IsKeptFrom count room old a →
+      AreKept count room runners runners'
+  kept_written runners runners' i a old low set was kept = record {
+    count_same = ap (λ (xs : List (Runner R)). length xs) set ∙ length-set runners i a;
+    each = λ f r is. elim (cases_eq f i) [
+      | inl z ↦
+          let e = ap (λ (k : ℕ). slice_get runners' k) z in
+          let w = written_here function runners runners' i a low set in
+          let same : a ≡ r = (cc) in
+          (old, ap (λ (k : ℕ). slice_get runners k) z ∙ was, subst (λ (r : Runner R). IsKeptFrom count room old r) same kept)
+      | inr other ↦ (r, sym (written_other function runners runners' i a low set f other) ∙ is, kept_one r)
+    ];
+  }
+
+  module _ (old new : List (Runner R)) (kept : AreKept count room old new) where
+    pub kept_roomy : (periods t charge : ℕ) → AreRoomy count room periods t charge old →
+        AreRoomy count room periods t charge new
+    kept_roomy periods t charge roomy f r is =
+        let k = kept.each f r is in
+        let o = roomy f k.0 k.1 in
+        let whole = o.whole in
+        let places = o.places in
+        let same = k.2.room_same in
+        let length_same = ap (λ p. length p.items + p.spare) k.2.passed in
+        record {
+          whole = omega (arith, whole, same);
+          places = omega (arith, places, length_same);
+          rest = λ on. elim (k.2.pieces on) [
+            | inl none ↦ (let rest = room_none periods t charge (room k.0.running) whole in omega (arith, none, same, rest))
+            | inr h ↦ (let rest = o.rest h.0 in let pieces = h.1 in omega (arith, rest, pieces, same))
+          ];
+        }
+
+    pub kept_room : (most periods : ℕ) → HaveRoom room most periods old → HaveRoom room most periods new
+    kept_room most periods have f r is =
+        let k = kept.each f r is in
+        let there = (have f k.0 k.1).0 in
+        let places = (have f k.0 k.1).1 in
+        let same = k.2.room_same in
+        let length_same = ap (λ p. length p.items + p.spare) k.2.passed in
+        (omega (arith, there, same), omega (arith, places, length_same))
+
+    pub kept_left : (f k : ℕ) → left_at new f k ≡ left_at old f k
+    kept_left f k = elim (slice_get new f) as (λ o. slice_get new f ≡ o → left_of o k ≡ left_at old f k) [
+      | None ↦ λ is. (
+          let past = kept.count_same in
+          let end = slice_get_none new f is in
+          sym (ap (λ o. left_of o k) (slice_get_past old f (omega (arith, past, end)))))
+      | Some r ↦ λ is. (let o = kept.each f r is in ap (λ p. passed_at p.items k) o.2.passed ∙ sym (ap (λ o. left_of o k) o.1))
+    ] refl
+
+-- where none is on, the room of each is all its own
+pub off_roomy : {R : Type 0} (function : R → Table) (count room : R → ℕ) (periods t charge : ℕ) (runners : List (Runner R)) →
+    ((f : ℕ) → live_at function runners f ≡ None) → HaveRoom room (periods * charge) periods runners →
+    AreRoomy count room periods t charge runners
+off_roomy function count room periods t charge runners off have f r is = record {
+  whole = (have f r is).0;
+  places = (have f r is).1;
+  rest = λ on. (let none = off f in let live = ap (going_of function) is ∙ going_on function r on in absurd (cc));
 }
-
-module _ {R : Type 0} (function : R → Table) (count room : R → ℕ) (old new : List (Runner R)) (n : ℕ) (all : IsStopped room old n new) where
-  pub stopped_more : (new' : List (Runner R)) (a b : Runner R) → n < length new → slice_get new n ≡ Some b → a.is_on ≡ false → a.running ≡ b.running → a.passed ≡ b.passed → new' ≡ slice_set new n a → length new' ≡ length new → IsStopped room old (n + 1) new'
-  stopped_more new' a b low was off same passed set count_same =
-      let here = written_here function new new' n a low set in
-      record {
-        off = λ f r less is. elim (cases_eq f n) [
-          | inl z ↦ (let e : r ≡ a = (let w = ap (λ (k : ℕ). slice_get new' k) z in cc) in ap (λ (r : Runner R). r.is_on) e ∙ off)
-          | inr other ↦ all.off f r (omega (arith, less, other)) (sym (written_other function new new' n a low set f other) ∙ is)
-        ];
-        kept = λ f r is. elim (cases_eq f n) [
-          | inl z ↦
-              let e : r ≡ a = (let w = ap (λ (k : ℕ). slice_get new' k) z in cc) in
-              let k = all.kept n b was in
-              (k.0, ap (slice_get old) z ∙ k.1, ap (λ (r : Runner R). room r.running) e ∙ ap room same ∙ k.2, ap (λ (r : Runner R). r.passed) e ∙ passed ∙ k.3)
-          | inr other ↦ all.kept f r (sym (written_other function new new' n a low set f other) ∙ is)
-        ];
-        same_length = count_same ∙ all.same_length;
-      }
-
-  pub stopped_off : length new ≤ n → (f : ℕ) → live_at function new f ≡ None
-  stopped_off end f = elim (slice_get new f) as (λ o. slice_get new f ≡ o → going_of function o ≡ None) [
-    | None ↦ λ is. refl
-    | Some r ↦ λ is. going_off function r (all.off f r (let low = slice_get_within new f r is in omega (arith, low, end)) is)
-  ] refl
-
-  pub stopped_roomy : length new ≤ n → (periods t charge : ℕ) → HaveRoom room (periods * charge) periods old → AreRoomy count room periods t charge new
-  stopped_roomy end periods t charge roomy f r is =
-      let k = all.kept f r is in
-      let whole = (roomy f k.0 k.1).0 in
-      let places = (roomy f k.0 k.1).1 in
-      let same = k.2 in
-      let length_same = ap (λ p. length p.items + p.spare) k.3 in
-      record {
-        whole = omega (arith, whole, same);
-        places = omega (arith, places, length_same);
-        rest = λ on. (let off = all.off f r (let low = slice_get_within new f r is in omega (arith, low, end)) is in cc);
-      }
-
-  pub stopped_keeps : (most periods : ℕ) → HaveRoom room most periods old → HaveRoom room most periods new
-  stopped_keeps most periods have f r is =
-      let k = all.kept f r is in
-      let there = (have f k.0 k.1).0 in
-      let places = (have f k.0 k.1).1 in
-      let same = k.2 in
-      let length_same = ap (λ p. length p.items + p.spare) k.3 in
-      (omega (arith, there, same), omega (arith, places, length_same))
-
-  pub stopped_left : (f k : ℕ) → left_at new f k ≡ left_at old f k
-  stopped_left f k = elim (slice_get new f) as (λ o. slice_get new f ≡ o → left_of o k ≡ left_at old f k) [
-    | None ↦ λ is. (
-        let past = all.same_length in
-        let end = slice_get_none new f is in
-        sym (ap (λ o. left_of o k) (slice_get_past old f (omega (arith, past, end)))))
-    | Some r ↦ λ is. (let o = all.kept f r is in ap (λ p. passed_at p.items k) o.3 ∙ sym (ap (λ o. left_of o k) o.1))
-  ] refl
-
--- ---- one stopped
-
-pub if_some_more : {X : Type 0} (P Q : X → Type 0) → ((x : X) → P x → Q x) → (o : Option X) → IfSome o P → IfSome o Q
-if_some_more P Q more None h = tt
-if_some_more P Q more (Some x) h = more x h
-
-module _ {R : Type 0} (function : R → Table) (runners runners' : List (Runner R)) (i : ℕ) (a : Runner R) (room : i < length runners) (set : runners' ≡ slice_set runners i a) (off : a.is_on ≡ false) where
-  pub small_stopped : AreSmall (live_at function runners) → AreSmall (live_at function runners')
-  small_stopped small f r is = elim (cases_eq f i) [
-    | inl z ↦ (let none = live_here function runners runners' i a room set ∙ going_off function a off in let same = ap (live_at function runners') z in cc)
-    | inr other ↦ small f r (sym (live_other function runners runners' i a room set f other) ∙ is)
-  ]
-
-  pub off_stopped : (f : ℕ) → live_at function runners f ≡ None → live_at function runners' f ≡ None
-  off_stopped f none = elim (cases_eq f i) [
-    | inl z ↦ ap (live_at function runners') z ∙ live_here function runners runners' i a room set ∙ going_off function a off
-    | inr other ↦ live_other function runners runners' i a room set f other ∙ none
-  ]
-
-pub roomy_stopped : {R : Type 0} (function : R → Table) (count room : R → ℕ) (periods t charge : ℕ) (runners runners' : List (Runner R)) (i : ℕ) (a : Runner R) → i < length runners → runners' ≡ slice_set runners i a →
-    a.is_on ≡ false → (old : Runner R) → slice_get runners i ≡ Some old → a.running ≡ old.running → a.passed ≡ old.passed → AreRoomy count room periods t charge runners → AreRoomy count room periods t charge runners'
-roomy_stopped function count room periods t charge runners runners' i a low set off old was same passed roomy =
-    each_written function runners runners' i a low set (IsRoomy count room periods t charge)
-    (record {
-      whole = (let whole = (roomy i old was).whole in let e = ap room same in omega (arith, whole, e));
-      places = (let places = (roomy i old was).places in let e = ap (λ p. length p.items + p.spare) passed in omega (arith, places, e));
-      rest = λ on. cc;
-    }) roomy
-
--- one begun
-pub roomy_begun : {R : Type 0} (function : R → Table) (count room : R → ℕ) (periods t charge : ℕ) (runners runners' : List (Runner R)) (i : ℕ) (a : Runner R) → i < length runners → runners' ≡ slice_set runners i a →
-    (old : Runner R) → slice_get runners i ≡ Some old → count a.running ≡ 0 → room a.running ≡ room old.running → a.passed ≡ old.passed → AreRoomy count room periods t charge runners → AreRoomy count room periods t charge runners'
-roomy_begun function count room periods t charge runners runners' i a low set old was none same passed roomy =
-    each_written function runners runners' i a low set (IsRoomy count room periods t charge)
-    (let whole = (roomy i old was).whole in
-    record {
-      whole = omega (arith, whole, same);
-      places = (let places = (roomy i old was).places in let e = ap (λ p. length p.items + p.spare) passed in omega (arith, places, e));
-      rest = λ on. (let rest = room_none periods t charge (room old.running) whole in omega (arith, none, same, rest));
-    }) roomy
 
 pub have_room : {R : Type 0} (count room : R → ℕ) (periods t charge : ℕ) (runners : List (Runner R)) → AreRoomy count room periods t charge runners → HaveRoom room (periods * charge) periods runners
 have_room count room periods t charge runners roomy f r is = ((roomy f r is).whole, (roomy f r is).places)
 
--- one written keeps its room
-pub written_keeps : {R : Type 0} (function : R → Table) (room : R → ℕ) (runners runners' : List (Runner R)) (i : ℕ) (a : Runner R) → i < length runners → runners' ≡ slice_set runners i a →
-    (old : Runner R) → slice_get runners i ≡ Some old → room a.running ≡ room old.running → places_of a ≡ places_of old → (most periods : ℕ) → HaveRoom room most periods runners → HaveRoom room most periods runners'
-written_keeps function room runners runners' i a low set old was same places most periods have =
-    each_written function runners runners' i a low set (λ r. (most ≤ room r.running) × (periods ≤ places_of r))
-    (let there = have i old was in let fits = there.0 in let long = there.1 in (omega (arith, fits, same), omega (arith, long, places))) have
+-- ---- all stopped
 
--- what is left stays where one written left the same
-pub written_left : {R : Type 0} (function : R → Table) (runners runners' : List (Runner R)) (i : ℕ) (a : Runner R) → i < length runners → runners' ≡ slice_set runners i a →
-    (old : Runner R) → slice_get runners i ≡ Some old → a.passed ≡ old.passed → (f k : ℕ) → left_at runners' f k ≡ left_at runners f k
-written_left function runners runners' i a low set old was same f k = elim (cases_eq f i) [
-  | inl z ↦
-      ap (λ (j : ℕ). left_at runners' j k) z ∙ ap (λ o. left_of o k) (written_here function runners runners' i a low set) ∙ ap (λ p. passed_at p.items k) same
-      ∙ sym (ap (λ o. left_of o k) was) ∙ sym (ap (λ (j : ℕ). left_at runners j k) z)
-  | inr other ↦ ap (λ o. left_of o k) (written_other function runners runners' i a low set f other)
+-- those before n are stopped
+pub record IsStopped {R : Type 0} (count room : R → ℕ) (old : List (Runner R)) (n : ℕ) (new : List (Runner R)) : Type 0 where
+  pub off : (f : ℕ) (r : Runner R) → f < n → slice_get new f ≡ Some r → r.is_on ≡ false
+  pub kept : AreKept count room old new
+
+module _ {R : Type 0} (function : R → Table) (count room : R → ℕ) (old : List (Runner R)) where
+  pub none_stopped : IsStopped count room old 0 old
+  none_stopped = record { off = λ f r low is. absurd (omega (arith, low)); kept = kept_none function count room old }
+
+  module _ (new : List (Runner R)) (n : ℕ) (all : IsStopped count room old n new) where
+    pub stopped_more : (new' : List (Runner R)) (a b : Runner R) → n < length new → slice_get new n ≡ Some b →
+        a.is_on ≡ false → a.running ≡ b.running → a.passed ≡ b.passed → new' ≡ slice_set new n a →
+        IsStopped count room old (n + 1) new'
+    stopped_more new' a b low was off same passed set = record {
+      off = λ f r less is. elim (cases_eq f n) [
+        | inl z ↦
+            let here = written_here function new new' n a low set in
+            let e : r ≡ a = (let w = ap (λ (k : ℕ). slice_get new' k) z in cc) in
+            ap (λ (r : Runner R). r.is_on) e ∙ off
+        | inr other ↦ all.off f r (omega (arith, less, other)) (sym (written_other function new new' n a low set f other) ∙ is)
+      ];
+      kept = kept_then function count room old new new' all.kept
+          (kept_written function count room new new' n a b low set was (stopped_one function count room b a off same passed));
+    }
+
+    pub stopped_off : length new ≤ n → (f : ℕ) → live_at function new f ≡ None
+    stopped_off end f = elim (slice_get new f) as (λ o. slice_get new f ≡ o → going_of function o ≡ None) [
+      | None ↦ λ is. refl
+      | Some r ↦ λ is. going_off function r (all.off f r (let low = slice_get_within new f r is in omega (arith, low, end)) is)
+    ] refl
+
+-- ---- fewer on
+
+pub fewer_none : (live : ℕ → Option Going) → AreFewer live live
+fewer_none live f = inl refl
+
+pub fewer_then : (a b d : ℕ → Option Going) → AreFewer a b → AreFewer b d → AreFewer a d
+fewer_then a b d early late f = elim (late f) [
+  | inl same ↦ elim (early f) [
+    | inl e ↦ inl (same ∙ e)
+    | inr none ↦ inr (same ∙ none)
+  ]
+  | inr none ↦ inr none
 ]
+
+pub fewer_off : (a b : ℕ → Option Going) → AreFewer a b → (f : ℕ) → a f ≡ None → b f ≡ None
+fewer_off a b fewer f off = elim (fewer f) [
+  | inl same ↦ same ∙ off
+  | inr none ↦ none
+]
+
+pub fewer_small : (a b : ℕ → Option Going) → AreFewer a b → AreSmall a → AreSmall b
+fewer_small a b fewer small f r is = elim (fewer f) [
+  | inl same ↦ small f r (sym same ∙ is)
+  | inr none ↦ absurd (cc)
+]
+
+module _ {R : Type 0} (function : R → Table) (runners runners' : List (Runner R)) (i : ℕ) (a : Runner R) (room : i < length runners) (set : runners' ≡ slice_set runners i a) where
+  pub fewer_stopped : a.is_on ≡ false → AreFewer (live_at function runners) (live_at function runners')
+  fewer_stopped off f = elim (cases_eq f i) [
+    | inl z ↦ inr (ap (live_at function runners') z ∙ live_here function runners runners' i a room set ∙ going_off function a off)
+    | inr other ↦ inl (live_other function runners runners' i a room set f other)
+  ]
+
+pub if_some_more : {X : Type 0} (P Q : X → Type 0) → ((x : X) → P x → Q x) → (o : Option X) → IfSome o P → IfSome o Q
+if_some_more P Q more None h = tt
+if_some_more P Q more (Some x) h = more x h
 
 pub if_some : {X : Type 0} → (P : X → Type 0) (o : Option X) (x : X) → o ≡ Some x → IfSome o P → P x
 if_some P o x is h = subst (λ o. IfSome o P) is h

@@ -1,8 +1,8 @@
 -- The list of the runners that are on: one more, some fewer, and a loop over it.
-use Rattle.unit_table.proofs.Common.{◌≡◌, ◌≢◌, ℕ, suc, ◌+◌, ◌<◌, ◌≤◌, ◌⊎◌, inl, inr, Option, Some, None, ℤ, List, length, refl, sym, ap, ◌∙◌, subst, arith, length-set, slice_get, slice_set, cases_lt, cases_eq, Table, ThermalUnit, PriceLists, Runner, Ended, going_of, live_at, AreRoomy, IsRoster, Going, IsRowOf}
+use Rattle.unit_table.proofs.Common.{◌≡◌, ◌≢◌, ℕ, suc, ◌+◌, ◌<◌, ◌≤◌, ◌⊎◌, inl, inr, Option, Some, None, ℤ, List, length, refl, sym, ap, ◌∙◌, subst, arith, length-set, slice_get, slice_set, cases_lt, cases_eq, Table, ThermalUnit, PriceLists, Runner, Ended, going_of, live_at, AreRoomy, IsRoster, Going, IsRowOf, IsOneRun}
 use Rattle.unit_table.specs.declared.roster.Roster.{Roster}
 use Rattle.unit_table.proofs.LiveLaws.{get_set_same, get_set_other, going_on, live_other}
-use Rattle.unit_table.proofs.RunAllLaws.{IsRunTo, IsOneRun, run_more}
+use Rattle.unit_table.proofs.RunAllLaws.{IsRunTo, run_more}
 
 -- ---- none, one more, fewer on
 

@@ -1,32 +1,14 @@
 -- All runners over a period, one after the other.
-use Rattle.unit_table.proofs.Common.{◌≡◌, ◌≢◌, ℕ, suc, ◌+◌, ◌<◌, ◌≤◌, ◌⊎◌, ℤ, inl, inr, Bool, true, false, get_or, Option, Some, None, List, length, refl, sym, ap, ◌∙◌, subst, arith, slice_get, slice_set, slice_get-get_or, cases_lt, cases_eq, Table, ThermalUnit, PriceLists, passed_at, Runner, Ended, going_of, live_at, left_of, left_at, IsRoomy, AreRoomy, HaveRoom, row_at, cost_at, first_at, before_at, AreWithin, Going, IsRowOf, IsGoneOn, IsEndLeft}
-use Rattle.unit_table.proofs.LiveLaws.{going_on, going_off, on_some, get_set_same}
+use Rattle.unit_table.proofs.Common.{◌≡◌, ◌≢◌, ℕ, suc, ◌+◌, ◌<◌, ◌≤◌, ◌⊎◌, ℤ, inl, inr, Bool, true, false, get_or, Option, Some, None, List, length, refl, sym, ap, ◌∙◌, subst, arith, slice_get, slice_set, slice_get-get_or, cases_lt, cases_eq, Table, ThermalUnit, PriceLists, passed_at, Runner, Ended, going_of, live_at, left_of, left_at, IsRoomy, AreRoomy, HaveRoom, row_at, cost_at, first_at, before_at, AreWithin, Going, IsGoneOn, IsEndLeft, IsRowTo, IsRowMore, IsOneRun, IsRunOver, places_of, length-set}
+use Rattle.unit_table.proofs.LiveLaws.{going_on, going_off, on_some, get_set_same, get_set_other, each_written}
 use Rattle.unit_table.proofs.RowLaws.{cost-same, first-same}
-use Rattle.unit_table.proofs.RunnerRowLaws.{row_none}
+use Rattle.unit_table.proofs.RunnerRowLaws.{row_none, row_skip}
 
 module _ {R : Type 0} (function : R → Table) (count room : R → ℕ) (g : ThermalUnit) (π : PriceLists) (t charge : ℕ) where
-  abbrev Row : (ℕ → Option Going) → ℕ → List (Option Ended) → Type 0
-  Row live n rows = IsRowOf g π (length π.energy) live n (suc t) (cost_at rows (suc t)) (first_at rows (suc t)) (before_at rows (suc t))
-
-  -- what the runner that begins with n changes
-  pub record IsOneRun (n : ℕ) (rows rows' : List (Option Ended)) (runners runners' : List (Runner R)) : Type 0 where
-    pub row : (live : ℕ → Option Going) → live n ≡ live_at function runners n → Row live n rows → Row live (suc n) rows'
-    pub others : (l : ℕ) → l ≢ suc t → row_at rows' l ≡ row_at rows l
-    pub within : AreWithin rows'
-    pub rows_length : length rows' ≡ length rows
-    pub goes : (r : Going) → live_at function runners n ≡ Some r → IsGoneOn g π t n r (live_at function runners' n)
-    pub off : live_at function runners n ≡ None → live_at function runners' n ≡ None
-    pub rest : (f : ℕ) → f ≢ n → slice_get runners' f ≡ slice_get runners f
-    pub roomy : (r : Runner R) → slice_get runners' n ≡ Some r → IsRoomy count room (length π.energy) (suc t) charge r
-    pub ends : (row_at rows' (suc t) ≡ row_at rows (suc t)) ⊎ ((first_at rows' (suc t) ≡ n) × IsEndLeft g π n t (left_at runners' n t))
-    pub left : (k : ℕ) → k ≢ t → left_at runners' n k ≡ left_at runners n k
-    pub keeps : (most periods : ℕ) → HaveRoom room most periods runners → HaveRoom room most periods runners'
-    pub count_same : length runners' ≡ length runners
-
   module _ (rows₀ : List (Option Ended)) (runners₀ : List (Runner R)) where
     -- what those before n have changed
     pub record IsRunTo (n : ℕ) (rows : List (Option Ended)) (runners : List (Runner R)) : Type 0 where
-      pub row : Row (live_at function runners₀) n rows
+      pub row : IsRowTo g π t (live_at function runners₀) n rows
       pub others : (l : ℕ) → l ≢ suc t → row_at rows l ≡ row_at rows₀ l
       pub within : AreWithin rows
       pub rows_length : length rows ≡ length rows₀
@@ -61,16 +43,16 @@ module _ {R : Type 0} (function : R → Table) (count room : R → ℕ) (g : The
       | inr most ↦ let z : n ≡ f = omega (arith, most, low) in subst P z here
     ]
 
-    pub run_more : (n : ℕ) (rows rows' : List (Option Ended)) (runners runners' : List (Runner R)) → IsRunTo n rows runners → IsOneRun n rows rows' runners runners' → IsRunTo (n + 1) rows' runners'
+    pub run_more : (n : ℕ) (rows rows' : List (Option Ended)) (runners runners' : List (Runner R)) → IsRunTo n rows runners → IsOneRun function count room g π t charge n rows rows' runners runners' → IsRunTo (n + 1) rows' runners'
     run_more n rows rows' runners runners' so_far one =
         let here : live_at function runners n ≡ live_at function runners₀ n = ap (going_of function) (so_far.rest n (omega arith)) in
         let same : (f : ℕ) → f < n → slice_get runners' f ≡ slice_get runners f = λ f less. one.rest f (λ z. omega (arith, z, less)) in
         let next : suc n ≡ n + 1 = omega arith in
         subst (λ (m : ℕ). IsRunTo m rows' runners') next (record {
-          row = one.row (live_at function runners₀) (sym here) so_far.row;
-          others = λ l other. one.others l other ∙ so_far.others l other;
-          within = one.within;
-          rows_length = one.rows_length ∙ so_far.rows_length;
+          row = one.more.row (live_at function runners₀) (sym here) so_far.row;
+          others = λ l other. one.more.others l other ∙ so_far.others l other;
+          within = one.more.within;
+          rows_length = one.more.rows_length ∙ so_far.rows_length;
           goes = λ f r low. at_last (λ (f : ℕ). live_at function runners₀ f ≡ Some r → IsGoneOn g π t f r (live_at function runners' f)) n f low
               (λ less is. subst (IsGoneOn g π t f r) (sym (ap (going_of function) (same f less))) (so_far.goes f r less is))
               (λ is. one.goes r (here ∙ is));
@@ -100,29 +82,40 @@ module _ {R : Type 0} (function : R → Table) (count room : R → ℕ) (g : The
         })
 
     -- none begins later
-    module _ (n : ℕ) (rows : List (Option Ended)) (runners : List (Runner R)) (all : IsRunTo n rows runners)
-        (none : (f : ℕ) (r : Going) → live_at function runners₀ f ≡ Some r → f < n)
+    module _ (rows : List (Option Ended)) (runners : List (Runner R)) (all : IsRunTo (suc (suc t)) rows runners)
+        (none : (f : ℕ) (r : Going) → live_at function runners₀ f ≡ Some r → f < suc (suc t))
         (roomy₀ : AreRoomy count room (length π.energy) t charge runners₀) where
-      pub all_go : (f : ℕ) (r : Going) → live_at function runners₀ f ≡ Some r → IsGoneOn g π t f r (live_at function runners f)
-      all_go f r is = all.goes f r (none f r is) is
-
-      pub all_off : (f : ℕ) → live_at function runners₀ f ≡ None → live_at function runners f ≡ None
-      all_off f is = elim (cases_lt f n) [
-        | inl less ↦ all.off f less is
-        | inr from ↦ ap (going_of function) (all.rest f from) ∙ is
-      ]
-
-      pub all_roomy : AreRoomy count room (length π.energy) (suc t) charge runners
-      all_roomy f r is = elim (cases_lt f n) [
+      all_roomy : AreRoomy count room (length π.energy) (suc t) charge runners
+      all_roomy f r is = elim (cases_lt f (suc (suc t))) [
         | inl less ↦ all.roomy f r less is
         | inr from ↦
             let before : slice_get runners₀ f ≡ Some r = sym (all.rest f from) ∙ is in
             record {
               whole = (roomy₀ f r before).whole;
               places = (roomy₀ f r before).places;
-              rest = λ on. (let low = none f (record { before = r.before; cost = r.cost; function = function r.running; left = passed_at r.passed.items }) (ap (going_of function) before ∙ going_on function r on) in absurd (omega (arith, low, from)));
+              rest = λ on.
+                  let low = none f _ (ap (going_of function) before ∙ going_on function r on) in
+                  absurd (omega (arith, low, from));
             }
       ]
+
+      pub run_over : IsRunOver function count room g π t charge rows₀ rows runners₀ runners
+      run_over = record {
+        row = all.row;
+        others = all.others;
+        within = all.within;
+        rows_length = all.rows_length;
+        goes = λ f r is. all.goes f r (none f r is) is;
+        off = λ f is. elim (cases_lt f (suc (suc t))) [
+          | inl less ↦ all.off f less is
+          | inr from ↦ ap (going_of function) (all.rest f from) ∙ is
+        ];
+        ends = all.ends;
+        left = all.left;
+        roomy = all_roomy;
+        keeps = all.keeps;
+        count_same = all.count_same;
+      }
 
 -- ---- one of a list of runners, read or written
 
@@ -154,18 +147,75 @@ module _ {R : Type 0} (function : R → Table) (runners : List (Runner R)) (i : 
       let same : x ≡ s.0 = (let a = s.1 in cc) in
       ap (λ (r : Runner R). r.is_on) same ∙ s.2
 
-  module _ (g : ThermalUnit) (π : PriceLists) (t : ℕ) (b : Runner R) where
-    pub goes_written : (d : Runner R) → (get_or runners i d).is_on ≡ true →
-        IsGoneOn g π t i (record { before = (get_or runners i d).before; cost = (get_or runners i d).cost; function = function (get_or runners i d).running; left = passed_at (get_or runners i d).passed.items }) (going_of function (Some b)) →
-        (r : Going) → live_at function runners i ≡ Some r → IsGoneOn g π t i r (live_at function (slice_set runners i b) i)
-    goes_written d on gone r is =
-        let here = item_live d on in
-        let same : record { before = (get_or runners i d).before; cost = (get_or runners i d).cost; function = function (get_or runners i d).running; left = passed_at (get_or runners i d).passed.items } ≡ r = (cc) in
-        subst (λ (o : Option Going). IsGoneOn g π t i r o) (sym (ap (going_of function) (get_set_same runners i b low)))
-        (subst (λ (r : Going). IsGoneOn g π t i r (going_of function (Some b))) same gone)
+  module _ (count room : R → ℕ) (g : ThermalUnit) (π : PriceLists) (t charge : ℕ) (rows rows' : List (Option Ended)) where
+    -- the runner at i is on, and goes to b
+    module _ (d b : Runner R) (on : (get_or runners i d).is_on ≡ true) where
+      was : Runner R
+      was = get_or runners i d
+
+      here : slice_get (slice_set runners i b) i ≡ Some b
+      here = get_set_same runners i b low
+
+      same_left : (k : ℕ) → left_at (slice_set runners i b) i k ≡ passed_at b.passed.items k
+      same_left k = ap (λ o. left_of o k) here
+
+      pub run_written : IsRowMore g π t i (going_of function (Some (get_or runners i d))) rows rows' →
+          ((r : Going) → going_of function (Some (get_or runners i d)) ≡ Some r → IsGoneOn g π t i r (going_of function (Some b))) →
+          (row_at rows' (suc t) ≡ row_at rows (suc t)) ⊎ ((first_at rows' (suc t) ≡ i) × IsEndLeft g π i t (passed_at b.passed.items t)) →
+          ((k : ℕ) → k ≢ t → passed_at b.passed.items k ≡ passed_at (get_or runners i d).passed.items k) →
+          IsRoomy count room (length π.energy) (suc t) charge b →
+          (room b.running ≡ room (get_or runners i d).running) × (places_of b ≡ places_of (get_or runners i d)) →
+          IsOneRun function count room g π t charge i rows rows' runners (slice_set runners i b)
+      run_written more goes ends left roomy same =
+          let at = item_at d in
+          let live = ap (going_of function) at in
+          record {
+            more = subst (λ o. IsRowMore g π t i o rows rows') (sym live) more;
+            goes = λ r is. subst (λ (o : Option Going). IsGoneOn g π t i r o) (sym (ap (going_of function) here)) (goes r (sym live ∙ is));
+            off = λ off. (let is = item_live d on in absurd (cc));
+            rest = λ f other. get_set_other runners i f b other;
+            roomy = λ r is. (let same : b ≡ r = (let h = here in cc) in subst (IsRoomy count room (length π.energy) (suc t) charge) same roomy);
+            ends = elim ends [
+              | inl kept ↦ inl kept
+              | inr named ↦ inr (named.0, subst (IsEndLeft g π i t) (sym (same_left t)) named.1)
+            ];
+            left = λ k other. same_left k ∙ left k other ∙ sym (ap (λ o. left_of o k) at);
+            keeps = λ most periods have.
+                each_written function runners (slice_set runners i b) i b low refl (λ r. (most ≤ room r.running) × (periods ≤ places_of r))
+                (let there = (have i (get_or runners i d) at).0 in
+                let long = (have i (get_or runners i d) at).1 in
+                let fits = same.0 in
+                let places = same.1 in
+                (omega (arith, there, fits), omega (arith, long, places))) have;
+            count_same = length-set runners i b;
+          }
+
+    -- it is off
+    pub run_skipped : live_at function runners i ≡ None → AreWithin rows →
+        ((r : Runner R) → slice_get runners i ≡ Some r → IsRoomy count room (length π.energy) t charge r) →
+        IsOneRun function count room g π t charge i rows rows runners runners
+    run_skipped off within roomy = record {
+      more = record {
+        row = λ live is row. row_skip g π (length π.energy) live i (suc t) _ _ _ row (λ r d on spell dispatch. (let none = is ∙ off in cc));
+        others = λ l other. refl;
+        within = within;
+        rows_length = refl;
+      };
+      goes = λ r is. absurd (cc);
+      off = λ off. off;
+      rest = λ f other. refl;
+      roomy = λ r is. (
+          let old = roomy r is in
+          record {
+            whole = old.whole;
+            places = old.places;
+            rest = λ on. (let live = ap (going_of function) is ∙ going_on function r on in absurd (cc));
+          });
+      ends = inl refl;
+      left = λ k other. refl;
+      keeps = λ most periods have. have;
+      count_same = refl;
+    }
 
 pub on_of : {R : Type 0} (r x : Runner R) {b : Bool} → r ≡ x → x.is_on ≡ b → r.is_on ≡ b
 on_of r x same is = ap (λ r. r.is_on) same ∙ is
-
-pub roomy_of : {R : Type 0} (count room : R → ℕ) (periods t charge : ℕ) (b r : Runner R) → b ≡ r → IsRoomy count room periods t charge b → IsRoomy count room periods t charge r
-roomy_of count room periods t charge b r same roomy = subst (IsRoomy count room periods t charge) same roomy

@@ -10,6 +10,7 @@ pub mod laws;
 pub mod notes;
 pub mod origins;
 pub mod periods;
+pub mod question;
 pub mod roster;
 pub mod runner;
 pub mod table;

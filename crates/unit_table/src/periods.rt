@@ -15,6 +15,8 @@ ghost use Rattle.uc_model.specs.declared.limits.TheConstants.{MOST_PERIODS};
 ghost use Rattle.unit_table.specs.Limits.{AreLimits, IsFilledWithin};
 ghost use Rattle.unit_table.specs.Live.{live_at, left_at, AreRoomy, AreSmall, HaveRoom};
 ghost use Rattle.unit_table.specs.Live.{IsFilledTo};
+ghost use Rattle.unit_table.specs.Questions.{unit_of, prices_in, periods_in, charge_of};
+ghost use Rattle.unit_table.specs.Taken.{AreKept, IsSweptTo, AreLonger, AreAsLong};
 ghost use Rattle.unit_table.specs.Origins.{AreInOrder, AreOrigins, AreOriginsWithin};
 ghost use Rattle.unit_table.specs.Rosters.{IsRoster};
 ghost use Rattle.unit_table.specs.Rows.{row_at, cost_at, first_at, IsWithinTimes};
@@ -23,6 +25,7 @@ ghost use Rattle.unit_table.specs.Tables.{IsLeastEntry};
 
 use crate::commitment::is_must_off;
 use crate::origins::Origins;
+use crate::question::Question;
 use crate::roster::Roster;
 use crate::runner::{
     Runner, begin_runner, drop_beyond, is_less, is_undercut, prune, run_all, stop_all,
@@ -57,12 +60,7 @@ fn start_after(
         (suc place) →
         AreRunners (thermal_of unit.now) π limits ends (live_at shown runners.new) place
         (suc (suc place)) }
-    ensures left { (first k : ℕ) → left_at runners.new first k ≡ left_at runners.old first k }
-    ensures room { (periods charge : ℕ) → AreRoomy count_of room_of periods place charge runners.old
-        → AreRoomy count_of room_of periods place charge runners.new }
-    ensures keeps { (most periods : ℕ) → HaveRoom room_of most periods runners.old
-        → HaveRoom room_of most periods runners.new }
-    ensures length { length runners.new ≡ length runners.old }
+    ensures kept { AreKept count_of room_of runners.old runners.new }
     ensures roster { IsRoster (live_at shown runners.new) (suc (suc place)) roster.new }
     ensures list { length roster.new.firsts.items ≡ length roster.old.firsts.items }
 {
@@ -100,12 +98,7 @@ fn start(
         (suc place) →
         AreRunners (thermal_of unit.now) π limits ends (live_at shown runners.new) place
         (suc (suc place)) }
-    ensures left { (first k : ℕ) → left_at runners.new first k ≡ left_at runners.old first k }
-    ensures room { (periods charge : ℕ) → AreRoomy count_of room_of periods place charge runners.old
-        → AreRoomy count_of room_of periods place charge runners.new }
-    ensures keeps { (most periods : ℕ) → HaveRoom room_of most periods runners.old
-        → HaveRoom room_of most periods runners.new }
-    ensures length { length runners.new ≡ length runners.old }
+    ensures kept { AreKept count_of room_of runners.old runners.new }
     ensures roster { IsRoster (live_at shown runners.new) (suc (suc place)) roster.new }
     ensures list { length roster.new.firsts.items ≡ length roster.old.firsts.items }
 {
@@ -120,9 +113,7 @@ fn start(
 
 // Fills the row of the period at a place.
 fn take_period(
-    unit: &Unit,
-    curve: &Curve,
-    prices: &Prices,
+    question: &Question,
     place: u32,
     limits: &Numbers,
     origins: &Origins,
@@ -130,40 +121,25 @@ fn take_period(
     runners: &mut [Runner<Slopes>],
     table: &mut Table,
 )
-    requires horizon { length (thermal_of unit.now).window ≡ length (prices_of prices.now).energy }
-    requires curve { IsCostCurve (thermal_of unit.now).points curve.now }
-    requires place { place < length (prices_of prices.now).energy }
-    requires runners { length (prices_of prices.now).energy < length runners.old }
-    requires room { AreRoomy count_of room_of (length (prices_of prices.now).energy) place
-        (length curve.now.blocks.items + 3) runners.old }
-    requires rows { length (prices_of prices.now).energy < length table.old.items }
-    requires filled { IsFilledTo (thermal_of unit.now) (prices_of prices.now)
-        (int_at limits.now.items) place table.old.items (live_at shown runners.old) }
-    requires limits { (most : ℤ)
-        × AreLimits (thermal_of unit.now) (prices_of prices.now) most (int_at limits.now.items) }
-    requires each { length (prices_of prices.now).energy < length limits.now.items }
-    requires ways { HaveWays (thermal_of unit.now) (prices_of prices.now) place
-        (cost_at table.old.items) (first_at table.old.items) (left_at runners.old) }
-    requires origins { AreOrigins (thermal_of unit.now) (cost_at table.old.items) place
+    requires place { place < periods_in question.now }
+    requires long { AreLonger (periods_in question.now) table.old.items runners.old roster.old
         origins.now }
-    requires list { length (prices_of prices.now).energy < length origins.now.list.items }
-    requires roster { IsRoster (live_at shown runners.old) (suc place) roster.old }
-    requires firsts { length (prices_of prices.now).energy < length roster.old.firsts.items }
-    ensures filled { IsFilledTo (thermal_of unit.now) (prices_of prices.now)
-        (int_at limits.now.items) (suc place) table.new.items (live_at shown runners.new) }
-    ensures ways { HaveWays (thermal_of unit.now) (prices_of prices.now) (suc place)
-        (cost_at table.new.items) (first_at table.new.items) (left_at runners.new) }
+    requires limits { (most : ℤ)
+        × AreLimits (unit_of question.now) (prices_in question.now) most (int_at limits.now.items) }
+    requires each { periods_in question.now < length limits.now.items }
+    requires now { IsSweptTo shown count_of room_of (unit_of question.now) (prices_in question.now)
+        (int_at limits.now.items) place (charge_of question.now) table.old.items runners.old
+        roster.old }
+    requires origins { AreOrigins (unit_of question.now) (cost_at table.old.items)
+        place origins.now }
+    ensures now { IsSweptTo shown count_of room_of (unit_of question.now) (prices_in question.now)
+        (int_at limits.now.items) (suc place) (charge_of question.now) table.new.items runners.new
+        roster.new }
     ensures others { (l : ℕ) → l ≢ suc place → row_at table.new.items l ≡ row_at table.old.items l }
-    ensures room { AreRoomy count_of room_of (length (prices_of prices.now).energy) (suc place)
-        (length curve.now.blocks.items + 3) runners.new }
-    ensures length { length table.new.items ≡ length table.old.items }
-    ensures keeps { (most periods : ℕ) → HaveRoom room_of most periods runners.old
-        → HaveRoom room_of most periods runners.new }
-    ensures count { length runners.new ≡ length runners.old }
-    ensures roster { IsRoster (live_at shown runners.new) (suc (suc place)) roster.new }
-    ensures firsts { length roster.new.firsts.items ≡ length roster.old.firsts.items }
+    ensures same { AreAsLong room_of table.old.items table.new.items runners.old runners.new
+        roster.old roster.new }
 {
-    if is_must_off(unit, place) {
+    if is_must_off(question.unit, place) {
         stop_all(runners);
         roster.clear();
         return;
@@ -172,10 +148,10 @@ fn take_period(
     dispatches_go_on();
     dispatches_are_runs();
     let limit = *limits.get(place as usize);
-    start(unit, place, limit, origins, roster, runners);
-    run_all(unit, curve, prices, place, roster, runners, table);
+    start(question.unit, place, limit, origins, roster, runners);
+    run_all(question, place, roster, runners, table);
     drop_beyond(place + 1, *limits.get(place as usize + 1), roster, runners);
-    prune(unit, place + 1, roster, runners);
+    prune(question.unit, place + 1, roster, runners);
     roster.keep(runners);
 }
 
@@ -187,12 +163,7 @@ fn go_on(unit: &Unit, roster: &mut Roster, runners: &mut [Runner<Slopes>])
     requires off { (first : ℕ) → live_at shown runners.old first ≡ None }
     ensures stands { (π : PriceLists) (limits : ℕ → ℤ) (ends : ℕ → Option ℤ)
         → AreRunners (thermal_of unit.now) π limits ends (live_at shown runners.new) 0 1 }
-    ensures left { (first k : ℕ) → left_at runners.new first k ≡ left_at runners.old first k }
-    ensures room { (periods charge : ℕ) → AreRoomy count_of room_of periods 0 charge runners.old
-        → AreRoomy count_of room_of periods 0 charge runners.new }
-    ensures keeps { (most periods : ℕ) → HaveRoom room_of most periods runners.old
-        → HaveRoom room_of most periods runners.new }
-    ensures length { length runners.new ≡ length runners.old }
+    ensures kept { AreKept count_of room_of runners.old runners.new }
     ensures roster { IsRoster (live_at shown runners.new) 1 roster.new }
     ensures list { length roster.new.firsts.items ≡ length roster.old.firsts.items }
 {
@@ -213,12 +184,9 @@ fn begin_all(unit: &Unit, roster: &mut Roster, runners: &mut [Runner<Slopes>], t
         (live_at shown runners.new) }
     ensures room { (periods charge : ℕ) → HaveRoom room_of (periods * charge) periods runners.old
         → AreRoomy count_of room_of periods 0 charge runners.new }
-    ensures length { length table.new.items ≡ length table.old.items }
-    ensures keeps { (most periods : ℕ) → HaveRoom room_of most periods runners.old
-        → HaveRoom room_of most periods runners.new }
-    ensures count { length runners.new ≡ length runners.old }
     ensures roster { IsRoster (live_at shown runners.new) 1 roster.new }
-    ensures firsts { length roster.new.firsts.items ≡ length roster.old.firsts.items }
+    ensures same { AreAsLong room_of table.old.items table.new.items runners.old runners.new
+        roster.old roster.new }
 {
     begin_table(unit, table);
     stop_all(runners);
@@ -269,11 +237,14 @@ pub fn fill_by_periods(
     start_costs_are_within();
     begin_all(unit, roster, runners, table);
     origins.begin(unit, table.as_slice());
+    let question = Question {
+        unit,
+        curve,
+        prices,
+    };
     let periods = prices.energy.len() as u32;
     for place in 0..periods {
-        take_period(
-            unit, curve, prices, place, limits, origins, roster, runners, table,
-        );
+        take_period(&question, place, limits, origins, roster, runners, table);
         origins.go_on(unit, place, table.as_slice());
     }
 }

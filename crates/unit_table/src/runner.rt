@@ -16,21 +16,25 @@ ghost use Rattle.uc_model.specs.Schedules.{mark_in};
 ghost use Rattle.uc_model.specs.declared.limits.TheConstants.{MOST_PERIODS};
 ghost use Rattle.unit_table.specs.Live.{going_of, live_at, left_at, places_of, IsRoomy, AreRoomy};
 ghost use Rattle.unit_table.specs.Live.{AreSmall, IsUnder, IsBeyond, IsBelow, HaveRoom};
+ghost use Rattle.unit_table.specs.Questions.{unit_of, prices_in, periods_in, charge_of};
 ghost use Rattle.unit_table.specs.Rosters.{IsRoster};
 ghost use Rattle.unit_table.specs.Rows.{row_at, cost_at, first_at, before_at, IsWithinTimes};
 ghost use Rattle.unit_table.specs.Rows.{AreWithin};
 ghost use Rattle.unit_table.specs.Runners.{Going, MayBeOn, AreRunners, IsRowOf, IsGoneOn};
 ghost use Rattle.unit_table.specs.Runners.{IsEndLeft};
 ghost use Rattle.unit_table.specs.Spells.{on_time};
+ghost use Rattle.unit_table.specs.Taken.{AreFewer, AreKept, IsReady, IsRowMore, IsOneRun};
+ghost use Rattle.unit_table.specs.Taken.{IsRunOver};
 
 use crate::commitment::{is_long_enough, may_end};
 use crate::notes::leave_at;
+use crate::question::Question;
 use crate::roster::Roster;
 use crate::table::{Entry, Table, put_end, sum_of};
 use plain_lists::lists::ReservedList;
 use slope_list::{Lowest, Slopes};
 use spell_run::{Passed, begin, end_and_run, run_over};
-use uc_model::units::{Curve, Prices, Unit};
+use uc_model::units::Unit;
 
 /// The spells that begin with one period; its place in a list of runners is that period, and 0
 /// stands for spells that go on from before the horizon. Where it isn't on, the rest is open.
@@ -88,12 +92,7 @@ fn stop(runner: &mut Runner<Slopes>)
 /// Stops all runners.
 pub fn stop_all(runners: &mut [Runner<Slopes>])
     ensures off { (first : ℕ) → live_at shown runners.new first ≡ None }
-    ensures left { (first k : ℕ) → left_at runners.new first k ≡ left_at runners.old first k }
-    ensures room { (periods t charge : ℕ) → HaveRoom room_of (periods * charge) periods runners.old
-        → AreRoomy count_of room_of periods t charge runners.new }
-    ensures keeps { (most periods : ℕ) → HaveRoom room_of most periods runners.old
-        → HaveRoom room_of most periods runners.new }
-    ensures length { length runners.new ≡ length runners.old }
+    ensures kept { AreKept count_of room_of runners.old runners.new }
 {
     for place in 0..runners.len() {
         stop(&mut runners[place]);
@@ -172,38 +171,32 @@ pub fn is_undercut(runners: &[Runner<Slopes>], roster: &Roster, power: i64, cost
 
 // Takes a runner over the period at a place, and answers what is left for the way back, with the
 // least net cost of the spells that end with the period, where the unit may stop after it.
-fn run_one(
-    unit: &Unit,
-    curve: &Curve,
-    prices: &Prices,
-    first: u32,
-    place: u32,
-    running: &mut Slopes,
-) -> Passed
-    requires curve { IsCostCurve (thermal_of unit.now).points curve.now }
-    requires place { place < length (prices_of prices.now).energy }
+fn run_one(question: &Question, first: u32, place: u32, running: &mut Slopes) -> Passed
+    requires place { place < periods_in question.now }
     requires order { first ≤ suc place }
-    requires frontier { IsFrontier (thermal_of unit.now) (prices_of prices.now) first place
+    requires frontier { IsFrontier (unit_of question.now) (prices_in question.now) first place
         (shown running.old) }
-    requires room { count_of running.old + (length curve.now.blocks.items + 3)
-        ≤ room_of running.old }
-    ensures answer { (suc place < length (prices_of prices.now).energy
-        → (thermal_of unit.now).min_up ≤ on_time (thermal_of unit.now) first (suc place)) →
-        IsSpellAnswer (thermal_of unit.now) (prices_of prices.now)
-        (length (prices_of prices.now).energy) first (suc place) (end_cost result.end) }
-    ensures may { IfSome result.end (λ _. suc place < length (prices_of prices.now).energy
-        → (thermal_of unit.now).min_up ≤ on_time (thermal_of unit.now) first (suc place)) }
+    requires room { count_of running.old + charge_of question.now ≤ room_of running.old }
+    ensures answer { (suc place < periods_in question.now
+        → (unit_of question.now).min_up ≤ on_time (unit_of question.now) first (suc place)) →
+        IsSpellAnswer (unit_of question.now) (prices_in question.now) (periods_in question.now)
+        first
+        (suc place) (end_cost result.end) }
+    ensures may { IfSome result.end (λ _. suc place < periods_in question.now
+        → (unit_of question.now).min_up ≤ on_time (unit_of question.now) first (suc place)) }
     ensures within { IfSome result.end (λ e. IsSpellWithin first (suc place) e.value) }
     ensures ended { IfSome result.end
-        (IsEndNoted (thermal_of unit.now) (prices_of prices.now) first place result.note) }
+        (IsEndNoted (unit_of question.now) (prices_in question.now) first place result.note) }
     ensures noted { (x v : ℤ) → value_of (shown running.old) x ≡ Some v
-        → IsOnNoted (thermal_of unit.now) (prices_of prices.now) first place result.note }
-    ensures frontier { IsFrontier (thermal_of unit.now) (prices_of prices.now) first (suc place)
+        → IsOnNoted (unit_of question.now) (prices_in question.now) first place result.note }
+    ensures frontier { IsFrontier (unit_of question.now) (prices_in question.now) first (suc place)
         (shown running.new) }
-    ensures count { count_of running.new ≤ count_of running.old
-        + (length curve.now.blocks.items + 3) }
+    ensures count { count_of running.new ≤ count_of running.old + charge_of question.now }
     ensures room { room_of running.new ≡ room_of running.old }
 {
+    let unit = question.unit;
+    let curve = question.curve;
+    let prices = question.prices;
     if may_end(unit, prices.energy.len() as u32, first, place + 1) {
         end_and_run(unit, curve, prices, first, place as usize, running)
     } else {
@@ -239,62 +232,43 @@ fn retire(runner: &mut Runner<Slopes>)
 // Takes a runner that is on over the period at a place, and puts the spells that end with it into
 // the table.
 fn take_runner(
-    unit: &Unit,
-    curve: &Curve,
-    prices: &Prices,
+    question: &Question,
     first: u32,
     place: u32,
     runner: &mut Runner<Slopes>,
     table: &mut Table,
 )
-    requires horizon { length (thermal_of unit.now).window ≡ length (prices_of prices.now).energy }
-    requires curve { IsCostCurve (thermal_of unit.now).points curve.now }
-    requires place { place < length (prices_of prices.now).energy }
-    requires order { first ≤ suc place }
+    requires place { place < periods_in question.now }
     requires on { runner.old.is_on ≡ true }
-    requires frontier { IsFrontier (thermal_of unit.now) (prices_of prices.now) first place
-        (shown runner.old.running) }
-    requires may { MayBeOn (thermal_of unit.now) first (suc place) }
-    requires bound { IsWithinTimes (2 * first + 1) runner.old.cost }
-    requires room { IsRoomy count_of room_of (length (prices_of prices.now).energy) place
-        (length curve.now.blocks.items + 3) runner.old }
-    requires rows { length (prices_of prices.now).energy < length table.old.items }
+    requires ready { (r : Going) → going_of shown (Some runner.old) ≡ Some r
+        → IsReady (unit_of question.now) (prices_in question.now) place first r }
+    requires room { IsRoomy count_of room_of (periods_in question.now) place
+        (charge_of question.now)
+        runner.old }
+    requires rows { periods_in question.now < length table.old.items }
     requires within { AreWithin table.old.items }
-    ensures row { (live : ℕ → Option Going) → live first ≡ going_of shown (Some runner.old) →
-        IsRowOf (thermal_of unit.now) (prices_of prices.now) (length (prices_of prices.now).energy)
-        live first (suc place) (cost_at table.old.items (suc place))
-        (first_at table.old.items (suc place)) (before_at table.old.items (suc place)) →
-        IsRowOf (thermal_of unit.now) (prices_of prices.now) (length (prices_of prices.now).energy)
-        live (suc first) (suc place) (cost_at table.new.items (suc place))
-        (first_at table.new.items (suc place)) (before_at table.new.items (suc place)) }
-    ensures others { (l : ℕ) → l ≢ suc place → row_at table.new.items l ≡ row_at table.old.items l }
-    ensures within { AreWithin table.new.items }
-    ensures length { length table.new.items ≡ length table.old.items }
-    ensures goes { IsGoneOn (thermal_of unit.now) (prices_of prices.now) place first
-        (record {
-          before = runner.old.before;
-          cost = runner.old.cost;
-          function =
-              shown runner.old.running;
-          left = passed_at runner.old.passed.items;
-        })
+    ensures more { IsRowMore (unit_of question.now) (prices_in question.now) place first
+        (going_of shown (Some runner.old)) table.old.items table.new.items }
+    ensures goes { (r : Going) → going_of shown (Some runner.old) ≡ Some r
+        → IsGoneOn (unit_of question.now) (prices_in question.now) place first r
         (going_of shown (Some runner.new)) }
     ensures ends { (row_at table.new.items (suc place) ≡ row_at table.old.items (suc place)) ⊎
         ((first_at table.new.items (suc place) ≡ first)
-        × IsEndLeft (thermal_of unit.now) (prices_of prices.now) first place
+        × IsEndLeft (unit_of question.now) (prices_in question.now) first place
         (passed_at runner.new.passed.items place)) }
     ensures left { (k : ℕ) → k ≢ place → passed_at runner.new.passed.items k
         ≡ passed_at runner.old.passed.items k }
-    ensures room { IsRoomy count_of room_of (length (prices_of prices.now).energy) (suc place)
-        (length curve.now.blocks.items + 3) runner.new }
-    ensures keeps { room_of runner.new.running ≡ room_of runner.old.running }
-    ensures places { places_of runner.new ≡ places_of runner.old }
+    ensures room { IsRoomy count_of room_of (periods_in question.now) (suc place)
+        (charge_of question.now)
+        runner.new }
+    ensures same { (room_of runner.new.running ≡ room_of runner.old.running)
+        × (places_of runner.new ≡ places_of runner.old) }
 {
     let entry = Entry {
         cost: runner.cost,
         last: runner.before,
     };
-    let passed = run_one(unit, curve, prices, first, place, &mut runner.running);
+    let passed = run_one(question, first, place, &mut runner.running);
     leave_at(&mut runner.passed, place, passed);
     put_end(table, place + 1, first, &entry, cost_of(passed.end));
     retire(runner);
@@ -302,124 +276,57 @@ fn take_runner(
 
 // Takes the runner that begins with a period over the period at a place, if it is on.
 fn run_at(
-    unit: &Unit,
-    curve: &Curve,
-    prices: &Prices,
+    question: &Question,
     place: u32,
     first: u32,
     runners: &mut [Runner<Slopes>],
     table: &mut Table,
 )
-    requires horizon { length (thermal_of unit.now).window ≡ length (prices_of prices.now).energy }
-    requires curve { IsCostCurve (thermal_of unit.now).points curve.now }
-    requires place { place < length (prices_of prices.now).energy }
-    requires order { first ≤ suc place }
+    requires place { place < periods_in question.now }
     requires runners { first < length runners.old }
-    requires frontier { (r : Going) → live_at shown runners.old first ≡ Some r
-        → IsFrontier (thermal_of unit.now) (prices_of prices.now) first place r.function }
-    requires may { (r : Going) → live_at shown runners.old first ≡ Some r
-        → MayBeOn (thermal_of unit.now) first (suc place) }
-    requires bound { (r : Going) → live_at shown runners.old first ≡ Some r
-        → IsWithinTimes (2 * first + 1) r.cost }
+    requires ready { (r : Going) → live_at shown runners.old first ≡ Some r
+        → IsReady (unit_of question.now) (prices_in question.now) place first r }
     requires room { (r : Runner Slopes) → slice_get runners.old first ≡ Some r
-        → IsRoomy count_of room_of (length (prices_of prices.now).energy) place
-        (length curve.now.blocks.items + 3) r }
-    requires rows { length (prices_of prices.now).energy < length table.old.items }
+        → IsRoomy count_of room_of (periods_in question.now) place (charge_of question.now) r }
+    requires rows { periods_in question.now < length table.old.items }
     requires within { AreWithin table.old.items }
-    ensures row { (live : ℕ → Option Going) → live first ≡ live_at shown runners.old first →
-        IsRowOf (thermal_of unit.now) (prices_of prices.now) (length (prices_of prices.now).energy)
-        live first (suc place) (cost_at table.old.items (suc place))
-        (first_at table.old.items (suc place)) (before_at table.old.items (suc place)) →
-        IsRowOf (thermal_of unit.now) (prices_of prices.now) (length (prices_of prices.now).energy)
-        live (suc first) (suc place) (cost_at table.new.items (suc place))
-        (first_at table.new.items (suc place)) (before_at table.new.items (suc place)) }
-    ensures others { (l : ℕ) → l ≢ suc place → row_at table.new.items l ≡ row_at table.old.items l }
-    ensures within { AreWithin table.new.items }
-    ensures length { length table.new.items ≡ length table.old.items }
-    ensures goes { (r : Going) → live_at shown runners.old first ≡ Some r
-        → IsGoneOn (thermal_of unit.now) (prices_of prices.now) place first r
-        (live_at shown runners.new first) }
-    ensures off { live_at shown runners.old first ≡ None
-        → live_at shown runners.new first ≡ None }
-    ensures ends { (row_at table.new.items (suc place) ≡ row_at table.old.items (suc place)) ⊎
-        ((first_at table.new.items (suc place) ≡ first)
-        × IsEndLeft (thermal_of unit.now) (prices_of prices.now) first place
-        (left_at runners.new first place)) }
-    ensures left { (k : ℕ) → k ≢ place → left_at runners.new first k ≡ left_at runners.old first k }
-    ensures rest { (f : ℕ) → f ≢ first → slice_get runners.new f ≡ slice_get runners.old f }
-    ensures room { (r : Runner Slopes) → slice_get runners.new first ≡ Some r
-        → IsRoomy count_of room_of (length (prices_of prices.now).energy) (suc place)
-        (length curve.now.blocks.items + 3) r }
-    ensures keeps { (most periods : ℕ) → HaveRoom room_of most periods runners.old
-        → HaveRoom room_of most periods runners.new }
-    ensures count { length runners.new ≡ length runners.old }
+    ensures { IsOneRun shown count_of room_of (unit_of question.now) (prices_in question.now) place
+        (charge_of question.now) first table.old.items table.new.items runners.old runners.new }
 {
     if runners[first as usize].is_on {
-        take_runner(
-            unit,
-            curve,
-            prices,
-            first,
-            place,
-            &mut runners[first as usize],
-            table,
-        );
+        take_runner(question, first, place, &mut runners[first as usize], table);
     }
 }
 
 /// Takes all runners that begin up to the period at a place over it, and fills its row. The roster
 /// has all that are on.
 pub fn run_all(
-    unit: &Unit,
-    curve: &Curve,
-    prices: &Prices,
+    question: &Question,
     place: u32,
     roster: &Roster,
     runners: &mut [Runner<Slopes>],
     table: &mut Table,
 )
-    requires horizon { length (thermal_of unit.now).window ≡ length (prices_of prices.now).energy }
-    requires curve { IsCostCurve (thermal_of unit.now).points curve.now }
-    requires place { place < length (prices_of prices.now).energy }
-    requires open { mark_in (thermal_of unit.now).window (suc place) ≡ MustOff → ⊥ }
-    requires runners { length (prices_of prices.now).energy < length runners.old }
+    requires place { place < periods_in question.now }
+    requires open { mark_in (unit_of question.now).window (suc place) ≡ MustOff → ⊥ }
+    requires runners { periods_in question.now < length runners.old }
     requires now { (limits : ℕ → ℤ)
-        × AreRunners (thermal_of unit.now) (prices_of prices.now) limits (cost_at table.old.items)
+        × AreRunners (unit_of question.now) (prices_in question.now) limits
+        (cost_at table.old.items)
         (live_at shown runners.old) place (suc (suc place)) }
     requires roster { IsRoster (live_at shown runners.old) (suc (suc place)) roster.now }
-    requires room { AreRoomy count_of room_of (length (prices_of prices.now).energy) place
-        (length curve.now.blocks.items + 3) runners.old }
-    requires rows { length (prices_of prices.now).energy < length table.old.items }
+    requires room { AreRoomy count_of room_of (periods_in question.now) place
+        (charge_of question.now)
+        runners.old }
+    requires rows { periods_in question.now < length table.old.items }
     requires within { AreWithin table.old.items }
     requires none { cost_at table.old.items (suc place) ≡ None }
-    ensures row { IsRowOf (thermal_of unit.now) (prices_of prices.now)
-        (length (prices_of prices.now).energy) (live_at shown runners.old) (suc (suc place))
-        (suc place)
-        (cost_at table.new.items (suc place)) (first_at table.new.items (suc place))
-        (before_at table.new.items (suc place)) }
-    ensures others { (l : ℕ) → l ≢ suc place → row_at table.new.items l ≡ row_at table.old.items l }
-    ensures within { AreWithin table.new.items }
-    ensures length { length table.new.items ≡ length table.old.items }
-    ensures goes { (first : ℕ) (r : Going) → live_at shown runners.old first ≡ Some r →
-        IsGoneOn (thermal_of unit.now) (prices_of prices.now) place first r
-        (live_at shown runners.new first) }
-    ensures off { (first : ℕ) → live_at shown runners.old first ≡ None
-        → live_at shown runners.new first ≡ None }
-    ensures ends { (v : ℤ) → cost_at table.new.items (suc place) ≡ Some v →
-        IsEndLeft (thermal_of unit.now) (prices_of prices.now)
-        (first_at table.new.items (suc place)) place
-        (left_at runners.new (first_at table.new.items (suc place)) place) }
-    ensures left { (first k : ℕ) → k ≢ place
-        → left_at runners.new first k ≡ left_at runners.old first k }
-    ensures room { AreRoomy count_of room_of (length (prices_of prices.now).energy) (suc place)
-        (length curve.now.blocks.items + 3) runners.new }
-    ensures keeps { (most periods : ℕ) → HaveRoom room_of most periods runners.old
-        → HaveRoom room_of most periods runners.new }
-    ensures count { length runners.new ≡ length runners.old }
+    ensures { IsRunOver shown count_of room_of (unit_of question.now) (prices_in question.now) place
+        (charge_of question.now) table.old.items table.new.items runners.old runners.new }
 {
     for index in 0..roster.count {
         let first = *roster.firsts.get(index as usize);
-        run_at(unit, curve, prices, place, first, runners, table);
+        run_at(question, place, first, runners, table);
     }
 }
 
@@ -471,15 +378,8 @@ fn prune_one(
     ensures stands { (π : PriceLists) (limits : ℕ → ℤ) (ends : ℕ → Option ℤ) (n : ℕ) →
         AreRunners (thermal_of unit.now) π limits ends (live_at shown runners.old) period n →
         AreRunners (thermal_of unit.now) π limits ends (live_at shown runners.new) period n }
-    ensures small { AreSmall (live_at shown runners.new) }
-    ensures left { (first k : ℕ) → left_at runners.new first k ≡ left_at runners.old first k }
-    ensures off { (first : ℕ) → live_at shown runners.old first ≡ None
-        → live_at shown runners.new first ≡ None }
-    ensures room { (periods t charge : ℕ) → AreRoomy count_of room_of periods t charge runners.old
-        → AreRoomy count_of room_of periods t charge runners.new }
-    ensures keeps { (most periods : ℕ) → HaveRoom room_of most periods runners.old
-        → HaveRoom room_of most periods runners.new }
-    ensures length { length runners.new ≡ length runners.old }
+    ensures fewer { AreFewer (live_at shown runners.old) (live_at shown runners.new) }
+    ensures kept { AreKept count_of room_of runners.old runners.new }
 {
     if !runners[early as usize].is_on {
         return late;
@@ -509,14 +409,8 @@ pub fn prune(unit: &Unit, period: u32, roster: &Roster, runners: &mut [Runner<Sl
     ensures stands { (π : PriceLists) (limits : ℕ → ℤ) (ends : ℕ → Option ℤ) (n : ℕ) →
         AreRunners (thermal_of unit.now) π limits ends (live_at shown runners.old) period n →
         AreRunners (thermal_of unit.now) π limits ends (live_at shown runners.new) period n }
-    ensures left { (first k : ℕ) → left_at runners.new first k ≡ left_at runners.old first k }
-    ensures off { (first : ℕ) → live_at shown runners.old first ≡ None
-        → live_at shown runners.new first ≡ None }
-    ensures room { (periods t charge : ℕ) → AreRoomy count_of room_of periods t charge runners.old
-        → AreRoomy count_of room_of periods t charge runners.new }
-    ensures keeps { (most periods : ℕ) → HaveRoom room_of most periods runners.old
-        → HaveRoom room_of most periods runners.new }
-    ensures length { length runners.new ≡ length runners.old }
+    ensures fewer { AreFewer (live_at shown runners.old) (live_at shown runners.new) }
+    ensures kept { AreKept count_of room_of runners.old runners.new }
 {
     let mut late = None;
     for back in 0..roster.count {
@@ -543,15 +437,8 @@ fn drop_at(limit: i64, first: u32, runners: &mut [Runner<Slopes>])
         → Option ℤ) (t n : ℕ) → limits t ≡ limit →
         AreRunners g π limits ends (live_at shown runners.old) t n →
         AreRunners g π limits ends (live_at shown runners.new) t n }
-    ensures small { AreSmall (live_at shown runners.new) }
-    ensures left { (first k : ℕ) → left_at runners.new first k ≡ left_at runners.old first k }
-    ensures off { (first : ℕ) → live_at shown runners.old first ≡ None
-        → live_at shown runners.new first ≡ None }
-    ensures room { (periods t charge : ℕ) → AreRoomy count_of room_of periods t charge runners.old
-        → AreRoomy count_of room_of periods t charge runners.new }
-    ensures keeps { (most periods : ℕ) → HaveRoom room_of most periods runners.old
-        → HaveRoom room_of most periods runners.new }
-    ensures length { length runners.new ≡ length runners.old }
+    ensures fewer { AreFewer (live_at shown runners.old) (live_at shown runners.new) }
+    ensures kept { AreKept count_of room_of runners.old runners.new }
 {
     if !runners[first as usize].is_on {
         return;
@@ -571,15 +458,8 @@ pub fn drop_beyond(period: u32, limit: i64, roster: &Roster, runners: &mut [Runn
         → Option ℤ) (t n : ℕ) → limits t ≡ limit →
         AreRunners g π limits ends (live_at shown runners.old) t n →
         AreRunners g π limits ends (live_at shown runners.new) t n }
-    ensures small { AreSmall (live_at shown runners.new) }
-    ensures left { (first k : ℕ) → left_at runners.new first k ≡ left_at runners.old first k }
-    ensures off { (first : ℕ) → live_at shown runners.old first ≡ None
-        → live_at shown runners.new first ≡ None }
-    ensures room { (periods t charge : ℕ) → AreRoomy count_of room_of periods t charge runners.old
-        → AreRoomy count_of room_of periods t charge runners.new }
-    ensures keeps { (most periods : ℕ) → HaveRoom room_of most periods runners.old
-        → HaveRoom room_of most periods runners.new }
-    ensures length { length runners.new ≡ length runners.old }
+    ensures fewer { AreFewer (live_at shown runners.old) (live_at shown runners.new) }
+    ensures kept { AreKept count_of room_of runners.old runners.new }
 {
     for place in 0..roster.count {
         drop_at(limit, *roster.firsts.get(place as usize), runners);

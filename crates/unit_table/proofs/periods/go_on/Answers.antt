@@ -1,6 +1,6 @@
 use Rattle.slope_list.specs.Slopes.{shown, count_of, room_of}
-use Rattle.unit_table.proofs.Common.{◌+◌, ℕ, List, length, refl, ap, ◌∙◌, arith, length-set, thermal_of, live_at}
-use Rattle.unit_table.proofs.Lemmas.{roomy_begun, written_keeps, written_left, none_listed, begun_listed, item_at, none_goes_on, one_goes_on}
+use Rattle.unit_table.proofs.Common.{ℕ, List, length, refl, ap, ◌∙◌, arith, length-set, thermal_of, live_at}
+use Rattle.unit_table.proofs.Lemmas.{kept_none, kept_written, begun_one, none_listed, begun_listed, item_at, none_goes_on, one_goes_on}
 use Rattle.unit_table.proofs.periods.go_on.Goals as goal
 
 pub returns-then-unit-clause-stands : goal.returns-then-unit-clause-stands
@@ -8,23 +8,8 @@ returns-then-unit-clause-stands c = λ π limits ends.
     one_goes_on shown (thermal_of c.args.unit.now) π limits ends c.args.runners.now c.requires.off c.begin_runner.new.runner c.requires.some c.if-unit.true
     c.begin_runner.ensures.on c.begin_runner.ensures.cost c.begin_runner.ensures.before (c.begin_runner.ensures.frontier π)
 
-pub returns-then-unit-clause-room : goal.returns-then-unit-clause-room
-returns-then-unit-clause-room c = λ periods charge roomy.
-    roomy_begun shown count_of room_of periods 0 charge c.args.runners.now _ 0 c.begin_runner.new.runner c.requires.some refl
-    _ (item_at shown c.args.runners.now 0 c.requires.some _) c.begin_runner.ensures.count c.begin_runner.ensures.room c.begin_runner.ensures.passed roomy
-
 pub returns-else-unit-clause-stands : goal.returns-else-unit-clause-stands
 returns-else-unit-clause-stands c = λ π limits ends. none_goes_on shown (thermal_of c.args.unit.now) π limits ends c.args.runners.now c.requires.off c.if-unit.false
-
-pub returns-then-unit-clause-keeps : goal.returns-then-unit-clause-keeps
-returns-then-unit-clause-keeps c =
-    written_keeps shown room_of c.args.runners.now _ 0 c.begin_runner.new.runner c.requires.some refl
-    _ (item_at shown c.args.runners.now 0 c.requires.some _) c.begin_runner.ensures.room (ap (λ p. length p.items + p.spare) c.begin_runner.ensures.passed)
-
-pub returns-then-unit-clause-left : goal.returns-then-unit-clause-left
-returns-then-unit-clause-left c =
-    written_left shown c.args.runners.now _ 0 c.begin_runner.new.runner c.requires.some refl
-    _ (item_at shown c.args.runners.now 0 c.requires.some _) c.begin_runner.ensures.passed
 
 pub returns-then-unit-clause-roster : goal.returns-then-unit-clause-roster
 returns-then-unit-clause-roster c =
@@ -38,3 +23,12 @@ returns-then-unit-clause-list c = ap (λ (xs : List ℕ). length xs) c.add.ensur
 
 pub returns-else-unit-clause-roster : goal.returns-else-unit-clause-roster
 returns-else-unit-clause-roster c = none_listed (live_at shown c.args.runners.now) 1 c.args.roster.now c.requires.none c.requires.off
+
+pub returns-then-unit-clause-kept : goal.returns-then-unit-clause-kept
+returns-then-unit-clause-kept c =
+    let begun = c.begin_runner.ensures in
+    kept_written shown count_of room_of c.args.runners.now _ 0 c.begin_runner.new.runner _ c.requires.some refl
+    (item_at shown c.args.runners.now 0 c.requires.some _) (begun_one shown count_of room_of _ _ begun.count begun.room begun.passed)
+
+pub returns-else-unit-clause-kept : goal.returns-else-unit-clause-kept
+returns-else-unit-clause-kept c = kept_none shown count_of room_of c.args.runners.now

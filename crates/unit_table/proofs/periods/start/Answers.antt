@@ -1,6 +1,6 @@
-use Rattle.slope_list.specs.Slopes.{shown}
+use Rattle.slope_list.specs.Slopes.{shown, count_of, room_of}
 use Rattle.unit_table.proofs.Common.{rules, ◌≡◌, ℕ, suc, ◌<◌, Some, pos, ◌+ℤ◌, ◌≤ℤ◌, sym, ◌∙◌, arith, refl, ints, FitsSigned, slice_get, w64, to_z-of_z, thermal_of, live_at, Origin}
-use Rattle.unit_table.proofs.Lemmas.{still_listed, none_starts, starts_beyond, entry_beyond}
+use Rattle.unit_table.proofs.Lemmas.{kept_none, still_listed, none_starts, starts_beyond, entry_beyond}
 use Rattle.unit_table.proofs.periods.start.Goals as goal
 
 pub returns-in-Some-clause-stands : goal.returns-in-Some-clause-stands
@@ -30,3 +30,9 @@ returns-then-not-is_within-clause-roster c =
 
 pub start_after-requires-clause-runners : goal.start_after-requires-clause-runners
 start_after-requires-clause-runners c = c.requires.runners
+
+pub returns-in-None-clause-kept : goal.returns-in-None-clause-kept
+returns-in-None-clause-kept c = kept_none shown count_of room_of c.args.runners.now
+
+pub returns-then-not-is_within-clause-kept : goal.returns-then-not-is_within-clause-kept
+returns-then-not-is_within-clause-kept c = kept_none shown count_of room_of c.args.runners.now

@@ -1,6 +1,6 @@
 use Rattle.slope_list.specs.Slopes.{shown, count_of, room_of}
 use Rattle.unit_table.proofs.Common.{rules, ◌≡◌, ℕ, suc, ◌+◌, ◌<◌, pos, ◌+ℤ◌, ◌≤ℤ◌, Some, List, length, refl, ap, ◌∙◌, arith, length-set, FitsSigned, w64, ints, to_z-of_z, thermal_of, live_at, IsUnder, Going, scaled_Fits}
-use Rattle.unit_table.proofs.Lemmas.{roomy_begun, written_keeps, written_left, still_listed, begun_listed, item_at, start_undercut, start_beyond, started}
+use Rattle.unit_table.proofs.Lemmas.{kept_none, kept_written, begun_one, still_listed, begun_listed, item_at, start_undercut, start_beyond, started}
 use Rattle.unit_table.proofs.periods.start_after.Goals as goal
 
 pub returns-then-is_undercut-clause-stands : goal.returns-then-is_undercut-clause-stands
@@ -17,27 +17,6 @@ returns-clause-stands c = λ π limits ends here least now.
     let low : c.args.place + 1 < length c.args.runners.now = omega (arith, end) in
     started shown (thermal_of c.args.unit.now) π limits ends c.args.place (c.args.place + 1) (omega arith) c.args.runners.now c.begin_runner.new.runner low
     c.args.entry.now.last c.args.entry.now.cost c.begin_runner.ensures.on c.begin_runner.ensures.cost c.begin_runner.ensures.before (c.begin_runner.ensures.frontier π) c.requires.bound least now
-
-pub returns-clause-room : goal.returns-clause-room
-returns-clause-room c = λ periods charge roomy.
-    let end = c.requires.runners in
-    let low : c.args.place + 1 < length c.args.runners.now = omega (arith, end) in
-    roomy_begun shown count_of room_of periods c.args.place charge c.args.runners.now _ (c.args.place + 1) c.begin_runner.new.runner low refl
-    _ (item_at shown c.args.runners.now (c.args.place + 1) low _) c.begin_runner.ensures.count c.begin_runner.ensures.room c.begin_runner.ensures.passed roomy
-
-pub returns-clause-keeps : goal.returns-clause-keeps
-returns-clause-keeps c =
-    let end = c.requires.runners in
-    let low : c.args.place + 1 < length c.args.runners.now = omega (arith, end) in
-    written_keeps shown room_of c.args.runners.now _ (c.args.place + 1) c.begin_runner.new.runner low refl
-    _ (item_at shown c.args.runners.now (c.args.place + 1) low _) c.begin_runner.ensures.room (ap (λ p. length p.items + p.spare) c.begin_runner.ensures.passed)
-
-pub returns-clause-left : goal.returns-clause-left
-returns-clause-left c =
-    let end = c.requires.runners in
-    let low : c.args.place + 1 < length c.args.runners.now = omega (arith, end) in
-    written_left shown c.args.runners.now _ (c.args.place + 1) c.begin_runner.new.runner low refl
-    _ (item_at shown c.args.runners.now (c.args.place + 1) low _) c.begin_runner.ensures.passed
 
 pub is_undercut-requires-clause-roster : goal.is_undercut-requires-clause-roster
 is_undercut-requires-clause-roster c =
@@ -76,3 +55,17 @@ pub offset_bounds-runners-place : goal.offset_bounds-runners-place
 offset_bounds-runners-place c =
     let end = c.requires.runners in
     scaled_Fits (c.args.place + 1) (length c.args.runners.now) _ (omega (arith, end)) (search rules)
+
+pub returns-clause-kept : goal.returns-clause-kept
+returns-clause-kept c =
+    let end = c.requires.runners in
+    let low : c.args.place + 1 < length c.args.runners.now = omega (arith, end) in
+    let begun = c.begin_runner.ensures in
+    kept_written shown count_of room_of c.args.runners.now _ (c.args.place + 1) c.begin_runner.new.runner _ low refl
+    (item_at shown c.args.runners.now (c.args.place + 1) low _) (begun_one shown count_of room_of _ _ begun.count begun.room begun.passed)
+
+pub returns-then-is_undercut-clause-kept : goal.returns-then-is_undercut-clause-kept
+returns-then-is_undercut-clause-kept c = kept_none shown count_of room_of c.args.runners.now
+
+pub returns-then-is_less-clause-kept : goal.returns-then-is_less-clause-kept
+returns-then-is_less-clause-kept c = kept_none shown count_of room_of c.args.runners.now

@@ -1,113 +1,119 @@
 use Rattle.slope_list.specs.Slopes.{shown, count_of, room_of}
-use Rattle.unit_table.proofs.Common.{rules, ◌≡◌, ℕ, suc, ◌+◌, pos, length, sym, ◌∙◌, subst, arith, to_z, of_z, FitsSigned, w64, to_z-of_z, get_or_from_slice_get, thermal_of, prices_of, int_at, live_at, left_at, cost_at, first_at, AreRunners}
-use Rattle.unit_table.proofs.Lemmas.{small_of, have_room, origins_within, period_off, period_run, period_filled, none_listed, still_listed, cost-same, first-same, left_live, ways_same, ways_none, ways_more}
+use Rattle.unit_table.proofs.Common.{rules, ◌≡◌, ℕ, suc, ◌+◌, ◌*◌, pos, length, refl, sym, ap, ◌∙◌, subst, arith, to_z, of_z, FitsSigned, w64, to_z-of_z, get_or_from_slice_get, ℤ, Some, List, slice_get, unit_of, prices_in, periods_in, charge_of, int_at, live_at, left_at, cost_at, first_at, AreRunners}
+use Rattle.unit_table.proofs.Lemmas.{small_of, have_room, origins_within, period_off, period_run, period_filled, none_listed, still_listed, cost-same, first-same, left_live, ways_same, ways_none, ways_more, kept_then, kept_room, kept_roomy, kept_left, off_roomy, fewer_then, fewer_off, fewer_small}
 use Rattle.unit_table.proofs.periods.take_period.Goals as goal
 
-pub returns-then-is_must_off-clause-filled : goal.returns-then-is_must_off-clause-filled
-returns-then-is_must_off-clause-filled c =
-    period_off (thermal_of c.args.unit.now) (prices_of c.args.prices.now) (int_at c.args.limits.now.items) c.args.unit.now.valid c.args.place c.args.table.now.items (live_at shown c.args.runners.now) c.requires.filled c.requires.place
-    (live_at shown c.stop_all.new.runners) c.stop_all.ensures.off (c.is_must_off.ensures.yes c.if-is_must_off.true)
+-- ---- all are off
 
-pub returns-then-is_must_off-clause-room : goal.returns-then-is_must_off-clause-room
-returns-then-is_must_off-clause-room c =
-    c.stop_all.ensures.room (length c.args.prices.now.energy.items) (suc c.args.place) (length c.args.curve.now.blocks.items + 3)
-    (have_room count_of room_of (length c.args.prices.now.energy.items) c.args.place (length c.args.curve.now.blocks.items + 3) c.args.runners.now c.requires.room)
+pub returns-then-is_must_off-clause-now : goal.returns-then-is_must_off-clause-now
+returns-then-is_must_off-clause-now c =
+    let g = unit_of c.args.question.now in
+    let π = prices_in c.args.question.now in
+    let rows = c.args.table.now.items in
+    let old = c.args.runners.now in
+    let now = c.requires.now in
+    let off = c.stop_all.ensures.off in
+    let kept = c.stop_all.ensures.kept in
+    let none = now.filled.table.none (suc c.args.place) (omega arith) in
+    record {
+      filled = period_off g π (int_at c.args.limits.now.items) c.args.question.now.unit.now.valid c.args.place rows (live_at shown old) now.filled c.requires.place
+          (live_at shown c.stop_all.new.runners) off (c.is_must_off.ensures.yes c.if-is_must_off.true);
+      ways = ways_same g π (suc c.args.place) (cost_at rows) (first_at rows) (left_at old) (left_at c.stop_all.new.runners) (kept_left shown count_of room_of _ _ kept)
+          (ways_none g π c.args.place (cost_at rows) (first_at rows) (left_at old) none now.ways);
+      roomy = off_roomy shown count_of room_of (periods_in c.args.question.now) (suc c.args.place) (charge_of c.args.question.now) c.stop_all.new.runners off
+          (kept_room shown count_of room_of _ _ kept (periods_in c.args.question.now * charge_of c.args.question.now) (periods_in c.args.question.now)
+          (have_room count_of room_of (periods_in c.args.question.now) c.args.place (charge_of c.args.question.now) old now.roomy));
+      roster_is = none_listed (live_at shown c.stop_all.new.runners) (suc (suc c.args.place)) c.clear.new.self c.clear.ensures.count off;
+    }
+
+pub returns-then-is_must_off-clause-same : goal.returns-then-is_must_off-clause-same
+returns-then-is_must_off-clause-same c = record {
+  rows_length = refl;
+  count_same = c.stop_all.ensures.kept.count_same;
+  firsts_same = ap (λ l. length l.items) c.clear.ensures.firsts;
+  keeps = kept_room shown count_of room_of _ _ c.stop_all.ensures.kept;
+}
+
+-- ---- the runners, step by step
+
+limit_at : (limits : List ℤ) (k : ℕ) (x : ℤ) → FitsSigned w64 x → slice_get limits k ≡ Some x → int_at limits k ≡ to_z w64 (of_z w64 x)
+limit_at limits k x fits is = get_or_from_slice_get limits k x (pos 0) is ∙ sym (to_z-of_z w64 x fits)
 
 pub start-requires-clause-within : goal.start-requires-clause-within
 start-requires-clause-within c =
     let place = c.requires.place in
-    let list = c.requires.list in
-    origins_within (thermal_of c.args.unit.now) c.args.table.now.items c.args.place c.args.origins.now c.requires.origins c.requires.filled.within (omega (arith, place, list))
+    let list = c.requires.long.list_end in
+    origins_within (unit_of c.args.question.now) c.args.table.now.items c.args.place c.args.origins.now c.requires.origins c.requires.now.filled.within (omega (arith, place, list))
 
 pub start-requires-clause-order : goal.start-requires-clause-order
 start-requires-clause-order c = c.requires.origins.right.order
 
+pub start-requires-clause-roster : goal.start-requires-clause-roster
+start-requires-clause-roster c = c.requires.now.roster_is
+
 pub start-requires-clause-small : goal.start-requires-clause-small
 start-requires-clause-small c =
-    let u = thermal_of c.args.unit.now in
-    let π = prices_of c.args.prices.now in
-    let few = c.args.prices.now.valid.horizon.at_most in
+    let few = c.args.question.now.prices.now.valid.horizon.at_most in
     let place = c.requires.place in
-    small_of u π (int_at c.args.limits.now.items) _ (live_at shown c.args.runners.now) c.args.place (suc c.args.place) (omega (arith, few, place)) (omega (arith, few, place)) c.requires.filled.runners
+    small_of (unit_of c.args.question.now) (prices_in c.args.question.now) (int_at c.args.limits.now.items) _ (live_at shown c.args.runners.now) c.args.place (suc c.args.place)
+    (omega (arith, few, place)) (omega (arith, few, place)) c.requires.now.filled.runners
 
 pub run_all-requires-clause-room : goal.run_all-requires-clause-room
-run_all-requires-clause-room c = c.start.ensures.room (length c.args.prices.now.energy.items) (length c.args.curve.now.blocks.items + 3) c.requires.room
+run_all-requires-clause-room c =
+    kept_roomy shown count_of room_of _ _ c.start.ensures.kept (periods_in c.args.question.now) c.args.place (charge_of c.args.question.now) c.requires.now.roomy
+
+pub run_all-requires-clause-now : goal.run_all-requires-clause-now
+run_all-requires-clause-now c =
+    let g = unit_of c.args.question.now in
+    let π = prices_in c.args.question.now in
+    let limits = int_at c.args.limits.now.items in
+    let rows = c.args.table.now.items in
+    let filled = c.requires.now.filled in
+    let here = limit_at c.args.limits.now.items c.args.place c.get-limit.result.now (search rules) c.get-limit.ensures.item in
+    let begun = c.start.ensures.stands π limits (cost_at rows) here c.requires.origins filled.runners in
+    (limits, begun)
+
+pub run_all-requires-clause-none : goal.run_all-requires-clause-none
+run_all-requires-clause-none c = c.requires.now.filled.table.none (suc c.args.place) (omega arith)
+
+pub run_all-requires-clause-open : goal.run_all-requires-clause-open
+run_all-requires-clause-open c = c.is_must_off.ensures.no c.if-is_must_off.false
+
+pub run_all-requires-clause-within : goal.run_all-requires-clause-within
+run_all-requires-clause-within c = c.requires.now.filled.within
 
 pub drop_beyond-requires-clause-small : goal.drop_beyond-requires-clause-small
 drop_beyond-requires-clause-small c =
-    let fits_here : FitsSigned w64 c.get-limit.result.now = search rules in
-    let here : int_at c.args.limits.now.items c.args.place ≡ to_z w64 (of_z w64 c.get-limit.result.now) =
-    get_or_from_slice_get c.args.limits.now.items c.args.place c.get-limit.result.now (pos 0) c.get-limit.ensures.item ∙ sym (to_z-of_z w64 c.get-limit.result.now fits_here) in
-    let u = thermal_of c.args.unit.now in
-    let π = prices_of c.args.prices.now in
-    let few = c.args.prices.now.valid.horizon.at_most in
-    let place = c.requires.place in
-    let now = c.start.ensures.stands π (int_at c.args.limits.now.items) (cost_at c.args.table.now.items) here c.requires.origins c.requires.filled.runners in
-    let ran = period_run u π (int_at c.args.limits.now.items) c.args.unit.now.valid c.args.place c.args.table.now.items (live_at shown c.args.runners.now) c.requires.filled c.requires.place c.run_all.new.table.items
-    (live_at shown c.start.new.runners) (live_at shown c.run_all.new.runners) now c.requires.limits.0 c.requires.limits.1 c.runs_go_on.ensures (c.is_must_off.ensures.no c.if-is_must_off.false) c.run_all.ensures.goes c.run_all.ensures.off in
-    small_of u π (int_at c.args.limits.now.items) _ (live_at shown c.run_all.new.runners) (suc c.args.place) (suc (suc c.args.place)) (omega (arith, few, place)) (omega (arith, few, place)) ran
-
-pub returns-clause-filled : goal.returns-clause-filled
-returns-clause-filled c =
-    let fits_here : FitsSigned w64 c.get-limit.result.now = search rules in
-    let here : int_at c.args.limits.now.items c.args.place ≡ to_z w64 (of_z w64 c.get-limit.result.now) =
-    get_or_from_slice_get c.args.limits.now.items c.args.place c.get-limit.result.now (pos 0) c.get-limit.ensures.item ∙ sym (to_z-of_z w64 c.get-limit.result.now fits_here) in
-    let fits_next : FitsSigned w64 c.get.result.now = search rules in
-    let next_is : int_at c.args.limits.now.items (c.args.place + 1) ≡ to_z w64 (of_z w64 c.get.result.now) =
-    get_or_from_slice_get c.args.limits.now.items (c.args.place + 1) c.get.result.now (pos 0) c.get.ensures.item ∙ sym (to_z-of_z w64 c.get.result.now fits_next) in
-    let u = thermal_of c.args.unit.now in
-    let π = prices_of c.args.prices.now in
-    let few = c.args.prices.now.valid.horizon.at_most in
-    let place = c.requires.place in
-    let now = c.start.ensures.stands π (int_at c.args.limits.now.items) (cost_at c.args.table.now.items) here c.requires.origins c.requires.filled.runners in
-    let ran = period_run u π (int_at c.args.limits.now.items) c.args.unit.now.valid c.args.place c.args.table.now.items (live_at shown c.args.runners.now) c.requires.filled c.requires.place c.run_all.new.table.items
-    (live_at shown c.start.new.runners) (live_at shown c.run_all.new.runners) now c.requires.limits.0 c.requires.limits.1 c.runs_go_on.ensures (c.is_must_off.ensures.no c.if-is_must_off.false) c.run_all.ensures.goes c.run_all.ensures.off in
-    let next : suc c.args.place ≡ c.args.place + 1 = omega arith in
-    let there = subst (λ (t : ℕ). AreRunners u π (int_at c.args.limits.now.items) (cost_at c.args.table.now.items) (live_at shown c.run_all.new.runners) t (suc (suc c.args.place))) next ran in
-    let pruned = subst (λ (t : ℕ). AreRunners u π (int_at c.args.limits.now.items) (cost_at c.args.table.now.items) (live_at shown c.prune.new.runners) t (suc (suc c.args.place))) (sym next)
-    (c.prune.ensures.stands π (int_at c.args.limits.now.items) (cost_at c.args.table.now.items) (suc (suc c.args.place))
-    (c.drop_beyond.ensures.stands u π (int_at c.args.limits.now.items) (cost_at c.args.table.now.items) (c.args.place + 1) (suc (suc c.args.place)) next_is there)) in
-    period_filled u π (int_at c.args.limits.now.items) c.args.unit.now.valid c.args.place c.args.table.now.items (live_at shown c.args.runners.now) c.requires.filled c.requires.place c.run_all.new.table.items
-    (live_at shown c.start.new.runners) (live_at shown c.run_all.new.runners) now c.requires.limits.0 c.requires.limits.1 c.dispatches_go_on.ensures c.dispatches_are_runs.ensures
-    (live_at shown c.prune.new.runners) pruned c.run_all.ensures.row c.run_all.ensures.others c.run_all.ensures.within
-
-pub returns-clause-room : goal.returns-clause-room
-returns-clause-room c =
-    c.prune.ensures.room (length c.args.prices.now.energy.items) (suc c.args.place) (length c.args.curve.now.blocks.items + 3)
-    (c.drop_beyond.ensures.room (length c.args.prices.now.energy.items) (suc c.args.place) (length c.args.curve.now.blocks.items + 3) c.run_all.ensures.room)
-
-pub returns-clause-keeps : goal.returns-clause-keeps
-returns-clause-keeps c = λ most periods have. c.prune.ensures.keeps most periods (c.drop_beyond.ensures.keeps most periods (c.run_all.ensures.keeps most periods (c.start.ensures.keeps most periods have)))
-
-pub returns-then-is_must_off-clause-ways : goal.returns-then-is_must_off-clause-ways
-returns-then-is_must_off-clause-ways c =
-    let u = thermal_of c.args.unit.now in
-    let π = prices_of c.args.prices.now in
+    let g = unit_of c.args.question.now in
+    let π = prices_in c.args.question.now in
+    let limits = int_at c.args.limits.now.items in
     let rows = c.args.table.now.items in
-    let none = c.requires.filled.table.none (suc c.args.place) (omega arith) in
-    ways_same u π (suc c.args.place) (cost_at rows) (first_at rows) (left_at c.args.runners.now) (left_at c.stop_all.new.runners) c.stop_all.ensures.left
-    (ways_none u π c.args.place (cost_at rows) (first_at rows) (left_at c.args.runners.now) none c.requires.ways)
+    let filled = c.requires.now.filled in
+    let here = limit_at c.args.limits.now.items c.args.place c.get-limit.result.now (search rules) c.get-limit.ensures.item in
+    let begun = c.start.ensures.stands π limits (cost_at rows) here c.requires.origins filled.runners in
+    let ran = period_run g π limits c.args.question.now.unit.now.valid c.args.place rows (live_at shown c.args.runners.now) filled c.requires.place
+    c.run_all.new.table.items (live_at shown c.start.new.runners) (live_at shown c.run_all.new.runners) begun c.requires.limits.0 c.requires.limits.1
+    c.runs_go_on.ensures (c.is_must_off.ensures.no c.if-is_must_off.false) c.run_all.ensures.goes c.run_all.ensures.off in
+    let few = c.args.question.now.prices.now.valid.horizon.at_most in
+    let place = c.requires.place in
+    small_of g π limits _ (live_at shown c.run_all.new.runners) (suc c.args.place) (suc (suc c.args.place)) (omega (arith, few, place)) (omega (arith, few, place)) ran
 
-pub returns-clause-ways : goal.returns-clause-ways
-returns-clause-ways c =
-    let fits_here : FitsSigned w64 c.get-limit.result.now = search rules in
-    let here : int_at c.args.limits.now.items c.args.place ≡ to_z w64 (of_z w64 c.get-limit.result.now) =
-    get_or_from_slice_get c.args.limits.now.items c.args.place c.get-limit.result.now (pos 0) c.get-limit.ensures.item ∙ sym (to_z-of_z w64 c.get-limit.result.now fits_here) in
-    let u = thermal_of c.args.unit.now in
-    let π = prices_of c.args.prices.now in
+pub prune-requires-clause-small : goal.prune-requires-clause-small
+prune-requires-clause-small c =
+    let g = unit_of c.args.question.now in
+    let π = prices_in c.args.question.now in
+    let limits = int_at c.args.limits.now.items in
     let rows = c.args.table.now.items in
-    let rows' = c.run_all.new.table.items in
-    let now = c.start.ensures.stands π (int_at c.args.limits.now.items) (cost_at rows) here c.requires.origins c.requires.filled.runners in
-    let begun = ways_same u π c.args.place (cost_at rows) (first_at rows) (left_at c.args.runners.now) (left_at c.start.new.runners) c.start.ensures.left c.requires.ways in
-    let ran = ways_more u π c.args.place (suc (suc c.args.place)) (cost_at rows) (cost_at rows') (first_at rows) (first_at rows') _ (left_at c.start.new.runners) (left_at c.run_all.new.runners)
-    (live_at shown c.start.new.runners) (int_at c.args.limits.now.items) now (left_live shown c.start.new.runners) c.run_all.ensures.row c.run_all.ensures.ends c.run_all.ensures.left
-    (λ l other. cost-same rows' rows l l (c.run_all.ensures.others l other)) (λ l other. first-same rows' rows l l (c.run_all.ensures.others l other)) begun in
-    ways_same u π (suc c.args.place) (cost_at rows') (first_at rows') (left_at c.run_all.new.runners) (left_at c.prune.new.runners)
-    (λ f k. c.prune.ensures.left f k ∙ c.drop_beyond.ensures.left f k) ran
-
-pub returns-then-is_must_off-clause-roster : goal.returns-then-is_must_off-clause-roster
-returns-then-is_must_off-clause-roster c =
-    none_listed (live_at shown c.stop_all.new.runners) (suc (suc c.args.place)) c.clear.new.self c.clear.ensures.count c.stop_all.ensures.off
+    let filled = c.requires.now.filled in
+    let here = limit_at c.args.limits.now.items c.args.place c.get-limit.result.now (search rules) c.get-limit.ensures.item in
+    let begun = c.start.ensures.stands π limits (cost_at rows) here c.requires.origins filled.runners in
+    let ran = period_run g π limits c.args.question.now.unit.now.valid c.args.place rows (live_at shown c.args.runners.now) filled c.requires.place
+    c.run_all.new.table.items (live_at shown c.start.new.runners) (live_at shown c.run_all.new.runners) begun c.requires.limits.0 c.requires.limits.1
+    c.runs_go_on.ensures (c.is_must_off.ensures.no c.if-is_must_off.false) c.run_all.ensures.goes c.run_all.ensures.off in
+    let few = c.args.question.now.prices.now.valid.horizon.at_most in
+    let place = c.requires.place in
+    fewer_small _ _ c.drop_beyond.ensures.fewer
+    (small_of g π limits _ (live_at shown c.run_all.new.runners) (suc c.args.place) (suc (suc c.args.place)) (omega (arith, few, place)) (omega (arith, few, place)) ran)
 
 pub drop_beyond-requires-clause-roster : goal.drop_beyond-requires-clause-roster
 drop_beyond-requires-clause-roster c =
@@ -117,41 +123,85 @@ drop_beyond-requires-clause-roster c =
 pub prune-requires-clause-roster : goal.prune-requires-clause-roster
 prune-requires-clause-roster c =
     still_listed (live_at shown c.start.new.runners) (live_at shown c.drop_beyond.new.runners) (suc (suc c.args.place)) (suc (c.args.place + 1)) c.start.new.roster (omega arith)
-    (λ f off. c.drop_beyond.ensures.off f (c.run_all.ensures.off f off)) c.start.ensures.roster
+    (λ f off. fewer_off _ _ c.drop_beyond.ensures.fewer f (c.run_all.ensures.off f off)) c.start.ensures.roster
 
 pub keep-requires-clause-small : goal.keep-requires-clause-small
 keep-requires-clause-small c =
     let few = c.start.ensures.roster.few in
     let place = c.requires.place in
-    let periods = c.args.prices.now.valid.horizon.at_most in
+    let periods = c.args.question.now.prices.now.valid.horizon.at_most in
     omega (arith, few, place, periods)
 
 pub keep-requires-clause-roster : goal.keep-requires-clause-roster
 keep-requires-clause-roster c =
     let place = c.requires.place in
-    let runners = c.requires.runners in
-    let a = c.start.ensures.length in
-    let b = c.run_all.ensures.count in
-    let d = c.prune.ensures.length in
-    let e = c.drop_beyond.ensures.length in (
+    let runners = c.requires.long.runners_end in
+    let a = c.start.ensures.kept.count_same in
+    let b = c.run_all.ensures.count_same in
+    let d = c.prune.ensures.kept.count_same in
+    let e = c.drop_beyond.ensures.kept.count_same in (
       suc (suc c.args.place),
       omega (arith, place, runners, a, b, d, e),
       still_listed (live_at shown c.start.new.runners) (live_at shown c.prune.new.runners) (suc (suc c.args.place)) (suc (suc c.args.place)) c.start.new.roster (omega arith)
-          (λ f off. c.prune.ensures.off f (c.drop_beyond.ensures.off f (c.run_all.ensures.off f off))) c.start.ensures.roster,
+          (λ f off. fewer_off _ _ (fewer_then _ _ _ c.drop_beyond.ensures.fewer c.prune.ensures.fewer) f (c.run_all.ensures.off f off)) c.start.ensures.roster,
     )
 
-pub returns-clause-roster : goal.returns-clause-roster
-returns-clause-roster c =
-    c.keep.ensures.roster (suc (suc c.args.place))
-    (still_listed (live_at shown c.start.new.runners) (live_at shown c.prune.new.runners) (suc (suc c.args.place)) (suc (suc c.args.place)) c.start.new.roster (omega arith)
-    (λ f off. c.prune.ensures.off f (c.drop_beyond.ensures.off f (c.run_all.ensures.off f off))) c.start.ensures.roster)
+-- ---- the period
 
-pub run_all-requires-clause-now : goal.run_all-requires-clause-now
-run_all-requires-clause-now c =
-    let fits_here : FitsSigned w64 c.get-limit.result.now = search rules in
-    let here : int_at c.args.limits.now.items c.args.place ≡ to_z w64 (of_z w64 c.get-limit.result.now) =
-    get_or_from_slice_get c.args.limits.now.items c.args.place c.get-limit.result.now (pos 0) c.get-limit.ensures.item ∙ sym (to_z-of_z w64 c.get-limit.result.now fits_here) in
-    (int_at c.args.limits.now.items, c.start.ensures.stands (prices_of c.args.prices.now) (int_at c.args.limits.now.items) (cost_at c.args.table.now.items) here c.requires.origins c.requires.filled.runners)
+pub returns-clause-now : goal.returns-clause-now
+returns-clause-now c =
+    let g = unit_of c.args.question.now in
+    let π = prices_in c.args.question.now in
+    let limits = int_at c.args.limits.now.items in
+    let rows = c.args.table.now.items in
+    let filled = c.requires.now.filled in
+    let here = limit_at c.args.limits.now.items c.args.place c.get-limit.result.now (search rules) c.get-limit.ensures.item in
+    let begun = c.start.ensures.stands π limits (cost_at rows) here c.requires.origins filled.runners in
+    let ran = period_run g π limits c.args.question.now.unit.now.valid c.args.place rows (live_at shown c.args.runners.now) filled c.requires.place
+    c.run_all.new.table.items (live_at shown c.start.new.runners) (live_at shown c.run_all.new.runners) begun c.requires.limits.0 c.requires.limits.1
+    c.runs_go_on.ensures (c.is_must_off.ensures.no c.if-is_must_off.false) c.run_all.ensures.goes c.run_all.ensures.off in
+    let next : suc c.args.place ≡ c.args.place + 1 = omega arith in
+    let next_is = limit_at c.args.limits.now.items (c.args.place + 1) c.get.result.now (search rules) c.get.ensures.item in
+    let there = subst (λ (t : ℕ). AreRunners g π limits (cost_at rows) (live_at shown c.run_all.new.runners) t (suc (suc c.args.place))) next ran in
+    let pruned = subst (λ (t : ℕ). AreRunners g π limits (cost_at rows) (live_at shown c.prune.new.runners) t (suc (suc c.args.place))) (sym next)
+    (c.prune.ensures.stands π limits (cost_at rows) (suc (suc c.args.place))
+    (c.drop_beyond.ensures.stands g π limits (cost_at rows) (c.args.place + 1) (suc (suc c.args.place)) next_is there)) in
+    let rows' = c.run_all.new.table.items in
+    let run = c.run_all.ensures in
+    let kept = kept_then shown count_of room_of _ _ _ c.drop_beyond.ensures.kept c.prune.ensures.kept in
+    let fewer = fewer_then _ _ _ c.drop_beyond.ensures.fewer c.prune.ensures.fewer in
+    let old_left = left_at c.args.runners.now in
+    let left = ways_same g π c.args.place (cost_at rows) (first_at rows) old_left (left_at c.start.new.runners) (kept_left shown count_of room_of _ _ c.start.ensures.kept) c.requires.now.ways in
+    let ways = ways_more g π c.args.place (suc (suc c.args.place)) (cost_at rows) (cost_at rows') (first_at rows) (first_at rows') _ (left_at c.start.new.runners) (left_at c.run_all.new.runners)
+    (live_at shown c.start.new.runners) limits begun (left_live shown c.start.new.runners) run.row run.ends run.left
+    (λ l other. cost-same rows' rows l l (run.others l other)) (λ l other. first-same rows' rows l l (run.others l other)) left in
+    record {
+      filled = period_filled g π limits c.args.question.now.unit.now.valid c.args.place rows (live_at shown c.args.runners.now) filled c.requires.place rows'
+          (live_at shown c.start.new.runners) (live_at shown c.run_all.new.runners) begun c.requires.limits.0 c.requires.limits.1 c.dispatches_go_on.ensures c.dispatches_are_runs.ensures
+          (live_at shown c.prune.new.runners) pruned run.row run.others run.within;
+      ways = ways_same g π (suc c.args.place) (cost_at rows') (first_at rows') (left_at c.run_all.new.runners) (left_at c.prune.new.runners) (kept_left shown count_of room_of _ _ kept) ways;
+      roomy = kept_roomy shown count_of room_of _ _ kept (periods_in c.args.question.now) (suc c.args.place) (charge_of c.args.question.now) run.roomy;
+      roster_is = c.keep.ensures.roster (suc (suc c.args.place))
+          (still_listed (live_at shown c.start.new.runners) (live_at shown c.prune.new.runners) (suc (suc c.args.place)) (suc (suc c.args.place)) c.start.new.roster (omega arith)
+          (λ f off. fewer_off _ _ fewer f (run.off f off)) c.start.ensures.roster);
+    }
+
+pub returns-clause-others : goal.returns-clause-others
+returns-clause-others c = c.run_all.ensures.others
+
+pub returns-clause-same : goal.returns-clause-same
+returns-clause-same c =
+    let kept = kept_then shown count_of room_of _ _ _ c.drop_beyond.ensures.kept c.prune.ensures.kept in
+    record {
+      rows_length = c.run_all.ensures.rows_length;
+      count_same = kept.count_same ∙ c.run_all.ensures.count_same ∙ c.start.ensures.kept.count_same;
+      firsts_same = c.keep.ensures.length ∙ c.start.ensures.list;
+      keeps = λ most periods have.
+          kept_room shown count_of room_of _ _ kept most periods
+          (c.run_all.ensures.keeps most periods (kept_room shown count_of room_of _ _ c.start.ensures.kept most periods have));
+    }
+
+-- ---- places and lengths
 
 pub get-limit-requires : goal.get-limit-requires
 get-limit-requires c =
@@ -168,49 +218,46 @@ get-requires c =
 pub start-requires-clause-list : goal.start-requires-clause-list
 start-requires-clause-list c =
     let low = c.requires.place in
-    let firsts = c.requires.firsts in
+    let firsts = c.requires.long.firsts_end in
     omega (arith, low, firsts)
 
 pub start-requires-clause-runners : goal.start-requires-clause-runners
 start-requires-clause-runners c =
     let low = c.requires.place in
-    let end = c.requires.runners in
+    let end = c.requires.long.runners_end in
     omega (arith, low, end)
+
+pub start-requires-clause-small_place : goal.start-requires-clause-small_place
+start-requires-clause-small_place c =
+    let few = c.args.question.now.prices.now.valid.horizon.at_most in
+    let place = c.requires.place in
+    omega (arith, few, place)
 
 pub run_all-requires-clause-runners : goal.run_all-requires-clause-runners
 run_all-requires-clause-runners c =
-    let end = c.requires.runners in
-    let same = c.start.ensures.length in
+    let end = c.requires.long.runners_end in
+    let same = c.start.ensures.kept.count_same in
     omega (arith, end, same)
+
+pub run_all-requires-clause-rows : goal.run_all-requires-clause-rows
+run_all-requires-clause-rows c = c.requires.long.rows_end
 
 pub drop_beyond-requires-clause-end : goal.drop_beyond-requires-clause-end
 drop_beyond-requires-clause-end c =
     let low = c.requires.place in
-    let end = c.requires.runners in
-    let same = c.run_all.ensures.count ∙ c.start.ensures.length in
+    let end = c.requires.long.runners_end in
+    let same = c.run_all.ensures.count_same ∙ c.start.ensures.kept.count_same in
     omega (arith, low, end, same)
 
 pub prune-requires-clause-end : goal.prune-requires-clause-end
 prune-requires-clause-end c =
     let low = c.requires.place in
-    let end = c.requires.runners in
-    let same = c.drop_beyond.ensures.length ∙ c.run_all.ensures.count ∙ c.start.ensures.length in
+    let end = c.requires.long.runners_end in
+    let same = c.drop_beyond.ensures.kept.count_same ∙ c.run_all.ensures.count_same ∙ c.start.ensures.kept.count_same in
     omega (arith, low, end, same)
-
-pub start-requires-clause-small_place : goal.start-requires-clause-small_place
-start-requires-clause-small_place c =
-    let few = c.args.prices.now.valid.horizon.at_most in
-    let place = c.requires.place in
-    omega (arith, few, place)
 
 pub prune-requires-clause-periods : goal.prune-requires-clause-periods
 prune-requires-clause-periods c =
-    let few = c.args.prices.now.valid.horizon.at_most in
+    let few = c.args.question.now.prices.now.valid.horizon.at_most in
     let place = c.requires.place in
     omega (arith, few, place)
-
-pub run_all-requires-clause-none : goal.run_all-requires-clause-none
-run_all-requires-clause-none c = c.requires.filled.table.none (suc c.args.place) (omega arith)
-
-pub run_all-requires-clause-open : goal.run_all-requires-clause-open
-run_all-requires-clause-open c = c.is_must_off.ensures.no c.if-is_must_off.false

@@ -1,6 +1,6 @@
 use Rattle.slope_list.specs.Slopes.{shown, count_of, room_of}
-use Rattle.unit_table.proofs.Common.{◌+◌, rules, true, get_or, length, refl, ap, ◌∙◌, arith, FitsSigned, w64, OnTrue_at, ints, to_z-of_z, live_at, IsBeyond, scaled_Fits}
-use Rattle.unit_table.proofs.Lemmas.{live_here, live_other, going_off, small_stopped, off_stopped, roomy_stopped, written_keeps, written_left, item_at, item_same, item_live, beyond_goes}
+use Rattle.unit_table.proofs.Common.{rules, true, get_or, length, refl, ◌∙◌, arith, FitsSigned, w64, OnTrue_at, ints, to_z-of_z, live_at, IsBeyond, scaled_Fits}
+use Rattle.unit_table.proofs.Lemmas.{live_here, live_other, going_off, item_at, item_same, item_live, beyond_goes, fewer_none, fewer_stopped, kept_none, kept_written, stopped_one}
 use Rattle.unit_table.proofs.runner.drop_at.Goals as goal
 
 pub is_beyond-requires-clause-bound : goal.is_beyond-requires-clause-bound
@@ -27,28 +27,6 @@ returns-then-is_beyond-clause-stands c = λ u π limits ends t n here now.
     (live_here shown c.args.runners.now _ c.args.first c.stop.new.runner c.requires.end refl ∙ going_off shown c.stop.new.runner c.stop.ensures.off)
     (λ f other. live_other shown c.args.runners.now _ c.args.first c.stop.new.runner c.requires.end refl f other)
 
-pub returns-then-is_beyond-clause-small : goal.returns-then-is_beyond-clause-small
-returns-then-is_beyond-clause-small c = small_stopped shown c.args.runners.now _ c.args.first c.stop.new.runner c.requires.end refl c.stop.ensures.off c.requires.small
-
-pub returns-then-is_beyond-clause-off : goal.returns-then-is_beyond-clause-off
-returns-then-is_beyond-clause-off c = off_stopped shown c.args.runners.now _ c.args.first c.stop.new.runner c.requires.end refl c.stop.ensures.off
-
-pub returns-then-is_beyond-clause-room : goal.returns-then-is_beyond-clause-room
-returns-then-is_beyond-clause-room c = λ periods t charge roomy.
-    let d = c.index-runners-first-2.result in
-    roomy_stopped shown count_of room_of periods t charge c.args.runners.now _ c.args.first c.stop.new.runner c.requires.end refl c.stop.ensures.off
-    _ (item_at shown c.args.runners.now c.args.first c.requires.end _) c.stop.ensures.running c.stop.ensures.passed roomy
-
-pub returns-then-is_beyond-clause-keeps : goal.returns-then-is_beyond-clause-keeps
-returns-then-is_beyond-clause-keeps c =
-    written_keeps shown room_of c.args.runners.now _ c.args.first c.stop.new.runner c.requires.end refl
-    _ (item_at shown c.args.runners.now c.args.first c.requires.end _) (ap room_of c.stop.ensures.running) (ap (λ p. length p.items + p.spare) c.stop.ensures.passed)
-
-pub returns-then-is_beyond-clause-left : goal.returns-then-is_beyond-clause-left
-returns-then-is_beyond-clause-left c =
-    written_left shown c.args.runners.now _ c.args.first c.stop.new.runner c.requires.end refl
-    _ (item_at shown c.args.runners.now c.args.first c.requires.end _) c.stop.ensures.passed
-
 pub offset_bounds-runners-first : goal.offset_bounds-runners-first
 offset_bounds-runners-first c = scaled_Fits c.args.first (length c.args.runners.now) _ c.requires.end (search rules)
 
@@ -57,3 +35,24 @@ offset_bounds-runners-first-2 c = scaled_Fits c.args.first (length c.args.runner
 
 pub offset_bounds-runners-first-then-is_beyond : goal.offset_bounds-runners-first-then-is_beyond
 offset_bounds-runners-first-then-is_beyond c = scaled_Fits c.args.first (length c.args.runners.now) _ c.requires.end (search rules)
+
+pub returns-then-is_beyond-clause-fewer : goal.returns-then-is_beyond-clause-fewer
+returns-then-is_beyond-clause-fewer c =
+    fewer_stopped shown c.args.runners.now _ c.args.first c.stop.new.runner c.requires.end refl c.stop.ensures.off
+
+pub returns-then-is_beyond-clause-kept : goal.returns-then-is_beyond-clause-kept
+returns-then-is_beyond-clause-kept c =
+    kept_written shown count_of room_of c.args.runners.now _ c.args.first c.stop.new.runner _ c.requires.end refl
+    (item_at shown c.args.runners.now c.args.first c.requires.end _) (stopped_one shown count_of room_of _ _ c.stop.ensures.off c.stop.ensures.running c.stop.ensures.passed)
+
+pub returns-then-not-runners-first-clause-fewer : goal.returns-then-not-runners-first-clause-fewer
+returns-then-not-runners-first-clause-fewer c = fewer_none (live_at shown c.args.runners.now)
+
+pub returns-then-not-runners-first-clause-kept : goal.returns-then-not-runners-first-clause-kept
+returns-then-not-runners-first-clause-kept c = kept_none shown count_of room_of c.args.runners.now
+
+pub returns-else-is_beyond-clause-fewer : goal.returns-else-is_beyond-clause-fewer
+returns-else-is_beyond-clause-fewer c = fewer_none (live_at shown c.args.runners.now)
+
+pub returns-else-is_beyond-clause-kept : goal.returns-else-is_beyond-clause-kept
+returns-else-is_beyond-clause-kept c = kept_none shown count_of room_of c.args.runners.now

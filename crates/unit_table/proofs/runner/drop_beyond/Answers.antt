@@ -1,4 +1,6 @@
-use Rattle.unit_table.proofs.Common.{◌∙◌, arith, refl, FitsSigned, w64, rules, sym, to_z-of_z}
+use Rattle.slope_list.specs.Slopes.{shown, count_of, room_of}
+use Rattle.unit_table.proofs.Common.{live_at, ◌∙◌, arith, FitsSigned, w64, rules, sym, to_z-of_z}
+use Rattle.unit_table.proofs.Lemmas.{fewer_none, fewer_then, fewer_small, kept_none, kept_then}
 use Rattle.unit_table.proofs.runner.drop_beyond.Goals as goal
 
 pub drop_at-requires-clause-end : goal.drop_at-requires-clause-end
@@ -6,18 +8,14 @@ drop_at-requires-clause-end c =
     let low = c.loop-place-test.true in
     let below = c.requires.roster.below c.loop-place.place c.get.result.now (omega (arith, low)) c.get.ensures.item in
     let end = c.requires.end in
-    let same = c.loop-place.invariant.count_same in
+    let same = c.loop-place.invariant.kept.count_same in
     omega (arith, below, end, same)
 
 pub loop-place-preserved : goal.loop-place-preserved
 loop-place-preserved c = record {
-  off = λ f is. c.drop_at.ensures.off f (c.loop-place.invariant.off f is);
-  small = c.drop_at.ensures.small;
+  fewer = fewer_then _ _ _ c.loop-place.invariant.fewer c.drop_at.ensures.fewer;
+  kept = kept_then shown count_of room_of _ _ _ c.loop-place.invariant.kept c.drop_at.ensures.kept;
   stands = λ u π limits ends t n here now. c.drop_at.ensures.stands u π limits ends t n here (c.loop-place.invariant.stands u π limits ends t n here now);
-  roomy = λ periods t charge roomy. c.drop_at.ensures.room periods t charge (c.loop-place.invariant.roomy periods t charge roomy);
-  left = λ f k. c.drop_at.ensures.left f k ∙ c.loop-place.invariant.left f k;
-  keeps = λ most periods have. c.drop_at.ensures.keeps most periods (c.loop-place.invariant.keeps most periods have);
-  count_same = c.drop_at.ensures.length ∙ c.loop-place.invariant.count_same;
 }
 
 pub get-requires : goal.get-requires
@@ -28,16 +26,15 @@ get-requires c =
 
 pub loop-place-init : goal.loop-place-init
 loop-place-init c = record {
-  off = λ f is. is;
-  small = c.requires.small;
+  fewer = fewer_none (live_at shown c.args.runners.now);
+  kept = kept_none shown count_of room_of c.args.runners.now;
   stands = λ u π limits ends t n here now. now;
-  roomy = λ periods t charge roomy. roomy;
-  left = λ f k. refl;
-  keeps = λ most periods have. have;
-  count_same = refl;
 }
 
 pub returns-clause-stands : goal.returns-clause-stands
 returns-clause-stands c = λ u π limits ends t n here now.
     let fits : FitsSigned w64 c.args.limit = search rules in
     c.loop-place.invariant.stands u π limits ends t n (here ∙ sym (to_z-of_z w64 c.args.limit fits)) now
+
+pub drop_at-requires-clause-small : goal.drop_at-requires-clause-small
+drop_at-requires-clause-small c = fewer_small _ _ c.loop-place.invariant.fewer c.requires.small

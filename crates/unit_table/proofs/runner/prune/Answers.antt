@@ -1,6 +1,6 @@
-use Rattle.slope_list.specs.Slopes.{shown}
-use Rattle.unit_table.proofs.Common.{◌≡◌, ◌+◌, ◌-◌, ◌<◌, ◌≤◌, ℕ, Some, ◌∙◌, arith, slice_get, live_at, Going, refl}
-use Rattle.unit_table.proofs.Lemmas.{if_some_more}
+use Rattle.slope_list.specs.Slopes.{shown, count_of, room_of}
+use Rattle.unit_table.proofs.Common.{◌≡◌, ◌+◌, ◌-◌, ◌<◌, ◌≤◌, ℕ, Some, arith, slice_get, live_at, Going}
+use Rattle.unit_table.proofs.Lemmas.{if_some_more, fewer_none, fewer_then, fewer_small, kept_none, kept_then}
 use Rattle.unit_table.proofs.runner.prune.Goals as goal
 
 pub loop-back-preserved : goal.loop-back-preserved
@@ -10,6 +10,8 @@ loop-back-preserved c =
     let roster = c.args.roster.now in
     let first = c.get-first.result.now in
     record {
+      fewer = fewer_then _ _ _ c.loop-back.invariant.fewer c.prune_one-late.ensures.fewer;
+      kept = kept_then shown count_of room_of _ _ _ c.loop-back.invariant.kept c.prune_one-late.ensures.kept;
       late = if_some_more (λ l. (first ≤ l) × (l ≤ c.args.period) × ((r : Going) × (live_at shown c.prune_one-late.new.runners l ≡ Some r)))
           (λ l. ((j h : ℕ) → j + (c.loop-back.back + 1) < roster.count → slice_get roster.firsts.items j ≡ Some h → h < l) × (l ≤ c.args.period) × ((r : Going) × (live_at shown c.prune_one-late.new.runners l ≡ Some r)))
           (λ l h. (
@@ -17,13 +19,7 @@ loop-back-preserved c =
             h.1,
             h.2,
           )) c.prune_one-late.result c.prune_one-late.ensures.late;
-      off = λ f is. c.prune_one-late.ensures.off f (c.loop-back.invariant.off f is);
-      small = c.prune_one-late.ensures.small;
       stands = λ π limits ends n now. c.prune_one-late.ensures.stands π limits ends n (c.loop-back.invariant.stands π limits ends n now);
-      roomy = λ periods t charge roomy. c.prune_one-late.ensures.room periods t charge (c.loop-back.invariant.roomy periods t charge roomy);
-      left = λ f k. c.prune_one-late.ensures.left f k ∙ c.loop-back.invariant.left f k;
-      keeps = λ most periods have. c.prune_one-late.ensures.keeps most periods (c.loop-back.invariant.keeps most periods have);
-      count_same = c.prune_one-late.ensures.length ∙ c.loop-back.invariant.count_same;
     }
 
 pub get-first-requires : goal.get-first-requires
@@ -34,14 +30,10 @@ get-first-requires c =
 
 pub loop-back-init : goal.loop-back-init
 loop-back-init c = record {
+  fewer = fewer_none (live_at shown c.args.runners.now);
+  kept = kept_none shown count_of room_of c.args.runners.now;
   late = tt;
-  off = λ f is. is;
-  small = c.requires.small;
   stands = λ π limits ends n now. now;
-  roomy = λ periods t charge roomy. roomy;
-  left = λ f k. refl;
-  keeps = λ most periods have. have;
-  count_same = refl;
 }
 
 pub prune_one-late-requires-clause-early : goal.prune_one-late-requires-clause-early
@@ -53,7 +45,7 @@ prune_one-late-requires-clause-early c =
 pub prune_one-late-requires-clause-end : goal.prune_one-late-requires-clause-end
 prune_one-late-requires-clause-end c =
     let end = c.requires.end in
-    let same = c.loop-back.invariant.count_same in
+    let same = c.loop-back.invariant.kept.count_same in
     omega (arith, end, same)
 
 pub prune_one-late-requires-clause-late : goal.prune_one-late-requires-clause-late
@@ -64,3 +56,6 @@ prune_one-late-requires-clause-late c =
     if_some_more (λ l. ((j h : ℕ) → j + c.loop-back.back < roster.count → slice_get roster.firsts.items j ≡ Some h → h < l) × (l ≤ c.args.period) × ((r : Going) × (live_at shown c.loop-back.runners l ≡ Some r)))
     (λ l. (first < l) × (l ≤ c.args.period) × ((r : Going) × (live_at shown c.loop-back.runners l ≡ Some r)))
     (λ l h. (h.0 (roster.count - c.loop-back.back - 1) first (omega (arith, low)) c.get-first.ensures.item, h.1, h.2)) c.loop-back.late c.loop-back.invariant.late
+
+pub prune_one-late-requires-clause-small : goal.prune_one-late-requires-clause-small
+prune_one-late-requires-clause-small c = fewer_small _ _ c.loop-back.invariant.fewer c.requires.small

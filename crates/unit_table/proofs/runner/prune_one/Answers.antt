@@ -1,6 +1,6 @@
 use Rattle.slope_list.specs.Slopes.{shown, count_of, room_of}
-use Rattle.unit_table.proofs.Common.{◌+◌, ◌≡◌, ◌<◌, ◌≤◌, true, get_or, Some, length, refl, ap, ◌∙◌, arith, OnTrue_at, thermal_of, live_at, Going, scaled_Fits, rules}
-use Rattle.unit_table.proofs.Lemmas.{if_some, live_here, live_other, going_off, small_stopped, off_stopped, roomy_stopped, written_keeps, written_left, item_at, item_same, item_live, read_live, read_on, on_of, early_goes}
+use Rattle.unit_table.proofs.Common.{◌≡◌, ◌<◌, ◌≤◌, true, Some, length, refl, ◌∙◌, arith, OnTrue_at, thermal_of, live_at, Going, scaled_Fits, rules}
+use Rattle.unit_table.proofs.Lemmas.{if_some, live_here, live_other, going_off, item_at, item_same, item_live, read_live, read_on, on_of, early_goes, fewer_none, fewer_stopped, kept_none, kept_written, stopped_one}
 use Rattle.unit_table.proofs.runner.prune_one.Goals as goal
 
 pub goes-requires-clause-late : goal.goes-requires-clause-late
@@ -51,29 +51,6 @@ returns-then-goes-clause-stands c = λ π limits ends n now.
     (live_here shown c.args.runners.now _ c.args.early c.stop.new.runner low refl ∙ going_off shown c.stop.new.runner c.stop.ensures.off)
     (λ f other. live_other shown c.args.runners.now _ c.args.early c.stop.new.runner low refl f other)
 
-pub returns-then-goes-clause-small : goal.returns-then-goes-clause-small
-returns-then-goes-clause-small c =
-    let end = c.requires.end in
-    let under = c.requires.early in
-    let low : c.args.early < length c.args.runners.now = omega (arith, under, end) in
-    small_stopped shown c.args.runners.now _ c.args.early c.stop.new.runner low refl c.stop.ensures.off c.requires.small
-
-pub returns-then-goes-clause-off : goal.returns-then-goes-clause-off
-returns-then-goes-clause-off c =
-    let end = c.requires.end in
-    let under = c.requires.early in
-    let low : c.args.early < length c.args.runners.now = omega (arith, under, end) in
-    off_stopped shown c.args.runners.now _ c.args.early c.stop.new.runner low refl c.stop.ensures.off
-
-pub returns-then-goes-clause-room : goal.returns-then-goes-clause-room
-returns-then-goes-clause-room c = λ periods t charge roomy.
-    let end = c.requires.end in
-    let under = c.requires.early in
-    let low : c.args.early < length c.args.runners.now = omega (arith, under, end) in
-    let d = c.index-runners-early-then-goes.result in
-    roomy_stopped shown count_of room_of periods t charge c.args.runners.now _ c.args.early c.stop.new.runner low refl c.stop.ensures.off
-    (get_or c.args.runners.now c.args.early d) (item_at shown c.args.runners.now c.args.early low d) c.stop.ensures.running c.stop.ensures.passed roomy
-
 pub returns-else-goes-clause-late : goal.returns-else-goes-clause-late
 returns-else-goes-clause-late c =
     let end = c.requires.end in
@@ -87,24 +64,6 @@ returns-in_default-clause-late c =
     let under = c.requires.early in
     let low : c.args.early < length c.args.runners.now = omega (arith, under, end) in
     (omega arith, c.requires.early, (_, item_live shown c.args.runners.now c.args.early low c.index-runners-early.result c.if-not-runners-early.false))
-
-pub returns-then-goes-clause-keeps : goal.returns-then-goes-clause-keeps
-returns-then-goes-clause-keeps c =
-    let end = c.requires.end in
-    let under = c.requires.early in
-    let low : c.args.early < length c.args.runners.now = omega (arith, under, end) in
-    let d = c.index-runners-early-then-goes.result in
-    written_keeps shown room_of c.args.runners.now _ c.args.early c.stop.new.runner low refl
-    (get_or c.args.runners.now c.args.early d) (item_at shown c.args.runners.now c.args.early low d) (ap room_of c.stop.ensures.running) (ap (λ p. length p.items + p.spare) c.stop.ensures.passed)
-
-pub returns-then-goes-clause-left : goal.returns-then-goes-clause-left
-returns-then-goes-clause-left c =
-    let end = c.requires.end in
-    let under = c.requires.early in
-    let low : c.args.early < length c.args.runners.now = omega (arith, under, end) in
-    let d = c.index-runners-early-then-goes.result in
-    written_left shown c.args.runners.now _ c.args.early c.stop.new.runner low refl
-    (get_or c.args.runners.now c.args.early d) (item_at shown c.args.runners.now c.args.early low d) c.stop.ensures.passed
 
 pub offset_bounds-runners-early : goal.offset_bounds-runners-early
 offset_bounds-runners-early c =
@@ -130,3 +89,36 @@ offset_bounds-runners-early-then-goes c =
     let end = c.requires.end in
     let under = c.requires.early in
     scaled_Fits c.args.early (length c.args.runners.now) _ (omega (arith, under, end)) (search rules)
+
+pub returns-then-goes-clause-fewer : goal.returns-then-goes-clause-fewer
+returns-then-goes-clause-fewer c =
+    let end = c.requires.end in
+    let under = c.requires.early in
+    let low : c.args.early < length c.args.runners.now = omega (arith, under, end) in
+    fewer_stopped shown c.args.runners.now _ c.args.early c.stop.new.runner low refl c.stop.ensures.off
+
+pub returns-then-goes-clause-kept : goal.returns-then-goes-clause-kept
+returns-then-goes-clause-kept c =
+    let end = c.requires.end in
+    let under = c.requires.early in
+    let low : c.args.early < length c.args.runners.now = omega (arith, under, end) in
+    kept_written shown count_of room_of c.args.runners.now _ c.args.early c.stop.new.runner _ low refl
+    (item_at shown c.args.runners.now c.args.early low _) (stopped_one shown count_of room_of _ _ c.stop.ensures.off c.stop.ensures.running c.stop.ensures.passed)
+
+pub returns-then-not-runners-early-clause-fewer : goal.returns-then-not-runners-early-clause-fewer
+returns-then-not-runners-early-clause-fewer c = fewer_none (live_at shown c.args.runners.now)
+
+pub returns-then-not-runners-early-clause-kept : goal.returns-then-not-runners-early-clause-kept
+returns-then-not-runners-early-clause-kept c = kept_none shown count_of room_of c.args.runners.now
+
+pub returns-else-goes-clause-fewer : goal.returns-else-goes-clause-fewer
+returns-else-goes-clause-fewer c = fewer_none (live_at shown c.args.runners.now)
+
+pub returns-else-goes-clause-kept : goal.returns-else-goes-clause-kept
+returns-else-goes-clause-kept c = kept_none shown count_of room_of c.args.runners.now
+
+pub returns-in_default-clause-fewer : goal.returns-in_default-clause-fewer
+returns-in_default-clause-fewer c = fewer_none (live_at shown c.args.runners.now)
+
+pub returns-in_default-clause-kept : goal.returns-in_default-clause-kept
+returns-in_default-clause-kept c = kept_none shown count_of room_of c.args.runners.now

@@ -1,14 +1,14 @@
 use Rattle.slope_list.specs.Slopes.{shown}
-use Rattle.unit_table.proofs.Common.{◌≡◌, ℕ, suc, ◌+◌, ◌<◌, ◌≤◌, length, subst, arith, thermal_of, on_time}
+use Rattle.unit_table.proofs.Common.{◌≡◌, ℕ, suc, ◌+◌, ◌<◌, ◌≤◌, subst, arith, unit_of, periods_in, on_time}
 use Rattle.unit_table.proofs.Lemmas.{always}
 use Rattle.unit_table.proofs.runner.run_one.Goals as goal
 
 pub returns-then-may_end-clause-may : goal.returns-then-may_end-clause-may
 returns-then-may_end-clause-may c =
-    let u = thermal_of c.args.unit.now in
+    let u = unit_of c.args.question.now in
     let next : c.args.place + 1 ≡ suc c.args.place = omega arith in
     let periods = c.len.ensures in
-    always c.end_and_run.result.end (suc c.args.place < length c.args.prices.now.energy.items → u.min_up ≤ on_time u c.args.first (suc c.args.place))
+    always c.end_and_run.result.end (suc c.args.place < periods_in c.args.question.now → u.min_up ≤ on_time u c.args.first (suc c.args.place))
     (λ low. subst (λ (t : ℕ). u.min_up ≤ on_time u c.args.first t) next (c.may_end.ensures.yes c.if-may_end.true (omega (arith, low, periods))))
 
 pub returns-then-may_end-clause-noted : goal.returns-then-may_end-clause-noted
