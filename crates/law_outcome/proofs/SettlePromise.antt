@@ -42,7 +42,7 @@ module _ (got : BytesAreThoseRead) (add_up : SettlementsAddUp) (form : PricesHav
       let prices = prices_parts got reads i.market.periods π file in
       let cost = (accepted_is_feasible (Ok (settle a)) reads i due).1 in
       let asks = form i.market.periods prices.bytes π prices.is_prices in
-      let from_0 : ReserveFrom0 i.market π = record { horizon = asks.0; reserve = asks.1 } in
+      let from_0 : ReserveFrom0 i.market π = record { horizon = asks.energy; reserve = asks.from_0 } in
       record {
         case_bytes = parts.case_bytes;
         case_told = subst (IsReadOf (told a.case_name) (rose a.case_name)) parts.case_read (are CaseFile);

@@ -1,9 +1,9 @@
 -- What the prices of a file keep.
-use Rattle.uc_prices.proofs.Common.{◌≡◌, ℕ, ◌+◌, ◌<◌, ℤ, pos, Bool, true, false, ◌&&◌, List, [], ◌∷◌, ◌++◌, length, Result, Ok, Err, Some, None, refl, sym, ap, ◌∙◌, subst, arith, All, All-nil, All-push, nat_lt, int_lt, unsigned_abs, PriceLists, FileFault, text, value, reading_of, of_value, most_price, position, each, item_at, IsPriceOf, PriceSite}
-use Rattle.uc_prices.specs.Tables.{Read, is_reserve, price, prices, list, energy, reserve, prices_in}
+use Rattle.uc_prices.proofs.Common.{◌≡◌, ℕ, ◌+◌, ◌<◌, ℤ, pos, Bool, true, false, ◌&&◌, List, [], ◌∷◌, ◌++◌, length, Result, Ok, Err, Some, None, refl, sym, ap, ◌∙◌, subst, arith, All, All-nil, All-push, nat_lt, int_lt, unsigned_abs, PriceLists, of_value, most_price, position, each, item_at, IsPriceOf, PriceSite}
+use Rattle.uc_prices.specs.Tables.{is_reserve, price, prices, list, energy, reserve, prices_in}
 use Rattle.std.proofs.Common.{length-append, replicate}
 use Rattle.std.proofs.lemmas.List.{length-replicate, get_or-replicate}
-use Rattle.std.proofs.lemmas.List.Elements.{All-from_get_or, All-get_or}
+use Rattle.std.proofs.lemmas.List.Elements.{All-get_or}
 use Rattle.std.proofs.lemmas.Bool.{eqb-true}
 use Rattle.std.specs.Prelude.{Option, not, ◌==◌, codes, ◌≤ℤ◌}
 use Rattle.plain_lists.specs.Sums.{int_at}
@@ -13,8 +13,11 @@ use Rattle.uc_text.specs.declared.fault.TextFault.{TextFault}
 use Rattle.uc_case.specs.Inside.{number_in, list_in, object_in, value_of}
 use Rattle.uc_case.specs.Words.{◌>>=◌, ◌>>◌, refuse, need}
 use Rattle.uc_prices.specs.Faults.{site, fault}
+use Rattle.uc_prices.specs.Laws.{HaveForm}
 use Rattle.uc_prices.specs.PricesFiles.{IsPricesOf}
-use Rattle.uc_prices.specs.declared.fault.PriceCode.TheVariants.{Missing, WrongKind, Negative, TooLarge, WrongLength}
+use Rattle.uc_case.specs.Laws.{OneFile}
+use Rattle.text_tree.specs.Parts.{Pair}
+use Rattle.uc_prices.specs.declared.fault.PriceCode.TheVariants.{WrongKind, Negative, TooLarge, WrongLength}
 use Rattle.uc_prices.specs.declared.fault.PriceField.{PriceField}
 use Rattle.uc_prices.specs.declared.fault.PriceField.TheVariants.{Whole, Energy, Reserve}
 use Rattle.uc_prices.proofs.Fits.{is_price}
@@ -28,6 +31,10 @@ bound (Err g) f y e = absurd cc
 gone_on : {A B F : Type 0} (r : Result A F) (s : Result B F) (y : B) → (r >> s) ≡ Ok y → (x : A) × (r ≡ Ok x) × (s ≡ Ok y)
 gone_on (Ok x) s y e = (x, refl, e)
 gone_on (Err g) s y e = absurd cc
+
+needed : {A F : Type 0} (f : F) (o : Option A) (x : A) → need f o ≡ Ok x → o ≡ Some x
+needed f (Some y) x e = let same : y ≡ x = cc in ap Some same
+needed f None x e = absurd cc
 
 passed : {F : Type 0} (f : F) (b : Bool) (x : Unit {0}) → refuse f b ≡ Ok x → b ≡ false
 passed f true x e = absurd cc
@@ -83,6 +90,11 @@ reserve_is periods (Some v) xs e =
     let p = list_is periods Reserve v xs e in
     (p.1, λ k lt. (All-get_or (IsPriceOf Reserve) xs k (pos 0) (omega (arith, lt, p.1)) p.0).at_least)
 
+left_out_is : (periods : ℕ) (o : Option Value) (xs : List ℤ) → reserve periods o ≡ Ok xs → o ≡ None → xs ≡ replicate periods (pos 0)
+unfolding reserve
+left_out_is periods None xs e none = let same : replicate periods (pos 0) ≡ xs = cc in sym same
+left_out_is periods (Some v) xs e none = absurd cc
+
 energy_is : (periods : ℕ) (o : Option Value) (xs : List ℤ) → energy periods o ≡ Ok xs → length xs ≡ periods
 unfolding energy
 energy_is periods None xs e = absurd cc
@@ -90,7 +102,13 @@ energy_is periods (Some v) xs e = (list_is periods Energy v xs e).1
 
 -- ---- the prices of a file
 
-value_form : (periods : ℕ) (v : Value) (π : PriceLists) → prices_in periods v ≡ Ok π → (length π.energy ≡ periods) × ((k : ℕ) → k < periods → pos 0 ≤ℤ int_at π.reserve k)
+record ValueForm (periods : ℕ) (v : Value) (π : PriceLists) : Type 0 where
+  energy : length π.energy ≡ periods
+  reserve : length π.reserve ≡ periods
+  from_0 : (k : ℕ) → k < periods → pos 0 ≤ℤ int_at π.reserve k
+  left_out : (ms : List Pair) → object_in v ≡ Some ms → value_of (codes "reserve") ms ≡ None → π.reserve ≡ replicate periods (pos 0)
+
+value_form : (periods : ℕ) (v : Value) (π : PriceLists) → prices_in periods v ≡ Ok π → ValueForm periods v π
 unfolding prices_in
 value_form periods v π e =
     let p = bound (need (fault (site Whole) WrongKind) (object_in v))
@@ -100,13 +118,30 @@ value_form periods v π e =
     let last = r.2 in
     let at : PriceLists = record { energy = q.0; reserve = r.0 } in
     let same : at ≡ π = cc in
-    subst (λ (ρ : PriceLists). (length ρ.energy ≡ periods) × ((k : ℕ) → k < periods → pos 0 ≤ℤ int_at ρ.reserve k)) same
-    (energy_is periods (value_of (codes "energy") p.0) q.0 q.1, (reserve_is periods (value_of (codes "reserve") p.0) r.0 r.1).1)
+    let is = needed (fault (site Whole) WrongKind) (object_in v) p.0 p.1 in
+    let reserves = reserve_is periods (value_of (codes "reserve") p.0) r.0 r.1 in
+    let form : ValueForm periods v at = record {
+      energy = energy_is periods (value_of (codes "energy") p.0) q.0 q.1;
+      reserve = reserves.0;
+      from_0 = reserves.1;
+      left_out = λ ms given none. (let one : ms ≡ p.0 = cc in left_out_is periods (value_of (codes "reserve") p.0) r.0 r.1 (subst (λ (xs : List Pair). value_of (codes "reserve") xs ≡ None) one none));
+    } in
+    subst (ValueForm periods v) {x = at} same form
 
 was_value : {A F : Type 0} (r : Result A F) (x : A) → of_value r ≡ Ok x → r ≡ Ok x
 was_value (Ok y) x e = cc
 was_value (Err f) x e = absurd cc
 
-pub prices_have_form : (periods : ℕ) (bytes : List ℕ) (π : PriceLists) → IsPricesOf periods bytes (Ok π) → (length π.energy ≡ periods) × ((k : ℕ) → k < periods → pos 0 ≤ℤ int_at π.reserve k)
-prices_have_form periods bytes π (Ok v, file, e) = value_form periods v π (was_value (prices_in periods v) π e)
-prices_have_form periods bytes π (Err f, file, e) = absurd cc
+same_value : {F : Type 0} {v w : Value} → ◌≡◌ {A = Result Value F} (Ok v) (Ok w) → w ≡ v
+same_value e = cc
+
+pub prices_have_form : OneFile → (periods : ℕ) (bytes : List ℕ) (π : PriceLists) → IsPricesOf periods bytes (Ok π) → HaveForm periods bytes π
+prices_have_form one periods bytes π (Ok v, file, e) =
+    let f = value_form periods v π (was_value (prices_in periods v) π e) in
+    record {
+      energy = f.energy;
+      reserve = f.reserve;
+      from_0 = f.from_0;
+      left_out = λ h. f.left_out h.1 (subst (λ (w : Value). object_in w ≡ Some h.1) (same_value {F = TextFault} (one bytes (Ok v) (Ok h.0) file h.2)) h.3) h.4;
+    }
+prices_have_form one periods bytes π (Err f, file, e) = absurd cc

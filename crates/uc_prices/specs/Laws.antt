@@ -1,9 +1,16 @@
 -- A file has one list of prices over so many periods, or one first fault.
-use Rattle.std.specs.Prelude.{◌≡◌, ℕ, ◌<◌, pos, ◌≤ℤ◌, List, length, Result, Ok}
+use Rattle.std.specs.Prelude.{◌≡◌, ℕ, ◌<◌, pos, ◌≤ℤ◌, List, length, replicate, codes, Result, Ok}
+use Rattle.std.specs.Prelude.{Some, None}
 use Rattle.plain_lists.specs.Sums.{int_at}
 use Rattle.uc_model.specs.Data.{PriceLists}
+use Rattle.text_tree.specs.Parts.{Pair}
+use Rattle.text_tree.specs.Values.{Value}
+use Rattle.uc_text.specs.Texts.{IsText}
 use Rattle.uc_case.specs.Files.{FileFault}
+use Rattle.uc_case.specs.Inside.{object_in, value_of}
+use Rattle.uc_prices.specs.Plain.{IsReadAs}
 use Rattle.uc_prices.specs.PricesFiles.{IsPricesOf}
+use Rattle.uc_prices.specs.Tables.{prices_in}
 use Rattle.uc_prices.specs.declared.fault.PriceFault.{PriceFault}
 
 abbrev pub SomePrices : Type 0
@@ -14,7 +21,24 @@ abbrev pub OnePrices : Type 0
 OnePrices = (periods : ℕ) (bytes : List ℕ) (r s : Result PriceLists (FileFault PriceFault))
     → IsPricesOf periods bytes r → IsPricesOf periods bytes s → r ≡ s
 
--- a file's prices are over the periods, and none of the reserve is below 0
+-- the bytes are an object without reserve prices
+abbrev pub LeavesReserveOut : List ℕ → Type 0
+LeavesReserveOut bytes =
+    (v : Value) × (members : List Pair) × IsText 32 bytes v × (object_in v ≡ Some members)
+    × (value_of (codes "reserve") members ≡ None)
+
+-- a file's prices: of both kinds one for each period, and no reserve price below 0; all of them 0
+-- where the file leaves them out
+pub record HaveForm (periods : ℕ) (bytes : List ℕ) (π : PriceLists) : Type 0 where
+  pub energy : length π.energy ≡ periods
+  pub reserve : length π.reserve ≡ periods
+  pub from_0 : (k : ℕ) → k < periods → pos 0 ≤ℤ int_at π.reserve k
+  pub left_out : LeavesReserveOut bytes → π.reserve ≡ replicate periods (pos 0)
+
 abbrev pub PricesHaveForm : Type 0
 PricesHaveForm = (periods : ℕ) (bytes : List ℕ) (π : PriceLists) → IsPricesOf periods bytes (Ok π)
-    → (length π.energy ≡ periods) × ((k : ℕ) → k < periods → pos 0 ≤ℤ int_at π.reserve k)
+    → HaveForm periods bytes π
+
+-- the table of a value says what stands in it
+abbrev pub ValuesAreReadAs : Type 0
+ValuesAreReadAs = (periods : ℕ) (v : Value) → IsReadAs periods v (prices_in periods v)

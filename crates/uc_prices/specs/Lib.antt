@@ -2,4 +2,5 @@ pub mod Faults
 pub mod Tables
 pub mod Kept
 pub mod PricesFiles
+pub mod Plain
 pub mod Laws

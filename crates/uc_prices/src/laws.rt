@@ -1,7 +1,9 @@
 //! Laws over the definitions: each is the contract of a function that does nothing.
 ghost use Rattle.uc_prices.specs.Laws.{SomePrices, OnePrices, PricesHaveForm};
+ghost use Rattle.uc_prices.specs.Laws.{ValuesAreReadAs};
 
 use uc_case::laws::one_file;
+use uc_num::laws::rounds_to_nearest;
 
 /// Each list of bytes has prices over so many periods or a first fault.
 pub fn prices_or_fault()
@@ -17,7 +19,17 @@ pub fn one_prices()
     one_file();
 }
 
-/// The prices of a file are one for each period, and no reserve price is below 0.
+/// The prices of a file are one of each kind for each period, no reserve price is below 0, and where
+/// the file leaves the reserve prices out they are all 0.
 pub fn prices_have_form()
     ensures { PricesHaveForm }
-{}
+{
+    one_file();
+}
+
+/// What is read of a value, by the value alone: its prices, or which fault it has, and where.
+pub fn values_are_read_as()
+    ensures { ValuesAreReadAs }
+{
+    rounds_to_nearest();
+}
