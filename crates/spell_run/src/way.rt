@@ -42,6 +42,19 @@ pub struct Passed {
     pub end: Option<Lowest>,
 }
 
+/// A period on the way back.
+#[derive(Clone, Copy)]
+struct Visit {
+    /// The period's place.
+    place: usize,
+    /// Whether the unit stops after it.
+    stops: bool,
+    /// What its step left.
+    note: Note,
+    /// The power at its end, in kilowatts.
+    power: i64,
+}
+
 /// The cheapest power before a step to a power, the least of those.
 fn cheapest_before(step: Step, note: Note, power: i64) -> i64
     requires step { IsFairStep step }
@@ -56,35 +69,29 @@ fn cheapest_before(step: Step, note: Note, power: i64) -> i64
     low.max(high.min(note.turn))
 }
 
-/// Writes the period at a place with its power, and answers the cheapest power before it.
-fn write_period(
-    unit: &Unit,
-    prices: &Prices,
-    first: u32,
-    place: usize,
-    stops: bool,
-    note: Note,
-    power: i64,
-    into: &mut Answered,
-) -> i64
-    requires place { place < length (prices_of prices.now).energy }
-    requires order { first ≤ suc place }
+/// Writes a period with its power, and answers the cheapest power before it.
+fn write_period(unit: &Unit, prices: &Prices, first: u32, visit: Visit, into: &mut Answered) -> i64
+    requires place { visit.place < length (prices_of prices.now).energy }
+    requires order { first ≤ suc visit.place }
     requires noted { (after : Table)
-        × IsNoted (thermal_of unit.now) (prices_of prices.now) first place stops note after
-        × ((v : ℤ) × (value_of after power ≡ Some v)) }
-    requires into { place < length (schedule_of into.old.response).on }
+        × IsNoted (thermal_of unit.now) (prices_of prices.now) first visit.place visit.stops
+        visit.note after
+        × ((v : ℤ) × (value_of after visit.power ≡ Some v)) }
+    requires into { visit.place < length (schedule_of into.old.response).on }
     ensures chosen { (after : Table) (v : ℤ)
-        (n : IsNoted (thermal_of unit.now) (prices_of prices.now) first place stops note after)
-        → value_of after power ≡ Some v →
+        (n : IsNoted (thermal_of unit.now) (prices_of prices.now) first visit.place visit.stops
+        visit.note after) → value_of after visit.power ≡ Some v →
         IsChosen
-        (step_at (thermal_of unit.now) (prices_of prices.now) place (first == suc place) stops)
-        n.before place power result (schedule_of into.old.response)
+        (step_at (thermal_of unit.now) (prices_of prices.now) visit.place
+        (first == suc visit.place) visit.stops)
+        n.before visit.place visit.power result (schedule_of into.old.response)
         (schedule_of into.new.response) }
     ensures earned { into.new.earned ≡ into.old.earned }
 {
-    let step = step_of(unit, prices, place, starts_in(first, place), stops);
-    let before = cheapest_before(step, note, power);
-    write_best(into, place, step, before, power);
+    let place = visit.place;
+    let step = step_of(unit, prices, place, starts_in(first, place), visit.stops);
+    let before = cheapest_before(step, visit.note, visit.power);
+    write_best(into, place, step, before, visit.power);
     before
 }
 
@@ -131,18 +138,21 @@ pub fn write_spell(
     };
     envelope_is_cost();
     let stops = (last as usize) < prices.energy.len();
-    let mut power = write_period(unit, prices, first, end, stops, note, lowest.at, into);
+    let visit = Visit {
+        place: end,
+        stops,
+        note,
+        power: lowest.at,
+    };
+    let mut power = write_period(unit, prices, first, visit, into);
     for back in 1..last + 1 - first.max(1) {
         let place = end - back as usize;
-        power = write_period(
-            unit,
-            prices,
-            first,
+        let visit = Visit {
             place,
-            false,
-            passed[place].note,
+            stops: false,
+            note: passed[place].note,
             power,
-            into,
-        );
+        };
+        power = write_period(unit, prices, first, visit, into);
     }
 }
