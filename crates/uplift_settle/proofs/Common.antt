@@ -12,7 +12,7 @@ pub use Rattle.uc_model.specs.Data.{AnyUnit, PriceLists, Schedule, ThermalUnit, 
 pub use Rattle.uc_model.specs.Earnings.{earnings, IsTop, revenue}
 pub use Rattle.plain_lists.specs.Ranges.{IsFrom}
 pub use Rattle.uc_model.specs.Limits.{IsUnit, IsEarned, ArePrices, AreOneLength, price_limit, IsBidUnit}
-pub use Rattle.uc_model.specs.PlainCases.{market_of, schedules_of}
+pub use Rattle.uc_model.specs.PlainCases.{market_of, schedules_of, unit_of}
 pub use Rattle.uc_model.specs.PlainUnits.{prices_of, schedule_of, thermal_of, named_thermal_of, bid_of, named_bid_of}
 pub use Rattle.uc_model.specs.Schedules.{IsFeasible, power_in, reserve_in, IsThermalFeasible}
 pub use Rattle.plain_lists.specs.Sums.{zip_with, int_at, sum_below, total}

@@ -1,22 +1,11 @@
--- The unit of a number, by its kind, and what its schedule in a plan earns.
-use Rattle.uplift_settle.proofs.Common.{◌≡◌, ℕ, ◌+◌, ◌-◌, ◌<◌, ◌≤◌, ℤ, Some, List, [], length, sym, ap, ◌∙◌, arith, slice_get-get_or, slice_get, slice_index_or, AnyUnit, Flat, NamedRenewableUnit, RenewableUnit, PriceLists, Schedule, Market, units, unit_count, earnings, zip_with_item, length-zip_with, earned_in}
+-- What the schedule of the unit of a number earns in a plan.
+use Rattle.uplift_settle.proofs.Common.{◌≡◌, ℕ, ℤ, Some, List, length, sym, ap, ◌∙◌, slice_get, AnyUnit, PriceLists, Schedule, Market, units, unit_count, earnings, zip_with_item, length-zip_with, earned_in}
 use Rattle.uc_model.specs.Laws.{HasPlanShape}
 use Rattle.uc_model.specs.PlanLaws.{NumbersUnits}
 
 -- three lists over the horizon
 abbrev pub HasLengths : ℕ → Schedule → Type 0
 HasLengths n s = (length s.on ≡ n) × (length s.power ≡ n) × (length s.reserve ≡ n)
-
-no_flat : NamedRenewableUnit
-no_flat = record { name = []; unit = record { least = []; most = [] } }
-
-pub flat_number : (m : Market) → NumbersUnits m → (i : ℕ) → length m.thermal ≤ i → i < length m.thermal + length m.flat → (r : RenewableUnit) × (slice_get (units m) i ≡ Some (Flat r))
-flat_number m numbers i first last =
-    let place = i - length m.thermal in
-    let lt : place < length m.flat = omega (arith, first, last) in
-    let is : i ≡ length m.thermal + place = omega (arith, first) in
-    let n = slice_index_or m.flat place no_flat in
-    (n.unit, ap (slice_get (units m)) is ∙ numbers.flat place n (slice_get-get_or m.flat place no_flat lt))
 
 pub earned_length : (m : Market) (plan : List Schedule) (π : PriceLists) → NumbersUnits m → HasPlanShape m plan → length (earned_in m plan π) ≡ unit_count m
 earned_length m plan π numbers shape =

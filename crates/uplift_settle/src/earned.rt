@@ -1,23 +1,21 @@
 //! What the schedules of a plan earn.
-ghost use Rattle.std.specs.Prelude.{◌≡◌, ◌≤◌, ◌<◌, ◌+◌, pos, neg_ℤ, ◌*ℤ◌, length, Some, slice_get};
+ghost use Rattle.std.specs.Prelude.{◌≡◌, ◌≤◌, ◌<◌, pos, neg_ℤ, ◌*ℤ◌, length, Some, slice_get};
 ghost use Rattle.std.specs.List.{All};
 ghost use Rattle.uc_model.specs.declared.limits.TheConstants.{MOST_PERIODS};
-ghost use Rattle.uc_model.specs.Data.{RenewableUnit, Thermal, Flat, Bid as BidOf};
+ghost use Rattle.uc_model.specs.Data.{RenewableUnit, Thermal, Flat, Bid as BidOf, horizon_of};
 ghost use Rattle.uc_model.specs.Earnings.{earnings};
 ghost use Rattle.plain_lists.specs.Ranges.{IsFrom};
 ghost use Rattle.uc_model.specs.Limits.{IsEarned, price_limit};
-ghost use Rattle.uc_model.specs.PlainCases.{market_of, schedules_of};
+ghost use Rattle.uc_model.specs.PlainCases.{market_of, schedules_of, unit_of};
 ghost use Rattle.uc_model.specs.PlainUnits.{thermal_of, bid_of, prices_of, schedule_of};
-ghost use Rattle.uc_model.specs.Schedules.{IsThermalFeasible};
+ghost use Rattle.uc_model.specs.Schedules.{IsThermalFeasible, IsFeasible};
 ghost use Rattle.uc_model.specs.Systems.{IsFeasiblePlan};
 ghost use Rattle.uplift_settle.specs.Earned.{paid_for, earned_in};
 
 use plain_lists::lists::Numbers;
 use plan_check::costs::{costs_of_starts, power_costs, worth};
-use uc_model::cases::{Case, Plan};
-use uc_model::laws::{
-    earnings_are_within, feasible_plans_have_shape, units_are_numbered, units_are_within,
-};
+use uc_model::cases::{Case, Plan, UnitRef};
+use uc_model::laws::{earnings_are_within, feasible_plans_have_shape, units_are_within};
 use uc_model::money;
 use uc_model::units::{Bid, Powers, Prices, Response, Unit};
 
@@ -76,53 +74,20 @@ fn bid_earnings(bid: &Bid, prices: &Prices, response: &Response) -> i128
     worth(bid, response) + reserve - energy
 }
 
-// What the thermal unit of a number earns in the plan.
-fn thermal_earned(case: &Case, plan: &Plan, prices: &Prices, number: usize) -> i128
-    requires feasible { IsFeasiblePlan (market_of case.now) (schedules_of plan.now) }
-    requires horizon { length (prices_of prices.now).energy ≡ (market_of case.now).periods }
-    requires number { number < length (market_of case.now).thermal }
-    ensures { slice_get (earned_in (market_of case.now) (schedules_of plan.now)
-        (prices_of prices.now)) number ≡ Some result }
+// What the schedule of a unit of any kind earns.
+fn unit_earnings(unit: UnitRef<'_>, prices: &Prices, response: &Response) -> i128
+    requires horizon { length (schedule_of response.now).on ≡ length (prices_of prices.now).energy }
+    requires own { horizon_of (unit_of unit) ≡ length (schedule_of response.now).on }
+    requires feasible { IsFeasible (unit_of unit) (length (schedule_of response.now).on)
+        (schedule_of response.now) }
+    ensures { result ≡ earnings (unit_of unit.entry) (prices_of prices.now)
+        (schedule_of response.now) }
 {
-    units_are_numbered();
-    feasible_plans_have_shape();
-    let unit = case.thermal.get(number);
-    let response = plan.responses.get(number);
-    thermal_earnings(&unit.unit, prices, response)
-}
-
-// What the renewable unit of a number earns in the plan.
-fn flat_earned(case: &Case, plan: &Plan, prices: &Prices, number: usize) -> i128
-    requires feasible { IsFeasiblePlan (market_of case.now) (schedules_of plan.now) }
-    requires horizon { length (prices_of prices.now).energy ≡ (market_of case.now).periods }
-    requires first { length (market_of case.now).thermal ≤ number }
-    requires last { number < length (market_of case.now).thermal
-        + length (market_of case.now).flat }
-    ensures { slice_get (earned_in (market_of case.now) (schedules_of plan.now)
-        (prices_of prices.now)) number ≡ Some result }
-{
-    units_are_numbered();
-    feasible_plans_have_shape();
-    let response = plan.responses.get(number);
-    flat_earnings(prices, response)
-}
-
-// What the bid at a place among the bids earns in the plan.
-fn bid_earned(case: &Case, plan: &Plan, prices: &Prices, place: usize) -> i128
-    requires feasible { IsFeasiblePlan (market_of case.now) (schedules_of plan.now) }
-    requires horizon { length (prices_of prices.now).energy ≡ (market_of case.now).periods }
-    requires place { place < length (market_of case.now).bids }
-    ensures { slice_get (earned_in (market_of case.now) (schedules_of plan.now)
-        (prices_of prices.now))
-        ((length (market_of case.now).thermal + length (market_of case.now).flat) + place)
-        ≡ Some result }
-{
-    units_are_numbered();
-    feasible_plans_have_shape();
-    let producers = case.producer_count();
-    let bid = case.bids.get(place);
-    let response = plan.responses.get(producers + place);
-    bid_earnings(&bid.bid, prices, response)
+    match unit {
+        UnitRef::Thermal(unit) => thermal_earnings(unit, prices, response),
+        UnitRef::Renewable(_) => flat_earnings(prices, response),
+        UnitRef::Bid(bid) => bid_earnings(bid, prices, response),
+    }
 }
 
 // What the unit of a number earns in the plan, in a type that holds it without a look at the plan.
@@ -134,14 +99,8 @@ fn earned_at(case: &Case, plan: &Plan, prices: &Prices, number: usize) -> i128
         (prices_of prices.now)) number ≡ Some result }
 {
     feasible_plans_have_shape();
-    let producers = case.producer_count();
-    if number < case.thermal.len() {
-        return thermal_earned(case, plan, prices, number);
-    }
-    if number < producers {
-        return flat_earned(case, plan, prices, number);
-    }
-    bid_earned(case, plan, prices, number - producers)
+    let named = case.unit_at(number);
+    unit_earnings(named.unit, prices, plan.responses.get(number))
 }
 
 /// What the unit of a number earns in a feasible plan at the prices, in money. Numbers count from
