@@ -5,10 +5,10 @@ pub use Rattle.std.specs.Prelude.{slice_get, IsTrue, IsFalse, slice_index_or}
 pub use Rattle.case_answers.specs.Tops.{HasSchedules, CanAnswer, points_of, IsBenchOver}
 pub use Rattle.slope_list.specs.Slopes.{room_of}
 pub use Rattle.plain_lists.proofs.ListLaws.{item_of, map_item}
-pub use Rattle.uc_model.specs.Data.{AnyUnit, PriceLists, Schedule, Market, units, ThermalUnit, NamedThermalUnit, Thermal, Flat, Bid, NamedRenewableUnit, NamedBidUnit}
+pub use Rattle.uc_model.specs.Data.{AnyUnit, PriceLists, Schedule, Market, units, ThermalUnit, NamedThermalUnit, Thermal, Flat, Bid, NamedRenewableUnit, NamedBidUnit, horizon_of}
 pub use Rattle.uc_model.specs.Earnings.{IsTop, earnings}
 pub use Rattle.uc_model.specs.Limits.{IsThermalUnit, IsMarket, IsRenewableUnit, IsBidUnit}
-pub use Rattle.uc_model.specs.PlainCases.{market_of}
+pub use Rattle.uc_model.specs.PlainCases.{market_of, unit_of}
 pub use Rattle.uc_model.specs.PlainUnits.{schedule_of, prices_of, named_thermal_of, thermal_of, named_renewable_of, renewable_of, named_bid_of, bid_of}
 pub use Rattle.uc_model.specs.Schedules.{IsFeasible, IsThermalFeasible}
 pub use Rattle.uc_model.specs.declared.units.Answered.{Answered}

@@ -1,6 +1,8 @@
 -- The unit of a number.
-use Rattle.case_answers.proofs.Common.{◌≡◌, ℕ, Bool, true, false, Some, List, ◌≤◌, length, refl, sym, subst, arith, All, IsTrue, IsFalse, slice_get, slice_index_or, room_of, Answered, ThermalUnit, NamedThermalUnit, AnyUnit, Thermal, PriceLists, Schedule, Market, units, earnings, IsThermalUnit, IsMarket, schedule_of, IsThermalFeasible, item_of, map_item, CanAnswer, points_of, IsBenchOver}
-use Rattle.std.proofs.lemmas.List.Elements.{All-map}
+use Rattle.case_answers.proofs.Common.{◌≡◌, ℕ, ◌++◌, Flat, Bid, NamedRenewableUnit, NamedBidUnit, Bool, true, false, Some, List, ◌≤◌, length, refl, sym, subst, arith, All, IsTrue, IsFalse, slice_get, slice_index_or, room_of, Answered, ThermalUnit, NamedThermalUnit, AnyUnit, Thermal, PriceLists, Schedule, Market, units, earnings, schedule_of, IsThermalFeasible, item_of, map_item, CanAnswer, points_of, IsBenchOver}
+use Rattle.std.specs.Prelude.{map, ⊤}
+use Rattle.std.proofs.lemmas.Option.{slice_get-get_or}
+use Rattle.std.proofs.lemmas.List.Elements.{All-map, All-append}
 use Rattle.slope_list.specs.declared.slopes.Slopes.{Slopes}
 use Rattle.uc_model.specs.declared.units.Point.{Point}
 use Rattle.uc_model.specs.Runs.{Fits}
@@ -22,21 +24,33 @@ found g π a false some fit earned none = absurd (some (none refl))
 pub some_at : (m : Market) (n k : ℕ) (g : ThermalUnit) → CanAnswer m → n ≡ m.periods → slice_get (units m) k ≡ Some (Thermal g) → ((s : Schedule) → IsThermalFeasible g n s → ⊥) → ⊥
 some_at m n k g can horizon is = subst (λ (p : ℕ). ((s : Schedule) → IsThermalFeasible g p s → ⊥) → ⊥) (sym horizon) (can k (Thermal g) is)
 
--- its window is over the horizon
-pub window_length : (m : Market) → IsMarket m → (k : ℕ) (t : NamedThermalUnit) → slice_get m.thermal k ≡ Some t → length t.unit.window ≡ m.periods
-window_length m h k t e = (item_of (λ (n : NamedThermalUnit). IsThermalUnit n.unit × (length n.unit.window ≡ m.periods)) m.thermal k t h.thermal e).1
-
 -- and the bench suffices for it
-pub bench_at : (m : Market) (n k : ℕ) (t : NamedThermalUnit) (b : Bench Slopes) → IsBenchOver m b → n ≡ m.periods → slice_get m.thermal k ≡ Some t → IsBenchFor room_of n (length t.unit.points) b
-bench_at m n k t b over horizon is =
-    subst (λ (p : ℕ). IsBenchFor room_of p (length t.unit.points) b) (sym horizon)
-    (item_of (λ (ps : List Point). IsBenchFor room_of m.periods (length ps) b) (points_of m) k t.unit.points over (map_item (λ (n : NamedThermalUnit). n.unit.points) m.thermal k t is))
+abbrev serves : Market → Bench Slopes → AnyUnit → Type 0
+serves m b (Thermal g) = IsBenchFor room_of m.periods (length g.points) b
+serves m b (Flat r) = ⊤
+serves m b (Bid p) = ⊤
+
+serves_each : (m : Market) (b : Bench Slopes) → IsBenchOver m b → All (serves m b) (units m)
+serves_each m b over =
+    let P = serves m b in
+    let ts = map (λ (n : NamedThermalUnit). Thermal n.unit) m.thermal in
+    let fs = map (λ (n : NamedRenewableUnit). Flat n.unit) m.flat in
+    let bs = map (λ (n : NamedBidUnit). Bid n.unit) m.bids in
+    All-append P (ts ++ fs) bs
+    (All-append P ts fs (All-map P (λ (n : NamedThermalUnit). Thermal n.unit) m.thermal (λ k d inside. item_of
+    (λ (ps : List Point). IsBenchFor room_of m.periods (length ps) b) (points_of m) k (slice_index_or m.thermal k d).unit.points over
+    (map_item (λ (n : NamedThermalUnit). n.unit.points) m.thermal k (slice_index_or m.thermal k d) (slice_get-get_or m.thermal k d inside))))
+    (All-map P (λ (n : NamedRenewableUnit). Flat n.unit) m.flat (λ k d inside. tt)))
+    (All-map P (λ (n : NamedBidUnit). Bid n.unit) m.bids (λ k d inside. tt))
+
+pub bench_at : (m : Market) (n k : ℕ) (g : ThermalUnit) (b : Bench Slopes) → IsBenchOver m b → n ≡ m.periods →
+    slice_get (units m) k ≡ Some (Thermal g) → IsBenchFor room_of n (length g.points) b
+bench_at m n k g b over horizon is =
+    subst (λ (p : ℕ). IsBenchFor room_of p (length g.points) b) (sym horizon)
+    (item_of (serves m b) (units m) k (Thermal g) (serves_each m b over) is)
 
 pub bench_kept : (m : Market) (old new : Bench Slopes) → ((periods points : ℕ) → IsBenchFor room_of periods points old → IsBenchFor room_of periods points new) → IsBenchOver m old → IsBenchOver m new
 bench_kept m old new keeps over k d inside = keeps m.periods _ (over k d inside)
-
-pub unit_at : (m : Market) (k number : ℕ) (u : AnyUnit) → k ≡ number → slice_get (units m) k ≡ Some u → slice_get (units m) number ≡ Some u
-unit_at m k number u same e = subst (λ (n : ℕ). slice_get (units m) n ≡ Some u) same e
 
 pub serves_all : BenchesServeLess → (m : Market) (points : ℕ) (b : Bench Slopes) → All (λ (n : NamedThermalUnit). length n.unit.points ≤ points) m.thermal → IsBenchFor room_of m.periods points b → IsBenchOver m b
 serves_all less m points b few over =

@@ -1,5 +1,5 @@
 //! The answer of the unit of a number.
-ghost use Rattle.std.specs.Prelude.{◌≡◌, ℕ, ◌+◌, ◌<◌, ◌≤◌, length};
+ghost use Rattle.std.specs.Prelude.{◌≡◌, ℕ, ◌<◌, length};
 ghost use Rattle.slope_list.specs.Slopes.{room_of};
 ghost use Rattle.uc_model.specs.Data.{Thermal, Schedule, unit_count};
 ghost use Rattle.uc_model.specs.Earnings.{earnings};
@@ -11,8 +11,7 @@ ghost use Rattle.unit_program.specs.Benches.{IsBenchFor};
 
 use flat_answer::{best_bid, best_flat};
 use slope_list::Slopes;
-use uc_model::cases::Case;
-use uc_model::laws::units_are_numbered;
+use uc_model::cases::{Case, UnitRef};
 use uc_model::units::{Answered, Prices, Unit};
 use unit_choice::least_on_bench;
 use unit_program::Bench;
@@ -56,56 +55,6 @@ fn answer_thermal(
 ghost use Rattle.case_answers.specs.Answers.{IsAnswerAt};
 ghost use Rattle.case_answers.specs.Tops.{CanAnswer, IsBenchOver};
 
-// Answers the thermal unit of a number.
-fn answer_thermal_at(
-    bench: &mut Bench<Slopes>,
-    case: &Case,
-    prices: &Prices,
-    number: usize,
-    into: &mut Answered,
-) -> Flow
-    requires some { CanAnswer (market_of case.now) }
-    requires bench { IsBenchOver (market_of case.now) bench.old }
-    requires horizon { length (prices_of prices.now).energy ≡ (market_of case.now).periods }
-    requires number { number < length (market_of case.now).thermal }
-    requires into { length (schedule_of into.old.response).on ≡ (market_of case.now).periods }
-    ensures answer { IsAnswerAt (market_of case.now) (prices_of prices.now) number result
-        into.new }
-    ensures bench { IsBenchOver (market_of case.now) bench.new }
-    ensures into { length (schedule_of into.new.response).on ≡ (market_of case.now).periods }
-{
-    units_are_numbered();
-    answer_thermal(
-        bench,
-        number as u32,
-        &case.thermal.get(number).unit,
-        prices,
-        into,
-    );
-    Flow::Gives
-}
-
-// Answers the renewable unit or bid of a number.
-fn answer_other_at(case: &Case, prices: &Prices, number: usize, into: &mut Answered) -> Flow
-    requires horizon { length (prices_of prices.now).energy ≡ (market_of case.now).periods }
-    requires first { length (market_of case.now).thermal ≤ number }
-    requires last { number < unit_count (market_of case.now) }
-    requires into { length (schedule_of into.old.response).on ≡ (market_of case.now).periods }
-    ensures answer { IsAnswerAt (market_of case.now) (prices_of prices.now) number result
-        into.new }
-    ensures into { length (schedule_of into.new.response).on ≡ (market_of case.now).periods }
-{
-    units_are_numbered();
-    let producers = case.producer_count();
-    if number < producers {
-        let place = number - case.thermal.len();
-        best_flat(&case.flat.get(place).flat, prices, into);
-        return Flow::Gives;
-    }
-    best_bid(&case.bids.get(number - producers).bid, prices, into);
-    Flow::Takes
-}
-
 /// Leaves in `into` the least best response of the unit of a number at the prices, and what it
 /// earns in money. Tells which way its powers count. No unit is without a feasible schedule; the
 /// bench suffices for each thermal unit, and does so afterwards. Prices and `into` are over the
@@ -127,8 +76,18 @@ pub fn answer_at(
     ensures bench { IsBenchOver (market_of case.now) bench.new }
     ensures into { length (schedule_of into.new.response).on ≡ (market_of case.now).periods }
 {
-    if number < case.thermal.len() {
-        return answer_thermal_at(bench, case, prices, number, into);
+    match case.unit_at(number).unit {
+        UnitRef::Thermal(unit) => {
+            answer_thermal(bench, number as u32, unit, prices, into);
+            Flow::Gives
+        }
+        UnitRef::Renewable(flat) => {
+            best_flat(flat, prices, into);
+            Flow::Gives
+        }
+        UnitRef::Bid(bid) => {
+            best_bid(bid, prices, into);
+            Flow::Takes
+        }
     }
-    answer_other_at(case, prices, number, into)
 }
