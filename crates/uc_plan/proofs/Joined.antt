@@ -21,11 +21,11 @@ bids_named (t ∷ ts) = ap (λ (ns : List (List ℕ)). t.name.items ∷ ns) (bid
 
 -- ---- each step that fails ends the reading
 
-bind_fails : {A B F : Type 0} (e : Stop F) (r : Result A F) (f : A → Result B F) → Fails e r → Fails e (r >>= f)
+pub bind_fails : {A B F : Type 0} (e : Stop F) (r : Result A F) (f : A → Result B F) → Fails e r → Fails e (r >>= f)
 bind_fails stops.Memory r f h = tt
 bind_fails (stops.Fault x) r f h = rw h refl
 
-then_fails : {A B F : Type 0} (e : Stop F) (r : Result A F) (s : Result B F) → Fails e r → Fails e (r >> s)
+pub then_fails : {A B F : Type 0} (e : Stop F) (r : Result A F) (s : Result B F) → Fails e r → Fails e (r >> s)
 then_fails stops.Memory r s h = tt
 then_fails (stops.Fault x) r s h = rw h refl
 

@@ -3,7 +3,7 @@
 use Rattle.std.specs.Prelude.{ℕ, suc, Bool, true, false, not, ◌==◌, nat_lt, int_lt, List, []}
 use Rattle.std.specs.Prelude.{◌∷◌, ◌++◌, length, replicate, if◌then◌else◌, codes, Option}
 use Rattle.std.specs.Prelude.{Some, None, Result, Ok, bytes_eq, pos, nat_abs, unsigned_abs}
-use Rattle.std.specs.Option.{option_and_then}
+use Rattle.std.specs.Option.{option_map, option_and_then}
 use Rattle.uc_model.specs.Data.{Schedule, Market, thermal_names, renewable_names, bid_names}
 use Rattle.uc_model.specs.declared.kinds.Kind.{Kind}
 use Rattle.uc_model.specs.declared.kinds.Kind.TheVariants.{Case, Thermal, Renewable, Bid}
@@ -59,17 +59,34 @@ full_list periods v =
 abbrev pub list_under : ℕ → List ℕ → List Pair → Option (List Value)
 list_under periods key ms = option_and_then (full_list periods) (value_of key ms)
 
--- the three lists of a thermal unit
+-- the lists of a thermal unit, each of an item for each period
+pub record ThermalLists : Type 0 where
+  pub on : List Value
+  pub power : List Value
+  pub reserve : List Value
+
+-- those of its object, where each is there
+unfoldable pub thermal_lists : ℕ → List Pair → Option ThermalLists
+thermal_lists periods ms =
+    option_and_then (λ (on : List Value). option_and_then (λ (power : List Value).
+    option_map (λ (reserve : List Value). record { on = on; power = power; reserve = reserve })
+    (list_under periods (codes "reserve") ms))
+    (list_under periods (codes "power") ms))
+    (list_under periods (codes "on") ms)
+
+-- the schedule that their numbers are
+unfoldable pub listed_schedule : Seat → ThermalLists → Read Schedule
+listed_schedule at lists = do
+  on ← numbers flag_in at lists.on
+  power ← numbers kilowatts_in at lists.power
+  reserve ← numbers kilowatts_in at lists.reserve
+  Ok (record { on = on; power = power; reserve = reserve })
+
 unfoldable pub thermal_schedule : ℕ → Seat → Value → Read Schedule
 thermal_schedule periods at v = do
   ms ← need (fault at 0 PlanShape) (object_in v)
-  ons ← need (fault at 0 PlanShape) (list_under periods (codes "on") ms)
-  powers ← need (fault at 0 PlanShape) (list_under periods (codes "power") ms)
-  reserves ← need (fault at 0 PlanShape) (list_under periods (codes "reserve") ms)
-  on ← numbers flag_in at ons
-  power ← numbers kilowatts_in at powers
-  reserve ← numbers kilowatts_in at reserves
-  Ok (record { on = on; power = power; reserve = reserve })
+  lists ← need (fault at 0 PlanShape) (thermal_lists periods ms)
+  listed_schedule at lists
 
 -- the one list of a renewable unit or a bid: it is on in every period with reserve 0
 unfoldable pub flat_schedule : ℕ → Seat → Value → Read Schedule

@@ -3,12 +3,12 @@
 
 pub mod fault;
 pub mod laws;
-mod lookup;
-mod named;
+pub mod lookup;
+pub mod named;
 mod numbers;
-mod plans;
+pub mod plans;
 mod read;
-mod shapes;
-mod units;
+pub mod shapes;
+pub mod units;
 
 pub use read::read_plan;

@@ -26,9 +26,10 @@ use uc_case::stop::Stop;
 use uc_model::cases::{Case, Plan};
 use uc_model::units::{Response, ResponseList};
 
-/// Refuses the first member whose name isn't that of a unit.
+/// Refuses the first member whose name isn't that of a unit, with `UnknownUnit` at its position
+/// in the file.
 #[tactic(auto, unfolding(crate::specs::Plans::all_known))]
-fn check_names<N: Named>(
+pub fn check_names<N: Named>(
     alloc: Global,
     kind: Kind,
     object: ObjectBranch<'_>,

@@ -7,7 +7,8 @@ ghost use Rattle.uc_case.specs.Inside.{value_of};
 ghost use Rattle.uc_plan.specs.Plans.{full_list as full_list_spec, bids_in, groups};
 ghost use Rattle.uc_plan.specs.Plans.{list_under as list_under_spec};
 ghost use Rattle.uc_plan.specs.Plans.{object_under as object_under_spec};
-ghost use Rattle.uc_plan.specs.Views.{groups_of};
+ghost use Rattle.uc_plan.specs.Plans.{thermal_lists as thermal_lists_spec};
+ghost use Rattle.uc_plan.specs.Views.{groups_of, lists_of, AreFull};
 
 use crate::fault::{Seat, ShapeCode, ShapeStop};
 use std::alloc::Global;
@@ -29,7 +30,7 @@ pub fn full_list<'a>(branch: Branch<'a>, periods: u32) -> Option<ListBranch<'a>>
 }
 
 /// Such a list under a key.
-pub fn list_under<'a>(members: &[Member<'a>], key: &str, periods: u32) -> Option<ListBranch<'a>>
+fn list_under<'a>(members: &[Member<'a>], key: &str, periods: u32) -> Option<ListBranch<'a>>
     ensures count { IfSome result (λ l. length (items_in l) ≡ periods) }
     ensures value { option_map items_in result
         ≡ list_under_spec periods key.now (member_views members.now) }
@@ -37,7 +38,30 @@ pub fn list_under<'a>(members: &[Member<'a>], key: &str, periods: u32) -> Option
     full_list(find(members, key)?, periods)
 }
 
-fn object_under<'a>(members: &[Member<'a>], key: &str) -> Option<ObjectBranch<'a>>
+/// The lists of a thermal unit's schedule, each of an item for each period.
+#[derive(Clone, Copy)]
+pub struct ThermalLists<'a> {
+    pub on: ListBranch<'a>,
+    pub power: ListBranch<'a>,
+    pub reserve: ListBranch<'a>,
+}
+
+/// The lists of a thermal unit's schedule, where each is among the members and has an item for each
+/// period.
+#[tactic(auto, unfolding(crate::specs::Plans::thermal_lists))]
+pub fn thermal_lists<'a>(members: &[Member<'a>], periods: u32) -> Option<ThermalLists<'a>>
+    ensures full { IfSome result (λ l. AreFull periods (lists_of l)) }
+    ensures value { option_map lists_of result
+        ≡ thermal_lists_spec periods (member_views members.now) }
+{
+    let on = list_under(members, "on", periods)?;
+    let power = list_under(members, "power", periods)?;
+    let reserve = list_under(members, "reserve", periods)?;
+    Some(ThermalLists { on, power, reserve })
+}
+
+/// The object under a key, where it is there and is one.
+pub fn object_under<'a>(members: &[Member<'a>], key: &str) -> Option<ObjectBranch<'a>>
     ensures { option_map members_in result
         ≡ object_under_spec key.now (member_views members.now) }
 {

@@ -5,16 +5,37 @@ ghost use Rattle.uc_model.specs.declared.limits.TheConstants.{MOST_PERIODS};
 ghost use Rattle.text_tree.specs.View.{view};
 ghost use Rattle.uc_case.specs.Given.{Gives};
 ghost use Rattle.uc_plan.specs.Added.{HasLengths, IsFlat, IsShaped};
-ghost use Rattle.uc_plan.specs.Plans.{thermal_schedule, flat_schedule, schedule};
+ghost use Rattle.uc_plan.specs.Plans.{listed_schedule, thermal_schedule, flat_schedule, schedule};
+ghost use Rattle.uc_plan.specs.Views.{lists_of, AreFull};
 
 use crate::fault::{Seat, ShapeCode, ShapeStop};
 use crate::numbers::{read_flags, read_powers};
-use crate::shapes::{full_list, list_under};
+use crate::shapes::{ThermalLists, full_list, thermal_lists};
 use plain_lists::lists::Flags;
 use std::alloc::Global;
 use text_tree::Branch;
 use uc_case::fault::Kind;
 use uc_model::units::{Powers, Response};
+
+/// The schedule of a thermal unit by its lists. `PlanNumber` at the first wrong item: of the flags,
+/// then of the powers, and then of the reserves.
+#[tactic(auto, unfolding(crate::specs::Plans::listed_schedule))]
+pub fn read_lists(
+    alloc: Global,
+    at: Seat,
+    lists: ThermalLists<'_>,
+    periods: u32,
+) -> Result<Response, ShapeStop>
+    requires horizon { periods ≤ MOST_PERIODS }
+    requires full { AreFull periods (lists_of lists) }
+    ensures lengths { IfOk result (λ r. HasLengths periods (schedule_of r)) }
+    ensures value { Gives schedule_of result (listed_schedule at (lists_of lists.entry)) }
+{
+    let on = read_flags(alloc, at, lists.on)?;
+    let power = read_powers(alloc, at, lists.power)?;
+    let reserve = read_powers(alloc, at, lists.reserve)?;
+    Ok(Response { on, power, reserve })
+}
 
 #[tactic(auto, unfolding(crate::specs::Plans::thermal_schedule))]
 fn read_thermal(
@@ -31,19 +52,10 @@ fn read_thermal(
         return Err(at.stop(0, ShapeCode::PlanShape));
     };
     let members = object.members(alloc)?;
-    let Some(ons) = list_under(&members, "on", periods) else {
+    let Some(lists) = thermal_lists(&members, periods) else {
         return Err(at.stop(0, ShapeCode::PlanShape));
     };
-    let Some(powers) = list_under(&members, "power", periods) else {
-        return Err(at.stop(0, ShapeCode::PlanShape));
-    };
-    let Some(reserves) = list_under(&members, "reserve", periods) else {
-        return Err(at.stop(0, ShapeCode::PlanShape));
-    };
-    let on = read_flags(alloc, at, ons)?;
-    let power = read_powers(alloc, at, powers)?;
-    let reserve = read_powers(alloc, at, reserves)?;
-    Ok(Response { on, power, reserve })
+    read_lists(alloc, at, lists, periods)
 }
 
 #[tactic(auto, unfolding(crate::specs::Plans::flat_schedule))]
