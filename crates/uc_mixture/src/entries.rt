@@ -1,0 +1,118 @@
+//! The entries of one unit.
+ghost use Rattle.std.specs.Prelude.{◌≡◌, IfOk, map};
+ghost use Rattle.std.specs.List.{All};
+ghost use Rattle.mixture_bound.specs.Mixtures.{entry_of, entries_of, AreEntries};
+ghost use Rattle.std.specs.Option.{option_map};
+ghost use Rattle.text_tree.specs.View.{view, views, items_in};
+ghost use Rattle.uc_case.specs.Given.{Gives};
+ghost use Rattle.uc_mixture.specs.Kept.{IsFrame, IsEntryIn};
+ghost use Rattle.uc_mixture.specs.Tables.{entry, entries as entries_spec, unit_entries};
+ghost use Rattle.uc_mixture.specs.Tables.{some_list as some_list_spec};
+
+use crate::fault::{ShareCode, ShareSite, ShareStop};
+use crate::weights::{sum_to, weight_at};
+use mixture_bound::{Entries, Entry};
+use std::alloc::Global;
+use text_tree::{Branch, ListBranch};
+use uc_case::inside::find;
+use uc_case::stop::Stop;
+use uc_plan::fault::ShapeCode;
+use uc_plan::shapes::thermal_lists;
+use uc_plan::units::read_lists;
+
+/// What all entries have in common: over how many periods they are, and the whole that the weights
+/// of each unit sum to.
+#[derive(Clone, Copy)]
+pub struct Frame {
+    pub periods: u32,
+    pub whole: i64,
+}
+
+/// An entry. `PlanShape` where it isn't an object with a weight and three lists of an item for each
+/// period, then `Weight` where its weight isn't a whole number from 0 to the whole, and then
+/// `PlanNumber` at the first wrong item.
+#[tactic(auto, unfolding(crate::specs::Tables::entry))]
+fn read_entry(
+    alloc: Global,
+    at: ShareSite,
+    frame: Frame,
+    branch: Branch<'_>,
+) -> Result<Entry, ShareStop>
+    requires { IsFrame frame }
+    ensures fits { IfOk result (λ e. IsEntryIn frame (entry_of e)) }
+    ensures value { Gives entry_of result (entry frame at (view branch.entry)) }
+{
+    let shape = ShareCode::Shape(ShapeCode::PlanShape);
+    let Some(object) = branch.object() else {
+        return Err(at.stop(shape));
+    };
+    let members = object.members(alloc)?;
+    let Some(heavy) = find(&members, "weight") else {
+        return Err(at.stop(shape));
+    };
+    let Some(lists) = thermal_lists(&members, frame.periods) else {
+        return Err(at.stop(shape));
+    };
+    let Some(weight) = weight_at(heavy, 0, frame.whole) else {
+        return Err(at.stop(ShareCode::Weight));
+    };
+    match read_lists(alloc, at.seat(), lists, frame.periods) {
+        Ok(response) => Ok(Entry { weight, response }),
+        Err(stop) => Err(at.within(stop)),
+    }
+}
+
+fn read_entries(
+    alloc: Global,
+    at: ShareSite,
+    frame: Frame,
+    branches: &[Branch<'_>],
+) -> Result<Entries, ShareStop>
+    requires { IsFrame frame }
+    ensures fits { IfOk result (λ l. All (λ e. IsEntryIn frame e) (entries_of l)) }
+    ensures value { Gives entries_of result (entries_spec frame at (views branches.now)) }
+{
+    // There is no room for a list of more entries.
+    let Ok(count) = u32::try_from(branches.len()) else {
+        return Err(Stop::Memory);
+    };
+    let mut entries = Entries::make(alloc, count)?;
+    for branch in branches {
+        let site = at.entry(entries.len() as u32 + 1);
+        let entry = read_entry(alloc, site, frame, *branch)?;
+        entries.push(entry);
+    }
+    Ok(entries)
+}
+
+fn some_list<'a>(branch: Branch<'a>) -> Option<ListBranch<'a>>
+    ensures { option_map items_in result ≡ some_list_spec (view branch.entry) }
+{
+    let list = branch.list()?;
+    if list.len() == 0 { None } else { Some(list) }
+}
+
+/// The entries of a unit. `PlanShape` where the value isn't a list or is an empty one, then the
+/// fault of the first entry that has one, and then `Weight` where the weights don't sum to the
+/// whole.
+#[tactic(auto, unfolding(crate::specs::Tables::unit_entries))]
+pub fn read_unit(
+    alloc: Global,
+    at: ShareSite,
+    frame: Frame,
+    branch: Branch<'_>,
+) -> Result<Entries, ShareStop>
+    requires { IsFrame frame }
+    ensures fits { IfOk result (λ l. AreEntries frame.periods frame.whole (entries_of l)) }
+    ensures value { Gives entries_of result (unit_entries frame at (view branch.entry)) }
+{
+    let Some(list) = some_list(branch) else {
+        return Err(at.stop(ShareCode::Shape(ShapeCode::PlanShape)));
+    };
+    let branches = list.items(alloc)?;
+    let entries = read_entries(alloc, at, frame, &branches)?;
+    if !sum_to(entries.as_slice(), frame.whole) {
+        return Err(at.stop(ShareCode::Weight));
+    }
+    Ok(entries)
+}

@@ -1,0 +1,97 @@
+//! The mixture of a tree.
+ghost use Rattle.std.specs.Prelude.{IfOk, map, pos};
+ghost use Rattle.mixture_bound.specs.Mixtures.{mixture_of, HasMixtureShape, most_whole};
+ghost use Rattle.plain_lists.specs.Ranges.{IsFrom};
+ghost use Rattle.text_tree.specs.View.{view, members_in};
+ghost use Rattle.uc_case.specs.Given.{Gives};
+ghost use Rattle.uc_model.specs.PlainCases.{market_of};
+ghost use Rattle.uc_model.specs.declared.kinds.Kind.TheVariants as kinds;
+ghost use Rattle.uc_plan.specs.Plans.{all_known};
+ghost use Rattle.uc_mixture.specs.Faults.{within};
+ghost use Rattle.uc_mixture.specs.Tables.{head, mixture_in};
+ghost use Rattle.uc_mixture.specs.Views.{head_of, names_of};
+
+use crate::entries::Frame;
+use crate::fault::{ShareCode, ShareSite, ShareStop};
+use crate::units::read_units;
+use crate::weights::weight_at;
+use mixture_bound::Mixture;
+use std::alloc::Global;
+use text_tree::{Branch, ObjectBranch};
+use uc_case::fault::Kind;
+use uc_case::inside::find;
+use uc_model::cases::Case;
+use uc_model::units::NamedUnit;
+use uc_plan::fault::ShapeCode;
+use uc_plan::plans::check_names;
+use uc_plan::shapes::object_under;
+
+/// The greatest weight of a mixture.
+const MOST_WHOLE: i64 = 1_000_000_000_000;
+
+/// What a mixture's file has: its whole, and the entries of the units by name.
+#[derive(Clone, Copy)]
+struct Head<'a> {
+    whole: i64,
+    thermal: ObjectBranch<'a>,
+}
+
+/// `PlanShape`, at the file as a whole, where the value isn't an object with a weight and an object
+/// of units, and then `Weight` where the weight isn't a whole number from 1 to `MOST_WHOLE`.
+#[tactic(auto, unfolding(crate::specs::Tables::head))]
+fn read_head<'a>(alloc: Global, root: Branch<'a>) -> Result<Head<'a>, ShareStop>
+    ensures whole { IfOk result (λ h. IsFrom (pos 1) most_whole h.whole) }
+    ensures value { Gives head_of result (head (view root.entry)) }
+{
+    let at = ShareSite::of_file();
+    let shape = ShareCode::Shape(ShapeCode::PlanShape);
+    let Some(object) = root.object() else {
+        return Err(at.stop(shape));
+    };
+    let members = object.members(alloc)?;
+    let Some(heavy) = find(&members, "weight") else {
+        return Err(at.stop(shape));
+    };
+    let Some(thermal) = object_under(&members, "thermal") else {
+        return Err(at.stop(shape));
+    };
+    match weight_at(heavy, 1, MOST_WHOLE) {
+        Some(whole) => Ok(Head { whole, thermal }),
+        None => Err(at.stop(ShareCode::Weight)),
+    }
+}
+
+/// Refuses the first member whose name isn't that of a thermal unit of the case.
+fn check_units(
+    alloc: Global,
+    object: ObjectBranch<'_>,
+    units: &[NamedUnit],
+) -> Result<(), ShareStop>
+    ensures { Gives (λ _. tt) result (within 0 (all_known kinds.Thermal
+        (names_of units.now) (members_in object.entry))) }
+{
+    match check_names(alloc, Kind::Thermal, object, units) {
+        Ok(()) => Ok(()),
+        Err(stop) => Err(ShareSite::of_file().within(stop)),
+    }
+}
+
+/// The mixture of a tree's root, or the fault of the first test that fails.
+#[tactic(auto, unfolding(crate::specs::Tables::mixture_in))]
+pub fn mixture_of_tree(alloc: Global, case: &Case, root: Branch<'_>) -> Result<Mixture, ShareStop>
+    ensures shape { IfOk result (λ x. HasMixtureShape (market_of case.now) (mixture_of x)) }
+    ensures value { Gives mixture_of result (mixture_in (market_of case.now) (view root.entry)) }
+{
+    let head = read_head(alloc, root)?;
+    let units = case.thermal.as_slice();
+    check_units(alloc, head.thermal, units)?;
+    let frame = Frame {
+        periods: case.periods,
+        whole: head.whole,
+    };
+    let thermal = read_units(alloc, head.thermal, units, frame)?;
+    Ok(Mixture {
+        weight: head.whole,
+        thermal,
+    })
+}

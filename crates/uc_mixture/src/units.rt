@@ -1,0 +1,71 @@
+//! The entries of all thermal units of a case.
+ghost use Rattle.std.specs.Prelude.{◌≡◌, ◌≤◌, ℕ, List, IfOk, length, map};
+ghost use Rattle.std.specs.List.{All};
+ghost use Rattle.std.specs.Option.{option_map};
+ghost use Rattle.indexmap.specs.IndexMap.{get_by_text};
+ghost use Rattle.mixture_bound.specs.Mixtures.{WeighedSchedule, entries_of, AreEntries};
+ghost use Rattle.text_tree.specs.Parts.{Pair};
+ghost use Rattle.text_tree.specs.View.{view, members_in};
+ghost use Rattle.uc_case.specs.Given.{Gives};
+ghost use Rattle.uc_case.specs.Inside.{value_of};
+ghost use Rattle.uc_model.specs.declared.limits.TheConstants.{MOST_OF_A_KIND};
+ghost use Rattle.uc_mixture.specs.Kept.{IsFrame};
+ghost use Rattle.uc_mixture.specs.Tables.{named, units as units_spec};
+ghost use Rattle.uc_mixture.specs.Views.{names_of};
+
+use crate::entries::{Frame, read_unit};
+use crate::fault::{ShareCode, ShareSite, ShareStop};
+use indexmap::IndexMap;
+use mixture_bound::{Entries, EntryLists};
+use std::alloc::Global;
+use text_tree::{Branch, ObjectBranch};
+use uc_model::units::NamedUnit;
+use uc_plan::fault::ShapeCode;
+use uc_plan::lookup::values_of;
+
+#[tactic(auto, unfolding(crate::specs::Tables::named))]
+fn read_named(
+    alloc: Global,
+    values: &IndexMap<String, Branch<'_>>,
+    at: ShareSite,
+    name: &str,
+    frame: Frame,
+) -> Result<Entries, ShareStop>
+    requires { IsFrame frame }
+    ensures fits { IfOk result (λ l. AreEntries frame.periods frame.whole (entries_of l)) }
+    ensures value { (ms : List Pair)
+        → ((q : List ℕ) → option_map view (get_by_text values.now q) ≡ value_of q ms)
+        → Gives entries_of result (named frame ms at name.now) }
+{
+    match values.get(name) {
+        Some(branch) => read_unit(alloc, at, frame, *branch),
+        None => Err(at.stop(ShareCode::Shape(ShapeCode::MissingUnit))),
+    }
+}
+
+/// The entries of each unit, which stand in the object under its name; the fault is that of the
+/// first unit that has one.
+pub fn read_units(
+    alloc: Global,
+    object: ObjectBranch<'_>,
+    units: &[NamedUnit],
+    frame: Frame,
+) -> Result<EntryLists, ShareStop>
+    requires few { length units.now ≤ MOST_OF_A_KIND }
+    requires frame { IsFrame frame }
+    ensures count { IfOk result (λ l. length l.items ≡ length units.now) }
+    ensures fits { IfOk result (λ l. All (λ (es : List WeighedSchedule).
+        AreEntries frame.periods frame.whole es) (map entries_of l.items)) }
+    ensures value { Gives (λ l. map entries_of l.items) result
+        (units_spec frame (members_in object.entry)
+        (names_of units.now)) }
+{
+    let values = values_of(alloc, object)?;
+    let mut lists = EntryLists::make(alloc, units.len() as u32)?;
+    for unit in units {
+        let at = ShareSite::of_unit(lists.len() as u32 + 1);
+        let entries = read_named(alloc, &values, at, unit.name.as_str(), frame)?;
+        lists.push(entries);
+    }
+    Ok(lists)
+}
