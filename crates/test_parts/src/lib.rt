@@ -16,6 +16,8 @@ mod hull_io_tests;
 #[cfg(test)]
 mod hull_words_tests;
 #[cfg(test)]
+mod mixture_bound_tests;
+#[cfg(test)]
 mod plan_check_tests;
 #[cfg(test)]
 mod price_move_tests;
@@ -33,6 +35,8 @@ mod task_deal_tests;
 mod text_tree_tests;
 #[cfg(test)]
 mod tree_values;
+#[cfg(test)]
+mod uc_mixture_tests;
 #[cfg(test)]
 mod uc_num_tests;
 #[cfg(test)]
