@@ -5,8 +5,9 @@ pub use Rattle.std.proofs.lemmas.Int.{ints, clamps, to_z-of_z}
 pub use Rattle.std.proofs.lemmas.List.{take_at, get_or_append_left, get_or_push}
 pub use Rattle.std.specs.Int.{int_max, int_min, w64}
 pub use Rattle.std.specs.Prelude.{ℤ, pos, ◌+ℤ◌, ◌≤ℤ◌, ◌<ℤ◌, ◌⊎◌, slice_get, MatchOption, ◌-ℤ◌, ◌*ℤ◌, FitsSigned, neg_ℤ}
-pub use Rattle.level_table.specs.Values.{table, IsLeastOf, AreWithin, within_limits}
+pub use Rattle.level_table.proofs.LimitLaws.{within_limits}
+pub use Rattle.level_table.specs.Values.{table, IsLeastOf, AreWithin}
 pub use Rattle.shape_law.specs.Curve.{curve_value, reserve_term}
 pub use Rattle.shape_law.specs.Effect.{IsLeast, IsLeastIn, IsSum, IsWindow, Reaches, IsCurveSum}
-pub use Rattle.shape_law.specs.Lookup.{IsAt-from_value, value-from_is_at, value_of-at, value_of-below, power_split, slice_get_past, same_some, value-from_index, slice_get_in}
+pub use Rattle.shape_law.proofs.Lookup.{IsAt-from_value, value-from_is_at, value_of-at, value_of-below, power_split, slice_get_past, same_some, value-from_index, slice_get_in}
 pub use Rattle.shape_law.specs.Table.{value_of, HasNone, IsWithinLimits, IsPlace}

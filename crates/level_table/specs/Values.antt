@@ -1,8 +1,6 @@
 -- The values of a function, which stand from its first power on.
 use Rattle.std.specs.Prelude.{◌≡◌, ℕ, ◌<◌, ℤ, pos, ◌+ℤ◌, ◌≤ℤ◌, ◌<ℤ◌, List, length, slice_index_or}
-use Rattle.shape_law.specs.Table.{Table, IsPlace, IsAmount, IsWithinLimits}
-use Rattle.shape_law.specs.Lookup.{IsAt-from_value}
-use Rattle.std.proofs.Common.{subst, sym}
+use Rattle.shape_law.specs.Table.{Table, IsPlace, IsAmount}
 
 abbrev pub table : ℤ → List ℤ → Table
 table lo values = record { lo = lo; values = values }
@@ -18,13 +16,3 @@ pub record IsLeastOf (values : List ℤ) (v : ℤ) (i : ℕ) : Type 0 where
   pub there : slice_index_or values i (pos 0) ≡ v
   pub least : (k : ℕ) → k < length values → v ≤ℤ slice_index_or values k (pos 0)
   pub first : (k : ℕ) → k < i → v <ℤ slice_index_or values k (pos 0)
-
--- the law that a shape's powers and values are within the limits
-pub within_limits : (lo : ℤ) (values : List ℤ) → AreWithin lo values →
-    IsWithinLimits (table lo values)
-within_limits lo values h x v e =
-    let a = IsAt-from_value (table lo values) x v e in (
-      subst IsPlace (sym a.power) (h.powers a.offset a.inside),
-      subst IsAmount a.there
-          (h.amounts a.offset a.inside),
-    )

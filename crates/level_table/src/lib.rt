@@ -5,10 +5,11 @@ ghost use Rattle.std.specs.Prelude.{◌≡◌, ℕ, ℤ, ◌+◌, ◌<◌, ◌�
 ghost use Rattle.std.specs.Prelude.{length, IfOk, vec_len, slice_index_or, MatchOption, Option};
 ghost use Rattle.std.specs.Prelude.{Some, refl, []};
 ghost use Rattle.std.specs.Int.{int_max};
-ghost use Rattle.std.proofs.Common.{rules};
-ghost use Rattle.level_table.specs.Values.{table, AreWithin, IsLeastOf, within_limits};
+ghost use Rattle.test_shapes.proofs.HomeLaws.{uncounted};
+ghost use Rattle.level_table.specs.Values.{table, AreWithin, IsLeastOf};
 ghost use Rattle.shape_law.specs.Curve.{curve_value, reserve_term, IsLimitedCurve};
 ghost use Rattle.shape_law.specs.Effect.{IsWindow, IsLeastIn, Reaches};
+ghost use Rattle.shape_law.proofs.Lookup.{within_by_index};
 ghost use Rattle.shape_law.specs.Table.{value_of, IsConvexList, IsPlace, IsAmount, HasNone};
 
 use shape_law::laws::{curve_places_are_limited, effects_keep_convexity, effects_keep_limits};
@@ -289,11 +290,12 @@ impl Shape for Levels {
 
     ghost convex = { λ h s _. s.convex };
 
-    ghost within = { λ h s _. within_limits s.lo s.values.items s.within };
+    ghost within = { λ h s _. within_by_index (table s.lo s.values.items) s.within.powers
+        s.within.amounts };
 
     ghost owns = { λ h s _. record { used = λ n among. absurd among; distinct = tt } };
 
-    ghost as_many = { λ h s _ e. Prim.search rules };
+    ghost as_many = { λ h s _ e. uncounted e };
 
     ghost no_numbers = { λ h s _. (refl, refl, refl) };
 

@@ -1,6 +1,6 @@
 //! The shape that keeps its breakpoints.
 ghost use Rattle.std.specs.Prelude.{◌≡◌, ◌+◌, ◌≤◌, length, refl, [], IfOk};
-ghost use Rattle.std.proofs.Common.{rules};
+ghost use Rattle.test_shapes.proofs.HomeLaws.{uncounted};
 ghost use Rattle.point_list.specs.Breaks.{IsCountedList};
 
 use crate::steps;
@@ -54,7 +54,7 @@ impl Shape for Breaks {
 
     ghost owns = { λ h s _. record { used = λ n among. absurd among; distinct = tt } };
 
-    ghost as_many = { λ h s _ e. Prim.search rules };
+    ghost as_many = { λ h s _ e. uncounted e };
 
     ghost no_numbers = { λ h s _. (refl, refl, refl) };
 

@@ -2,7 +2,7 @@
 use Rattle.ramp_step.proofs.Common.{◌≡◌, ℕ, ◌+◌, ◌-◌, List, Option, Some, None, refl, sym, ap, ◌∙◌, subst, arith, inl, inr, ℤ, pos, ◌+ℤ◌, ◌-ℤ◌, ◌⊎◌, MatchOption, option_map, ints, value_of, IsConvexList, HasNone, IsWithinLimits, IsAmount, IsPoint, IsSum, IsCurveSum, IsLeast, IsLeastIn, Knot, power, height, StandFor, IsShape, IsInside, HaveSameEnds, CanAdd, IsWindow, IsLowest, HasNoPower, IsInsideWithin, IsValueAt, values_of, table_of, AreWithinLimits}
 use Rattle.shape_law.specs.Table as tables
 use Rattle.shape_law.specs.Effect as effects
-use Rattle.shape_law.specs.Lookup.{IsAt-from_value, value-from_is_at}
+use Rattle.shape_law.proofs.Lookup.{IsAt-from_value, value-from_is_at}
 use Rattle.ramp_step.proofs.ValueLaws.{values_of_is}
 use Rattle.ramp_step.proofs.KnotLaws.{inside_same, is_inside, HaveSameEnds-back}
 

@@ -2,8 +2,8 @@
 use Rattle.shape_law.proofs.Common.{◌≡◌, ℕ, zero, suc, ◌+◌, ◌-◌, ◌<◌, length, get_or, Option, Some, None, refl, sym, ap, ◌∙◌, arith, ℤ, pos, ◌+ℤ◌, ◌-ℤ◌, ◌*ℤ◌, ◌≤ℤ◌, ◌<ℤ◌, by_lt_z, ints, clamps, option_map, *ℤ-one, one, Table, value_of, IsConvex, reserve_term, IsWindow, IsSum, PointIsConvex, CopyIsConvex, LineKeepsConvexity, ReserveKeepsConvexity, WindowKeepsConvexity}
 use Rattle.std.specs.Int.{int_min}
 use Rattle.plain_lists.proofs.IntLaws.{mul-add, mul-mono_of}
-use Rattle.shape_law.specs.Lookup.{IsAt, IsAt-from_value, value-from_index, value-from_is_at}
-pub use Rattle.shape_law.specs.Lookup.{same_some}
+use Rattle.shape_law.proofs.Lookup.{IsAt, IsAt-from_value, value-from_index, value-from_is_at}
+pub use Rattle.shape_law.proofs.Lookup.{same_some}
 
 module _ (v : ℕ → ℤ) (n : ℕ) (convex : (k : ℕ) → k + 2 < n → (v (k + 1) +ℤ v (k + 1)) ≤ℤ (v k +ℤ v (k + 2))) where
   -- the slope at i is no greater than the slope at j, d powers on

@@ -1,6 +1,8 @@
 -- The names from elsewhere that the proofs here cite.
 pub mod Common
 -- ---- src/laws.rt
+-- a table's value by its offset from the first power
+pub mod Lookup
 -- each effect keeps convexity, whatever the representation
 pub mod ConvexLaws
 -- the sum of a convex function and a curve is convex

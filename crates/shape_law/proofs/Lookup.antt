@@ -1,10 +1,9 @@
--- The look-up, by the offset from the first power. (Not among the proofs: shapes that keep tables
--- are built on it.)
+-- A table's value at a power, by the offset from the first power.
 use Rattle.std.proofs.Common.{◌≡◌, ℕ, zero, suc, ◌<◌, ◌≤◌, List, [], ◌∷◌, length, get_or, Option}
-use Rattle.std.proofs.Common.{Some, None, refl, sym, ap, ◌∙◌, inl, inr, arith}
+use Rattle.std.proofs.Common.{Some, None, refl, sym, ap, ◌∙◌, subst, inl, inr, arith}
 use Rattle.std.specs.Prelude.{ℤ, pos, negsuc, ◌+ℤ◌, ◌-ℤ◌, ◌<ℤ◌, ◌⊎◌, slice_get}
 use Rattle.std.proofs.lemmas.Int.{ints}
-use Rattle.shape_law.specs.Table.{Table, value_of, offset_value}
+use Rattle.shape_law.specs.Table.{Table, value_of, offset_value, IsPlace, IsAmount, IsWithinLimits}
 
 -- ---- powers
 
@@ -77,3 +76,9 @@ value-from_is_at f x v a =
 
 pub same_some : {a b : ℤ} → (o : Option ℤ) → o ≡ Some a → o ≡ Some b → a ≡ b
 same_some o p q = cc
+
+-- a table is within the limits where its powers and values are, index by index
+pub within_by_index : (f : Table) → ((k : ℕ) → k < length f.values → IsPlace (f.lo +ℤ pos k)) → ((k : ℕ) → k < length f.values → IsAmount (get_or f.values k (pos 0))) → IsWithinLimits f
+within_by_index f powers amounts x v e =
+    let a = IsAt-from_value f x v e in
+    (subst IsPlace (sym a.power) (powers a.offset a.inside), subst IsAmount a.there (amounts a.offset a.inside))

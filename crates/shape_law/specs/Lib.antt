@@ -1,6 +1,5 @@
 pub mod Curve
 pub mod Effect
 pub mod Laws
-pub mod Lookup
 pub mod Steps
 pub mod Table

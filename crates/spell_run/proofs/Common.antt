@@ -11,11 +11,11 @@ pub use Rattle.std.specs.Prelude.{slice_get, MatchOption, IfNone, IsTrue, int_lt
 pub use Rattle.cost_curve.specs.CostCurve.{IsCostCurve, AreCostPoints, EnvelopeIsCost}
 pub use Rattle.shape_law.specs.Curve.{curve_value, reserve_term, end_of, IsLimitedCurve}
 pub use Rattle.shape_law.specs.Effect.{IsSum, IsLeastIn, IsLeast, IsCurveSum, IsPoint, Reaches}
-pub use Rattle.shape_law.specs.Lookup.{same_some}
 pub use Rattle.shape_law.specs.Table.{Table, value_of, HasNone, offset_value, IsEmpty, IsPlace, IsAmount}
 pub use Rattle.shape_law.specs.declared.step.Step.{Step}
 pub use Rattle.slope_list.specs.declared.slopes.Lowest.{Lowest}
 pub use Rattle.slope_step.specs.Turn.{IsTurn, IsBottom, IsFirst, IsLast}
+pub use Rattle.spell_run.proofs.Options.{same_some}
 pub use Rattle.spell_run.specs.Entries.{IsOnFromTo, IsSameOutside}
 pub use Rattle.spell_run.specs.Frontier.{IsWritten, IsChosen, IsFrontier, IsReached, IsWayFrom, stops_at, HasBestReserve, HasSamePowersAfter, IsSameAfter}
 pub use Rattle.spell_run.specs.Laws.{best_reserve, most_reserve, IsReserve, ReserveIsAKink, ReserveIsBest}

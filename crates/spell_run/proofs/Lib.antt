@@ -1,5 +1,7 @@
 -- The names from elsewhere that the proofs here cite.
 pub mod Common
+-- a value that is there is one
+pub mod Options
 -- the powers and the reserve of a period as they are stored, and that they stay within limits
 pub mod ChoiceLaws
 -- a function cut above a power, and a step before a stop that only cuts

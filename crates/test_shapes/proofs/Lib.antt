@@ -1,5 +1,7 @@
 -- The names from elsewhere that the proofs here cite.
 pub mod Common
+-- a home counts its cells or it doesn't
+pub mod HomeLaws
 -- ---- src/laws.rt
 -- a call on one shape leaves the shapes that are apart from it
 pub mod FrameLaws
