@@ -130,7 +130,7 @@ fn trailing(
 /// values of at most 10^24 and totals of at most 10^13 in magnitude, which all answered rows are,
 /// `laws::answered_rows_are_within`. The radius is from 0 to 20,000,000, in money for a kilowatt
 /// and period. `work` has two numbers for each period, and is left with any numbers. Takes no
-/// memory, and time in proportion to rows times periods.
+/// memory.
 pub fn best_range(
     case: &Case,
     rows: &[Row],

@@ -1,10 +1,9 @@
 //! Steps over breakpoints that stand for a convex function on a whole interval.
 //!
-//! Each step works in place on the first `used` knots of a slice, takes time in proportion to them
-//! (and to a curve's blocks), and answers how many knots there are afterwards: at most `used` and
-//! its charge. The slice has room for as many. What it does is said of the function that the knots
-//! stand for, as of any shape. Powers are kilowatts within 4 * 10^9 and values millionths of the
-//! currency within 10^18, before and after.
+//! Each step works in place on the first `used` knots of a slice, and answers how many knots there
+//! are afterwards: at most `used` and its charge. The slice has room for as many. What it does is
+//! said of the function that the knots stand for, as of any shape. Powers are kilowatts within
+//! 4 * 10^9 and values millionths of the currency within 10^18, before and after.
 #![tactic(auto)]
 
 pub mod breakpoint;

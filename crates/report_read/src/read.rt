@@ -115,8 +115,7 @@ fn line_number(bytes: &[u8], left: usize) -> u32
 /// 10,000 proposals, 1 to 16 proposals ahead, at least one proposal, as many lines of units as it
 /// says, all numbers within their types, prices within their limits, and lists over its periods.
 /// Otherwise the fault is the first line that no such report goes on with, where a line that the
-/// text ends in is one too. Takes time in proportion to the bytes, and at most some eight times
-/// their memory.
+/// text ends in is one too. Takes at most some eight times the memory of the bytes.
 pub fn read_report(alloc: Global, bytes: &[u8]) -> Result<Report, ReportError>
     requires { length bytes.now ≤ MOST_BYTES }
     // What is read is within the bounds, and its text is the bytes.

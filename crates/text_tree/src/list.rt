@@ -27,7 +27,7 @@ impl<'a> ListBranch<'a> {
 
     /// The items in order.
     ///
-    /// Takes 32 bytes for each, and time in proportion to the nodes of the list.
+    /// Takes 32 bytes for each.
     pub fn items(self, alloc: Global) -> Result<Vec<Branch<'a>>, AllocError>
         ensures { IfOk result (λ items. views items.items ≡ items_in self.entry) }
     {

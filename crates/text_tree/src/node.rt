@@ -49,8 +49,6 @@ fn walk_past(nodes: &[Node]) -> &[Node]
 }
 
 /// The nodes behind the first value, and none where there is none.
-///
-/// Takes time in proportion to the nodes that it passes.
 #[tactic(auto, using(crate::proofs::Walks::leaf_passed))]
 pub fn skip(nodes: &[Node]) -> &[Node]
     ensures { (bytes : List ℕ) → values bytes result.now ≡ drop 1 (values bytes nodes.now) }

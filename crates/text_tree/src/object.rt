@@ -35,7 +35,7 @@ impl<'a> ObjectBranch<'a> {
 
     /// The members in file order.
     ///
-    /// Takes 48 bytes for each, and time in proportion to the nodes and the names of the object.
+    /// Takes 48 bytes for each.
     pub fn members(self, alloc: Global) -> Result<Vec<Member<'a>>, AllocError>
         ensures { IfOk result (λ members. member_views members.items ≡ members_in self.entry) }
     {

@@ -243,9 +243,8 @@ fn noted_members<'a>(
 /// Tokens are taken in order. The first one that the grammar doesn't allow, or that is a number
 /// too long, a bracket too deep or a key for the second time, is the fault; at one token they are
 /// tried in that order. Where the text ends too early the fault stands at its length, or where the
-/// token that it cuts off begins. Takes time in proportion to the bytes, times the logarithm of the
-/// number of an object's names where they are in no order, and recursion no deeper than 32 levels.
-/// `laws` says that bytes are a text or have a first fault, and never both.
+/// token that it cuts off begins. Recursion goes no deeper than 32 levels. `laws` says that bytes
+/// are a text or have a first fault, and never both.
 pub fn read_tree(alloc: Global, bytes: &[u8]) -> Result<Tree<'_>, TextError>
     requires { length bytes.now ≤ MOST_BYTES }
     // A tree is the text's.
