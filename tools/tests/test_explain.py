@@ -94,6 +94,10 @@ class Explain(unittest.TestCase):
         )
         self.assertIn("Are the files swapped?", ran[1])
 
+    def test_a_run_that_was_not_refused(self):
+        with open(f"{EVENING}/check.output", encoding="utf-8") as it:
+            self.assertEqual(self.told(it.read()), "The run wasn't refused: its text begins with 'hull-check 1'.")
+
     def test_what_is_no_fault_line(self):
         for line in ("right", "fault 3 case 99 at 0", "fault x"):
             status, text, said = run("explain.py", os.devnull, os.devnull, input=f"{line}\n")

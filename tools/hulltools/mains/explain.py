@@ -3,12 +3,12 @@
 usage: explain.py CASE SCHEDULE [--prices F] [--mixture F] [--report F] < LINE
 
 CASE and SCHEDULE are the files that the run was given, and so are those of the options. LINE is what the run printed: its first line
-that begins with `fault` is explained.
+that begins with `fault` is explained. A run that wasn't refused is said to be one.
 """
 import sys
 
 from ..faults import Files, sentence
-from ..trouble import Wrong, read_bytes, run_tool
+from ..trouble import Wrong, one_line, read_bytes, run_tool
 from .words import asker
 
 
@@ -21,9 +21,10 @@ def body(words, tell):
     given = vars(ask.parse_args(words))
     lines = read_bytes("-", "a fault line").decode("utf-8", "replace").split("\n")
     line = next((it.strip("\r") for it in lines if it.startswith("fault ")), None)
-    if line is None:
+    if line is None and not lines[0].startswith("hull-"):
         raise Wrong("standard input has no fault line")
-    text = sentence(line, Files({key: it for key, it in given.items() if it}))
+    files = Files({key: it for key, it in given.items() if it})
+    text = sentence(line, files) if line else f"The run wasn't refused: its text begins with {one_line(lines[0][:40])!r}."
     sys.stdout.buffer.write(f"{text}\n".encode("utf-8", "replace"))
     sys.stdout.buffer.flush()
 
