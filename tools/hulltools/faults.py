@@ -242,7 +242,8 @@ class Known(dict):
 
 def nearest_name(files, given, kind):
     """A question after the case's unit whose name is like the given one, where there is one."""
-    names = {it.casefold(): it for it in files.at("case", GROUPS.get(kind, "")) or ()}
+    members = files.at("case", GROUPS.get(kind, ""))
+    names = {it.casefold(): it for it in members} if isinstance(members, dict) else {}
     near = difflib.get_close_matches((given or "").casefold(), names, 1)
     return f" Is {json.dumps(names[near[0]], ensure_ascii=False)} meant?" if near else ""
 
