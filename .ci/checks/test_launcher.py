@@ -253,6 +253,8 @@ class Gate(Repository):
 
     def gate_alone(self, **env):
         subprocess.run(["rt", "ci"], cwd=self.room, env={**self.env, **env}, check=True)
+        if subprocess.run(["stat", "-c", "%W", self.out], capture_output=True, check=True).stdout == b"0\n":
+            self.skipTest("the disk doesn't keep when a file was made")
 
     def test_a_program_that_the_gate_alone_has_built_is_taken_until_something_changes(self):
         without_kit = {**self.env, "PATH": WITHOUT_RT["PATH"]}
