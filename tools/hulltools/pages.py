@@ -158,11 +158,12 @@ def number_cell(number, told):
     return f'<td data-is="{number}">{told}</td>'
 
 
-def unit_rows(units):
+def unit_rows(units, schedule):
     for place, it in enumerate(units):
         sums = (it.earned, it.scheduled, it.payment, it.make_whole, it.lost_opportunity)
         cells = "".join(number_cell(number, money(number)) for number in sums)
-        cells += number_cell(sum(it.power), f"{sum(it.power) / 1000:,.3f}")
+        given = [schedule.plan(it.kind, it.name).power] if schedule else []
+        cells += "".join(number_cell(sum(power), f"{sum(power) / 1000:,.3f}") for power in (it.power, *given))
         yield (
             f'<tr data-unit="{place}" tabindex="0"><td class="text">{it.kind}</td>'
             f'<td class="text">{shown(it.name)}</td>{cells}</tr>'
@@ -252,7 +253,8 @@ def page_of(priced, schedule=None, certificate=None):
     """The page of a report or a settlement."""
     is_report = priced.command == "price"
     title = "Report of hull price" if is_report else "Settlement by hull settle"
-    rows = "\n".join(unit_rows(priced.units))
+    rows = "\n".join(unit_rows(priced.units, schedule))
+    heads = (*HEADS, "Schedule, MW periods") if schedule else HEADS
     picture = '<i class="energy"></i>best response at the prices <i class="reserve"></i>its reserve'
     if schedule:
         picture += ' <i class="energy first"></i>schedule <i class="reserve first"></i>its reserve'
@@ -269,7 +271,7 @@ def page_of(priced, schedule=None, certificate=None):
 <h2>Payments by unit</h2><p>What each is owed for following the schedule, beyond what it earns in it; the largest first.</p>{payment_bars(priced.units)}
 <h2>Units</h2><p>A click on a head sorts by it, one on a row shows that unit. Earned: what the best response earns at the prices; scheduled: what the schedule earns at them.</p>
 <p>{picture}</p><div id="unit"></div>
-<div class="wide"><table><thead><tr>{head_row(HEADS)}</tr></thead><tbody>
+<div class="wide"><table><thead><tr>{head_row(heads)}</tr></thead><tbody>
 {rows}
 </tbody></table></div>
 <h2>Prices</h2><p>Currency per MW and period: period, energy, reserve.</p>

@@ -134,6 +134,14 @@ class Report(unittest.TestCase):
             ["0", "1", "8", "2"],
         )
 
+    def test_page_beside_case_and_schedule(self):
+        files = ["--case", f"{EXAMPLES}/usual/case.json", "--schedule", f"{EXAMPLES}/usual/schedule.json"]
+        self.assertEqual(run("report.py", "page", self.write(SETTLED), f"{self.room}/page.html", *files), (0, "", ""))
+        page = self.read("page.html")
+        self.assertIn(">Schedule, MW periods<", page)
+        self.assertIn('<td data-is="0">0.000</td><td data-is="8000">8.000</td></tr>', page)
+        self.assertIn('"scheduled":[8000]', page)
+
     def test_texts_of_fixed_bound_and_certify(self):
         certified = self.write(CERTIFIED)
         texts = [f"{EXAMPLES}/two_units/fixed-2.output", f"{EXAMPLES}/two_units/bound.output", certified]
