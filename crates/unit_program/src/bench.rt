@@ -26,6 +26,7 @@ use uc_model::units::{Blocks, Curve, Prices, Unit};
 use unit_table::laws::limits_keep_rows;
 use unit_table::origins::Origins;
 use unit_table::periods::fill_by_periods;
+use unit_table::question::Question;
 use unit_table::roster::Roster;
 use unit_table::runner::Runner;
 use unit_table::table::{Entry, Table};
@@ -173,11 +174,14 @@ fn fill_bench(bench: &mut Bench<Slopes>, unit: &Unit, prices: &Prices, most: i64
 {
     curve_into(unit.points.as_slice(), &mut bench.curve);
     fill_limits(unit, prices, most, &mut bench.limits);
-    fill_by_periods(
+    let question = Question {
         unit,
-        &bench.curve,
+        curve: &bench.curve,
         prices,
-        &bench.limits,
+        limits: &bench.limits,
+    };
+    fill_by_periods(
+        &question,
         &mut bench.origins,
         &mut bench.roster,
         bench.runners.as_mut_slice(),

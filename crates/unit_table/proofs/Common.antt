@@ -10,7 +10,7 @@ pub use Rattle.std.specs.Prelude.{IsTrue, slice_set, int_le, IfSome, slice_get, 
 pub use Rattle.unit_table.specs.Limits.{AreLimits, capped, cap_of_row, IsTableWithin, IsFilledWithin, IsInRange}
 pub use Rattle.unit_table.specs.Live.{going_of, live_at, left_of, left_at, places_of, IsRoomy, AreRoomy, AreSmall, IsUnder, IsBeyond, IsBelow, HaveRoom, IsFilledTo}
 pub use Rattle.unit_table.specs.Origins.{IsRising, IsRipe, IsOrigin, HasOrigin, AreInOrder, AreRight, AreOrigins, AreOriginsWithin, IsOriginPut}
-pub use Rattle.unit_table.specs.Questions.{unit_of, prices_in, periods_in, charge_of}
+pub use Rattle.unit_table.specs.Questions.{unit_of, prices_in, periods_in, charge_of, limits_in}
 pub use Rattle.unit_table.specs.Rosters.{IsRoster}
 pub use Rattle.unit_table.specs.Rows.{row_at, cost_at, AreWithin, IsFirstRow, HasEntryAtMost, IsWithinTimes, first_at, before_at, IsPut}
 pub use Rattle.unit_table.specs.Runners.{IsTableTo, Going, AreRunners, IsRowOf, IsGoneOn, MayBeOn, IsEndLeft, IsRunner, HasStandIn, AreNoted, HaveWays}

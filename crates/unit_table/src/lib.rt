@@ -16,4 +16,5 @@ pub mod runner;
 pub mod table;
 
 pub use periods::fill_by_periods;
+pub use question::Question;
 pub use runner::Runner;

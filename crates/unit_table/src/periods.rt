@@ -6,16 +6,15 @@
 //! for less than it costs. Nor does one go on, or start, that costs more than a limit, since it
 //! can't come within the amount that the limits are for.
 ghost use Rattle.std.specs.Prelude.{◌≡◌, ◌≢◌, ℕ, suc, ◌+◌, ◌*◌, ◌<◌, ◌≤◌, ℤ, Option, None, length};
-ghost use Rattle.cost_curve.specs.CostCurve.{IsCostCurve};
 ghost use Rattle.slope_list.specs.Slopes.{shown, count_of, room_of};
 ghost use Rattle.uc_model.specs.Data.{PriceLists};
-ghost use Rattle.uc_model.specs.PlainUnits.{thermal_of, prices_of};
-ghost use Rattle.plain_lists.specs.Sums.{int_at};
+ghost use Rattle.uc_model.specs.PlainUnits.{thermal_of};
 ghost use Rattle.uc_model.specs.declared.limits.TheConstants.{MOST_PERIODS};
 ghost use Rattle.unit_table.specs.Limits.{AreLimits, IsFilledWithin};
 ghost use Rattle.unit_table.specs.Live.{live_at, left_at, AreRoomy, AreSmall, HaveRoom};
 ghost use Rattle.unit_table.specs.Live.{IsFilledTo};
 ghost use Rattle.unit_table.specs.Questions.{unit_of, prices_in, periods_in, charge_of};
+ghost use Rattle.unit_table.specs.Questions.{limits_in};
 ghost use Rattle.unit_table.specs.Taken.{AreKept, IsSweptTo, AreLonger, AreAsLong};
 ghost use Rattle.unit_table.specs.Origins.{AreInOrder, AreOrigins, AreOriginsWithin};
 ghost use Rattle.unit_table.specs.Rosters.{IsRoster};
@@ -31,11 +30,10 @@ use crate::runner::{
     Runner, begin_runner, drop_beyond, is_less, is_undercut, prune, run_all, stop_all,
 };
 use crate::table::{Entry, Table, begin_table};
-use plain_lists::lists::Numbers;
 use slope_list::Slopes;
 use spell_run::laws::{dispatches_are_runs, dispatches_go_on, runs_go_on};
 use uc_model::laws::start_costs_are_within;
-use uc_model::units::{Curve, Prices, Unit};
+use uc_model::units::Unit;
 
 // Begins the runner of the period after the one at a place after its least entry, if that is within
 // the limit and no runner undercuts it.
@@ -115,7 +113,6 @@ fn start(
 fn take_period(
     question: &Question,
     place: u32,
-    limits: &Numbers,
     origins: &Origins,
     roster: &mut Roster,
     runners: &mut [Runner<Slopes>],
@@ -125,15 +122,15 @@ fn take_period(
     requires long { AreLonger (periods_in question.now) table.old.items runners.old roster.old
         origins.now }
     requires limits { (most : ℤ)
-        × AreLimits (unit_of question.now) (prices_in question.now) most (int_at limits.now.items) }
-    requires each { periods_in question.now < length limits.now.items }
+        × AreLimits (unit_of question.now) (prices_in question.now) most
+        (limits_in question.now) }
     requires now { IsSweptTo shown count_of room_of (unit_of question.now) (prices_in question.now)
-        (int_at limits.now.items) place (charge_of question.now) table.old.items runners.old
+        (limits_in question.now) place (charge_of question.now) table.old.items runners.old
         roster.old }
     requires origins { AreOrigins (unit_of question.now) (cost_at table.old.items)
         place origins.now }
     ensures now { IsSweptTo shown count_of room_of (unit_of question.now) (prices_in question.now)
-        (int_at limits.now.items) (suc place) (charge_of question.now) table.new.items runners.new
+        (limits_in question.now) (suc place) (charge_of question.now) table.new.items runners.new
         roster.new }
     ensures others { (l : ℕ) → l ≢ suc place → row_at table.new.items l ≡ row_at table.old.items l }
     ensures same { AreAsLong room_of table.old.items table.new.items runners.old runners.new
@@ -147,10 +144,10 @@ fn take_period(
     runs_go_on();
     dispatches_go_on();
     dispatches_are_runs();
-    let limit = *limits.get(place as usize);
+    let limit = *question.limits.get(place as usize);
     start(question.unit, place, limit, origins, roster, runners);
     run_all(question, place, roster, runners, table);
-    drop_beyond(place + 1, *limits.get(place as usize + 1), roster, runners);
+    drop_beyond(place + 1, *question.limits.get(place as usize + 1), roster, runners);
     prune(question.unit, place + 1, roster, runners);
     roster.keep(runners);
 }
@@ -194,57 +191,42 @@ fn begin_all(unit: &Unit, roster: &mut Roster, runners: &mut [Runner<Slopes>], t
     go_on(unit, roster, runners);
 }
 
-/// Fills the table for a unit at prices over its horizon of T periods, as `program::fill` does, as
-/// far as its rows are within the limits of some amount; the other rows are open. `curve` is the
-/// curve of the unit's points. There are at least T + 1 runners, each with room for T (B + 3)
+/// Fills the table for a question over T periods, as far as its rows are within the limits of some
+/// amount; the other rows are open. There are at least T + 1 runners, each with room for T (B + 3)
 /// pieces, where the curve has B blocks, and for T periods; `origins` and `roster` have room for T
 /// periods, and `table` has at least T + 1 rows. Leaves with the runners what the way back from
 /// each row needs. Takes no memory.
 pub fn fill_by_periods(
-    unit: &Unit,
-    curve: &Curve,
-    prices: &Prices,
-    limits: &Numbers,
+    question: &Question,
     origins: &mut Origins,
     roster: &mut Roster,
     runners: &mut [Runner<Slopes>],
     table: &mut Table,
 )
-    requires horizon { length (thermal_of unit.now).window ≡ length (prices_of prices.now).energy }
-    requires curve { IsCostCurve (thermal_of unit.now).points curve.now }
-    requires runners { length (prices_of prices.now).energy < length runners.old }
-    requires room { HaveRoom room_of (length (prices_of prices.now).energy
-        * (length curve.now.blocks.items + 3)) (length (prices_of prices.now).energy) runners.old }
+    requires long { AreLonger (periods_in question.now) table.old.items runners.old roster.old
+        origins.old }
+    requires room { HaveRoom room_of (periods_in question.now * charge_of question.now)
+        (periods_in question.now) runners.old }
     requires limits { (most : ℤ)
-        × AreLimits (thermal_of unit.now) (prices_of prices.now) most (int_at limits.now.items) }
-    requires each { length (prices_of prices.now).energy < length limits.now.items }
-    requires list { length (prices_of prices.now).energy < length origins.old.list.items }
-    requires firsts { length (prices_of prices.now).energy < length roster.old.firsts.items }
-    requires rows { length (prices_of prices.now).energy < length table.old.items }
+        × AreLimits (unit_of question.now) (prices_in question.now) most
+        (limits_in question.now) }
     ensures filled { (most : ℤ)
-        → AreLimits (thermal_of unit.now) (prices_of prices.now) most (int_at limits.now.items)
-        → IsFilledWithin (thermal_of unit.now) (prices_of prices.now) most table.new.items }
-    ensures ways { HaveWays (thermal_of unit.now) (prices_of prices.now)
-        (length (prices_of prices.now).energy) (cost_at table.new.items) (first_at table.new.items)
+        → AreLimits (unit_of question.now) (prices_in question.now) most (limits_in question.now)
+        → IsFilledWithin (unit_of question.now) (prices_in question.now) most table.new.items }
+    ensures ways { HaveWays (unit_of question.now) (prices_in question.now)
+        (periods_in question.now) (cost_at table.new.items) (first_at table.new.items)
         (left_at runners.new) }
-    ensures length { length table.new.items ≡ length table.old.items }
-    ensures keeps { (most periods : ℕ) → HaveRoom room_of most periods runners.old
-        → HaveRoom room_of most periods runners.new }
-    ensures count { length runners.new ≡ length runners.old }
+    ensures same { AreAsLong room_of table.old.items table.new.items runners.old runners.new
+        roster.old roster.new }
     ensures list { length origins.new.list.items ≡ length origins.old.list.items }
-    ensures firsts { length roster.new.firsts.items ≡ length roster.old.firsts.items }
 {
     start_costs_are_within();
+    let unit = question.unit;
     begin_all(unit, roster, runners, table);
     origins.begin(unit, table.as_slice());
-    let question = Question {
-        unit,
-        curve,
-        prices,
-    };
-    let periods = prices.energy.len() as u32;
+    let periods = question.prices.energy.len() as u32;
     for place in 0..periods {
-        take_period(&question, place, limits, origins, roster, runners, table);
+        take_period(question, place, origins, roster, runners, table);
         origins.go_on(unit, place, table.as_slice());
     }
 }

@@ -1,6 +1,6 @@
 use Rattle.slope_list.specs.declared.slopes.Slopes.{Slopes}
 use Rattle.slope_list.specs.Slopes.{room_of}
-use Rattle.unit_program.proofs.Common.{rules, ◌+◌, ◌-◌, ◌*◌, ◌≤◌, List, length, sym, ap, ◌∙◌, subst, with_items_is, to_z-of_z, FitsSigned, w64, thermal_of, prices_of, Runner, HaveRoom, left_at, cost_at, first_at, HaveWays}
+use Rattle.unit_program.proofs.Common.{rules, ◌+◌, ◌-◌, ◌*◌, ◌<◌, ◌≤◌, List, length, sym, ap, ◌∙◌, subst, with_items_is, to_z-of_z, FitsSigned, w64, thermal_of, prices_of, Runner, HaveRoom, left_at, cost_at, first_at, HaveWays}
 use Rattle.std.specs.Vec.{with_items}
 use Rattle.unit_program.proofs.Lemmas.{room_less, charge_less, bench_kept}
 use Rattle.unit_program.proofs.bench.fill_bench.Goals as goal
@@ -17,19 +17,19 @@ fill_by_periods-requires-clause-room c =
 pub returns-clause-bench : goal.returns-clause-bench
 returns-clause-bench c = λ periods points b.
     let lent = c.as_mut_slice.ensures in
-    let same = with_items_is c.args.bench.now.runners c.fill_by_periods.new.runners (c.fill_by_periods.ensures.count ∙ lent.len) in
+    let same = with_items_is c.args.bench.now.runners c.fill_by_periods.new.runners (c.fill_by_periods.ensures.same.count_same ∙ lent.len) in
     bench_kept room_of periods points c.args.bench.now
     (record { curve = c.curve_into.new.into; runners = with_items c.args.bench.now.runners c.fill_by_periods.new.runners; origins = c.fill_by_periods.new.origins; roster = c.fill_by_periods.new.roster; table = c.fill_by_periods.new.table; limits = c.fill_limits.new.limits; kept = c.args.bench.now.kept; number = c.args.bench.now.number })
-    (sym c.curve_into.ensures.room) (ap length same ∙ c.fill_by_periods.ensures.count ∙ ap length lent.value)
+    (sym c.curve_into.ensures.room) (ap length same ∙ c.fill_by_periods.ensures.same.count_same ∙ ap length lent.value)
     (λ most periods have.
     subst (λ (xs : List (Runner Slopes)). HaveRoom room_of most periods xs) (sym same)
-    (c.fill_by_periods.ensures.keeps most periods (subst (λ (xs : List (Runner Slopes)). HaveRoom room_of most periods xs) (sym lent.value) have)))
-    c.fill_by_periods.ensures.length c.fill_by_periods.ensures.list c.fill_by_periods.ensures.firsts c.fill_limits.ensures.length b
+    (c.fill_by_periods.ensures.same.keeps most periods (subst (λ (xs : List (Runner Slopes)). HaveRoom room_of most periods xs) (sym lent.value) have)))
+    c.fill_by_periods.ensures.same.rows_length c.fill_by_periods.ensures.list c.fill_by_periods.ensures.same.firsts_same c.fill_limits.ensures.length b
 
 pub returns-clause-ways : goal.returns-clause-ways
 returns-clause-ways c =
     let lent = c.as_mut_slice.ensures in
-    let same = with_items_is c.args.bench.now.runners c.fill_by_periods.new.runners (c.fill_by_periods.ensures.count ∙ lent.len) in
+    let same = with_items_is c.args.bench.now.runners c.fill_by_periods.new.runners (c.fill_by_periods.ensures.same.count_same ∙ lent.len) in
     subst (λ (xs : List (Runner Slopes)). HaveWays (thermal_of c.args.unit.now) (prices_of c.args.prices.now) (length c.args.prices.now.energy.items) (cost_at c.fill_by_periods.new.table.items) (first_at c.fill_by_periods.new.table.items) (left_at xs)) (sym same)
     c.fill_by_periods.ensures.ways
 
@@ -38,3 +38,13 @@ returns-clause-filled c =
     let fits : FitsSigned w64 c.args.most = search rules in
     let limits = rw (to_z-of_z w64 c.args.most fits) at c.fill_limits.ensures.limits in
     c.fill_by_periods.ensures.filled c.args.most limits
+
+pub fill_by_periods-requires-clause-long : goal.fill_by_periods-requires-clause-long
+fill_by_periods-requires-clause-long c =
+    let bench = c.requires.bench in
+    record {
+      rows_end = bench.rows;
+      runners_end = subst (λ (xs : List (Runner Slopes)). length c.args.prices.now.energy.items < length xs) (sym c.as_mut_slice.ensures.value) bench.count;
+      firsts_end = bench.roster;
+      list_end = bench.origins;
+    }

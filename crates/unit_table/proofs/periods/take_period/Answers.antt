@@ -1,5 +1,5 @@
 use Rattle.slope_list.specs.Slopes.{shown, count_of, room_of}
-use Rattle.unit_table.proofs.Common.{rules, ◌≡◌, ℕ, suc, ◌+◌, ◌*◌, pos, length, refl, sym, ap, ◌∙◌, subst, arith, to_z, of_z, FitsSigned, w64, to_z-of_z, get_or_from_slice_get, ℤ, Some, List, slice_get, unit_of, prices_in, periods_in, charge_of, int_at, live_at, left_at, cost_at, first_at, AreRunners}
+use Rattle.unit_table.proofs.Common.{rules, ◌≡◌, ℕ, suc, ◌+◌, ◌*◌, pos, length, refl, sym, ap, ◌∙◌, subst, arith, to_z, of_z, FitsSigned, w64, to_z-of_z, get_or_from_slice_get, ℤ, Some, List, slice_get, unit_of, prices_in, periods_in, charge_of, limits_in, int_at, live_at, left_at, cost_at, first_at, AreRunners}
 use Rattle.unit_table.proofs.Lemmas.{small_of, have_room, origins_within, period_off, period_run, period_filled, none_listed, still_listed, cost-same, first-same, left_live, ways_same, ways_none, ways_more, kept_then, kept_room, kept_roomy, kept_left, off_roomy, fewer_then, fewer_off, fewer_small}
 use Rattle.unit_table.proofs.periods.take_period.Goals as goal
 
@@ -16,7 +16,7 @@ returns-then-is_must_off-clause-now c =
     let kept = c.stop_all.ensures.kept in
     let none = now.filled.table.none (suc c.args.place) (omega arith) in
     record {
-      filled = period_off g π (int_at c.args.limits.now.items) c.args.question.now.unit.now.valid c.args.place rows (live_at shown old) now.filled c.requires.place
+      filled = period_off g π (limits_in c.args.question.now) c.args.question.now.unit.now.valid c.args.place rows (live_at shown old) now.filled c.requires.place
           (live_at shown c.stop_all.new.runners) off (c.is_must_off.ensures.yes c.if-is_must_off.true);
       ways = ways_same g π (suc c.args.place) (cost_at rows) (first_at rows) (left_at old) (left_at c.stop_all.new.runners) (kept_left shown count_of room_of _ _ kept)
           (ways_none g π c.args.place (cost_at rows) (first_at rows) (left_at old) none now.ways);
@@ -55,7 +55,7 @@ pub start-requires-clause-small : goal.start-requires-clause-small
 start-requires-clause-small c =
     let few = c.args.question.now.prices.now.valid.horizon.at_most in
     let place = c.requires.place in
-    small_of (unit_of c.args.question.now) (prices_in c.args.question.now) (int_at c.args.limits.now.items) _ (live_at shown c.args.runners.now) c.args.place (suc c.args.place)
+    small_of (unit_of c.args.question.now) (prices_in c.args.question.now) (limits_in c.args.question.now) _ (live_at shown c.args.runners.now) c.args.place (suc c.args.place)
     (omega (arith, few, place)) (omega (arith, few, place)) c.requires.now.filled.runners
 
 pub run_all-requires-clause-room : goal.run_all-requires-clause-room
@@ -66,10 +66,10 @@ pub run_all-requires-clause-now : goal.run_all-requires-clause-now
 run_all-requires-clause-now c =
     let g = unit_of c.args.question.now in
     let π = prices_in c.args.question.now in
-    let limits = int_at c.args.limits.now.items in
+    let limits = limits_in c.args.question.now in
     let rows = c.args.table.now.items in
     let filled = c.requires.now.filled in
-    let here = limit_at c.args.limits.now.items c.args.place c.get-limit.result.now (search rules) c.get-limit.ensures.item in
+    let here = limit_at c.args.question.now.limits.now.items c.args.place c.get-limit.result.now (search rules) c.get-limit.ensures.item in
     let begun = c.start.ensures.stands π limits (cost_at rows) here c.requires.origins filled.runners in
     (limits, begun)
 
@@ -86,10 +86,10 @@ pub drop_beyond-requires-clause-small : goal.drop_beyond-requires-clause-small
 drop_beyond-requires-clause-small c =
     let g = unit_of c.args.question.now in
     let π = prices_in c.args.question.now in
-    let limits = int_at c.args.limits.now.items in
+    let limits = limits_in c.args.question.now in
     let rows = c.args.table.now.items in
     let filled = c.requires.now.filled in
-    let here = limit_at c.args.limits.now.items c.args.place c.get-limit.result.now (search rules) c.get-limit.ensures.item in
+    let here = limit_at c.args.question.now.limits.now.items c.args.place c.get-limit.result.now (search rules) c.get-limit.ensures.item in
     let begun = c.start.ensures.stands π limits (cost_at rows) here c.requires.origins filled.runners in
     let ran = period_run g π limits c.args.question.now.unit.now.valid c.args.place rows (live_at shown c.args.runners.now) filled c.requires.place
     c.run_all.new.table.items (live_at shown c.start.new.runners) (live_at shown c.run_all.new.runners) begun c.requires.limits.0 c.requires.limits.1
@@ -102,10 +102,10 @@ pub prune-requires-clause-small : goal.prune-requires-clause-small
 prune-requires-clause-small c =
     let g = unit_of c.args.question.now in
     let π = prices_in c.args.question.now in
-    let limits = int_at c.args.limits.now.items in
+    let limits = limits_in c.args.question.now in
     let rows = c.args.table.now.items in
     let filled = c.requires.now.filled in
-    let here = limit_at c.args.limits.now.items c.args.place c.get-limit.result.now (search rules) c.get-limit.ensures.item in
+    let here = limit_at c.args.question.now.limits.now.items c.args.place c.get-limit.result.now (search rules) c.get-limit.ensures.item in
     let begun = c.start.ensures.stands π limits (cost_at rows) here c.requires.origins filled.runners in
     let ran = period_run g π limits c.args.question.now.unit.now.valid c.args.place rows (live_at shown c.args.runners.now) filled c.requires.place
     c.run_all.new.table.items (live_at shown c.start.new.runners) (live_at shown c.run_all.new.runners) begun c.requires.limits.0 c.requires.limits.1
@@ -152,16 +152,16 @@ pub returns-clause-now : goal.returns-clause-now
 returns-clause-now c =
     let g = unit_of c.args.question.now in
     let π = prices_in c.args.question.now in
-    let limits = int_at c.args.limits.now.items in
+    let limits = limits_in c.args.question.now in
     let rows = c.args.table.now.items in
     let filled = c.requires.now.filled in
-    let here = limit_at c.args.limits.now.items c.args.place c.get-limit.result.now (search rules) c.get-limit.ensures.item in
+    let here = limit_at c.args.question.now.limits.now.items c.args.place c.get-limit.result.now (search rules) c.get-limit.ensures.item in
     let begun = c.start.ensures.stands π limits (cost_at rows) here c.requires.origins filled.runners in
     let ran = period_run g π limits c.args.question.now.unit.now.valid c.args.place rows (live_at shown c.args.runners.now) filled c.requires.place
     c.run_all.new.table.items (live_at shown c.start.new.runners) (live_at shown c.run_all.new.runners) begun c.requires.limits.0 c.requires.limits.1
     c.runs_go_on.ensures (c.is_must_off.ensures.no c.if-is_must_off.false) c.run_all.ensures.goes c.run_all.ensures.off in
     let next : suc c.args.place ≡ c.args.place + 1 = omega arith in
-    let next_is = limit_at c.args.limits.now.items (c.args.place + 1) c.get.result.now (search rules) c.get.ensures.item in
+    let next_is = limit_at c.args.question.now.limits.now.items (c.args.place + 1) c.get.result.now (search rules) c.get.ensures.item in
     let there = subst (λ (t : ℕ). AreRunners g π limits (cost_at rows) (live_at shown c.run_all.new.runners) t (suc (suc c.args.place))) next ran in
     let pruned = subst (λ (t : ℕ). AreRunners g π limits (cost_at rows) (live_at shown c.prune.new.runners) t (suc (suc c.args.place))) (sym next)
     (c.prune.ensures.stands π limits (cost_at rows) (suc (suc c.args.place))
@@ -206,13 +206,13 @@ returns-clause-same c =
 pub get-limit-requires : goal.get-limit-requires
 get-limit-requires c =
     let low = c.requires.place in
-    let each = c.requires.each in
+    let each = c.args.question.now.each in
     omega (arith, low, each)
 
 pub get-requires : goal.get-requires
 get-requires c =
     let low = c.requires.place in
-    let each = c.requires.each in
+    let each = c.args.question.now.each in
     omega (arith, low, each)
 
 pub start-requires-clause-list : goal.start-requires-clause-list
