@@ -1,5 +1,7 @@
 -- The powers and the reserve of a period as they are stored, and that they stay within limits.
-use Rattle.spell_run.proofs.Common.{◌≡◌, ℕ, ℤ, pos, nat_abs, ◌+ℤ◌, ◌-ℤ◌, ◌≤ℤ◌, ◌<ℤ◌, sym, ap, ◌∙◌, subst, arith, w64, FitsSigned, to_z, of_z, int_min, ints, to_z-of_z, Schedule, IsOutput, IsWithin, fits_within, Step, IsWritten, best_reserve, IsFairStep}
+use Rattle.spell_run.proofs.Common.{◌≡◌, ℕ, ℤ, pos, nat_abs, ◌+ℤ◌, ◌-ℤ◌, ◌≤ℤ◌, ◌<ℤ◌, sym, ap, ◌∙◌, subst, arith, w64}
+use Rattle.spell_run.proofs.Common.{FitsSigned, to_z, of_z, int_min, ints, to_z-of_z, Schedule, IsOutput, IsWithin}
+use Rattle.spell_run.proofs.Common.{fits_within, Step, IsWritten, best_reserve, IsFairStep}
 use Rattle.spell_run.proofs.ReserveLaws.{best_where_paid, best_may}
 
 abbrev pub stored : ℤ → ℤ
@@ -10,17 +12,25 @@ stored_within z h = to_z-of_z w64 z (fits_within w64 3000000000 z h (omega arith
 
 module _ (s : Step) (fair : IsFairStep s) (p : ℤ) (p_out : IsOutput p) where
   p_stored : stored p ≡ p
-  p_stored = stored_within p (let a = p_out.at_least in let b = p_out.at_most in record { at_least = omega (arith, ints, a); at_most = omega (arith, ints, b) })
+  p_stored = stored_within p
+      (let a = p_out.at_least in let b = p_out.at_most in record
+      { at_least = omega (arith, ints, a); at_most = omega (arith, ints, b) })
 
   up_stored : stored s.ramp_up ≡ s.ramp_up
-  up_stored = stored_within s.ramp_up (let a = fair.ramp_up.at_least in let b = fair.ramp_up.at_most in record { at_least = omega (arith, ints, a); at_most = omega (arith, ints, b) })
+  up_stored = stored_within s.ramp_up
+      (let a = fair.ramp_up.at_least in let b = fair.ramp_up.at_most in record
+      { at_least = omega (arith, ints, a); at_most = omega (arith, ints, b) })
 
   cap_stored : stored s.cap ≡ s.cap
-  cap_stored = stored_within s.cap (let a = fair.cap.at_least in let b = fair.cap.at_most in record { at_least = omega (arith, ints, a); at_most = omega (arith, ints, b) })
+  cap_stored = stored_within s.cap
+      (let a = fair.cap.at_least in let b = fair.cap.at_most in record
+      { at_least = omega (arith, ints, a); at_most = omega (arith, ints, b) })
 
   module _ (q : ℤ) (q_out : IsOutput q) where
     q_stored : stored q ≡ q
-    q_stored = stored_within q (let a = q_out.at_least in let b = q_out.at_most in record { at_least = omega (arith, ints, a); at_most = omega (arith, ints, b) })
+    q_stored = stored_within q
+        (let a = q_out.at_least in let b = q_out.at_most in record
+        { at_least = omega (arith, ints, a); at_most = omega (arith, ints, b) })
 
     under_stored : stored (stored s.cap -ℤ stored p) ≡ s.cap -ℤ p
     under_stored =
@@ -58,10 +68,14 @@ module _ (s : Step) (fair : IsFairStep s) (p : ℤ) (p_out : IsOutput p) where
         )
 
     pub reserve_is : (result : ℤ) → FitsSigned w64 result → pos 0 <ℤ s.reserve_price →
-        result ≡ int_min (stored (stored s.cap -ℤ stored p)) (stored (stored (stored s.ramp_up +ℤ stored q) -ℤ stored p)) → stored result ≡ best_reserve s.reserve_price s.cap s.ramp_up q p
+        result ≡ int_min (stored (stored s.cap -ℤ stored p))
+        (stored (stored (stored s.ramp_up +ℤ stored q) -ℤ stored p)) →
+        stored result ≡ best_reserve s.reserve_price s.cap s.ramp_up q p
     reserve_is result fits paid is =
-        to_z-of_z w64 result fits ∙ is ∙ ap (λ (x : ℤ). int_min x (stored (stored (stored s.ramp_up +ℤ stored q) -ℤ stored p))) under_stored
-        ∙ ap (λ (y : ℤ). int_min (s.cap -ℤ p) y) rise_stored ∙ sym (best_where_paid s.reserve_price s.cap s.ramp_up q p paid)
+        to_z-of_z w64 result fits ∙ is ∙ ap
+        (λ (x : ℤ). int_min x (stored (stored (stored s.ramp_up +ℤ stored q) -ℤ stored p))) under_stored
+        ∙ ap (λ (y : ℤ). int_min (s.cap -ℤ p) y) rise_stored ∙
+        sym (best_where_paid s.reserve_price s.cap s.ramp_up q p paid)
 
     pub reserve_out : p ≤ℤ s.cap → (p -ℤ q) ≤ℤ s.ramp_up → IsOutput (best_reserve s.reserve_price s.cap s.ramp_up q p)
     reserve_out under rise =
@@ -73,7 +87,9 @@ module _ (s : Step) (fair : IsFairStep s) (p : ℤ) (p_out : IsOutput p) where
         record { at_least = a; at_most = omega (arith, ints, b, c, d) }
 
 pub output_stored : (z : ℤ) → IsOutput z → stored z ≡ z
-output_stored z h = stored_within z (let a = h.at_least in let b = h.at_most in record { at_least = omega (arith, ints, a); at_most = omega (arith, ints, b) })
+output_stored z h = stored_within z
+    (let a = h.at_least in let b = h.at_most in record
+    { at_least = omega (arith, ints, a); at_most = omega (arith, ints, b) })
 
 -- ---- what is written
 
@@ -83,10 +99,15 @@ cast_is z h = let e = output_stored z h in let a = h.at_least in ap (λ (x : ℤ
     abs_is : (z : ℤ) → pos 0 ≤ℤ z → pos (nat_abs z) ≡ z
     abs_is z a = omega (arith, ints, a)
 
-pub written_cast : (k : ℕ) (p r b : ℤ) (d d' : Schedule) → IsOutput p → IsOutput r → r ≡ b → IsWritten k (pos (nat_abs (stored p))) (pos (nat_abs (stored r))) d d' → IsWritten k p b d d'
+pub written_cast : (k : ℕ) (p r b : ℤ) (d d' : Schedule) → IsOutput p → IsOutput r → r ≡ b →
+    IsWritten k (pos (nat_abs (stored p))) (pos (nat_abs (stored r))) d d' → IsWritten k p b d d'
 written_cast k p r b d d' p_out r_out is w =
-    subst (λ (x : ℤ). IsWritten k x b d d') (cast_is p p_out) (subst (λ (y : ℤ). IsWritten k (pos (nat_abs (stored p))) y d d') (cast_is r r_out ∙ is) w)
+    subst (λ (x : ℤ). IsWritten k x b d d') (cast_is p p_out)
+    (subst (λ (y : ℤ). IsWritten k (pos (nat_abs (stored p))) y d d') (cast_is r r_out ∙ is) w)
 
-pub best_stored : (s : Step) (q p : ℤ) → IsOutput q → IsOutput p → best_reserve s.reserve_price s.cap s.ramp_up (stored q) (stored p) ≡ best_reserve s.reserve_price s.cap s.ramp_up q p
+pub best_stored : (s : Step) (q p : ℤ) → IsOutput q → IsOutput p →
+    best_reserve s.reserve_price s.cap s.ramp_up (stored q) (stored p) ≡ best_reserve s.reserve_price s.cap s.ramp_up q
+    p
 best_stored s q p q_out p_out =
-    ap (λ (x : ℤ). best_reserve s.reserve_price s.cap s.ramp_up x (stored p)) (output_stored q q_out) ∙ ap (λ (y : ℤ). best_reserve s.reserve_price s.cap s.ramp_up q y) (output_stored p p_out)
+    ap (λ (x : ℤ). best_reserve s.reserve_price s.cap s.ramp_up x (stored p)) (output_stored q q_out) ∙
+    ap (λ (y : ℤ). best_reserve s.reserve_price s.cap s.ramp_up q y) (output_stored p p_out)

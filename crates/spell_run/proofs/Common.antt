@@ -1,5 +1,9 @@
 -- The names that the proofs of this crate take from its specs and from other crates, passed on from one place.
-pub use Rattle.std.proofs.Common.{◌≡◌, ℕ, ◌+◌, ◌≤◌, ℤ, pos, neg_ℤ, ◌+ℤ◌, ◌*ℤ◌, Option, Some, None, refl, ap, ◌∙◌, subst, arith, nat_abs, ◌-ℤ◌, ◌≤ℤ◌, ◌<ℤ◌, sym, w64, FitsSigned, to_z, of_z, zero, suc, ◌<◌, ◌⊎◌, inl, inr, negsuc, Bool, true, false, List, [], ◌∷◌, take, ltb, eqb, length, IfSome, ◌-◌, ◌≢◌, get_or, set, get_or-set_same, get_or-set_other, cond, IsSome, ◌*◌, length-set, replicate, ◌&&◌, rules}
+pub use Rattle.std.proofs.Common.{◌≡◌, ℕ, ◌+◌, ◌≤◌, ℤ, pos, neg_ℤ, ◌+ℤ◌, ◌*ℤ◌, Option, Some, None, refl, ap, ◌∙◌, subst}
+pub use Rattle.std.proofs.Common.{arith, nat_abs, ◌-ℤ◌, ◌≤ℤ◌, ◌<ℤ◌, sym, w64, FitsSigned, to_z, of_z, zero, suc, ◌<◌}
+pub use Rattle.std.proofs.Common.{◌⊎◌, inl, inr, negsuc, Bool, true, false, List, [], ◌∷◌, take, ltb, eqb, length}
+pub use Rattle.std.proofs.Common.{IfSome, ◌-◌, ◌≢◌, get_or, set, get_or-set_same, get_or-set_other, cond, IsSome, ◌*◌}
+pub use Rattle.std.proofs.Common.{length-set, replicate, ◌&&◌, rules}
 pub use Rattle.std.proofs.Math.IntN.{zero-*ℤ, *ℤ-one, *ℤ_comm}
 pub use Rattle.std.proofs.lemmas.Bool.{lt-ltb, le-ltb, cases_lt, eqb-true, ltb-true, eq-eqb, ne_eqb, and_right}
 pub use Rattle.std.proofs.lemmas.Int.{ints, clamps, to_z-of_z, by_lt_z}
@@ -17,11 +21,14 @@ pub use Rattle.slope_list.specs.declared.slopes.Lowest.{Lowest}
 pub use Rattle.slope_step.specs.Turn.{IsTurn, IsBottom, IsFirst, IsLast}
 pub use Rattle.spell_run.proofs.Options.{same_some}
 pub use Rattle.spell_run.specs.Entries.{IsOnFromTo, IsSameOutside}
-pub use Rattle.spell_run.specs.Frontier.{IsWritten, IsChosen, IsFrontier, IsReached, IsWayFrom, stops_at, HasBestReserve, HasSamePowersAfter, IsSameAfter}
+pub use Rattle.spell_run.specs.Frontier.{IsWritten, IsChosen, IsFrontier, IsReached, IsWayFrom, stops_at}
+pub use Rattle.spell_run.specs.Frontier.{HasBestReserve, HasSamePowersAfter, IsSameAfter}
 pub use Rattle.spell_run.specs.Laws.{best_reserve, most_reserve, IsReserve, ReserveIsAKink, ReserveIsBest}
 pub use Rattle.spell_run.specs.Notes.{IsNoted, IsEndNoted, end_cost, IsSpellNoted, IsCheapest, passed_at}
-pub use Rattle.spell_run.specs.Spells.{IsSpellWithin, IsDispatch, net_cost_at, net_cost, spell_cost, IsSpellAnswer, IsBestDispatch, IsFirstDispatch, over_min}
-pub use Rattle.spell_run.specs.Steps.{IsFairStep, IsCostOf, IsKinked, IsSmall, cap_at, step_at, IsStepped, IsLeastCost, IsLeastCostIn, IsMove, IsRun}
+pub use Rattle.spell_run.specs.Spells.{IsSpellWithin, IsDispatch, net_cost_at, net_cost, spell_cost, IsSpellAnswer}
+pub use Rattle.spell_run.specs.Spells.{IsBestDispatch, IsFirstDispatch, over_min}
+pub use Rattle.spell_run.specs.Steps.{IsFairStep, IsCostOf, IsKinked, IsSmall, cap_at, step_at, IsStepped, IsLeastCost}
+pub use Rattle.spell_run.specs.Steps.{IsLeastCostIn, IsMove, IsRun}
 unfoldable pub use Rattle.spell_run.specs.Steps.{level}
 pub use Rattle.spell_run.specs.declared.way.Note.{Note}
 pub use Rattle.plain_lists.proofs.IntLaws.{mul-sub, mul-mono_of, sum_below-same}

@@ -1,5 +1,10 @@
 -- A function cut above a power, and a step before a stop that only cuts.
-use Rattle.spell_run.proofs.Common.{◌≡◌, ℕ, zero, suc, ◌<◌, ◌≤◌, ◌⊎◌, inl, inr, ℤ, pos, negsuc, ◌+ℤ◌, ◌-ℤ◌, ◌*ℤ◌, ◌≤ℤ◌, ◌<ℤ◌, Bool, true, false, List, [], ◌∷◌, take, Option, Some, None, refl, sym, ap, ◌∙◌, subst, arith, slice_get, MatchOption, option_map, ints, by_lt_z, IsCostCurve, curve_value, reserve_term, IsLeast, IsLeastIn, IsSum, IsCurveSum, Table, value_of, offset_value, IsTurn, Curve, ThermalUnit, PriceLists, IsThermalUnit, int_at, cap_at, step_at, IsKinked, IsStepped}
+use Rattle.spell_run.proofs.Common.{◌≡◌, ℕ, zero, suc, ◌<◌, ◌≤◌, ◌⊎◌, inl, inr, ℤ, pos, negsuc, ◌+ℤ◌, ◌-ℤ◌, ◌*ℤ◌, ◌≤ℤ◌}
+use Rattle.spell_run.proofs.Common.{◌<ℤ◌, Bool, true, false, List, [], ◌∷◌, take, Option, Some, None, refl, sym, ap}
+use Rattle.spell_run.proofs.Common.{◌∙◌, subst, arith, slice_get, MatchOption, option_map, ints, by_lt_z, IsCostCurve}
+use Rattle.spell_run.proofs.Common.{curve_value, reserve_term, IsLeast, IsLeastIn, IsSum, IsCurveSum, Table, value_of}
+use Rattle.spell_run.proofs.Common.{offset_value, IsTurn, Curve, ThermalUnit, PriceLists, IsThermalUnit, int_at, cap_at}
+use Rattle.spell_run.proofs.Common.{step_at, IsKinked, IsStepped}
 use Rattle.slope_step.specs.Pieces.{powers_to}
 use Rattle.spell_run.proofs.StepLaws.{under_cap, cap_over, under_most, step_sound}
 
@@ -11,15 +16,18 @@ get_before (x ∷ xs) j zero w h low = (x, refl)
 get_before (x ∷ xs) zero (suc k) w h low = absurd (omega (arith, low))
 get_before (x ∷ xs) (suc j) (suc k) w h low = get_before xs j k w h (omega (arith, low))
 
-between_by : (values : List ℤ) (d e z u w : ℤ) → offset_value values d ≡ Some u → offset_value values e ≡ Some w → d ≤ℤ z → z ≤ℤ e → (v : ℤ) × (offset_value values z ≡ Some v)
+between_by : (values : List ℤ) (d e z u w : ℤ) → offset_value values d ≡ Some u → offset_value values e ≡ Some w →
+    d ≤ℤ z → z ≤ℤ e → (v : ℤ) × (offset_value values z ≡ Some v)
 between_by values (pos i) (pos j) (pos k) u w p q low high = get_before values j k w q (omega (arith, ints, high))
 between_by values (pos i) (pos j) (negsuc k) u w p q low high = absurd (omega (arith, ints, low))
 between_by values (pos i) (negsuc j) z u w p q low high = cc
 between_by values (negsuc i) e z u w p q low high = cc
 
 -- between two powers of a function there are others
-pub between_powers : (f : Table) (a b x u w : ℤ) → value_of f a ≡ Some u → value_of f b ≡ Some w → a ≤ℤ x → x ≤ℤ b → (v : ℤ) × (value_of f x ≡ Some v)
-between_powers f a b x u w p q low high = between_by f.values (a -ℤ f.lo) (b -ℤ f.lo) (x -ℤ f.lo) u w p q (omega (arith, ints, low)) (omega (arith, ints, high))
+pub between_powers : (f : Table) (a b x u w : ℤ) → value_of f a ≡ Some u → value_of f b ≡ Some w → a ≤ℤ x → x ≤ℤ b →
+    (v : ℤ) × (value_of f x ≡ Some v)
+between_powers f a b x u w p q low high = between_by f.values (a -ℤ f.lo) (b -ℤ f.lo) (x -ℤ f.lo) u w p q
+    (omega (arith, ints, low)) (omega (arith, ints, high))
 
 -- ---- the powers up to one
 
@@ -69,31 +77,38 @@ cut_sum term f g hi sum x = by_lt_z hi x
     (λ (l : hi <ℤ x). cut_past g hi x l ∙ sym (ap (option_map (λ v. v +ℤ term x)) (cut_past f hi x l)))
     (λ (l : x ≤ℤ hi). cut_inside g hi x l ∙ sum x ∙ sym (ap (option_map (λ v. v +ℤ term x)) (cut_inside f hi x l)))
 
-cut_curve : (c : Curve) (f g : Table) (hi : ℤ) → IsCurveSum (curve_value c) (pos 0) f g → IsCurveSum (curve_value c) (pos 0) (cut f hi) (cut g hi)
+cut_curve : (c : Curve) (f g : Table) (hi : ℤ) → IsCurveSum (curve_value c) (pos 0) f g →
+    IsCurveSum (curve_value c) (pos 0) (cut f hi) (cut g hi)
 cut_curve c f g hi sum x =
-    let P : Option ℤ → Option ℤ → Type 0 = λ o p. MatchOption o (p ≡ None) (λ v. (k : ℤ) × (curve_value c (x +ℤ pos 0) ≡ Some k) × (p ≡ Some (v +ℤ k))) in
+    let P : Option ℤ → Option ℤ → Type 0 = λ o p. MatchOption o (p ≡ None)
+    (λ v. (k : ℤ) × (curve_value c (x +ℤ pos 0) ≡ Some k) × (p ≡ Some (v +ℤ k))) in
     by_lt_z hi x
     (λ (l : hi <ℤ x). subst (λ o. P o (value_of (cut g hi) x)) (sym (cut_past f hi x l)) (cut_past g hi x l))
-    (λ (l : x ≤ℤ hi). subst (λ o. P o (value_of (cut g hi) x)) (sym (cut_inside f hi x l)) (subst (λ p. P (value_of f x) p) (sym (cut_inside g hi x l)) (sum x)))
+    (λ (l : x ≤ℤ hi). subst (λ o. P o (value_of (cut g hi) x)) (sym (cut_inside f hi x l))
+    (subst (λ p. P (value_of f x) p) (sym (cut_inside g hi x l)) (sum x)))
 
 -- ---- a step before a stop that has the same kink
 
 kink_same : (mu a b up x : ℤ) → (mu ≡ pos 0) ⊎ (a ≡ b) → reserve_term mu a up x ≡ reserve_term mu b up x
-kink_same mu a b up x (inl none) = ap (λ m. reserve_term m a up x) none ∙ free a ∙ sym (free b) ∙ sym (ap (λ m. reserve_term m b up x) none)
+kink_same mu a b up x (inl none) = ap (λ m. reserve_term m a up x) none ∙ free a ∙ sym (free b) ∙
+    sym (ap (λ m. reserve_term m b up x) none)
   where
     free : (c : ℤ) → reserve_term (pos 0) c up x ≡ pos 0
     free c = omega (arith, ints)
 kink_same mu a b up x (inr same) = ap (λ c. reserve_term mu c up x) same
 
-module _ (g : ThermalUnit) (π : PriceLists) (k : ℕ) (starts : Bool) (alike : (int_at π.reserve k ≡ pos 0) ⊎ (cap_at g starts true ≡ cap_at g starts false)) where
+module _ (g : ThermalUnit) (π : PriceLists) (k : ℕ) (starts : Bool)
+    (alike : (int_at π.reserve k ≡ pos 0) ⊎ (cap_at g starts true ≡ cap_at g starts false)) where
   abbrev high : ℤ
   high = (step_at g π k starts true).most
 
   kinked_same : (f h : Table) → IsKinked (step_at g π k starts false) f h → IsKinked (step_at g π k starts true) f h
   kinked_same f h kink x =
-      kink x ∙ sym (ap (λ t. option_map (λ v. v +ℤ t) (value_of f x)) (kink_same (int_at π.reserve k) (cap_at g starts true) (cap_at g starts false) g.ramp_up x alike))
+      kink x ∙ sym (ap (λ t. option_map (λ v. v +ℤ t) (value_of f x))
+      (kink_same (int_at π.reserve k) (cap_at g starts true) (cap_at g starts false) g.ramp_up x alike))
 
-  pub turn_alike : (f : Table) (m : ℤ) → IsTurn (step_at g π k starts false) f m → IsTurn (step_at g π k starts true) f m
+  pub turn_alike : (f : Table) (m : ℤ) → IsTurn (step_at g π k starts false) f m →
+      IsTurn (step_at g π k starts true) f m
   turn_alike f m turn = (turn.0, kinked_same f turn.0 turn.1, turn.2)
 
   high_is : (x : ℤ) → x ≤ℤ high → x ≤ℤ (step_at g π k starts false).most
@@ -101,7 +116,8 @@ module _ (g : ThermalUnit) (π : PriceLists) (k : ℕ) (starts : Bool) (alike : 
       let u = under_cap g starts true x (under_most g π k starts true x h).0 in
       cap_over g starts false x (record { most = u.most; start = u.start; stop = λ e. cc })
 
-  pub stepped_cut : (c : Curve) (f h : Table) → IsStepped (step_at g π k starts false) c f h → IsStepped (step_at g π k starts true) c f (cut h high)
+  pub stepped_cut : (c : Curve) (f h : Table) → IsStepped (step_at g π k starts false) c f h →
+      IsStepped (step_at g π k starts true) c f (cut h high)
   stepped_cut c f h step = record {
     kinked = step.kinked;
     window = cut step.window high;
@@ -120,10 +136,12 @@ module _ (g : ThermalUnit) (π : PriceLists) (k : ℕ) (starts : Bool) (alike : 
     is_curve = cut_curve c step.line h high step.is_curve;
   }
 
-  pub least_cut : (c : Curve) (unit : IsThermalUnit g) (price : pos 0 ≤ℤ int_at π.reserve k) (curve : IsCostCurve g.points c) (f h : Table) (v x : ℤ) → IsStepped (step_at g π k starts false) c f h →
+  pub least_cut : (c : Curve) (unit : IsThermalUnit g) (price : pos 0 ≤ℤ int_at π.reserve k)
+      (curve : IsCostCurve g.points c) (f h : Table) (v x : ℤ) → IsStepped (step_at g π k starts false) c f h →
       IsLeastIn g.min_power high h v x → IsLeast (cut h high) v x
   least_cut c unit price curve f h v x step least =
-      let low : (y w : ℤ) → value_of h y ≡ Some w → g.min_power ≤ℤ y = λ y w there. (step_sound g π k c unit price curve starts false f h step y w there).move.least in
+      let low : (y w : ℤ) → value_of h y ≡ Some w → g.min_power ≤ℤ y = λ y w there.
+      (step_sound g π k c unit price curve starts false f h step y w there).move.least in
       record {
         there = cut_inside h high x least.inside.1 ∙ least.there;
         least = λ y w there. (let i = cut_value h high y w there in least.least y w i.1 (low y w i.1) i.0);

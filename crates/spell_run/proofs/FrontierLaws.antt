@@ -1,14 +1,28 @@
 -- The frontier of a spell's first periods: its beginning, one more period, and the least costs that are read off it.
-use Rattle.spell_run.proofs.Common.{◌≡◌, ℕ, zero, suc, ◌+◌, ◌-◌, ◌*◌, ◌<◌, ◌≤◌, ◌⊎◌, inl, inr, ℤ, pos, neg_ℤ, ◌+ℤ◌, ◌≤ℤ◌, Bool, true, false, eqb, ltb, length, Option, Some, None, IfSome, refl, sym, ap, ◌∙◌, subst, arith, length-set, ints, lt-ltb, length-replicate, IsCostCurve, EnvelopeIsCost, IsPoint, same_some, Table, value_of, Curve, ThermalUnit, PriceLists, Schedule, IsFrom, IsOutput, IsThermalUnit, ArePrices, power_in, reserve_in, int_at, IsWithin, IsReached, IsFrontier, IsDispatch, net_cost_at, net_cost, spell_cost, IsSpellAnswer, IsSpellWithin, cap_at, step_at, IsMove, level, IsRun, IsStepped, IsSmall, IsLeastCost, IsLeastCostIn}
-use Rattle.spell_run.proofs.RunLaws.{level_before, level_within, level_power, level_same, move_same, run_alike, run_more, run_less, cost_alike, cost_more, cost_none, cost_zero, with_period, written_power, written_reserve, written_alike, blank, blank_reserve, natural, reserve_not_negative, MayEnd, move_parts, move_whole, dispatch_from_run, run_from_dispatch, end_from_dispatch}
-use Rattle.spell_run.proofs.StepLaws.{under_cap, under_most, most_over, IsFromMove, step_sound, step_complete, net_within}
+use Rattle.spell_run.proofs.Common.{◌≡◌, ℕ, zero, suc, ◌+◌, ◌-◌, ◌*◌, ◌<◌, ◌≤◌, ◌⊎◌, inl, inr, ℤ, pos, neg_ℤ, ◌+ℤ◌}
+use Rattle.spell_run.proofs.Common.{◌≤ℤ◌, Bool, true, false, eqb, ltb, length, Option, Some, None, IfSome, refl, sym}
+use Rattle.spell_run.proofs.Common.{ap, ◌∙◌, subst, arith, length-set, ints, lt-ltb, length-replicate, IsCostCurve}
+use Rattle.spell_run.proofs.Common.{EnvelopeIsCost, IsPoint, same_some, Table, value_of, Curve, ThermalUnit, PriceLists}
+use Rattle.spell_run.proofs.Common.{Schedule, IsFrom, IsOutput, IsThermalUnit, ArePrices, power_in, reserve_in, int_at}
+use Rattle.spell_run.proofs.Common.{IsWithin, IsReached, IsFrontier, IsDispatch, net_cost_at, net_cost, spell_cost}
+use Rattle.spell_run.proofs.Common.{IsSpellAnswer, IsSpellWithin, cap_at, step_at, IsMove, level, IsRun, IsStepped}
+use Rattle.spell_run.proofs.Common.{IsSmall, IsLeastCost, IsLeastCostIn}
+use Rattle.spell_run.proofs.RunLaws.{level_before, level_within, level_power, level_same, move_same, run_alike}
+use Rattle.spell_run.proofs.RunLaws.{run_more, run_less, cost_alike, cost_more, cost_none, cost_zero, with_period}
+use Rattle.spell_run.proofs.RunLaws.{written_power, written_reserve, written_alike, blank, blank_reserve, natural}
+use Rattle.spell_run.proofs.RunLaws.{reserve_not_negative, MayEnd, move_parts, move_whole, dispatch_from_run}
+use Rattle.spell_run.proofs.RunLaws.{run_from_dispatch, end_from_dispatch}
+use Rattle.spell_run.proofs.StepLaws.{under_cap, under_most, most_over, IsFromMove, step_sound, step_complete}
+use Rattle.spell_run.proofs.StepLaws.{net_within}
 
 -- ---- bounds
 
 -- B for each period
-within_more : (n m : ℕ) (v w : ℤ) → m ≡ suc n → IsWithin (n * 1000000000000000) v → IsWithin 1000000000000000 w → IsWithin (m * 1000000000000000) (v +ℤ w)
+within_more : (n m : ℕ) (v w : ℤ) → m ≡ suc n → IsWithin (n * 1000000000000000) v → IsWithin 1000000000000000 w →
+    IsWithin (m * 1000000000000000) (v +ℤ w)
 within_more n m v w is h i =
-    let size : m * 1000000000000000 ≡ n * 1000000000000000 + 1000000000000000 = ap (λ (k : ℕ). k * 1000000000000000) is ∙ (omega arith) in
+    let size : m * 1000000000000000 ≡ n * 1000000000000000 + 1000000000000000 = ap (λ (k : ℕ). k * 1000000000000000) is
+    ∙ (omega arith) in
     let a = h.at_least in
     let b = h.at_most in
     let c = i.at_least in
@@ -19,7 +33,8 @@ zero_within : (n : ℕ) (v : ℤ) → v ≡ pos 0 → IsWithin n v
 zero_within n v z = record { at_least = omega (arith, ints, z); at_most = omega (arith, ints, z) }
 
 -- a frontier is small
-pub small_frontier : (g : ThermalUnit) (π : PriceLists) (first t : ℕ) (f : Table) → t ≤ 168 → IsFrontier g π first t f → IsSmall f
+pub small_frontier : (g : ThermalUnit) (π : PriceLists) (first t : ℕ) (f : Table) → t ≤ 168 → IsFrontier g π first t f →
+    IsSmall f
 small_frontier g π first t f few front x v h =
     let b = front.values x v h in
     let count : suc t - first ≤ 169 = omega (arith, few) in
@@ -29,8 +44,10 @@ small_frontier g π first t f few front x v h =
 
 -- ---- the beginning
 
-module _ (g : ThermalUnit) (π : PriceLists) (first t : ℕ) (x : ℤ) (f : Table) (point : IsPoint x (pos 0) f) (out : IsOutput x)
-    (none : (k : ℕ) → first ≤ suc k → suc k ≤ t → ⊥) (here : (d : Schedule) → level g first d t ≡ x) (cost : (d : Schedule) → spell_cost g π first t d ≡ pos 0) where
+module _ (g : ThermalUnit) (π : PriceLists) (first t : ℕ) (x : ℤ) (f : Table) (point : IsPoint x (pos 0) f)
+    (out : IsOutput x)
+    (none : (k : ℕ) → first ≤ suc k → suc k ≤ t → ⊥) (here : (d : Schedule) →
+    level g first d t ≡ x) (cost : (d : Schedule) → spell_cost g π first t d ≡ pos 0) where
   begin_at : IsFrontier g π first t f
   begin_at = record {
     sound = λ y v h.
@@ -60,32 +77,40 @@ least_power_out g unit = record {
 }
 
 -- before a start in period suc b, and before a spell that goes on
-pub frontier_start : (g : ThermalUnit) (π : PriceLists) (b : ℕ) (f : Table) → IsThermalUnit g → IsPoint g.min_power (pos 0) f → IsFrontier g π (suc b) b f
+pub frontier_start : (g : ThermalUnit) (π : PriceLists) (b : ℕ) (f : Table) → IsThermalUnit g →
+    IsPoint g.min_power (pos 0) f → IsFrontier g π (suc b) b f
 frontier_start g π b f unit point =
-    begin_at g π (suc b) b g.min_power f point (least_power_out g unit) (λ k from until. absurd (omega (arith, from, until))) (λ d. level_before g (suc b) d b (omega arith))
+    begin_at g π (suc b) b g.min_power f point (least_power_out g unit)
+    (λ k from until. absurd (omega (arith, from, until))) (λ d. level_before g (suc b) d b (omega arith))
     (λ d. cost_none g π (suc b) b d (omega arith))
 
-pub frontier_goes_on : (g : ThermalUnit) (π : PriceLists) (f : Table) → IsThermalUnit g → IsPoint g.power0 (pos 0) f → IsFrontier g π 0 0 f
+pub frontier_goes_on : (g : ThermalUnit) (π : PriceLists) (f : Table) → IsThermalUnit g → IsPoint g.power0 (pos 0) f →
+    IsFrontier g π 0 0 f
 frontier_goes_on g π f unit point =
-    begin_at g π 0 0 g.power0 f point unit.power0 (λ k from until. absurd (omega (arith, until))) (λ d. let e = level_within g 0 d 0 (omega arith) in omega (arith, ints, e)) (λ d. cost_zero g π d)
+    begin_at g π 0 0 g.power0 f point unit.power0 (λ k from until. absurd (omega (arith, until)))
+    (λ d. let e = level_within g 0 d 0 (omega arith) in omega (arith, ints, e)) (λ d. cost_zero g π d)
 
-pub begin_started : (g : ThermalUnit) (π : PriceLists) (first : ℕ) (f : Table) → IsThermalUnit g → 1 ≤ first → IsPoint g.min_power (pos 0) f → IsFrontier g π first (first - 1) f
+pub begin_started : (g : ThermalUnit) (π : PriceLists) (first : ℕ) (f : Table) → IsThermalUnit g → 1 ≤ first →
+    IsPoint g.min_power (pos 0) f → IsFrontier g π first (first - 1) f
 begin_started g π zero f unit one point = absurd (omega (arith, one))
 begin_started g π (suc b) f unit one point =
     let z : b ≡ suc b - 1 = omega arith in
     subst (λ (t : ℕ). IsFrontier g π (suc b) t f) z (frontier_start g π b f unit point)
 
-pub frontier_from : (g : ThermalUnit) (π : PriceLists) (first : ℕ) (power : ℤ) (f : Table) → IsThermalUnit g → (1 ≤ first → power ≡ g.min_power) → (first ≡ 0 → power ≡ g.power0) →
+pub frontier_from : (g : ThermalUnit) (π : PriceLists) (first : ℕ) (power : ℤ) (f : Table) → IsThermalUnit g →
+    (1 ≤ first → power ≡ g.min_power) → (first ≡ 0 → power ≡ g.power0) →
     IsPoint power (pos 0) f → IsFrontier g π first (first - 1) f
 frontier_from g π zero power f unit start goes_on point =
     let z : 0 ≡ 0 - 1 = omega arith in
-    subst (λ (t : ℕ). IsFrontier g π 0 t f) z (frontier_goes_on g π f unit (subst (λ (x : ℤ). IsPoint x (pos 0) f) (goes_on refl) point))
+    subst (λ (t : ℕ). IsFrontier g π 0 t f) z
+    (frontier_goes_on g π f unit (subst (λ (x : ℤ). IsPoint x (pos 0) f) (goes_on refl) point))
 frontier_from g π (suc b) power f unit start goes_on point =
     begin_started g π (suc b) f unit (omega arith) (subst (λ (x : ℤ). IsPoint x (pos 0) f) (start (omega arith)) point)
 
 -- ---- one more period
 
-module _ (g : ThermalUnit) (π : PriceLists) (first k : ℕ) (c : Curve) (unit : IsThermalUnit g) (prices : ArePrices π) (curve : IsCostCurve g.points c) (law : EnvelopeIsCost)
+module _ (g : ThermalUnit) (π : PriceLists) (first k : ℕ) (c : Curve) (unit : IsThermalUnit g) (prices : ArePrices π)
+    (curve : IsCostCurve g.points c) (law : EnvelopeIsCost)
     (within : k < length π.energy) (from : first ≤ suc k) where
   abbrev starts : Bool
   starts = eqb first (suc k)
@@ -107,7 +132,8 @@ module _ (g : ThermalUnit) (π : PriceLists) (first k : ℕ) (c : Curve) (unit :
     pub reserve : reserve_in run (suc k) ≡ r
     pub cost : spell_cost g π first (suc k) run ≡ w +ℤ net_cost_at g π k x r
 
-  build : (f : Table) → IsFrontier g π first k f → (y w x r : ℤ) → value_of f y ≡ Some w → pos 0 ≤ℤ x → pos 0 ≤ℤ r → IsBuilt y w x r
+  build : (f : Table) → IsFrontier g π first k f → (y w x r : ℤ) → value_of f y ≡ Some w → pos 0 ≤ℤ x → pos 0 ≤ℤ r →
+      IsBuilt y w x r
   build f front y w x r there least kept =
       let reached = front.sound y w there in
       let n = natural x least in
@@ -120,7 +146,9 @@ module _ (g : ThermalUnit) (π : PriceLists) (first k : ℕ) (c : Curve) (unit :
       let power : power_in run (suc k) ≡ x = written_power old k n.0 m.0 in_power ∙ sym n.1 in
       let reserve : reserve_in run (suc k) ≡ r = written_reserve old k n.0 m.0 in_reserve ∙ sym m.1 in
       let more = cost_more g π first k run from in
-      let net : net_cost g π run (suc k) ≡ net_cost_at g π k x r = ap (λ (p : ℤ). net_cost_at g π k p (reserve_in run (suc k))) power ∙ ap (λ (r : ℤ). net_cost_at g π k x r) reserve in
+      let net : net_cost g π run (suc k) ≡ net_cost_at g π k x r = ap
+      (λ (p : ℤ). net_cost_at g π k p (reserve_in run (suc k))) power ∙
+      ap (λ (r : ℤ). net_cost_at g π k x r) reserve in
       let before = cost_alike g π first k old run same in
       record {
         run = run;
@@ -130,7 +158,8 @@ module _ (g : ThermalUnit) (π : PriceLists) (first k : ℕ) (c : Curve) (unit :
         before = level_same g first k old run same ∙ reached.ends;
         power = power;
         reserve = reserve;
-        cost = more ∙ ap (λ (z : ℤ). z +ℤ net_cost g π run (suc k)) (before ∙ reached.cost) ∙ ap (λ (z : ℤ). w +ℤ z) net;
+        cost = more ∙ ap (λ (z : ℤ). z +ℤ net_cost g π run (suc k)) (before ∙ reached.cost) ∙
+            ap (λ (z : ℤ). w +ℤ z) net;
       }
 
   -- ---- without a stop
@@ -153,7 +182,8 @@ module _ (g : ThermalUnit) (π : PriceLists) (first k : ℕ) (c : Curve) (unit :
           power_length = b.power_length;
           reserve_length = b.reserve_length;
           keeps = run_more g first k b.run b.keeps
-              (move_same g starts false m.before x m.reserve (level g first b.run k) (power_in b.run (suc k)) (reserve_in b.run (suc k)) (sym b.before) (sym b.power) (sym b.reserve) m.move);
+              (move_same g starts false m.before x m.reserve (level g first b.run k) (power_in b.run (suc k))
+              (reserve_in b.run (suc k)) (sym b.before) (sym b.power) (sym b.reserve) m.move);
           ends = level_power g first b.run k from ∙ b.power;
           cost = b.cost ∙ sym m.cost;
           idle = λ j is free.
@@ -162,11 +192,13 @@ module _ (g : ThermalUnit) (π : PriceLists) (first k : ℕ) (c : Curve) (unit :
               ap (λ (i : ℕ). reserve_in b.run (suc i)) z ∙ b.reserve ∙ m.idle here;
         }
 
-    more_complete : (d : Schedule) → IsRun g first (suc k) d → (v : ℤ) × (value_of h (level g first d (suc k)) ≡ Some v) × (v ≤ℤ spell_cost g π first (suc k) d)
+    more_complete : (d : Schedule) → IsRun g first (suc k) d →
+        (v : ℤ) × (value_of h (level g first d (suc k)) ≡ Some v) × (v ≤ℤ spell_cost g π first (suc k) d)
     more_complete d run =
         let b = front.complete d (run_less g first k d run) in
         let m = run k from (omega arith) in
-        let s = step_complete g π k c unit reserve_price.at_least curve starts false f h step (level g first d k) b.0 (power_in d (suc k)) (reserve_in d (suc k)) b.1 m (reserve_not_negative d k) in
+        let s = step_complete g π k c unit reserve_price.at_least curve starts false f h step (level g first d k) b.0
+        (power_in d (suc k)) (reserve_in d (suc k)) b.1 m (reserve_not_negative d k) in
         let more = cost_more g π first k d from in
         let low = b.2 in
         let least = s.2 in
@@ -186,9 +218,11 @@ module _ (g : ThermalUnit) (π : PriceLists) (first k : ℕ) (c : Curve) (unit :
     more_values x v is =
         let m = moved x v is in
         let old = front.values m.before m.old m.there in
-        let net = net_within g π k c unit reserve_price.at_least curve starts false m.before x m.reserve law energy_price reserve_price.at_most m.move m.not_negative in
+        let net = net_within g π k c unit reserve_price.at_least curve starts false m.before x m.reserve law
+        energy_price reserve_price.at_most m.move m.not_negative in
         let count : suc (suc k) - first ≡ suc (suc k - first) = omega (arith, from) in
-        subst (λ (z : ℤ). IsSpellWithin first (suc k) z) (sym m.cost) (within_more (suc k - first) (suc (suc k) - first) m.old (net_cost_at g π k x m.reserve) count old net)
+        subst (λ (z : ℤ). IsSpellWithin first (suc k) z) (sym m.cost)
+        (within_more (suc k - first) (suc (suc k) - first) m.old (net_cost_at g π k x m.reserve) count old net)
 
     pub frontier_more : IsFrontier g π first (suc k) h
     frontier_more = record { sound = more_sound; complete = more_complete; powers = more_powers; values = more_values }
@@ -202,40 +236,56 @@ module _ (g : ThermalUnit) (π : PriceLists) (first k : ℕ) (c : Curve) (unit :
   IsAnswer o = IsSpellAnswer g π periods first (suc k) o × IfSome o (IsSpellWithin first (suc k))
 
   -- by a step that knows of the stop
-  module _ (f h : Table) (front : IsFrontier g π first k f) (stops : Bool) (is_stop : stops ≡ ltb (suc k) periods) (step : IsStepped (step_at g π k starts stops) c f h) where
-    end_least : (d : Schedule) → IsDispatch g periods first (suc k) d → (v : ℤ) × (value_of h (power_in d (suc k)) ≡ Some v) × (v ≤ℤ spell_cost g π first (suc k) d)
+  module _ (f h : Table) (front : IsFrontier g π first k f) (stops : Bool) (is_stop : stops ≡ ltb (suc k) periods)
+      (step : IsStepped (step_at g π k starts stops) c f h) where
+    end_least : (d : Schedule) → IsDispatch g periods first (suc k) d →
+        (v : ℤ) × (value_of h (power_in d (suc k)) ≡ Some v) × (v ≤ℤ spell_cost g π first (suc k) d)
     end_least d dispatch =
         let run = run_from_dispatch g periods first unit.ramp_down.at_least d k from dispatch in
         let end = end_from_dispatch g periods first unit.ramp_down.at_least d k from dispatch in
         let b = front.complete d (run_less g first k d run) in
-        let whole = move_whole g starts periods k (level g first d k) (power_in d (suc k)) (reserve_in d (suc k)) (run k from (omega arith)) end in
-        let m = subst (λ (b : Bool). IsMove g starts b (level g first d k) (power_in d (suc k)) (reserve_in d (suc k))) (sym is_stop) whole in
-        let s = step_complete g π k c unit reserve_price.at_least curve starts stops f h step (level g first d k) b.0 (power_in d (suc k)) (reserve_in d (suc k)) b.1 m (reserve_not_negative d k) in
+        let whole = move_whole g starts periods k (level g first d k) (power_in d (suc k)) (reserve_in d (suc k))
+        (run k from (omega arith)) end in
+        let m = subst (λ (b : Bool). IsMove g starts b (level g first d k) (power_in d (suc k)) (reserve_in d (suc k)))
+        (sym is_stop) whole in
+        let s = step_complete g π k c unit reserve_price.at_least curve starts stops f h step (level g first d k) b.0
+        (power_in d (suc k)) (reserve_in d (suc k)) b.1 m (reserve_not_negative d k) in
         let more = cost_more g π first k d from in
         let low = b.2 in
         let least = s.2 in
         (s.0, s.1, omega (arith, ints, more, low, least))
 
-    end_reached : (x v : ℤ) → value_of h x ≡ Some v → ((d : Schedule) × IsDispatch g periods first (suc k) d × (spell_cost g π first (suc k) d ≡ v)) × IsSpellWithin first (suc k) v
+    end_reached : (x v : ℤ) → value_of h x ≡ Some v →
+        ((d : Schedule) × IsDispatch g periods first (suc k) d × (spell_cost g π first (suc k) d ≡ v)) × IsSpellWithin
+        first (suc k) v
     end_reached x v is =
         let m = step_sound g π k c unit reserve_price.at_least curve starts stops f h step x v is in
         let low = m.move.least in
         let bottom = unit.min_power.at_least in
         let b = build f front m.before m.old x m.reserve m.there (omega (arith, ints, low, bottom)) m.not_negative in
         let d = b.run in
-        let whole = move_same g starts stops m.before x m.reserve (level g first d k) (power_in d (suc k)) (reserve_in d (suc k)) (sym b.before) (sym b.power) (sym b.reserve) m.move in
-        let parts = move_parts g starts periods k (level g first d k) (power_in d (suc k)) (reserve_in d (suc k)) (subst (λ (b : Bool). IsMove g starts b (level g first d k) (power_in d (suc k)) (reserve_in d (suc k))) is_stop whole) in
-        let dispatch = dispatch_from_run g periods first unit.ramp_down.at_least d k from (run_more g first k d b.keeps parts.0) parts.1 in
+        let whole = move_same g starts stops m.before x m.reserve (level g first d k) (power_in d (suc k))
+        (reserve_in d (suc k)) (sym b.before) (sym b.power) (sym b.reserve) m.move in
+        let parts = move_parts g starts periods k (level g first d k) (power_in d (suc k)) (reserve_in d (suc k))
+        (subst (λ (b : Bool). IsMove g starts b (level g first d k) (power_in d (suc k)) (reserve_in d (suc k)))
+        is_stop whole) in
+        let dispatch = dispatch_from_run g periods first unit.ramp_down.at_least d k from
+        (run_more g first k d b.keeps parts.0) parts.1 in
         let old = front.values m.before m.old m.there in
-        let net = net_within g π k c unit reserve_price.at_least curve starts stops m.before x m.reserve law energy_price reserve_price.at_most m.move m.not_negative in
+        let net = net_within g π k c unit reserve_price.at_least curve starts stops m.before x m.reserve law
+        energy_price reserve_price.at_most m.move m.not_negative in
         let count : suc (suc k) - first ≡ suc (suc k - first) = omega (arith, from) in (
           (d, dispatch, b.cost ∙ sym m.cost),
-          subst (λ (z : ℤ). IsSpellWithin first (suc k) z) (sym m.cost) (within_more (suc k - first) (suc (suc k) - first) m.old (net_cost_at g π k x m.reserve) count old net),
+          subst (λ (z : ℤ). IsSpellWithin first (suc k) z) (sym m.cost)
+              (within_more (suc k - first) (suc (suc k) - first) m.old (net_cost_at g π k x m.reserve) count old net),
         )
 
     pub answer_of_step : (o : Option ℤ) → IsLeastCost h o → IsAnswer o
-    answer_of_step None empty =
-        (λ d dispatch. let e = end_least d dispatch in let none : value_of h (power_in d (suc k)) ≡ None = empty (power_in d (suc k)) in let some = e.1 in cc, tt)
+    answer_of_step None empty = (
+      λ d dispatch. let e = end_least d dispatch in let none : value_of h (power_in d (suc k)) ≡ None = empty
+          (power_in d (suc k)) in let some = e.1 in cc,
+      tt,
+    )
     answer_of_step (Some v) least =
         let r = end_reached least.0 v least.1.there in (
           record {
@@ -253,7 +303,8 @@ module _ (g : ThermalUnit) (π : PriceLists) (first k : ℕ) (c : Curve) (unit :
 
   -- by the frontier itself, at the powers that a stop allows
   module _ (h : Table) (front : IsFrontier g π first (suc k) h) where
-    front_least : (d : Schedule) → IsDispatch g periods first (suc k) d → (v : ℤ) × (value_of h (power_in d (suc k)) ≡ Some v) × (v ≤ℤ spell_cost g π first (suc k) d)
+    front_least : (d : Schedule) → IsDispatch g periods first (suc k) d →
+        (v : ℤ) × (value_of h (power_in d (suc k)) ≡ Some v) × (v ≤ℤ spell_cost g π first (suc k) d)
     front_least d dispatch =
         let run = run_from_dispatch g periods first unit.ramp_down.at_least d k from dispatch in
         let b = front.complete d run in
@@ -261,15 +312,20 @@ module _ (g : ThermalUnit) (π : PriceLists) (first k : ℕ) (c : Curve) (unit :
 
     -- where the horizon ends
     module _ (end : suc k ≡ periods) where
-      whole_reached : (x v : ℤ) → value_of h x ≡ Some v → (d : Schedule) × IsDispatch g periods first (suc k) d × (spell_cost g π first (suc k) d ≡ v)
+      whole_reached : (x v : ℤ) → value_of h x ≡ Some v →
+          (d : Schedule) × IsDispatch g periods first (suc k) d × (spell_cost g π first (suc k) d ≡ v)
       whole_reached x v is =
           let r = front.sound x v is in
-          let may : MayEnd g periods k (power_in r.run (suc k)) (reserve_in r.run (suc k)) = record { stop = λ low. absurd (omega (arith, low, end)); leave = λ low. absurd (omega (arith, low, end)) } in
+          let may : MayEnd g periods k (power_in r.run (suc k)) (reserve_in r.run (suc k)) = record
+          { stop = λ low. absurd (omega (arith, low, end)); leave = λ low. absurd (omega (arith, low, end)) } in
           (r.run, dispatch_from_run g periods first unit.ramp_down.at_least r.run k from r.keeps may, r.cost)
 
       pub answer_at_end : (o : Option ℤ) → IsLeastCost h o → IsAnswer o
-      answer_at_end None empty =
-          (λ d dispatch. let e = front_least d dispatch in let none : value_of h (power_in d (suc k)) ≡ None = empty (power_in d (suc k)) in let some = e.1 in cc, tt)
+      answer_at_end None empty = (
+        λ d dispatch. let e = front_least d dispatch in let none : value_of h (power_in d (suc k)) ≡ None = empty
+            (power_in d (suc k)) in let some = e.1 in cc,
+        tt,
+      )
       answer_at_end (Some v) least =
           let r = whole_reached least.0 v least.1.there in (
             record {
@@ -286,11 +342,13 @@ module _ (g : ThermalUnit) (π : PriceLists) (first k : ℕ) (c : Curve) (unit :
           )
 
     -- before the end, where a stop changes nothing but the range of the power
-    module _ (before : suc k < periods) (alike : (int_at π.reserve k ≡ pos 0) ⊎ (cap_at g starts true ≡ cap_at g starts false)) where
+    module _ (before : suc k < periods)
+        (alike : (int_at π.reserve k ≡ pos 0) ⊎ (cap_at g starts true ≡ cap_at g starts false)) where
       abbrev high : ℤ
       high = (step_at g π k starts true).most
 
-      alike_reached : (x v : ℤ) → value_of h x ≡ Some v → x ≤ℤ high → (d : Schedule) × IsDispatch g periods first (suc k) d × (spell_cost g π first (suc k) d ≡ v)
+      alike_reached : (x v : ℤ) → value_of h x ≡ Some v → x ≤ℤ high →
+          (d : Schedule) × IsDispatch g periods first (suc k) d × (spell_cost g π first (suc k) d ≡ v)
       alike_reached x v is top =
           let r = front.sound x v is in
           let d = r.run in
@@ -308,12 +366,15 @@ module _ (g : ThermalUnit) (π : PriceLists) (first k : ℕ) (c : Curve) (unit :
           } in
           (d, dispatch_from_run g periods first unit.ramp_down.at_least d k from r.keeps may, r.cost)
 
-      alike_inside : (d : Schedule) → IsDispatch g periods first (suc k) d → (g.min_power ≤ℤ power_in d (suc k)) × (power_in d (suc k) ≤ℤ high)
+      alike_inside : (d : Schedule) → IsDispatch g periods first (suc k) d →
+          (g.min_power ≤ℤ power_in d (suc k)) × (power_in d (suc k) ≤ℤ high)
       alike_inside d dispatch =
           let run = run_from_dispatch g periods first unit.ramp_down.at_least d k from dispatch in
           let end = end_from_dispatch g periods first unit.ramp_down.at_least d k from dispatch in
-          let whole = move_whole g starts periods k (level g first d k) (power_in d (suc k)) (reserve_in d (suc k)) (run k from (omega arith)) end in
-          let m = subst (λ (b : Bool). IsMove g starts b (level g first d k) (power_in d (suc k)) (reserve_in d (suc k))) (lt-ltb (suc k) periods before) whole in
+          let whole = move_whole g starts periods k (level g first d k) (power_in d (suc k)) (reserve_in d (suc k))
+          (run k from (omega arith)) end in
+          let m = subst (λ (b : Bool). IsMove g starts b (level g first d k) (power_in d (suc k))
+          (reserve_in d (suc k))) (lt-ltb (suc k) periods before) whole in
           let greatest = m.greatest in
           let kept = reserve_not_negative d k in
           (m.least, most_over g π k starts true (power_in d (suc k)) (omega (arith, ints, greatest, kept)) m.leave)

@@ -1,7 +1,12 @@
 -- A period of one spell behind a run of another.
-use Rattle.spell_run.proofs.Common.{◌≡◌, ℕ, suc, ◌<◌, ◌≤◌, ℤ, pos, ◌+ℤ◌, ◌≤ℤ◌, Bool, true, false, eqb, Some, length, refl, sym, ap, ◌∙◌, subst, arith, ints, eqb-true, Table, value_of, ThermalUnit, PriceLists, Schedule, IsThermalUnit, power_in, reserve_in, IsFrontier, IsDispatch, net_cost_at, net_cost, spell_cost, IsMove, level, IsRun}
+use Rattle.spell_run.proofs.Common.{◌≡◌, ℕ, suc, ◌<◌, ◌≤◌, ℤ, pos, ◌+ℤ◌, ◌≤ℤ◌, Bool, true, false, eqb, Some, length}
+use Rattle.spell_run.proofs.Common.{refl, sym, ap, ◌∙◌, subst, arith, ints, eqb-true, Table, value_of, ThermalUnit}
+use Rattle.spell_run.proofs.Common.{PriceLists, Schedule, IsThermalUnit, power_in, reserve_in, IsFrontier, IsDispatch}
+use Rattle.spell_run.proofs.Common.{net_cost_at, net_cost, spell_cost, IsMove, level, IsRun}
 use Rattle.spell_run.specs.Joins.{IsRunOn, IsDispatchOn, RunsGoOn, DispatchesGoOn, DispatchesAreRuns}
-use Rattle.spell_run.proofs.RunLaws.{level_power, level_same, move_same, run_alike, run_more, cost_alike, cost_more, with_period, written_power, written_reserve, written_alike, natural, reserve_not_negative, dispatch_from_run, run_from_dispatch, end_from_dispatch}
+use Rattle.spell_run.proofs.RunLaws.{level_power, level_same, move_same, run_alike, run_more, cost_alike, cost_more}
+use Rattle.spell_run.proofs.RunLaws.{with_period, written_power, written_reserve, written_alike, natural}
+use Rattle.spell_run.proofs.RunLaws.{reserve_not_negative, dispatch_from_run, run_from_dispatch, end_from_dispatch}
 use Rattle.spell_run.proofs.StepLaws.{under_cap, cap_over}
 
 power_not_negative : (d : Schedule) (k : ℕ) → pos 0 ≤ℤ power_in d (suc k)
@@ -25,7 +30,8 @@ no_start other k low = elim (eqb other (suc k)) as (λ b. eqb other (suc k) ≡ 
   | true ↦ λ e. let z = eqb-true other (suc k) e in absurd (omega (arith, z, low))
 ] refl
 
-module _ (g : ThermalUnit) (π : PriceLists) (first other k : ℕ) (f : Table) (d : Schedule) (v : ℤ) (from : first ≤ suc k) (low : other ≤ k) (within : k < length π.energy)
+module _ (g : ThermalUnit) (π : PriceLists) (first other k : ℕ) (f : Table) (d : Schedule) (v : ℤ)
+    (from : first ≤ suc k) (low : other ≤ k) (within : k < length π.energy)
     (front : IsFrontier g π other k f) (there : value_of f (level g first d k) ≡ Some v) where
   -- the run of f that ends where d does, with the power and the reserve of d in the period after it
   record IsJoined : Type 0 where
@@ -47,9 +53,11 @@ module _ (g : ThermalUnit) (π : PriceLists) (first other k : ℕ) (f : Table) (
       let in_power : k < length old.power = (let e = reached.power_length in omega (arith, e, within)) in
       let in_reserve : k < length old.reserve = (let e = reached.reserve_length in omega (arith, e, within)) in
       let power : power_in run (suc k) ≡ power_in d (suc k) = written_power old k n.0 m.0 in_power ∙ sym n.1 in
-      let reserve : reserve_in run (suc k) ≡ reserve_in d (suc k) = written_reserve old k n.0 m.0 in_reserve ∙ sym m.1 in
+      let reserve : reserve_in run (suc k) ≡ reserve_in d (suc k) = written_reserve old k n.0 m.0 in_reserve ∙
+      sym m.1 in
       let net : net_cost g π run (suc k) ≡ net_cost g π d (suc k) =
-      ap (λ (p : ℤ). net_cost_at g π k p (reserve_in run (suc k))) power ∙ ap (λ (r : ℤ). net_cost_at g π k (power_in d (suc k)) r) reserve in
+      ap (λ (p : ℤ). net_cost_at g π k p (reserve_in run (suc k))) power ∙
+      ap (λ (r : ℤ). net_cost_at g π k (power_in d (suc k)) r) reserve in
       let more = cost_more g π other k run (omega (arith, low)) in
       let before = cost_alike g π other k old run same in
       record {
@@ -58,15 +66,20 @@ module _ (g : ThermalUnit) (π : PriceLists) (first other k : ℕ) (f : Table) (
         before = level_same g other k old run same ∙ reached.ends;
         power = power;
         reserve = reserve;
-        cost = more ∙ ap (λ (z : ℤ). z +ℤ net_cost g π run (suc k)) (before ∙ reached.cost) ∙ ap (λ (z : ℤ). v +ℤ z) net;
+        cost = more ∙ ap (λ (z : ℤ). z +ℤ net_cost g π run (suc k)) (before ∙ reached.cost) ∙
+            ap (λ (z : ℤ). v +ℤ z) net;
       }
 
   joined_run : (j : IsJoined) → IsRun g first (suc k) d → IsRun g other (suc k) j.run
   joined_run j run =
-      let there = move_on g (eqb first (suc k)) (level g first d k) (power_in d (suc k)) (reserve_in d (suc k)) (run k from (omega arith)) in
-      let here = move_same g false false (level g first d k) (power_in d (suc k)) (reserve_in d (suc k)) (level g other j.run k) (power_in j.run (suc k)) (reserve_in j.run (suc k))
+      let there = move_on g (eqb first (suc k)) (level g first d k) (power_in d (suc k)) (reserve_in d (suc k))
+      (run k from (omega arith)) in
+      let here = move_same g false false (level g first d k) (power_in d (suc k)) (reserve_in d (suc k))
+      (level g other j.run k) (power_in j.run (suc k)) (reserve_in j.run (suc k))
       (sym j.before) (sym j.power) (sym j.reserve) there in
-      run_more g other k j.run j.keeps (subst (λ (b : Bool). IsMove g b false (level g other j.run k) (power_in j.run (suc k)) (reserve_in j.run (suc k))) (no_start other k low) here)
+      run_more g other k j.run j.keeps
+      (subst (λ (b : Bool). IsMove g b false (level g other j.run k) (power_in j.run (suc k))
+      (reserve_in j.run (suc k))) (no_start other k low) here)
 
   run_on : IsRun g first (suc k) d → IsRunOn g π first other k d v
   run_on run =
@@ -87,7 +100,8 @@ module _ (g : ThermalUnit) (π : PriceLists) (first other k : ℕ) (f : Table) (
       let reserve = j.reserve in
       record {
         dispatch = j.run;
-        keeps = dispatch_from_run g (length π.energy) other unit.ramp_down.at_least j.run k (omega (arith, low)) (joined_run j run)
+        keeps = dispatch_from_run g (length π.energy) other unit.ramp_down.at_least j.run k (omega (arith, low))
+            (joined_run j run)
             (record {
               stop = λ inside. (let s = end.stop inside in omega (arith, ints, s, power, reserve));
               leave = λ inside. (let s = end.leave inside in omega (arith, ints, s, power));
@@ -96,10 +110,13 @@ module _ (g : ThermalUnit) (π : PriceLists) (first other k : ℕ) (f : Table) (
       }
 
 pub runs_go_on : RunsGoOn
-runs_go_on g π first other k f d v from low within front there run = run_on g π first other k f d v from low within front there run
+runs_go_on g π first other k f d v from low within front there run = run_on g π first other k f d v from low within
+    front there run
 
 pub dispatches_go_on : DispatchesGoOn
-dispatches_go_on g π first other k f d v unit from low within front there dispatch = dispatch_on g π first other k f d v from low within front there unit dispatch
+dispatches_go_on g π first other k f d v unit from low within front there dispatch = dispatch_on g π first other k f d v
+    from low within front there unit dispatch
 
 pub dispatches_are_runs : DispatchesAreRuns
-dispatches_are_runs g periods first k d unit from dispatch = run_from_dispatch g periods first unit.ramp_down.at_least d k from dispatch
+dispatches_are_runs g periods first k d unit from dispatch = run_from_dispatch g periods first unit.ramp_down.at_least d
+    k from dispatch

@@ -1,6 +1,14 @@
--- The way back by what the steps noted: the power nearest to the turn is the cheapest power before, and the periods that
+-- The way back by what the steps noted: the power nearest to the turn is the cheapest power before, and the periods
+-- that
 -- are written for it are a way on.
-use Rattle.spell_run.proofs.Common.{◌≡◌, ℕ, zero, suc, ◌-◌, ◌<◌, ◌≤◌, ltb, eqb, ◌⊎◌, inl, inr, ℤ, pos, ◌+ℤ◌, ◌-ℤ◌, ◌≤ℤ◌, ◌<ℤ◌, Bool, false, length, Some, sym, ap, ◌∙◌, subst, arith, option_map, int_min, int_max, ints, clamps, by_lt_z, EnvelopeIsCost, reserve_term, IsPoint, IsLeast, IsLeastIn, Reaches, same_some, Table, value_of, Step, IsBottom, IsTurn, IsFirst, IsLast, ThermalUnit, PriceLists, Schedule, IsOutput, IsThermalUnit, ArePrices, int_at, Lowest, Note, IsOnFromTo, IsSameOutside, IsFrontier, IsWritten, IsChosen, IsWayFrom, best_reserve, IsNoted, IsEndNoted, IsSpellNoted, IsCheapest, IsBestDispatch, IsFirstDispatch, spell_cost, cap_at, step_at, level, IsStepped}
+use Rattle.spell_run.proofs.Common.{◌≡◌, ℕ, zero, suc, ◌-◌, ◌<◌, ◌≤◌, ltb, eqb, ◌⊎◌, inl, inr, ℤ, pos, ◌+ℤ◌, ◌-ℤ◌, ◌≤ℤ◌}
+use Rattle.spell_run.proofs.Common.{◌<ℤ◌, Bool, false, length, Some, sym, ap, ◌∙◌, subst, arith, option_map, int_min}
+use Rattle.spell_run.proofs.Common.{int_max, ints, clamps, by_lt_z, EnvelopeIsCost, reserve_term, IsPoint, IsLeast}
+use Rattle.spell_run.proofs.Common.{IsLeastIn, Reaches, same_some, Table, value_of, Step, IsBottom, IsTurn, IsFirst}
+use Rattle.spell_run.proofs.Common.{IsLast, ThermalUnit, PriceLists, Schedule, IsOutput, IsThermalUnit, ArePrices}
+use Rattle.spell_run.proofs.Common.{int_at, Lowest, Note, IsOnFromTo, IsSameOutside, IsFrontier, IsWritten, IsChosen}
+use Rattle.spell_run.proofs.Common.{IsWayFrom, best_reserve, IsNoted, IsEndNoted, IsSpellNoted, IsCheapest}
+use Rattle.spell_run.proofs.Common.{IsBestDispatch, IsFirstDispatch, spell_cost, cap_at, step_at, level, IsStepped}
 use Rattle.spell_run.specs.declared.way.Passed.{Passed}
 use Rattle.spell_run.proofs.ChoiceLaws.{stored, output_stored}
 use Rattle.spell_run.proofs.CutLaws.{between_powers}
@@ -15,7 +23,8 @@ use Rattle.spell_run.proofs.WayLaws.{stops_before, stops_last, onward_end, onwar
 
 -- ---- the power nearest to the turn
 
-module _ (k : Table) (m a b va vb : ℤ) (bottom : IsBottom k m) (first : value_of k a ≡ Some va) (last : value_of k b ≡ Some vb)
+module _ (k : Table) (m a b va vb : ℤ) (bottom : IsBottom k m) (first : value_of k a ≡ Some va)
+    (last : value_of k b ≡ Some vb)
     (from : (y w : ℤ) → value_of k y ≡ Some w → a ≤ℤ y) (to : (y w : ℤ) → value_of k y ≡ Some w → y ≤ℤ b)
     (lo hi y w : ℤ) (there : value_of k y ≡ Some w) (low : lo ≤ℤ y) (high : y ≤ℤ hi) where
   abbrev near : ℤ
@@ -45,34 +54,53 @@ module _ (k : Table) (m a b va vb : ℤ) (bottom : IsBottom k m) (first : value_
             (let za = from z u at in
             let zb = to z u at in
             by_lt_z z near
-            (λ (l : z <ℤ near). (let s = bottom.falls z near u near_value.0 at near_value.1 l (omega (arith, ints, clamps, l, za, above)) in omega (arith, ints, s)))
+            (λ (l : z <ℤ near). (let s = bottom.falls z near u near_value.0 at near_value.1 l
+            (omega (arith, ints, clamps, l, za, above)) in omega (arith, ints, s)))
             (λ (l : near ≤ℤ z). by_lt_z near m
-            (λ (s : near <ℤ m). (let e : near ≡ z = omega (arith, ints, clamps, l, s, zb, below) in let same = same_some (value_of k near) near_value.1 (ap (value_of k) e ∙ at) in omega (arith, ints, same)))
+            (λ (s : near <ℤ m). (let e : near ≡ z = omega (arith, ints, clamps, l, s, zb, below) in let same = same_some
+            (value_of k near) near_value.1 (ap (value_of k) e ∙ at) in omega (arith, ints, same)))
             (λ (s : m ≤ℤ near). bottom.rises near z near_value.0 u near_value.1 at s l)));
         first = λ z at above below.
             (let za = from z near_value.0 at in
             by_lt_z z near
-            (λ (l : z <ℤ near). (let s = bottom.falls z near near_value.0 near_value.0 at near_value.1 l (omega (arith, ints, clamps, l, za, above)) in absurd (omega (arith, ints, s))))
+            (λ (l : z <ℤ near). (let s = bottom.falls z near near_value.0 near_value.0 at near_value.1 l
+            (omega (arith, ints, clamps, l, za, above)) in absurd (omega (arith, ints, s))))
             (λ (l : near ≤ℤ z). l));
       }
 
 -- the same of the function before the kink
-pub cheapest_near : (s : Step) (f : Table) (m a b va x y w z : ℤ) → IsTurn s f m → IsFirst f a va → IsLast f b → value_of f y ≡ Some w → Reaches s.ramp_up s.ramp_down x y →
+pub cheapest_near : (s : Step) (f : Table) (m a b va x y w z : ℤ) → IsTurn s f m → IsFirst f a va → IsLast f b →
+    value_of f y ≡ Some w → Reaches s.ramp_up s.ramp_down x y →
     z ≡ int_max (int_max (x -ℤ s.ramp_up) a) (int_min (int_min (x +ℤ s.ramp_down) b) m) → IsCheapest s f x z
 cheapest_near s f m a b va x y w z turn first last there reach is =
     let kinked = turn.0 in
     let term : ℤ → ℤ = reserve_term s.reserve_price s.cap s.ramp_up in
-    let raised : (p v : ℤ) → value_of f p ≡ Some v → value_of kinked p ≡ Some (v +ℤ term p) = λ p v at. turn.1 p ∙ ap (option_map (λ v. v +ℤ term p)) at in
-    let lowered : (p v : ℤ) → value_of kinked p ≡ Some v → (u : ℤ) × (value_of f p ≡ Some u) × (v ≡ u +ℤ term p) = λ p v at. added term p v (value_of f p) (value_of kinked p) (turn.1 p) at in
-    let below : (p v : ℤ) → value_of kinked p ≡ Some v → a ≤ℤ p = λ p v at. (let u = lowered p v at in first.first p u.0 u.1) in
-    let above : (p v : ℤ) → value_of kinked p ≡ Some v → p ≤ℤ b = λ p v at. (let u = lowered p v at in last.last p u.0 u.1) in
-    let value = near_value kinked m a b (va +ℤ term a) (last.value +ℤ term b) turn.2 (raised a va first.there) (raised b last.value last.there) below above (x -ℤ s.ramp_up) (x +ℤ s.ramp_down) y (w +ℤ term y) (raised y w there) reach.0 reach.1 in
-    let least = near_least kinked m a b (va +ℤ term a) (last.value +ℤ term b) turn.2 (raised a va first.there) (raised b last.value last.there) below above (x -ℤ s.ramp_up) (x +ℤ s.ramp_down) y (w +ℤ term y) (raised y w there) reach.0 reach.1 in
-    record { kinked = kinked; is_kinked = turn.1; value = value.0; least = subst (λ (z : ℤ). IsLeastIn (x -ℤ s.ramp_up) (x +ℤ s.ramp_down) kinked value.0 z) (sym is) least }
+    let raised : (p v : ℤ) → value_of f p ≡ Some v → value_of kinked p ≡ Some (v +ℤ term p) = λ p v at. turn.1 p ∙
+    ap (option_map (λ v. v +ℤ term p)) at in
+    let lowered : (p v : ℤ) → value_of kinked p ≡ Some v →
+    (u : ℤ) × (value_of f p ≡ Some u) × (v ≡ u +ℤ term p) = λ p v at.
+    added term p v (value_of f p) (value_of kinked p) (turn.1 p) at in
+    let below : (p v : ℤ) → value_of kinked p ≡ Some v →
+    a ≤ℤ p = λ p v at. (let u = lowered p v at in first.first p u.0 u.1) in
+    let above : (p v : ℤ) → value_of kinked p ≡ Some v →
+    p ≤ℤ b = λ p v at. (let u = lowered p v at in last.last p u.0 u.1) in
+    let value = near_value kinked m a b (va +ℤ term a) (last.value +ℤ term b) turn.2 (raised a va first.there)
+    (raised b last.value last.there) below above (x -ℤ s.ramp_up) (x +ℤ s.ramp_down) y (w +ℤ term y)
+    (raised y w there) reach.0 reach.1 in
+    let least = near_least kinked m a b (va +ℤ term a) (last.value +ℤ term b) turn.2 (raised a va first.there)
+    (raised b last.value last.there) below above (x -ℤ s.ramp_up) (x +ℤ s.ramp_down) y (w +ℤ term y)
+    (raised y w there) reach.0 reach.1 in
+    record {
+      kinked = kinked;
+      is_kinked = turn.1;
+      value = value.0;
+      least = subst (λ (z : ℤ). IsLeastIn (x -ℤ s.ramp_up) (x +ℤ s.ramp_down) kinked value.0 z) (sym is) least;
+    }
 
 -- ---- frontiers of the same periods have the same values
 
-module _ (g : ThermalUnit) (π : PriceLists) (first t : ℕ) (f h : Table) (front : IsFrontier g π first t f) (other : IsFrontier g π first t h) where
+module _ (g : ThermalUnit) (π : PriceLists) (first t : ℕ) (f h : Table) (front : IsFrontier g π first t f)
+    (other : IsFrontier g π first t h) where
   pub frontier_same : (x v : ℤ) → value_of f x ≡ Some v → value_of h x ≡ Some v
   frontier_same x v there =
       let r = front.sound x v there in
@@ -88,7 +116,8 @@ module _ (g : ThermalUnit) (π : PriceLists) (first t : ℕ) (f h : Table) (fron
       let same : c.0 ≡ v = omega (arith, ints, e, a, b, i, j) in
       at ∙ ap Some same
 
-  pub way_moved : (last : ℕ) (d : Schedule) (y c : ℤ) → IsWayFrom g π first t last f d y c → IsWayFrom g π first t last h d y c
+  pub way_moved : (last : ℕ) (d : Schedule) (y c : ℤ) → IsWayFrom g π first t last f d y c →
+      IsWayFrom g π first t last h d y c
   way_moved last d y c way = record {
     before = way.before;
     there = frontier_same y way.before way.there;
@@ -101,7 +130,8 @@ module _ (g : ThermalUnit) (π : PriceLists) (first t : ℕ) (f h : Table) (fron
 
 -- ---- a period that is written by a note
 
-module _ (g : ThermalUnit) (π : PriceLists) (first k : ℕ) (unit : IsThermalUnit g) (prices : ArePrices π) (within : k < length π.energy) (from : first ≤ suc k) where
+module _ (g : ThermalUnit) (π : PriceLists) (first k : ℕ) (unit : IsThermalUnit g) (prices : ArePrices π)
+    (within : k < length π.energy) (from : first ≤ suc k) where
   abbrev starts : Bool
   starts = eqb first (suc k)
 
@@ -110,9 +140,11 @@ module _ (g : ThermalUnit) (π : PriceLists) (first k : ℕ) (unit : IsThermalUn
 
   module _ (stops : Bool) (n : Note) (after : Table) (noted : IsNoted g π first k stops n after) where
     -- some power before leads to a power that is reached
-    pub reached : (x v : ℤ) → value_of after x ≡ Some v → (y w : ℤ) × (value_of noted.before y ≡ Some w) × Reaches g.ramp_up g.ramp_down x y
+    pub reached : (x v : ℤ) → value_of after x ≡ Some v →
+        (y w : ℤ) × (value_of noted.before y ≡ Some w) × Reaches g.ramp_up g.ramp_down x y
     reached x v there =
-        let m = step_sound g π k noted.curve unit price noted.is_curve starts stops noted.before after noted.stepped x v there in
+        let m = step_sound g π k noted.curve unit price noted.is_curve starts stops noted.before after noted.stepped x v
+        there in
         let up = m.move.ramp_up in
         let down = m.move.ramp_down in
         let kept = m.not_negative in
@@ -121,17 +153,22 @@ module _ (g : ThermalUnit) (π : PriceLists) (first k : ℕ) (unit : IsThermalUn
     -- and the power is one of the step
     pub power_range : (x v : ℤ) → value_of after x ≡ Some v → IsOutput x × (x ≤ℤ cap_at g starts stops)
     power_range x v there =
-        let m = step_sound g π k noted.curve unit price noted.is_curve starts stops noted.before after noted.stepped x v there in
+        let m = step_sound g π k noted.curve unit price noted.is_curve starts stops noted.before after noted.stepped x v
+        there in
         let low = m.move.least in
         let greatest = m.move.greatest in
         let kept = m.not_negative in
         let cap = cap_out g starts stops unit in
         let bottom = unit.min_power.at_least in
-        let top = cap.at_most in
-        (record { at_least = omega (arith, ints, low, bottom); at_most = omega (arith, ints, greatest, kept, top) }, omega (arith, ints, greatest, kept))
+        let top = cap.at_most in (
+          record { at_least = omega (arith, ints, low, bottom); at_most = omega (arith, ints, greatest, kept, top) },
+          omega (arith, ints, greatest, kept),
+        )
 
-    module _ (s : Step) (begins : Bool) (is : s ≡ step_at g π k begins stops) (same : begins ≡ starts) (x v : ℤ) (there : value_of after x ≡ Some v) (y : ℤ)
-        (near : (f : Table) (va p w : ℤ) → IsTurn s f n.turn → IsFirst f n.first va → IsLast f n.last → value_of f p ≡ Some w → Reaches s.ramp_up s.ramp_down x p → IsCheapest s f x y) where
+    module _ (s : Step) (begins : Bool) (is : s ≡ step_at g π k begins stops) (same : begins ≡ starts) (x v : ℤ)
+        (there : value_of after x ≡ Some v) (y : ℤ)
+        (near : (f : Table) (va p w : ℤ) → IsTurn s f n.turn → IsFirst f n.first va → IsLast f n.last →
+        value_of f p ≡ Some w → Reaches s.ramp_up s.ramp_down x p → IsCheapest s f x y) where
       step_is : s ≡ step_at g π k starts stops
       step_is = is ∙ ap (λ (b : Bool). step_at g π k b stops) same
 
@@ -139,13 +176,15 @@ module _ (g : ThermalUnit) (π : PriceLists) (first k : ℕ) (unit : IsThermalUn
       cheapest_noted =
           let r = reached x v there in
           subst (λ (s : Step). IsCheapest s noted.before x y) step_is
-          (near noted.before noted.value r.0 r.1 (subst (λ (s : Step). IsTurn s noted.before n.turn) (sym step_is) noted.turn) noted.begins noted.ends r.2
+          (near noted.before noted.value r.0 r.1
+          (subst (λ (s : Step). IsTurn s noted.before n.turn) (sym step_is) noted.turn) noted.begins noted.ends r.2
           (subst (λ (s : Step). Reaches s.ramp_up s.ramp_down x r.0) (sym step_is) r.3))
 
       pub before_out : IsOutput y
       before_out =
           let c = cheapest_noted in
-          let u = added (reserve_term (int_at π.reserve k) (cap_at g starts stops) g.ramp_up) y c.value (value_of noted.before y) (value_of c.kinked y) (c.is_kinked y) c.least.there in
+          let u = added (reserve_term (int_at π.reserve k) (cap_at g starts stops) g.ramp_up) y c.value
+          (value_of noted.before y) (value_of c.kinked y) (c.is_kinked y) c.least.there in
           noted.frontier.powers y u.0 u.1
 
       pub before_rise : (x -ℤ y) ≤ℤ s.ramp_up
@@ -161,7 +200,8 @@ module _ (g : ThermalUnit) (π : PriceLists) (first k : ℕ) (unit : IsThermalUn
           let e = ap (λ (s : Step). s.cap) step_is in
           omega (arith, ints, r, e)
 
-      pub chosen_noted : (d d' : Schedule) → IsWritten k (stored x) (best_reserve s.reserve_price s.cap s.ramp_up (stored y) (stored x)) d d' →
+      pub chosen_noted : (d d' : Schedule) → IsWritten k (stored x)
+          (best_reserve s.reserve_price s.cap s.ramp_up (stored y) (stored x)) d d' →
           IsChosen (step_at g π k starts stops) noted.before k x (stored y) d d'
       chosen_noted d d' written =
           let c = cheapest_noted in
@@ -172,43 +212,60 @@ module _ (g : ThermalUnit) (π : PriceLists) (first k : ℕ) (unit : IsThermalUn
             is_kinked = c.is_kinked;
             value = c.value;
             least = subst (λ (z : ℤ). IsLeastIn (x -ℤ g.ramp_up) (x +ℤ g.ramp_down) c.kinked c.value z) (sym e) c.least;
-            written = subst (λ (s : Step). IsWritten k x (best_reserve s.reserve_price s.cap s.ramp_up (stored y) x) d d') step_is
-                (subst (λ (z : ℤ). IsWritten k z (best_reserve s.reserve_price s.cap s.ramp_up (stored y) z) d d') o written);
+            written = subst (λ (s : Step). IsWritten k x (best_reserve s.reserve_price s.cap s.ramp_up (stored y) x) d
+                d') step_is
+                (subst (λ (z : ℤ). IsWritten k z (best_reserve s.reserve_price s.cap s.ramp_up (stored y) z) d d') o
+                written);
           }
 
   module _ (last : ℕ) (d d' : Schedule) (x y cost : ℤ) (n : Note) (after : Table) where
     -- the last one
     pub way_end : (noted : IsNoted g π first k (ltb (suc k) (length π.energy)) n after) → IsLeast after cost x →
-        IsChosen (step_at g π k starts (ltb (suc k) (length π.energy))) noted.before k x y d d' → IsWayFrom g π first k (suc k) noted.before d' y cost
+        IsChosen (step_at g π k starts (ltb (suc k) (length π.energy))) noted.before k x y d d' →
+        IsWayFrom g π first k (suc k) noted.before d' y cost
     way_end noted least chosen =
         let e = sym (stops_last (length π.energy) k) in
-        let step = subst (λ (b : Bool). IsStepped (step_at g π k starts b) noted.curve noted.before after) e noted.stepped in
+        let step = subst (λ (b : Bool). IsStepped (step_at g π k starts b) noted.curve noted.before after) e
+        noted.stepped in
         let choice = subst (λ (b : Bool). IsChosen (step_at g π k starts b) noted.before k x y d d') e chosen in
-        let onward = onward_end g π first k noted.curve unit prices noted.is_curve within from noted.before after noted.frontier step d x cost least in
-        way_of_choice g π first k noted.curve unit prices noted.is_curve within from (suc k) (omega arith) noted.before after noted.frontier step d d' x y cost onward choice
+        let onward = onward_end g π first k noted.curve unit prices noted.is_curve within from noted.before after
+        noted.frontier step d x cost least in
+        way_of_choice g π first k noted.curve unit prices noted.is_curve within from (suc k) (omega arith) noted.before
+        after noted.frontier step d d' x y cost onward choice
 
     -- an earlier one
-    pub way_more : (noted : IsNoted g π first k false n after) → EnvelopeIsCost → suc k < last → (f : Table) → IsFrontier g π first (suc k) f → IsWayFrom g π first (suc k) last f d x cost →
-        IsChosen (step_at g π k starts false) noted.before k x y d d' → IsWayFrom g π first k last noted.before d' y cost
+    pub way_more : (noted : IsNoted g π first k false n after) → EnvelopeIsCost → suc k < last → (f : Table) →
+        IsFrontier g π first (suc k) f → IsWayFrom g π first (suc k) last f d x cost →
+        IsChosen (step_at g π k starts false) noted.before k x y d d' →
+        IsWayFrom g π first k last noted.before d' y cost
     way_more noted law low f front way chosen =
         let e = sym (stops_before last (length π.energy) k low) in
-        let step = subst (λ (b : Bool). IsStepped (step_at g π k starts b) noted.curve noted.before after) e noted.stepped in
+        let step = subst (λ (b : Bool). IsStepped (step_at g π k starts b) noted.curve noted.before after) e
+        noted.stepped in
         let choice = subst (λ (b : Bool). IsChosen (step_at g π k starts b) noted.before k x y d d') e chosen in
-        let next = frontier_more g π first k noted.curve unit prices noted.is_curve law within from noted.before after noted.frontier noted.stepped in
+        let next = frontier_more g π first k noted.curve unit prices noted.is_curve law within from noted.before after
+        noted.frontier noted.stepped in
         let here = way_moved g π first (suc k) f after front next last d x cost way in
-        let onward = onward_more g π first k noted.curve unit prices noted.is_curve within from last low noted.before after noted.frontier d x cost here in
-        way_of_choice g π first k noted.curve unit prices noted.is_curve within from last (omega (arith, low)) noted.before after noted.frontier step d d' x y cost onward choice
+        let onward = onward_more g π first k noted.curve unit prices noted.is_curve within from last low noted.before
+        after noted.frontier d x cost here in
+        way_of_choice g π first k noted.curve unit prices noted.is_curve within from last (omega (arith, low))
+        noted.before after noted.frontier step d d' x y cost onward choice
 
     -- the power that it is written for is one after the step
-    pub there_after : (noted : IsNoted g π first k false n after) → EnvelopeIsCost → (f : Table) → IsFrontier g π first (suc k) f → IsWayFrom g π first (suc k) last f d x cost → (v : ℤ) × (value_of after x ≡ Some v)
+    pub there_after : (noted : IsNoted g π first k false n after) → EnvelopeIsCost → (f : Table) →
+        IsFrontier g π first (suc k) f → IsWayFrom g π first (suc k) last f d x cost →
+        (v : ℤ) × (value_of after x ≡ Some v)
     there_after noted law f front way =
-        let next = frontier_more g π first k noted.curve unit prices noted.is_curve law within from noted.before after noted.frontier noted.stepped in
+        let next = frontier_more g π first k noted.curve unit prices noted.is_curve law within from noted.before after
+        noted.frontier noted.stepped in
         (way.before, frontier_same g π first (suc k) f after front next x way.before way.there)
 
 -- ---- the whole spell
 
-module _ (g : ThermalUnit) (π : PriceLists) (first b : ℕ) (base : ℤ) (f : Table) (front : IsFrontier g π first b f) (none : (k : ℕ) → first ≤ suc k → suc k ≤ b → ⊥)
-    (at : (d : Schedule) → level g first d b ≡ base) (free : (d : Schedule) → spell_cost g π first b d ≡ pos 0) (some : Schedule) where
+module _ (g : ThermalUnit) (π : PriceLists) (first b : ℕ) (base : ℤ) (f : Table) (front : IsFrontier g π first b f)
+    (none : (k : ℕ) → first ≤ suc k → suc k ≤ b → ⊥)
+    (at : (d : Schedule) → level g first d b ≡ base) (free : (d : Schedule) →
+    spell_cost g π first b d ≡ pos 0) (some : Schedule) where
   -- before a spell its frontier is one power
   pub point_from_frontier : IsPoint base (pos 0) f
   point_from_frontier =
@@ -221,7 +278,8 @@ module _ (g : ThermalUnit) (π : PriceLists) (first b : ℕ) (base : ℤ) (f : T
         only = λ x v is. (let r = front.sound x v is in sym r.ends ∙ at r.run);
       }
 
-module _ (g : ThermalUnit) (π : PriceLists) (last : ℕ) (f : Table) (d : Schedule) (y c : ℤ) (unit : IsThermalUnit g) (prices : ArePrices π) (end : last ≤ length π.energy) where
+module _ (g : ThermalUnit) (π : PriceLists) (last : ℕ) (f : Table) (d : Schedule) (y c : ℤ) (unit : IsThermalUnit g)
+    (prices : ArePrices π) (end : last ≤ length π.energy) where
   -- a way on from before the spell is the first dispatch of least cost
   pub whole_way : (first : ℕ) → IsFrontier g π first (first - 1) f → IsWayFrom g π first (first - 1) last f d y c →
       IsBestDispatch g π (length π.energy) first last d c × IsFirstDispatch g π (length π.energy) first last d c
@@ -230,7 +288,8 @@ module _ (g : ThermalUnit) (π : PriceLists) (last : ℕ) (f : Table) (d : Sched
       let here = subst (λ (t : ℕ). IsFrontier g π 0 t f) z front in
       let on = subst (λ (t : ℕ). IsWayFrom g π 0 t last f d y c) z way in
       let none : (k : ℕ) → 0 ≤ suc k → suc k ≤ 0 → ⊥ = λ k from until. absurd (omega (arith, until)) in
-      let at : (d : Schedule) → level g 0 d 0 ≡ g.power0 = λ d. (let e = level_within g 0 d 0 (omega arith) in omega (arith, ints, e)) in
+      let at : (d : Schedule) → level g 0 d 0 ≡ g.power0 = λ d.
+      (let e = level_within g 0 d 0 (omega arith) in omega (arith, ints, e)) in
       let point = point_from_frontier g π 0 0 g.power0 f here none at (cost_zero g π) d in
       let starts : (k : ℕ) → 0 ≤ suc k → 0 ≤ k = λ k from. omega arith in
       of_way g π 0 0 last g.power0 f d y c unit prices point none starts (at d) (cost_zero g π d) end on
@@ -256,7 +315,8 @@ pub record IsWrittenFrom (g : ThermalUnit) (π : PriceLists) (first k last : ℕ
   pub on : IsOnFromTo (suc k) last d
   pub outside : IsSameOutside (suc k) last old d
 
-pub outside_more : (k last : ℕ) (old d d' : Schedule) → suc k ≤ last → IsSameOutside (suc k) (suc k) d d' → IsSameOutside (suc (suc k)) last old d → IsSameOutside (suc k) last old d'
+pub outside_more : (k last : ℕ) (old d d' : Schedule) → suc k ≤ last → IsSameOutside (suc k) (suc k) d d' →
+    IsSameOutside (suc (suc k)) last old d → IsSameOutside (suc k) last old d'
 outside_more k last old d d' low here rest = record {
   on_length = here.on_length ∙ rest.on_length;
   power_length = here.power_length ∙ rest.power_length;
@@ -274,98 +334,144 @@ outside_more k last old d d' low here rest = record {
     far j (inl h) = inl (omega (arith, h))
     far j (inr h) = inr h
 
-module _ (g : ThermalUnit) (π : PriceLists) (first k last : ℕ) (unit : IsThermalUnit g) (prices : ArePrices π) (until : last ≤ length π.energy) (from : first ≤ suc k) (old d d' : Schedule) (x y : ℤ) where
+module _ (g : ThermalUnit) (π : PriceLists) (first k last : ℕ) (unit : IsThermalUnit g) (prices : ArePrices π)
+    (until : last ≤ length π.energy) (from : first ≤ suc k) (old d d' : Schedule) (x y : ℤ) where
   -- the last period
-  pub written_end : (n : Note) (after : Table) (noted : IsNoted g π first k (ltb (suc k) (length π.energy)) n after) (cost : ℤ) → suc k ≡ last → IsLeast after cost x → IsSameOutside (suc k) (suc k) d d' →
-      IsChosen (step_at g π k (eqb first (suc k)) (ltb (suc k) (length π.energy))) noted.before k x y d d' → IsWrittenFrom g π first k last d d' y
+  pub written_end : (n : Note) (after : Table) (noted : IsNoted g π first k (ltb (suc k) (length π.energy)) n after)
+      (cost : ℤ) → suc k ≡ last → IsLeast after cost x → IsSameOutside (suc k) (suc k) d d' →
+      IsChosen (step_at g π k (eqb first (suc k)) (ltb (suc k) (length π.energy))) noted.before k x y d d' →
+      IsWrittenFrom g π first k last d d' y
   written_end n after noted cost is least outside chosen =
       let within : k < length π.energy = omega (arith, is, until) in
       record {
         before = noted.before;
         frontier = noted.frontier;
         cost = cost;
-        way = subst (λ (l : ℕ). IsWayFrom g π first k l noted.before d' y cost) is (way_end g π first k unit prices within from (suc k) d d' x y cost n after noted least chosen);
+        way = subst (λ (l : ℕ). IsWayFrom g π first k l noted.before d' y cost) is
+            (way_end g π first k unit prices within from (suc k) d d' x y cost n after noted least chosen);
         on = on_last k last x _ d d' is chosen.written;
         outside = subst (λ (l : ℕ). IsSameOutside (suc k) l d d') is outside;
       }
 
   -- an earlier one
-  pub written_more : (n : Note) (after : Table) (noted : IsNoted g π first k false n after) → EnvelopeIsCost → suc k < last → IsWrittenFrom g π first (suc k) last old d x →
-      IsChosen (step_at g π k (eqb first (suc k)) false) noted.before k x y d d' → IsWrittenFrom g π first k last old d' y
+  pub written_more : (n : Note) (after : Table) (noted : IsNoted g π first k false n after) → EnvelopeIsCost →
+      suc k < last → IsWrittenFrom g π first (suc k) last old d x →
+      IsChosen (step_at g π k (eqb first (suc k)) false) noted.before k x y d d' →
+      IsWrittenFrom g π first k last old d' y
   written_more n after noted law low rest chosen =
       let within : k < length π.energy = omega (arith, low, until) in
       record {
         before = noted.before;
         frontier = noted.frontier;
         cost = rest.cost;
-        way = way_more g π first k unit prices within from last d d' x y rest.cost n after noted law low rest.before rest.frontier rest.way chosen;
+        way = way_more g π first k unit prices within from last d d' x y rest.cost n after noted law low rest.before
+            rest.frontier rest.way chosen;
         on = on_more k last x _ d d' chosen.written rest.on;
         outside = outside_more k last old d d' (omega (arith, low)) chosen.written.outside rest.outside;
       }
 
 -- ---- the end that is noted
 
-pub end_of_noted : (g : ThermalUnit) (π : PriceLists) (first last : ℕ) (passed : ℕ → Passed) (e : Lowest) → 1 ≤ last → IsSpellNoted g π first last passed → (passed (last - 1)).end ≡ Some e →
-    (after : Table) × IsNoted g π first (last - 1) (ltb last (length π.energy)) (record { turn = e.turn; first = (passed (last - 1)).note.first; last = (passed (last - 1)).note.last }) after × IsLeast after e.value e.at
+pub end_of_noted : (g : ThermalUnit) (π : PriceLists) (first last : ℕ) (passed : ℕ → Passed) (e : Lowest) → 1 ≤ last →
+    IsSpellNoted g π first last passed → (passed (last - 1)).end ≡ Some e →
+    (after : Table) × IsNoted g π first (last - 1) (ltb last (length π.energy))
+    (record { turn = e.turn; first = (passed (last - 1)).note.first; last = (passed (last - 1)).note.last }) after ×
+    IsLeast after e.value e.at
 end_of_noted g π first last passed e one noted is =
     let same : noted.lowest ≡ e = (let a = noted.is_end in cc) in
     let here = subst (IsEndNoted g π first (last - 1) (passed (last - 1)).note) same noted.end in
-    let z : suc (last - 1) ≡ last = omega (arith, one) in
-    (here.0, subst (λ (l : ℕ). IsNoted g π first (last - 1) (ltb l (length π.energy)) (record { turn = e.turn; first = (passed (last - 1)).note.first; last = (passed (last - 1)).note.last }) here.0) z here.1, here.2)
+    let z : suc (last - 1) ≡ last = omega (arith, one) in (
+      here.0,
+      subst (λ (l : ℕ). IsNoted g π first (last - 1) (ltb l (length π.energy))
+          (record {
+            turn = e.turn;
+            first = (passed (last - 1)).note.first;
+            last = (passed (last - 1)).note.last;
+          }) here.0)
+          z here.1,
+      here.2,
+    )
 
 -- ---- the numbers as they are stored
 
-module _ (g : ThermalUnit) (π : PriceLists) (first k : ℕ) (stops : Bool) (n : Note) (after : Table) (noted : IsNoted g π first k stops n after) where
+module _ (g : ThermalUnit) (π : PriceLists) (first k : ℕ) (stops : Bool) (n : Note) (after : Table)
+    (noted : IsNoted g π first k stops n after) where
   turn_out : IsOutput n.turn
   turn_out =
       let t = noted.turn in
-      let u = added (reserve_term (int_at π.reserve k) (cap_at g (eqb first (suc k)) stops) g.ramp_up) n.turn t.2.value (value_of noted.before n.turn) (value_of t.0 n.turn) (t.1 n.turn) t.2.there in
+      let u = added (reserve_term (int_at π.reserve k) (cap_at g (eqb first (suc k)) stops) g.ramp_up) n.turn t.2.value
+      (value_of noted.before n.turn) (value_of t.0 n.turn) (t.1 n.turn) t.2.there in
       noted.frontier.powers n.turn u.0 u.1
 
-  pub noted_stored : IsNoted g π first k stops (record { turn = stored n.turn; first = stored n.first; last = stored n.last }) after
+  pub noted_stored : IsNoted g π first k stops
+      (record { turn = stored n.turn; first = stored n.first; last = stored n.last }) after
   noted_stored =
       let a = output_stored n.turn turn_out in
       let b = output_stored n.first (noted.frontier.powers n.first noted.value noted.begins.there) in
       let c = output_stored n.last (noted.frontier.powers n.last noted.ends.value noted.ends.there) in
-      subst (λ (z : ℤ). IsNoted g π first k stops (record { turn = z; first = stored n.first; last = stored n.last }) after) (sym a)
-      (subst (λ (z : ℤ). IsNoted g π first k stops (record { turn = n.turn; first = z; last = stored n.last }) after) (sym b)
-      (subst (λ (z : ℤ). IsNoted g π first k stops (record { turn = n.turn; first = n.first; last = z }) after) (sym c) noted))
+      subst (λ (z : ℤ). IsNoted g π first k stops (record { turn = z; first = stored n.first; last = stored n.last })
+      after) (sym a)
+      (subst (λ (z : ℤ). IsNoted g π first k stops (record { turn = n.turn; first = z; last = stored n.last }) after)
+      (sym b)
+      (subst (λ (z : ℤ). IsNoted g π first k stops (record { turn = n.turn; first = n.first; last = z }) after) (sym c)
+      noted))
 
-module _ (g : ThermalUnit) (π : PriceLists) (first last : ℕ) (unit : IsThermalUnit g) (prices : ArePrices π) (order : first ≤ last) (one : 1 ≤ last) (until : last ≤ length π.energy)
-    (passed : ℕ → Passed) (e : Lowest) (noted : IsSpellNoted g π first last passed) (is : (passed (last - 1)).end ≡ Some e) where
+module _ (g : ThermalUnit) (π : PriceLists) (first last : ℕ) (unit : IsThermalUnit g) (prices : ArePrices π)
+    (order : first ≤ last) (one : 1 ≤ last) (until : last ≤ length π.energy)
+    (passed : ℕ → Passed) (e : Lowest) (noted : IsSpellNoted g π first last passed)
+    (is : (passed (last - 1)).end ≡ Some e) where
   abbrev end_note : Note
-  end_note = record { turn = stored e.turn; first = stored (passed (last - 1)).note.first; last = stored (passed (last - 1)).note.last }
+  end_note = record {
+    turn = stored e.turn;
+    first = stored (passed (last - 1)).note.first;
+    last = stored (passed (last - 1)).note.last;
+  }
 
   -- what is noted of the end, as it is handed on
-  pub end_stored : (after : Table) × IsNoted g π first (last - 1) (ltb last (length π.energy)) end_note after × IsLeast after e.value (stored e.at)
+  pub end_stored : (after : Table) × IsNoted g π first (last - 1) (ltb last (length π.energy)) end_note after × IsLeast
+      after e.value (stored e.at)
   end_stored =
       let here = end_of_noted g π first last passed e one noted is in
       let within : last - 1 < length π.energy = omega (arith, one, until) in
       let from : first ≤ suc (last - 1) = omega (arith, one, order) in
-      let out = (power_range g π first (last - 1) unit prices within from (ltb last (length π.energy)) (record { turn = e.turn; first = (passed (last - 1)).note.first; last = (passed (last - 1)).note.last }) here.0 here.1 e.at e.value here.2.there).0 in (
+      let out = (power_range g π first (last - 1) unit prices within from (ltb last (length π.energy))
+      (record { turn = e.turn; first = (passed (last - 1)).note.first; last = (passed (last - 1)).note.last })
+      here.0 here.1 e.at e.value here.2.there).0 in (
         here.0,
-        noted_stored g π first (last - 1) (ltb last (length π.energy)) (record { turn = e.turn; first = (passed (last - 1)).note.first; last = (passed (last - 1)).note.last }) here.0 here.1,
+        noted_stored g π first (last - 1) (ltb last (length π.energy))
+            (record { turn = e.turn; first = (passed (last - 1)).note.first; last = (passed (last - 1)).note.last })
+            here.0 here.1,
         subst (λ (z : ℤ). IsLeast here.0 e.value z) (sym (output_stored e.at out)) here.2,
       )
 
   -- and the last period is written for it
-  pub written_last : (d d' : Schedule) (y : ℤ) → ((after : Table) (v : ℤ) (n : IsNoted g π first (last - 1) (ltb last (length π.energy)) end_note after) → value_of after (stored e.at) ≡ Some v →
-      IsChosen (step_at g π (last - 1) (eqb first (suc (last - 1))) (ltb last (length π.energy))) n.before (last - 1) (stored e.at) y d d') → IsWrittenFrom g π first (last - 1) last d d' y
+  pub written_last : (d d' : Schedule) (y : ℤ) →
+      ((after : Table) (v : ℤ) (n : IsNoted g π first (last - 1) (ltb last (length π.energy)) end_note after) →
+      value_of after (stored e.at) ≡ Some v →
+      IsChosen (step_at g π (last - 1) (eqb first (suc (last - 1))) (ltb last (length π.energy))) n.before (last - 1)
+      (stored e.at) y d d') → IsWrittenFrom g π first (last - 1) last d d' y
   written_last d d' y chosen =
       let here = end_stored in
       let z : suc (last - 1) ≡ last = omega (arith, one) in
       let from : first ≤ suc (last - 1) = omega (arith, one, order) in
-      let P : ℕ → Type 0 = λ l. (noted : IsNoted g π first (last - 1) (ltb l (length π.energy)) end_note here.0) → IsChosen (step_at g π (last - 1) (eqb first (suc (last - 1))) (ltb l (length π.energy))) noted.before (last - 1) (stored e.at) y d d' →
+      let P : ℕ → Type 0 = λ l. (noted : IsNoted g π first (last - 1) (ltb l (length π.energy)) end_note here.0) →
+      IsChosen (step_at g π (last - 1) (eqb first (suc (last - 1))) (ltb l (length π.energy))) noted.before
+      (last - 1) (stored e.at) y d d' →
       IsSameOutside (suc (last - 1)) (suc (last - 1)) d d' → IsWrittenFrom g π first (last - 1) last d d' y in
       let choice = chosen here.0 e.value here.1 here.2.there in
-      subst P z (λ noted choice outside. written_end g π first (last - 1) last unit prices until from d d d' (stored e.at) y end_note here.0 noted e.value z here.2 outside choice) here.1 choice choice.written.outside
+      subst P z (λ noted choice outside. written_end g π first (last - 1) last unit prices until from d d d'
+      (stored e.at) y end_note here.0 noted e.value z here.2 outside choice) here.1 choice choice.written.outside
 
 -- ---- all periods
 
-module _ (g : ThermalUnit) (π : PriceLists) (last : ℕ) (unit : IsThermalUnit g) (prices : ArePrices π) (until : last ≤ length π.energy) (old d : Schedule) (y : ℤ) where
+module _ (g : ThermalUnit) (π : PriceLists) (last : ℕ) (unit : IsThermalUnit g) (prices : ArePrices π)
+    (until : last ≤ length π.energy) (old d : Schedule) (y : ℤ) where
   pub written_best : (first : ℕ) → IsWrittenFrom g π first (first - 1) last old d y →
-      (c : ℤ) × IsBestDispatch g π (length π.energy) first last d c × IsFirstDispatch g π (length π.energy) first last d c
-  written_best first from = (let w = whole_way g π last from.before d y from.cost unit prices until first from.frontier from.way in (from.cost, w.0, w.1))
+      (c : ℤ) × IsBestDispatch g π (length π.energy) first last d c × IsFirstDispatch g π (length π.energy) first last d
+      c
+  written_best first from =
+      (let w = whole_way g π last from.before d y from.cost unit prices until first from.frontier from.way in
+      (from.cost, w.0, w.1))
 
   pub written_on : (first : ℕ) → IsWrittenFrom g π first (first - 1) last old d y → IsOnFromTo first last d
   written_on first from k low high = from.on k (omega (arith, low)) high

@@ -1,5 +1,7 @@
 -- The best reserve for given powers.
-use Rattle.spell_run.proofs.Common.{◌≡◌, ℤ, pos, ◌+ℤ◌, ◌-ℤ◌, ◌*ℤ◌, ◌≤ℤ◌, Bool, true, false, cond, sym, ap, ◌∙◌, subst, arith, ◌<ℤ◌, int_lt, int_min, ints, clamps, by_lt_z, zero-*ℤ, *ℤ-one, mul-sub, mul-mono_of, most_reserve, best_reserve, IsReserve, ReserveIsAKink, ReserveIsBest}
+use Rattle.spell_run.proofs.Common.{◌≡◌, ℤ, pos, ◌+ℤ◌, ◌-ℤ◌, ◌*ℤ◌, ◌≤ℤ◌, Bool, true, false, cond, sym, ap, ◌∙◌, subst}
+use Rattle.spell_run.proofs.Common.{arith, ◌<ℤ◌, int_lt, int_min, ints, clamps, by_lt_z, zero-*ℤ, *ℤ-one, mul-sub}
+use Rattle.spell_run.proofs.Common.{mul-mono_of, most_reserve, best_reserve, IsReserve, ReserveIsAKink, ReserveIsBest}
 
 pub positive_is : (a : ℤ) → pos 0 <ℤ a → int_lt (pos 0) a ≡ true
 positive_is a h = grind (arith, ints)
@@ -22,7 +24,8 @@ pub best_where_paid : (price cap up q p : ℤ) → pos 0 <ℤ price → best_res
 best_where_paid price cap up q p h = ap (λ (b : Bool). cond b (most_reserve cap up q p) (pos 0)) (positive_is price h)
 
 pub best_where_not_paid : (price cap up q p : ℤ) → price ≤ℤ pos 0 → best_reserve price cap up q p ≡ pos 0
-best_where_not_paid price cap up q p h = ap (λ (b : Bool). cond b (most_reserve cap up q p) (pos 0)) (not_positive_is price h)
+best_where_not_paid price cap up q p h = ap (λ (b : Bool). cond b (most_reserve cap up q p) (pos 0))
+    (not_positive_is price h)
 
 -- where some reserve may be kept, so may the best
 pub best_may : (price cap up q p : ℤ) → p ≤ℤ cap → (p -ℤ q) ≤ℤ up → IsReserve cap up q p (best_reserve price cap up q p)
@@ -30,13 +33,18 @@ best_may price cap up q p h i =
     by_lt_z (pos 0) price
     (λ paid.
     subst (λ (r : ℤ). IsReserve cap up q p r) (sym (best_where_paid price cap up q p paid))
-    (record { least = omega (arith, ints, clamps); greatest = omega (arith, ints, clamps); ramp = omega (arith, ints, clamps) }))
+    (record {
+      least = omega (arith, ints, clamps);
+      greatest = omega (arith, ints, clamps);
+      ramp = omega (arith, ints, clamps);
+    }))
     (λ unpaid.
     subst (λ (r : ℤ). IsReserve cap up q p r) (sym (best_where_not_paid price cap up q p unpaid))
     (record { least = omega (arith, ints); greatest = omega (arith, ints); ramp = omega (arith, ints) }))
 
 -- it earns what the most reserve earns
-pub best_earns : (price cap up q p : ℤ) → pos 0 ≤ℤ price → price *ℤ best_reserve price cap up q p ≡ price *ℤ most_reserve cap up q p
+pub best_earns : (price cap up q p : ℤ) → pos 0 ≤ℤ price →
+    price *ℤ best_reserve price cap up q p ≡ price *ℤ most_reserve cap up q p
 best_earns price cap up q p h =
     by_lt_z (pos 0) price
     (λ paid. ap (λ (r : ℤ). price *ℤ r) (best_where_paid price cap up q p paid))
@@ -51,7 +59,8 @@ best_earns price cap up q p h =
 pub at_most_most : (cap up q p r : ℤ) → IsReserve cap up q p r → r ≤ℤ most_reserve cap up q p
 at_most_most cap up q p r h = let g = h.greatest in let i = h.ramp in omega (arith, ints, clamps, g, i)
 
-pub best_is_best : (price cap up q p r : ℤ) → pos 0 ≤ℤ price → IsReserve cap up q p r → (price *ℤ r) ≤ℤ (price *ℤ best_reserve price cap up q p)
+pub best_is_best : (price cap up q p r : ℤ) → pos 0 ≤ℤ price → IsReserve cap up q p r →
+    (price *ℤ r) ≤ℤ (price *ℤ best_reserve price cap up q p)
 best_is_best price cap up q p r h may =
     let m = mul-mono_of price r (most_reserve cap up q p) h (at_most_most cap up q p r may) in
     let e = best_earns price cap up q p h in
@@ -86,4 +95,5 @@ reserve_is_best price cap up q p r h may =
     only : pos 0 <ℤ price → price *ℤ r ≡ price *ℤ best_reserve price cap up q p → r ≡ best_reserve price cap up q p
     only paid same =
         product_tells price r (best_reserve price cap up q p) paid
-        (let e = best_where_paid price cap up q p paid in let m = at_most_most cap up q p r may in omega (arith, ints, e, m)) same
+        (let e = best_where_paid price cap up q p paid in let m = at_most_most cap up q p r may in omega
+        (arith, ints, e, m)) same

@@ -1,5 +1,11 @@
 -- Runs of periods: one more period, the periods that two schedules share, and dispatches.
-use Rattle.spell_run.proofs.Common.{◌≡◌, ℕ, zero, suc, ◌+◌, ◌-◌, ◌<◌, ◌≤◌, ◌≢◌, inl, inr, ℤ, pos, negsuc, ◌+ℤ◌, ◌-ℤ◌, ◌≤ℤ◌, Bool, true, false, cond, eqb, ltb, List, [], length, get_or, set, replicate, refl, sym, ap, ◌∙◌, subst, arith, get_or-set_same, get_or-set_other, ints, clamps, cases_lt, lt-ltb, le-ltb, ltb-true, eqb-true, eq-eqb, get_or-replicate, get_or_past, length-replicate, ThermalUnit, PriceLists, Schedule, power_in, reserve_in, cap_of, sum_below, sum_below-same, over_min, IsDispatch, net_cost_at, net_cost, spell_cost, cap_at, IsMove, level, IsRun}
+use Rattle.spell_run.proofs.Common.{◌≡◌, ℕ, zero, suc, ◌+◌, ◌-◌, ◌<◌, ◌≤◌, ◌≢◌, inl, inr, ℤ, pos, negsuc, ◌+ℤ◌, ◌-ℤ◌}
+use Rattle.spell_run.proofs.Common.{◌≤ℤ◌, Bool, true, false, cond, eqb, ltb, List, [], length, get_or, set, replicate}
+use Rattle.spell_run.proofs.Common.{refl, sym, ap, ◌∙◌, subst, arith, get_or-set_same, get_or-set_other, ints, clamps}
+use Rattle.spell_run.proofs.Common.{cases_lt, lt-ltb, le-ltb, ltb-true, eqb-true, eq-eqb, get_or-replicate, get_or_past}
+use Rattle.spell_run.proofs.Common.{length-replicate, ThermalUnit, PriceLists, Schedule, power_in, reserve_in, cap_of}
+use Rattle.spell_run.proofs.Common.{sum_below, sum_below-same, over_min, IsDispatch, net_cost_at, net_cost, spell_cost}
+use Rattle.spell_run.proofs.Common.{cap_at, IsMove, level, IsRun}
 use Rattle.spell_run.proofs.StepLaws.{under_cap, cap_over}
 
 -- ---- the power before a period
@@ -8,11 +14,13 @@ pub level_before : (g : ThermalUnit) (first : ℕ) (d : Schedule) (t : ℕ) → 
 unfolding level
 level_before g first d t h = ap (λ (b : Bool). cond b g.min_power (over_min g d t +ℤ g.min_power)) (lt-ltb t first h)
 
-pub level_within : (g : ThermalUnit) (first : ℕ) (d : Schedule) (t : ℕ) → first ≤ t → level g first d t ≡ over_min g d t +ℤ g.min_power
+pub level_within : (g : ThermalUnit) (first : ℕ) (d : Schedule) (t : ℕ) → first ≤ t →
+    level g first d t ≡ over_min g d t +ℤ g.min_power
 unfolding level
 level_within g first d t h = ap (λ (b : Bool). cond b g.min_power (over_min g d t +ℤ g.min_power)) (le-ltb t first h)
 
-pub level_power : (g : ThermalUnit) (first : ℕ) (d : Schedule) (k : ℕ) → first ≤ suc k → level g first d (suc k) ≡ power_in d (suc k)
+pub level_power : (g : ThermalUnit) (first : ℕ) (d : Schedule) (k : ℕ) → first ≤ suc k →
+    level g first d (suc k) ≡ power_in d (suc k)
 level_power g first d k h = let e = level_within g first d (suc k) h in omega (arith, ints, e)
 
 -- ---- schedules that share periods
@@ -22,32 +30,40 @@ pub record IsAlike (t : ℕ) (d d' : Schedule) : Type 0 where
   pub power : (j : ℕ) → j < t → power_in d' (suc j) ≡ power_in d (suc j)
   pub reserve : (j : ℕ) → j < t → reserve_in d' (suc j) ≡ reserve_in d (suc j)
 
-pub move_same : (g : ThermalUnit) (starts stops : Bool) (q p r q' p' r' : ℤ) → q ≡ q' → p ≡ p' → r ≡ r' → IsMove g starts stops q p r → IsMove g starts stops q' p' r'
+pub move_same : (g : ThermalUnit) (starts stops : Bool) (q p r q' p' r' : ℤ) → q ≡ q' → p ≡ p' → r ≡ r' →
+    IsMove g starts stops q p r → IsMove g starts stops q' p' r'
 move_same g starts stops q p r q' p' r' e f i m =
-    subst (λ (z : ℤ). IsMove g starts stops q' p' z) i (subst (λ (y : ℤ). IsMove g starts stops q' y r) f (subst (λ (x : ℤ). IsMove g starts stops x p r) e m))
+    subst (λ (z : ℤ). IsMove g starts stops q' p' z) i
+    (subst (λ (y : ℤ). IsMove g starts stops q' y r) f (subst (λ (x : ℤ). IsMove g starts stops x p r) e m))
 
 module _ (g : ThermalUnit) (first : ℕ) where
   level_alike : (t : ℕ) (d d' : Schedule) → IsAlike t d d' → (j : ℕ) → j ≤ t → level g first d' j ≡ level g first d j
   unfolding level
   level_alike t d d' same zero low = refl
   level_alike t d d' same (suc j) low =
-      ap (λ (p : ℤ). cond (ltb (suc j) first) g.min_power ((p -ℤ g.min_power) +ℤ g.min_power)) (same.power j (omega (arith, low)))
+      ap (λ (p : ℤ). cond (ltb (suc j) first) g.min_power ((p -ℤ g.min_power) +ℤ g.min_power))
+      (same.power j (omega (arith, low)))
 
   pub level_same : (t : ℕ) (d d' : Schedule) → IsAlike t d d' → level g first d' t ≡ level g first d t
   level_same t d d' same = level_alike t d d' same t (omega arith)
 
   pub run_alike : (t : ℕ) (d d' : Schedule) → IsAlike t d d' → IsRun g first t d → IsRun g first t d'
   run_alike t d d' same run k from until =
-      move_same g (eqb first (suc k)) false (level g first d k) (power_in d (suc k)) (reserve_in d (suc k)) (level g first d' k) (power_in d' (suc k)) (reserve_in d' (suc k))
-      (sym (level_alike t d d' same k (omega (arith, until)))) (sym (same.power k (omega (arith, until)))) (sym (same.reserve k (omega (arith, until)))) (run k from until)
+      move_same g (eqb first (suc k)) false (level g first d k) (power_in d (suc k)) (reserve_in d (suc k))
+      (level g first d' k) (power_in d' (suc k)) (reserve_in d' (suc k))
+      (sym (level_alike t d d' same k (omega (arith, until)))) (sym (same.power k (omega (arith, until))))
+      (sym (same.reserve k (omega (arith, until)))) (run k from until)
 
   -- one more period
-  pub run_more : (k : ℕ) (d : Schedule) → IsRun g first k d → IsMove g (eqb first (suc k)) false (level g first d k) (power_in d (suc k)) (reserve_in d (suc k)) → IsRun g first (suc k) d
+  pub run_more : (k : ℕ) (d : Schedule) → IsRun g first k d →
+      IsMove g (eqb first (suc k)) false (level g first d k) (power_in d (suc k)) (reserve_in d (suc k)) →
+      IsRun g first (suc k) d
   run_more k d run move j from until = elim (cases_lt j k) [
     | inl less ↦ run j from (omega (arith, less))
     | inr most ↦
         let z : k ≡ j = omega (arith, most, until) in
-        subst (λ (i : ℕ). IsMove g (eqb first (suc i)) false (level g first d i) (power_in d (suc i)) (reserve_in d (suc i))) z move
+        subst (λ (i : ℕ). IsMove g (eqb first (suc i)) false (level g first d i) (power_in d (suc i))
+        (reserve_in d (suc i))) z move
   ]
 
   pub run_less : (k : ℕ) (d : Schedule) → IsRun g first (suc k) d → IsRun g first k d
@@ -67,11 +83,13 @@ module _ (g : ThermalUnit) (π : PriceLists) (first : ℕ) where
       sum_below-same (suc t - first) (λ k. net_cost g π d' (first + k)) (λ k. net_cost g π d (first + k))
       (λ k low. net_alike t d d' same (first + k) (omega (arith, low)))
 
-  pub cost_more : (k : ℕ) (d : Schedule) → first ≤ suc k → spell_cost g π first (suc k) d ≡ spell_cost g π first k d +ℤ net_cost g π d (suc k)
+  pub cost_more : (k : ℕ) (d : Schedule) → first ≤ suc k →
+      spell_cost g π first (suc k) d ≡ spell_cost g π first k d +ℤ net_cost g π d (suc k)
   cost_more k d from =
       let count : suc (suc k) - first ≡ suc (suc k - first) = omega (arith, from) in
       let last : first + (suc k - first) ≡ suc k = omega (arith, from) in
-      ap (λ (n : ℕ). sum_below n (λ k. net_cost g π d (first + k))) count ∙ ap (λ (t : ℕ). sum_below (suc k - first) (λ k. net_cost g π d (first + k)) +ℤ net_cost g π d t) last
+      ap (λ (n : ℕ). sum_below n (λ k. net_cost g π d (first + k))) count ∙
+      ap (λ (t : ℕ). sum_below (suc k - first) (λ k. net_cost g π d (first + k)) +ℤ net_cost g π d t) last
 
   pub cost_none : (t : ℕ) (d : Schedule) → t < first → spell_cost g π first t d ≡ pos 0
   cost_none t d h =
@@ -109,7 +127,8 @@ blank periods = record { on = []; power = replicate periods 0; reserve = replica
 blank_at : (periods k : ℕ) → get_or (zeros periods) k 0 ≡ 0
 blank_at periods k = elim (cases_lt k periods) [
   | inl low ↦ get_or-replicate periods k 0 0 low
-  | inr past ↦ get_or_past (zeros periods) k 0 (let e : length (zeros periods) ≡ periods = length-replicate periods 0 in omega (arith, past, e))
+  | inr past ↦ get_or_past (zeros periods) k 0
+      (let e : length (zeros periods) ≡ periods = length-replicate periods 0 in omega (arith, past, e))
 ]
 
 pub blank_reserve : (periods k : ℕ) → reserve_in (blank periods) (suc k) ≡ pos 0
@@ -130,7 +149,8 @@ pub record MayEnd (g : ThermalUnit) (periods k : ℕ) (p r : ℤ) : Type 0 where
   pub leave : suc k < periods → (p -ℤ g.min_power) ≤ℤ g.ramp_down
 
 -- a move with its stop is one without and a right end
-pub move_parts : (g : ThermalUnit) (starts : Bool) (periods k : ℕ) (q p r : ℤ) → IsMove g starts (ltb (suc k) periods) q p r → IsMove g starts false q p r × MayEnd g periods k p r
+pub move_parts : (g : ThermalUnit) (starts : Bool) (periods k : ℕ) (q p r : ℤ) →
+    IsMove g starts (ltb (suc k) periods) q p r → IsMove g starts false q p r × MayEnd g periods k p r
 move_parts g starts periods k q p r move =
     let stops = ltb (suc k) periods in
     let u = under_cap g starts stops (p +ℤ r) move.greatest in (
@@ -141,16 +161,22 @@ move_parts g starts periods k q p r move =
         ramp_down = move.ramp_down;
         leave = λ e. cc;
       },
-      record { stop = λ low. u.stop (lt-ltb (suc k) periods low); leave = λ low. move.leave (lt-ltb (suc k) periods low) },
+      record {
+        stop = λ low. u.stop (lt-ltb (suc k) periods low);
+        leave = λ low.
+            move.leave (lt-ltb (suc k) periods low);
+      },
     )
 
-pub move_whole : (g : ThermalUnit) (starts : Bool) (periods k : ℕ) (q p r : ℤ) → IsMove g starts false q p r → MayEnd g periods k p r → IsMove g starts (ltb (suc k) periods) q p r
+pub move_whole : (g : ThermalUnit) (starts : Bool) (periods k : ℕ) (q p r : ℤ) → IsMove g starts false q p r →
+    MayEnd g periods k p r → IsMove g starts (ltb (suc k) periods) q p r
 move_whole g starts periods k q p r move end =
     let stops = ltb (suc k) periods in
     let u = under_cap g starts false (p +ℤ r) move.greatest in
     record {
       least = move.least;
-      greatest = cap_over g starts stops (p +ℤ r) (record { most = u.most; start = u.start; stop = λ e. end.stop (ltb-true (suc k) periods e) });
+      greatest = cap_over g starts stops (p +ℤ r)
+          (record { most = u.most; start = u.start; stop = λ e. end.stop (ltb-true (suc k) periods e) });
       ramp_up = move.ramp_up;
       ramp_down = move.ramp_down;
       leave = λ e. end.leave (ltb-true (suc k) periods e);
@@ -158,55 +184,62 @@ move_whole g starts periods k q p r move end =
 
 module _ (g : ThermalUnit) (periods first : ℕ) (ramp_down : pos 0 ≤ℤ g.ramp_down) (d : Schedule) where
   module _ (k : ℕ) (from : first ≤ suc k) where
-    module _ (run : IsRun g first (suc k) d) (end : MayEnd g periods k (power_in d (suc k)) (reserve_in d (suc k))) where
-      least_at : (t : ℕ) → 1 ≤ t → first ≤ t → t ≤ suc k → pos 0 ≤ℤ over_min g d t
-      least_at zero one low until = absurd (omega (arith, one))
-      least_at (suc j) one low until = let m = (run j low until).least in omega (arith, ints, m)
+    module _ (run : IsRun g first (suc k) d) (end : MayEnd g periods k (power_in d (suc k)) (reserve_in d (suc k)))
+      where
+        least_at : (t : ℕ) → 1 ≤ t → first ≤ t → t ≤ suc k → pos 0 ≤ℤ over_min g d t
+        least_at zero one low until = absurd (omega (arith, one))
+        least_at (suc j) one low until = let m = (run j low until).least in omega (arith, ints, m)
 
-      greatest_at : (t : ℕ) → 1 ≤ t → first ≤ t → t ≤ suc k → (over_min g d t +ℤ reserve_in d t) ≤ℤ cap_of g false false
-      greatest_at zero one low until = absurd (omega (arith, one))
-      greatest_at (suc j) one low until =
-          let m = (run j low until).greatest in
-          let u = (under_cap g (eqb first (suc j)) false (power_in d (suc j) +ℤ reserve_in d (suc j)) m).most in
-          omega (arith, ints, clamps, u)
+        greatest_at : (t : ℕ) → 1 ≤ t → first ≤ t → t ≤ suc k →
+            (over_min g d t +ℤ reserve_in d t) ≤ℤ cap_of g false false
+        greatest_at zero one low until = absurd (omega (arith, one))
+        greatest_at (suc j) one low until =
+            let m = (run j low until).greatest in
+            let u = (under_cap g (eqb first (suc j)) false (power_in d (suc j) +ℤ reserve_in d (suc j)) m).most in
+            omega (arith, ints, clamps, u)
 
-      start_at : (t : ℕ) → t ≡ first → 1 ≤ t → (over_min g d t +ℤ reserve_in d t) ≤ℤ cap_of g true false
-      start_at zero is one = absurd (omega (arith, one))
-      start_at (suc j) is one =
-          let m = (run j (omega (arith, is)) (omega (arith, is, from))).greatest in
-          let u = under_cap g (eqb first (suc j)) false (power_in d (suc j) +ℤ reserve_in d (suc j)) m in
-          let a = u.most in
-          let b = u.start (eq-eqb first (suc j) (sym is)) in
-          omega (arith, ints, clamps, a, b)
-
-      enter_at : (t : ℕ) → t ≡ first → 1 ≤ t → (over_min g d t +ℤ reserve_in d t) ≤ℤ g.ramp_up
-      enter_at zero is one = absurd (omega (arith, one))
-      enter_at (suc j) is one =
-          let m = (run j (omega (arith, is)) (omega (arith, is, from))).ramp_up in
-          let l = level_before g first d j (omega (arith, is)) in
-          omega (arith, ints, m, l)
-
-      pub dispatch_from_run : IsDispatch g periods first (suc k) d
-      dispatch_from_run = record {
-        least = least_at;
-        greatest = greatest_at;
-        start = start_at first refl;
-        enter = enter_at first refl;
-        ramp_up = λ j low until. (let m = (run j (omega (arith, low)) until).ramp_up in let l = level_within g first d j low in omega (arith, ints, m, l));
-        ramp_down = λ j low until. (let m = (run j (omega (arith, low)) until).ramp_down in let l = level_within g first d j low in omega (arith, ints, m, l));
-        stop = λ inside one. (
-            let m = (run k from (omega arith)).greatest in
-            let a = (under_cap g (eqb first (suc k)) false (power_in d (suc k) +ℤ reserve_in d (suc k)) m).most in
-            let b = end.stop inside in
+        start_at : (t : ℕ) → t ≡ first → 1 ≤ t → (over_min g d t +ℤ reserve_in d t) ≤ℤ cap_of g true false
+        start_at zero is one = absurd (omega (arith, one))
+        start_at (suc j) is one =
+            let m = (run j (omega (arith, is)) (omega (arith, is, from))).greatest in
+            let u = under_cap g (eqb first (suc j)) false (power_in d (suc j) +ℤ reserve_in d (suc j)) m in
+            let a = u.most in
+            let b = u.start (eq-eqb first (suc j) (sym is)) in
             omega (arith, ints, clamps, a, b)
-            );
-        leave = λ inside. end.leave inside;
-        stop_at_once = λ inside none. absurd (omega (arith, none));
-        leave_at_once = λ inside none. absurd (omega (arith, none));
-      }
+
+        enter_at : (t : ℕ) → t ≡ first → 1 ≤ t → (over_min g d t +ℤ reserve_in d t) ≤ℤ g.ramp_up
+        enter_at zero is one = absurd (omega (arith, one))
+        enter_at (suc j) is one =
+            let m = (run j (omega (arith, is)) (omega (arith, is, from))).ramp_up in
+            let l = level_before g first d j (omega (arith, is)) in
+            omega (arith, ints, m, l)
+
+        pub dispatch_from_run : IsDispatch g periods first (suc k) d
+        dispatch_from_run = record {
+          least = least_at;
+          greatest = greatest_at;
+          start = start_at first refl;
+          enter = enter_at first refl;
+          ramp_up = λ j low until.
+              (let m = (run j (omega (arith, low)) until).ramp_up in let l = level_within g first d j low in omega
+              (arith, ints, m, l));
+          ramp_down = λ j low until.
+              (let m = (run j (omega (arith, low)) until).ramp_down in let l = level_within g first d j low in omega
+              (arith, ints, m, l));
+          stop = λ inside one. (
+              let m = (run k from (omega arith)).greatest in
+              let a = (under_cap g (eqb first (suc k)) false (power_in d (suc k) +ℤ reserve_in d (suc k)) m).most in
+              let b = end.stop inside in
+              omega (arith, ints, clamps, a, b)
+              );
+          leave = λ inside. end.leave inside;
+          stop_at_once = λ inside none. absurd (omega (arith, none));
+          leave_at_once = λ inside none. absurd (omega (arith, none));
+        }
 
     module _ (h : IsDispatch g periods first (suc k) d) where
-      cap_here : (j : ℕ) → first ≤ suc j → suc j ≤ suc k → (power_in d (suc j) +ℤ reserve_in d (suc j)) ≤ℤ cap_at g (eqb first (suc j)) false
+      cap_here : (j : ℕ) → first ≤ suc j → suc j ≤ suc k →
+          (power_in d (suc j) +ℤ reserve_in d (suc j)) ≤ℤ cap_at g (eqb first (suc j)) false
       cap_here j low until =
           let a = h.greatest (suc j) (omega arith) low until in
           cap_over g (eqb first (suc j)) false (power_in d (suc j) +ℤ reserve_in d (suc j))
@@ -214,13 +247,15 @@ module _ (g : ThermalUnit) (periods first : ℕ) (ramp_down : pos 0 ≤ℤ g.ram
             most = omega (arith, ints, clamps, a);
             start = λ e. (
                 let is = eqb-true first (suc j) e in
-                let b = subst (λ (t : ℕ). (over_min g d t +ℤ reserve_in d t) ≤ℤ cap_of g true false) is (h.start (omega (arith, is))) in
+                let b = subst (λ (t : ℕ). (over_min g d t +ℤ reserve_in d t) ≤ℤ cap_of g true false) is
+                (h.start (omega (arith, is))) in
                 omega (arith, ints, clamps, b)
                 );
             stop = λ e. cc;
           })
 
-      move_here : (j : ℕ) → first ≤ suc j → suc j ≤ suc k → IsMove g (eqb first (suc j)) false (level g first d j) (power_in d (suc j)) (reserve_in d (suc j))
+      move_here : (j : ℕ) → first ≤ suc j → suc j ≤ suc k →
+          IsMove g (eqb first (suc j)) false (level g first d j) (power_in d (suc j)) (reserve_in d (suc j))
       move_here j low until =
           let least = h.least (suc j) (omega arith) low until in
           elim (cases_lt j first) [
@@ -238,7 +273,8 @@ module _ (g : ThermalUnit) (periods first : ℕ) (ramp_down : pos 0 ≤ℤ g.ram
             | inl before ↦
                 let is : first ≡ suc j = omega (arith, before, low) in
                 let l = level_before g first d j before in
-                let up = subst (λ (t : ℕ). (over_min g d t +ℤ reserve_in d t) ≤ℤ g.ramp_up) is (h.enter (omega (arith, is))) in
+                let up = subst (λ (t : ℕ). (over_min g d t +ℤ reserve_in d t) ≤ℤ g.ramp_up) is
+                (h.enter (omega (arith, is))) in
                 record {
                   least = omega (arith, ints, least);
                   greatest = cap_here j low until;

@@ -1,6 +1,11 @@
 -- A step on a function of the power is one period of a spell: each new value is an old one and a move, and no move is
 -- cheaper.
-use Rattle.spell_run.proofs.Common.{◌≡◌, ℕ, ℤ, pos, neg_ℤ, ◌+ℤ◌, ◌-ℤ◌, ◌*ℤ◌, ◌≤ℤ◌, Bool, true, false, Some, None, refl, ap, ◌∙◌, subst, arith, IsTrue, MatchOption, option_map, int_min, ints, clamps, *ℤ_comm, IsCostCurve, AreCostPoints, EnvelopeIsCost, curve_value, reserve_term, same_some, Table, value_of, Curve, ThermalUnit, PriceLists, envelope, IsFrom, IsThermalUnit, Spans, int_at, mul-sub, IsWithin, product_within, most_reserve, best_reserve, IsReserve, net_cost_at, cap_at, step_at, IsMove, IsStepped}
+use Rattle.spell_run.proofs.Common.{◌≡◌, ℕ, ℤ, pos, neg_ℤ, ◌+ℤ◌, ◌-ℤ◌, ◌*ℤ◌, ◌≤ℤ◌, Bool, true, false, Some, None, refl}
+use Rattle.spell_run.proofs.Common.{ap, ◌∙◌, subst, arith, IsTrue, MatchOption, option_map, int_min, ints, clamps}
+use Rattle.spell_run.proofs.Common.{*ℤ_comm, IsCostCurve, AreCostPoints, EnvelopeIsCost, curve_value, reserve_term}
+use Rattle.spell_run.proofs.Common.{same_some, Table, value_of, Curve, ThermalUnit, PriceLists, envelope, IsFrom}
+use Rattle.spell_run.proofs.Common.{IsThermalUnit, Spans, int_at, mul-sub, IsWithin, product_within, most_reserve}
+use Rattle.spell_run.proofs.Common.{best_reserve, IsReserve, net_cost_at, cap_at, step_at, IsMove, IsStepped}
 use Rattle.spell_run.proofs.ReserveLaws.{reserve_is_a_kink, best_may, best_earns, best_is_best, best_where_not_paid}
 use Rattle.spell_run.proofs.SumLaws.{added, raised}
 
@@ -13,19 +18,28 @@ pub record IsUnder (g : ThermalUnit) (starts stops : Bool) (z : ℤ) : Type 0 wh
   pub stop : IsTrue stops → z ≤ℤ g.stop_limit
 
 pub under_cap : (g : ThermalUnit) (starts stops : Bool) (z : ℤ) → z ≤ℤ cap_at g starts stops → IsUnder g starts stops z
-under_cap g true true z h = record { most = omega (arith, ints, clamps, h); start = λ _. omega (arith, ints, clamps, h); stop = λ _. omega (arith, ints, clamps, h) }
-under_cap g true false z h = record { most = omega (arith, ints, clamps, h); start = λ _. omega (arith, ints, clamps, h); stop = λ e. cc }
-under_cap g false true z h = record { most = omega (arith, ints, clamps, h); start = λ e. cc; stop = λ _. omega (arith, ints, clamps, h) }
+under_cap g true true z h = record {
+  most = omega (arith, ints, clamps, h);
+  start = λ _. omega (arith, ints, clamps, h);
+  stop = λ _.
+      omega (arith, ints, clamps, h);
+}
+under_cap g true false z h = record
+    { most = omega (arith, ints, clamps, h); start = λ _. omega (arith, ints, clamps, h); stop = λ e. cc }
+under_cap g false true z h = record
+    { most = omega (arith, ints, clamps, h); start = λ e. cc; stop = λ _. omega (arith, ints, clamps, h) }
 under_cap g false false z h = record { most = omega (arith, ints, clamps, h); start = λ e. cc; stop = λ e. cc }
 
 pub cap_over : (g : ThermalUnit) (starts stops : Bool) (z : ℤ) → IsUnder g starts stops z → z ≤ℤ cap_at g starts stops
-cap_over g true true z h = let a = h.most in let b = h.start refl in let c = h.stop refl in omega (arith, ints, clamps, a, b, c)
+cap_over g true true z h = let a = h.most in let b = h.start refl in let c = h.stop refl in omega
+    (arith, ints, clamps, a, b, c)
 cap_over g true false z h = let a = h.most in let b = h.start refl in omega (arith, ints, clamps, a, b)
 cap_over g false true z h = let a = h.most in let c = h.stop refl in omega (arith, ints, clamps, a, c)
 cap_over g false false z h = let a = h.most in omega (arith, ints, clamps, a)
 
 -- the greatest power of a step
-pub under_most : (g : ThermalUnit) (π : PriceLists) (k : ℕ) (starts stops : Bool) (x : ℤ) → x ≤ℤ (step_at g π k starts stops).most →
+pub under_most : (g : ThermalUnit) (π : PriceLists) (k : ℕ) (starts stops : Bool) (x : ℤ) →
+    x ≤ℤ (step_at g π k starts stops).most →
     (x ≤ℤ cap_at g starts stops) × (IsTrue stops → (x -ℤ g.min_power) ≤ℤ g.ramp_down)
 under_most g π k starts true x h =
     let c = cap_at g starts true in
@@ -55,7 +69,8 @@ sub_mul a b c =
 
 -- the parts of a step make up the net cost at the most reserve
 parts_are : (mu lambda cap up q p w e : ℤ) →
-    (((w +ℤ reserve_term mu cap up q) +ℤ ((mu -ℤ lambda) *ℤ p)) +ℤ e) ≡ w +ℤ (e -ℤ ((lambda *ℤ p) +ℤ (mu *ℤ most_reserve cap up q p)))
+    (((w +ℤ reserve_term mu cap up q) +ℤ ((mu -ℤ lambda) *ℤ p)) +ℤ e) ≡ w +ℤ
+    (e -ℤ ((lambda *ℤ p) +ℤ (mu *ℤ most_reserve cap up q p)))
 parts_are mu lambda cap up q p w e =
     let k = reserve_is_a_kink mu cap up q p in
     let s = sub_mul mu lambda p in
@@ -65,17 +80,19 @@ parts_are mu lambda cap up q p w e =
 -- ---- one step
 
 -- value v at power x comes from an old value and a move; without a reserve price from one without reserve
-pub record IsFromMove (g : ThermalUnit) (π : PriceLists) (k : ℕ) (starts stops : Bool) (f : Table) (x v : ℤ) : Type 0 where
-  pub before : ℤ
-  pub old : ℤ
-  pub reserve : ℤ
-  pub there : value_of f before ≡ Some old
-  pub not_negative : pos 0 ≤ℤ reserve
-  pub idle : int_at π.reserve k ≡ pos 0 → reserve ≡ pos 0
-  pub move : IsMove g starts stops before x reserve
-  pub cost : v ≡ old +ℤ net_cost_at g π k x reserve
+pub record IsFromMove (g : ThermalUnit) (π : PriceLists) (k : ℕ) (starts stops : Bool) (f : Table) (x v : ℤ) : Type 0
+  where
+    pub before : ℤ
+    pub old : ℤ
+    pub reserve : ℤ
+    pub there : value_of f before ≡ Some old
+    pub not_negative : pos 0 ≤ℤ reserve
+    pub idle : int_at π.reserve k ≡ pos 0 → reserve ≡ pos 0
+    pub move : IsMove g starts stops before x reserve
+    pub cost : v ≡ old +ℤ net_cost_at g π k x reserve
 
-module _ (g : ThermalUnit) (π : PriceLists) (k : ℕ) (c : Curve) (unit : IsThermalUnit g) (price : pos 0 ≤ℤ int_at π.reserve k) (curve : IsCostCurve g.points c) where
+module _ (g : ThermalUnit) (π : PriceLists) (k : ℕ) (c : Curve) (unit : IsThermalUnit g)
+    (price : pos 0 ≤ℤ int_at π.reserve k) (curve : IsCostCurve g.points c) where
   spans : (x : ℤ) → g.min_power ≤ℤ x → x ≤ℤ g.max_power → Spans g.points x x
   spans x low high = record {
     first = λ d. let e = unit.span.first d in omega (arith, ints, e, low);
@@ -95,10 +112,12 @@ module _ (g : ThermalUnit) (π : PriceLists) (k : ℕ) (c : Curve) (unit : IsThe
     pub step_sound : (x v : ℤ) → value_of h x ≡ Some v → IsFromMove g π k starts stops f x v
     step_sound x v is =
         let r = raised (curve_value c) (x +ℤ pos 0) v (value_of step.line x) (value_of h x) (step.is_curve x) is in
-        let l = added (λ x. (mu -ℤ int_at π.energy k) *ℤ x) x r.0 (value_of step.window x) (value_of step.line x) (step.is_line x) r.2 in
+        let l = added (λ x. (mu -ℤ int_at π.energy k) *ℤ x) x r.0 (value_of step.window x) (value_of step.line x)
+        (step.is_line x) r.2 in
         let w = step.is_window.reached x l.0 l.1 in
         let q = w.0 in
-        let b = added (reserve_term mu cap g.ramp_up) q l.0 (value_of f q) (value_of step.kinked q) (step.is_kinked q) w.1 in
+        let b = added (reserve_term mu cap g.ramp_up) q l.0 (value_of f q) (value_of step.kinked q) (step.is_kinked q)
+        w.1 in
         let low = w.2.0 in
         let high = under_most g π k starts stops x w.2.1 in
         let under = high.0 in
@@ -106,7 +125,8 @@ module _ (g : ThermalUnit) (π : PriceLists) (k : ℕ) (c : Curve) (unit : IsThe
         let ahead = w.3.1 in
         let u = under_cap g starts stops x under in
         let at : x +ℤ pos 0 ≡ x = omega (arith, ints) in
-        let e = same_some (curve_value c x) (subst (λ (y : ℤ). curve_value c y ≡ Some r.1) at r.3) (cost_on x low u.most) in
+        let e = same_some (curve_value c x) (subst (λ (y : ℤ). curve_value c y ≡ Some r.1) at r.3)
+        (cost_on x low u.most) in
         let reserve = best_reserve mu cap g.ramp_up q x in
         let may = best_may mu cap g.ramp_up q x under (omega (arith, ints, back)) in
         let not_negative = may.least in
@@ -144,26 +164,37 @@ module _ (g : ThermalUnit) (π : PriceLists) (k : ℕ) (c : Curve) (unit : IsThe
         let under : x ≤ℤ cap = omega (arith, ints, greatest, kept) in
         let u = under_cap g starts stops x under in
         let high = most_over g π k starts stops x under move.leave in
-        let kinked : value_of step.kinked q ≡ Some (w +ℤ reserve_term mu cap g.ramp_up q) = step.is_kinked q ∙ ap (option_map (λ v. v +ℤ reserve_term mu cap g.ramp_up q)) there in
-        let n = step.is_window.least x q (w +ℤ reserve_term mu cap g.ramp_up q) kinked (low, high) (omega (arith, ints, up, kept), omega (arith, ints, down)) in
-        let line : value_of step.line x ≡ Some (n.0 +ℤ ((mu -ℤ int_at π.energy k) *ℤ x)) = step.is_line x ∙ ap (option_map (λ v. v +ℤ ((mu -ℤ int_at π.energy k) *ℤ x))) n.1 in
+        let kinked : value_of step.kinked q ≡ Some (w +ℤ reserve_term mu cap g.ramp_up q) = step.is_kinked q ∙
+        ap (option_map (λ v. v +ℤ reserve_term mu cap g.ramp_up q)) there in
+        let n = step.is_window.least x q (w +ℤ reserve_term mu cap g.ramp_up q) kinked (low, high)
+        (omega (arith, ints, up, kept), omega (arith, ints, down)) in
+        let line : value_of step.line x ≡ Some (n.0 +ℤ ((mu -ℤ int_at π.energy k) *ℤ x)) = step.is_line x ∙
+        ap (option_map (λ v. v +ℤ ((mu -ℤ int_at π.energy k) *ℤ x))) n.1 in
         let p = on_curve x (n.0 +ℤ ((mu -ℤ int_at π.energy k) *ℤ x)) line low u.most in
         let may : IsReserve cap g.ramp_up q x r = record { least = kept; greatest = greatest; ramp = up } in
         let best = best_is_best mu cap g.ramp_up q x r price may in
         let earns = best_earns mu cap g.ramp_up q x price in
         let parts = parts_are mu (int_at π.energy k) cap g.ramp_up q x w (envelope g.points x) in
-        let least = n.2 in
-        ((n.0 +ℤ ((mu -ℤ int_at π.energy k) *ℤ x)) +ℤ envelope g.points x, p, omega (arith, ints, least, best, earns, parts))
+        let least = n.2 in (
+          (n.0 +ℤ ((mu -ℤ int_at π.energy k) *ℤ x)) +ℤ envelope g.points x,
+          p,
+          omega (arith, ints, least, best, earns, parts),
+        )
       where
-        on_curve : (x v : ℤ) → value_of step.line x ≡ Some v → g.min_power ≤ℤ x → x ≤ℤ g.max_power → value_of h x ≡ Some (v +ℤ envelope g.points x)
+        on_curve : (x v : ℤ) → value_of step.line x ≡ Some v → g.min_power ≤ℤ x → x ≤ℤ g.max_power →
+            value_of h x ≡ Some (v +ℤ envelope g.points x)
         on_curve x v is low high =
-            let m = subst (λ o. MatchOption o (value_of h x ≡ None) (λ v. (e : ℤ) × (curve_value c (x +ℤ pos 0) ≡ Some e) × (value_of h x ≡ Some (v +ℤ e)))) is (step.is_curve x) in
+            let m = subst (λ o. MatchOption o (value_of h x ≡ None)
+            (λ v. (e : ℤ) × (curve_value c (x +ℤ pos 0) ≡ Some e) × (value_of h x ≡ Some (v +ℤ e)))) is
+            (step.is_curve x) in
             let at : x +ℤ pos 0 ≡ x = omega (arith, ints) in
-            let e = same_some (curve_value c x) (subst (λ (y : ℤ). curve_value c y ≡ Some m.0) at m.1) (cost_on x low high) in
+            let e = same_some (curve_value c x) (subst (λ (y : ℤ). curve_value c y ≡ Some m.0) at m.1)
+            (cost_on x low high) in
             m.2 ∙ ap (λ (e : ℤ). Some (v +ℤ e)) e
 
   -- what a move costs is far within the limits
-  pub net_within : (starts stops : Bool) (q x r : ℤ) → EnvelopeIsCost → IsFrom (neg_ℤ (pos 10000000)) (pos 10000000) (int_at π.energy k) → int_at π.reserve k ≤ℤ pos 10000000 →
+  pub net_within : (starts stops : Bool) (q x r : ℤ) → EnvelopeIsCost →
+      IsFrom (neg_ℤ (pos 10000000)) (pos 10000000) (int_at π.energy k) → int_at π.reserve k ≤ℤ pos 10000000 →
       IsMove g starts stops q x r → pos 0 ≤ℤ r → IsWithin 1000000000000000 (net_cost_at g π k x r)
   net_within starts stops q x r law energy high move kept =
       let least = move.least in
@@ -171,10 +202,15 @@ module _ (g : ThermalUnit) (π : PriceLists) (k : ℕ) (c : Curve) (unit : IsThe
       let u = under_cap g starts stops (x +ℤ r) move.greatest in
       let top = u.most in
       let greatest = unit.max_power.at_most in
-      let points : AreCostPoints g.points = record { some = unit.some_point; count = unit.point_count; points = unit.points; ordered = unit.points_ordered } in
+      let points : AreCostPoints g.points = record
+      { some = unit.some_point; count = unit.point_count; points = unit.points; ordered = unit.points_ordered } in
       let e = law g.points x points (spans x least (omega (arith, ints, top, kept))) in
-      let paid = product_within 10000000 10000000 (int_at π.energy k) x energy (record { at_least = omega (arith, ints, least, bottom); at_most = omega (arith, ints, top, kept, greatest) }) in
-      let worth = product_within 10000000 10000000 (int_at π.reserve k) r (record { at_least = omega (arith, ints, price); at_most = high }) (record { at_least = kept; at_most = omega (arith, ints, top, least, bottom, greatest) }) in
+      let paid = product_within 10000000 10000000 (int_at π.energy k) x energy
+      (record { at_least = omega (arith, ints, least, bottom); at_most = omega (arith, ints, top, kept, greatest) })
+      in
+      let worth = product_within 10000000 10000000 (int_at π.reserve k) r
+      (record { at_least = omega (arith, ints, price); at_most = high })
+      (record { at_least = kept; at_most = omega (arith, ints, top, least, bottom, greatest) }) in
       let a = e.at_least in
       let b = e.at_most in
       let c = paid.at_least in
@@ -188,7 +224,8 @@ module _ (g : ThermalUnit) (π : PriceLists) (k : ℕ) (c : Curve) (unit : IsThe
 module _ (g : ThermalUnit) (π : PriceLists) (k : ℕ) (price : pos 0 ≤ℤ int_at π.reserve k) (cap q x : ℤ) where
   -- what a step from q to x adds at the best reserve
   abbrev pub best_net : ℤ
-  best_net = (reserve_term (int_at π.reserve k) cap g.ramp_up q +ℤ ((int_at π.reserve k -ℤ int_at π.energy k) *ℤ x)) +ℤ envelope g.points x
+  best_net = (reserve_term (int_at π.reserve k) cap g.ramp_up q +ℤ ((int_at π.reserve k -ℤ int_at π.energy k) *ℤ x)) +ℤ
+      envelope g.points x
 
   pub net_of_best : net_cost_at g π k x (best_reserve (int_at π.reserve k) cap g.ramp_up q x) ≡ best_net
   net_of_best =
@@ -196,5 +233,7 @@ module _ (g : ThermalUnit) (π : PriceLists) (k : ℕ) (price : pos 0 ≤ℤ int
       let earns = best_earns (int_at π.reserve k) cap g.ramp_up q x price in
       omega (arith, ints, parts, earns)
 
-  pub net_at_least : (r : ℤ) → IsReserve cap g.ramp_up q x r → net_cost_at g π k x (best_reserve (int_at π.reserve k) cap g.ramp_up q x) ≤ℤ net_cost_at g π k x r
-  net_at_least r may = let best = best_is_best (int_at π.reserve k) cap g.ramp_up q x r price may in omega (arith, ints, best)
+  pub net_at_least : (r : ℤ) → IsReserve cap g.ramp_up q x r →
+      net_cost_at g π k x (best_reserve (int_at π.reserve k) cap g.ramp_up q x) ≤ℤ net_cost_at g π k x r
+  net_at_least r may = let best = best_is_best (int_at π.reserve k) cap g.ramp_up q x r price may in omega
+      (arith, ints, best)

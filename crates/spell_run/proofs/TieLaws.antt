@@ -1,11 +1,17 @@
 -- A way on from the power before a spell is a best dispatch, and the first of those of its cost.
-use Rattle.spell_run.proofs.Common.{◌≡◌, ℕ, zero, suc, ◌+◌, ◌-◌, ◌<◌, ◌≤◌, inl, inr, ℤ, pos, ◌+ℤ◌, ◌*ℤ◌, ◌≤ℤ◌, eqb, length, refl, sym, ap, ◌∙◌, subst, arith, ints, cases_lt, IsPoint, same_some, Table, value_of, ThermalUnit, PriceLists, Schedule, IsThermalUnit, ArePrices, power_in, reserve_in, int_at, sum_below, stops_at, HasBestReserve, IsWayFrom, best_reserve, IsReserve, IsDispatch, net_cost_at, net_cost, spell_cost, IsBestDispatch, IsFirstDispatch, cap_at, level}
+use Rattle.spell_run.proofs.Common.{◌≡◌, ℕ, zero, suc, ◌+◌, ◌-◌, ◌<◌, ◌≤◌, inl, inr, ℤ, pos, ◌+ℤ◌, ◌*ℤ◌, ◌≤ℤ◌, eqb}
+use Rattle.spell_run.proofs.Common.{length, refl, sym, ap, ◌∙◌, subst, arith, ints, cases_lt, IsPoint, same_some, Table}
+use Rattle.spell_run.proofs.Common.{value_of, ThermalUnit, PriceLists, Schedule, IsThermalUnit, ArePrices, power_in}
+use Rattle.spell_run.proofs.Common.{reserve_in, int_at, sum_below, stops_at, HasBestReserve, IsWayFrom, best_reserve}
+use Rattle.spell_run.proofs.Common.{IsReserve, IsDispatch, net_cost_at, net_cost, spell_cost, IsBestDispatch}
+use Rattle.spell_run.proofs.Common.{IsFirstDispatch, cap_at, level}
 use Rattle.spell_run.proofs.ReserveLaws.{reserve_is_best}
 use Rattle.spell_run.proofs.RunLaws.{level_before, level_within, move_same, reserve_not_negative}
 use Rattle.spell_run.proofs.WayLaws.{move_of}
 
 -- where sums of terms that are no greater are equal, so are the terms
-same_terms : (n : ℕ) (f g : ℕ → ℤ) → ((i : ℕ) → i < n → f i ≤ℤ g i) → sum_below n f ≡ sum_below n g → (i : ℕ) → i < n → f i ≡ g i
+same_terms : (n : ℕ) (f g : ℕ → ℤ) → ((i : ℕ) → i < n → f i ≤ℤ g i) → sum_below n f ≡ sum_below n g → (i : ℕ) → i < n →
+    f i ≡ g i
 same_terms zero f g le same i low = absurd (omega (arith, low))
 same_terms (suc n) f g le same i low =
     let rest = sums_le n f g (λ j h. le j (omega (arith, h))) in
@@ -13,15 +19,19 @@ same_terms (suc n) f g le same i low =
     let whole : sum_below n f +ℤ f n ≡ sum_below n g +ℤ g n = same in
     elim (cases_lt i n) [
       | inl less ↦ same_terms n f g (λ j h. le j (omega (arith, h))) (omega (arith, ints, rest, last, whole)) i less
-      | inr most ↦ let z : n ≡ i = omega (arith, most, low) in let e : f n ≡ g n = omega (arith, ints, rest, last, whole) in subst (λ (j : ℕ). f j ≡ g j) z e
+      | inr most ↦ let z : n ≡ i = omega (arith, most, low) in let e : f n ≡ g n = omega
+          (arith, ints, rest, last, whole) in subst (λ (j : ℕ). f j ≡ g j) z e
     ]
   where
     sums_le : (n : ℕ) (f g : ℕ → ℤ) → ((i : ℕ) → i < n → f i ≤ℤ g i) → sum_below n f ≤ℤ sum_below n g
     sums_le zero f g le = omega (arith, ints)
-    sums_le (suc n) f g le = let a = sums_le n f g (λ j h. le j (omega (arith, h))) in let b = le n (omega arith) in omega (arith, ints, a, b)
+    sums_le (suc n) f g le = let a = sums_le n f g (λ j h. le j (omega (arith, h))) in let b = le n (omega arith) in
+        omega (arith, ints, a, b)
 
-module _ (g : ThermalUnit) (π : PriceLists) (first last : ℕ) (unit : IsThermalUnit g) (prices : ArePrices π) (end : last ≤ length π.energy) (d other : Schedule)
-    (dispatch : IsDispatch g (length π.energy) first last d) (other_dispatch : IsDispatch g (length π.energy) first last other)
+module _ (g : ThermalUnit) (π : PriceLists) (first last : ℕ) (unit : IsThermalUnit g) (prices : ArePrices π)
+    (end : last ≤ length π.energy) (d other : Schedule)
+    (dispatch : IsDispatch g (length π.energy) first last d)
+    (other_dispatch : IsDispatch g (length π.energy) first last other)
     (best : (j : ℕ) → first ≤ suc j → j < last → HasBestReserve g π first last d j)
     (same : (j : ℕ) → first ≤ suc j → j < last → power_in other (suc j) ≡ power_in d (suc j)) where
   level_shared : (j : ℕ) → j < last → first ≤ suc j → level g first other j ≡ level g first d j
@@ -45,23 +55,30 @@ module _ (g : ThermalUnit) (π : PriceLists) (first last : ℕ) (unit : IsTherma
   cap_here j = cap_at g (eqb first (suc j)) (stops_at last (length π.energy) j)
 
   -- the other reserve may be kept at the powers of d
-  kept_here : (j : ℕ) → first ≤ suc j → j < last → IsReserve (cap_here j) g.ramp_up (level g first d j) (power_in d (suc j)) (reserve_in other (suc j))
+  kept_here : (j : ℕ) → first ≤ suc j → j < last → IsReserve (cap_here j) g.ramp_up (level g first d j)
+      (power_in d (suc j)) (reserve_in other (suc j))
   kept_here j from low =
-      let m = move_of g (length π.energy) first unit.ramp_down.at_least other last j from (omega (arith, low)) other_dispatch in
-      let n = move_same g (eqb first (suc j)) (stops_at last (length π.energy) j) (level g first other j) (power_in other (suc j)) (reserve_in other (suc j)) (level g first d j) (power_in d (suc j)) (reserve_in other (suc j)) (level_shared j low from)
+      let m = move_of g (length π.energy) first unit.ramp_down.at_least other last j from (omega (arith, low))
+      other_dispatch in
+      let n = move_same g (eqb first (suc j)) (stops_at last (length π.energy) j) (level g first other j)
+      (power_in other (suc j)) (reserve_in other (suc j)) (level g first d j) (power_in d (suc j))
+      (reserve_in other (suc j)) (level_shared j low from)
       (same j from low) refl m in
       record { least = reserve_not_negative other j; greatest = n.greatest; ramp = n.ramp_up }
 
   abbrev best_here : ℕ → ℤ
   best_here j = best_reserve (int_at π.reserve j) (cap_here j) g.ramp_up (level g first d j) (power_in d (suc j))
 
-  worth_le : (j : ℕ) → first ≤ suc j → j < last → (int_at π.reserve j *ℤ reserve_in other (suc j)) ≤ℤ (int_at π.reserve j *ℤ reserve_in d (suc j))
+  worth_le : (j : ℕ) → first ≤ suc j → j < last → (int_at π.reserve j *ℤ reserve_in other (suc j)) ≤ℤ
+      (int_at π.reserve j *ℤ reserve_in d (suc j))
   worth_le j from low =
-      let b = (reserve_is_best (int_at π.reserve j) (cap_here j) g.ramp_up (level g first d j) (power_in d (suc j)) (reserve_in other (suc j)) (price_at j low) (kept_here j from low)).best in
+      let b = (reserve_is_best (int_at π.reserve j) (cap_here j) g.ramp_up (level g first d j) (power_in d (suc j))
+      (reserve_in other (suc j)) (price_at j low) (kept_here j from low)).best in
       let e = ap (λ (r : ℤ). int_at π.reserve j *ℤ r) (best j from low) in
       omega (arith, ints, b, e)
 
-  net_parts : (j : ℕ) → first ≤ suc j → j < last → net_cost g π other (suc j) ≡ net_cost_at g π j (power_in d (suc j)) (reserve_in other (suc j))
+  net_parts : (j : ℕ) → first ≤ suc j → j < last → net_cost g π other (suc j) ≡ net_cost_at g π j (power_in d (suc j))
+      (reserve_in other (suc j))
   net_parts j from low = ap (λ (p : ℤ). net_cost_at g π j p (reserve_in other (suc j))) (same j from low)
 
   net_le : (t : ℕ) → first ≤ t → t ≤ last → net_cost g π d t ≤ℤ net_cost g π other t
@@ -71,37 +88,48 @@ module _ (g : ThermalUnit) (π : PriceLists) (first last : ℕ) (unit : IsTherma
       let b = worth_le j from (omega (arith, low)) in
       omega (arith, ints, e, b)
 
-  pub reserve_first : spell_cost g π first last other ≡ spell_cost g π first last d → (k : ℕ) → first ≤ suc k → k < last → reserve_in d (suc k) ≤ℤ reserve_in other (suc k)
+  pub reserve_first : spell_cost g π first last other ≡ spell_cost g π first last d → (k : ℕ) → first ≤ suc k →
+      k < last → reserve_in d (suc k) ≤ℤ reserve_in other (suc k)
   reserve_first cost k from low =
-      let terms = same_terms (suc last - first) (λ i. net_cost g π d (first + i)) (λ i. net_cost g π other (first + i)) (λ i h. net_le (first + i) (omega arith) (omega (arith, h))) (sym cost) (suc k - first) (omega (arith, from, low)) in
+      let terms = same_terms (suc last - first) (λ i. net_cost g π d (first + i)) (λ i. net_cost g π other (first + i))
+      (λ i h. net_le (first + i) (omega arith) (omega (arith, h))) (sym cost) (suc k - first)
+      (omega (arith, from, low)) in
       let at : first + (suc k - first) ≡ suc k = omega (arith, from) in
-      let net : net_cost g π d (suc k) ≡ net_cost g π other (suc k) = subst (λ (t : ℕ). net_cost g π d t ≡ net_cost g π other t) at terms in
+      let net : net_cost g π d (suc k) ≡ net_cost g π other (suc k) = subst
+      (λ (t : ℕ). net_cost g π d t ≡ net_cost g π other t) at terms in
       let e = net_parts k from low in
       let is = best k from low in
       let worth = ap (λ (r : ℤ). int_at π.reserve k *ℤ r) is in
-      let law = reserve_is_best (int_at π.reserve k) (cap_here k) g.ramp_up (level g first d k) (power_in d (suc k)) (reserve_in other (suc k)) (price_at k low) (kept_here k from low) in
+      let law = reserve_is_best (int_at π.reserve k) (cap_here k) g.ramp_up (level g first d k) (power_in d (suc k))
+      (reserve_in other (suc k)) (price_at k low) (kept_here k from low) in
       let least = law.least (omega (arith, ints, net, e, worth)) in
       omega (arith, ints, least, is)
 
 -- ---- a whole spell
 
-module _ (g : ThermalUnit) (π : PriceLists) (first b last : ℕ) (base : ℤ) (f : Table) (d : Schedule) (y c : ℤ) (unit : IsThermalUnit g) (prices : ArePrices π) (point : IsPoint base (pos 0) f)
-    (none : (k : ℕ) → first ≤ suc k → suc k ≤ b → ⊥) (start : (k : ℕ) → first ≤ suc k → b ≤ k) (at : level g first d b ≡ base) (cost_none : spell_cost g π first b d ≡ pos 0)
+module _ (g : ThermalUnit) (π : PriceLists) (first b last : ℕ) (base : ℤ) (f : Table) (d : Schedule) (y c : ℤ)
+    (unit : IsThermalUnit g) (prices : ArePrices π) (point : IsPoint base (pos 0) f)
+    (none : (k : ℕ) → first ≤ suc k → suc k ≤ b → ⊥) (start : (k : ℕ) → first ≤ suc k →
+    b ≤ k) (at : level g first d b ≡ base) (cost_none : spell_cost g π first b d ≡ pos 0)
     (end : last ≤ length π.energy) (way : IsWayFrom g π first b last f d y c) where
-  whole : IsDispatch g (length π.energy) first last d × (spell_cost g π first last d ≡ c) × ((j : ℕ) → b ≤ j → j < last → HasBestReserve g π first last d j)
+  whole : IsDispatch g (length π.energy) first last d × (spell_cost g π first last d ≡ c) × ((j : ℕ) → b ≤ j →
+      j < last → HasBestReserve g π first last d j)
   whole =
       let e = point.only y way.before way.there in
       let z : way.before ≡ pos 0 = same_some (value_of f base) (ap (value_of f) (sym e) ∙ way.there) point.there in
-      let r = way.completes d (λ k from until. absurd (none k from until)) (at ∙ sym e) (record { power = λ j low high. refl; reserve = λ j low high. refl }) in
+      let r = way.completes d (λ k from until. absurd (none k from until)) (at ∙ sym e)
+      (record { power = λ j low high. refl; reserve = λ j low high. refl }) in
       let cost = r.1 in
       (r.0, omega (arith, ints, cost, cost_none, z), r.2)
 
-  pub of_way : IsBestDispatch g π (length π.energy) first last d c × IsFirstDispatch g π (length π.energy) first last d c
+  pub of_way : IsBestDispatch g π (length π.energy) first last d c × IsFirstDispatch g π (length π.energy) first last d
+      c
   of_way = (
     record { keeps = whole.0; cost = whole.1; least = way.least },
     record {
       power = λ other dispatch cost k from low same. way.first_after other dispatch cost k (start k from) low same;
       reserve = λ other dispatch cost same.
-          reserve_first g π first last unit prices end d other whole.0 dispatch (λ j from low. whole.2 j (start j from) low) same (cost ∙ sym whole.1);
+          reserve_first g π first last unit prices end d other whole.0 dispatch
+          (λ j from low. whole.2 j (start j from) low) same (cost ∙ sym whole.1);
     },
   )

@@ -1,8 +1,15 @@
 -- The way back: the periods that are written make, with what comes before them, a dispatch of least cost, the first of
 -- those of that cost.
-use Rattle.spell_run.proofs.Common.{◌≡◌, ℕ, zero, suc, ◌<◌, ◌≤◌, inl, inr, ℤ, pos, ◌+ℤ◌, ◌-ℤ◌, ◌≤ℤ◌, Bool, true, false, ◌&&◌, eqb, ltb, length, Some, refl, sym, ap, ◌∙◌, subst, arith, option_map, ints, cases_lt, eq-eqb, ne_eqb, and_right, IsCostCurve, reserve_term, IsLeast, same_some, Table, value_of, Curve, ThermalUnit, PriceLists, Schedule, IsThermalUnit, ArePrices, power_in, reserve_in, int_at, IsFrontier, IsChosen, stops_at, HasSamePowersAfter, IsSameAfter, HasBestReserve, IsWayFrom, best_reserve, IsReserve, IsDispatch, net_cost_at, net_cost, spell_cost, cap_at, step_at, IsMove, level, IsRun, IsStepped}
+use Rattle.spell_run.proofs.Common.{◌≡◌, ℕ, zero, suc, ◌<◌, ◌≤◌, inl, inr, ℤ, pos, ◌+ℤ◌, ◌-ℤ◌, ◌≤ℤ◌, Bool, true, false}
+use Rattle.spell_run.proofs.Common.{◌&&◌, eqb, ltb, length, Some, refl, sym, ap, ◌∙◌, subst, arith, option_map, ints}
+use Rattle.spell_run.proofs.Common.{cases_lt, eq-eqb, ne_eqb, and_right, IsCostCurve, reserve_term, IsLeast, same_some}
+use Rattle.spell_run.proofs.Common.{Table, value_of, Curve, ThermalUnit, PriceLists, Schedule, IsThermalUnit, ArePrices}
+use Rattle.spell_run.proofs.Common.{power_in, reserve_in, int_at, IsFrontier, IsChosen, stops_at, HasSamePowersAfter}
+use Rattle.spell_run.proofs.Common.{IsSameAfter, HasBestReserve, IsWayFrom, best_reserve, IsReserve, IsDispatch}
+use Rattle.spell_run.proofs.Common.{net_cost_at, net_cost, spell_cost, cap_at, step_at, IsMove, level, IsRun, IsStepped}
 use Rattle.spell_run.proofs.ReserveLaws.{best_may}
-use Rattle.spell_run.proofs.RunLaws.{level_power, move_same, run_more, cost_more, reserve_not_negative, move_parts, move_whole, dispatch_from_run, run_from_dispatch, end_from_dispatch}
+use Rattle.spell_run.proofs.RunLaws.{level_power, move_same, run_more, cost_more, reserve_not_negative, move_parts}
+use Rattle.spell_run.proofs.RunLaws.{move_whole, dispatch_from_run, run_from_dispatch, end_from_dispatch}
 use Rattle.spell_run.proofs.StepLaws.{step_sound, step_complete, net_of_best, net_at_least}
 use Rattle.spell_run.proofs.SumLaws.{added}
 
@@ -13,16 +20,20 @@ and_true true = refl
 and_true false = refl
 
 pub stops_before : (last periods k : ℕ) → suc k < last → stops_at last periods k ≡ false
-stops_before last periods k h = and_right (ltb last periods) (eqb last (suc k)) (ne_eqb last (suc k) (λ e. absurd (omega (arith, e, h))))
+stops_before last periods k h = and_right (ltb last periods) (eqb last (suc k))
+    (ne_eqb last (suc k) (λ e. absurd (omega (arith, e, h))))
 
 pub stops_last : (periods k : ℕ) → stops_at (suc k) periods k ≡ ltb (suc k) periods
-stops_last periods k = ap (λ (b : Bool). ltb (suc k) periods && b) (eq-eqb (suc k) (suc k) refl) ∙ and_true (ltb (suc k) periods)
+stops_last periods k = ap (λ (b : Bool). ltb (suc k) periods && b) (eq-eqb (suc k) (suc k) refl) ∙
+    and_true (ltb (suc k) periods)
 
 -- ---- dispatches period by period
 
 module _ (g : ThermalUnit) (periods first : ℕ) (ramp_down : pos 0 ≤ℤ g.ramp_down) (d : Schedule) where
   -- what a dispatch does in period suc k, with the stop that follows
-  pub move_of : (last k : ℕ) → first ≤ suc k → suc k ≤ last → IsDispatch g periods first last d → IsMove g (eqb first (suc k)) (stops_at last periods k) (level g first d k) (power_in d (suc k)) (reserve_in d (suc k))
+  pub move_of : (last k : ℕ) → first ≤ suc k → suc k ≤ last → IsDispatch g periods first last d →
+      IsMove g (eqb first (suc k)) (stops_at last periods k) (level g first d k) (power_in d (suc k))
+      (reserve_in d (suc k))
   move_of zero k from until dispatch = absurd (omega (arith, until))
   move_of (suc m) k from until dispatch =
       let start : first ≤ suc m = omega (arith, from, until) in
@@ -30,18 +41,24 @@ module _ (g : ThermalUnit) (periods first : ℕ) (ramp_down : pos 0 ≤ℤ g.ram
       elim (cases_lt (suc k) (suc m)) [
         | inl less ↦
             let e = stops_before (suc m) periods k less in
-            subst (λ (b : Bool). IsMove g (eqb first (suc k)) b (level g first d k) (power_in d (suc k)) (reserve_in d (suc k))) (sym e) (run k from until)
+            subst (λ (b : Bool). IsMove g (eqb first (suc k)) b (level g first d k) (power_in d (suc k))
+            (reserve_in d (suc k))) (sym e) (run k from until)
         | inr most ↦
             let z : m ≡ k = omega (arith, most, until) in
             let end = end_from_dispatch g periods first ramp_down d m start dispatch in
-            let whole = move_whole g (eqb first (suc m)) periods m (level g first d m) (power_in d (suc m)) (reserve_in d (suc m)) (run m start (omega arith)) end in
-            let stop = subst (λ (b : Bool). IsMove g (eqb first (suc m)) b (level g first d m) (power_in d (suc m)) (reserve_in d (suc m))) (sym (stops_last periods m)) whole in
-            subst (λ (j : ℕ). IsMove g (eqb first (suc j)) (stops_at (suc m) periods j) (level g first d j) (power_in d (suc j)) (reserve_in d (suc j))) z stop
+            let whole = move_whole g (eqb first (suc m)) periods m (level g first d m) (power_in d (suc m))
+            (reserve_in d (suc m)) (run m start (omega arith)) end in
+            let stop = subst (λ (b : Bool). IsMove g (eqb first (suc m)) b (level g first d m) (power_in d (suc m))
+            (reserve_in d (suc m))) (sym (stops_last periods m)) whole in
+            subst (λ (j : ℕ). IsMove g (eqb first (suc j)) (stops_at (suc m) periods j) (level g first d j)
+            (power_in d (suc j)) (reserve_in d (suc j))) z stop
       ]
 
   pub run_of : (last k : ℕ) → first ≤ suc k → suc k ≤ last → IsDispatch g periods first last d → IsRun g first k d
   run_of zero k from until dispatch = absurd (omega (arith, until))
-  run_of (suc m) k from until dispatch = λ j low high. run_from_dispatch g periods first ramp_down d m (omega (arith, from, until)) dispatch j low (omega (arith, high, until))
+  run_of (suc m) k from until dispatch = λ j low high.
+      run_from_dispatch g periods first ramp_down d m (omega (arith, from, until)) dispatch j low
+      (omega (arith, high, until))
 
 -- ---- a period whose own power is found
 
@@ -59,16 +76,24 @@ module _ (g : ThermalUnit) (π : PriceLists) (first k last : ℕ) where
   pub record IsOnward (h : Table) (d : Schedule) (x c : ℤ) : Type 0 where
     pub value : ℤ
     pub there : value_of h x ≡ Some value
-    pub completes : (run : Schedule) → IsRun g first k run → power_in run (suc k) ≡ x → IsMove g starts stops (level g first run k) (power_in run (suc k)) (reserve_in run (suc k)) → IsSameAfter (suc k) last d run →
-        IsDispatch g periods first last run × (spell_cost g π first last run ≡ spell_cost g π first (suc k) run +ℤ (c -ℤ value)) × ((j : ℕ) → suc k ≤ j → j < last → HasBestReserve g π first last run j)
+    pub completes : (run : Schedule) → IsRun g first k run → power_in run (suc k) ≡ x →
+        IsMove g starts stops (level g first run k) (power_in run (suc k)) (reserve_in run (suc k)) →
+        IsSameAfter (suc k) last d run →
+        IsDispatch g periods first last run ×
+        (spell_cost g π first last run ≡ spell_cost g π first (suc k) run +ℤ (c -ℤ value)) × ((j : ℕ) → suc k ≤ j →
+        j < last → HasBestReserve g π first last run j)
     pub least : (other : Schedule) → IsDispatch g periods first last other → c ≤ℤ spell_cost g π first last other
-    pub rest : (other : Schedule) → IsDispatch g periods first last other → HasSamePowersAfter (suc k) last d other → power_in other (suc k) ≡ x →
+    pub rest : (other : Schedule) → IsDispatch g periods first last other → HasSamePowersAfter (suc k) last d other →
+        power_in other (suc k) ≡ x →
         (spell_cost g π first (suc k) other +ℤ (c -ℤ value)) ≤ℤ spell_cost g π first last other
-    pub first_here : (other : Schedule) → IsDispatch g periods first last other → spell_cost g π first last other ≡ c → HasSamePowersAfter (suc k) last d other → x ≤ℤ power_in other (suc k)
+    pub first_here : (other : Schedule) → IsDispatch g periods first last other → spell_cost g π first last other ≡ c →
+        HasSamePowersAfter (suc k) last d other → x ≤ℤ power_in other (suc k)
     pub first_after : (other : Schedule) → IsDispatch g periods first last other → spell_cost g π first last other ≡ c →
-        (i : ℕ) → suc k ≤ i → i < last → HasSamePowersAfter (suc i) last d other → power_in d (suc i) ≤ℤ power_in other (suc i)
+        (i : ℕ) → suc k ≤ i → i < last → HasSamePowersAfter (suc i) last d other →
+        power_in d (suc i) ≤ℤ power_in other (suc i)
 
-module _ (g : ThermalUnit) (π : PriceLists) (first k : ℕ) (c : Curve) (unit : IsThermalUnit g) (prices : ArePrices π) (curve : IsCostCurve g.points c) (within : k < length π.energy) (from : first ≤ suc k) where
+module _ (g : ThermalUnit) (π : PriceLists) (first k : ℕ) (c : Curve) (unit : IsThermalUnit g) (prices : ArePrices π)
+    (curve : IsCostCurve g.points c) (within : k < length π.energy) (from : first ≤ suc k) where
   abbrev T : ℕ
   T = length π.energy
 
@@ -80,12 +105,18 @@ module _ (g : ThermalUnit) (π : PriceLists) (first k : ℕ) (c : Curve) (unit :
 
   -- ---- the last period
 
-  module _ (f h : Table) (front : IsFrontier g π first k f) (step : IsStepped (step_at g π k (eqb first (suc k)) (stops_at (suc k) T k)) c f h) (d : Schedule) (x cost : ℤ) (is : IsLeast h cost x) where
-    last_value : (other : Schedule) → IsDispatch g T first (suc k) other → (v : ℤ) × (value_of h (power_in other (suc k)) ≡ Some v) × (v ≤ℤ spell_cost g π first (suc k) other)
+  module _ (f h : Table) (front : IsFrontier g π first k f)
+      (step : IsStepped (step_at g π k (eqb first (suc k)) (stops_at (suc k) T k)) c f h) (d : Schedule) (x cost : ℤ)
+      (is : IsLeast h cost x) where
+    last_value : (other : Schedule) → IsDispatch g T first (suc k) other →
+        (v : ℤ) × (value_of h (power_in other (suc k)) ≡ Some v) × (v ≤ℤ spell_cost g π first (suc k) other)
     last_value other dispatch =
-        let b = front.complete other (run_of g T first unit.ramp_down.at_least other (suc k) k from (omega arith) dispatch) in
+        let b = front.complete other
+        (run_of g T first unit.ramp_down.at_least other (suc k) k from (omega arith) dispatch) in
         let m = move_of g T first unit.ramp_down.at_least other (suc k) k from (omega arith) dispatch in
-        let s = step_complete g π k c unit price curve (eqb first (suc k)) (stops_at (suc k) T k) f h step (level g first other k) b.0 (power_in other (suc k)) (reserve_in other (suc k)) b.1 m (reserve_not_negative other k) in
+        let s = step_complete g π k c unit price curve (eqb first (suc k)) (stops_at (suc k) T k) f h step
+        (level g first other k) b.0 (power_in other (suc k)) (reserve_in other (suc k)) b.1 m
+        (reserve_not_negative other k) in
         let more = cost_more g π first k other from in
         let low = b.2 in
         let least = s.2 in
@@ -96,10 +127,18 @@ module _ (g : ThermalUnit) (π : PriceLists) (first k : ℕ) (c : Curve) (unit :
       value = cost;
       there = is.there;
       completes = λ run keeps power move same.
-          let m = subst (λ (b : Bool). IsMove g (eqb first (suc k)) b (level g first run k) (power_in run (suc k)) (reserve_in run (suc k))) (stops_last T k) move in
-          let parts = move_parts g (eqb first (suc k)) T k (level g first run k) (power_in run (suc k)) (reserve_in run (suc k)) m in
-          (dispatch_from_run g T first unit.ramp_down.at_least run k from (run_more g first k run keeps parts.0) parts.1, omega (arith, ints), λ j low high. absurd (omega (arith, low, high)));
-      least = λ other dispatch. (let l = last_value other dispatch in let a = is.least (power_in other (suc k)) l.0 l.1 in let b = l.2 in omega (arith, ints, a, b));
+          let m = subst (λ (b : Bool). IsMove g (eqb first (suc k)) b (level g first run k) (power_in run (suc k))
+          (reserve_in run (suc k))) (stops_last T k) move in
+          let parts = move_parts g (eqb first (suc k)) T k (level g first run k) (power_in run (suc k))
+          (reserve_in run (suc k)) m in (
+            dispatch_from_run g T first unit.ramp_down.at_least run k from (run_more g first k run keeps parts.0)
+                parts.1,
+            omega (arith, ints),
+            λ j low high. absurd (omega (arith, low, high)),
+          );
+      least = λ other dispatch.
+          (let l = last_value other dispatch in let a = is.least (power_in other (suc k)) l.0 l.1 in let b = l.2 in
+          omega (arith, ints, a, b));
       rest = λ other dispatch same power. omega (arith, ints);
       first_here = λ other dispatch cost_is same.
           let l = last_value other dispatch in
@@ -112,24 +151,30 @@ module _ (g : ThermalUnit) (π : PriceLists) (first k : ℕ) (c : Curve) (unit :
 
   -- ---- a period before the last one
 
-  module _ (last : ℕ) (low : suc k < last) (f h : Table) (front : IsFrontier g π first k f) (d : Schedule) (x cost : ℤ) (way : IsWayFrom g π first (suc k) last h d x cost) where
+  module _ (last : ℕ) (low : suc k < last) (f h : Table) (front : IsFrontier g π first k f) (d : Schedule) (x cost : ℤ)
+      (way : IsWayFrom g π first (suc k) last h d x cost) where
     pub onward_more : IsOnward g π first k last h d x cost
     onward_more = record {
       value = way.before;
       there = way.there;
       completes = λ run keeps power move same.
-          let m = subst (λ (b : Bool). IsMove g (eqb first (suc k)) b (level g first run k) (power_in run (suc k)) (reserve_in run (suc k))) (stops_before last T k low) move in
+          let m = subst (λ (b : Bool). IsMove g (eqb first (suc k)) b (level g first run k) (power_in run (suc k))
+          (reserve_in run (suc k))) (stops_before last T k low) move in
           way.completes run (run_more g first k run keeps m) (level_power g first run k from ∙ power) same;
       least = way.least;
       rest = λ other dispatch same power. way.rest other dispatch same (level_power g first other k from ∙ power);
-      first_here = λ other dispatch cost_is same. (let a = way.first_before other dispatch cost_is same in let e = level_power g first other k from in omega (arith, ints, a, e));
+      first_here = λ other dispatch cost_is same.
+          (let a = way.first_before other dispatch cost_is same in let e = level_power g first other k from in omega
+          (arith, ints, a, e));
       first_after = way.first_after;
     }
 
   -- ---- the power before it
 
-  module _ (last : ℕ) (low : suc k ≤ last) (f h : Table) (front : IsFrontier g π first k f) (step : IsStepped (step_at g π k (eqb first (suc k)) (stops_at last T k)) c f h) (d d' : Schedule) (x y cost : ℤ)
-      (onward : IsOnward g π first k last h d x cost) (chosen : IsChosen (step_at g π k (eqb first (suc k)) (stops_at last T k)) f k x y d d') where
+  module _ (last : ℕ) (low : suc k ≤ last) (f h : Table) (front : IsFrontier g π first k f)
+      (step : IsStepped (step_at g π k (eqb first (suc k)) (stops_at last T k)) c f h) (d d' : Schedule) (x y cost : ℤ)
+      (onward : IsOnward g π first k last h d x cost)
+      (chosen : IsChosen (step_at g π k (eqb first (suc k)) (stops_at last T k)) f k x y d d') where
     abbrev begins : Bool
     begins = eqb first (suc k)
 
@@ -159,7 +204,13 @@ module _ (g : ThermalUnit) (π : PriceLists) (first k : ℕ) (c : Curve) (unit :
         let back = chosen.least.inside.0 in
         let ahead = chosen.least.inside.1 in
         let may = best_may mu cap g.ramp_up y x (omega (arith, ints, greatest, kept)) (omega (arith, ints, back)) in
-        record { least = m.move.least; greatest = may.greatest; ramp_up = may.ramp; ramp_down = omega (arith, ints, ahead); leave = m.move.leave }
+        record {
+          least = m.move.least;
+          greatest = may.greatest;
+          ramp_up = may.ramp;
+          ramp_down = omega (arith, ints, ahead);
+          leave = m.move.leave;
+        }
 
     -- it is the value that the step has at x
     value_is : onward.value ≡ w +ℤ net_cost_at g π k x r
@@ -171,13 +222,17 @@ module _ (g : ThermalUnit) (π : PriceLists) (first k : ℕ) (c : Curve) (unit :
         let up = m.move.ramp_up in
         let down = m.move.ramp_down in
         let may_x = move.greatest in
-        let may = best_may mu cap g.ramp_up y x (omega (arith, ints, greatest, kept)) (let back = chosen.least.inside.0 in omega (arith, ints, back)) in
+        let may = best_may mu cap g.ramp_up y x (omega (arith, ints, greatest, kept))
+        (let back = chosen.least.inside.0 in omega (arith, ints, back)) in
         let s = step_complete g π k c unit price curve begins ends f h step y w x r source.1 move may.least in
         let same = same_some (value_of h x) s.1 onward.there in
         let above = s.2 in
-        let kinked : value_of chosen.kinked q ≡ Some (m.old +ℤ term q) = chosen.is_kinked q ∙ ap (option_map (λ v. v +ℤ term q)) m.there in
-        let least = chosen.least.least q (m.old +ℤ term q) kinked (omega (arith, ints, up, kept)) (omega (arith, ints, down)) in
-        let below = net_at_least g π k price cap q x m.reserve (record { least = kept; greatest = greatest; ramp = up }) in
+        let kinked : value_of chosen.kinked q ≡ Some (m.old +ℤ term q) = chosen.is_kinked q ∙
+        ap (option_map (λ v. v +ℤ term q)) m.there in
+        let least = chosen.least.least q (m.old +ℤ term q) kinked (omega (arith, ints, up, kept))
+        (omega (arith, ints, down)) in
+        let below = net_at_least g π k price cap q x m.reserve (record { least = kept; greatest = greatest; ramp = up })
+        in
         let net_q = net_of_best g π k price cap q x in
         let net_y = net_of_best g π k price cap y x in
         let is = m.cost in
@@ -193,98 +248,119 @@ module _ (g : ThermalUnit) (π : PriceLists) (first k : ℕ) (c : Curve) (unit :
     same_later : (other : Schedule) → HasSamePowersAfter (suc k) last d' other → HasSamePowersAfter (suc k) last d other
     same_later other same j later high = same j later high ∙ power_after j later
 
-    later_of : (i : ℕ) (other : Schedule) → k ≤ i → HasSamePowersAfter (suc i) last d' other → HasSamePowersAfter (suc i) last d other
+    later_of : (i : ℕ) (other : Schedule) → k ≤ i → HasSamePowersAfter (suc i) last d' other →
+        HasSamePowersAfter (suc i) last d other
     later_of i other above same j later high = same j later high ∙ power_after j (omega (arith, later, above))
 
     way_completes : (run : Schedule) → IsRun g first k run → level g first run k ≡ y → IsSameAfter k last d' run →
-        IsDispatch g T first last run × (spell_cost g π first last run ≡ spell_cost g π first k run +ℤ (cost -ℤ w)) × ((j : ℕ) → k ≤ j → j < last → HasBestReserve g π first last run j)
+        IsDispatch g T first last run × (spell_cost g π first last run ≡ spell_cost g π first k run +ℤ (cost -ℤ w)) ×
+        ((j : ℕ) → k ≤ j → j < last → HasBestReserve g π first last run j)
     way_completes run keeps at same =
         let power : power_in run (suc k) ≡ x = same.power k (omega arith) (omega (arith, low)) ∙ chosen.written.power in
-        let reserve : reserve_in run (suc k) ≡ r = same.reserve k (omega arith) (omega (arith, low)) ∙ chosen.written.reserve in
-        let m = move_same g begins ends y x r (level g first run k) (power_in run (suc k)) (reserve_in run (suc k)) (sym at) (sym power) (sym reserve) move in
+        let reserve : reserve_in run (suc k) ≡ r = same.reserve k (omega arith) (omega (arith, low)) ∙
+        chosen.written.reserve in
+        let m = move_same g begins ends y x r (level g first run k) (power_in run (suc k)) (reserve_in run (suc k))
+        (sym at) (sym power) (sym reserve) move in
         let later : IsSameAfter (suc k) last d run = record {
           power = λ j above high. same.power j (omega (arith, above)) high ∙ power_after j above;
           reserve = λ j above high. same.reserve j (omega (arith, above)) high ∙ reserve_after j above;
         } in
         let o = onward.completes run keeps power m later in
         let more = cost_more g π first k run from in
-        let net : net_cost g π run (suc k) ≡ net_cost_at g π k x r = ap (λ (p : ℤ). net_cost_at g π k p (reserve_in run (suc k))) power ∙ ap (λ (r : ℤ). net_cost_at g π k x r) reserve in
+        let net : net_cost g π run (suc k) ≡ net_cost_at g π k x r = ap
+        (λ (p : ℤ). net_cost_at g π k p (reserve_in run (suc k))) power ∙
+        ap (λ (r : ℤ). net_cost_at g π k x r) reserve in
         let whole = o.1 in
         let is = value_is in
         let best : HasBestReserve g π first last run k =
-        reserve ∙ ap (λ (q : ℤ). best_reserve mu cap g.ramp_up q x) (sym at) ∙ ap (λ (p : ℤ). best_reserve mu cap g.ramp_up (level g first run k) p) (sym power) in (
+        reserve ∙ ap (λ (q : ℤ). best_reserve mu cap g.ramp_up q x) (sym at) ∙
+        ap (λ (p : ℤ). best_reserve mu cap g.ramp_up (level g first run k) p) (sym power) in (
           o.0,
           omega (arith, ints, whole, more, net, is),
           λ j above high. elim (cases_lt k j) [
             | inl after ↦ o.2 j (omega (arith, after)) high
-            | inr most ↦ let z : k ≡ j = omega (arith, most, above) in subst (λ (i : ℕ). HasBestReserve g π first last run i) z best
+            | inr most ↦ let z : k ≡ j = omega (arith, most, above) in subst
+                (λ (i : ℕ). HasBestReserve g π first last run i) z best
           ],
         )
 
     -- what another dispatch does in period suc k
-    module _ (other : Schedule) (dispatch : IsDispatch g T first last other) (same : HasSamePowersAfter k last d' other) where
-      abbrev q : ℤ
-      q = level g first other k
+    module _ (other : Schedule) (dispatch : IsDispatch g T first last other) (same : HasSamePowersAfter k last d' other)
+      where
+        abbrev q : ℤ
+        q = level g first other k
 
-      other_power : power_in other (suc k) ≡ x
-      other_power = same k (omega arith) (omega (arith, low)) ∙ chosen.written.power
+        other_power : power_in other (suc k) ≡ x
+        other_power = same k (omega arith) (omega (arith, low)) ∙ chosen.written.power
 
-      other_move : IsMove g begins ends q x (reserve_in other (suc k))
-      other_move =
-          move_same g begins ends q (power_in other (suc k)) (reserve_in other (suc k)) q x (reserve_in other (suc k)) refl other_power refl
-          (move_of g T first unit.ramp_down.at_least other last k from low dispatch)
+        other_move : IsMove g begins ends q x (reserve_in other (suc k))
+        other_move =
+            move_same g begins ends q (power_in other (suc k)) (reserve_in other (suc k)) q x (reserve_in other (suc k))
+            refl other_power refl
+            (move_of g T first unit.ramp_down.at_least other last k from low dispatch)
 
-      other_net : net_cost_at g π k x (best_reserve mu cap g.ramp_up q x) ≤ℤ net_cost g π other (suc k)
-      other_net =
-          let may : IsReserve cap g.ramp_up q x (reserve_in other (suc k)) = record { least = reserve_not_negative other k; greatest = other_move.greatest; ramp = other_move.ramp_up } in
-          let least = net_at_least g π k price cap q x (reserve_in other (suc k)) may in
-          let same_net : net_cost g π other (suc k) ≡ net_cost_at g π k x (reserve_in other (suc k)) = ap (λ (p : ℤ). net_cost_at g π k p (reserve_in other (suc k))) other_power in
-          omega (arith, ints, least, same_net)
+        other_net : net_cost_at g π k x (best_reserve mu cap g.ramp_up q x) ≤ℤ net_cost g π other (suc k)
+        other_net =
+            let may : IsReserve cap g.ramp_up q x (reserve_in other (suc k)) = record
+            { least = reserve_not_negative other k; greatest = other_move.greatest; ramp = other_move.ramp_up } in
+            let least = net_at_least g π k price cap q x (reserve_in other (suc k)) may in
+            let same_net : net_cost g π other (suc k) ≡ net_cost_at g π k x (reserve_in other (suc k)) = ap
+            (λ (p : ℤ). net_cost_at g π k p (reserve_in other (suc k))) other_power in
+            omega (arith, ints, least, same_net)
 
-      other_rest : ((spell_cost g π first k other +ℤ net_cost g π other (suc k)) +ℤ (cost -ℤ onward.value)) ≤ℤ spell_cost g π first last other
-      other_rest =
-          let o = onward.rest other dispatch (λ j later high. same j (omega (arith, later)) high ∙ power_after j later) other_power in
-          let more = cost_more g π first k other from in
-          omega (arith, ints, o, more)
+        other_rest : ((spell_cost g π first k other +ℤ net_cost g π other (suc k)) +ℤ (cost -ℤ onward.value)) ≤ℤ
+            spell_cost g π first last other
+        other_rest =
+            let o = onward.rest other dispatch
+            (λ j later high. same j (omega (arith, later)) high ∙ power_after j later)
+            other_power in
+            let more = cost_more g π first k other from in
+            omega (arith, ints, o, more)
 
-      way_rest : q ≡ y → (spell_cost g π first k other +ℤ (cost -ℤ w)) ≤ℤ spell_cost g π first last other
-      way_rest at =
-          let o = other_rest in
-          let n = other_net in
-          let is = value_is in
-          let e : net_cost_at g π k x (best_reserve mu cap g.ramp_up q x) ≡ net_cost_at g π k x r = ap (λ (z : ℤ). net_cost_at g π k x (best_reserve mu cap g.ramp_up z x)) at in
-          omega (arith, ints, o, n, is, e)
+        way_rest : q ≡ y → (spell_cost g π first k other +ℤ (cost -ℤ w)) ≤ℤ spell_cost g π first last other
+        way_rest at =
+            let o = other_rest in
+            let n = other_net in
+            let is = value_is in
+            let e : net_cost_at g π k x (best_reserve mu cap g.ramp_up q x) ≡ net_cost_at g π k x r = ap
+            (λ (z : ℤ). net_cost_at g π k x (best_reserve mu cap g.ramp_up z x)) at in
+            omega (arith, ints, o, n, is, e)
 
-      way_first : spell_cost g π first last other ≡ cost → y ≤ℤ q
-      way_first cost_is =
-          let o = other_rest in
-          let n = other_net in
-          let is = value_is in
-          let b = front.complete other (run_of g T first unit.ramp_down.at_least other last k from low dispatch) in
-          let reached = b.2 in
-          let kinked : value_of chosen.kinked q ≡ Some (b.0 +ℤ term q) = chosen.is_kinked q ∙ ap (option_map (λ v. v +ℤ term q)) b.1 in
-          let kept = reserve_not_negative other k in
-          let up = other_move.ramp_up in
-          let down = other_move.ramp_down in
-          let back : (x -ℤ g.ramp_up) ≤ℤ q = omega (arith, ints, up, kept) in
-          let ahead : q ≤ℤ (x +ℤ g.ramp_down) = omega (arith, ints, down) in
-          let least = chosen.least.least q (b.0 +ℤ term q) kinked back ahead in
-          let net_q = net_of_best g π k price cap q x in
-          let net_y = net_of_best g π k price cap y x in
-          let from_y = source.2 in
-          let e : b.0 +ℤ term q ≡ chosen.value = omega (arith, ints, o, n, is, reached, least, net_q, net_y, from_y, cost_is) in
-          chosen.least.first q (kinked ∙ ap Some e) back ahead
+        way_first : spell_cost g π first last other ≡ cost → y ≤ℤ q
+        way_first cost_is =
+            let o = other_rest in
+            let n = other_net in
+            let is = value_is in
+            let b = front.complete other (run_of g T first unit.ramp_down.at_least other last k from low dispatch) in
+            let reached = b.2 in
+            let kinked : value_of chosen.kinked q ≡ Some (b.0 +ℤ term q) = chosen.is_kinked q ∙
+            ap (option_map (λ v. v +ℤ term q)) b.1 in
+            let kept = reserve_not_negative other k in
+            let up = other_move.ramp_up in
+            let down = other_move.ramp_down in
+            let back : (x -ℤ g.ramp_up) ≤ℤ q = omega (arith, ints, up, kept) in
+            let ahead : q ≤ℤ (x +ℤ g.ramp_down) = omega (arith, ints, down) in
+            let least = chosen.least.least q (b.0 +ℤ term q) kinked back ahead in
+            let net_q = net_of_best g π k price cap q x in
+            let net_y = net_of_best g π k price cap y x in
+            let from_y = source.2 in
+            let e : b.0 +ℤ term q ≡ chosen.value = omega
+            (arith, ints, o, n, is, reached, least, net_q, net_y, from_y, cost_is) in
+            chosen.least.first q (kinked ∙ ap Some e) back ahead
 
     way_after : (other : Schedule) → IsDispatch g T first last other → spell_cost g π first last other ≡ cost →
-        (i : ℕ) → k ≤ i → i < last → HasSamePowersAfter (suc i) last d' other → power_in d' (suc i) ≤ℤ power_in other (suc i)
+        (i : ℕ) → k ≤ i → i < last → HasSamePowersAfter (suc i) last d' other →
+        power_in d' (suc i) ≤ℤ power_in other (suc i)
     way_after other dispatch cost_is i above high same = elim (cases_lt k i) [
       | inl after ↦
-          let a = onward.first_after other dispatch cost_is i (omega (arith, after)) high (later_of i other above same) in
+          let a = onward.first_after other dispatch cost_is i (omega (arith, after)) high (later_of i other above same)
+          in
           let e = power_after i (omega (arith, after)) in
           omega (arith, ints, a, e)
       | inr most ↦
           let z : i ≡ k = omega (arith, most, above) in
-          let here : HasSamePowersAfter (suc k) last d' other = subst (λ (t : ℕ). HasSamePowersAfter (suc t) last d' other) z same in
+          let here : HasSamePowersAfter (suc k) last d' other = subst
+          (λ (t : ℕ). HasSamePowersAfter (suc t) last d' other) z same in
           let a = onward.first_here other dispatch cost_is (same_later other here) in
           let e = chosen.written.power in
           let b : power_in d' (suc k) ≤ℤ power_in other (suc k) = omega (arith, ints, a, e) in

@@ -1,20 +1,29 @@
 -- What a bench is made for stays.
-use Rattle.unit_program.proofs.Common.{◌≡◌, ℕ, zero, suc, ◌+◌, ◌-◌, ◌*◌, ◌≤◌, ◌⊎◌, inl, inr, Some, List, [], ◌∷◌, ◌++◌, length, sym, ap, ◌∙◌, subst, arith, slice_get, mul-le-mul_left, Runner, places_of, HaveRoom}
+use Rattle.unit_program.proofs.Common.{◌≡◌, ℕ, zero, suc, ◌+◌, ◌-◌, ◌*◌, ◌≤◌, ◌⊎◌, inl, inr, Some, List, [], ◌∷◌, ◌++◌}
+use Rattle.unit_program.proofs.Common.{length, sym, ap, ◌∙◌, subst, arith, slice_get, mul-le-mul_left, Runner}
+use Rattle.unit_program.proofs.Common.{places_of, HaveRoom}
 use Rattle.unit_program.specs.declared.bench.Bench.{Bench}
 use Rattle.unit_program.specs.Benches.{IsBenchFor}
 
-pub room_less : {R : Type 0} (room : R → ℕ) (most less periods : ℕ) (runners : List (Runner R)) → less ≤ most → HaveRoom room most periods runners → HaveRoom room less periods runners
-room_less room most less periods runners low have f r is = (let there = (have f r is).0 in (omega (arith, low, there), (have f r is).1))
+pub room_less : {R : Type 0} (room : R → ℕ) (most less periods : ℕ) (runners : List (Runner R)) → less ≤ most →
+    HaveRoom room most periods runners → HaveRoom room less periods runners
+room_less room most less periods runners low have f r is =
+    (let there = (have f r is).0 in (omega (arith, low, there), (have f r is).1))
 
 -- a curve of so many points asks for no more
-pub charge_less : (periods points blocks : ℕ) → blocks ≤ 2 * (points - 1) → periods * (blocks + 3) ≤ periods * (2 * points + 3)
+pub charge_less : (periods points blocks : ℕ) → blocks ≤ 2 * (points - 1) →
+    periods * (blocks + 3) ≤ periods * (2 * points + 3)
 charge_less periods points blocks few = mul-le-mul_left periods (omega (arith, few))
 
 pub bench_kept : {R : Type 0} (room : R → ℕ) (periods points : ℕ) (old new : Bench R) →
-    length old.curve.blocks.items + old.curve.blocks.spare ≡ length new.curve.blocks.items + new.curve.blocks.spare → length new.runners.items ≡ length old.runners.items →
-    ((most periods : ℕ) → HaveRoom room most periods old.runners.items → HaveRoom room most periods new.runners.items) → length new.table.items ≡ length old.table.items →
+    length old.curve.blocks.items + old.curve.blocks.spare ≡ length new.curve.blocks.items + new.curve.blocks.spare →
+    length new.runners.items ≡ length old.runners.items →
+    ((most periods : ℕ) → HaveRoom room most periods old.runners.items → HaveRoom room most periods new.runners.items) →
+    length new.table.items ≡ length old.table.items →
     length new.origins.list.items ≡ length old.origins.list.items →
-    length new.roster.firsts.items ≡ length old.roster.firsts.items → length new.limits.items ≡ length old.limits.items → IsBenchFor room periods points old → IsBenchFor room periods points new
+    length new.roster.firsts.items ≡ length old.roster.firsts.items →
+    length new.limits.items ≡ length old.limits.items → IsBenchFor room periods points old →
+    IsBenchFor room periods points new
 bench_kept room periods points old new curve count keeps rows list firsts each b =
     record {
       blocks = omega (arith, curve);
@@ -28,13 +37,15 @@ bench_kept room periods points old new curve count keeps rows list firsts each b
 
 -- ---- runners made one by one
 
-get_append : {X : Type 0} (xs : List X) (r : X) (i : ℕ) (x : X) → slice_get (xs ++ r ∷ []) i ≡ Some x → (slice_get xs i ≡ Some x) ⊎ (r ≡ x)
+get_append : {X : Type 0} (xs : List X) (r : X) (i : ℕ) (x : X) → slice_get (xs ++ r ∷ []) i ≡ Some x →
+    (slice_get xs i ≡ Some x) ⊎ (r ≡ x)
 get_append [] r zero x h = inr (cc)
 get_append [] r (suc i) x h = cc
 get_append (y ∷ ys) r zero x h = inl h
 get_append (y ∷ ys) r (suc i) x h = get_append ys r i x h
 
-pub room_more : {R : Type 0} (room : R → ℕ) (most periods : ℕ) (runners runners' : List (Runner R)) (r : Runner R) → runners' ≡ runners ++ r ∷ [] → most ≤ room r.running → periods ≤ places_of r →
+pub room_more : {R : Type 0} (room : R → ℕ) (most periods : ℕ) (runners runners' : List (Runner R)) (r : Runner R) →
+    runners' ≡ runners ++ r ∷ [] → most ≤ room r.running → periods ≤ places_of r →
     HaveRoom room most periods runners → HaveRoom room most periods runners'
 room_more room most periods runners runners' r is fits long have f x there =
     elim (get_append runners r f x (ap (λ xs. slice_get xs f) (sym is) ∙ there)) [

@@ -1,9 +1,17 @@
 -- Spells and times off, one after another, make a feasible schedule, whose cost is the sum of theirs.
-use Rattle.unit_program.proofs.Common.{◌≡◌, ℕ, zero, suc, ◌+◌, ◌<◌, ◌≤◌, Bool, true, false, not, cond, ◌&&◌, inl, inr, ℤ, pos, neg_ℤ, ◌+ℤ◌, ◌≤ℤ◌, length, refl, sym, ap, ◌∙◌, subst, arith, IsTrue, IsFalse, ints, cases_lt, ThermalUnit, Thermal, PriceLists, Schedule, on_in, above_min, above_with_reserve, reserve_in, starts_in, time_down, cap_of, IsPeriod, IsSchedule, KeepsDispatch, start_cost_of, earnings, IsThermalFeasible, IsStep, time_up, IsDispatch, net_cost, spell_cost, on_time, off_time, IsSpell, IsOffRun, IsGap, start_cost_after, paid, IsDispatchStep, MayStop, IsUpTo, IsIdle}
+use Rattle.unit_program.proofs.Common.{◌≡◌, ℕ, zero, suc, ◌+◌, ◌<◌, ◌≤◌, Bool, true, false, not, cond, ◌&&◌, inl, inr}
+use Rattle.unit_program.proofs.Common.{ℤ, pos, neg_ℤ, ◌+ℤ◌, ◌≤ℤ◌, length, refl, sym, ap, ◌∙◌, subst, arith, IsTrue}
+use Rattle.unit_program.proofs.Common.{IsFalse, ints, cases_lt, ThermalUnit, Thermal, PriceLists, Schedule, on_in}
+use Rattle.unit_program.proofs.Common.{above_min, above_with_reserve, reserve_in, starts_in, time_down, cap_of}
+use Rattle.unit_program.proofs.Common.{IsPeriod, IsSchedule, KeepsDispatch, start_cost_of, earnings, IsThermalFeasible}
+use Rattle.unit_program.proofs.Common.{IsStep, time_up, IsDispatch, net_cost, spell_cost, on_time, off_time, IsSpell}
+use Rattle.unit_program.proofs.Common.{IsOffRun, IsGap, start_cost_after, paid, IsDispatchStep, MayStop, IsUpTo, IsIdle}
 use Rattle.unit_program.proofs.RunLaws.{held-more, held-none}
 use Rattle.unit_program.proofs.CommitLaws.{rules_from_steps}
 use Rattle.unit_program.proofs.CostLaws.{sum_from_to-more, sum_from_to-one, earnings-paid}
-use Rattle.unit_program.proofs.SpellLaws.{above-on, above-off, period_cost-stay, period_cost-start, period_cost-off, on_time-more, off_time-more, off_time-first, off_time-same, time_down-on, time_down-more}
+use Rattle.unit_program.proofs.SpellLaws.{above-on, above-off, period_cost-stay, period_cost-start, period_cost-off}
+use Rattle.unit_program.proofs.SpellLaws.{on_time-more, off_time-more, off_time-first, off_time-same, time_down-on}
+use Rattle.unit_program.proofs.SpellLaws.{time_down-more}
 
 -- one more place below
 below_suc : (P : ℕ → Type 0) (t : ℕ) → ((k : ℕ) → k < t → P k) → P t → (k : ℕ) → k < suc t → P k
@@ -26,7 +34,8 @@ module _ (g : ThermalUnit) (π : PriceLists) (periods : ℕ) (s : Schedule)
   -- ---- steps of each kind
 
   module _ (k : ℕ) where
-    stop_step : IsTrue (on_in g s k) → IsFalse (on_in g s (suc k)) → reserve_in s (suc k) ≡ pos 0 → MayStop g s k → IsDispatchStep g s k
+    stop_step : IsTrue (on_in g s k) → IsFalse (on_in g s (suc k)) → reserve_in s (suc k) ≡ pos 0 → MayStop g s k →
+        IsDispatchStep g s k
     stop_step here after none may =
         let a = above-on g s k here in
         let b = above-off g s (suc k) after in
@@ -54,7 +63,8 @@ module _ (g : ThermalUnit) (π : PriceLists) (periods : ℕ) (s : Schedule)
           ramp_down = omega (arith, ints, a, b, ramp_down);
         }
 
-    start_step : (l : ℕ) → IsFalse (on_in g s k) → IsTrue (on_in g s (suc k)) → IsDispatch g periods (suc k) l s → suc k ≤ l → IsDispatchStep g s k
+    start_step : (l : ℕ) → IsFalse (on_in g s k) → IsTrue (on_in g s (suc k)) → IsDispatch g periods (suc k) l s →
+        suc k ≤ l → IsDispatchStep g s k
     start_step l here after d order =
         let a = above-off g s k here in
         let b = above-on g s (suc k) after in
@@ -72,7 +82,8 @@ module _ (g : ThermalUnit) (π : PriceLists) (periods : ℕ) (s : Schedule)
           ramp_down = omega (arith, ints, a, b, least, ramp_down);
         }
 
-    on_step : (f l : ℕ) → IsTrue (on_in g s k) → IsTrue (on_in g s (suc k)) → IsDispatch g periods f l s → f ≤ k → suc k ≤ l → IsDispatchStep g s k
+    on_step : (f l : ℕ) → IsTrue (on_in g s k) → IsTrue (on_in g s (suc k)) → IsDispatch g periods f l s → f ≤ k →
+        suc k ≤ l → IsDispatchStep g s k
     on_step f l here after d from until =
         let a = above-on g s k here in
         let b = above-on g s (suc k) after in
@@ -99,7 +110,8 @@ module _ (g : ThermalUnit) (π : PriceLists) (periods : ℕ) (s : Schedule)
     time : time_down g s t ≡ off_time g l t
     cost : paid g π s t ≡ v
 
-  off_commit : (l t k : ℕ) → IsOffRun g l t → l ≤ k → suc k ≤ t → IsFalse (on_in g s (suc k)) → (IsTrue (on_in g s k) → g.min_up ≤ time_up g s k) → IsStep g s k
+  off_commit : (l t k : ℕ) → IsOffRun g l t → l ≤ k → suc k ≤ t → IsFalse (on_in g s (suc k)) →
+      (IsTrue (on_in g s k) → g.min_up ≤ time_up g s k) → IsStep g s k
   off_commit l t k run from until after up = record {
     must_run = λ must. (let low = run.must_run must in absurd (omega (arith, low, from, until)));
     stop = λ here _. up here;
@@ -108,18 +120,21 @@ module _ (g : ThermalUnit) (π : PriceLists) (periods : ℕ) (s : Schedule)
     must_off = λ mark. after;
   }
 
-  off_to : (l : ℕ) (v : ℤ) → IsUpTo g π periods s l v → (end : ℕ) → end ≤ periods → IsOffRun g l end → IsIdle g s l end → (t : ℕ) → l ≤ t → t ≤ end → IsFalse (on_in g s t) → IsOffTo l t v
+  off_to : (l : ℕ) (v : ℤ) → IsUpTo g π periods s l v → (end : ℕ) → end ≤ periods → IsOffRun g l end →
+      IsIdle g s l end → (t : ℕ) → l ≤ t → t ≤ end → IsFalse (on_in g s t) → IsOffTo l t v
   off_to zero v up end low run idle zero from until off =
       record {
         steps = up.steps;
         dispatch = up.dispatch;
         off = off;
-        time = ap (λ (b : Bool). cond b 0 g.down0) off ∙ sym (ap (λ (b : Bool). cond b 0 (g.down0 + 0)) off ∙ (omega arith));
+        time = ap (λ (b : Bool). cond b 0 g.down0) off ∙ sym
+            (ap (λ (b : Bool). cond b 0 (g.down0 + 0)) off ∙ (omega arith));
         cost = up.cost;
       }
   off_to (suc l) v up end low run idle zero from until off = absurd (omega (arith, from))
   off_to l v up end low run idle (suc t) from until off = elim (cases_lt l (suc t)) [
-    | inr same ↦ let z : l ≡ suc t = omega (arith, same, from) in let on = subst (λ (k : ℕ). IsTrue (on_in g s k)) z (up.on (omega (arith, same))) in cc
+    | inr same ↦ let z : l ≡ suc t = omega (arith, same, from) in let on = subst (λ (k : ℕ). IsTrue (on_in g s k)) z
+        (up.on (omega (arith, same))) in cc
     | inl more ↦
         let none = idle.reserve (suc t) more until in
         let zero_cost = period_cost-off g π s t off in
@@ -132,17 +147,20 @@ module _ (g : ThermalUnit) (π : PriceLists) (periods : ℕ) (s : Schedule)
                 let may = there.stops (omega (arith, until, low)) on in
                 let was = time_down-on g s t on in
                 record {
-                  steps = below_suc (λ k. IsStep g s k) t there.steps (off_commit l end t run (omega (arith, more)) until off (λ _. may.min_up));
+                  steps = below_suc (λ k. IsStep g s k) t there.steps
+                      (off_commit l end t run (omega (arith, more)) until off (λ _. may.min_up));
                   dispatch = below_suc (λ k. IsDispatchStep g s k) t there.dispatch (stop_step t on off none may);
                   off = off;
-                  time = time_down-more g s t off ∙ ap suc was ∙ sym (off_time-first g s t on) ∙ ap (λ (k : ℕ). off_time g k (suc t)) (sym z);
+                  time = time_down-more g s t off ∙ ap suc was ∙ sym (off_time-first g s t on) ∙
+                      ap (λ (k : ℕ). off_time g k (suc t)) (sym z);
                   cost = omega (arith, ints, zero_cost);
                 }
           ]
           | false ↦ λ before.
               let r = off_to l v up end low run idle t (omega (arith, more)) (omega (arith, until)) before in
               record {
-                steps = below_suc (λ k. IsStep g s k) t r.steps (off_commit l end t run (omega (arith, more)) until off (λ on. cc));
+                steps = below_suc (λ k. IsStep g s k) t r.steps
+                    (off_commit l end t run (omega (arith, more)) until off (λ on. cc));
                 dispatch = below_suc (λ k. IsDispatchStep g s k) t r.dispatch (off_step t before off none);
                 off = off;
                 time = time_down-more g s t off ∙ ap suc r.time ∙ sym (off_time-more g l t (omega (arith, more)));
@@ -159,7 +177,8 @@ module _ (g : ThermalUnit) (π : PriceLists) (periods : ℕ) (s : Schedule)
     time : time_up g s t ≡ on_time g f t
     cost : paid g π s t ≡ e +ℤ spell_cost g π f t s
 
-  on_commit : (f l k : ℕ) → IsSpell g periods f l → f ≤ suc k → suc k ≤ l → IsTrue (on_in g s (suc k)) → (IsFalse (on_in g s k) → g.min_down ≤ time_down g s k) → IsStep g s k
+  on_commit : (f l k : ℕ) → IsSpell g periods f l → f ≤ suc k → suc k ≤ l → IsTrue (on_in g s (suc k)) →
+      (IsFalse (on_in g s k) → g.min_down ≤ time_down g s k) → IsStep g s k
   on_commit f l k spell from until after down = record {
     must_run = λ must. after;
     stop = λ here off. cc;
@@ -168,7 +187,8 @@ module _ (g : ThermalUnit) (π : PriceLists) (periods : ℕ) (s : Schedule)
     must_off = λ mark. absurd (spell.marks (suc k) (omega arith) from until mark);
   }
 
-  module _ (f l : ℕ) (e : ℤ) (spell : IsSpell g periods f l) (on : (k : ℕ) → f ≤ k → k ≤ l → IsTrue (on_in g s k)) (d : IsDispatch g periods f l s) where
+  module _ (f l : ℕ) (e : ℤ) (spell : IsSpell g periods f l) (on : (k : ℕ) → f ≤ k → k ≤ l →
+      IsTrue (on_in g s k)) (d : IsDispatch g periods f l s) where
     on_more : (t : ℕ) → f ≤ t → suc t ≤ l → IsOnTo f t e → IsOnTo f (suc t) e
     on_more t from until st =
         let here = on t from (omega (arith, until)) in
@@ -176,7 +196,8 @@ module _ (g : ThermalUnit) (π : PriceLists) (periods : ℕ) (s : Schedule)
         let stay = period_cost-stay g π s t here after in
         let more = sum_from_to-more (net_cost g π s) f t (omega (arith, from)) in
         record {
-          steps = below_suc (λ k. IsStep g s k) t st.steps (on_commit f l t spell (omega (arith, from)) until after (λ off. cc));
+          steps = below_suc (λ k. IsStep g s k) t st.steps
+              (on_commit f l t spell (omega (arith, from)) until after (λ off. cc));
           dispatch = below_suc (λ k. IsDispatchStep g s k) t st.dispatch (on_step t f l here after d from until);
           time = held-more (on_in g s) g.up0 t after ∙ ap suc st.time ∙ sym (on_time-more g f t from);
           cost = omega (arith, ints, stay, more);
@@ -202,7 +223,8 @@ module _ (g : ThermalUnit) (π : PriceLists) (periods : ℕ) (s : Schedule)
             cap_at_once = λ none. d.stop_at_once inside none;
             down = d.leave inside;
             up = elim (cases_lt 0 l) [
-              | inl one ↦ let least = d.least l (omega (arith, one)) spell.order (omega arith) in omega (arith, ints, least, ramp_up)
+              | inl one ↦ let least = d.least l (omega (arith, one)) spell.order (omega arith) in omega
+                  (arith, ints, least, ramp_up)
               | inr none ↦ d.leave_at_once inside (omega (arith, none))
             ];
           };
@@ -222,7 +244,8 @@ module _ (g : ThermalUnit) (π : PriceLists) (periods : ℕ) (s : Schedule)
   }
 
   -- a spell that goes on from before the horizon
-  pub up_to_first : (l : ℕ) → IsSpell g periods 0 l → ((k : ℕ) → k ≤ l → IsTrue (on_in g s k)) → IsDispatch g periods 0 l s → IsUpTo g π periods s l (spell_cost g π 0 l s)
+  pub up_to_first : (l : ℕ) → IsSpell g periods 0 l → ((k : ℕ) → k ≤ l → IsTrue (on_in g s k)) →
+      IsDispatch g periods 0 l s → IsUpTo g π periods s l (spell_cost g π 0 l s)
   up_to_first l spell on d =
       let on0 = on 0 (omega arith) in
       let one = sum_from_to-one (net_cost g π s) 0 in
@@ -238,7 +261,10 @@ module _ (g : ThermalUnit) (π : PriceLists) (periods : ℕ) (s : Schedule)
       subst (λ (v : ℤ). IsUpTo g π periods s l v) z r
 
   -- a time off and a spell after what is right up to period l
-  pub up_to_next : (l k m : ℕ) (v : ℤ) → IsUpTo g π periods s l v → IsGap g l k → 1 ≤ g.min_down → IsIdle g s l k → IsSpell g periods (suc k) m → ((t : ℕ) → suc k ≤ t → t ≤ m → IsTrue (on_in g s t)) → IsDispatch g periods (suc k) m s → IsUpTo g π periods s m ((v +ℤ start_cost_after g l k) +ℤ spell_cost g π (suc k) m s)
+  pub up_to_next : (l k m : ℕ) (v : ℤ) → IsUpTo g π periods s l v → IsGap g l k → 1 ≤ g.min_down → IsIdle g s l k →
+      IsSpell g periods (suc k) m → ((t : ℕ) → suc k ≤ t → t ≤ m → IsTrue (on_in g s t)) →
+      IsDispatch g periods (suc k) m s → IsUpTo g π periods s m
+      ((v +ℤ start_cost_after g l k) +ℤ spell_cost g π (suc k) m s)
   up_to_next l k m v up gap some idle spell on d =
       let order = spell.order in
       let after = on (suc k) (omega arith) order in
@@ -260,7 +286,8 @@ module _ (g : ThermalUnit) (π : PriceLists) (periods : ℕ) (s : Schedule)
       let start = ap (start_cost_of g.lags) r.time in
       let time = r.time in
       let first : IsOnTo (suc k) (suc k) (v +ℤ start_cost_after g l k) = record {
-        steps = below_suc (λ k. IsStep g s k) k r.steps (on_commit (suc k) m k spell (omega arith) order after (λ _. omega (arith, time)));
+        steps = below_suc (λ k. IsStep g s k) k r.steps
+            (on_commit (suc k) m k spell (omega arith) order after (λ _. omega (arith, time)));
         dispatch = below_suc (λ k. IsDispatchStep g s k) k r.dispatch (start_step k m off after d order);
         time = held-more (on_in g s) g.up0 k after ∙ ap suc none ∙ (omega arith);
         cost = omega (arith, ints, one, starts, start);
@@ -276,9 +303,12 @@ module _ (g : ThermalUnit) (π : PriceLists) (periods : ℕ) (s : Schedule)
 
     keeps_dispatch : KeepsDispatch g s
     keeps_dispatch = record {
-      least = λ t period. dispatch_of t period (λ t. IsTrue (on_in g s t) → pos 0 ≤ℤ above_min g s t) (λ k st. st.least);
-      greatest = λ t period. dispatch_of t period (λ t. IsTrue (on_in g s t) → above_with_reserve g s t ≤ℤ cap_of g false false) (λ k st. st.greatest);
-      start = λ t period. dispatch_of t period (λ t. IsTrue (starts_in g s t) → above_with_reserve g s t ≤ℤ cap_of g true false) (λ k st. st.start);
+      least = λ t period. dispatch_of t period (λ t. IsTrue (on_in g s t) →
+          pos 0 ≤ℤ above_min g s t) (λ k st. st.least);
+      greatest = λ t period. dispatch_of t period (λ t. IsTrue (on_in g s t) →
+          above_with_reserve g s t ≤ℤ cap_of g false false) (λ k st. st.greatest);
+      start = λ t period. dispatch_of t period (λ t. IsTrue (starts_in g s t) →
+          above_with_reserve g s t ≤ℤ cap_of g true false) (λ k st. st.start);
       stop = λ t period next. ((dispatch t (omega (arith, is))).stop period.from_one);
       stop_at_once = λ one. ((dispatch 0 (omega (arith, is))).stop_at_once refl);
       ramp_up = λ k period. ((dispatch k (omega (arith, is))).ramp_up);
@@ -286,13 +316,18 @@ module _ (g : ThermalUnit) (π : PriceLists) (periods : ℕ) (s : Schedule)
     }
 
   -- a schedule that is right up to period l and off after it is feasible and earns what it costs, turned round
-  pub right_of : (l : ℕ) (v : ℤ) → IsSchedule periods s → IsUpTo g π periods s l v → l ≤ periods → IsOffRun g l periods → IsIdle g s l periods → IsThermalFeasible g periods s × (earnings (Thermal g) π s ≡ neg_ℤ v)
+  pub right_of : (l : ℕ) (v : ℤ) → IsSchedule periods s → IsUpTo g π periods s l v → l ≤ periods →
+      IsOffRun g l periods → IsIdle g s l periods → IsThermalFeasible g periods s × (earnings (Thermal g) π s ≡ neg_ℤ v)
   right_of l v schedule up low run idle =
       let is = schedule.on in
       let earned = earnings-paid g π s periods schedule in
-      let done : ((k : ℕ) → k < periods → IsStep g s k) × ((k : ℕ) → k < periods → IsDispatchStep g s k) × (paid g π s periods ≡ v) =
-      elim (on_in g s periods) as (λ b. on_in g s periods ≡ b → ((k : ℕ) → k < periods → IsStep g s k) × ((k : ℕ) → k < periods → IsDispatchStep g s k) × (paid g π s periods ≡ v)) [
-        | false ↦ λ off. let r = off_to l v up periods (omega arith) run idle periods low (omega arith) off in (r.steps, r.dispatch, r.cost)
+      let done : ((k : ℕ) → k < periods → IsStep g s k) × ((k : ℕ) → k < periods →
+      IsDispatchStep g s k) × (paid g π s periods ≡ v) =
+      elim (on_in g s periods) as (λ b. on_in g s periods ≡ b →
+      ((k : ℕ) → k < periods → IsStep g s k) × ((k : ℕ) → k < periods →
+      IsDispatchStep g s k) × (paid g π s periods ≡ v)) [
+        | false ↦ λ off. let r = off_to l v up periods (omega arith) run idle periods low (omega arith) off in
+            (r.steps, r.dispatch, r.cost)
         | true ↦ λ on. elim (cases_lt l periods) [
           | inl more ↦ let off = idle.off periods more (omega arith) in cc
           | inr most ↦

@@ -1,5 +1,6 @@
 -- The least so far of what is at ever later places.
-use Rattle.unit_program.proofs.Common.{◌≡◌, ℕ, ◌+◌, ◌<◌, ◌⊎◌, inl, inr, ◌≤◌, Option, Some, None, ℤ, pos, ◌+ℤ◌, ◌≤ℤ◌, sym, subst, arith, IfSome, IfNone, ints, cases_lt, Entry, HasEntryAtMost}
+use Rattle.unit_program.proofs.Common.{◌≡◌, ℕ, ◌+◌, ◌<◌, ◌⊎◌, inl, inr, ◌≤◌, Option, Some, None, ℤ, pos, ◌+ℤ◌, ◌≤ℤ◌}
+use Rattle.unit_program.proofs.Common.{sym, subst, arith, IfSome, IfNone, ints, cases_lt, Entry, HasEntryAtMost}
 
 pub if_some : {X : Type 0} → (P : X → Type 0) (o : Option X) (x : X) → o ≡ Some x → IfSome o P → P x
 if_some P o x is h = subst (λ o. IfSome o P) is h

@@ -24,7 +24,8 @@ pub mod LimitBackLaws
 pub mod LimitLaws
 -- the limits, as they are written from the last period back
 pub mod LimitListLaws
--- every feasible schedule is a list of spells: from the last period back, by the run or the time off that a period is in
+-- every feasible schedule is a list of spells: from the last period back, by the run or the time off that a period is
+-- in
 pub mod ListLaws
 -- the prices at which an end of the points has the least net cost
 pub mod NetLaws
@@ -38,7 +39,8 @@ pub mod RunLaws
 pub mod ShapeLaws
 -- runs of on periods and times off of a schedule, by single steps: their dispatch, costs, times and marks
 pub mod SpellLaws
--- of all schedules that cost the same, what the way back writes is the first: the table names the earliest end, the latest
+-- of all schedules that cost the same, what the way back writes is the first: the table names the earliest end, the
+-- latest
 pub mod TieLaws
 -- The lemmas that answers cite.
 pub mod Lemmas

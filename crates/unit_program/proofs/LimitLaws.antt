@@ -1,11 +1,17 @@
 -- The rows and the ends as far as they are within the limits.
-use Rattle.unit_program.proofs.Common.{◌≡◌, ℕ, ◌≤◌, inl, inr, Option, Some, None, ℤ, pos, ◌+ℤ◌, ◌≤ℤ◌, List, length, refl, arith, IfSome, IfNone, neg_ℤ, ints, EarningsAreWithin, ThermalUnit, PriceLists, Schedule, Thermal, earnings, IsThermalUnit, ArePrices, IsThermalFeasible, Ended, Entry, CappedRowsAreRows, LimitsAreAboveTheAmount, capped, IsFilledWithin, IsEndWithin, EachCostsMore, cost_at, IsOffRun, IsLeastEnd}
+use Rattle.unit_program.proofs.Common.{◌≡◌, ℕ, ◌≤◌, inl, inr, Option, Some, None, ℤ, pos, ◌+ℤ◌, ◌≤ℤ◌, List, length}
+use Rattle.unit_program.proofs.Common.{refl, arith, IfSome, IfNone, neg_ℤ, ints, EarningsAreWithin, ThermalUnit}
+use Rattle.unit_program.proofs.Common.{PriceLists, Schedule, Thermal, earnings, IsThermalUnit, ArePrices}
+use Rattle.unit_program.proofs.Common.{IsThermalFeasible, Ended, Entry, CappedRowsAreRows, LimitsAreAboveTheAmount}
+use Rattle.unit_program.proofs.Common.{capped, IsFilledWithin, IsEndWithin, EachCostsMore, cost_at, IsOffRun}
+use Rattle.unit_program.proofs.Common.{IsLeastEnd}
 use Rattle.unit_program.proofs.EntryLaws.{if_some}
 use Rattle.unit_program.proofs.ShapeLaws.{table_is_least}
 
 -- ---- the rows
 
-module _ (capped_row : CappedRowsAreRows) (g : ThermalUnit) (π : PriceLists) (most : ℤ) (rows : List (Option Ended)) (filled : IsFilledWithin g π most rows) where
+module _ (capped_row : CappedRowsAreRows) (g : ThermalUnit) (π : PriceLists) (most : ℤ) (rows : List (Option Ended))
+    (filled : IsFilledWithin g π most rows) where
   abbrev ends : ℕ → Option ℤ
   ends = capped filled.limits (cost_at rows)
 
@@ -20,7 +26,8 @@ module _ (capped_row : CappedRowsAreRows) (g : ThermalUnit) (π : PriceLists) (m
 
   module _ (above_most : LimitsAreAboveTheAmount) where
     -- no schedule costs at most the amount, where no end does
-    pub none_within : ((l : ℕ) (v : ℤ) → cost_at rows l ≡ Some v → IsOffRun g l (length π.energy) → (most +ℤ pos 1) ≤ℤ v) → EachCostsMore g π most
+    pub none_within : ((l : ℕ) (v : ℤ) → cost_at rows l ≡ Some v → IsOffRun g l (length π.energy) →
+        (most +ℤ pos 1) ≤ℤ v) → EachCostsMore g π most
     none_within above s right =
         let r = table_is_least g π ends (length π.energy) s right filled.table.complete in
         let limit = above_most g π most filled.limits filled.right r.0 r.1 in
@@ -33,7 +40,8 @@ module _ (capped_row : CappedRowsAreRows) (g : ThermalUnit) (π : PriceLists) (m
     module _ (l : ℕ) (v : ℤ) (low : v ≤ℤ most) (least : IsLeastEnd g (length π.energy) (cost_at rows) l v)
         (earliest : (k : ℕ) → cost_at rows k ≡ Some v → IsOffRun g k (length π.energy) → l ≤ k) where
       pub end_low : v ≤ℤ filled.limits l
-      end_low = (let limit = above_most g π most filled.limits filled.right l least.off.order in omega (arith, ints, low, limit))
+      end_low = (let limit = above_most g π most filled.limits filled.right l least.off.order in omega
+          (arith, ints, low, limit))
 
       pub end_capped : IsLeastEnd g (length π.energy) ends l v
       end_capped = record {
@@ -48,11 +56,15 @@ module _ (capped_row : CappedRowsAreRows) (g : ThermalUnit) (π : PriceLists) (m
       }
 
       pub end_earliest : (k : ℕ) → ends k ≡ Some v → IsOffRun g k (length π.energy) → l ≤ k
-      end_earliest k is off = (let limit = above_most g π most filled.limits filled.right k off.order in earliest k (row_real k v is (omega (arith, ints, low, limit))) off)
+      end_earliest k is off =
+          (let limit = above_most g π most filled.limits filled.right k off.order in earliest k
+          (row_real k v is (omega (arith, ints, low, limit))) off)
 
 -- ---- an end that is found
 
-module _ (g : ThermalUnit) (π : PriceLists) (most : ℤ) (rows : List (Option Ended)) (filled : IsFilledWithin g π most rows) (capped_row : CappedRowsAreRows) (above_most : LimitsAreAboveTheAmount) (end r : Option Entry)
+module _ (g : ThermalUnit) (π : PriceLists) (most : ℤ) (rows : List (Option Ended))
+    (filled : IsFilledWithin g π most rows) (capped_row : CappedRowsAreRows) (above_most : LimitsAreAboveTheAmount)
+    (end r : Option Entry)
     (some : IfSome end (λ e. IsLeastEnd g (length π.energy) (cost_at rows) e.last e.cost))
     (earliest : IfSome end (λ e. (k : ℕ) → cost_at rows k ≡ Some e.cost → IsOffRun g k (length π.energy) → e.last ≤ k))
     (none : IfNone end ((l : ℕ) (v : ℤ) → cost_at rows l ≡ Some v → IsOffRun g l (length π.energy) → ⊥))
@@ -61,38 +73,45 @@ module _ (g : ThermalUnit) (π : PriceLists) (most : ℤ) (rows : List (Option E
   pub found_within : IfSome r (λ e. IsEndWithin g π rows e.last e.cost)
   found_within = by r taken
     where
-      by : (r : Option Entry) → IfSome r (λ e. (end ≡ Some e) × (e.cost ≤ℤ most)) → IfSome r (λ e. IsEndWithin g π rows e.last e.cost)
+      by : (r : Option Entry) → IfSome r (λ e. (end ≡ Some e) × (e.cost ≤ℤ most)) →
+          IfSome r (λ e. IsEndWithin g π rows e.last e.cost)
       by None h = tt
       by (Some e) h = record {
         most = most;
         filled = filled;
         low = h.1;
         least = if_some (λ e. IsLeastEnd g (length π.energy) (cost_at rows) e.last e.cost) end e h.0 some;
-        earliest = if_some (λ e. (k : ℕ) → cost_at rows k ≡ Some e.cost → IsOffRun g k (length π.energy) → e.last ≤ k) end e h.0 earliest;
+        earliest = if_some (λ e. (k : ℕ) → cost_at rows k ≡ Some e.cost → IsOffRun g k (length π.energy) →
+            e.last ≤ k) end e h.0 earliest;
       }
 
   pub none_found : IfNone r (EachCostsMore g π most)
   none_found = by r left
     where
       above : (end : Option Entry) → IfSome end (λ e. IsLeastEnd g (length π.energy) (cost_at rows) e.last e.cost) →
-          IfNone end ((l : ℕ) (v : ℤ) → cost_at rows l ≡ Some v → IsOffRun g l (length π.energy) → ⊥) → ((e : Entry) → end ≡ Some e → (most +ℤ pos 1) ≤ℤ e.cost) →
+          IfNone end ((l : ℕ) (v : ℤ) → cost_at rows l ≡ Some v → IsOffRun g l (length π.energy) → ⊥) →
+          ((e : Entry) → end ≡ Some e → (most +ℤ pos 1) ≤ℤ e.cost) →
           (l : ℕ) (v : ℤ) → cost_at rows l ≡ Some v → IsOffRun g l (length π.energy) → (most +ℤ pos 1) ≤ℤ v
       above None some none left l v is off = absurd (none l v is off)
-      above (Some e) some none left l v is off = (let low = some.least l v is off in let high = left e refl in omega (arith, ints, low, high))
+      above (Some e) some none left l v is off =
+          (let low = some.least l v is off in let high = left e refl in omega (arith, ints, low, high))
 
-      by : (r : Option Entry) → IfNone r ((e : Entry) → end ≡ Some e → (most +ℤ pos 1) ≤ℤ e.cost) → IfNone r (EachCostsMore g π most)
+      by : (r : Option Entry) → IfNone r ((e : Entry) → end ≡ Some e → (most +ℤ pos 1) ≤ℤ e.cost) →
+          IfNone r (EachCostsMore g π most)
       by None h = none_within capped_row g π most rows filled above_most (above end some none h)
       by (Some e) h = tt
 
 -- no schedule costs more than an amount that nothing costs
-pub none_feasible : (law : EarningsAreWithin) (g : ThermalUnit) (π : PriceLists) (unit : IsThermalUnit g) (prices : ArePrices π) (most : ℤ) → pos 3500000000000000000 ≤ℤ most → EachCostsMore g π most →
+pub none_feasible : (law : EarningsAreWithin) (g : ThermalUnit) (π : PriceLists) (unit : IsThermalUnit g)
+    (prices : ArePrices π) (most : ℤ) → pos 3500000000000000000 ≤ℤ most → EachCostsMore g π most →
     (s : Schedule) → IsThermalFeasible g (length π.energy) s → ⊥
 none_feasible law g π unit prices most high more s right =
     let within = (law (Thermal g) π s unit prices right).at_least in
     let above = more s right in
     by (earnings (Thermal g) π s) most within above high
   where
-    by : (e most : ℤ) → neg_ℤ (pos 3500000000000000000) ≤ℤ e → (most +ℤ pos 1) ≤ℤ neg_ℤ e → pos 3500000000000000000 ≤ℤ most → ⊥
+    by : (e most : ℤ) → neg_ℤ (pos 3500000000000000000) ≤ℤ e → (most +ℤ pos 1) ≤ℤ neg_ℤ e →
+        pos 3500000000000000000 ≤ℤ most → ⊥
     by e most within above high = omega (arith, ints, within, above, high)
 
 pub if_none_more : {X : Type 0} (P Q : Type 0) → (P → Q) → (o : Option X) → IfNone o P → IfNone o Q

@@ -1,5 +1,7 @@
--- Every feasible schedule is a list of spells: from the last period back, by the run or the time off that a period is in.
-use Rattle.unit_program.proofs.Common.{◌≡◌, ℕ, zero, suc, ◌<◌, ◌≤◌, inl, inr, List, [], ◌∷◌, length, refl, subst, arith, IsTrue, IsFalse, ThermalUnit, PriceLists, Schedule, on_in, KeepsDispatch, IsStep}
+-- Every feasible schedule is a list of spells: from the last period back, by the run or the time off that a period is
+-- in.
+use Rattle.unit_program.proofs.Common.{◌≡◌, ℕ, zero, suc, ◌<◌, ◌≤◌, inl, inr, List, [], ◌∷◌, length, refl, subst, arith}
+use Rattle.unit_program.proofs.Common.{IsTrue, IsFalse, ThermalUnit, PriceLists, Schedule, on_in, KeepsDispatch, IsStep}
 use Rattle.unit_program.specs.Lists.{Run, HasSpell, AreSpells, IsListOfSpells, SchedulesAreSpells}
 use Rattle.unit_program.proofs.CommitLaws.{steps_from_rules}
 use Rattle.unit_program.proofs.SpellLaws.{dispatch_of_run}
@@ -9,7 +11,8 @@ use Rattle.unit_program.proofs.ShapeLaws.{shape_of, stops_after, spell_of, off_r
 abbrev free : PriceLists
 free = record { energy = []; reserve = [] }
 
-module _ (g : ThermalUnit) (s : Schedule) (dispatch : KeepsDispatch g s) (steps : (k : ℕ) → k < length s.on → IsStep g s k) where
+module _ (g : ThermalUnit) (s : Schedule) (dispatch : KeepsDispatch g s) (steps : (k : ℕ) → k < length s.on →
+    IsStep g s k) where
   abbrev SpellsTo : ℕ → Type 0
   SpellsTo l = (rs : List Run) × AreSpells g (length s.on) s l rs
 
@@ -18,7 +21,8 @@ module _ (g : ThermalUnit) (s : Schedule) (dispatch : KeepsDispatch g s) (steps 
   none_to zero off on = ([], (refl, off))
   none_to (suc k) off on = let here = on (omega arith) in cc
 
-  spells_to : (n l : ℕ) → l < n → l ≤ length s.on → (1 ≤ l → IsTrue (on_in g s l)) → (IsTrue (on_in g s l) → l < length s.on → IsFalse (on_in g s (suc l))) → SpellsTo l
+  spells_to : (n l : ℕ) → l < n → l ≤ length s.on → (1 ≤ l → IsTrue (on_in g s l)) →
+      (IsTrue (on_in g s l) → l < length s.on → IsFalse (on_in g s (suc l))) → SpellsTo l
   spells_to zero l near low on after = absurd (omega (arith, near))
   spells_to (suc n) l near low on after = elim (shape_of g free s l) [
     | inr off ↦ none_to l off.1.here on
@@ -26,7 +30,11 @@ module _ (g : ThermalUnit) (s : Schedule) (dispatch : KeepsDispatch g s) (steps 
         let f = since.0 in
         let last = after (since.1.run.on l since.1.run.order (omega arith)) in
         let spell : HasSpell g (length s.on) s (record { first = f; last = l }) =
-        record { spell = spell_of g free s steps f l since.1 low last; on = since.1.run.on; dispatch = dispatch_of_run g s dispatch f l since.1.run low last } in
+        record {
+          spell = spell_of g free s steps f l since.1 low last;
+          on = since.1.run.on;
+          dispatch = dispatch_of_run g s dispatch f l since.1.run low last;
+        } in
         elim f as (λ n. f ≡ n → SpellsTo l) [
           | zero ↦ λ is. (record { first = f; last = l } ∷ [], (refl, spell, inl (is, refl)))
           | suc k ↦ λ is.
@@ -46,16 +54,30 @@ module _ (g : ThermalUnit) (s : Schedule) (dispatch : KeepsDispatch g s) (steps 
         | inr off ↦
             let l = off.0 in
             let order = off.1.order in
-            let r = spells_to (suc l) l (omega arith) order off.1.on (λ last_on _. stops_after g free s l end off.1 last_on) in
-            (r.0, record { last = l; spells = r.1; rest = off_run_of g free s steps l end off.1 (omega arith); off = off.1.off })
+            let r = spells_to (suc l) l (omega arith) order off.1.on
+            (λ last_on _. stops_after g free s l end off.1 last_on) in (
+              r.0,
+              record {
+                last = l;
+                spells = r.1;
+                rest = off_run_of g free s steps l end off.1 (omega arith);
+                off = off.1.off;
+              },
+            )
         | inl since ↦
             let order = since.1.run.order in
-            let r = spells_to (suc end) end (omega arith) (omega arith) (λ one. since.1.run.on end order (omega arith)) (λ last_on inside. absurd (omega (arith, inside))) in (
+            let r = spells_to (suc end) end (omega arith) (omega arith) (λ one. since.1.run.on end order (omega arith))
+            (λ last_on inside. absurd (omega (arith, inside))) in (
               r.0,
               record {
                 last = end;
                 spells = r.1;
-                rest = record { order = omega arith; must_run = λ _. omega arith; marks = λ t above until mark. absurd (omega (arith, above, until)) };
+                rest = record {
+                  order = omega arith;
+                  must_run = λ _. omega arith;
+                  marks = λ t above until mark.
+                      absurd (omega (arith, above, until));
+                };
                 off = λ t above until. absurd (omega (arith, above, until));
               },
             )

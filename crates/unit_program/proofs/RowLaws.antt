@@ -1,5 +1,6 @@
 -- What is read off rows of the table.
-use Rattle.unit_program.proofs.Common.{◌≡◌, ℕ, Option, Some, List, ap, option_map, option_map_or, Ended, row_at, cost_at, first_at, before_at}
+use Rattle.unit_program.proofs.Common.{◌≡◌, ℕ, Option, Some, List, ap, option_map, option_map_or, Ended, row_at}
+use Rattle.unit_program.proofs.Common.{cost_at, first_at, before_at}
 
 module _ (rows : List (Option Ended)) (l : ℕ) (e : Ended) (is : row_at rows l ≡ Some e) where
   pub cost-is : cost_at rows l ≡ Some e.cost

@@ -1,5 +1,6 @@
 -- Least times on and off: by runs, as the rules have them, and by single steps.
-use Rattle.unit_program.proofs.Common.{◌≡◌, ℕ, zero, suc, ◌+◌, ◌-◌, ◌<◌, ◌≤◌, Bool, true, false, cond, inl, inr, ◌⊎◌, refl, sym, ap, ◌∙◌, arith, cases_lt, held}
+use Rattle.unit_program.proofs.Common.{◌≡◌, ℕ, zero, suc, ◌+◌, ◌-◌, ◌<◌, ◌≤◌, Bool, true, false, cond, inl, inr, ◌⊎◌}
+use Rattle.unit_program.proofs.Common.{refl, sym, ap, ◌∙◌, arith, cases_lt, held}
 
 module _ (x : ℕ → Bool) (n : ℕ) where
   pub held-more : (k : ℕ) → x (suc k) ≡ true → held x n (suc k) ≡ suc (held x n k)
@@ -11,7 +12,8 @@ module _ (x : ℕ → Bool) (n : ℕ) where
 
   -- x holds since before, or since a period after one where it does not
   abbrev HoldsSince : ℕ → Type 0
-  HoldsSince k = ((x 0 ≡ true) × (held x n k ≡ n + k)) ⊎ ((j : ℕ) × (x j ≡ false) × (x (suc j) ≡ true) × (held x n k + j ≡ k) × (suc j ≤ k))
+  HoldsSince k = ((x 0 ≡ true) × (held x n k ≡ n + k)) ⊎
+      ((j : ℕ) × (x j ≡ false) × (x (suc j) ≡ true) × (held x n k + j ≡ k) × (suc j ≤ k))
 
   holds_since : (k : ℕ) → x k ≡ true → HoldsSince k
   holds_since zero h = inl (h, (let e : held x n 0 ≡ n = ap (λ (b : Bool). cond b n 0) h in omega (arith, e)))
@@ -40,17 +42,20 @@ module _ (x : ℕ → Bool) (n : ℕ) where
         elim (holds_since k here) [
           | inl w ↦ elim (cases_lt (least - n) (suc k)) [
             | inl above ↦ omega (arith, above)
-            | inr below ↦ let on : x (suc k) ≡ true = keeps.begins w.0 (suc k) (omega arith) (omega (arith, low)) (omega (arith, below)) in cc
+            | inr below ↦ let on : x (suc k) ≡ true = keeps.begins w.0 (suc k) (omega arith) (omega (arith, low))
+                (omega (arith, below)) in cc
           ]
           | inr w ↦ elim (cases_lt (suc k) (suc w.0 + least)) [
-            | inl above ↦ let on : x (suc k) ≡ true = keeps.runs w.0 (suc k) w.1 w.2 (omega arith) above (omega (arith, low)) in cc
+            | inl above ↦ let on : x (suc k) ≡ true = keeps.runs w.0 (suc k) w.1 w.2 (omega arith) above
+                (omega (arith, low)) in cc
             | inr below ↦ omega (arith, below)
           ]
         ]
 
     module _ (late : EndsLate) where
       from_before : x 0 ≡ true → (t : ℕ) → t ≤ last → t ≤ least - n → (x t ≡ true) × (held x n t ≡ n + t)
-      from_before h zero low within = (h, (let e : held x n 0 ≡ n = ap (λ (b : Bool). cond b n 0) h in omega (arith, e)))
+      from_before h zero low within =
+          (h, (let e : held x n 0 ≡ n = ap (λ (b : Bool). cond b n 0) h in omega (arith, e)))
       from_before h (suc t) low within =
           let r = from_before h t (omega (arith, low)) (omega (arith, within)) in
           elim (x (suc t)) as (λ b. x (suc t) ≡ b → (x (suc t) ≡ true) × (held x n (suc t) ≡ n + suc t)) [
@@ -58,7 +63,8 @@ module _ (x : ℕ → Bool) (n : ℕ) where
             | false ↦ λ e. let over = late t (omega (arith, low)) r.0 e in absurd (omega (arith, over, within))
           ] refl
 
-      from_start : (k : ℕ) → x k ≡ false → x (suc k) ≡ true → (m t : ℕ) → t ≡ k + suc m → suc m ≤ least → t ≤ last → (x t ≡ true) × (held x n t ≡ suc m)
+      from_start : (k : ℕ) → x k ≡ false → x (suc k) ≡ true → (m t : ℕ) → t ≡ k + suc m → suc m ≤ least → t ≤ last →
+          (x t ≡ true) × (held x n t ≡ suc m)
       from_start k off on zero t is within low =
           let same : suc k ≡ t = omega (arith, is) in
           let more = held-more k on in
@@ -75,5 +81,6 @@ module _ (x : ℕ → Bool) (n : ℕ) where
       pub keeps_times : KeepsTimes
       keeps_times = record {
         begins = λ h t one low within. (from_before h t low within).0;
-        runs = λ k t off on order within low. (from_start k off on (t - suc k) t (omega (arith, order)) (omega (arith, order, within)) low).0;
+        runs = λ k t off on order within low.
+            (from_start k off on (t - suc k) t (omega (arith, order)) (omega (arith, order, within)) low).0;
       }

@@ -1,9 +1,16 @@
 -- The run that a period of a schedule is in, and what the schedule costs up to it: no less than the tables say.
-use Rattle.unit_program.proofs.Common.{◌≡◌, ℕ, zero, suc, ◌+◌, ◌<◌, ◌≤◌, Bool, true, false, cond, ◌⊎◌, inl, inr, Option, ℤ, pos, neg_ℤ, ◌+ℤ◌, length, refl, sym, ap, ◌∙◌, subst, arith, IsTrue, IsFalse, ints, cases_lt, ThermalUnit, Thermal, PriceLists, Schedule, on_in, time_down, KeepsDispatch, IsThermalFeasible, start_cost_of, earnings, net_cost, spell_cost, on_time, off_time, IsSpell, IsOffRun, IsGap, start_cost_after, paid, HasAtMost, IsEntry, IsComplete, IsStep, time_up}
+use Rattle.unit_program.proofs.Common.{◌≡◌, ℕ, zero, suc, ◌+◌, ◌<◌, ◌≤◌, Bool, true, false, cond, ◌⊎◌, inl, inr, Option}
+use Rattle.unit_program.proofs.Common.{ℤ, pos, neg_ℤ, ◌+ℤ◌, length, refl, sym, ap, ◌∙◌, subst, arith, IsTrue, IsFalse}
+use Rattle.unit_program.proofs.Common.{ints, cases_lt, ThermalUnit, Thermal, PriceLists, Schedule, on_in, time_down}
+use Rattle.unit_program.proofs.Common.{KeepsDispatch, IsThermalFeasible, start_cost_of, earnings, net_cost, spell_cost}
+use Rattle.unit_program.proofs.Common.{on_time, off_time, IsSpell, IsOffRun, IsGap, start_cost_after, paid, HasAtMost}
+use Rattle.unit_program.proofs.Common.{IsEntry, IsComplete, IsStep, time_up}
 use Rattle.unit_program.proofs.CommitLaws.{steps_from_rules}
 use Rattle.unit_program.proofs.RunLaws.{held-more, held-none}
 use Rattle.unit_program.proofs.CostLaws.{sum_from_to-more, sum_from_to-one, earnings-paid}
-use Rattle.unit_program.proofs.SpellLaws.{IsRun, dispatch_of_run, not_must_off, not_must_on, runs_must, period_cost-stay, period_cost-start, period_cost-off, on_time-more, off_time-more, off_time-first, time_down-on, time_down-more}
+use Rattle.unit_program.proofs.SpellLaws.{IsRun, dispatch_of_run, not_must_off, not_must_on, runs_must}
+use Rattle.unit_program.proofs.SpellLaws.{period_cost-stay, period_cost-start, period_cost-off, on_time-more}
+use Rattle.unit_program.proofs.SpellLaws.{off_time-more, off_time-first, time_down-on, time_down-more}
 
 module _ (g : ThermalUnit) (π : PriceLists) (s : Schedule) where
   -- period t is off, after the on period l, or since before the horizon
@@ -21,7 +28,8 @@ module _ (g : ThermalUnit) (π : PriceLists) (s : Schedule) where
     pub run : IsRun g s f t
     pub time : time_up g s t ≡ on_time g f t
     pub goes_on : f ≡ 0 → IsTrue g.on0 × (paid g π s t ≡ spell_cost g π 0 t s)
-    pub starts : (k : ℕ) → f ≡ suc k → (l : ℕ) × IsOffAfter l k × (paid g π s t ≡ (paid g π s l +ℤ start_cost_after g l k) +ℤ spell_cost g π f t s)
+    pub starts : (k : ℕ) → f ≡ suc k → (l : ℕ) × IsOffAfter l k ×
+        (paid g π s t ≡ (paid g π s l +ℤ start_cost_after g l k) +ℤ spell_cost g π f t s)
 
   abbrev pub Shape : ℕ → Type 0
   Shape t = ((f : ℕ) × IsOnSince f t) ⊎ ((l : ℕ) × IsOffAfter l t)
@@ -31,7 +39,13 @@ module _ (g : ThermalUnit) (π : PriceLists) (s : Schedule) where
       inl (
         0,
         record {
-          run = record { order = omega arith; on = λ k from low. (let z : 0 ≡ k = omega (arith, low) in subst (λ (k : ℕ). IsTrue (on_in g s k)) z h); before = λ k is. absurd (omega (arith, is)) };
+          run = record {
+            order = omega arith;
+            on = λ k from low.
+                (let z : 0 ≡ k = omega (arith, low) in subst (λ (k : ℕ). IsTrue (on_in g s k)) z h);
+            before = λ k is.
+                absurd (omega (arith, is));
+          };
           time = (let e : time_up g s 0 ≡ g.up0 = ap (λ (b : Bool). cond b g.up0 0) h in omega (arith, e));
           goes_on = λ _. (h, sym (sum_from_to-one (net_cost g π s) 0));
           starts = λ k is. absurd (omega (arith, is));
@@ -46,7 +60,8 @@ module _ (g : ThermalUnit) (π : PriceLists) (s : Schedule) where
           here = h;
           on = λ one. absurd (omega (arith, one));
           apart = inr refl;
-          time = ap (λ (b : Bool). cond b 0 g.down0) h ∙ sym (ap (λ (b : Bool). cond b 0 (g.down0 + 0)) h ∙ (omega arith));
+          time = ap (λ (b : Bool). cond b 0 g.down0) h ∙ sym
+              (ap (λ (b : Bool). cond b 0 (g.down0 + 0)) h ∙ (omega arith));
           cost = refl;
         },
       )
@@ -77,7 +92,8 @@ module _ (g : ThermalUnit) (π : PriceLists) (s : Schedule) where
       let zero_cost = period_cost-off g π s t off in
       record {
         order = omega arith;
-        off = λ k above low. (let z : suc t ≡ k = omega (arith, above, low) in subst (λ (k : ℕ). IsFalse (on_in g s k)) z off);
+        off = λ k above low.
+            (let z : suc t ≡ k = omega (arith, above, low) in subst (λ (k : ℕ). IsFalse (on_in g s k)) z off);
         here = off;
         on = λ _. on;
         apart = inl (omega arith);
@@ -93,14 +109,20 @@ module _ (g : ThermalUnit) (π : PriceLists) (s : Schedule) where
       record {
         run = record {
           order = omega arith;
-          on = λ k from until. (let z : suc t ≡ k = omega (arith, from, until) in subst (λ (k : ℕ). IsTrue (on_in g s k)) z on);
+          on = λ k from until.
+              (let z : suc t ≡ k = omega (arith, from, until) in subst (λ (k : ℕ). IsTrue (on_in g s k)) z on);
           before = λ k is. (let z : t ≡ k = omega (arith, is) in subst (λ (k : ℕ). IsFalse (on_in g s k)) z st.here);
         };
         time = held-more (on_in g s) g.up0 t on ∙ ap suc (held-none (on_in g s) g.up0 t st.here) ∙ (omega arith);
         goes_on = λ is. absurd (omega (arith, is));
         starts = λ k is.
-            (let z : t ≡ k = omega (arith, is) in
-            (l, subst (IsOffAfter l) z st, subst (λ (k : ℕ). paid g π s (suc t) ≡ (paid g π s l +ℤ start_cost_after g l k) +ℤ spell_cost g π (suc t) (suc t) s) z (omega (arith, ints, one, here, start))));
+            (let z : t ≡ k = omega (arith, is) in (
+              l,
+              subst (IsOffAfter l) z st,
+              subst
+                  (λ (k : ℕ). paid g π s (suc t) ≡ (paid g π s l +ℤ start_cost_after g l k) +ℤ spell_cost g π (suc t)
+                  (suc t) s) z (omega (arith, ints, one, here, start)),
+            ));
       }
 
   off_off : (l t : ℕ) → IsOffAfter l t → IsFalse (on_in g s (suc t)) → IsOffAfter l (suc t)
@@ -140,38 +162,45 @@ module _ (g : ThermalUnit) (π : PriceLists) (s : Schedule) where
   -- ---- a run as a spell, and a time off
 
   module _ (steps : (k : ℕ) → k < length s.on → IsStep g s k) where
-    pub spell_of : (f l : ℕ) → IsOnSince f l → l ≤ length s.on → (l < length s.on → IsFalse (on_in g s (suc l))) → IsSpell g (length s.on) f l
+    pub spell_of : (f l : ℕ) → IsOnSince f l → l ≤ length s.on → (l < length s.on → IsFalse (on_in g s (suc l))) →
+        IsSpell g (length s.on) f l
     spell_of f l since low after = record {
       order = since.run.order;
       end = low;
       goes_on = λ is. (since.goes_on is).0;
-      marks = λ t one from until mark. not_must_off g s steps t one (omega (arith, until, low)) (since.run.on t from until) mark;
-      min_up = λ inside. (let h = (steps l inside).stop (since.run.on l since.run.order (omega arith)) (after inside) in omega (arith, h));
+      marks = λ t one from until mark. not_must_off g s steps t one (omega (arith, until, low))
+          (since.run.on t from until) mark;
+      min_up = λ inside. (let h = (steps l inside).stop (since.run.on l since.run.order (omega arith)) (after inside) in
+          omega (arith, h));
     }
 
     pub off_run_of : (l t : ℕ) → IsOffAfter l t → t ≤ length s.on → IsOffRun g l t
     off_run_of l t st low = record {
       order = st.order;
       must_run = λ must. runs_must g s steps l t low (λ _. st.here) must;
-      marks = λ u above until mark. not_must_on g s steps l u above (omega (arith, until, low)) (st.off u above until) mark;
+      marks = λ u above until mark. not_must_on g s steps l u above (omega (arith, until, low)) (st.off u above until)
+          mark;
     }
 
     pub gap_of : (f t l k : ℕ) → IsOnSince f t → t ≤ length s.on → f ≡ suc k → IsOffAfter l k → IsGap g l k
     gap_of f t l k since low is st =
         let order = since.run.order in
         let inside : k < length s.on = omega (arith, is, order, low) in
-        let on : IsTrue (on_in g s (suc k)) = subst (λ (f : ℕ). IsTrue (on_in g s f)) is (since.run.on f (omega arith) order) in
+        let on : IsTrue (on_in g s (suc k)) = subst (λ (f : ℕ). IsTrue (on_in g s f)) is
+        (since.run.on f (omega arith) order) in
         let h = (steps k inside).start st.here on in
         record { off = off_run_of l k st (omega (arith, inside)); min_down = omega (arith, h) }
 
     -- ---- what the table says
 
-    module _ (ends : ℕ → Option ℤ) (dispatch : KeepsDispatch g s) (complete : IsComplete g π (length s.on) (suc (length s.on)) ends) where
+    module _ (ends : ℕ → Option ℤ) (dispatch : KeepsDispatch g s)
+        (complete : IsComplete g π (length s.on) (suc (length s.on)) ends) where
       idle : (l : ℕ) → IsFalse (on_in g s l) → (1 ≤ l → IsTrue (on_in g s l)) → HasAtMost (ends l) (paid g π s l)
       idle zero off on = complete.idle off
       idle (suc k) off on = let here = on (omega arith) in cc
 
-      known_by : (n l : ℕ) → l < n → l ≤ length s.on → (IsTrue (on_in g s l) → l < length s.on → IsFalse (on_in g s (suc l))) → (1 ≤ l → IsTrue (on_in g s l)) → HasAtMost (ends l) (paid g π s l)
+      known_by : (n l : ℕ) → l < n → l ≤ length s.on → (IsTrue (on_in g s l) → l < length s.on →
+          IsFalse (on_in g s (suc l))) → (1 ≤ l → IsTrue (on_in g s l)) → HasAtMost (ends l) (paid g π s l)
       known_by zero l near low after on = absurd (omega (arith, near))
       known_by (suc n) l near low after on = elim (shape_of l) [
         | inr off ↦ idle l off.1.here on
@@ -190,9 +219,20 @@ module _ (g : ThermalUnit) (π : PriceLists) (s : Schedule) where
                   (r.0, r.1, omega (arith, ints, cost, same))
               | suc k ↦ λ is.
                   let r = st.starts k is in
-                  let before = known_by n r.0 (omega (arith, order, is, near)) (omega (arith, order, is, low)) (λ here _. stops_after r.0 k r.1 here) r.1.on in
+                  let before = known_by n r.0 (omega (arith, order, is, near)) (omega (arith, order, is, low))
+                  (λ here _. stops_after r.0 k r.1 here) r.1.on in
                   let e : ℤ = before.0 +ℤ start_cost_after g r.0 k in
-                  let entry : IsEntry g ends f e = (r.0, inr (record { before = k; first = is; value = before.0; ended = before.1; gap = gap_of f l r.0 k st low is r.1; cost = refl })) in
+                  let entry : IsEntry g ends f e = (
+                    r.0,
+                    inr (record {
+                      before = k;
+                      first = is;
+                      value = before.0;
+                      ended = before.1;
+                      gap = gap_of f l r.0 k st low is r.1;
+                      cost = refl;
+                    }),
+                  ) in
                   let h = complete.spell f l e s (omega (arith, order, low)) spell entry keeps in
                   let cost = r.2 in
                   (h.0, h.1, omega (arith, ints, cost))
@@ -200,16 +240,28 @@ module _ (g : ThermalUnit) (π : PriceLists) (s : Schedule) where
       ]
 
       -- it has an end at l that costs at most what the schedule does
-      pub known : (l : ℕ) → l ≤ length s.on → (IsTrue (on_in g s l) → l < length s.on → IsFalse (on_in g s (suc l))) → (1 ≤ l → IsTrue (on_in g s l)) → HasAtMost (ends l) (paid g π s l)
+      pub known : (l : ℕ) → l ≤ length s.on → (IsTrue (on_in g s l) → l < length s.on → IsFalse (on_in g s (suc l))) →
+          (1 ≤ l → IsTrue (on_in g s l)) → HasAtMost (ends l) (paid g π s l)
       known l = known_by (suc l) l (omega arith)
 
       -- and one at most as dear as the whole schedule, off from there to the last period
-      no_schedule_costs_less : (l : ℕ) × (l ≤ length s.on) × IsOffRun g l (length s.on) × HasAtMost (ends l) (paid g π s (length s.on))
+      no_schedule_costs_less : (l : ℕ) × (l ≤ length s.on) × IsOffRun g l (length s.on) × HasAtMost (ends l)
+          (paid g π s (length s.on))
       no_schedule_costs_less = elim (shape_of (length s.on)) [
         | inl since ↦
             let on = since.1.run.on (length s.on) since.1.run.order (omega arith) in
-            let run : IsOffRun g (length s.on) (length s.on) = record { order = omega arith; must_run = λ _. omega arith; marks = λ t above until mark. absurd (omega (arith, above, until)) } in
-            (length s.on, omega arith, run, known (length s.on) (omega arith) (λ here inside. absurd (omega (arith, inside))) (λ _. on))
+            let run : IsOffRun g (length s.on) (length s.on) = record {
+              order = omega arith;
+              must_run = λ _. omega arith;
+              marks = λ t above until mark.
+                  absurd (omega (arith, above, until));
+            } in (
+              length s.on,
+              omega arith,
+              run,
+              known (length s.on) (omega arith)
+                  (λ here inside. absurd (omega (arith, inside))) (λ _. on),
+            )
         | inr off ↦
             let st = off.1 in
             let h = known off.0 st.order (λ here _. stops_after off.0 (length s.on) st here) st.on in
@@ -218,11 +270,19 @@ module _ (g : ThermalUnit) (π : PriceLists) (s : Schedule) where
       ]
 
 -- the table has an end at most as dear as any feasible schedule, off from there to the last period
-pub table_is_least : (g : ThermalUnit) (π : PriceLists) (ends : ℕ → Option ℤ) (periods : ℕ) (s : Schedule) → IsThermalFeasible g periods s → IsComplete g π periods (suc periods) ends → (l : ℕ) × (l ≤ periods) × IsOffRun g l periods × HasAtMost (ends l) (neg_ℤ (earnings (Thermal g) π s))
+pub table_is_least : (g : ThermalUnit) (π : PriceLists) (ends : ℕ → Option ℤ) (periods : ℕ) (s : Schedule) →
+    IsThermalFeasible g periods s → IsComplete g π periods (suc periods) ends →
+    (l : ℕ) × (l ≤ periods) × IsOffRun g l periods × HasAtMost (ends l) (neg_ℤ (earnings (Thermal g) π s))
 table_is_least g π ends periods s right complete =
     let is = right.schedule.on in
     let steps = steps_from_rules g s right.commitment in
-    let r = no_schedule_costs_less g π s steps ends right.dispatch (subst (λ (n : ℕ). IsComplete g π n (suc n) ends) (sym is) complete) in
+    let r = no_schedule_costs_less g π s steps ends right.dispatch
+    (subst (λ (n : ℕ). IsComplete g π n (suc n) ends) (sym is) complete) in
     let earned = earnings-paid g π s periods right.schedule in
-    let paid_is : paid g π s (length s.on) ≡ neg_ℤ (earnings (Thermal g) π s) = ap (paid g π s) is ∙ omega (arith, ints, earned) in
-    (r.0, omega (arith, is), subst (λ (n : ℕ). IsOffRun g r.0 n) is r.2, subst (λ (v : ℤ). HasAtMost (ends r.0) v) paid_is r.3)
+    let paid_is : paid g π s (length s.on) ≡ neg_ℤ (earnings (Thermal g) π s) = ap (paid g π s) is ∙
+    omega (arith, ints, earned) in (
+      r.0,
+      omega (arith, is),
+      subst (λ (n : ℕ). IsOffRun g r.0 n) is r.2,
+      subst (λ (v : ℤ). HasAtMost (ends r.0) v) paid_is r.3,
+    )

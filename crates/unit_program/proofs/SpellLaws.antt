@@ -1,5 +1,10 @@
 -- Runs of on periods and times off of a schedule, by single steps: their dispatch, costs, times and marks.
-use Rattle.unit_program.proofs.Common.{◌≡◌, ℕ, zero, suc, ◌+◌, ◌<◌, ◌≤◌, Bool, true, false, not, cond, ◌&&◌, inl, inr, pos, ◌+ℤ◌, ◌-ℤ◌, ◌≤ℤ◌, length, refl, sym, ap, ◌∙◌, subst, arith, IsTrue, IsFalse, ints, cases_lt, MustOff, MustOn, ThermalUnit, PriceLists, Schedule, on_in, above_min, reserve_in, starts_in, stops_in, time_down, cap_of, IsPeriod, KeepsDispatch, start_cost_of, mark_in, IsStep, over_min, IsDispatch, net_cost, on_time, off_time, period_cost}
+use Rattle.unit_program.proofs.Common.{◌≡◌, ℕ, zero, suc, ◌+◌, ◌<◌, ◌≤◌, Bool, true, false, not, cond, ◌&&◌, inl, inr}
+use Rattle.unit_program.proofs.Common.{pos, ◌+ℤ◌, ◌-ℤ◌, ◌≤ℤ◌, length, refl, sym, ap, ◌∙◌, subst, arith, IsTrue, IsFalse}
+use Rattle.unit_program.proofs.Common.{ints, cases_lt, MustOff, MustOn, ThermalUnit, PriceLists, Schedule, on_in}
+use Rattle.unit_program.proofs.Common.{above_min, reserve_in, starts_in, stops_in, time_down, cap_of, IsPeriod}
+use Rattle.unit_program.proofs.Common.{KeepsDispatch, start_cost_of, mark_in, IsStep, over_min, IsDispatch, net_cost}
+use Rattle.unit_program.proofs.Common.{on_time, off_time, period_cost}
 use Rattle.unit_program.proofs.CommitLaws.{not_true}
 
 module _ (g : ThermalUnit) (s : Schedule) where
@@ -25,21 +30,28 @@ module _ (g : ThermalUnit) (s : Schedule) where
 
   module _ (dispatch : KeepsDispatch g s) where
     -- its powers and reserves are a dispatch of its spell
-    pub dispatch_of_run : (first last : ℕ) → IsRun first last → last ≤ length s.on → (last < length s.on → IsFalse (on_in g s (suc last))) → IsDispatch g (length s.on) first last s
+    pub dispatch_of_run : (first last : ℕ) → IsRun first last → last ≤ length s.on →
+        (last < length s.on → IsFalse (on_in g s (suc last))) → IsDispatch g (length s.on) first last s
     dispatch_of_run first last run end after =
-        let period : (t : ℕ) → 1 ≤ t → t ≤ last → IsPeriod s t = λ t one low. record { from_one = one; to_last = omega (arith, low, end) } in
-        let here : (t : ℕ) → first ≤ t → t ≤ last → above_min g s t ≡ over_min g s t = λ t from low. above-on t (run.on t from low) in
+        let period : (t : ℕ) → 1 ≤ t → t ≤ last → IsPeriod s t = λ t one low.
+        record { from_one = one; to_last = omega (arith, low, end) } in
+        let here : (t : ℕ) → first ≤ t → t ≤ last → above_min g s t ≡ over_min g s t = λ t from low.
+        above-on t (run.on t from low) in
         let order = run.order in
         record {
-          least = λ t one from low. let h = dispatch.least t (period t one low) (run.on t from low) in let e = here t from low in omega (arith, ints, h, e);
-          greatest = λ t one from low. let h = dispatch.greatest t (period t one low) (run.on t from low) in let e = here t from low in omega (arith, ints, h, e);
+          least = λ t one from low. let h = dispatch.least t (period t one low) (run.on t from low) in let e = here t
+              from low in omega (arith, ints, h, e);
+          greatest = λ t one from low. let h = dispatch.greatest t (period t one low) (run.on t from low) in let e =
+              here t from low in omega (arith, ints, h, e);
           start = λ one.
               let e = here first (omega arith) order in
               elim first as (λ f. first ≡ f → (over_min g s first +ℤ reserve_in s first) ≤ℤ cap_of g true false) [
                 | zero ↦ λ is. absurd (omega (arith, is, one))
                 | suc k ↦ λ is.
                     let off = run.before k is in
-                    let begins : IsTrue (starts_in g s first) = subst (λ (f : ℕ). IsTrue (starts_in g s f)) (sym is) (starts_at k off (subst (λ (f : ℕ). IsTrue (on_in g s f)) is (run.on first (omega arith) order))) in
+                    let begins : IsTrue (starts_in g s first) = subst (λ (f : ℕ). IsTrue (starts_in g s f)) (sym is)
+                    (starts_at k off (subst (λ (f : ℕ). IsTrue (on_in g s f)) is
+                    (run.on first (omega arith) order))) in
                     let h = dispatch.start first (period first one order) begins in
                     omega (arith, ints, h, e)
               ] refl;
@@ -51,7 +63,8 @@ module _ (g : ThermalUnit) (s : Schedule) where
                     let off = above-off k (run.before k is) in
                     let e' = subst (λ (f : ℕ). above_min g s f ≡ over_min g s f) is e in
                     let h = dispatch.ramp_up k (subst (IsPeriod s) is (period first one order)) in
-                    subst (λ (f : ℕ). (over_min g s f +ℤ reserve_in s f) ≤ℤ g.ramp_up) (sym is) (omega (arith, ints, h, e', off))
+                    subst (λ (f : ℕ). (over_min g s f +ℤ reserve_in s f) ≤ℤ g.ramp_up) (sym is)
+                    (omega (arith, ints, h, e', off))
               ] refl;
           ramp_up = λ k from low.
               let a = here k from (omega (arith, low)) in
@@ -66,7 +79,8 @@ module _ (g : ThermalUnit) (s : Schedule) where
           stop = λ inside one.
               let a = here last order (omega arith) in
               let next : IsPeriod s (suc last) = record { from_one = omega arith; to_last = omega (arith, inside) } in
-              let h = dispatch.stop last (period last one (omega arith)) next (stops_at last (run.on last order (omega arith)) (after inside)) in
+              let h = dispatch.stop last (period last one (omega arith)) next
+              (stops_at last (run.on last order (omega arith)) (after inside)) in
               omega (arith, ints, a, h);
           leave = λ inside.
               let a = here last order (omega arith) in
@@ -87,14 +101,16 @@ module _ (g : ThermalUnit) (s : Schedule) where
 -- ---- what a period adds
 
 module _ (g : ThermalUnit) (π : PriceLists) (s : Schedule) where
-  pub period_cost-stay : (k : ℕ) → IsTrue (on_in g s k) → IsTrue (on_in g s (suc k)) → period_cost g π s k ≡ net_cost g π s (suc k)
+  pub period_cost-stay : (k : ℕ) → IsTrue (on_in g s k) → IsTrue (on_in g s (suc k)) →
+      period_cost g π s k ≡ net_cost g π s (suc k)
   period_cost-stay k h i =
       let a = ap (λ (b : Bool). cond b (net_cost g π s (suc k)) (pos 0)) i in
       let no_start : starts_in g s (suc k) ≡ false = ap (λ (b : Bool). not b && on_in g s (suc k)) h in
       let b = ap (λ (b : Bool). cond b (start_cost_of g.lags (time_down g s k)) (pos 0)) no_start in
       omega (arith, ints, a, b)
 
-  pub period_cost-start : (k : ℕ) → IsFalse (on_in g s k) → IsTrue (on_in g s (suc k)) → period_cost g π s k ≡ net_cost g π s (suc k) +ℤ start_cost_of g.lags (time_down g s k)
+  pub period_cost-start : (k : ℕ) → IsFalse (on_in g s k) → IsTrue (on_in g s (suc k)) →
+      period_cost g π s k ≡ net_cost g π s (suc k) +ℤ start_cost_of g.lags (time_down g s k)
   period_cost-start k h i =
       let a = ap (λ (b : Bool). cond b (net_cost g π s (suc k)) (pos 0)) i in
       let b = ap (λ (b : Bool). cond b (start_cost_of g.lags (time_down g s k)) (pos 0)) (starts_at g s k h i) in
@@ -107,7 +123,8 @@ module _ (g : ThermalUnit) (π : PriceLists) (s : Schedule) where
   pub period_cost-off : (k : ℕ) → IsFalse (on_in g s (suc k)) → period_cost g π s k ≡ pos 0
   period_cost-off k i =
       let a = ap (λ (b : Bool). cond b (net_cost g π s (suc k)) (pos 0)) i in
-      let b = ap (λ (b : Bool). cond b (start_cost_of g.lags (time_down g s k)) (pos 0)) (not_start (on_in g s k) (on_in g s (suc k)) i) in
+      let b = ap (λ (b : Bool). cond b (start_cost_of g.lags (time_down g s k)) (pos 0))
+      (not_start (on_in g s k) (on_in g s (suc k)) i) in
       omega (arith, ints, a, b)
 
 module _ (g : ThermalUnit) where
@@ -116,7 +133,8 @@ module _ (g : ThermalUnit) where
   on_time-more (suc k) t h = omega (arith, h)
 
   pub off_time-more : (l t : ℕ) → l ≤ t → off_time g l (suc t) ≡ suc (off_time g l t)
-  off_time-more zero t h = elim (g.on0) as (λ b. cond b (suc t) (g.down0 + suc t) ≡ suc (cond b t (g.down0 + t))) [ true ↦ refl | false ↦ omega arith ]
+  off_time-more zero t h = elim (g.on0) as (λ b. cond b (suc t) (g.down0 + suc t) ≡ suc (cond b t (g.down0 + t)))
+      [ true ↦ refl | false ↦ omega arith ]
   off_time-more (suc l) t h = omega (arith, h)
 
   pub off_time-first : (s : Schedule) (l : ℕ) → IsTrue (on_in g s l) → off_time g l (suc l) ≡ 1

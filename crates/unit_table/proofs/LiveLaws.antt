@@ -1,9 +1,15 @@
 -- A list of runners, and one of them written.
-use Rattle.unit_table.proofs.Common.{◌≡◌, ◌≢◌, ℕ, zero, suc, ◌+◌, ◌-◌, ◌*◌, ◌<◌, ◌≤◌, inl, inr, Bool, true, false, cond, Option, Some, None, ℤ, pos, ◌+ℤ◌, ◌-ℤ◌, ◌≤ℤ◌, ◌<ℤ◌, List, [], ◌∷◌, length, refl, sym, ap, ◌∙◌, subst, arith, IfSome, slice_get, slice_set, ints, slice_get_within, cases_eq, Table, value_of, ThermalUnit, PriceLists, passed_at, Runner, Passed, going_of, live_at, left_of, left_at, AreRoomy, AreSmall, IsUnder, IsBeyond, IsBelow, HaveRoom, Going, AreRunners, AreFewer, IsKeptFrom, AreKept, length-set}
+use Rattle.unit_table.proofs.Common.{◌≡◌, ◌≢◌, ℕ, zero, suc, ◌+◌, ◌-◌, ◌*◌, ◌<◌, ◌≤◌, inl, inr, Bool, true, false, cond}
+use Rattle.unit_table.proofs.Common.{Option, Some, None, ℤ, pos, ◌+ℤ◌, ◌-ℤ◌, ◌≤ℤ◌, ◌<ℤ◌, List, [], ◌∷◌, length, refl}
+use Rattle.unit_table.proofs.Common.{sym, ap, ◌∙◌, subst, arith, IfSome, slice_get, slice_set, ints, slice_get_within}
+use Rattle.unit_table.proofs.Common.{cases_eq, Table, value_of, ThermalUnit, PriceLists, passed_at, Runner, Passed}
+use Rattle.unit_table.proofs.Common.{going_of, live_at, left_of, left_at, AreRoomy, AreSmall, IsUnder, IsBeyond}
+use Rattle.unit_table.proofs.Common.{IsBelow, HaveRoom, Going, AreRunners, AreFewer, IsKeptFrom, AreKept, length-set}
 use Rattle.std.proofs.Math.Nat.{mul-le-mul_right}
 
 -- the runners are small
-pub small_of : (g : ThermalUnit) (π : PriceLists) (limits : ℕ → ℤ) (ends : ℕ → Option ℤ) (live : ℕ → Option Going) (t n : ℕ) → t ≤ 168 → n ≤ 170 → AreRunners g π limits ends live t n → AreSmall live
+pub small_of : (g : ThermalUnit) (π : PriceLists) (limits : ℕ → ℤ) (ends : ℕ → Option ℤ) (live : ℕ →
+    Option Going) (t n : ℕ) → t ≤ 168 → n ≤ 170 → AreRunners g π limits ends live t n → AreSmall live
 small_of g π limits ends live t n few low now f r is =
     let h = now.right f r is in
     let below = h.0 in
@@ -22,26 +28,54 @@ small_of g π limits ends live t n few low now f r is =
 
 module _ {R : Type 0} (function : R → Table) where
   -- a runner that is on is one of the list
-  pub on_some : (o : Option (Runner R)) (x : Going) → going_of function o ≡ Some x → (r : Runner R) × (o ≡ Some r) × (r.is_on ≡ true) × (x ≡ record { before = r.before; cost = r.cost; function = function r.running; left = passed_at r.passed.items })
+  pub on_some : (o : Option (Runner R)) (x : Going) → going_of function o ≡ Some x →
+      (r : Runner R) × (o ≡ Some r) × (r.is_on ≡ true) ×
+      (x ≡ record { before = r.before; cost = r.cost; function = function r.running; left = passed_at r.passed.items })
   on_some None x is = cc
-  on_some (Some r) x is = elim (r.is_on) as (λ b. r.is_on ≡ b → cond b (Some (record { before = r.before; cost = r.cost; function = function r.running; left = passed_at r.passed.items })) None ≡ Some x →
-      (s : Runner R) × (Some r ≡ Some s) × (s.is_on ≡ true) × (x ≡ record { before = s.before; cost = s.cost; function = function s.running; left = passed_at s.passed.items })) [
+  on_some (Some r) x is = elim (r.is_on) as (λ b. r.is_on ≡ b →
+      cond b (Some (record
+      { before = r.before; cost = r.cost; function = function r.running; left = passed_at r.passed.items })) None ≡ Some
+      x →
+      (s : Runner R) × (Some r ≡ Some s) × (s.is_on ≡ true) ×
+      (x ≡ record {
+        before = s.before;
+        cost = s.cost;
+        function = function s.running;
+        left = passed_at s.passed.items;
+      })) [
         | true ↦ λ on is. (r, refl, on, (cc))
         | false ↦ λ off is. cc
       ] refl is
 
-  pub going_on : (r : Runner R) → r.is_on ≡ true → going_of function (Some r) ≡ Some (record { before = r.before; cost = r.cost; function = function r.running; left = passed_at r.passed.items })
-  going_on r on = ap (λ (b : Bool). cond b (Some (record { before = r.before; cost = r.cost; function = function r.running; left = passed_at r.passed.items })) None) on
+  pub going_on : (r : Runner R) → r.is_on ≡ true → going_of function (Some r) ≡ Some
+      (record { before = r.before; cost = r.cost; function = function r.running; left = passed_at r.passed.items })
+  going_on r on = ap (λ (b : Bool). cond b
+      (Some (record {
+        before = r.before;
+        cost = r.cost;
+        function = function r.running;
+        left = passed_at r.passed.items;
+      })) None) on
 
   pub going_off : (r : Runner R) → r.is_on ≡ false → going_of function (Some r) ≡ None
-  going_off r off = ap (λ (b : Bool). cond b (Some (record { before = r.before; cost = r.cost; function = function r.running; left = passed_at r.passed.items })) None) off
+  going_off r off = ap
+      (λ (b : Bool). cond b
+      (Some (record {
+        before = r.before;
+        cost = r.cost;
+        function = function r.running;
+        left = passed_at r.passed.items;
+      })) None) off
 
 -- ---- one above another
 
-pub below_of : (f f' : Table) (e e' shift : ℤ) → shift ≡ e -ℤ e' → ((x v : ℤ) → value_of f' x ≡ Some v → (u : ℤ) × (value_of f x ≡ Some u) × ((u +ℤ shift) ≤ℤ v)) → IsBelow f e f' e'
-below_of f f' e e' shift is below x v there = (let u = below x v there in let low = u.2 in (u.0, u.1, omega (arith, ints, low, is)))
+pub below_of : (f f' : Table) (e e' shift : ℤ) → shift ≡ e -ℤ e' →
+    ((x v : ℤ) → value_of f' x ≡ Some v → (u : ℤ) × (value_of f x ≡ Some u) × ((u +ℤ shift) ≤ℤ v)) → IsBelow f e f' e'
+below_of f f' e e' shift is below x v there =
+    (let u = below x v there in let low = u.2 in (u.0, u.1, omega (arith, ints, low, is)))
 
-pub under_of : (f : Table) (e power cost v sum : ℤ) (before : ℕ) (left : ℕ → Passed) → value_of f power ≡ Some v → sum ≡ e +ℤ v → (sum +ℤ pos 1) ≤ℤ cost →
+pub under_of : (f : Table) (e power cost v sum : ℤ) (before : ℕ) (left : ℕ → Passed) → value_of f power ≡ Some v →
+    sum ≡ e +ℤ v → (sum +ℤ pos 1) ≤ℤ cost →
     IsUnder power cost (record { before = before; cost = e; function = f; left = left })
 under_of f e power cost v sum before left there is less = (v, there, omega (arith, ints, is, less))
 
@@ -55,14 +89,16 @@ get_set_same [] i a low = absurd (omega (arith, low))
 get_set_same (x ∷ xs) zero a low = refl
 get_set_same (x ∷ xs) (suc i) a low = get_set_same xs i a (omega (arith, low))
 
-pub get_set_other : {X : Type 0} (xs : List X) (i j : ℕ) (a : X) → j ≢ i → slice_get (slice_set xs i a) j ≡ slice_get xs j
+pub get_set_other : {X : Type 0} (xs : List X) (i j : ℕ) (a : X) → j ≢ i →
+    slice_get (slice_set xs i a) j ≡ slice_get xs j
 get_set_other [] i j a other = refl
 get_set_other (x ∷ xs) zero zero a other = absurd (other refl)
 get_set_other (x ∷ xs) zero (suc j) a other = refl
 get_set_other (x ∷ xs) (suc i) zero a other = refl
 get_set_other (x ∷ xs) (suc i) (suc j) a other = get_set_other xs i j a (λ z. other (ap suc z))
 
-module _ {R : Type 0} (function : R → Table) (runners runners' : List (Runner R)) (i : ℕ) (a : Runner R) (room : i < length runners) (set : runners' ≡ slice_set runners i a) where
+module _ {R : Type 0} (function : R → Table) (runners runners' : List (Runner R)) (i : ℕ) (a : Runner R)
+    (room : i < length runners) (set : runners' ≡ slice_set runners i a) where
   pub written_here : slice_get runners' i ≡ Some a
   written_here = ap (λ (xs : List (Runner R)). slice_get xs i) set ∙ get_set_same runners i a room
 
@@ -76,28 +112,35 @@ module _ {R : Type 0} (function : R → Table) (runners runners' : List (Runner 
   live_other j other = ap (going_of function) (written_other j other)
 
   -- what holds of each runner
-  pub each_written : (P : Runner R → Type 0) → P a → ((j : ℕ) (r : Runner R) → slice_get runners j ≡ Some r → P r) → (j : ℕ) (r : Runner R) → slice_get runners' j ≡ Some r → P r
+  pub each_written : (P : Runner R → Type 0) → P a → ((j : ℕ) (r : Runner R) → slice_get runners j ≡ Some r → P r) →
+      (j : ℕ) (r : Runner R) → slice_get runners' j ≡ Some r → P r
   each_written P here all j r is = elim (cases_eq j i) [
-    | inl z ↦ (let same : a ≡ r = (let e = ap (λ (k : ℕ). slice_get runners' k) z in let w = written_here in cc) in subst P same here)
+    | inl z ↦ (let same : a ≡ r = (let e = ap (λ (k : ℕ). slice_get runners' k) z in let w = written_here in cc) in
+        subst P same here)
     | inr other ↦ all j r (sym (written_other j other) ∙ is)
   ]
 
 -- ---- room
 
-pub room_more : (count periods t charge room : ℕ) → t < periods → count + (periods - t) * charge ≤ room → count + charge ≤ room
+pub room_more : (count periods t charge room : ℕ) → t < periods → count + (periods - t) * charge ≤ room →
+    count + charge ≤ room
 room_more count periods t charge room low fits =
     let n : periods - t ≡ suc (periods - suc t) = omega (arith, low) in
-    let e : (periods - t) * charge ≡ charge + (periods - suc t) * charge = ap (λ (n : ℕ). n * charge) n ∙ (omega arith) in
+    let e : (periods - t) * charge ≡ charge + (periods - suc t) * charge = ap (λ (n : ℕ). n * charge) n ∙
+    (omega arith) in
     omega (arith, e, fits)
 
-pub room_next : (count count' periods t charge room : ℕ) → t < periods → count + (periods - t) * charge ≤ room → count' ≤ count + charge → count' + (periods - suc t) * charge ≤ room
+pub room_next : (count count' periods t charge room : ℕ) → t < periods → count + (periods - t) * charge ≤ room →
+    count' ≤ count + charge → count' + (periods - suc t) * charge ≤ room
 room_next count count' periods t charge room low fits more =
     let n : periods - t ≡ suc (periods - suc t) = omega (arith, low) in
-    let e : (periods - t) * charge ≡ charge + (periods - suc t) * charge = ap (λ (n : ℕ). n * charge) n ∙ (omega arith) in
+    let e : (periods - t) * charge ≡ charge + (periods - suc t) * charge = ap (λ (n : ℕ). n * charge) n ∙
+    (omega arith) in
     omega (arith, e, fits, more)
 
 pub room_none : (periods t charge room : ℕ) → periods * charge ≤ room → (periods - t) * charge ≤ room
-room_none periods t charge room fits = let e : (periods - t) * charge ≤ periods * charge = mul-le-mul_right charge (omega arith) in omega (arith, e, fits)
+room_none periods t charge room fits = let e : (periods - t) * charge ≤ periods * charge = mul-le-mul_right charge
+    (omega arith) in omega (arith, e, fits)
 
 slice_get_past : {X : Type 0} (xs : List X) (f : ℕ) → length xs ≤ f → slice_get xs f ≡ None
 slice_get_past [] f h = refl
@@ -115,10 +158,12 @@ module _ {R : Type 0} (function : R → Table) (count room : R → ℕ) where
   kept_one : (r : Runner R) → IsKeptFrom count room r r
   kept_one r = record { room_same = refl; passed = refl; pieces = λ on. inr (on, refl) }
 
-  pub stopped_one : (old a : Runner R) → a.is_on ≡ false → a.running ≡ old.running → a.passed ≡ old.passed → IsKeptFrom count room old a
+  pub stopped_one : (old a : Runner R) → a.is_on ≡ false → a.running ≡ old.running → a.passed ≡ old.passed →
+      IsKeptFrom count room old a
   stopped_one old a off same passed = record { room_same = ap room same; passed = passed; pieces = λ on. absurd (cc) }
 
-  pub begun_one : (old a : Runner R) → count a.running ≡ 0 → room a.running ≡ room old.running → a.passed ≡ old.passed → IsKeptFrom count room old a
+  pub begun_one : (old a : Runner R) → count a.running ≡ 0 → room a.running ≡ room old.running → a.passed ≡ old.passed →
+      IsKeptFrom count room old a
   begun_one old a none same passed = record { room_same = same; passed = passed; pieces = λ on. inl none }
 
   pub kept_none : (runners : List (Runner R)) → AreKept count room runners runners
@@ -155,8 +200,12 @@ module _ {R : Type 0} (function : R → Table) (count room : R → ℕ) where
       | inl z ↦
           let e = ap (λ (k : ℕ). slice_get runners' k) z in
           let w = written_here function runners runners' i a low set in
-          let same : a ≡ r = (cc) in
-          (old, ap (λ (k : ℕ). slice_get runners k) z ∙ was, subst (λ (r : Runner R). IsKeptFrom count room old r) same kept)
+          let same : a ≡ r = (cc) in (
+            old,
+            ap (λ (k : ℕ). slice_get runners k) z ∙ was,
+            subst (λ (r : Runner R). IsKeptFrom count room old r) same
+                kept,
+          )
       | inr other ↦ (r, sym (written_other function runners runners' i a low set f other) ∙ is, kept_one r)
     ];
   }
@@ -175,7 +224,8 @@ module _ {R : Type 0} (function : R → Table) (count room : R → ℕ) where
           whole = omega (arith, whole, same);
           places = omega (arith, places, length_same);
           rest = λ on. elim (k.2.pieces on) [
-            | inl none ↦ (let rest = room_none periods t charge (room k.0.running) whole in omega (arith, none, same, rest))
+            | inl none ↦ (let rest = room_none periods t charge (room k.0.running) whole in omega
+                (arith, none, same, rest))
             | inr h ↦ (let rest = o.rest h.0 in let pieces = h.1 in omega (arith, rest, pieces, same))
           ];
         }
@@ -195,11 +245,13 @@ module _ {R : Type 0} (function : R → Table) (count room : R → ℕ) where
           let past = kept.count_same in
           let end = slice_get_none new f is in
           sym (ap (λ o. left_of o k) (slice_get_past old f (omega (arith, past, end)))))
-      | Some r ↦ λ is. (let o = kept.each f r is in ap (λ p. passed_at p.items k) o.2.passed ∙ sym (ap (λ o. left_of o k) o.1))
+      | Some r ↦ λ is. (let o = kept.each f r is in ap (λ p. passed_at p.items k) o.2.passed ∙
+          sym (ap (λ o. left_of o k) o.1))
     ] refl
 
 -- where none is on, the room of each is all its own
-pub off_roomy : {R : Type 0} (function : R → Table) (count room : R → ℕ) (periods t charge : ℕ) (runners : List (Runner R)) →
+pub off_roomy : {R : Type 0} (function : R → Table) (count room : R →
+    ℕ) (periods t charge : ℕ) (runners : List (Runner R)) →
     ((f : ℕ) → live_at function runners f ≡ None) → HaveRoom room (periods * charge) periods runners →
     AreRoomy count room periods t charge runners
 off_roomy function count room periods t charge runners off have f r is = record {
@@ -208,13 +260,15 @@ off_roomy function count room periods t charge runners off have f r is = record 
   rest = λ on. (let none = off f in let live = ap (going_of function) is ∙ going_on function r on in absurd (cc));
 }
 
-pub have_room : {R : Type 0} (count room : R → ℕ) (periods t charge : ℕ) (runners : List (Runner R)) → AreRoomy count room periods t charge runners → HaveRoom room (periods * charge) periods runners
+pub have_room : {R : Type 0} (count room : R → ℕ) (periods t charge : ℕ) (runners : List (Runner R)) →
+    AreRoomy count room periods t charge runners → HaveRoom room (periods * charge) periods runners
 have_room count room periods t charge runners roomy f r is = ((roomy f r is).whole, (roomy f r is).places)
 
 -- ---- all stopped
 
 -- those before n are stopped
-pub record IsStopped {R : Type 0} (count room : R → ℕ) (old : List (Runner R)) (n : ℕ) (new : List (Runner R)) : Type 0 where
+pub record IsStopped {R : Type 0} (count room : R →
+    ℕ) (old : List (Runner R)) (n : ℕ) (new : List (Runner R)) : Type 0 where
   pub off : (f : ℕ) (r : Runner R) → f < n → slice_get new f ≡ Some r → r.is_on ≡ false
   pub kept : AreKept count room old new
 
@@ -232,16 +286,19 @@ module _ {R : Type 0} (function : R → Table) (count room : R → ℕ) (old : L
             let here = written_here function new new' n a low set in
             let e : r ≡ a = (let w = ap (λ (k : ℕ). slice_get new' k) z in cc) in
             ap (λ (r : Runner R). r.is_on) e ∙ off
-        | inr other ↦ all.off f r (omega (arith, less, other)) (sym (written_other function new new' n a low set f other) ∙ is)
+        | inr other ↦ all.off f r (omega (arith, less, other))
+            (sym (written_other function new new' n a low set f other) ∙ is)
       ];
       kept = kept_then function count room old new new' all.kept
-          (kept_written function count room new new' n a b low set was (stopped_one function count room b a off same passed));
+          (kept_written function count room new new' n a b low set was
+          (stopped_one function count room b a off same passed));
     }
 
     pub stopped_off : length new ≤ n → (f : ℕ) → live_at function new f ≡ None
     stopped_off end f = elim (slice_get new f) as (λ o. slice_get new f ≡ o → going_of function o ≡ None) [
       | None ↦ λ is. refl
-      | Some r ↦ λ is. going_off function r (all.off f r (let low = slice_get_within new f r is in omega (arith, low, end)) is)
+      | Some r ↦ λ is. going_off function r
+          (all.off f r (let low = slice_get_within new f r is in omega (arith, low, end)) is)
     ] refl
 
 -- ---- fewer on
@@ -270,10 +327,12 @@ fewer_small a b fewer small f r is = elim (fewer f) [
   | inr none ↦ absurd (cc)
 ]
 
-module _ {R : Type 0} (function : R → Table) (runners runners' : List (Runner R)) (i : ℕ) (a : Runner R) (room : i < length runners) (set : runners' ≡ slice_set runners i a) where
+module _ {R : Type 0} (function : R → Table) (runners runners' : List (Runner R)) (i : ℕ) (a : Runner R)
+    (room : i < length runners) (set : runners' ≡ slice_set runners i a) where
   pub fewer_stopped : a.is_on ≡ false → AreFewer (live_at function runners) (live_at function runners')
   fewer_stopped off f = elim (cases_eq f i) [
-    | inl z ↦ inr (ap (live_at function runners') z ∙ live_here function runners runners' i a room set ∙ going_off function a off)
+    | inl z ↦ inr (ap (live_at function runners') z ∙ live_here function runners runners' i a room set ∙
+        going_off function a off)
     | inr other ↦ inl (live_other function runners runners' i a room set f other)
   ]
 

@@ -1,5 +1,11 @@
 -- The ends that the next start may follow, a period later, and the cheapest start.
-use Rattle.unit_table.proofs.Common.{◌≡◌, ℕ, zero, suc, ◌+◌, ◌-◌, ◌*◌, ◌<◌, ◌≤◌, ◌⊎◌, inl, inr, true, false, cond, Option, Some, None, ℤ, pos, ◌+ℤ◌, ◌≤ℤ◌, List, [], ◌∷◌, length, refl, sym, ap, ◌∙◌, subst, arith, IsTrue, IsFalse, slice_get, ints, cases_lt, cases_eq, MustOn, ThermalUnit, IsThermalUnit, mark_in, Origin, Ended, Entry, IsRising, IsRipe, IsOrigin, HasOrigin, AreInOrder, AreRight, AreOrigins, AreOriginsWithin, IsOriginPut, cost_at, HasEntryAtMost, IsWithinTimes, AreWithin, IsOffRun, IsGap, off_time, start_cost_after, IsStarted, IsEntry, IsLeastEntry, IsLag}
+use Rattle.unit_table.proofs.Common.{◌≡◌, ℕ, zero, suc, ◌+◌, ◌-◌, ◌*◌, ◌<◌, ◌≤◌, ◌⊎◌, inl, inr, true, false, cond}
+use Rattle.unit_table.proofs.Common.{Option, Some, None, ℤ, pos, ◌+ℤ◌, ◌≤ℤ◌, List, [], ◌∷◌, length, refl, sym, ap, ◌∙◌}
+use Rattle.unit_table.proofs.Common.{subst, arith, IsTrue, IsFalse, slice_get, ints, cases_lt, cases_eq, MustOn}
+use Rattle.unit_table.proofs.Common.{ThermalUnit, IsThermalUnit, mark_in, Origin, Ended, Entry, IsRising, IsRipe}
+use Rattle.unit_table.proofs.Common.{IsOrigin, HasOrigin, AreInOrder, AreRight, AreOrigins, AreOriginsWithin}
+use Rattle.unit_table.proofs.Common.{IsOriginPut, cost_at, HasEntryAtMost, IsWithinTimes, AreWithin, IsOffRun, IsGap}
+use Rattle.unit_table.proofs.Common.{off_time, start_cost_after, IsStarted, IsEntry, IsLeastEntry, IsLag}
 use Rattle.std.specs.List.{All}
 use Rattle.unit_table.proofs.RipeLaws.{off_next}
 use Rattle.unit_table.proofs.StartCosts.{start_cost-within}
@@ -22,7 +28,12 @@ none_off : (g : ThermalUnit) (k : ℕ) → off_time g (suc k) (suc k) ≡ 0
 none_off g k = omega arith
 
 whole : (g : ThermalUnit) (k : ℕ) → IsOffRun g k k
-whole g k = record { order = omega arith; must_run = λ must. omega arith; marks = λ t above until mark. absurd (omega (arith, above, until)) }
+whole g k = record {
+  order = omega arith;
+  must_run = λ must. omega arith;
+  marks = λ t above until mark.
+      absurd (omega (arith, above, until));
+}
 
 -- ---- one of the list
 
@@ -38,7 +49,8 @@ module _ (g : ThermalUnit) (ends : ℕ → Option ℤ) (os : Origins) (none : os
   begun_right from rising = record {
     rising = rising;
     off = λ last low run. omega (arith, from);
-    off_since = λ last at_least low. (let z : 0 ≡ last = omega (arith, low) in subst (λ (l : ℕ). IsOffRun g l 0) z (whole g 0));
+    off_since = λ last at_least low.
+        (let z : 0 ≡ last = omega (arith, low) in subst (λ (l : ℕ). IsOffRun g l 0) z (whole g 0));
     each = λ i o low is. absurd (omega (arith, low, none));
     order = record {
       last = λ i j a b before low is is'. absurd (omega (arith, low, none));
@@ -47,18 +59,21 @@ module _ (g : ThermalUnit) (ends : ℕ → Option ℤ) (os : Origins) (none : os
   }
 
 pub begun_ripe : (g : ThermalUnit) (ends : ℕ → Option ℤ) (o : Origin) → IsOrigin g ends 0 o → IsRipe g 0 o.last
-begun_ripe g ends o is = record { order = is.gap.off.order; long = is.gap.min_down; before = λ b next. absurd (omega (arith, next)) }
+begun_ripe g ends o is = record
+    { order = is.gap.off.order; long = is.gap.min_down; before = λ b next. absurd (omega (arith, next)) }
 
 -- ---- a period more
 
-module _ (g : ThermalUnit) (unit : IsThermalUnit g) (ends : ℕ → Option ℤ) (k : ℕ) (os : Origins) (now : AreOrigins g ends k os) where
+module _ (g : ThermalUnit) (unit : IsThermalUnit g) (ends : ℕ →
+    Option ℤ) (k : ℕ) (os : Origins) (now : AreOrigins g ends k os) where
   -- none ends with the period and may be followed by a start at once
   not_yet : (o : Origin) → IsOrigin g ends (suc k) o → o.last ≤ k
   not_yet o is = elim (cases_lt k (o.last)) [
     | inl above ↦
         let order = is.gap.off.order in
         let z : o.last ≡ suc k = omega (arith, above, order) in
-        let long : g.min_down ≤ off_time g (suc k) (suc k) = subst (λ (l : ℕ). g.min_down ≤ off_time g l (suc k)) z is.gap.min_down in
+        let long : g.min_down ≤ off_time g (suc k) (suc k) = subst (λ (l : ℕ). g.min_down ≤ off_time g l (suc k)) z
+        is.gap.min_down in
         let none = none_off g k in
         let one = unit.min_down_is_one_or_more in
         absurd (omega (arith, long, none, one))
@@ -72,7 +87,8 @@ module _ (g : ThermalUnit) (unit : IsThermalUnit g) (ends : ℕ → Option ℤ) 
       must_run = λ must. cc;
       marks = λ t above until mark. elim (cases_lt t (suc k)) [
         | inl less ↦ off.marks t above (omega (arith, less)) mark
-        | inr most ↦ let z : t ≡ suc k = omega (arith, most, until) in open_next (subst (λ (t : ℕ). mark_in g.window t ≡ MustOn) z mark)
+        | inr most ↦ let z : t ≡ suc k = omega (arith, most, until) in open_next
+            (subst (λ (t : ℕ). mark_in g.window t ≡ MustOn) z mark)
       ];
     }
 
@@ -91,19 +107,25 @@ module _ (g : ThermalUnit) (unit : IsThermalUnit g) (ends : ℕ → Option ℤ) 
         | inr most ↦ now.right.off last most (run_less last most run)
       ];
       off_since = λ last from low. elim (cases_lt k last) [
-        | inl above ↦ (let z : suc k ≡ last = omega (arith, above, low) in subst (λ (l : ℕ). IsOffRun g l (suc k)) z (whole g (suc k)))
+        | inl above ↦ (let z : suc k ≡ last = omega (arith, above, low) in subst (λ (l : ℕ). IsOffRun g l (suc k)) z
+            (whole g (suc k)))
         | inr most ↦ run_more last (now.right.off_since last from most)
       ];
       each = λ i o low is.
           let old = now.right.each i o low is in
           let next = off_next g o.last k old.gap.off.order in
           let long = old.gap.min_down in
-          record { ended = old.ended; gap = record { off = run_more o.last old.gap.off; min_down = omega (arith, next, long) } };
+          record {
+            ended = old.ended;
+            gap = record
+                { off = run_more o.last old.gap.off; min_down = omega (arith, next, long) };
+          };
       order = now.right.order;
     }
 
     -- what is ripe now comes behind the others
-    pub ripe_later : (i last : ℕ) (o : Origin) → i < os.count → slice_get os.list.items i ≡ Some o → IsRipe g (suc k) last → o.last < last
+    pub ripe_later : (i last : ℕ) (o : Origin) → i < os.count → slice_get os.list.items i ≡ Some o →
+        IsRipe g (suc k) last → o.last < last
     ripe_later i last o low is ripe = elim (cases_lt (o.last) last) [
       | inl less ↦ less
       | inr most ↦
@@ -118,12 +140,19 @@ module _ (g : ThermalUnit) (unit : IsThermalUnit g) (ends : ℕ → Option ℤ) 
     ripe_or_there o is =
         let low = not_yet o is in
         elim (cases_lt (off_time g o.last k) (g.min_down)) [
-          | inl short ↦ inl (record { order = is.gap.off.order; long = is.gap.min_down; before = λ b next. (let z : k ≡ b = omega (arith, next) in subst (λ (b : ℕ). off_time g o.last b < g.min_down) z short) })
-          | inr long ↦ inr (now.all o (record { ended = is.ended; gap = record { off = run_less o.last low is.gap.off; min_down = long } }))
+          | inl short ↦ inl (record {
+            order = is.gap.off.order;
+            long = is.gap.min_down;
+            before = λ b next.
+                (let z : k ≡ b = omega (arith, next) in subst (λ (b : ℕ). off_time g o.last b < g.min_down) z short);
+          })
+          | inr long ↦ inr (now.all o
+              (record { ended = is.ended; gap = record { off = run_less o.last low is.gap.off; min_down = long } }))
         ]
 
   -- where the unit must be on, none is left
-  module _ (os' : Origins) (none : os'.count ≡ 0) (from : os'.off_from ≡ suc k) (same : os'.is_rising ≡ os.is_rising) (must : IsTrue g.must_run ⊎ (mark_in g.window (suc k) ≡ MustOn)) where
+  module _ (os' : Origins) (none : os'.count ≡ 0) (from : os'.off_from ≡ suc k) (same : os'.is_rising ≡ os.is_rising)
+      (must : IsTrue g.must_run ⊎ (mark_in g.window (suc k) ≡ MustOn)) where
     on_since : (last : ℕ) → IsOffRun g last (suc k) → suc k ≤ last
     on_since last off = elim must [
       | inl run ↦ off.must_run run
@@ -139,7 +168,9 @@ module _ (g : ThermalUnit) (unit : IsThermalUnit g) (ends : ℕ → Option ℤ) 
       right = record {
         rising = λ yes. now.right.rising (sym same ∙ yes);
         off = λ last low run. (let on = on_since last run in omega (arith, from, on));
-        off_since = λ last at_least low. (let z : suc k ≡ last = omega (arith, at_least, from, low) in subst (λ (l : ℕ). IsOffRun g l (suc k)) z (whole g (suc k)));
+        off_since = λ last at_least low.
+            (let z : suc k ≡ last = omega (arith, at_least, from, low) in subst (λ (l : ℕ). IsOffRun g l (suc k)) z
+            (whole g (suc k)));
         each = λ i o low is. absurd (omega (arith, low, none));
         order = record {
           last = λ i j a b before low is is'. absurd (omega (arith, low, none));
@@ -151,7 +182,8 @@ module _ (g : ThermalUnit) (unit : IsThermalUnit g) (ends : ℕ → Option ℤ) 
 
 -- ---- what is ripe
 
-module _ (g : ThermalUnit) (ends : ℕ → Option ℤ) (k : ℕ) (os : Origins) (few : os.count ≤ k) (right : AreRight g ends k os)
+module _ (g : ThermalUnit) (ends : ℕ → Option ℤ) (k : ℕ) (os : Origins) (few : os.count ≤ k)
+    (right : AreRight g ends k os)
     (others : (o : Origin) → IsOrigin g ends k o → IsRipe g k o.last ⊎ HasOrigin os o) where
   pub none_ripe : ((o : Origin) → IsOrigin g ends k o → IsRipe g k o.last → ⊥) → AreOrigins g ends k os
   none_ripe none = record {
@@ -167,7 +199,8 @@ module _ (g : ThermalUnit) (ends : ℕ → Option ℤ) (k : ℕ) (os : Origins) 
       (later : (i : ℕ) (o : Origin) → i < os.count → slice_get os.list.items i ≡ Some o → o.last < n.last)
       (room : os.count ≤ length os.list.items) (os' : Origins) (put : IsOriginPut n os os') where
     -- what stands at a place of the new list
-    stands : (i : ℕ) (o : Origin) → i < os'.count → slice_get os'.list.items i ≡ Some o → ((i < put.place) × (slice_get os.list.items i ≡ Some o)) ⊎ ((i ≡ put.place) × (n ≡ o))
+    stands : (i : ℕ) (o : Origin) → i < os'.count → slice_get os'.list.items i ≡ Some o →
+        ((i < put.place) × (slice_get os.list.items i ≡ Some o)) ⊎ ((i ≡ put.place) × (n ≡ o))
     stands i o low is =
         let count = put.count in
         elim (cases_lt i (put.place)) [
@@ -188,7 +221,8 @@ module _ (g : ThermalUnit) (ends : ℕ → Option ℤ) (k : ℕ) (os : Origins) 
       | inr new ↦ subst (λ (o : Origin). IsOrigin g ends k o) new.1 origin
     ]
 
-    last' : (i j : ℕ) (a b : Origin) → i < j → j < os'.count → slice_get os'.list.items i ≡ Some a → slice_get os'.list.items j ≡ Some b → a.last < b.last
+    last' : (i j : ℕ) (a b : Origin) → i < j → j < os'.count → slice_get os'.list.items i ≡ Some a →
+        slice_get os'.list.items j ≡ Some b → a.last < b.last
     last' i j a b before low is is' =
         let first = stands i a (omega (arith, before, low)) is in
         elim (stands j b low is') [
@@ -207,7 +241,8 @@ module _ (g : ThermalUnit) (ends : ℕ → Option ℤ) (k : ℕ) (os : Origins) 
         ]
 
     -- all before the new one cost no more
-    cheaper : IsTrue os.is_rising → (i : ℕ) (a : Origin) → i < put.place → slice_get os.list.items i ≡ Some a → a.cost ≤ℤ n.cost
+    cheaper : IsTrue os.is_rising → (i : ℕ) (a : Origin) → i < put.place → slice_get os.list.items i ≡ Some a →
+        a.cost ≤ℤ n.cost
     cheaper rising i a low is = elim (cases_eq (suc i) (put.place)) [
       | inl z ↦ put.cheaper rising i a (sym z) is
       | inr other ↦
@@ -220,7 +255,8 @@ module _ (g : ThermalUnit) (ends : ℕ → Option ℤ) (k : ℕ) (os : Origins) 
           omega (arith, ints, near, far)
     ]
 
-    cost' : IsTrue os'.is_rising → (i j : ℕ) (a b : Origin) → i < j → j < os'.count → slice_get os'.list.items i ≡ Some a → slice_get os'.list.items j ≡ Some b → a.cost ≤ℤ b.cost
+    cost' : IsTrue os'.is_rising → (i j : ℕ) (a b : Origin) → i < j → j < os'.count →
+        slice_get os'.list.items i ≡ Some a → slice_get os'.list.items j ≡ Some b → a.cost ≤ℤ b.cost
     cost' rising' i j a b before low is is' =
         let rising : IsTrue os.is_rising = sym put.is_rising ∙ rising' in
         let first = stands i a (omega (arith, before, low)) is in
@@ -244,7 +280,13 @@ module _ (g : ThermalUnit) (ends : ℕ → Option ℤ) (k : ℕ) (os : Origins) 
 
     all' : (o : Origin) → IsOrigin g ends k o → HasOrigin os' o
     all' o is = elim (others o is) [
-      | inl ripe ↦ record { place = put.place; origin = n; low = new_low; is = put.here; best = inl (sym (only o.last ripe)) }
+      | inl ripe ↦ record {
+        place = put.place;
+        origin = n;
+        low = new_low;
+        is = put.here;
+        best = inl (sym (only o.last ripe));
+      }
       | inr has ↦ elim (cases_lt (has.place) (put.place)) [
         | inl less ↦ record {
           place = has.place;
@@ -286,7 +328,8 @@ module _ (g : ThermalUnit) (ends : ℕ → Option ℤ) (k : ℕ) (os : Origins) 
       few = (let count = put.count in let within = put.within in omega (arith, few, count, within));
       right = record {
         rising = λ yes. right.rising (sym put.is_rising ∙ yes);
-        off = λ last low run. (let from = right.off last low run in let same = put.off_from in omega (arith, from, same));
+        off = λ last low run.
+            (let from = right.off last low run in let same = put.off_from in omega (arith, from, same));
         off_since = λ last from low. (let same = put.off_from in right.off_since last (omega (arith, from, same)) low);
         each = each';
         order = record { last = last'; cost = cost' };
@@ -296,14 +339,17 @@ module _ (g : ThermalUnit) (ends : ℕ → Option ℤ) (k : ℕ) (os : Origins) 
 
 -- ---- the rows up to period k are all that counts
 
-pub origins_to : (g : ThermalUnit) (ends ends' : ℕ → Option ℤ) (k : ℕ) (os : Origins) → ((l : ℕ) → l ≤ k → ends' l ≡ ends l) → AreOrigins g ends k os → AreOrigins g ends' k os
+pub origins_to : (g : ThermalUnit) (ends ends' : ℕ → Option ℤ) (k : ℕ) (os : Origins) →
+    ((l : ℕ) → l ≤ k → ends' l ≡ ends l) → AreOrigins g ends k os → AreOrigins g ends' k os
 origins_to g ends ends' k os same now = record {
   few = now.few;
   right = record {
     rising = now.right.rising;
     off = now.right.off;
     off_since = now.right.off_since;
-    each = λ i o low is. (let old = now.right.each i o low is in record { ended = same o.last old.gap.off.order ∙ old.ended; gap = old.gap });
+    each = λ i o low is.
+        (let old = now.right.each i o low is in record
+        { ended = same o.last old.gap.off.order ∙ old.ended; gap = old.gap });
     order = now.right.order;
   };
   all = λ o is. now.all o (record { ended = sym (same o.last is.gap.off.order) ∙ is.ended; gap = is.gap });
@@ -316,9 +362,11 @@ module _ (g : ThermalUnit) (k : ℕ) (os : Origins) where
   entry_of a = a.cost +ℤ start_cost_after g a.last k
 
   pub record IsLeastUpTo (i : ℕ) (least : Option Entry) : Type 0 where
-    pub sound : (r : Entry) → least ≡ Some r → (j : ℕ) × (a : Origin) × (j < i) × (slice_get os.list.items j ≡ Some a) × (r.last ≡ a.last) × (r.cost ≡ entry_of a)
+    pub sound : (r : Entry) → least ≡ Some r → (j : ℕ) × (a : Origin) × (j < i) × (slice_get os.list.items j ≡ Some a) ×
+        (r.last ≡ a.last) × (r.cost ≡ entry_of a)
     pub complete : (j : ℕ) (a : Origin) → j < i → slice_get os.list.items j ≡ Some a → HasEntryAtMost least (entry_of a)
-    pub earliest : (r : Entry) (j : ℕ) (a : Origin) → least ≡ Some r → j < i → slice_get os.list.items j ≡ Some a → entry_of a ≡ r.cost → r.last ≤ a.last
+    pub earliest : (r : Entry) (j : ℕ) (a : Origin) → least ≡ Some r → j < i → slice_get os.list.items j ≡ Some a →
+        entry_of a ≡ r.cost → r.last ≤ a.last
     pub bound : (r : Entry) → least ≡ Some r → IsWithinTimes (2 * k + 3) r.cost
 
   pub none_yet : IsLeastUpTo 0 None
@@ -329,12 +377,14 @@ module _ (g : ThermalUnit) (k : ℕ) (os : Origins) where
     bound = λ r is. cc;
   }
 
-  module _ (order : AreInOrder os) (i : ℕ) (low : i < os.count) (b : Origin) (here : slice_get os.list.items i ≡ Some b) (x : ℤ) (cost : x ≡ entry_of b) (within : IsWithinTimes (2 * k + 3) x)
+  module _ (order : AreInOrder os) (i : ℕ) (low : i < os.count) (b : Origin) (here : slice_get os.list.items i ≡ Some b)
+      (x : ℤ) (cost : x ≡ entry_of b) (within : IsWithinTimes (2 * k + 3) x)
       (least least' : Option Entry) (so_far : IsLeastUpTo i least)
       (from : (r : Entry) → least' ≡ Some r → (least ≡ Some r) ⊎ ((x ≡ r.cost) × (r.last ≡ b.last)))
       (old : (r : Entry) → least ≡ Some r → HasEntryAtMost least' r.cost)
       (added : HasEntryAtMost least' x)
-      (kept : (r u : Entry) → least ≡ Some r → least' ≡ Some u → (u.last ≡ r.last) ⊎ ((u.cost +ℤ pos 1) ≤ℤ r.cost)) where
+      (kept : (r u : Entry) → least ≡ Some r → least' ≡ Some u →
+      (u.last ≡ r.last) ⊎ ((u.cost +ℤ pos 1) ≤ℤ r.cost)) where
     same_here : (j : ℕ) (a : Origin) → j ≡ i → slice_get os.list.items j ≡ Some a → b ≡ a
     same_here j a z is = (let e = ap (slice_get os.list.items) z in cc)
 
@@ -391,9 +441,12 @@ module _ (g : ThermalUnit) (k : ℕ) (os : Origins) where
       ];
     }
 
-  module _ (ends : ℕ → Option ℤ) (now : AreOrigins g ends k os) (least : Option Entry) (all : IsLeastUpTo os.count least) where
+  module _ (ends : ℕ → Option ℤ) (now : AreOrigins g ends k os) (least : Option Entry)
+      (all : IsLeastUpTo os.count least) where
     -- what one of the list costs to start from, beside an end that it is or dominates
-    beside : (o : Origin) → IsOrigin g ends k o → (has : HasOrigin os o) → ((has.origin.last ≡ o.last) × (entry_of has.origin ≡ entry_of o)) ⊎ ((entry_of has.origin +ℤ pos 1) ≤ℤ entry_of o)
+    beside : (o : Origin) → IsOrigin g ends k o → (has : HasOrigin os o) →
+        ((has.origin.last ≡ o.last) × (entry_of has.origin ≡ entry_of o)) ⊎
+        ((entry_of has.origin +ℤ pos 1) ≤ℤ entry_of o)
     beside o is has =
         let a = now.right.each has.place has.origin has.low has.is in
         elim (has.best) [
@@ -407,7 +460,8 @@ module _ (g : ThermalUnit) (k : ℕ) (os : Origins) where
           | inr more ↦
               let later = more.1 in
               let cheap = more.2 in
-              let start = now.right.rising more.0 (off_time g has.origin.last k) (off_time g o.last k) (off_less g o.last has.origin.last k (omega (arith, later)) a.gap.off.order) in
+              let start = now.right.rising more.0 (off_time g has.origin.last k) (off_time g o.last k)
+              (off_less g o.last has.origin.last k (omega (arith, later)) a.gap.off.order) in
               inr (omega (arith, ints, cheap, start))
         ]
 
@@ -426,7 +480,8 @@ module _ (g : ThermalUnit) (k : ℕ) (os : Origins) where
                 let first = h.first in
                 let z : h.before ≡ k = omega (arith, first) in
                 let o : Origin = record { last = entry.0; cost = h.value } in
-                let is_origin : IsOrigin g ends k o = record { ended = h.ended; gap = subst (λ (b : ℕ). IsGap g entry.0 b) z h.gap } in
+                let is_origin : IsOrigin g ends k o = record
+                { ended = h.ended; gap = subst (λ (b : ℕ). IsGap g entry.0 b) z h.gap } in
                 let has = now.all o is_origin in
                 let low = all.complete has.place has.origin has.low has.is in
                 let same : low.0 ≡ r = (let e = low.1 in cc) in
@@ -445,7 +500,8 @@ module _ (g : ThermalUnit) (k : ℕ) (os : Origins) where
                 let first = h.first in
                 let z : h.before ≡ k = omega (arith, first) in
                 let o : Origin = record { last = j; cost = h.value } in
-                let is_origin : IsOrigin g ends k o = record { ended = h.ended; gap = subst (λ (b : ℕ). IsGap g j b) z h.gap } in
+                let is_origin : IsOrigin g ends k o = record
+                { ended = h.ended; gap = subst (λ (b : ℕ). IsGap g j b) z h.gap } in
                 let has = now.all o is_origin in
                 let low = all.complete has.place has.origin has.low has.is in
                 let same : low.0 ≡ r = (let e = low.1 in cc) in
@@ -457,7 +513,8 @@ module _ (g : ThermalUnit) (k : ℕ) (os : Origins) where
                   | inl equal ↦
                       let e = equal.1 in
                       let l = equal.0 in
-                      let early = all.earliest r has.place has.origin is has.low has.is (omega (arith, ints, e, start, is_cost)) in
+                      let early = all.earliest r has.place has.origin is has.low has.is
+                      (omega (arith, ints, e, start, is_cost)) in
                       omega (arith, l, early)
                   | inr less ↦ absurd (omega (arith, ints, same_cost, most, less, start, is_cost))
                 ]
@@ -478,15 +535,18 @@ module _ (g : ThermalUnit) (k : ℕ) (os : Origins) where
     ]
 
 -- where each of the list is above a limit, so is each entry
-pub entry_beyond : (g : ThermalUnit) (ends : ℕ → Option ℤ) (k : ℕ) (os : Origins) → AreOrigins g ends k os → All IsLag g.lags → (limit : ℤ) →
-    ((i : ℕ) (o : Origin) → i < os.count → slice_get os.list.items i ≡ Some o → (limit +ℤ pos 1) ≤ℤ o.cost) → (e : ℤ) → IsEntry g ends (suc k) e → (limit +ℤ pos 1) ≤ℤ e
+pub entry_beyond : (g : ThermalUnit) (ends : ℕ → Option ℤ) (k : ℕ) (os : Origins) → AreOrigins g ends k os →
+    All IsLag g.lags → (limit : ℤ) →
+    ((i : ℕ) (o : Origin) → i < os.count → slice_get os.list.items i ≡ Some o → (limit +ℤ pos 1) ≤ℤ o.cost) → (e : ℤ) →
+    IsEntry g ends (suc k) e → (limit +ℤ pos 1) ≤ℤ e
 entry_beyond g ends k os now lags limit beyond e entry = elim (entry.1) [
   | inl none ↦ let z = none.0 in absurd (omega (arith, z))
   | inr h ↦
       let first = h.first in
       let z : h.before ≡ k = omega (arith, first) in
       let o : Origin = record { last = entry.0; cost = h.value } in
-      let is_origin : IsOrigin g ends k o = record { ended = h.ended; gap = subst (λ (b : ℕ). IsGap g entry.0 b) z h.gap } in
+      let is_origin : IsOrigin g ends k o = record
+      { ended = h.ended; gap = subst (λ (b : ℕ). IsGap g entry.0 b) z h.gap } in
       let has = now.all o is_origin in
       let a = now.right.each has.place has.origin has.low has.is in
       let high = beyond has.place has.origin has.low has.is in
@@ -505,7 +565,8 @@ entry_beyond g ends k os now lags limit beyond e entry = elim (entry.1) [
 
 -- ---- within bounds
 
-pub origins_within : (g : ThermalUnit) (rows : List (Option Ended)) (k : ℕ) (os : Origins) → AreOrigins g (cost_at rows) k os → AreWithin rows → k < length os.list.items → AreOriginsWithin k os
+pub origins_within : (g : ThermalUnit) (rows : List (Option Ended)) (k : ℕ) (os : Origins) →
+    AreOrigins g (cost_at rows) k os → AreWithin rows → k < length os.list.items → AreOriginsWithin k os
 origins_within g rows k os now within room = record {
   room = (let few = now.few in omega (arith, few, room));
   last = λ i o low is. (now.right.each i o low is).gap.off.order;

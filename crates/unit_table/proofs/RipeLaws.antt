@@ -1,5 +1,6 @@
 -- When the unit has been off for long enough.
-use Rattle.unit_table.proofs.Common.{◌≡◌, ℕ, zero, suc, ◌+◌, ◌-◌, ◌<◌, ◌≤◌, true, false, cond, refl, subst, arith, ThermalUnit, IsRipe, off_time}
+use Rattle.unit_table.proofs.Common.{◌≡◌, ℕ, zero, suc, ◌+◌, ◌-◌, ◌<◌, ◌≤◌, true, false, cond, refl, subst, arith}
+use Rattle.unit_table.proofs.Common.{ThermalUnit, IsRipe, off_time}
 
 -- since before the horizon it has been off for all the periods at least
 off_least : (g : ThermalUnit) (k : ℕ) → k ≤ off_time g 0 k
@@ -36,7 +37,8 @@ module _ (g : ThermalUnit) (one : 1 ≤ g.min_down) (k : ℕ) where
     },
     λ last ripe. elim last as (λ last. IsRipe g k last → suc n ≡ last) [
       | suc l ↦ λ ripe. suc_only (suc n) l sum ripe
-      | zero ↦ λ ripe. (let short = ripe.before (k - 1) (omega (arith, one, sum)) in let e = off_least g (k - 1) in absurd (omega (arith, e, short, sum)))
+      | zero ↦ λ ripe. (let short = ripe.before (k - 1) (omega (arith, one, sum)) in let e = off_least g (k - 1) in
+          absurd (omega (arith, e, short, sum)))
     ] ripe,
   )
 
@@ -44,27 +46,6 @@ module _ (g : ThermalUnit) (one : 1 ≤ g.min_down) (k : ℕ) where
   none_after l few ripe = (let long : g.min_down ≤ k - suc l = ripe.long in omega (arith, long, few, one))
 
   -- since before the horizon
-  pub zero_ripe : k ≤ g.min_down → g.min_down ≤ off_time g 0 k → (1 ≤ k → off_time g 0 k ≤ g.min_down) → IsRipe g k 0 × Only 0
-  zero_ripe few long short = (
-    record {
-      order = omega arith;
-      long = long;
-      before = λ b next. (let e : off_time g 0 (suc b) ≡ suc (off_time g 0 b) = off_next g 0 b (omega arith) in
-          let s : off_time g 0 (suc b) ≤ g.min_down = subst (λ (k : ℕ). off_time g 0 k ≤ g.min_down) next (short (omega (arith, next))) in
-          omega (arith, e, s));
-    },
-    λ last ripe. elim last as (λ last. IsRipe g k last → 0 ≡ last) [
-      | zero ↦ λ ripe. refl
-      | suc l ↦ λ ripe. absurd (none_after l few ripe)
-    ] ripe,
-  )
-
-  pub none_short : k ≤ g.min_down → off_time g 0 k < g.min_down → (last : ℕ) → IsRipe g k last → ⊥
-  none_short few short last ripe = elim last as (λ last. IsRipe g k last → ⊥) [
-    | zero ↦ λ ripe. (let long = ripe.long in omega (arith, long, short))
-    | suc l ↦ λ ripe. none_after l few ripe
-  ] ripe
-
   pub none_before : k ≤ g.min_down → 1 ≤ k → g.min_down < off_time g 0 k → (last : ℕ) → IsRipe g k last → ⊥
   none_before few some long last ripe = elim last as (λ last. IsRipe g k last → ⊥) [
     | zero ↦ λ ripe.

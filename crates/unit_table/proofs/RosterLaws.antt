@@ -1,12 +1,16 @@
 -- The list of the runners that are on: one more, some fewer, and a loop over it.
-use Rattle.unit_table.proofs.Common.{◌≡◌, ◌≢◌, ℕ, suc, ◌+◌, ◌<◌, ◌≤◌, ◌⊎◌, inl, inr, Option, Some, None, ℤ, List, length, refl, sym, ap, ◌∙◌, subst, arith, length-set, slice_get, slice_set, cases_lt, cases_eq, Table, ThermalUnit, PriceLists, Runner, Ended, going_of, live_at, AreRoomy, IsRoster, Going, IsRowOf, IsOneRun}
+use Rattle.unit_table.proofs.Common.{◌≡◌, ◌≢◌, ℕ, suc, ◌+◌, ◌<◌, ◌≤◌, ◌⊎◌, inl, inr, Option, Some, None, ℤ, List}
+use Rattle.unit_table.proofs.Common.{length, refl, sym, ap, ◌∙◌, subst, arith, length-set, slice_get, slice_set}
+use Rattle.unit_table.proofs.Common.{cases_lt, cases_eq, Table, ThermalUnit, PriceLists, Runner, Ended, going_of}
+use Rattle.unit_table.proofs.Common.{live_at, AreRoomy, IsRoster, Going, IsRowOf, IsOneRun}
 use Rattle.unit_table.specs.declared.roster.Roster.{Roster}
 use Rattle.unit_table.proofs.LiveLaws.{get_set_same, get_set_other, going_on, live_other}
 use Rattle.unit_table.proofs.RunAllLaws.{IsRunTo, run_more}
 
 -- ---- none, one more, fewer on
 
-pub none_listed : (live : ℕ → Option Going) (until : ℕ) (roster : Roster) → roster.count ≡ 0 → ((f : ℕ) → live f ≡ None) → IsRoster live until roster
+pub none_listed : (live : ℕ → Option Going) (until : ℕ) (roster : Roster) → roster.count ≡ 0 →
+    ((f : ℕ) → live f ≡ None) → IsRoster live until roster
 none_listed live until roster none off = record {
   few = omega (arith, none);
   room = omega (arith, none);
@@ -16,20 +20,25 @@ none_listed live until roster none off = record {
 }
 
 -- where no other runner is on
-pub still_listed : (live live' : ℕ → Option Going) (until until' : ℕ) (roster : Roster) → until ≤ until' → ((f : ℕ) → live f ≡ None → live' f ≡ None) → IsRoster live until roster → IsRoster live' until' roster
+pub still_listed : (live live' : ℕ → Option Going) (until until' : ℕ) (roster : Roster) → until ≤ until' →
+    ((f : ℕ) → live f ≡ None → live' f ≡ None) → IsRoster live until roster → IsRoster live' until' roster
 still_listed live live' until until' roster more off list = record {
   few = (let few = list.few in omega (arith, few, more));
   room = list.room;
   below = λ i f low is. (let below = list.below i f low is in omega (arith, below, more));
   rising = list.rising;
-  all = λ f r is. elim (live f) as (λ o. live f ≡ o → (i : ℕ) × (i < roster.count) × (slice_get roster.firsts.items i ≡ Some f)) [
-    | None ↦ λ none. (let gone = off f none in cc)
-    | Some x ↦ λ on. list.all f x on
-  ] refl;
+  all = λ f r is. elim (live f) as (λ o. live f ≡ o →
+      (i : ℕ) × (i < roster.count) × (slice_get roster.firsts.items i ≡ Some f)) [
+        | None ↦ λ none. (let gone = off f none in cc)
+        | Some x ↦ λ on. list.all f x on
+      ] refl;
 }
 
-module _ (live live' : ℕ → Option Going) (until : ℕ) (roster roster' : Roster) (list : IsRoster live until roster) (room : roster.count < length roster.firsts.items)
-    (count : roster'.count ≡ suc roster.count) (set : roster'.firsts.items ≡ slice_set roster.firsts.items roster.count until) (same_length : length roster'.firsts.items ≡ length roster.firsts.items)
+module _ (live live' : ℕ → Option Going) (until : ℕ) (roster roster' : Roster) (list : IsRoster live until roster)
+    (room : roster.count < length roster.firsts.items)
+    (count : roster'.count ≡ suc roster.count)
+    (set : roster'.firsts.items ≡ slice_set roster.firsts.items roster.count until)
+    (same_length : length roster'.firsts.items ≡ length roster.firsts.items)
     (others : (f : ℕ) → f ≢ until → live' f ≡ live f) where
   here : slice_get roster'.firsts.items roster.count ≡ Some until
   here = ap (λ (xs : List ℕ). slice_get xs roster.count) set ∙ get_set_same roster.firsts.items roster.count until room
@@ -46,12 +55,15 @@ module _ (live live' : ℕ → Option Going) (until : ℕ) (roster roster' : Ros
     room = omega (arith, count, room, same_length);
     below = λ i f low is. elim (cases_eq i (roster.count)) [
       | inl z ↦ (let e = is_last i f z is in omega (arith, e))
-      | inr other ↦ (let below = list.below i f (omega (arith, low, count, other)) (sym (kept i other) ∙ is) in omega (arith, below))
+      | inr other ↦ (let below = list.below i f (omega (arith, low, count, other)) (sym (kept i other) ∙ is) in omega
+          (arith, below))
     ];
     rising = λ i j f h before low is is'.
-        (let first : slice_get roster.firsts.items i ≡ Some f = sym (kept i (λ z. omega (arith, z, before, low, count))) ∙ is in
+        (let first : slice_get roster.firsts.items i ≡ Some f = sym (kept i (λ z. omega (arith, z, before, low, count)))
+        ∙ is in
         elim (cases_eq j (roster.count)) [
-          | inl z ↦ (let e = is_last j h z is' in let below = list.below i f (omega (arith, before, z)) first in omega (arith, below, e))
+          | inl z ↦ (let e = is_last j h z is' in let below = list.below i f (omega (arith, before, z)) first in omega
+              (arith, below, e))
           | inr other ↦ list.rising i j f h before (omega (arith, low, count, other)) first (sym (kept j other) ∙ is')
         ]);
     all = λ f r is. elim (cases_eq f until) [
@@ -64,9 +76,12 @@ module _ (live live' : ℕ → Option Going) (until : ℕ) (roster roster' : Ros
   }
 
 -- a runner begun, and put into the list
-module _ {R : Type 0} (function : R → Table) (runners runners' : List (Runner R)) (until i : ℕ) (z : i ≡ until) (a : Runner R) (within : i < length runners) (written : runners' ≡ slice_set runners i a)
-    (roster roster' : Roster) (list : IsRoster (live_at function runners) until roster) (room : roster.count < length roster.firsts.items)
-    (count : roster'.count ≡ suc roster.count) (set : roster'.firsts.items ≡ slice_set roster.firsts.items roster.count i) where
+module _ {R : Type 0} (function : R → Table) (runners runners' : List (Runner R)) (until i : ℕ) (z : i ≡ until)
+    (a : Runner R) (within : i < length runners) (written : runners' ≡ slice_set runners i a)
+    (roster roster' : Roster) (list : IsRoster (live_at function runners) until roster)
+    (room : roster.count < length roster.firsts.items)
+    (count : roster'.count ≡ suc roster.count)
+    (set : roster'.firsts.items ≡ slice_set roster.firsts.items roster.count i) where
   pub begun_listed : IsRoster (live_at function runners') (suc until) roster'
   begun_listed = one_listed (live_at function runners) (live_at function runners') until roster roster' list room count
       (set ∙ ap (slice_set roster.firsts.items roster.count) z)
@@ -82,9 +97,11 @@ module _ (live : ℕ → Option Going) (until : ℕ) (old : Roster) where
     pub same_length : length new ≡ length old.firsts.items
     pub below : (i f : ℕ) → i < q → slice_get new i ≡ Some f → f < until
     pub rising : (i j f h : ℕ) → i < j → j < q → slice_get new i ≡ Some f → slice_get new j ≡ Some h → f < h
-    pub before : (i j f h : ℕ) → i < q → p ≤ j → j < old.count → slice_get new i ≡ Some f → slice_get old.firsts.items j ≡ Some h → f < h
+    pub before : (i j f h : ℕ) → i < q → p ≤ j → j < old.count → slice_get new i ≡ Some f →
+        slice_get old.firsts.items j ≡ Some h → f < h
     pub rest : (i : ℕ) → p ≤ i → slice_get new i ≡ slice_get old.firsts.items i
-    pub all : (f : ℕ) (r : Going) → live f ≡ Some r → ((i : ℕ) × (i < q) × (slice_get new i ≡ Some f)) ⊎ ((j : ℕ) × (p ≤ j) × (j < old.count) × (slice_get old.firsts.items j ≡ Some f))
+    pub all : (f : ℕ) (r : Going) → live f ≡ Some r → ((i : ℕ) × (i < q) × (slice_get new i ≡ Some f)) ⊎
+        ((j : ℕ) × (p ≤ j) × (j < old.count) × (slice_get old.firsts.items j ≡ Some f))
 
 module _ (live : ℕ → Option Going) (until : ℕ) (old : Roster) (list : IsRoster live until old) where
   pub none_kept : IsKeptTo live until old 0 0 old.firsts.items
@@ -98,7 +115,8 @@ module _ (live : ℕ → Option Going) (until : ℕ) (old : Roster) (list : IsRo
     all = λ f r is. (let h = list.all f r is in inr (h.0, omega arith, h.1, h.2));
   }
 
-  module _ (p q : ℕ) (new : List ℕ) (so_far : IsKeptTo live until old p q new) (inside : p < old.count) (first : ℕ) (is_first : slice_get new p ≡ Some first) where
+  module _ (p q : ℕ) (new : List ℕ) (so_far : IsKeptTo live until old p q new) (inside : p < old.count) (first : ℕ)
+      (is_first : slice_get new p ≡ Some first) where
     was : slice_get old.firsts.items p ≡ Some first
     was = sym (so_far.rest p (omega arith)) ∙ is_first
 
@@ -134,7 +152,8 @@ module _ (live : ℕ → Option Going) (until : ℕ) (old : Roster) (list : IsRo
     -- it stays
     module _ (new' : List ℕ) (set : new' ≡ slice_set new q first) where
       room : q < length new
-      room = (let low = so_far.low in let same = so_far.same_length in let within = list.room in omega (arith, low, same, within, inside))
+      room = (let low = so_far.low in let same = so_far.same_length in let within = list.room in omega
+          (arith, low, same, within, inside))
 
       here' : slice_get new' q ≡ Some first
       here' = ap (λ (xs : List ℕ). slice_get xs q) set ∙ get_set_same new q first room
@@ -157,16 +176,22 @@ module _ (live : ℕ → Option Going) (until : ℕ) (old : Roster) (list : IsRo
             (let less : i < q = omega (arith, before, low) in
             let first_is : slice_get new i ≡ Some f = sym (kept' i (λ z. omega (arith, z, less))) ∙ is in
             elim (cases_eq j q) [
-              | inl z ↦ subst (λ (h : ℕ). f < h) (is_here j h z is') (so_far.before i p f first less (omega arith) inside first_is was)
-              | inr other ↦ so_far.rising i j f h before (omega (arith, low, other)) first_is (sym (kept' j other) ∙ is')
+              | inl z ↦ subst (λ (h : ℕ). f < h) (is_here j h z is')
+                  (so_far.before i p f first less (omega arith) inside first_is was)
+              | inr other ↦ so_far.rising i j f h before (omega (arith, low, other)) first_is
+                  (sym (kept' j other) ∙ is')
             ]);
         before = λ i j f h low from within is is'. elim (cases_eq i q) [
-          | inl z ↦ subst (λ (f : ℕ). f < h) (is_here i f z is) (list.rising p j first h (omega (arith, from)) within was is')
-          | inr other ↦ so_far.before i j f h (omega (arith, low, other)) (omega (arith, from)) within (sym (kept' i other) ∙ is) is'
+          | inl z ↦ subst (λ (f : ℕ). f < h) (is_here i f z is)
+              (list.rising p j first h (omega (arith, from)) within was is')
+          | inr other ↦ so_far.before i j f h (omega (arith, low, other)) (omega (arith, from)) within
+              (sym (kept' i other) ∙ is) is'
         ];
-        rest = λ i from. (let low = so_far.low in kept' i (λ z. omega (arith, z, from, low)) ∙ so_far.rest i (omega (arith, from)));
+        rest = λ i from. (let low = so_far.low in kept' i (λ z. omega (arith, z, from, low)) ∙
+            so_far.rest i (omega (arith, from)));
         all = λ f r is. elim (so_far.all f r is) [
-          | inl left ↦ (let low = left.1 in inl (left.0, omega (arith, low), kept' left.0 (λ z. omega (arith, z, low)) ∙ left.2))
+          | inl left ↦ (let low = left.1 in inl
+              (left.0, omega (arith, low), kept' left.0 (λ z. omega (arith, z, low)) ∙ left.2))
           | inr left ↦
               let from = left.1 in
               elim (cases_eq (left.0) p) [
@@ -181,10 +206,12 @@ module _ (live : ℕ → Option Going) (until : ℕ) (old : Roster) (list : IsRo
         ];
       }
 
-  pub all_kept : (p : ℕ) (new : Roster) → old.count ≤ p → p ≤ old.count → IsKeptTo live until old p new.count new.firsts.items → IsRoster live until new
+  pub all_kept : (p : ℕ) (new : Roster) → old.count ≤ p → p ≤ old.count →
+      IsKeptTo live until old p new.count new.firsts.items → IsRoster live until new
   all_kept p new from to kept = record {
     few = (let few = list.few in let low = kept.low in omega (arith, few, low, to));
-    room = (let room = list.room in let low = kept.low in let same = kept.same_length in omega (arith, room, low, same, to));
+    room = (let room = list.room in let low = kept.low in let same = kept.same_length in omega
+        (arith, room, low, same, to));
     below = kept.below;
     rising = kept.rising;
     all = λ f r is. elim (kept.all f r is) [
@@ -196,7 +223,8 @@ module _ (live : ℕ → Option Going) (until : ℕ) (old : Roster) (list : IsRo
 -- ---- a loop over it
 
 -- runners that are off change no row
-row_further : (g : ThermalUnit) (π : PriceLists) (periods : ℕ) (live : ℕ → Option Going) (n m l : ℕ) (end : Option ℤ) (first before : ℕ) → n ≤ m → ((f : ℕ) → n ≤ f → f < m → live f ≡ None) →
+row_further : (g : ThermalUnit) (π : PriceLists) (periods : ℕ) (live : ℕ →
+    Option Going) (n m l : ℕ) (end : Option ℤ) (first before : ℕ) → n ≤ m → ((f : ℕ) → n ≤ f → f < m → live f ≡ None) →
     IsRowOf g π periods live n l end first before → IsRowOf g π periods live m l end first before
 row_further g π periods live n m l end first before more off row = record {
   most = λ f r d low on. elim (cases_lt f n) [
@@ -210,90 +238,120 @@ row_further g π periods live n m l end first before more off row = record {
   sound = λ v is. (let h = row.sound v is in let low = h.2 in (h.0, h.1, omega (arith, low, more), h.3, h.4, h.5));
 }
 
-module _ {R : Type 0} (function : R → Table) (count room : R → ℕ) (g : ThermalUnit) (π : PriceLists) (t charge : ℕ) (rows₀ : List (Option Ended)) (runners₀ : List (Runner R)) where
-  -- the first i of the list have run
-  pub record IsListRun (roster : Roster) (bound i : ℕ) (rows : List (Option Ended)) (runners : List (Runner R)) : Type 0 where
-    pub until : ℕ
-    pub most : until ≤ bound
-    pub run : IsRunTo function count room g π t charge rows₀ runners₀ until rows runners
-    pub done : (j f : ℕ) → j < i → slice_get roster.firsts.items j ≡ Some f → f < until
-    pub left : (j f : ℕ) → i ≤ j → j < roster.count → slice_get roster.firsts.items j ≡ Some f → until ≤ f
+module _ {R : Type 0} (function : R → Table) (count room : R →
+    ℕ) (g : ThermalUnit) (π : PriceLists) (t charge : ℕ) (rows₀ : List (Option Ended)) (runners₀ : List (Runner R))
+  where
+    -- the first i of the list have run
+    pub record IsListRun (roster : Roster) (bound i : ℕ) (rows : List (Option Ended))
+        (runners : List (Runner R)) : Type 0
+      where
+        pub until : ℕ
+        pub most : until ≤ bound
+        pub run : IsRunTo function count room g π t charge rows₀ runners₀ until rows runners
+        pub done : (j f : ℕ) → j < i → slice_get roster.firsts.items j ≡ Some f → f < until
+        pub left : (j f : ℕ) → i ≤ j → j < roster.count → slice_get roster.firsts.items j ≡ Some f → until ≤ f
 
-  pub none_run : (roster : Roster) (bound : ℕ) → IsRunTo function count room g π t charge rows₀ runners₀ 0 rows₀ runners₀ → IsListRun roster bound 0 rows₀ runners₀
-  none_run roster bound run = record { until = 0; most = omega arith; run = run; done = λ j f low. absurd (omega (arith, low)); left = λ j f from low is. omega arith }
-
-  module _ (roomy₀ : AreRoomy count room (length π.energy) t charge runners₀) where
-    run_skip : (n m : ℕ) (rows : List (Option Ended)) (runners : List (Runner R)) → n ≤ m → ((f : ℕ) → n ≤ f → f < m → live_at function runners₀ f ≡ None) →
-        IsRunTo function count room g π t charge rows₀ runners₀ n rows runners → IsRunTo function count room g π t charge rows₀ runners₀ m rows runners
-    run_skip n m rows runners more none run = record {
-      row = row_further g π (length π.energy) (live_at function runners₀) n m (suc t) _ _ _ more none run.row;
-      others = run.others;
-      within = run.within;
-      rows_length = run.rows_length;
-      goes = λ f r low on. elim (cases_lt f n) [
-        | inl less ↦ run.goes f r less on
-        | inr from ↦ (let off = none f from low in absurd (cc))
-      ];
-      off = λ f low is. elim (cases_lt f n) [
-        | inl less ↦ run.off f less is
-        | inr from ↦ ap (going_of function) (run.rest f from) ∙ is
-      ];
-      rest = λ f from. run.rest f (omega (arith, from, more));
-      roomy = λ f r low is. elim (cases_lt f n) [
-        | inl less ↦ run.roomy f r less is
-        | inr from ↦
-            let before : slice_get runners₀ f ≡ Some r = sym (run.rest f from) ∙ is in
-            record {
-              whole = (roomy₀ f r before).whole;
-              places = (roomy₀ f r before).places;
-              rest = λ on. (let off = none f from low in let live = ap (going_of function) before ∙ going_on function r on in absurd (cc));
-            }
-      ];
-      ends = run.ends;
-      left = run.left;
-      keeps = run.keeps;
-      count_same = run.count_same;
+    pub none_run : (roster : Roster) (bound : ℕ) → IsRunTo function count room g π t charge rows₀ runners₀ 0 rows₀
+        runners₀ → IsListRun roster bound 0 rows₀ runners₀
+    none_run roster bound run = record {
+      until = 0;
+      most = omega arith;
+      run = run;
+      done = λ j f low. absurd (omega (arith, low));
+      left = λ j f from low is. omega arith;
     }
 
-    module _ (roster : Roster) (bound : ℕ) (list : IsRoster (live_at function runners₀) bound roster) where
-      module _ (i : ℕ) (rows : List (Option Ended)) (runners : List (Runner R)) (so_far : IsListRun roster bound i rows runners) (inside : i < roster.count) (first : ℕ) (is : slice_get roster.firsts.items i ≡ Some first) where
-        off_between : (f : ℕ) → so_far.until ≤ f → f < first → live_at function runners₀ f ≡ None
-        off_between f from low = elim (live_at function runners₀ f) as (λ o. live_at function runners₀ f ≡ o → o ≡ None) [
-          | None ↦ λ e. refl
-          | Some r ↦ λ on.
-              let h = list.all f r on in
-              let contradiction : ⊥ = elim (cases_lt (h.0) i) [
-                | inl less ↦ (let done = so_far.done h.0 f less h.2 in omega (arith, done, from))
-                | inr most ↦ elim (cases_eq (h.0) i) [
-                  | inl z ↦ (let e = ap (slice_get roster.firsts.items) z in let there = h.2 in let same : f ≡ first = (cc) in omega (arith, same, low))
-                  | inr other ↦ (let later = list.rising i h.0 first f (omega (arith, most, other)) h.1 is h.2 in omega (arith, later, low))
-                ]
-              ] in
-              absurd contradiction
-        ] refl
+    module _ (roomy₀ : AreRoomy count room (length π.energy) t charge runners₀) where
+      run_skip : (n m : ℕ) (rows : List (Option Ended)) (runners : List (Runner R)) → n ≤ m →
+          ((f : ℕ) → n ≤ f → f < m → live_at function runners₀ f ≡ None) →
+          IsRunTo function count room g π t charge rows₀ runners₀ n rows runners →
+          IsRunTo function count room g π t charge rows₀ runners₀ m rows runners
+      run_skip n m rows runners more none run = record {
+        row = row_further g π (length π.energy) (live_at function runners₀) n m (suc t) _ _ _ more none run.row;
+        others = run.others;
+        within = run.within;
+        rows_length = run.rows_length;
+        goes = λ f r low on. elim (cases_lt f n) [
+          | inl less ↦ run.goes f r less on
+          | inr from ↦ (let off = none f from low in absurd (cc))
+        ];
+        off = λ f low is. elim (cases_lt f n) [
+          | inl less ↦ run.off f less is
+          | inr from ↦ ap (going_of function) (run.rest f from) ∙ is
+        ];
+        rest = λ f from. run.rest f (omega (arith, from, more));
+        roomy = λ f r low is. elim (cases_lt f n) [
+          | inl less ↦ run.roomy f r less is
+          | inr from ↦
+              let before : slice_get runners₀ f ≡ Some r = sym (run.rest f from) ∙ is in
+              record {
+                whole = (roomy₀ f r before).whole;
+                places = (roomy₀ f r before).places;
+                rest = λ on. (let off = none f from low in let live = ap (going_of function) before ∙
+                    going_on function r on in absurd (cc));
+              }
+        ];
+        ends = run.ends;
+        left = run.left;
+        keeps = run.keeps;
+        count_same = run.count_same;
+      }
 
-        pub run_before : IsRunTo function count room g π t charge rows₀ runners₀ first rows runners
-        run_before = run_skip so_far.until first rows runners (so_far.left i first (omega arith) inside is) off_between so_far.run
+      module _ (roster : Roster) (bound : ℕ) (list : IsRoster (live_at function runners₀) bound roster) where
+        module _ (i : ℕ) (rows : List (Option Ended)) (runners : List (Runner R))
+            (so_far : IsListRun roster bound i rows runners) (inside : i < roster.count) (first : ℕ)
+            (is : slice_get roster.firsts.items i ≡ Some first) where
+          off_between : (f : ℕ) → so_far.until ≤ f → f < first → live_at function runners₀ f ≡ None
+          off_between f from low = elim (live_at function runners₀ f) as (λ o. live_at function runners₀ f ≡ o →
+              o ≡ None) [
+                | None ↦ λ e. refl
+                | Some r ↦ λ on.
+                    let h = list.all f r on in
+                    let contradiction : ⊥ = elim (cases_lt (h.0) i) [
+                      | inl less ↦ (let done = so_far.done h.0 f less h.2 in omega (arith, done, from))
+                      | inr most ↦ elim (cases_eq (h.0) i) [
+                        | inl z ↦ (let e = ap (slice_get roster.firsts.items) z in let there = h.2 in let
+                            same : f ≡ first =
+                            (cc) in omega (arith, same, low))
+                        | inr other ↦ (let later = list.rising i h.0 first f (omega (arith, most, other))
+                            h.1 is h.2 in omega
+                            (arith, later, low))
+                      ]
+                    ] in
+                    absurd contradiction
+              ] refl
 
-        pub one_run : (rows' : List (Option Ended)) (runners' : List (Runner R)) → IsOneRun function count room g π t charge first rows rows' runners runners' → IsListRun roster bound (i + 1) rows' runners'
-        one_run rows' runners' one = record {
-          until = first + 1;
-          most = (let below = list.below i first inside is in omega (arith, below));
-          run = run_more function count room g π t charge rows₀ runners₀ first rows rows' runners runners' run_before one;
-          done = λ j f low there. elim (cases_eq j i) [
-            | inl z ↦ (let e = ap (slice_get roster.firsts.items) z in let same : f ≡ first = (cc) in omega (arith, same))
-            | inr other ↦ (let earlier = list.rising j i f first (omega (arith, low, other)) inside there is in omega (arith, earlier))
-          ];
-          left = λ j f from low there. (let later = list.rising i j first f (omega (arith, from)) low is there in omega (arith, later));
-        }
+          pub run_before : IsRunTo function count room g π t charge rows₀ runners₀ first rows runners
+          run_before = run_skip so_far.until first rows runners
+              (so_far.left i first (omega arith) inside is) off_between
+              so_far.run
 
-      module _ (i : ℕ) (rows : List (Option Ended)) (runners : List (Runner R)) (all : IsListRun roster bound i rows runners) (end : roster.count ≤ i) where
-        pub none_later : (f : ℕ) (r : Going) → live_at function runners₀ f ≡ Some r → f < all.until
-        none_later f r on = (let h = list.all f r on in let low = h.1 in all.done h.0 f (omega (arith, low, end)) h.2)
+          pub one_run : (rows' : List (Option Ended)) (runners' : List (Runner R)) →
+              IsOneRun function count room g π t charge first rows rows' runners runners' →
+              IsListRun roster bound (i + 1) rows' runners'
+          one_run rows' runners' one = record {
+            until = first + 1;
+            most = (let below = list.below i first inside is in omega (arith, below));
+            run = run_more function count room g π t charge rows₀ runners₀ first rows rows' runners runners' run_before
+                one;
+            done = λ j f low there. elim (cases_eq j i) [
+              | inl z ↦ (let e = ap (slice_get roster.firsts.items) z in let same : f ≡ first = (cc) in omega
+                  (arith, same))
+              | inr other ↦ (let earlier = list.rising j i f first (omega (arith, low, other)) inside there is in omega
+                  (arith, earlier))
+            ];
+            left = λ j f from low there.
+                (let later = list.rising i j first f (omega (arith, from)) low is there in omega (arith, later));
+          }
 
-        pub run_whole : IsRunTo function count room g π t charge rows₀ runners₀ bound rows runners
-        run_whole = run_skip all.until bound rows runners all.most
-            (λ f from low. elim (live_at function runners₀ f) as (λ o. live_at function runners₀ f ≡ o → o ≡ None) [
-              | None ↦ λ e. refl
-              | Some r ↦ λ on. (let before = none_later f r on in absurd (omega (arith, before, from)))
-            ] refl) all.run
+        module _ (i : ℕ) (rows : List (Option Ended)) (runners : List (Runner R))
+            (all : IsListRun roster bound i rows runners) (end : roster.count ≤ i) where
+          pub none_later : (f : ℕ) (r : Going) → live_at function runners₀ f ≡ Some r → f < all.until
+          none_later f r on = (let h = list.all f r on in let low = h.1 in all.done h.0 f (omega (arith, low, end)) h.2)
+
+          pub run_whole : IsRunTo function count room g π t charge rows₀ runners₀ bound rows runners
+          run_whole = run_skip all.until bound rows runners all.most
+              (λ f from low. elim (live_at function runners₀ f) as (λ o. live_at function runners₀ f ≡ o → o ≡ None) [
+                | None ↦ λ e. refl
+                | Some r ↦ λ on. (let before = none_later f r on in absurd (omega (arith, before, from)))
+              ] refl) all.run

@@ -1,5 +1,10 @@
 -- A runner that stands for a run goes on standing for it: a period more, a start that isn't begun, a runner that goes.
-use Rattle.unit_table.proofs.Common.{◌≡◌, ◌≢◌, ℕ, zero, suc, ◌<◌, ◌≤◌, ◌==◌, false, inl, inr, Option, Some, None, ℤ, pos, ◌+ℤ◌, ◌≤ℤ◌, length, refl, sym, ap, ◌∙◌, subst, arith, ints, cases_lt, cases_eq, lt-ltb, Table, value_of, MustOff, ThermalUnit, PriceLists, Schedule, mark_in, IsFrontier, RunsGoOn, net_cost, spell_cost, level, IsRun, AreLimits, on_time, IsEntry, IsLeastEntry, Going, MayBeOn, IsRunner, HasStandIn, AreRunners, IsGoneOn}
+use Rattle.unit_table.proofs.Common.{◌≡◌, ◌≢◌, ℕ, zero, suc, ◌<◌, ◌≤◌, ◌==◌, false, inl, inr, Option, Some, None, ℤ}
+use Rattle.unit_table.proofs.Common.{pos, ◌+ℤ◌, ◌≤ℤ◌, length, refl, sym, ap, ◌∙◌, subst, arith, ints, cases_lt}
+use Rattle.unit_table.proofs.Common.{cases_eq, lt-ltb, Table, value_of, MustOff, ThermalUnit, PriceLists, Schedule}
+use Rattle.unit_table.proofs.Common.{mark_in, IsFrontier, RunsGoOn, net_cost, spell_cost, level, IsRun, AreLimits}
+use Rattle.unit_table.proofs.Common.{on_time, IsEntry, IsLeastEntry, Going, MayBeOn, IsRunner, HasStandIn, AreRunners}
+use Rattle.unit_table.proofs.Common.{IsGoneOn}
 use Rattle.unit_table.proofs.RangeLaws.{move_in_range, before_low}
 use Rattle.unit_table.proofs.WaysLaws.{noted_more}
 use Rattle.unit_table.proofs.SumLaws.{sum_from_to-more, sum_from_to-none}
@@ -10,15 +15,18 @@ unfolding level
 level_start g d t = rw (lt-ltb t (suc t) (omega arith))
 
 pub may_less : (g : ThermalUnit) (first t u : ℕ) → u ≤ t → MayBeOn g first t → MayBeOn g first u
-may_less g first t u low may = record { goes_on = may.goes_on; marks = λ k one from until. may.marks k one from (omega (arith, until, low)) }
+may_less g first t u low may = record
+    { goes_on = may.goes_on; marks = λ k one from until. may.marks k one from (omega (arith, until, low)) }
 
 -- a period more, which isn't marked `MustOff`
-pub may_next : (g : ThermalUnit) (first t : ℕ) → (mark_in g.window (suc t) ≡ MustOff → ⊥) → MayBeOn g first t → MayBeOn g first (suc t)
+pub may_next : (g : ThermalUnit) (first t : ℕ) → (mark_in g.window (suc t) ≡ MustOff → ⊥) → MayBeOn g first t →
+    MayBeOn g first (suc t)
 may_next g first t open_next may = record {
   goes_on = may.goes_on;
   marks = λ k one from until mark. elim (cases_lt k (suc t)) [
     | inl less ↦ may.marks k one from (omega (arith, less)) mark
-    | inr most ↦ let z : k ≡ suc t = omega (arith, most, until) in open_next (subst (λ (k : ℕ). mark_in g.window k ≡ MustOff) z mark)
+    | inr most ↦ let z : k ≡ suc t = omega (arith, most, until) in open_next
+        (subst (λ (k : ℕ). mark_in g.window k ≡ MustOff) z mark)
   ];
 }
 
@@ -35,13 +43,15 @@ on_time_rises g zero l m low = omega (arith, low)
 on_time_rises g (suc a) l m low = omega (arith, low)
 
 -- where a spell has begun, another period of it is another cost
-pub one_more_cost : (g : ThermalUnit) (π : PriceLists) (first t : ℕ) (d : Schedule) → first ≤ suc t → spell_cost g π first (suc t) d ≡ spell_cost g π first t d +ℤ net_cost g π d (suc t)
+pub one_more_cost : (g : ThermalUnit) (π : PriceLists) (first t : ℕ) (d : Schedule) → first ≤ suc t →
+    spell_cost g π first (suc t) d ≡ spell_cost g π first t d +ℤ net_cost g π d (suc t)
 one_more_cost g π first t d from = sum_from_to-more (net_cost g π d) first t from
 
 run_less : (g : ThermalUnit) (first t : ℕ) (d : Schedule) → IsRun g first (suc t) d → IsRun g first t d
 run_less g first t d run k from until = run k from (omega (arith, until))
 
-module _ (g : ThermalUnit) (π : PriceLists) (limits : ℕ → ℤ) (ends : ℕ → Option ℤ) (t : ℕ) (live live' : ℕ → Option Going) where
+module _ (g : ThermalUnit) (π : PriceLists) (limits : ℕ → ℤ) (ends : ℕ → Option ℤ) (t : ℕ) (live live' : ℕ →
+    Option Going) where
   -- ---- a start in period suc t
 
   module _ (now : AreRunners g π limits ends live t (suc t)) where
@@ -51,16 +61,14 @@ module _ (g : ThermalUnit) (π : PriceLists) (limits : ℕ → ℤ) (ends : ℕ 
       right = λ f r is. (let h = now.right f r is in let low = h.0 in (omega (arith, low), h.1));
       all = λ f e d low may entry run under. elim (cases_lt f (suc t)) [
         | inl less ↦ now.all f e d less may entry run under
-        | inr most ↦ let z : f ≡ suc t = omega (arith, most, low) in absurd (none e (subst (λ (f : ℕ). IsEntry g ends f e) z entry))
+        | inr most ↦ let z : f ≡ suc t = omega (arith, most, low) in absurd
+            (none e (subst (λ (f : ℕ). IsEntry g ends f e) z entry))
       ];
     }
 
-    -- none may be on there
-    pub none_on : (MayBeOn g (suc t) (suc t) → ⊥) → AreRunners g π limits ends live t (suc (suc t)) → AreRunners g π limits ends live t (suc (suc t))
-    none_on none all = all
-
     -- a runner at the least power costs less than the least entry
-    pub start_undercut : (last : ℕ) (e : ℤ) → IsLeastEntry g ends (suc t) last e → (other : ℕ) (r : Going) (v : ℤ) → live other ≡ Some r → value_of r.function g.min_power ≡ Some v →
+    pub start_undercut : (last : ℕ) (e : ℤ) → IsLeastEntry g ends (suc t) last e → (other : ℕ) (r : Going) (v : ℤ) →
+        live other ≡ Some r → value_of r.function g.min_power ≡ Some v →
         ((r.cost +ℤ v) +ℤ pos 1) ≤ℤ e → AreRunners g π limits ends live t (suc (suc t))
     start_undercut last e least other r v on there cheap = record {
       right = λ f r is. (let h = now.right f r is in let low = h.0 in (omega (arith, low), h.1));
@@ -81,19 +89,25 @@ module _ (g : ThermalUnit) (π : PriceLists) (limits : ℕ → ℤ) (ends : ℕ 
               there = ap (value_of r.function) (level_start g d t) ∙ there;
               cheap = omega (arith, ints, cheap, bound, nothing);
               later = inr (omega (arith, ints, cheap, bound, nothing));
-              long = λ l above up. (let longer = longer_on g other (suc t) l (omega (arith, begun)) (omega (arith, above)) in omega (arith, longer, up));
+              long = λ l above up.
+                  (let longer = longer_on g other (suc t) l (omega (arith, begun)) (omega (arith, above)) in omega
+                  (arith, longer, up));
               begun = inl (omega (arith, begun));
             })) entry
       ];
     }
 
     -- or its own runner begins
-    pub start_begun : (r : Going) → live' (suc t) ≡ Some r → ((f : ℕ) → f ≢ suc t → live' f ≡ live f) → IsRunner g π ends t (suc t) r → AreRunners g π limits ends live' t (suc (suc t))
+    pub start_begun : (r : Going) → live' (suc t) ≡ Some r → ((f : ℕ) → f ≢ suc t → live' f ≡ live f) →
+        IsRunner g π ends t (suc t) r → AreRunners g π limits ends live' t (suc (suc t))
     start_begun r begins same runner = record {
       right = λ f x is. elim (cases_eq f (suc t)) [
         | inl z ↦
-            let here : r ≡ x = (let a = ap live' z in cc) in
-            (omega (arith, z), subst (λ (x : Going). IsRunner g π ends t f x) here (subst (λ (f : ℕ). IsRunner g π ends t f r) (sym z) runner))
+            let here : r ≡ x = (let a = ap live' z in cc) in (
+              omega (arith, z),
+              subst (λ (x : Going). IsRunner g π ends t f x) here
+                  (subst (λ (f : ℕ). IsRunner g π ends t f r) (sym z) runner),
+            )
         | inr other ↦ (let h = now.right f x (sym (same f other) ∙ is) in let low = h.0 in (omega (arith, low), h.1))
       ];
       all = λ f e' d low may entry run under. elim (cases_lt f (suc t)) [
@@ -133,14 +147,16 @@ module _ (g : ThermalUnit) (π : PriceLists) (limits : ℕ → ℤ) (ends : ℕ 
     }
 
     -- or each entry is above the limit
-    pub starts_beyond : ((e : ℤ) → IsEntry g ends (suc t) e → (limits t +ℤ pos 1) ≤ℤ e) → AreRunners g π limits ends live t (suc (suc t))
+    pub starts_beyond : ((e : ℤ) → IsEntry g ends (suc t) e → (limits t +ℤ pos 1) ≤ℤ e) →
+        AreRunners g π limits ends live t (suc (suc t))
     starts_beyond beyond = record {
       right = λ f r is. (let h = now.right f r is in let low = h.0 in (omega (arith, low), h.1));
       all = λ f e d low may entry run under. elim (cases_lt f (suc t)) [
         | inl less ↦ now.all f e d less may entry run under
         | inr most ↦
             let z : suc t ≡ f = omega (arith, most, low) in
-            subst (λ (f : ℕ). IsEntry g ends f e → (e +ℤ spell_cost g π f t d) ≤ℤ limits t → HasStandIn g π live t f e d) z
+            subst (λ (f : ℕ). IsEntry g ends f e → (e +ℤ spell_cost g π f t d) ≤ℤ limits t →
+            HasStandIn g π live t f e d) z
             (λ entry under. (
             let above = beyond e entry in
             let nothing : spell_cost g π (suc t) t d ≡ pos 0 = sum_from_to-none (net_cost g π d) t in
@@ -149,8 +165,10 @@ module _ (g : ThermalUnit) (π : PriceLists) (limits : ℕ → ℤ) (ends : ℕ 
     }
 
     -- as they are where the least one is
-    pub start_beyond : (last : ℕ) (e : ℤ) → IsLeastEntry g ends (suc t) last e → (limits t +ℤ pos 1) ≤ℤ e → AreRunners g π limits ends live t (suc (suc t))
-    start_beyond last e least beyond = starts_beyond (λ e' entry. (let bound = least.least e' entry in omega (arith, ints, beyond, bound)))
+    pub start_beyond : (last : ℕ) (e : ℤ) → IsLeastEntry g ends (suc t) last e → (limits t +ℤ pos 1) ≤ℤ e →
+        AreRunners g π limits ends live t (suc (suc t))
+    start_beyond last e least beyond = starts_beyond
+        (λ e' entry. (let bound = least.least e' entry in omega (arith, ints, beyond, bound)))
 
   -- ---- a runner goes
 
@@ -182,7 +200,8 @@ module _ (g : ThermalUnit) (π : PriceLists) (limits : ℕ → ℤ) (ends : ℕ 
             | inl z ↦
                 let here : s.going ≡ a = (let i = s.on in let j = ap live z in cc) in
                 let cost : s.going.cost ≡ a.cost = ap (λ (r : Going). r.cost) here in
-                let there : value_of a.function (level g f d t) ≡ Some s.value = subst (λ (r : Going). value_of r.function (level g f d t) ≡ Some s.value) here s.there in
+                let there : value_of a.function (level g f d t) ≡ Some s.value = subst
+                (λ (r : Going). value_of r.function (level g f d t) ≡ Some s.value) here s.there in
                 let above = beyond (level g f d t) s.value there in
                 absurd (omega (arith, ints, above, cost, cheap, under))
           ];
@@ -192,7 +211,8 @@ module _ (g : ThermalUnit) (π : PriceLists) (limits : ℕ → ℤ) (ends : ℕ 
   module _ (n early late : ℕ) (a b : Going) (now : AreRunners g π limits ends live t n)
       (on_early : live early ≡ Some a) (on_late : live late ≡ Some b) (order : early < late) (begun : late ≤ t)
       (long : g.min_up ≤ on_time g late (suc t))
-      (below : (x v : ℤ) → value_of a.function x ≡ Some v → (u : ℤ) × (value_of b.function x ≡ Some u) × ((b.cost +ℤ u) ≤ℤ (a.cost +ℤ v)))
+      (below : (x v : ℤ) → value_of a.function x ≡ Some v →
+      (u : ℤ) × (value_of b.function x ≡ Some u) × ((b.cost +ℤ u) ≤ℤ (a.cost +ℤ v)))
       (gone : live' early ≡ None) (same : (f : ℕ) → f ≢ early → live' f ≡ live f) where
     pub early_goes : AreRunners g π limits ends live' t n
     early_goes = record {
@@ -218,7 +238,8 @@ module _ (g : ThermalUnit) (π : PriceLists) (limits : ℕ → ℤ) (ends : ℕ 
             | inl z ↦
                 let here : s.going ≡ a = (let i = s.on in let j = ap live z in cc) in
                 let cost : s.going.cost ≡ a.cost = ap (λ (r : Going). r.cost) here in
-                let there : value_of a.function (level g f d t) ≡ Some s.value = subst (λ (r : Going). value_of r.function (level g f d t) ≡ Some s.value) here s.there in
+                let there : value_of a.function (level g f d t) ≡ Some s.value = subst
+                (λ (r : Going). value_of r.function (level g f d t) ≡ Some s.value) here s.there in
                 let u = below (level g f d t) s.value there in
                 let beneath = u.2 in
                 record {
@@ -232,7 +253,8 @@ module _ (g : ThermalUnit) (π : PriceLists) (limits : ℕ → ℤ) (ends : ℕ 
                     | inl from ↦ inl (omega (arith, from, z, order))
                     | inr less ↦ inr (omega (arith, ints, beneath, cost, less))
                   ];
-                  long = λ l above up. (let more = on_time_rises g late (suc t) l (omega (arith, above)) in omega (arith, more, long));
+                  long = λ l above up.
+                      (let more = on_time_rises g late (suc t) l (omega (arith, above)) in omega (arith, more, long));
                   begun = inl begun;
                 }
           ];
@@ -240,7 +262,8 @@ module _ (g : ThermalUnit) (π : PriceLists) (limits : ℕ → ℤ) (ends : ℕ 
 
   -- ---- a period more
 
-  module _ (most : ℤ) (limits_right : AreLimits g π most limits) (go : RunsGoOn) (within : t < length π.energy) (now : AreRunners g π limits ends live t (suc (suc t))) (open_next : mark_in g.window (suc t) ≡ MustOff → ⊥)
+  module _ (most : ℤ) (limits_right : AreLimits g π most limits) (go : RunsGoOn) (within : t < length π.energy)
+      (now : AreRunners g π limits ends live t (suc (suc t))) (open_next : mark_in g.window (suc t) ≡ MustOff → ⊥)
       (goes : (f : ℕ) (r : Going) → live f ≡ Some r → IsGoneOn g π t f r (live' f))
       (only : (f : ℕ) → live f ≡ None → live' f ≡ None) where
     right_more : (f : ℕ) (x : Going) → live' f ≡ Some x → (f < suc (suc t)) × IsRunner g π ends (suc t) f x
@@ -261,31 +284,45 @@ module _ (g : ThermalUnit) (π : PriceLists) (limits : ℕ → ℤ) (ends : ℕ 
                   may = may_next g f t open_next old.1.may;
                   order = omega (arith, low);
                   within = old.1.within;
-                  noted = noted_more g π f t r.function h.function r.left h.left old.1.frontier h.frontier h.kept h.noted old.1.noted;
+                  noted = noted_more g π f t r.function h.function r.left h.left old.1.frontier h.frontier h.kept
+                      h.noted old.1.noted;
                 } in
                 (low, subst (λ (x : Going). IsRunner g π ends (suc t) f x) z runner)
           ]
     ] refl
 
     -- a value at the end of period suc t
-    value_more : (f : ℕ) (e : ℤ) (d : Schedule) (other : ℕ) (r : Going) (v : ℤ) → live other ≡ Some r → IsRun g f (suc t) d → IsGoneOn g π t other r (live' other) →
-        ((h : Table) → IsFrontier g π other (suc t) h → (w : ℤ) × (value_of h (level g f d (suc t)) ≡ Some w) × ((r.cost +ℤ w) ≤ℤ v)) →
-        (x : Going) × (w : ℤ) × (live' other ≡ Some x) × (value_of x.function (level g f d (suc t)) ≡ Some w) × ((x.cost +ℤ w) ≤ℤ v)
+    value_more : (f : ℕ) (e : ℤ) (d : Schedule) (other : ℕ) (r : Going) (v : ℤ) → live other ≡ Some r →
+        IsRun g f (suc t) d → IsGoneOn g π t other r (live' other) →
+        ((h : Table) → IsFrontier g π other (suc t) h → (w : ℤ) × (value_of h (level g f d (suc t)) ≡ Some w) ×
+        ((r.cost +ℤ w) ≤ℤ v)) →
+        (x : Going) × (w : ℤ) × (live' other ≡ Some x) × (value_of x.function (level g f d (suc t)) ≡ Some w) ×
+        ((x.cost +ℤ w) ≤ℤ v)
     value_more f e d other r v on run h value =
         let w = value h.function h.frontier in
         elim (h.next_is) [
-          | inl here ↦ (record { before = r.before; cost = r.cost; function = h.function; left = h.left }, w.0, here, w.1, w.2)
+          | inl here ↦ (
+            record { before = r.before; cost = r.cost; function = h.function; left = h.left },
+            w.0,
+            here,
+            w.1,
+            w.2,
+          )
           | inr gone ↦ (let none = gone.1 (level g f d (suc t)) in let some = w.1 in cc)
         ]
 
     -- what is within the limit a period later has a runner that stands for it before
-    all_before : (f : ℕ) (e : ℤ) (d : Schedule) → f < suc (suc t) → MayBeOn g f (suc t) → IsEntry g ends f e → IsRun g f (suc t) d → (e +ℤ spell_cost g π f (suc t) d) ≤ℤ limits (suc t) → HasStandIn g π live t f e d
+    all_before : (f : ℕ) (e : ℤ) (d : Schedule) → f < suc (suc t) → MayBeOn g f (suc t) → IsEntry g ends f e →
+        IsRun g f (suc t) d → (e +ℤ spell_cost g π f (suc t) d) ≤ℤ limits (suc t) → HasStandIn g π live t f e d
     all_before f e d low may entry run under =
         now.all f e d low (may_less g f (suc t) t (omega arith) may) entry (run_less g f t d run)
-        (before_low e (spell_cost g π f t d) (spell_cost g π f (suc t) d) (net_cost g π d (suc t)) (limits t) (limits (suc t)) (one_more_cost g π f t d (omega (arith, low)))
-        (limits_right.step t d within (move_in_range g (f == suc t) false (level g f d t) d t (run t (omega (arith, low)) (omega arith)))) under)
+        (before_low e (spell_cost g π f t d) (spell_cost g π f (suc t) d) (net_cost g π d (suc t)) (limits t)
+        (limits (suc t)) (one_more_cost g π f t d (omega (arith, low)))
+        (limits_right.step t d within
+        (move_in_range g (f == suc t) false (level g f d t) d t (run t (omega (arith, low)) (omega arith)))) under)
 
-    all_more : (f : ℕ) (e : ℤ) (d : Schedule) → f < suc (suc t) → MayBeOn g f (suc t) → IsEntry g ends f e → IsRun g f (suc t) d → (e +ℤ spell_cost g π f (suc t) d) ≤ℤ limits (suc t) → HasStandIn g π live' (suc t) f e d
+    all_more : (f : ℕ) (e : ℤ) (d : Schedule) → f < suc (suc t) → MayBeOn g f (suc t) → IsEntry g ends f e →
+        IsRun g f (suc t) d → (e +ℤ spell_cost g π f (suc t) d) ≤ℤ limits (suc t) → HasStandIn g π live' (suc t) f e d
     all_more f e d low may entry run low_cost =
         let s = all_before f e d low may entry run low_cost in
         let more = one_more_cost g π f t d (omega (arith, low)) in
@@ -293,9 +330,11 @@ module _ (g : ThermalUnit) (π : PriceLists) (limits : ℕ → ℤ) (ends : ℕ 
         let order = (now.right s.other s.going s.on).0 in
         elim (s.begun) [
           | inl begun ↦
-              let r = value_more f e d s.other s.going ((s.going.cost +ℤ s.value) +ℤ net_cost g π d (suc t)) s.on run (goes s.other s.going s.on)
+              let r = value_more f e d s.other s.going ((s.going.cost +ℤ s.value) +ℤ net_cost g π d (suc t)) s.on run
+              (goes s.other s.going s.on)
               (λ h front. (
-              let j = go g π f s.other t s.going.function d s.value (omega (arith, low)) begun within (now.right s.other s.going s.on).1.frontier s.there run in
+              let j = go g π f s.other t s.going.function d s.value (omega (arith, low)) begun within
+              (now.right s.other s.going s.on).1.frontier s.there run in
               let w = front.complete j.run j.keeps in
               let high = w.2 in
               let cost = j.cost in
@@ -316,8 +355,10 @@ module _ (g : ThermalUnit) (π : PriceLists) (limits : ℕ → ℤ) (ends : ℕ 
                 begun = inl (omega (arith, begun));
               }
           | inr same ↦
-              let bound = (now.right s.other s.going s.on).1.entry.least e (subst (λ (f : ℕ). IsEntry g ends f e) (sym same) entry) in
-              let r = value_more f e d s.other s.going (e +ℤ spell_cost g π f (suc t) d) s.on run (goes s.other s.going s.on)
+              let bound = (now.right s.other s.going s.on).1.entry.least e
+              (subst (λ (f : ℕ). IsEntry g ends f e) (sym same) entry) in
+              let r = value_more f e d s.other s.going (e +ℤ spell_cost g π f (suc t) d) s.on run
+              (goes s.other s.going s.on)
               (λ h front. (
               let w = (subst (λ (f : ℕ). IsFrontier g π f (suc t) h) same front).complete d run in
               let high = w.2 in

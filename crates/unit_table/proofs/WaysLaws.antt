@@ -1,51 +1,73 @@
 -- What the runners left for the way back from each row.
-use Rattle.unit_table.proofs.Common.{◌≡◌, ◌≢◌, ℕ, suc, ◌-◌, ◌<◌, ◌≤◌, ◌⊎◌, inl, inr, Option, Some, None, ℤ, ◌+ℤ◌, List, length, sym, ap, ◌∙◌, subst, arith, IfSome, IfNone, cases_lt, cases_eq, Table, value_of, Lowest, ThermalUnit, PriceLists, Passed, IsFrontier, IsOnNoted, IsEndNoted, IsSpellNoted, end_cost, Runner, Ended, live_at, left_at, left_of, row_at, first_at, IsPut, Going, AreRunners, AreNoted, IsRowOf, IsEndLeft, HaveWays}
+use Rattle.unit_table.proofs.Common.{◌≡◌, ◌≢◌, ℕ, suc, ◌-◌, ◌<◌, ◌≤◌, ◌⊎◌, inl, inr, Option, Some, None, ℤ, ◌+ℤ◌, List}
+use Rattle.unit_table.proofs.Common.{length, sym, ap, ◌∙◌, subst, arith, IfSome, IfNone, cases_lt, cases_eq, Table}
+use Rattle.unit_table.proofs.Common.{value_of, Lowest, ThermalUnit, PriceLists, Passed, IsFrontier, IsOnNoted}
+use Rattle.unit_table.proofs.Common.{IsEndNoted, IsSpellNoted, end_cost, Runner, Ended, live_at, left_at, left_of}
+use Rattle.unit_table.proofs.Common.{row_at, first_at, IsPut, Going, AreRunners, AreNoted, IsRowOf, IsEndLeft, HaveWays}
 use Rattle.unit_table.proofs.LiveLaws.{on_some}
 use Rattle.unit_table.proofs.RowLaws.{first-is}
 
 -- ---- a period more
 
 -- where a period is reached, the one before it was
-before_some : (g : ThermalUnit) (π : PriceLists) (first t : ℕ) (f h : Table) (x v : ℤ) → IsFrontier g π first t f → IsFrontier g π first (suc t) h → value_of h x ≡ Some v → (y w : ℤ) × (value_of f y ≡ Some w)
+before_some : (g : ThermalUnit) (π : PriceLists) (first t : ℕ) (f h : Table) (x v : ℤ) → IsFrontier g π first t f →
+    IsFrontier g π first (suc t) h → value_of h x ≡ Some v → (y w : ℤ) × (value_of f y ≡ Some w)
 before_some g π first t f h x v front next there =
     let r = next.sound x v there in
     let c = front.complete r.run (λ k from until. r.keeps k from (omega (arith, until))) in
     (_, c.0, c.1)
 
-pub noted_more : (g : ThermalUnit) (π : PriceLists) (first t : ℕ) (f h : Table) (left left' : ℕ → Passed) → IsFrontier g π first t f → IsFrontier g π first (suc t) h → ((k : ℕ) → k ≢ t → left' k ≡ left k) →
-    ((x v : ℤ) → value_of f x ≡ Some v → IsOnNoted g π first t (left' t).note) → AreNoted g π first t f left → AreNoted g π first (suc t) h left'
+pub noted_more : (g : ThermalUnit) (π : PriceLists) (first t : ℕ) (f h : Table) (left left' : ℕ → Passed) →
+    IsFrontier g π first t f → IsFrontier g π first (suc t) h → ((k : ℕ) → k ≢ t → left' k ≡ left k) →
+    ((x v : ℤ) → value_of f x ≡ Some v → IsOnNoted g π first t (left' t).note) → AreNoted g π first t f left →
+    AreNoted g π first (suc t) h left'
 noted_more g π first t f h left left' front next kept noted old x v there k from until =
     let b = before_some g π first t f h x v front next there in
     elim (cases_lt k t) [
-      | inl less ↦ subst (λ (p : Passed). IsOnNoted g π first k p.note) (sym (kept k (λ z. omega (arith, z, less)))) (old b.0 b.1 b.2 k from less)
-      | inr most ↦ let z : t ≡ k = omega (arith, most, until) in subst (λ (j : ℕ). IsOnNoted g π first j (left' j).note) z (noted b.0 b.1 b.2)
+      | inl less ↦ subst (λ (p : Passed). IsOnNoted g π first k p.note) (sym (kept k (λ z. omega (arith, z, less))))
+          (old b.0 b.1 b.2 k from less)
+      | inr most ↦ let z : t ≡ k = omega (arith, most, until) in subst (λ (j : ℕ). IsOnNoted g π first j (left' j).note)
+          z (noted b.0 b.1 b.2)
     ]
 
 -- ---- what a runner that is on left
 
-pub left_live : {R : Type 0} (function : R → Table) (runners : List (Runner R)) (f : ℕ) (r : Going) (k : ℕ) → live_at function runners f ≡ Some r → r.left k ≡ left_at runners f k
+pub left_live : {R : Type 0} (function : R → Table) (runners : List (Runner R)) (f : ℕ) (r : Going) (k : ℕ) →
+    live_at function runners f ≡ Some r → r.left k ≡ left_at runners f k
 left_live function runners f r k is =
     let s = on_some function _ r is in
     ap (λ (r : Going). r.left k) s.3 ∙ sym (ap (λ o. left_of o k) s.1)
 
 -- ---- an end that is put into its row
 
-pub end_left : (g : ThermalUnit) (π : PriceLists) (first t before : ℕ) (cost : ℤ) (rows rows' : List (Option Ended)) (p q : Passed) (net : Option ℤ) → q ≡ p → net ≡ end_cost p.end → IfNone net (rows' ≡ rows) →
-    IfSome net (λ c. IsPut (suc t) (record { cost = cost +ℤ c; first = first; before = before }) rows rows') → IfSome p.end (IsEndNoted g π first t p.note) →
+pub end_left : (g : ThermalUnit) (π : PriceLists) (first t before : ℕ) (cost : ℤ) (rows rows' : List (Option Ended))
+    (p q : Passed) (net : Option ℤ) → q ≡ p → net ≡ end_cost p.end → IfNone net (rows' ≡ rows) →
+    IfSome net (λ c. IsPut (suc t) (record { cost = cost +ℤ c; first = first; before = before }) rows rows') →
+    IfSome p.end (IsEndNoted g π first t p.note) →
     (row_at rows' (suc t) ≡ row_at rows (suc t)) ⊎ ((first_at rows' (suc t) ≡ first) × IsEndLeft g π first t q)
 end_left g π first t before cost rows rows' p q net same is none some ended =
-    by_end p.end (subst (λ o. IfNone o (rows' ≡ rows)) is none) (subst (λ o. IfSome o (λ c. IsPut (suc t) (record { cost = cost +ℤ c; first = first; before = before }) rows rows')) is some) ended (ap (λ (p : Passed). p.end) same)
+    by_end p.end (subst (λ o. IfNone o (rows' ≡ rows)) is none)
+    (subst (λ o. IfSome o
+    (λ c. IsPut (suc t) (record { cost = cost +ℤ c; first = first; before = before }) rows rows')) is some) ended
+    (ap (λ (p : Passed). p.end) same)
   where
-    by_end : (end : Option Lowest) → IfNone (end_cost end) (rows' ≡ rows) → IfSome (end_cost end) (λ c. IsPut (suc t) (record { cost = cost +ℤ c; first = first; before = before }) rows rows') →
-        IfSome end (IsEndNoted g π first t p.note) → q.end ≡ end → (row_at rows' (suc t) ≡ row_at rows (suc t)) ⊎ ((first_at rows' (suc t) ≡ first) × IsEndLeft g π first t q)
+    by_end : (end : Option Lowest) → IfNone (end_cost end) (rows' ≡ rows) →
+        IfSome (end_cost end)
+        (λ c. IsPut (suc t) (record { cost = cost +ℤ c; first = first; before = before }) rows rows') →
+        IfSome end (IsEndNoted g π first t p.note) → q.end ≡ end →
+        (row_at rows' (suc t) ≡ row_at rows (suc t)) ⊎ ((first_at rows' (suc t) ≡ first) × IsEndLeft g π first t q)
     by_end None none some ended at = inl (ap (λ rs. row_at rs (suc t)) none)
     by_end (Some e) none some ended at = elim (some.here) [
       | inl old ↦ inl old
-      | inr new ↦ inr (first-is rows' (suc t) (record { cost = cost +ℤ e.value; first = first; before = before }) new, (e, at, subst (λ (p : Passed). IsEndNoted g π first t p.note e) (sym same) ended))
+      | inr new ↦ inr (
+        first-is rows' (suc t) (record { cost = cost +ℤ e.value; first = first; before = before }) new,
+        (e, at, subst (λ (p : Passed). IsEndNoted g π first t p.note e) (sym same) ended),
+      )
     ]
 
 -- the cost of an end
-pub end_some : (end : Option Lowest) (net : Option ℤ) (P : ℤ → Type 0) → net ≡ end_cost end → IfSome end (λ (e : Lowest). P e.value) → IfSome net P
+pub end_some : (end : Option Lowest) (net : Option ℤ) (P : ℤ → Type 0) → net ≡ end_cost end →
+    IfSome end (λ (e : Lowest). P e.value) → IfSome net P
 end_some None net P is h = subst (λ o. IfSome o P) (sym is) tt
 end_some (Some e) net P is h = subst (λ o. IfSome o P) (sym is) h
 
@@ -55,28 +77,35 @@ always (Some x) P h = h
 
 -- ---- rows
 
-spell_same : (g : ThermalUnit) (π : PriceLists) (first l : ℕ) (p q : ℕ → Passed) → 1 ≤ l → ((k : ℕ) → k < l → q k ≡ p k) → IsSpellNoted g π first l p → IsSpellNoted g π first l q
+spell_same : (g : ThermalUnit) (π : PriceLists) (first l : ℕ) (p q : ℕ → Passed) → 1 ≤ l →
+    ((k : ℕ) → k < l → q k ≡ p k) → IsSpellNoted g π first l p → IsSpellNoted g π first l q
 spell_same g π first l p q one same h =
     let e = same (l - 1) (omega (arith, one)) in
     record {
-      on = λ k from until. subst (λ (p : Passed). IsOnNoted g π first k p.note) (sym (same k (omega (arith, until)))) (h.on k from until);
+      on = λ k from until. subst (λ (p : Passed). IsOnNoted g π first k p.note) (sym (same k (omega (arith, until))))
+          (h.on k from until);
       lowest = h.lowest;
       is_end = ap (λ (p : Passed). p.end) e ∙ h.is_end;
       end = subst (λ (p : Passed). IsEndNoted g π first (l - 1) p.note h.lowest) (sym e) h.end;
     }
 
-pub ways_same : (g : ThermalUnit) (π : PriceLists) (t : ℕ) (ends : ℕ → Option ℤ) (firsts : ℕ → ℕ) (left left' : ℕ → ℕ → Passed) → ((f k : ℕ) → left' f k ≡ left f k) → HaveWays g π t ends firsts left → HaveWays g π t ends firsts left'
-ways_same g π t ends firsts left left' same ways l v one until is = spell_same g π (firsts l) l (left (firsts l)) (left' (firsts l)) one (λ k low. same (firsts l) k) (ways l v one until is)
+pub ways_same : (g : ThermalUnit) (π : PriceLists) (t : ℕ) (ends : ℕ → Option ℤ) (firsts : ℕ → ℕ) (left left' : ℕ → ℕ →
+    Passed) → ((f k : ℕ) → left' f k ≡ left f k) → HaveWays g π t ends firsts left → HaveWays g π t ends firsts left'
+ways_same g π t ends firsts left left' same ways l v one until is = spell_same g π (firsts l) l (left (firsts l))
+    (left' (firsts l)) one (λ k low. same (firsts l) k) (ways l v one until is)
 
 -- none ends with the period
-pub ways_none : (g : ThermalUnit) (π : PriceLists) (t : ℕ) (ends : ℕ → Option ℤ) (firsts : ℕ → ℕ) (left : ℕ → ℕ → Passed) → ends (suc t) ≡ None → HaveWays g π t ends firsts left → HaveWays g π (suc t) ends firsts left
+pub ways_none : (g : ThermalUnit) (π : PriceLists) (t : ℕ) (ends : ℕ → Option ℤ) (firsts : ℕ → ℕ) (left : ℕ → ℕ →
+    Passed) → ends (suc t) ≡ None → HaveWays g π t ends firsts left → HaveWays g π (suc t) ends firsts left
 ways_none g π t ends firsts left none ways l v one until is = elim (cases_lt l (suc t)) [
   | inl less ↦ ways l v one (omega (arith, less)) is
   | inr most ↦ let z : l ≡ suc t = omega (arith, most, until) in let e = ap ends z in cc
 ]
 
-module _ (g : ThermalUnit) (π : PriceLists) (t n : ℕ) (ends ends' : ℕ → Option ℤ) (firsts firsts' : ℕ → ℕ) (before : ℕ) (left left' : ℕ → ℕ → Passed) (live : ℕ → Option Going)
-    (limits : ℕ → ℤ) (now : AreRunners g π limits ends live t n) (lefts : (f : ℕ) (r : Going) (k : ℕ) → live f ≡ Some r → r.left k ≡ left f k)
+module _ (g : ThermalUnit) (π : PriceLists) (t n : ℕ) (ends ends' : ℕ → Option ℤ) (firsts firsts' : ℕ →
+    ℕ) (before : ℕ) (left left' : ℕ → ℕ → Passed) (live : ℕ → Option Going)
+    (limits : ℕ → ℤ) (now : AreRunners g π limits ends live t n) (lefts : (f : ℕ) (r : Going) (k : ℕ) →
+    live f ≡ Some r → r.left k ≡ left f k)
     (row : IsRowOf g π (length π.energy) live n (suc t) (ends' (suc t)) (firsts' (suc t)) before)
     (ended : (v : ℤ) → ends' (suc t) ≡ Some v → IsEndLeft g π (firsts' (suc t)) t (left' (firsts' (suc t)) t))
     (kept : (f k : ℕ) → k ≢ t → left' f k ≡ left f k)
@@ -95,7 +124,9 @@ module _ (g : ThermalUnit) (π : PriceLists) (t n : ℕ) (ends ends' : ℕ → O
       record {
         on = λ k from until.
             (let low : k < t = omega (arith, until) in
-            subst (λ (p : Passed). IsOnNoted g π first k p.note) (lefts first r k s.1 ∙ sym (kept first k (λ y. omega (arith, y, low)))) (runner.noted _ c.0 c.1 k from low));
+            subst (λ (p : Passed). IsOnNoted g π first k p.note)
+            (lefts first r k s.1 ∙ sym (kept first k (λ y. omega (arith, y, low))))
+            (runner.noted _ c.0 c.1 k from low));
         lowest = e.0;
         is_end = ap (λ (k : ℕ). (left' first k).end) z ∙ e.1;
         end = subst (λ (k : ℕ). IsEndNoted g π first k (left' first k).note e.0) (sym z) e.2;
@@ -103,11 +134,13 @@ module _ (g : ThermalUnit) (π : PriceLists) (t n : ℕ) (ends ends' : ℕ → O
 
   pub ways_more : HaveWays g π t ends firsts left → HaveWays g π (suc t) ends' firsts' left'
   ways_more ways l v one until is = elim (cases_eq l (suc t)) [
-    | inl z ↦ subst (λ (l : ℕ). IsSpellNoted g π (firsts' l) l (left' (firsts' l))) (sym z) (here v (ap ends' (sym z) ∙ is))
+    | inl z ↦ subst (λ (l : ℕ). IsSpellNoted g π (firsts' l) l (left' (firsts' l))) (sym z)
+        (here v (ap ends' (sym z) ∙ is))
     | inr other ↦
         let low : l ≤ t = omega (arith, until, other) in
         let first = same_first l other in
         let old = ways l v one low (sym (same_end l other) ∙ is) in
-        let moved = spell_same g π (firsts l) l (left (firsts l)) (left' (firsts l)) one (λ k less. kept (firsts l) k (λ y. omega (arith, y, less, low))) old in
+        let moved = spell_same g π (firsts l) l (left (firsts l)) (left' (firsts l)) one
+        (λ k less. kept (firsts l) k (λ y. omega (arith, y, less, low))) old in
         subst (λ (f : ℕ). IsSpellNoted g π f l (left' f)) (sym first) moved
   ]

@@ -147,7 +147,12 @@ fn take_period(
     let limit = *question.limits.get(place as usize);
     start(question.unit, place, limit, origins, roster, runners);
     run_all(question, place, roster, runners, table);
-    drop_beyond(place + 1, *question.limits.get(place as usize + 1), roster, runners);
+    drop_beyond(
+        place + 1,
+        *question.limits.get(place as usize + 1),
+        roster,
+        runners,
+    );
     prune(question.unit, place + 1, roster, runners);
     roster.keep(runners);
 }

@@ -7,5 +7,7 @@ use Rattle.spell_run.proofs.running.begin.Goals as goal
 pub returns-clause-frontier : goal.returns-clause-frontier
 returns-clause-frontier c = λ π.
     let fits : FitsSigned w64 c.power_before.result = search rules in
-    let point : IsPoint c.power_before.result (pos 0) (shown c.restart.new.self) = simp to_z-of_z at c.restart.ensures.point in
-    frontier_from (thermal_of c.args.unit.now) π c.args.first c.power_before.result (shown c.restart.new.self) c.args.unit.now.valid c.power_before.ensures.start c.power_before.ensures.goes_on point
+    let point : IsPoint c.power_before.result (pos 0) (shown c.restart.new.self) = simp to_z-of_z at
+    c.restart.ensures.point in
+    frontier_from (thermal_of c.args.unit.now) π c.args.first c.power_before.result (shown c.restart.new.self)
+    c.args.unit.now.valid c.power_before.ensures.start c.power_before.ensures.goes_on point

@@ -1,4 +1,5 @@
-use Rattle.spell_run.proofs.Common.{rules, ◌≡◌, ℤ, ◌+ℤ◌, ◌-ℤ◌, ap, ◌∙◌, arith, w64, FitsSigned, to_z, of_z, int_min, int_max, ints, to_z-of_z, fits_within}
+use Rattle.spell_run.proofs.Common.{rules, ◌≡◌, ℤ, ◌+ℤ◌, ◌-ℤ◌, ap, ◌∙◌, arith, w64, FitsSigned, to_z, of_z, int_min}
+use Rattle.spell_run.proofs.Common.{int_max, ints, to_z-of_z, fits_within}
 use Rattle.spell_run.proofs.Lemmas.{cheapest_near}
 use Rattle.spell_run.proofs.way.cheapest_before.Goals as goal
 
@@ -13,8 +14,12 @@ returns c = λ f v y w turn first last there reach.
     let u' = c.requires.step.ramp_up.at_most in
     let d = c.requires.step.ramp_down.at_least in
     let d' = c.requires.step.ramp_down.at_most in
-    let fits_low : FitsSigned w64 (x -ℤ s.ramp_up) = fits_within w64 3000000000 (x -ℤ s.ramp_up) (record { at_least = omega (arith, ints, p, q, u, u'); at_most = omega (arith, ints, p, q, u, u') }) (omega arith) in
-    let fits_high : FitsSigned w64 (x +ℤ s.ramp_down) = fits_within w64 3000000000 (x +ℤ s.ramp_down) (record { at_least = omega (arith, ints, p, q, d, d'); at_most = omega (arith, ints, p, q, d, d') }) (omega arith) in
+    let fits_low : FitsSigned w64 (x -ℤ s.ramp_up) = fits_within w64 3000000000 (x -ℤ s.ramp_up)
+    (record { at_least = omega (arith, ints, p, q, u, u'); at_most = omega (arith, ints, p, q, u, u') })
+    (omega arith) in
+    let fits_high : FitsSigned w64 (x +ℤ s.ramp_down) = fits_within w64 3000000000 (x +ℤ s.ramp_down)
+    (record { at_least = omega (arith, ints, p, q, d, d'); at_most = omega (arith, ints, p, q, d, d') })
+    (omega arith) in
     let fits_x : FitsSigned w64 x = search rules in
     let fits_up : FitsSigned w64 s.ramp_up = search rules in
     let fits_down : FitsSigned w64 s.ramp_down = search rules in
@@ -29,6 +34,8 @@ returns c = λ f v y w turn first last there reach.
     let high : c.min-high.result ≡ int_min (x +ℤ s.ramp_down) n.last = simp to_z-of_z at c.min-high.ensures.value in
     let near : c.min.result ≡ int_min c.min-high.result n.turn = simp to_z-of_z at c.min.ensures.value in
     let top : c.max.result ≡ int_max c.max-low.result c.min.result = simp to_z-of_z at c.max.ensures.value in
-    let is : to_z w64 (of_z w64 c.max.result) ≡ int_max (int_max (x -ℤ s.ramp_up) n.first) (int_min (int_min (x +ℤ s.ramp_down) n.last) n.turn) =
-    to_z-of_z w64 _ fits_d ∙ top ∙ ap (λ (z : ℤ). int_max z c.min.result) low ∙ ap (int_max (int_max (x -ℤ s.ramp_up) n.first)) (near ∙ ap (λ (z : ℤ). int_min z n.turn) high) in
+    let is : to_z w64 (of_z w64 c.max.result) ≡ int_max (int_max (x -ℤ s.ramp_up) n.first)
+    (int_min (int_min (x +ℤ s.ramp_down) n.last) n.turn) =
+    to_z-of_z w64 _ fits_d ∙ top ∙ ap (λ (z : ℤ). int_max z c.min.result) low ∙
+    ap (int_max (int_max (x -ℤ s.ramp_up) n.first)) (near ∙ ap (λ (z : ℤ). int_min z n.turn) high) in
     cheapest_near s f n.turn n.first n.last v x y w _ turn first last there reach is

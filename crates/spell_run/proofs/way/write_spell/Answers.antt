@@ -1,10 +1,14 @@
-use Rattle.spell_run.proofs.Common.{rules, ◌≡◌, ℕ, suc, ◌+◌, ◌-◌, ◌<◌, ◌≤◌, ◌∙◌, subst, arith, w64, FitsSigned, to_z, to_z-of_z, thermal_of, prices_of, schedule_of, passed_at}
-use Rattle.spell_run.proofs.Lemmas.{IsWrittenFrom, end_stored, written_last, written_more, there_after, written_best, written_on, written_outside}
+use Rattle.spell_run.proofs.Common.{rules, ◌≡◌, ℕ, suc, ◌+◌, ◌-◌, ◌<◌, ◌≤◌, ◌∙◌, subst, arith, w64, FitsSigned, to_z}
+use Rattle.spell_run.proofs.Common.{to_z-of_z, thermal_of, prices_of, schedule_of, passed_at}
+use Rattle.spell_run.proofs.Lemmas.{IsWrittenFrom, end_stored, written_last, written_more, there_after, written_best}
+use Rattle.spell_run.proofs.Lemmas.{written_on, written_outside}
 use Rattle.spell_run.proofs.way.write_spell.Goals as goal
 use Rattle.spell_run.proofs.way.write_spell.Goals.{After-loop-back}
 
 -- all periods are written
-whole : (c : After-loop-back) → IsWrittenFrom (thermal_of c.args.unit.now) (prices_of c.args.prices.now) c.args.first (c.args.first - 1) c.args.last (schedule_of c.args.into.now.response) (schedule_of c.loop-back.into.response) (to_z w64 c.loop-back.power-bits)
+whole : (c : After-loop-back) → IsWrittenFrom (thermal_of c.args.unit.now) (prices_of c.args.prices.now) c.args.first
+    (c.args.first - 1) c.args.last (schedule_of c.args.into.now.response) (schedule_of c.loop-back.into.response)
+    (to_z w64 c.loop-back.power-bits)
 whole c =
     let test = c.loop-back-test.false in
     let most = c.max.ensures in
@@ -12,11 +16,14 @@ whole c =
     let one = c.requires.some in
     let end = c.loop-back.auto.back-end (omega (arith, most, order, one)) in
     let z : c.args.last - c.loop-back.back ≡ c.args.first - 1 = omega (arith, test, most, end, order, one) in
-    subst (λ (t : ℕ). IsWrittenFrom (thermal_of c.args.unit.now) (prices_of c.args.prices.now) c.args.first t c.args.last (schedule_of c.args.into.now.response) (schedule_of c.loop-back.into.response) (to_z w64 c.loop-back.power-bits)) z c.loop-back.invariant.from
+    subst (λ (t : ℕ). IsWrittenFrom (thermal_of c.args.unit.now) (prices_of c.args.prices.now) c.args.first t
+    c.args.last (schedule_of c.args.into.now.response) (schedule_of c.loop-back.into.response)
+    (to_z w64 c.loop-back.power-bits)) z c.loop-back.invariant.from
 
 pub write_period-power-requires-clause-noted : goal.write_period-power-requires-clause-noted
 write_period-power-requires-clause-noted c =
-    let e = end_stored (thermal_of c.args.unit.now) (prices_of c.args.prices.now) c.args.first c.args.last c.args.unit.now.valid c.args.prices.now.valid c.requires.order c.requires.some c.requires.end
+    let e = end_stored (thermal_of c.args.unit.now) (prices_of c.args.prices.now) c.args.first c.args.last
+    c.args.unit.now.valid c.args.prices.now.valid c.requires.order c.requires.some c.requires.end
     (passed_at c.args.passed.now) c.in-Some.lowest c.requires.noted c.in-Some.is in
     rw c.len.ensures (e.0, e.1, (c.in-Some.lowest.value, e.2.there))
 
@@ -24,8 +31,10 @@ pub loop-back-init : goal.loop-back-init
 loop-back-init c =
     let fits : FitsSigned w64 c.write_period-power.result = search rules in
     let chosen = rw c.len.ensures at c.write_period-power.ensures.chosen in
-    let from = written_last (thermal_of c.args.unit.now) (prices_of c.args.prices.now) c.args.first c.args.last c.args.unit.now.valid c.args.prices.now.valid c.requires.order c.requires.some c.requires.end
-    (passed_at c.args.passed.now) c.in-Some.lowest c.requires.noted c.in-Some.is (schedule_of c.args.into.now.response) (schedule_of c.write_period-power.new.into.response) c.write_period-power.result chosen in
+    let from = written_last (thermal_of c.args.unit.now) (prices_of c.args.prices.now) c.args.first c.args.last
+    c.args.unit.now.valid c.args.prices.now.valid c.requires.order c.requires.some c.requires.end
+    (passed_at c.args.passed.now) c.in-Some.lowest c.requires.noted c.in-Some.is (schedule_of c.args.into.now.response)
+    (schedule_of c.write_period-power.new.into.response) c.write_period-power.result chosen in
     record { from = simp to_z-of_z from; earned = c.write_period-power.ensures.earned }
 
 pub write_period-power-requires-in-loop-back-clause-noted : goal.write_period-power-requires-in-loop-back-clause-noted
@@ -34,13 +43,18 @@ write_period-power-requires-in-loop-back-clause-noted c =
     let most = c.max.ensures in
     let k = (c.args.last - 1) - c.loop-back.back in
     let z : c.args.last - c.loop-back.back ≡ suc k = omega (arith, test, most) in
-    let from = subst (λ (t : ℕ). IsWrittenFrom (thermal_of c.args.unit.now) (prices_of c.args.prices.now) c.args.first t c.args.last (schedule_of c.args.into.now.response) (schedule_of c.loop-back.into.response) (to_z w64 c.loop-back.power-bits)) z c.loop-back.invariant.from in
+    let from = subst (λ (t : ℕ). IsWrittenFrom (thermal_of c.args.unit.now) (prices_of c.args.prices.now) c.args.first t
+    c.args.last (schedule_of c.args.into.now.response) (schedule_of c.loop-back.into.response)
+    (to_z w64 c.loop-back.power-bits)) z c.loop-back.invariant.from in
     let order : c.args.first ≤ suc k = omega (arith, test, most) in
     let low : suc k < c.args.last = (let one = c.loop-back.auto.back in omega (arith, test, most, one)) in
     let until = c.requires.end in
     let n = c.requires.noted.on k order low in
-    let v = there_after (thermal_of c.args.unit.now) (prices_of c.args.prices.now) c.args.first k c.args.unit.now.valid c.args.prices.now.valid (omega (arith, low, until)) order c.args.last
-    (schedule_of c.loop-back.into.response) (schedule_of c.loop-back.into.response) (to_z w64 c.loop-back.power-bits) (to_z w64 c.loop-back.power-bits) from.cost (passed_at c.args.passed.now k).note n.0 n.1 c.envelope_is_cost.ensures from.before from.frontier from.way in
+    let v = there_after (thermal_of c.args.unit.now) (prices_of c.args.prices.now) c.args.first k c.args.unit.now.valid
+    c.args.prices.now.valid (omega (arith, low, until)) order c.args.last
+    (schedule_of c.loop-back.into.response) (schedule_of c.loop-back.into.response) (to_z w64 c.loop-back.power-bits)
+    (to_z w64 c.loop-back.power-bits) from.cost (passed_at c.args.passed.now k).note n.0 n.1
+    c.envelope_is_cost.ensures from.before from.frontier from.way in
     (n.0, n.1, v)
 
 pub loop-back-preserved : goal.loop-back-preserved
@@ -50,31 +64,52 @@ loop-back-preserved c =
     let most = c.max.ensures in
     let k = (c.args.last - 1) - c.loop-back.back in
     let z : c.args.last - c.loop-back.back ≡ suc k = omega (arith, test, most) in
-    let from = subst (λ (t : ℕ). IsWrittenFrom (thermal_of c.args.unit.now) (prices_of c.args.prices.now) c.args.first t c.args.last (schedule_of c.args.into.now.response) (schedule_of c.loop-back.into.response) (to_z w64 c.loop-back.power-bits)) z c.loop-back.invariant.from in
+    let from = subst (λ (t : ℕ). IsWrittenFrom (thermal_of c.args.unit.now) (prices_of c.args.prices.now) c.args.first t
+    c.args.last (schedule_of c.args.into.now.response) (schedule_of c.loop-back.into.response)
+    (to_z w64 c.loop-back.power-bits)) z c.loop-back.invariant.from in
     let order : c.args.first ≤ suc k = omega (arith, test, most) in
     let low : suc k < c.args.last = (let one = c.loop-back.auto.back in omega (arith, test, most, one)) in
     let until = c.requires.end in
     let n = c.requires.noted.on k order low in
-    let v = there_after (thermal_of c.args.unit.now) (prices_of c.args.prices.now) c.args.first k c.args.unit.now.valid c.args.prices.now.valid (omega (arith, low, until)) order c.args.last
-    (schedule_of c.loop-back.into.response) (schedule_of c.loop-back.into.response) (to_z w64 c.loop-back.power-bits) (to_z w64 c.loop-back.power-bits) from.cost (passed_at c.args.passed.now k).note n.0 n.1 c.envelope_is_cost.ensures from.before from.frontier from.way in
+    let v = there_after (thermal_of c.args.unit.now) (prices_of c.args.prices.now) c.args.first k c.args.unit.now.valid
+    c.args.prices.now.valid (omega (arith, low, until)) order c.args.last
+    (schedule_of c.loop-back.into.response) (schedule_of c.loop-back.into.response) (to_z w64 c.loop-back.power-bits)
+    (to_z w64 c.loop-back.power-bits) from.cost (passed_at c.args.passed.now k).note n.0 n.1
+    c.envelope_is_cost.ensures from.before from.frontier from.way in
     let chosen = c.write_period-power-in-loop-back.ensures.chosen n.0 v.0 n.1 v.1 in
-    let next = written_more (thermal_of c.args.unit.now) (prices_of c.args.prices.now) c.args.first k c.args.last c.args.unit.now.valid c.args.prices.now.valid until order (schedule_of c.args.into.now.response)
-    (schedule_of c.loop-back.into.response) (schedule_of c.write_period-power-in-loop-back.new.into.response) (to_z w64 c.loop-back.power-bits) c.write_period-power-in-loop-back.result (passed_at c.args.passed.now k).note n.0 n.1 c.envelope_is_cost.ensures low from chosen in
+    let next = written_more (thermal_of c.args.unit.now) (prices_of c.args.prices.now) c.args.first k c.args.last
+    c.args.unit.now.valid c.args.prices.now.valid until order (schedule_of c.args.into.now.response)
+    (schedule_of c.loop-back.into.response) (schedule_of c.write_period-power-in-loop-back.new.into.response)
+    (to_z w64 c.loop-back.power-bits) c.write_period-power-in-loop-back.result (passed_at c.args.passed.now k).note
+    n.0 n.1 c.envelope_is_cost.ensures low from chosen in
     let here : k ≡ c.args.last - (c.loop-back.back + 1) = omega arith in
-    let moved = subst (λ (t : ℕ). IsWrittenFrom (thermal_of c.args.unit.now) (prices_of c.args.prices.now) c.args.first t c.args.last (schedule_of c.args.into.now.response) (schedule_of c.write_period-power-in-loop-back.new.into.response) c.write_period-power-in-loop-back.result) here next in
-    record { from = simp to_z-of_z moved; earned = c.write_period-power-in-loop-back.ensures.earned ∙ c.loop-back.invariant.earned }
+    let moved = subst (λ (t : ℕ). IsWrittenFrom (thermal_of c.args.unit.now) (prices_of c.args.prices.now) c.args.first
+    t c.args.last (schedule_of c.args.into.now.response)
+    (schedule_of c.write_period-power-in-loop-back.new.into.response) c.write_period-power-in-loop-back.result) here
+    next in
+    record {
+      from = simp to_z-of_z moved;
+      earned = c.write_period-power-in-loop-back.ensures.earned ∙
+          c.loop-back.invariant.earned;
+    }
 
 pub returns-clause-best : goal.returns-clause-best
 returns-clause-best c =
-    written_best (thermal_of c.args.unit.now) (prices_of c.args.prices.now) c.args.last c.args.unit.now.valid c.args.prices.now.valid c.requires.end (schedule_of c.args.into.now.response) (schedule_of c.loop-back.into.response) (to_z w64 c.loop-back.power-bits) c.args.first
+    written_best (thermal_of c.args.unit.now) (prices_of c.args.prices.now) c.args.last c.args.unit.now.valid
+    c.args.prices.now.valid c.requires.end (schedule_of c.args.into.now.response)
+    (schedule_of c.loop-back.into.response) (to_z w64 c.loop-back.power-bits) c.args.first
     (whole (goal.at.returns-clause-best c).After-loop-back)
 
 pub returns-clause-on : goal.returns-clause-on
 returns-clause-on c =
-    written_on (thermal_of c.args.unit.now) (prices_of c.args.prices.now) c.args.last c.args.unit.now.valid c.args.prices.now.valid c.requires.end (schedule_of c.args.into.now.response) (schedule_of c.loop-back.into.response) (to_z w64 c.loop-back.power-bits) c.args.first
+    written_on (thermal_of c.args.unit.now) (prices_of c.args.prices.now) c.args.last c.args.unit.now.valid
+    c.args.prices.now.valid c.requires.end (schedule_of c.args.into.now.response)
+    (schedule_of c.loop-back.into.response) (to_z w64 c.loop-back.power-bits) c.args.first
     (whole (goal.at.returns-clause-on c).After-loop-back)
 
 pub returns-clause-outside : goal.returns-clause-outside
 returns-clause-outside c =
-    written_outside (thermal_of c.args.unit.now) (prices_of c.args.prices.now) c.args.last c.args.unit.now.valid c.args.prices.now.valid c.requires.end (schedule_of c.args.into.now.response) (schedule_of c.loop-back.into.response) (to_z w64 c.loop-back.power-bits) c.args.first
+    written_outside (thermal_of c.args.unit.now) (prices_of c.args.prices.now) c.args.last c.args.unit.now.valid
+    c.args.prices.now.valid c.requires.end (schedule_of c.args.into.now.response)
+    (schedule_of c.loop-back.into.response) (to_z w64 c.loop-back.power-bits) c.args.first
     (whole (goal.at.returns-clause-outside c).After-loop-back)

@@ -4,6 +4,7 @@ use Rattle.spell_run.proofs.way.write_spell.Given as goal
 
 abbrev pub invariant-loop-back : goal.invariant-loop-back
 invariant-loop-back l = record {
-  from : IsWrittenFrom (thermal_of l.unit) (prices_of l.prices) l.first (l.last - l.back) l.last (schedule_of l.fn.into.response) (schedule_of l.into.response) l.power;
+  from : IsWrittenFrom (thermal_of l.unit) (prices_of l.prices) l.first (l.last - l.back) l.last
+      (schedule_of l.fn.into.response) (schedule_of l.into.response) l.power;
   earned : l.into.earned ≡ l.fn.into.earned;
 }

@@ -5,8 +5,11 @@ use Rattle.spell_run.proofs.write.reserve_of.Goals as goal
 pub returns-clause-best : goal.returns-clause-best
 returns-clause-best c =
     let least = c.requires.step.reserve_price.at_least in
-    reserve_is c.args.step c.requires.step c.args.power c.requires.power c.args.before c.requires.before c.min.result (record { sfits = c.min.type_inv }) (omega (arith, ints, least)) c.min.ensures.value
+    reserve_is c.args.step c.requires.step c.args.power c.requires.power c.args.before c.requires.before c.min.result
+    (record { sfits = c.min.type_inv }) (omega (arith, ints, least)) c.min.ensures.value
 
 pub returns-clause-bound : goal.returns-clause-bound
 returns-clause-bound c =
-    subst IsOutput (sym (returns-clause-best c)) (reserve_out c.args.step c.requires.step c.args.power c.requires.power c.args.before c.requires.before c.requires.under c.requires.rise)
+    subst IsOutput (sym (returns-clause-best c))
+    (reserve_out c.args.step c.requires.step c.args.power c.requires.power c.args.before c.requires.before
+    c.requires.under c.requires.rise)

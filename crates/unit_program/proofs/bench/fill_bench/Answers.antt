@@ -1,6 +1,8 @@
 use Rattle.slope_list.specs.declared.slopes.Slopes.{Slopes}
 use Rattle.slope_list.specs.Slopes.{room_of}
-use Rattle.unit_program.proofs.Common.{rules, ◌+◌, ◌-◌, ◌*◌, ◌<◌, ◌≤◌, List, length, sym, ap, ◌∙◌, subst, with_items_is, to_z-of_z, FitsSigned, w64, thermal_of, prices_of, Runner, HaveRoom, left_at, cost_at, first_at, HaveWays}
+use Rattle.unit_program.proofs.Common.{rules, ◌+◌, ◌-◌, ◌*◌, ◌<◌, ◌≤◌, List, length, sym, ap, ◌∙◌, subst, with_items_is}
+use Rattle.unit_program.proofs.Common.{to_z-of_z, FitsSigned, w64, thermal_of, prices_of, Runner, HaveRoom, left_at}
+use Rattle.unit_program.proofs.Common.{cost_at, first_at, HaveWays}
 use Rattle.std.specs.Vec.{with_items}
 use Rattle.unit_program.proofs.Lemmas.{room_less, charge_less, bench_kept}
 use Rattle.unit_program.proofs.bench.fill_bench.Goals as goal
@@ -11,26 +13,44 @@ fill_by_periods-requires-clause-room c =
     let points = length c.args.unit.now.points.items in
     let blocks = length c.curve_into.new.into.blocks.items in
     let few : blocks ≤ 2 * (points - 1) = rw c.as_slice.ensures at c.curve_into.ensures.curve.count in
-    let have = room_less room_of (periods * (2 * points + 3)) (periods * (blocks + 3)) periods c.args.bench.now.runners.items (charge_less periods points blocks few) c.requires.bench.room in
-    subst (λ (xs : List (Runner Slopes)). HaveRoom room_of (periods * (blocks + 3)) periods xs) (sym c.as_mut_slice.ensures.value) have
+    let have = room_less room_of (periods * (2 * points + 3)) (periods * (blocks + 3)) periods
+    c.args.bench.now.runners.items (charge_less periods points blocks few) c.requires.bench.room in
+    subst (λ (xs : List (Runner Slopes)). HaveRoom room_of (periods * (blocks + 3)) periods xs)
+    (sym c.as_mut_slice.ensures.value) have
 
 pub returns-clause-bench : goal.returns-clause-bench
 returns-clause-bench c = λ periods points b.
     let lent = c.as_mut_slice.ensures in
-    let same = with_items_is c.args.bench.now.runners c.fill_by_periods.new.runners (c.fill_by_periods.ensures.same.count_same ∙ lent.len) in
+    let same = with_items_is c.args.bench.now.runners c.fill_by_periods.new.runners
+    (c.fill_by_periods.ensures.same.count_same ∙ lent.len) in
     bench_kept room_of periods points c.args.bench.now
-    (record { curve = c.curve_into.new.into; runners = with_items c.args.bench.now.runners c.fill_by_periods.new.runners; origins = c.fill_by_periods.new.origins; roster = c.fill_by_periods.new.roster; table = c.fill_by_periods.new.table; limits = c.fill_limits.new.limits; kept = c.args.bench.now.kept; number = c.args.bench.now.number })
+    (record {
+      curve = c.curve_into.new.into;
+      runners = with_items c.args.bench.now.runners
+          c.fill_by_periods.new.runners;
+      origins = c.fill_by_periods.new.origins;
+      roster = c.fill_by_periods.new.roster;
+      table = c.fill_by_periods.new.table;
+      limits = c.fill_limits.new.limits;
+      kept = c.args.bench.now.kept;
+      number = c.args.bench.now.number;
+    })
     (sym c.curve_into.ensures.room) (ap length same ∙ c.fill_by_periods.ensures.same.count_same ∙ ap length lent.value)
     (λ most periods have.
     subst (λ (xs : List (Runner Slopes)). HaveRoom room_of most periods xs) (sym same)
-    (c.fill_by_periods.ensures.same.keeps most periods (subst (λ (xs : List (Runner Slopes)). HaveRoom room_of most periods xs) (sym lent.value) have)))
-    c.fill_by_periods.ensures.same.rows_length c.fill_by_periods.ensures.list c.fill_by_periods.ensures.same.firsts_same c.fill_limits.ensures.length b
+    (c.fill_by_periods.ensures.same.keeps most periods
+    (subst (λ (xs : List (Runner Slopes)). HaveRoom room_of most periods xs) (sym lent.value) have)))
+    c.fill_by_periods.ensures.same.rows_length c.fill_by_periods.ensures.list c.fill_by_periods.ensures.same.firsts_same
+    c.fill_limits.ensures.length b
 
 pub returns-clause-ways : goal.returns-clause-ways
 returns-clause-ways c =
     let lent = c.as_mut_slice.ensures in
-    let same = with_items_is c.args.bench.now.runners c.fill_by_periods.new.runners (c.fill_by_periods.ensures.same.count_same ∙ lent.len) in
-    subst (λ (xs : List (Runner Slopes)). HaveWays (thermal_of c.args.unit.now) (prices_of c.args.prices.now) (length c.args.prices.now.energy.items) (cost_at c.fill_by_periods.new.table.items) (first_at c.fill_by_periods.new.table.items) (left_at xs)) (sym same)
+    let same = with_items_is c.args.bench.now.runners c.fill_by_periods.new.runners
+    (c.fill_by_periods.ensures.same.count_same ∙ lent.len) in
+    subst (λ (xs : List (Runner Slopes)). HaveWays (thermal_of c.args.unit.now) (prices_of c.args.prices.now)
+    (length c.args.prices.now.energy.items) (cost_at c.fill_by_periods.new.table.items)
+    (first_at c.fill_by_periods.new.table.items) (left_at xs)) (sym same)
     c.fill_by_periods.ensures.ways
 
 pub returns-clause-filled : goal.returns-clause-filled
@@ -44,7 +64,8 @@ fill_by_periods-requires-clause-long c =
     let bench = c.requires.bench in
     record {
       rows_end = bench.rows;
-      runners_end = subst (λ (xs : List (Runner Slopes)). length c.args.prices.now.energy.items < length xs) (sym c.as_mut_slice.ensures.value) bench.count;
+      runners_end = subst (λ (xs : List (Runner Slopes)). length c.args.prices.now.energy.items < length xs)
+          (sym c.as_mut_slice.ensures.value) bench.count;
       firsts_end = bench.roster;
       list_end = bench.origins;
     }

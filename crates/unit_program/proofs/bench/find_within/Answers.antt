@@ -4,7 +4,8 @@ use Rattle.unit_program.proofs.bench.find_within.Goals as goal
 
 pub least_end-requires-clause-room : goal.least_end-requires-clause-room
 least_end-requires-clause-room c =
-    let kept = c.fill_bench.ensures.bench (length c.args.prices.now.energy.items) (length c.args.unit.now.points.items) c.requires.bench in
+    let kept = c.fill_bench.ensures.bench (length c.args.prices.now.energy.items) (length c.args.unit.now.points.items)
+    c.requires.bench in
     let same = ap length c.as_slice.ensures in
     omega (arith, same)
 
@@ -14,7 +15,9 @@ returns-clause-some c =
     let filled = rw (to_z-of_z w64 c.args.most fits) at c.fill_bench.ensures.filled in
     let taken = rw (to_z-of_z w64 c.args.most fits) at c.at_most.ensures in
     let told = rw (c.len-periods.ensures, c.as_slice.ensures) at c.least_end.ensures in
-    found_within (thermal_of c.args.unit.now) (prices_of c.args.prices.now) c.args.most c.fill_bench.new.bench.table.items filled c.limits_keep_rows.ensures.rows c.limits_keep_rows.ensures.amount c.least_end.result c.at_most.result
+    found_within (thermal_of c.args.unit.now) (prices_of c.args.prices.now) c.args.most
+    c.fill_bench.new.bench.table.items filled c.limits_keep_rows.ensures.rows c.limits_keep_rows.ensures.amount
+    c.least_end.result c.at_most.result
     told.some told.earliest told.none taken.some taken.none
 
 pub returns-clause-none : goal.returns-clause-none
@@ -23,5 +26,6 @@ returns-clause-none c =
     let filled = rw (to_z-of_z w64 c.args.most fits) at c.fill_bench.ensures.filled in
     let taken = rw (to_z-of_z w64 c.args.most fits) at c.at_most.ensures in
     let told = rw (c.len-periods.ensures, c.as_slice.ensures) at c.least_end.ensures in
-    none_found (thermal_of c.args.unit.now) (prices_of c.args.prices.now) c.args.most c.fill_bench.new.bench.table.items filled c.limits_keep_rows.ensures.rows c.limits_keep_rows.ensures.amount c.least_end.result c.at_most.result
+    none_found (thermal_of c.args.unit.now) (prices_of c.args.prices.now) c.args.most c.fill_bench.new.bench.table.items
+    filled c.limits_keep_rows.ensures.rows c.limits_keep_rows.ensures.amount c.least_end.result c.at_most.result
     told.some told.earliest told.none taken.some taken.none

@@ -1,4 +1,5 @@
-use Rattle.unit_table.proofs.Common.{rules, ◌≡◌, true, false, ℤ, ◌+ℤ◌, ◌<ℤ◌, ◌≤ℤ◌, arith, ints, to_z-of_z, FitsSigned, int_lt, int_le, IsTrue, w64}
+use Rattle.unit_table.proofs.Common.{rules, ◌≡◌, true, false, ℤ, ◌+ℤ◌, ◌<ℤ◌, ◌≤ℤ◌, arith, ints, to_z-of_z, FitsSigned}
+use Rattle.unit_table.proofs.Common.{int_lt, int_le, IsTrue, w64}
 use Rattle.unit_table.proofs.commitment.stops_at_once.Goals as goal
 
 not_above : (a b : ℤ) → int_lt a b ≡ false → b ≤ℤ a

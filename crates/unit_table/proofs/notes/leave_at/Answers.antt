@@ -10,4 +10,5 @@ returns-clause-here c =
 
 pub returns-clause-others : goal.returns-clause-others
 returns-clause-others c = λ k other.
-    passed_other c.lengthen.new.list.items c.set.new.self.items c.args.place c.args.left c.set.ensures.items k other ∙ c.lengthen.ensures.same k
+    passed_other c.lengthen.new.list.items c.set.new.self.items c.args.place c.args.left c.set.ensures.items k other ∙
+    c.lengthen.ensures.same k

@@ -2,4 +2,5 @@ use Rattle.unit_table.proofs.Common.{ℕ, suc, ◌<◌, ◌≤ℤ◌, slice_inde
 use Rattle.unit_table.proofs.origins.are_rising.Given as goal
 
 abbrev pub invariant-loop-place : goal.invariant-loop-place
-invariant-loop-place l = (k : ℕ) (d : Lag) → suc k < l.place → (slice_index_or l.lags k d).cost ≤ℤ (slice_index_or l.lags (suc k) d).cost
+invariant-loop-place l = (k : ℕ) (d : Lag) → suc k < l.place →
+    (slice_index_or l.lags k d).cost ≤ℤ (slice_index_or l.lags (suc k) d).cost

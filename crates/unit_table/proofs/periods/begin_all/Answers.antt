@@ -8,7 +8,8 @@ pub returns-clause-filled : goal.returns-clause-filled
 returns-clause-filled c = λ π limits some.
     let begun = c.begin_table.ensures in
     record {
-      table = table_begun (thermal_of c.args.unit.now) π some c.begin_table.new.table.items begun.first begun.rest limits;
+      table = table_begun (thermal_of c.args.unit.now) π some c.begin_table.new.table.items begun.first begun.rest
+          limits;
       runners = c.go_on.ensures.stands π limits (cost_at c.begin_table.new.table.items);
       within = begun.within;
     }

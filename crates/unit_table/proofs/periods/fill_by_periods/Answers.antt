@@ -1,18 +1,23 @@
 use Rattle.slope_list.specs.Slopes.{shown, count_of, room_of}
-use Rattle.unit_table.proofs.Common.{◌≡◌, ℕ, suc, ◌+◌, List, Option, length, sym, ◌∙◌, subst, arith, thermal_of, prices_of, Ended, int_at, live_at, left_at, IsFilledTo, IsSweptTo, AreOrigins, cost_at, first_at, HaveWays, ap, unit_of, prices_in, periods_in, charge_of, limits_in}
+use Rattle.unit_table.proofs.Common.{◌≡◌, ℕ, suc, ◌+◌, List, Option, length, sym, ◌∙◌, subst, arith, thermal_of}
+use Rattle.unit_table.proofs.Common.{prices_of, Ended, int_at, live_at, left_at, IsFilledTo, IsSweptTo, AreOrigins}
+use Rattle.unit_table.proofs.Common.{cost_at, first_at, HaveWays, ap, unit_of, prices_in, periods_in, charge_of}
+use Rattle.unit_table.proofs.Common.{limits_in}
 use Rattle.unit_table.proofs.Lemmas.{origins_to, filled_whole, cost-same}
 use Rattle.unit_table.proofs.periods.fill_by_periods.Goals as goal
 
 pub loop-place-init : goal.loop-place-init
 loop-place-init c = record {
   now = record {
-    filled = c.begin_all.ensures.filled (prices_in c.args.question.now) (limits_in c.args.question.now) c.args.question.now.prices.now.valid.horizon.at_least;
+    filled = c.begin_all.ensures.filled (prices_in c.args.question.now) (limits_in c.args.question.now)
+        c.args.question.now.prices.now.valid.horizon.at_least;
     ways = λ l v one until is. absurd (omega (arith, one, until));
     roomy = c.begin_all.ensures.room (periods_in c.args.question.now) (charge_of c.args.question.now) c.requires.room;
     roster_is = c.begin_all.ensures.roster;
   };
   same = c.begin_all.ensures.same;
-  origins = subst (λ (rows : List (Option Ended)). AreOrigins (unit_of c.args.question.now) (cost_at rows) 0 c.begin.new.self) c.as_slice.ensures c.begin.ensures.origins;
+  origins = subst (λ (rows : List (Option Ended)). AreOrigins (unit_of c.args.question.now) (cost_at rows) 0
+      c.begin.new.self) c.as_slice.ensures c.begin.ensures.origins;
   list_same = c.begin.ensures.length;
 }
 
@@ -22,16 +27,20 @@ loop-place-preserved c =
     let before = c.loop-place.invariant.same in
     let more = c.take_period.ensures.same in
     record {
-      now = subst (λ (t : ℕ). IsSweptTo shown count_of room_of (unit_of c.args.question.now) (prices_in c.args.question.now) (limits_in c.args.question.now) t
-          (charge_of c.args.question.now) c.take_period.new.table.items c.take_period.new.runners c.take_period.new.roster) next c.take_period.ensures.now;
+      now = subst (λ (t : ℕ). IsSweptTo shown count_of room_of (unit_of c.args.question.now)
+          (prices_in c.args.question.now) (limits_in c.args.question.now) t
+          (charge_of c.args.question.now) c.take_period.new.table.items c.take_period.new.runners
+          c.take_period.new.roster) next c.take_period.ensures.now;
       same = record {
         rows_length = more.rows_length ∙ before.rows_length;
         count_same = more.count_same ∙ before.count_same;
         firsts_same = more.firsts_same ∙ before.firsts_same;
         keeps = λ most periods have. more.keeps most periods (before.keeps most periods have);
       };
-      origins = subst (λ (t : ℕ). AreOrigins (unit_of c.args.question.now) (cost_at c.take_period.new.table.items) t c.go_on.new.self) next
-          (subst (λ (rows : List (Option Ended)). AreOrigins (unit_of c.args.question.now) (cost_at rows) (suc c.loop-place.place) c.go_on.new.self) c.as_slice-in-loop-place.ensures c.go_on.ensures.origins);
+      origins = subst (λ (t : ℕ). AreOrigins (unit_of c.args.question.now) (cost_at c.take_period.new.table.items) t
+          c.go_on.new.self) next
+          (subst (λ (rows : List (Option Ended)). AreOrigins (unit_of c.args.question.now) (cost_at rows)
+          (suc c.loop-place.place) c.go_on.new.self) c.as_slice-in-loop-place.ensures c.go_on.ensures.origins);
       list_same = c.go_on.ensures.length ∙ c.loop-place.invariant.list_same;
     }
 
@@ -57,9 +66,11 @@ pub go_on-requires-clause-origins : goal.go_on-requires-clause-origins
 go_on-requires-clause-origins c =
     let old = c.loop-place.table.items in
     let new = c.take_period.new.table.items in
-    subst (λ (rows : List (Option Ended)). AreOrigins (unit_of c.args.question.now) (cost_at rows) c.loop-place.place c.loop-place.origins) (sym c.as_slice-in-loop-place.ensures)
+    subst (λ (rows : List (Option Ended)). AreOrigins (unit_of c.args.question.now) (cost_at rows) c.loop-place.place
+    c.loop-place.origins) (sym c.as_slice-in-loop-place.ensures)
     (origins_to (unit_of c.args.question.now) (cost_at old) (cost_at new) c.loop-place.place c.loop-place.origins
-    (λ l low. cost-same new old l l (c.take_period.ensures.others l (λ z. omega (arith, z, low)))) c.loop-place.invariant.origins)
+    (λ l low. cost-same new old l l (c.take_period.ensures.others l (λ z. omega (arith, z, low))))
+    c.loop-place.invariant.origins)
 
 pub returns-clause-filled : goal.returns-clause-filled
 returns-clause-filled c = λ most right.
@@ -67,8 +78,12 @@ returns-clause-filled c = λ most right.
     let from = c.loop-place-test.false in
     let until = c.loop-place.auto.place-end in
     let end : c.loop-place.place ≡ periods_in c.args.question.now = omega (arith, periods, from, until) in
-    filled_whole (unit_of c.args.question.now) (prices_in c.args.question.now) c.args.question.now.unit.now.valid c.start_costs_are_within.ensures most (limits_in c.args.question.now) right c.loop-place.table.items (live_at shown c.loop-place.runners)
-    (subst (λ (t : ℕ). IsFilledTo (unit_of c.args.question.now) (prices_in c.args.question.now) (limits_in c.args.question.now) t c.loop-place.table.items (live_at shown c.loop-place.runners)) end c.loop-place.invariant.now.filled)
+    filled_whole (unit_of c.args.question.now) (prices_in c.args.question.now) c.args.question.now.unit.now.valid
+    c.start_costs_are_within.ensures most (limits_in c.args.question.now) right c.loop-place.table.items
+    (live_at shown c.loop-place.runners)
+    (subst (λ (t : ℕ). IsFilledTo (unit_of c.args.question.now) (prices_in c.args.question.now)
+    (limits_in c.args.question.now) t c.loop-place.table.items (live_at shown c.loop-place.runners)) end
+    c.loop-place.invariant.now.filled)
 
 pub returns-clause-ways : goal.returns-clause-ways
 returns-clause-ways c =
@@ -76,7 +91,9 @@ returns-clause-ways c =
     let from = c.loop-place-test.false in
     let until = c.loop-place.auto.place-end in
     let end : c.loop-place.place ≡ periods_in c.args.question.now = omega (arith, periods, from, until) in
-    subst (λ (t : ℕ). HaveWays (unit_of c.args.question.now) (prices_in c.args.question.now) t (cost_at c.loop-place.table.items) (first_at c.loop-place.table.items) (left_at c.loop-place.runners)) end c.loop-place.invariant.now.ways
+    subst (λ (t : ℕ). HaveWays (unit_of c.args.question.now) (prices_in c.args.question.now) t
+    (cost_at c.loop-place.table.items) (first_at c.loop-place.table.items) (left_at c.loop-place.runners)) end
+    c.loop-place.invariant.now.ways
 
 pub begin_all-requires-clause-runners : goal.begin_all-requires-clause-runners
 begin_all-requires-clause-runners c =
@@ -104,7 +121,8 @@ go_on-requires-clause-rows c =
     let low = c.loop-place-test.true in
     let periods = c.len-periods.ensures in
     let rows = c.requires.long.rows_end in
-    let same = ap length c.as_slice-in-loop-place.ensures ∙ c.take_period.ensures.same.rows_length ∙ c.loop-place.invariant.same.rows_length in
+    let same = ap length c.as_slice-in-loop-place.ensures ∙ c.take_period.ensures.same.rows_length ∙
+    c.loop-place.invariant.same.rows_length in
     omega (arith, low, periods, rows, same)
 
 pub go_on-requires-clause-room : goal.go_on-requires-clause-room

@@ -1,6 +1,12 @@
 use Rattle.slope_list.specs.Slopes.{shown, count_of, room_of}
-use Rattle.unit_table.proofs.Common.{rules, ◌≡◌, ℕ, suc, ◌+◌, ◌*◌, pos, length, refl, sym, ap, ◌∙◌, subst, arith, to_z, of_z, FitsSigned, w64, to_z-of_z, get_or_from_slice_get, ℤ, Some, List, slice_get, unit_of, prices_in, periods_in, charge_of, limits_in, int_at, live_at, left_at, cost_at, first_at, AreRunners}
-use Rattle.unit_table.proofs.Lemmas.{small_of, have_room, origins_within, period_off, period_run, period_filled, none_listed, still_listed, cost-same, first-same, left_live, ways_same, ways_none, ways_more, kept_then, kept_room, kept_roomy, kept_left, off_roomy, fewer_then, fewer_off, fewer_small}
+use Rattle.unit_table.proofs.Common.{rules, ◌≡◌, ℕ, suc, ◌+◌, ◌*◌, pos, length, refl, sym, ap, ◌∙◌, subst, arith, to_z}
+use Rattle.unit_table.proofs.Common.{of_z, FitsSigned, w64, to_z-of_z, get_or_from_slice_get, ℤ, Some, List, slice_get}
+use Rattle.unit_table.proofs.Common.{unit_of, prices_in, periods_in, charge_of, limits_in, int_at, live_at, left_at}
+use Rattle.unit_table.proofs.Common.{cost_at, first_at, AreRunners}
+use Rattle.unit_table.proofs.Lemmas.{small_of, have_room, origins_within, period_off, period_run, period_filled}
+use Rattle.unit_table.proofs.Lemmas.{none_listed, still_listed, cost-same, first-same, left_live, ways_same, ways_none}
+use Rattle.unit_table.proofs.Lemmas.{ways_more, kept_then, kept_room, kept_roomy, kept_left, off_roomy, fewer_then}
+use Rattle.unit_table.proofs.Lemmas.{fewer_off, fewer_small}
 use Rattle.unit_table.proofs.periods.take_period.Goals as goal
 
 -- ---- all are off
@@ -16,14 +22,20 @@ returns-then-is_must_off-clause-now c =
     let kept = c.stop_all.ensures.kept in
     let none = now.filled.table.none (suc c.args.place) (omega arith) in
     record {
-      filled = period_off g π (limits_in c.args.question.now) c.args.question.now.unit.now.valid c.args.place rows (live_at shown old) now.filled c.requires.place
+      filled = period_off g π (limits_in c.args.question.now) c.args.question.now.unit.now.valid c.args.place rows
+          (live_at shown old) now.filled c.requires.place
           (live_at shown c.stop_all.new.runners) off (c.is_must_off.ensures.yes c.if-is_must_off.true);
-      ways = ways_same g π (suc c.args.place) (cost_at rows) (first_at rows) (left_at old) (left_at c.stop_all.new.runners) (kept_left shown count_of room_of _ _ kept)
+      ways = ways_same g π (suc c.args.place) (cost_at rows) (first_at rows) (left_at old)
+          (left_at c.stop_all.new.runners) (kept_left shown count_of room_of _ _ kept)
           (ways_none g π c.args.place (cost_at rows) (first_at rows) (left_at old) none now.ways);
-      roomy = off_roomy shown count_of room_of (periods_in c.args.question.now) (suc c.args.place) (charge_of c.args.question.now) c.stop_all.new.runners off
-          (kept_room shown count_of room_of _ _ kept (periods_in c.args.question.now * charge_of c.args.question.now) (periods_in c.args.question.now)
-          (have_room count_of room_of (periods_in c.args.question.now) c.args.place (charge_of c.args.question.now) old now.roomy));
-      roster_is = none_listed (live_at shown c.stop_all.new.runners) (suc (suc c.args.place)) c.clear.new.self c.clear.ensures.count off;
+      roomy = off_roomy shown count_of room_of (periods_in c.args.question.now) (suc c.args.place)
+          (charge_of c.args.question.now) c.stop_all.new.runners off
+          (kept_room shown count_of room_of _ _ kept (periods_in c.args.question.now * charge_of c.args.question.now)
+          (periods_in c.args.question.now)
+          (have_room count_of room_of (periods_in c.args.question.now) c.args.place (charge_of c.args.question.now) old
+          now.roomy));
+      roster_is = none_listed (live_at shown c.stop_all.new.runners) (suc (suc c.args.place)) c.clear.new.self
+          c.clear.ensures.count off;
     }
 
 pub returns-then-is_must_off-clause-same : goal.returns-then-is_must_off-clause-same
@@ -36,14 +48,16 @@ returns-then-is_must_off-clause-same c = record {
 
 -- ---- the runners, step by step
 
-limit_at : (limits : List ℤ) (k : ℕ) (x : ℤ) → FitsSigned w64 x → slice_get limits k ≡ Some x → int_at limits k ≡ to_z w64 (of_z w64 x)
+limit_at : (limits : List ℤ) (k : ℕ) (x : ℤ) → FitsSigned w64 x → slice_get limits k ≡ Some x →
+    int_at limits k ≡ to_z w64 (of_z w64 x)
 limit_at limits k x fits is = get_or_from_slice_get limits k x (pos 0) is ∙ sym (to_z-of_z w64 x fits)
 
 pub start-requires-clause-within : goal.start-requires-clause-within
 start-requires-clause-within c =
     let place = c.requires.place in
     let list = c.requires.long.list_end in
-    origins_within (unit_of c.args.question.now) c.args.table.now.items c.args.place c.args.origins.now c.requires.origins c.requires.now.filled.within (omega (arith, place, list))
+    origins_within (unit_of c.args.question.now) c.args.table.now.items c.args.place c.args.origins.now
+    c.requires.origins c.requires.now.filled.within (omega (arith, place, list))
 
 pub start-requires-clause-order : goal.start-requires-clause-order
 start-requires-clause-order c = c.requires.origins.right.order
@@ -55,12 +69,14 @@ pub start-requires-clause-small : goal.start-requires-clause-small
 start-requires-clause-small c =
     let few = c.args.question.now.prices.now.valid.horizon.at_most in
     let place = c.requires.place in
-    small_of (unit_of c.args.question.now) (prices_in c.args.question.now) (limits_in c.args.question.now) _ (live_at shown c.args.runners.now) c.args.place (suc c.args.place)
+    small_of (unit_of c.args.question.now) (prices_in c.args.question.now) (limits_in c.args.question.now) _
+    (live_at shown c.args.runners.now) c.args.place (suc c.args.place)
     (omega (arith, few, place)) (omega (arith, few, place)) c.requires.now.filled.runners
 
 pub run_all-requires-clause-room : goal.run_all-requires-clause-room
 run_all-requires-clause-room c =
-    kept_roomy shown count_of room_of _ _ c.start.ensures.kept (periods_in c.args.question.now) c.args.place (charge_of c.args.question.now) c.requires.now.roomy
+    kept_roomy shown count_of room_of _ _ c.start.ensures.kept (periods_in c.args.question.now) c.args.place
+    (charge_of c.args.question.now) c.requires.now.roomy
 
 pub run_all-requires-clause-now : goal.run_all-requires-clause-now
 run_all-requires-clause-now c =
@@ -69,7 +85,8 @@ run_all-requires-clause-now c =
     let limits = limits_in c.args.question.now in
     let rows = c.args.table.now.items in
     let filled = c.requires.now.filled in
-    let here = limit_at c.args.question.now.limits.now.items c.args.place c.get-limit.result.now (search rules) c.get-limit.ensures.item in
+    let here = limit_at c.args.question.now.limits.now.items c.args.place c.get-limit.result.now (search rules)
+    c.get-limit.ensures.item in
     let begun = c.start.ensures.stands π limits (cost_at rows) here c.requires.origins filled.runners in
     (limits, begun)
 
@@ -89,14 +106,19 @@ drop_beyond-requires-clause-small c =
     let limits = limits_in c.args.question.now in
     let rows = c.args.table.now.items in
     let filled = c.requires.now.filled in
-    let here = limit_at c.args.question.now.limits.now.items c.args.place c.get-limit.result.now (search rules) c.get-limit.ensures.item in
+    let here = limit_at c.args.question.now.limits.now.items c.args.place c.get-limit.result.now (search rules)
+    c.get-limit.ensures.item in
     let begun = c.start.ensures.stands π limits (cost_at rows) here c.requires.origins filled.runners in
-    let ran = period_run g π limits c.args.question.now.unit.now.valid c.args.place rows (live_at shown c.args.runners.now) filled c.requires.place
-    c.run_all.new.table.items (live_at shown c.start.new.runners) (live_at shown c.run_all.new.runners) begun c.requires.limits.0 c.requires.limits.1
-    c.runs_go_on.ensures (c.is_must_off.ensures.no c.if-is_must_off.false) c.run_all.ensures.goes c.run_all.ensures.off in
+    let ran = period_run g π limits c.args.question.now.unit.now.valid c.args.place rows
+    (live_at shown c.args.runners.now) filled c.requires.place
+    c.run_all.new.table.items (live_at shown c.start.new.runners) (live_at shown c.run_all.new.runners) begun
+    c.requires.limits.0 c.requires.limits.1
+    c.runs_go_on.ensures (c.is_must_off.ensures.no c.if-is_must_off.false) c.run_all.ensures.goes c.run_all.ensures.off
+    in
     let few = c.args.question.now.prices.now.valid.horizon.at_most in
     let place = c.requires.place in
-    small_of g π limits _ (live_at shown c.run_all.new.runners) (suc c.args.place) (suc (suc c.args.place)) (omega (arith, few, place)) (omega (arith, few, place)) ran
+    small_of g π limits _ (live_at shown c.run_all.new.runners) (suc c.args.place) (suc (suc c.args.place))
+    (omega (arith, few, place)) (omega (arith, few, place)) ran
 
 pub prune-requires-clause-small : goal.prune-requires-clause-small
 prune-requires-clause-small c =
@@ -105,24 +127,31 @@ prune-requires-clause-small c =
     let limits = limits_in c.args.question.now in
     let rows = c.args.table.now.items in
     let filled = c.requires.now.filled in
-    let here = limit_at c.args.question.now.limits.now.items c.args.place c.get-limit.result.now (search rules) c.get-limit.ensures.item in
+    let here = limit_at c.args.question.now.limits.now.items c.args.place c.get-limit.result.now (search rules)
+    c.get-limit.ensures.item in
     let begun = c.start.ensures.stands π limits (cost_at rows) here c.requires.origins filled.runners in
-    let ran = period_run g π limits c.args.question.now.unit.now.valid c.args.place rows (live_at shown c.args.runners.now) filled c.requires.place
-    c.run_all.new.table.items (live_at shown c.start.new.runners) (live_at shown c.run_all.new.runners) begun c.requires.limits.0 c.requires.limits.1
-    c.runs_go_on.ensures (c.is_must_off.ensures.no c.if-is_must_off.false) c.run_all.ensures.goes c.run_all.ensures.off in
+    let ran = period_run g π limits c.args.question.now.unit.now.valid c.args.place rows
+    (live_at shown c.args.runners.now) filled c.requires.place
+    c.run_all.new.table.items (live_at shown c.start.new.runners) (live_at shown c.run_all.new.runners) begun
+    c.requires.limits.0 c.requires.limits.1
+    c.runs_go_on.ensures (c.is_must_off.ensures.no c.if-is_must_off.false) c.run_all.ensures.goes c.run_all.ensures.off
+    in
     let few = c.args.question.now.prices.now.valid.horizon.at_most in
     let place = c.requires.place in
     fewer_small _ _ c.drop_beyond.ensures.fewer
-    (small_of g π limits _ (live_at shown c.run_all.new.runners) (suc c.args.place) (suc (suc c.args.place)) (omega (arith, few, place)) (omega (arith, few, place)) ran)
+    (small_of g π limits _ (live_at shown c.run_all.new.runners) (suc c.args.place) (suc (suc c.args.place))
+    (omega (arith, few, place)) (omega (arith, few, place)) ran)
 
 pub drop_beyond-requires-clause-roster : goal.drop_beyond-requires-clause-roster
 drop_beyond-requires-clause-roster c =
-    still_listed (live_at shown c.start.new.runners) (live_at shown c.run_all.new.runners) (suc (suc c.args.place)) (suc (c.args.place + 1)) c.start.new.roster (omega arith)
+    still_listed (live_at shown c.start.new.runners) (live_at shown c.run_all.new.runners) (suc (suc c.args.place))
+    (suc (c.args.place + 1)) c.start.new.roster (omega arith)
     c.run_all.ensures.off c.start.ensures.roster
 
 pub prune-requires-clause-roster : goal.prune-requires-clause-roster
 prune-requires-clause-roster c =
-    still_listed (live_at shown c.start.new.runners) (live_at shown c.drop_beyond.new.runners) (suc (suc c.args.place)) (suc (c.args.place + 1)) c.start.new.roster (omega arith)
+    still_listed (live_at shown c.start.new.runners) (live_at shown c.drop_beyond.new.runners) (suc (suc c.args.place))
+    (suc (c.args.place + 1)) c.start.new.roster (omega arith)
     (λ f off. fewer_off _ _ c.drop_beyond.ensures.fewer f (c.run_all.ensures.off f off)) c.start.ensures.roster
 
 pub keep-requires-clause-small : goal.keep-requires-clause-small
@@ -142,8 +171,10 @@ keep-requires-clause-roster c =
     let e = c.drop_beyond.ensures.kept.count_same in (
       suc (suc c.args.place),
       omega (arith, place, runners, a, b, d, e),
-      still_listed (live_at shown c.start.new.runners) (live_at shown c.prune.new.runners) (suc (suc c.args.place)) (suc (suc c.args.place)) c.start.new.roster (omega arith)
-          (λ f off. fewer_off _ _ (fewer_then _ _ _ c.drop_beyond.ensures.fewer c.prune.ensures.fewer) f (c.run_all.ensures.off f off)) c.start.ensures.roster,
+      still_listed (live_at shown c.start.new.runners) (live_at shown c.prune.new.runners) (suc (suc c.args.place))
+          (suc (suc c.args.place)) c.start.new.roster (omega arith)
+          (λ f off. fewer_off _ _ (fewer_then _ _ _ c.drop_beyond.ensures.fewer c.prune.ensures.fewer) f
+          (c.run_all.ensures.off f off)) c.start.ensures.roster,
     )
 
 -- ---- the period
@@ -155,34 +186,50 @@ returns-clause-now c =
     let limits = limits_in c.args.question.now in
     let rows = c.args.table.now.items in
     let filled = c.requires.now.filled in
-    let here = limit_at c.args.question.now.limits.now.items c.args.place c.get-limit.result.now (search rules) c.get-limit.ensures.item in
+    let here = limit_at c.args.question.now.limits.now.items c.args.place c.get-limit.result.now (search rules)
+    c.get-limit.ensures.item in
     let begun = c.start.ensures.stands π limits (cost_at rows) here c.requires.origins filled.runners in
-    let ran = period_run g π limits c.args.question.now.unit.now.valid c.args.place rows (live_at shown c.args.runners.now) filled c.requires.place
-    c.run_all.new.table.items (live_at shown c.start.new.runners) (live_at shown c.run_all.new.runners) begun c.requires.limits.0 c.requires.limits.1
-    c.runs_go_on.ensures (c.is_must_off.ensures.no c.if-is_must_off.false) c.run_all.ensures.goes c.run_all.ensures.off in
+    let ran = period_run g π limits c.args.question.now.unit.now.valid c.args.place rows
+    (live_at shown c.args.runners.now) filled c.requires.place
+    c.run_all.new.table.items (live_at shown c.start.new.runners) (live_at shown c.run_all.new.runners) begun
+    c.requires.limits.0 c.requires.limits.1
+    c.runs_go_on.ensures (c.is_must_off.ensures.no c.if-is_must_off.false) c.run_all.ensures.goes c.run_all.ensures.off
+    in
     let next : suc c.args.place ≡ c.args.place + 1 = omega arith in
-    let next_is = limit_at c.args.question.now.limits.now.items (c.args.place + 1) c.get.result.now (search rules) c.get.ensures.item in
-    let there = subst (λ (t : ℕ). AreRunners g π limits (cost_at rows) (live_at shown c.run_all.new.runners) t (suc (suc c.args.place))) next ran in
-    let pruned = subst (λ (t : ℕ). AreRunners g π limits (cost_at rows) (live_at shown c.prune.new.runners) t (suc (suc c.args.place))) (sym next)
+    let next_is = limit_at c.args.question.now.limits.now.items (c.args.place + 1) c.get.result.now (search rules)
+    c.get.ensures.item in
+    let there = subst (λ (t : ℕ). AreRunners g π limits (cost_at rows) (live_at shown c.run_all.new.runners) t
+    (suc (suc c.args.place))) next ran in
+    let pruned = subst (λ (t : ℕ). AreRunners g π limits (cost_at rows) (live_at shown c.prune.new.runners) t
+    (suc (suc c.args.place))) (sym next)
     (c.prune.ensures.stands π limits (cost_at rows) (suc (suc c.args.place))
-    (c.drop_beyond.ensures.stands g π limits (cost_at rows) (c.args.place + 1) (suc (suc c.args.place)) next_is there)) in
+    (c.drop_beyond.ensures.stands g π limits (cost_at rows) (c.args.place + 1) (suc (suc c.args.place)) next_is there))
+    in
     let rows' = c.run_all.new.table.items in
     let run = c.run_all.ensures in
     let kept = kept_then shown count_of room_of _ _ _ c.drop_beyond.ensures.kept c.prune.ensures.kept in
     let fewer = fewer_then _ _ _ c.drop_beyond.ensures.fewer c.prune.ensures.fewer in
     let old_left = left_at c.args.runners.now in
-    let left = ways_same g π c.args.place (cost_at rows) (first_at rows) old_left (left_at c.start.new.runners) (kept_left shown count_of room_of _ _ c.start.ensures.kept) c.requires.now.ways in
-    let ways = ways_more g π c.args.place (suc (suc c.args.place)) (cost_at rows) (cost_at rows') (first_at rows) (first_at rows') _ (left_at c.start.new.runners) (left_at c.run_all.new.runners)
+    let left = ways_same g π c.args.place (cost_at rows) (first_at rows) old_left (left_at c.start.new.runners)
+    (kept_left shown count_of room_of _ _ c.start.ensures.kept) c.requires.now.ways in
+    let ways = ways_more g π c.args.place (suc (suc c.args.place)) (cost_at rows) (cost_at rows') (first_at rows)
+    (first_at rows') _ (left_at c.start.new.runners) (left_at c.run_all.new.runners)
     (live_at shown c.start.new.runners) limits begun (left_live shown c.start.new.runners) run.row run.ends run.left
-    (λ l other. cost-same rows' rows l l (run.others l other)) (λ l other. first-same rows' rows l l (run.others l other)) left in
+    (λ l other. cost-same rows' rows l l (run.others l other))
+    (λ l other. first-same rows' rows l l (run.others l other)) left in
     record {
-      filled = period_filled g π limits c.args.question.now.unit.now.valid c.args.place rows (live_at shown c.args.runners.now) filled c.requires.place rows'
-          (live_at shown c.start.new.runners) (live_at shown c.run_all.new.runners) begun c.requires.limits.0 c.requires.limits.1 c.dispatches_go_on.ensures c.dispatches_are_runs.ensures
+      filled = period_filled g π limits c.args.question.now.unit.now.valid c.args.place rows
+          (live_at shown c.args.runners.now) filled c.requires.place rows'
+          (live_at shown c.start.new.runners) (live_at shown c.run_all.new.runners) begun c.requires.limits.0
+          c.requires.limits.1 c.dispatches_go_on.ensures c.dispatches_are_runs.ensures
           (live_at shown c.prune.new.runners) pruned run.row run.others run.within;
-      ways = ways_same g π (suc c.args.place) (cost_at rows') (first_at rows') (left_at c.run_all.new.runners) (left_at c.prune.new.runners) (kept_left shown count_of room_of _ _ kept) ways;
-      roomy = kept_roomy shown count_of room_of _ _ kept (periods_in c.args.question.now) (suc c.args.place) (charge_of c.args.question.now) run.roomy;
+      ways = ways_same g π (suc c.args.place) (cost_at rows') (first_at rows') (left_at c.run_all.new.runners)
+          (left_at c.prune.new.runners) (kept_left shown count_of room_of _ _ kept) ways;
+      roomy = kept_roomy shown count_of room_of _ _ kept (periods_in c.args.question.now) (suc c.args.place)
+          (charge_of c.args.question.now) run.roomy;
       roster_is = c.keep.ensures.roster (suc (suc c.args.place))
-          (still_listed (live_at shown c.start.new.runners) (live_at shown c.prune.new.runners) (suc (suc c.args.place)) (suc (suc c.args.place)) c.start.new.roster (omega arith)
+          (still_listed (live_at shown c.start.new.runners) (live_at shown c.prune.new.runners) (suc (suc c.args.place))
+          (suc (suc c.args.place)) c.start.new.roster (omega arith)
           (λ f off. fewer_off _ _ fewer f (run.off f off)) c.start.ensures.roster);
     }
 
@@ -198,7 +245,8 @@ returns-clause-same c =
       firsts_same = c.keep.ensures.length ∙ c.start.ensures.list;
       keeps = λ most periods have.
           kept_room shown count_of room_of _ _ kept most periods
-          (c.run_all.ensures.keeps most periods (kept_room shown count_of room_of _ _ c.start.ensures.kept most periods have));
+          (c.run_all.ensures.keeps most periods
+          (kept_room shown count_of room_of _ _ c.start.ensures.kept most periods have));
     }
 
 -- ---- places and lengths

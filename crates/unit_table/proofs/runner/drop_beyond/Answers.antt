@@ -15,7 +15,8 @@ pub loop-place-preserved : goal.loop-place-preserved
 loop-place-preserved c = record {
   fewer = fewer_then _ _ _ c.loop-place.invariant.fewer c.drop_at.ensures.fewer;
   kept = kept_then shown count_of room_of _ _ _ c.loop-place.invariant.kept c.drop_at.ensures.kept;
-  stands = λ u π limits ends t n here now. c.drop_at.ensures.stands u π limits ends t n here (c.loop-place.invariant.stands u π limits ends t n here now);
+  stands = λ u π limits ends t n here now. c.drop_at.ensures.stands u π limits ends t n here
+      (c.loop-place.invariant.stands u π limits ends t n here now);
 }
 
 pub get-requires : goal.get-requires

@@ -4,7 +4,8 @@ use Rattle.unit_table.proofs.runner.drop_beyond.Given as goal
 
 abbrev pub invariant-loop-place : goal.invariant-loop-place
 invariant-loop-place l = record {
-  stands : (u : ThermalUnit) (π : PriceLists) (limits : ℕ → ℤ) (ends : ℕ → Option ℤ) (t n : ℕ) → limits t ≡ l.limit → AreRunners u π limits ends (live_at shown l.fn.runners) t n →
+  stands : (u : ThermalUnit) (π : PriceLists) (limits : ℕ → ℤ) (ends : ℕ → Option ℤ) (t n : ℕ) → limits t ≡ l.limit →
+      AreRunners u π limits ends (live_at shown l.fn.runners) t n →
       AreRunners u π limits ends (live_at shown l.runners) t n;
   fewer : AreFewer (live_at shown l.fn.runners) (live_at shown l.runners);
   kept : AreKept count_of room_of l.fn.runners l.runners;

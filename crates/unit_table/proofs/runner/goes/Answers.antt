@@ -1,5 +1,6 @@
 use Rattle.slope_list.specs.Slopes.{shown}
-use Rattle.unit_table.proofs.Common.{rules, ◌≡◌, ◌-ℤ◌, ◌∙◌, to_z, of_z, FitsSigned, w64, OnTrue_at, OnTrue_from, to_z-of_z, IsBelow}
+use Rattle.unit_table.proofs.Common.{rules, ◌≡◌, ◌-ℤ◌, ◌∙◌, to_z, of_z, FitsSigned, w64, OnTrue_at, OnTrue_from}
+use Rattle.unit_table.proofs.Common.{to_z-of_z, IsBelow}
 use Rattle.unit_table.proofs.Lemmas.{below_of}
 use Rattle.unit_table.proofs.runner.goes.Goals as goal
 
@@ -13,4 +14,5 @@ returns-then-is_long_enough-clause-below c =
     let value : c.difference.result ≡ late.cost -ℤ early.cost = simp to_z-of_z at c.difference.ensures.value in
     let shift : to_z w64 (of_z w64 c.difference.result) ≡ late.cost -ℤ early.cost = to_z-of_z w64 _ fits ∙ value in
     OnTrue_from c.is_below.result (IsBelow (shown late.running) late.cost (shown early.running) early.cost)
-    (λ t. below_of (shown late.running) (shown early.running) late.cost early.cost _ shift (OnTrue_at t c.is_below.ensures))
+    (λ t. below_of (shown late.running) (shown early.running) late.cost early.cost _ shift
+    (OnTrue_at t c.is_below.ensures))

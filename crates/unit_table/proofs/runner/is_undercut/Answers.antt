@@ -6,7 +6,8 @@ pub returns-then-undercuts_from : goal.returns-then-undercuts_from
 returns-then-undercuts_from c =
     let fits_power : FitsSigned w64 c.args.power = search rules in
     let fits_cost : FitsSigned w64 c.args.cost = search rules in
-    let found : (r : Going) × (live_at shown c.args.runners.now c.get.result.now ≡ Some r) × IsUnder c.args.power c.args.cost r = simp to_z-of_z at c.if-undercuts_from.ensures in
+    let found : (r : Going) × (live_at shown c.args.runners.now c.get.result.now ≡ Some r) × IsUnder c.args.power
+    c.args.cost r = simp to_z-of_z at c.if-undercuts_from.ensures in
     (c.get.result.now, found.0, found.1, found.2)
 
 pub get-requires : goal.get-requires

@@ -12,14 +12,19 @@ loop-back-preserved c =
     record {
       fewer = fewer_then _ _ _ c.loop-back.invariant.fewer c.prune_one-late.ensures.fewer;
       kept = kept_then shown count_of room_of _ _ _ c.loop-back.invariant.kept c.prune_one-late.ensures.kept;
-      late = if_some_more (λ l. (first ≤ l) × (l ≤ c.args.period) × ((r : Going) × (live_at shown c.prune_one-late.new.runners l ≡ Some r)))
-          (λ l. ((j h : ℕ) → j + (c.loop-back.back + 1) < roster.count → slice_get roster.firsts.items j ≡ Some h → h < l) × (l ≤ c.args.period) × ((r : Going) × (live_at shown c.prune_one-late.new.runners l ≡ Some r)))
+      late = if_some_more (λ l. (first ≤ l) × (l ≤ c.args.period) ×
+          ((r : Going) × (live_at shown c.prune_one-late.new.runners l ≡ Some r)))
+          (λ l. ((j h : ℕ) → j + (c.loop-back.back + 1) < roster.count → slice_get roster.firsts.items j ≡ Some h →
+          h < l) × (l ≤ c.args.period) × ((r : Going) × (live_at shown c.prune_one-late.new.runners l ≡ Some r)))
           (λ l h. (
-            (λ j f before is. (let from = h.0 in let earlier = list.rising j (roster.count - c.loop-back.back - 1) f first (omega (arith, before)) (omega (arith, low)) is c.get-first.ensures.item in omega (arith, from, earlier))),
+            (λ j f before is. (let from = h.0 in let earlier = list.rising j (roster.count - c.loop-back.back - 1) f
+                first (omega (arith, before)) (omega (arith, low)) is c.get-first.ensures.item in omega
+                (arith, from, earlier))),
             h.1,
             h.2,
           )) c.prune_one-late.result c.prune_one-late.ensures.late;
-      stands = λ π limits ends n now. c.prune_one-late.ensures.stands π limits ends n (c.loop-back.invariant.stands π limits ends n now);
+      stands = λ π limits ends n now. c.prune_one-late.ensures.stands π limits ends n
+          (c.loop-back.invariant.stands π limits ends n now);
     }
 
 pub get-first-requires : goal.get-first-requires
@@ -39,7 +44,8 @@ loop-back-init c = record {
 pub prune_one-late-requires-clause-early : goal.prune_one-late-requires-clause-early
 prune_one-late-requires-clause-early c =
     let low = c.loop-back-test.true in
-    let below = c.requires.roster.below (c.args.roster.now.count - c.loop-back.back - 1) c.get-first.result.now (omega (arith, low)) c.get-first.ensures.item in
+    let below = c.requires.roster.below (c.args.roster.now.count - c.loop-back.back - 1) c.get-first.result.now
+    (omega (arith, low)) c.get-first.ensures.item in
     omega (arith, below)
 
 pub prune_one-late-requires-clause-end : goal.prune_one-late-requires-clause-end
@@ -53,9 +59,11 @@ prune_one-late-requires-clause-late c =
     let low = c.loop-back-test.true in
     let roster = c.args.roster.now in
     let first = c.get-first.result.now in
-    if_some_more (λ l. ((j h : ℕ) → j + c.loop-back.back < roster.count → slice_get roster.firsts.items j ≡ Some h → h < l) × (l ≤ c.args.period) × ((r : Going) × (live_at shown c.loop-back.runners l ≡ Some r)))
+    if_some_more (λ l. ((j h : ℕ) → j + c.loop-back.back < roster.count → slice_get roster.firsts.items j ≡ Some h →
+    h < l) × (l ≤ c.args.period) × ((r : Going) × (live_at shown c.loop-back.runners l ≡ Some r)))
     (λ l. (first < l) × (l ≤ c.args.period) × ((r : Going) × (live_at shown c.loop-back.runners l ≡ Some r)))
-    (λ l h. (h.0 (roster.count - c.loop-back.back - 1) first (omega (arith, low)) c.get-first.ensures.item, h.1, h.2)) c.loop-back.late c.loop-back.invariant.late
+    (λ l h. (h.0 (roster.count - c.loop-back.back - 1) first (omega (arith, low)) c.get-first.ensures.item, h.1, h.2))
+    c.loop-back.late c.loop-back.invariant.late
 
 pub prune_one-late-requires-clause-small : goal.prune_one-late-requires-clause-small
 prune_one-late-requires-clause-small c = fewer_small _ _ c.loop-back.invariant.fewer c.requires.small

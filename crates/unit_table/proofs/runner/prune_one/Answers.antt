@@ -1,17 +1,23 @@
 use Rattle.slope_list.specs.Slopes.{shown, count_of, room_of}
-use Rattle.unit_table.proofs.Common.{◌≡◌, ◌<◌, ◌≤◌, true, Some, length, refl, ◌∙◌, arith, OnTrue_at, thermal_of, live_at, Going, scaled_Fits, rules}
-use Rattle.unit_table.proofs.Lemmas.{if_some, live_here, live_other, going_off, item_at, item_same, item_live, read_live, read_on, on_of, early_goes, fewer_none, fewer_stopped, kept_none, kept_written, stopped_one}
+use Rattle.unit_table.proofs.Common.{◌≡◌, ◌<◌, ◌≤◌, true, Some, length, refl, ◌∙◌, arith, OnTrue_at, thermal_of}
+use Rattle.unit_table.proofs.Common.{live_at, Going, scaled_Fits, rules}
+use Rattle.unit_table.proofs.Lemmas.{if_some, live_here, live_other, going_off, item_at, item_same, item_live}
+use Rattle.unit_table.proofs.Lemmas.{read_live, read_on, on_of, early_goes, fewer_none, fewer_stopped, kept_none}
+use Rattle.unit_table.proofs.Lemmas.{kept_written, stopped_one}
 use Rattle.unit_table.proofs.runner.prune_one.Goals as goal
 
 pub goes-requires-clause-late : goal.goes-requires-clause-late
 goes-requires-clause-late c =
-    let h = if_some (λ l. (c.args.early < l) × (l ≤ c.args.period) × ((r : Going) × (live_at shown c.args.runners.now l ≡ Some r))) c.args.late c.in-Some.first c.in-Some.is c.requires.late in
+    let h = if_some (λ l. (c.args.early < l) × (l ≤ c.args.period) ×
+    ((r : Going) × (live_at shown c.args.runners.now l ≡ Some r))) c.args.late c.in-Some.first c.in-Some.is
+    c.requires.late in
     let until = h.1 in
     let end = c.requires.end in
     let low : c.in-Some.first < length c.args.runners.now = omega (arith, until, end) in
     let x = c.index-runners-first.result in
     let on = read_on shown c.args.runners.now c.in-Some.first low x c.index-runners-first.is h.2.0 h.2.1 in
-    (c.requires.small c.in-Some.first _ (read_live shown c.args.runners.now c.in-Some.first low x c.index-runners-first.is on)).cost
+    (c.requires.small c.in-Some.first _
+    (read_live shown c.args.runners.now c.in-Some.first low x c.index-runners-first.is on)).cost
 
 pub goes-requires-clause-early : goal.goes-requires-clause-early
 goes-requires-clause-early c =
@@ -19,21 +25,35 @@ goes-requires-clause-early c =
     let under = c.requires.early in
     let low : c.args.early < length c.args.runners.now = omega (arith, under, end) in
     let x = c.index-runners-early-in-Some.result in
-    let on = on_of x _ c.index-runners-early-in-Some.is (item_same shown c.args.runners.now c.args.early low c.index-runners-early.result x true c.if-not-runners-early.false) in
-    (c.requires.small c.args.early _ (read_live shown c.args.runners.now c.args.early low x c.index-runners-early-in-Some.is on)).cost
+    let on = on_of x _ c.index-runners-early-in-Some.is
+    (item_same shown c.args.runners.now c.args.early low c.index-runners-early.result x true
+    c.if-not-runners-early.false) in
+    (c.requires.small c.args.early _
+    (read_live shown c.args.runners.now c.args.early low x c.index-runners-early-in-Some.is on)).cost
 
 pub returns-then-goes-clause-late : goal.returns-then-goes-clause-late
 returns-then-goes-clause-late c =
-    let h = if_some (λ l. (c.args.early < l) × (l ≤ c.args.period) × ((r : Going) × (live_at shown c.args.runners.now l ≡ Some r))) c.args.late c.in-Some.first c.in-Some.is c.requires.late in
+    let h = if_some (λ l. (c.args.early < l) × (l ≤ c.args.period) ×
+    ((r : Going) × (live_at shown c.args.runners.now l ≡ Some r))) c.args.late c.in-Some.first c.in-Some.is
+    c.requires.late in
     let above = h.0 in
     let end = c.requires.end in
     let under = c.requires.early in
-    let low : c.args.early < length c.args.runners.now = omega (arith, under, end) in
-    (omega (arith, above), h.1, (h.2.0, live_other shown c.args.runners.now _ c.args.early c.stop.new.runner low refl c.in-Some.first (λ z. omega (arith, z, above)) ∙ h.2.1))
+    let low : c.args.early < length c.args.runners.now = omega (arith, under, end) in (
+      omega (arith, above),
+      h.1,
+      (
+        h.2.0,
+        live_other shown c.args.runners.now _ c.args.early c.stop.new.runner low refl c.in-Some.first
+            (λ z. omega (arith, z, above)) ∙ h.2.1,
+      ),
+    )
 
 pub returns-then-goes-clause-stands : goal.returns-then-goes-clause-stands
 returns-then-goes-clause-stands c = λ π limits ends n now.
-    let h = if_some (λ l. (c.args.early < l) × (l ≤ c.args.period) × ((r : Going) × (live_at shown c.args.runners.now l ≡ Some r))) c.args.late c.in-Some.first c.in-Some.is c.requires.late in
+    let h = if_some (λ l. (c.args.early < l) × (l ≤ c.args.period) ×
+    ((r : Going) × (live_at shown c.args.runners.now l ≡ Some r))) c.args.late c.in-Some.first c.in-Some.is
+    c.requires.late in
     let above = h.0 in
     let until = h.1 in
     let end = c.requires.end in
@@ -42,28 +62,46 @@ returns-then-goes-clause-stands c = λ π limits ends n now.
     let low_late : c.in-Some.first < length c.args.runners.now = omega (arith, until, end) in
     let x = c.index-runners-early-in-Some.result in
     let y = c.index-runners-first.result in
-    let on = on_of x _ c.index-runners-early-in-Some.is (item_same shown c.args.runners.now c.args.early low c.index-runners-early.result x true c.if-not-runners-early.false) in
+    let on = on_of x _ c.index-runners-early-in-Some.is
+    (item_same shown c.args.runners.now c.args.early low c.index-runners-early.result x true
+    c.if-not-runners-early.false) in
     let on_late = read_on shown c.args.runners.now c.in-Some.first low_late y c.index-runners-first.is h.2.0 h.2.1 in
-    early_goes (thermal_of c.args.unit.now) π limits ends c.args.period (live_at shown c.args.runners.now) _ n c.args.early c.in-Some.first _ _ now
+    early_goes (thermal_of c.args.unit.now) π limits ends c.args.period (live_at shown c.args.runners.now) _ n
+    c.args.early c.in-Some.first _ _ now
     (read_live shown c.args.runners.now c.args.early low x c.index-runners-early-in-Some.is on)
     (read_live shown c.args.runners.now c.in-Some.first low_late y c.index-runners-first.is on_late)
     above until (OnTrue_at c.if-goes.true c.goes.ensures.long) (OnTrue_at c.if-goes.true c.goes.ensures.below)
-    (live_here shown c.args.runners.now _ c.args.early c.stop.new.runner low refl ∙ going_off shown c.stop.new.runner c.stop.ensures.off)
+    (live_here shown c.args.runners.now _ c.args.early c.stop.new.runner low refl ∙
+    going_off shown c.stop.new.runner c.stop.ensures.off)
     (λ f other. live_other shown c.args.runners.now _ c.args.early c.stop.new.runner low refl f other)
 
 pub returns-else-goes-clause-late : goal.returns-else-goes-clause-late
 returns-else-goes-clause-late c =
     let end = c.requires.end in
     let under = c.requires.early in
-    let low : c.args.early < length c.args.runners.now = omega (arith, under, end) in
-    (omega arith, c.requires.early, (_, item_live shown c.args.runners.now c.args.early low c.index-runners-early.result c.if-not-runners-early.false))
+    let low : c.args.early < length c.args.runners.now = omega (arith, under, end) in (
+      omega arith,
+      c.requires.early,
+      (
+        _,
+        item_live shown c.args.runners.now c.args.early low c.index-runners-early.result
+            c.if-not-runners-early.false,
+      ),
+    )
 
 pub returns-in_default-clause-late : goal.returns-in_default-clause-late
 returns-in_default-clause-late c =
     let end = c.requires.end in
     let under = c.requires.early in
-    let low : c.args.early < length c.args.runners.now = omega (arith, under, end) in
-    (omega arith, c.requires.early, (_, item_live shown c.args.runners.now c.args.early low c.index-runners-early.result c.if-not-runners-early.false))
+    let low : c.args.early < length c.args.runners.now = omega (arith, under, end) in (
+      omega arith,
+      c.requires.early,
+      (
+        _,
+        item_live shown c.args.runners.now c.args.early low c.index-runners-early.result
+            c.if-not-runners-early.false,
+      ),
+    )
 
 pub offset_bounds-runners-early : goal.offset_bounds-runners-early
 offset_bounds-runners-early c =
@@ -73,7 +111,9 @@ offset_bounds-runners-early c =
 
 pub offset_bounds-runners-first : goal.offset_bounds-runners-first
 offset_bounds-runners-first c =
-    let h = if_some (λ l. (c.args.early < l) × (l ≤ c.args.period) × ((r : Going) × (live_at shown c.args.runners.now l ≡ Some r))) c.args.late c.in-Some.first c.in-Some.is c.requires.late in
+    let h = if_some (λ l. (c.args.early < l) × (l ≤ c.args.period) ×
+    ((r : Going) × (live_at shown c.args.runners.now l ≡ Some r))) c.args.late c.in-Some.first c.in-Some.is
+    c.requires.late in
     let until = h.1 in
     let end = c.requires.end in
     scaled_Fits c.in-Some.first (length c.args.runners.now) _ (omega (arith, until, end)) (search rules)
@@ -103,7 +143,8 @@ returns-then-goes-clause-kept c =
     let under = c.requires.early in
     let low : c.args.early < length c.args.runners.now = omega (arith, under, end) in
     kept_written shown count_of room_of c.args.runners.now _ c.args.early c.stop.new.runner _ low refl
-    (item_at shown c.args.runners.now c.args.early low _) (stopped_one shown count_of room_of _ _ c.stop.ensures.off c.stop.ensures.running c.stop.ensures.passed)
+    (item_at shown c.args.runners.now c.args.early low _)
+    (stopped_one shown count_of room_of _ _ c.stop.ensures.off c.stop.ensures.running c.stop.ensures.passed)
 
 pub returns-then-not-runners-early-clause-fewer : goal.returns-then-not-runners-early-clause-fewer
 returns-then-not-runners-early-clause-fewer c = fewer_none (live_at shown c.args.runners.now)

@@ -8,15 +8,20 @@ loop-index-init c =
     let g = unit_of c.args.question.now in
     let π = prices_in c.args.question.now in
     let charge = charge_of c.args.question.now in
-    none_run shown count_of room_of g π c.args.place charge c.args.table.now.items c.args.runners.now c.args.roster.now (suc (suc c.args.place))
-    (run_begins shown count_of room_of g π c.args.place charge c.args.table.now.items c.args.runners.now c.requires.within c.requires.none)
+    none_run shown count_of room_of g π c.args.place charge c.args.table.now.items c.args.runners.now c.args.roster.now
+    (suc (suc c.args.place))
+    (run_begins shown count_of room_of g π c.args.place charge c.args.table.now.items c.args.runners.now
+    c.requires.within c.requires.none)
 
 pub run_at-requires-clause-ready : goal.run_at-requires-clause-ready
 run_at-requires-clause-ready c = λ r is.
     let first = c.get-first.result.now in
-    let run = run_before shown count_of room_of (unit_of c.args.question.now) (prices_in c.args.question.now) c.args.place (charge_of c.args.question.now)
-    c.args.table.now.items c.args.runners.now c.requires.room c.args.roster.now (suc (suc c.args.place)) c.requires.roster
-    c.loop-index.index c.loop-index.table.items c.loop-index.runners c.loop-index.invariant c.loop-index-test.true first c.get-first.ensures.item in
+    let run = run_before shown count_of room_of (unit_of c.args.question.now) (prices_in c.args.question.now)
+    c.args.place (charge_of c.args.question.now)
+    c.args.table.now.items c.args.runners.now c.requires.room c.args.roster.now (suc (suc c.args.place))
+    c.requires.roster
+    c.loop-index.index c.loop-index.table.items c.loop-index.runners c.loop-index.invariant c.loop-index-test.true first
+    c.get-first.ensures.item in
     let same = ap (going_of shown) (run.rest first (omega arith)) in
     let runner = c.requires.now.1.right first r (sym same ∙ is) in
     let low = runner.0 in
@@ -30,16 +35,22 @@ run_at-requires-clause-ready c = λ r is.
 pub run_at-requires-clause-room : goal.run_at-requires-clause-room
 run_at-requires-clause-room c = λ r is.
     let first = c.get-first.result.now in
-    let run = run_before shown count_of room_of (unit_of c.args.question.now) (prices_in c.args.question.now) c.args.place (charge_of c.args.question.now)
-    c.args.table.now.items c.args.runners.now c.requires.room c.args.roster.now (suc (suc c.args.place)) c.requires.roster
-    c.loop-index.index c.loop-index.table.items c.loop-index.runners c.loop-index.invariant c.loop-index-test.true first c.get-first.ensures.item in
+    let run = run_before shown count_of room_of (unit_of c.args.question.now) (prices_in c.args.question.now)
+    c.args.place (charge_of c.args.question.now)
+    c.args.table.now.items c.args.runners.now c.requires.room c.args.roster.now (suc (suc c.args.place))
+    c.requires.roster
+    c.loop-index.index c.loop-index.table.items c.loop-index.runners c.loop-index.invariant c.loop-index-test.true first
+    c.get-first.ensures.item in
     c.requires.room first r (sym (run.rest first (omega arith)) ∙ is)
 
 pub loop-index-preserved : goal.loop-index-preserved
 loop-index-preserved c =
-    one_run shown count_of room_of (unit_of c.args.question.now) (prices_in c.args.question.now) c.args.place (charge_of c.args.question.now)
-    c.args.table.now.items c.args.runners.now c.requires.room c.args.roster.now (suc (suc c.args.place)) c.requires.roster
-    c.loop-index.index c.loop-index.table.items c.loop-index.runners c.loop-index.invariant c.loop-index-test.true c.get-first.result.now c.get-first.ensures.item
+    one_run shown count_of room_of (unit_of c.args.question.now) (prices_in c.args.question.now) c.args.place
+    (charge_of c.args.question.now)
+    c.args.table.now.items c.args.runners.now c.requires.room c.args.roster.now (suc (suc c.args.place))
+    c.requires.roster
+    c.loop-index.index c.loop-index.table.items c.loop-index.runners c.loop-index.invariant c.loop-index-test.true
+    c.get-first.result.now c.get-first.ensures.item
     c.run_at.new.table.items c.run_at.new.runners c.run_at.ensures
 
 pub returns : goal.returns
@@ -50,7 +61,8 @@ returns c =
     let rows = c.args.table.now.items in
     let runners = c.args.runners.now in
     run_over shown count_of room_of g π c.args.place charge rows runners c.loop-index.table.items c.loop-index.runners
-    (run_whole shown count_of room_of g π c.args.place charge rows runners c.requires.room c.args.roster.now (suc (suc c.args.place)) c.requires.roster
+    (run_whole shown count_of room_of g π c.args.place charge rows runners c.requires.room c.args.roster.now
+    (suc (suc c.args.place)) c.requires.roster
     c.loop-index.index c.loop-index.table.items c.loop-index.runners c.loop-index.invariant c.loop-index-test.false)
     (λ f r is. (c.requires.now.1.right f r is).0) c.requires.room
 
@@ -63,7 +75,8 @@ get-first-requires c =
 pub run_at-requires-clause-runners : goal.run_at-requires-clause-runners
 run_at-requires-clause-runners c =
     let low = c.loop-index-test.true in
-    let below = c.requires.roster.below c.loop-index.index c.get-first.result.now (omega (arith, low)) c.get-first.ensures.item in
+    let below = c.requires.roster.below c.loop-index.index c.get-first.result.now (omega (arith, low))
+    c.get-first.ensures.item in
     let place = c.requires.place in
     let end = c.requires.runners in
     let same = c.loop-index.invariant.run.count_same in

@@ -1,5 +1,8 @@
 use Rattle.slope_list.specs.Slopes.{shown, count_of, room_of}
-use Rattle.unit_table.proofs.Common.{rules, ◌≡◌, ℕ, suc, ◌+◌, ◌-◌, ◌*◌, ◌<◌, ◌≤◌, ◌+ℤ◌, ℤ, inl, inr, Some, length, sym, ap, ◌∙◌, subst, arith, to_z, of_z, FitsSigned, IfSome, w64, to_z-of_z, unit_of, prices_in, periods_in, charge_of, going_of, Going, IsGoneOn, Lowest, passed_at, IsOnNoted, IsPut, IsWithinTimes, on_time}
+use Rattle.unit_table.proofs.Common.{rules, ◌≡◌, ℕ, suc, ◌+◌, ◌-◌, ◌*◌, ◌<◌, ◌≤◌, ◌+ℤ◌, ℤ, inl, inr, Some, length, sym}
+use Rattle.unit_table.proofs.Common.{ap, ◌∙◌, subst, arith, to_z, of_z, FitsSigned, IfSome, w64, to_z-of_z, unit_of}
+use Rattle.unit_table.proofs.Common.{prices_in, periods_in, charge_of, going_of, Going, IsGoneOn, Lowest, passed_at}
+use Rattle.unit_table.proofs.Common.{IsOnNoted, IsPut, IsWithinTimes, on_time}
 use Rattle.unit_table.proofs.Lemmas.{room_more, room_next, going_on, row_end, end_some, end_left}
 use Rattle.unit_table.proofs.runner.take_runner.Goals as goal
 
@@ -9,13 +12,30 @@ returns-clause-more c =
     let fits : FitsSigned w64 c.args.runner.now.cost = search rules in
     let cost : to_z w64 (of_z w64 c.args.runner.now.cost) ≡ c.args.runner.now.cost = to_z-of_z w64 _ fits in
     let next : c.args.place + 1 ≡ suc c.args.place = omega arith in
-    let put = subst (λ (e : ℤ). IfSome c.cost_of.result (λ (x : ℤ). IsPut (c.args.place + 1) (record { cost = e +ℤ x; first = c.args.first; before = c.args.runner.now.before }) c.args.table.now.items c.put_end.new.table.items)) cost c.put_end.ensures.some in
-    let put_next = subst (λ (l : ℕ). IfSome c.cost_of.result (λ (x : ℤ). IsPut l (record { cost = c.args.runner.now.cost +ℤ x; first = c.args.first; before = c.args.runner.now.before }) c.args.table.now.items c.put_end.new.table.items)) next put in
+    let put = subst (λ (e : ℤ). IfSome c.cost_of.result
+    (λ (x : ℤ). IsPut (c.args.place + 1)
+    (record { cost = e +ℤ x; first = c.args.first; before = c.args.runner.now.before }) c.args.table.now.items
+    c.put_end.new.table.items)) cost c.put_end.ensures.some in
+    let put_next = subst
+    (λ (l : ℕ). IfSome c.cost_of.result
+    (λ (x : ℤ). IsPut l (record
+    { cost = c.args.runner.now.cost +ℤ x; first = c.args.first; before = c.args.runner.now.before })
+    c.args.table.now.items c.put_end.new.table.items)) next put in
     record {
-      row = λ live is. row_end (unit_of c.args.question.now) (prices_in c.args.question.now) live c.args.first c.args.place c.args.table.now.items c.put_end.new.table.items
-          (record { before = c.args.runner.now.before; cost = c.args.runner.now.cost; function = shown c.args.runner.now.running; left = passed_at c.args.runner.now.passed.items }) (is ∙ going_on shown c.args.runner.now c.requires.on)
+      row = λ live is. row_end (unit_of c.args.question.now) (prices_in c.args.question.now) live c.args.first
+          c.args.place c.args.table.now.items c.put_end.new.table.items
+          (record {
+            before = c.args.runner.now.before;
+            cost = c.args.runner.now.cost;
+            function = shown c.args.runner.now.running;
+            left = passed_at c.args.runner.now.passed.items;
+          })
+          (is ∙ going_on shown c.args.runner.now c.requires.on)
           c.requires.place ready.order ready.may c.cost_of.result (rw c.cost_of.ensures c.run_one-passed.ensures.answer)
-          (end_some c.run_one-passed.result.end c.cost_of.result (λ _. suc c.args.place < periods_in c.args.question.now → (unit_of c.args.question.now).min_up ≤ on_time (unit_of c.args.question.now) c.args.first (suc c.args.place)) c.cost_of.ensures c.run_one-passed.ensures.may) c.put_end.ensures.none put_next;
+          (end_some c.run_one-passed.result.end c.cost_of.result
+          (λ _. suc c.args.place < periods_in c.args.question.now →
+          (unit_of c.args.question.now).min_up ≤ on_time (unit_of c.args.question.now) c.args.first
+          (suc c.args.place)) c.cost_of.ensures c.run_one-passed.ensures.may) c.put_end.ensures.none put_next;
       others = λ l other. c.put_end.ensures.others l (λ z. other (z ∙ next));
       within = c.put_end.ensures.within;
       rows_length = c.put_end.ensures.length;
@@ -26,32 +46,63 @@ returns-clause-ends c =
     let fits : FitsSigned w64 c.args.runner.now.cost = search rules in
     let cost : to_z w64 (of_z w64 c.args.runner.now.cost) ≡ c.args.runner.now.cost = to_z-of_z w64 _ fits in
     let next : c.args.place + 1 ≡ suc c.args.place = omega arith in
-    let put_next = subst (λ (l : ℕ). IfSome c.cost_of.result (λ (x : ℤ). IsPut l (record { cost = to_z w64 (of_z w64 c.args.runner.now.cost) +ℤ x; first = c.args.first; before = c.args.runner.now.before }) c.args.table.now.items c.put_end.new.table.items)) next c.put_end.ensures.some in
+    let put_next = subst
+    (λ (l : ℕ). IfSome c.cost_of.result
+    (λ (x : ℤ). IsPut l (record {
+      cost = to_z w64 (of_z w64 c.args.runner.now.cost) +ℤ x;
+      first = c.args.first;
+      before = c.args.runner.now.before;
+    }) c.args.table.now.items c.put_end.new.table.items)) next
+    c.put_end.ensures.some in
     let same = ap (λ l. passed_at l.items c.args.place) c.retire.ensures.passed ∙ c.leave_at.ensures.here in
-    end_left (unit_of c.args.question.now) (prices_in c.args.question.now) c.args.first c.args.place c.args.runner.now.before _ c.args.table.now.items c.put_end.new.table.items c.run_one-passed.result
-    (passed_at c.retire.new.runner.passed.items c.args.place) c.cost_of.result same c.cost_of.ensures c.put_end.ensures.none put_next c.run_one-passed.ensures.ended
+    end_left (unit_of c.args.question.now) (prices_in c.args.question.now) c.args.first c.args.place
+    c.args.runner.now.before _ c.args.table.now.items c.put_end.new.table.items c.run_one-passed.result
+    (passed_at c.retire.new.runner.passed.items c.args.place) c.cost_of.result same c.cost_of.ensures
+    c.put_end.ensures.none put_next c.run_one-passed.ensures.ended
 
 pub put_end-requires-clause-net_bound : goal.put_end-requires-clause-net_bound
 put_end-requires-clause-net_bound c =
     let next : suc c.args.place ≡ c.args.place + 1 = omega arith in
-    end_some c.run_one-passed.result.end c.cost_of.result (IsWithinTimes (suc (c.args.place + 1) - c.args.first)) c.cost_of.ensures
-    (subst (λ (l : ℕ). IfSome c.run_one-passed.result.end (λ (e : Lowest). IsWithinTimes (suc l - c.args.first) e.value)) next c.run_one-passed.ensures.within)
+    end_some c.run_one-passed.result.end c.cost_of.result (IsWithinTimes (suc (c.args.place + 1) - c.args.first))
+    c.cost_of.ensures
+    (subst (λ (l : ℕ). IfSome c.run_one-passed.result.end
+    (λ (e : Lowest). IsWithinTimes (suc l - c.args.first) e.value)) next c.run_one-passed.ensures.within)
 
 pub returns-clause-goes : goal.returns-clause-goes
 returns-clause-goes c = λ r is.
     let unit = unit_of c.args.question.now in
     let prices = prices_in c.args.question.now in
     let same = ap (λ l. passed_at l.items c.args.place) c.retire.ensures.passed ∙ c.leave_at.ensures.here in
-    let ran = going_on shown (record { is_on = c.args.runner.now.is_on; cost = c.args.runner.now.cost; before = c.args.runner.now.before; running = c.run_one-passed.new.running; passed = c.leave_at.new.list }) c.requires.on in
-    let left = ap (λ l. Some (record { before = c.args.runner.now.before; cost = c.args.runner.now.cost; function = shown c.run_one-passed.new.running; left = passed_at l.items })) c.retire.ensures.passed in
+    let ran = going_on shown
+    (record {
+      is_on = c.args.runner.now.is_on;
+      cost = c.args.runner.now.cost;
+      before = c.args.runner.now.before;
+      running = c.run_one-passed.new.running;
+      passed = c.leave_at.new.list;
+    }) c.requires.on in
+    let left = ap (λ l. Some
+    (record {
+      before = c.args.runner.now.before;
+      cost = c.args.runner.now.cost;
+      function = shown c.run_one-passed.new.running;
+      left = passed_at l.items;
+    })) c.retire.ensures.passed in
     let at = going_on shown c.args.runner.now c.requires.on in
-    let here : record { before = c.args.runner.now.before; cost = c.args.runner.now.cost; function = shown c.args.runner.now.running; left = passed_at c.args.runner.now.passed.items } ≡ r = (cc) in
-    subst (λ (r : Going). IsGoneOn unit prices c.args.place c.args.first r (going_of shown (Some c.retire.new.runner))) here (record {
+    let here : record {
+      before = c.args.runner.now.before;
+      cost = c.args.runner.now.cost;
+      function = shown c.args.runner.now.running;
+      left = passed_at c.args.runner.now.passed.items;
+    } ≡ r = (cc) in
+    subst (λ (r : Going). IsGoneOn unit prices c.args.place c.args.first r (going_of shown (Some c.retire.new.runner)))
+    here (record {
       function = shown c.run_one-passed.new.running;
       left = passed_at c.retire.new.runner.passed.items;
       frontier = c.run_one-passed.ensures.frontier;
       kept = λ k other. ap (λ l. passed_at l.items k) c.retire.ensures.passed ∙ c.leave_at.ensures.others k other;
-      noted = λ x v there. subst (λ p. IsOnNoted unit prices c.args.first c.args.place p.note) (sym same) (c.run_one-passed.ensures.noted x v there);
+      noted = λ x v there. subst (λ p. IsOnNoted unit prices c.args.first c.args.place p.note) (sym same)
+          (c.run_one-passed.ensures.noted x v there);
       next_is = elim (c.retire.ensures.next) [
         | inl on ↦ inl (on ∙ ran ∙ sym left)
         | inr gone ↦ inr gone
@@ -60,7 +111,8 @@ returns-clause-goes c = λ r is.
 
 pub run_one-passed-requires-clause-room : goal.run_one-passed-requires-clause-room
 run_one-passed-requires-clause-room c =
-    room_more (count_of c.args.runner.now.running) (periods_in c.args.question.now) c.args.place (charge_of c.args.question.now) (room_of c.args.runner.now.running)
+    room_more (count_of c.args.runner.now.running) (periods_in c.args.question.now) c.args.place
+    (charge_of c.args.question.now) (room_of c.args.runner.now.running)
     c.requires.place (c.requires.room.rest c.requires.on)
 
 pub leave_at-requires : goal.leave_at-requires
@@ -83,13 +135,15 @@ put_end-requires-clause-order c =
 pub put_end-requires-clause-bound : goal.put_end-requires-clause-bound
 put_end-requires-clause-bound c =
     let fits : FitsSigned w64 c.args.runner.now.cost = search rules in
-    subst (IsWithinTimes (2 * c.args.first + 1)) (sym (to_z-of_z w64 _ fits)) (c.requires.ready _ (going_on shown c.args.runner.now c.requires.on)).within
+    subst (IsWithinTimes (2 * c.args.first + 1)) (sym (to_z-of_z w64 _ fits))
+    (c.requires.ready _ (going_on shown c.args.runner.now c.requires.on)).within
 
 pub run_one-passed-requires-clause-order : goal.run_one-passed-requires-clause-order
 run_one-passed-requires-clause-order c = (c.requires.ready _ (going_on shown c.args.runner.now c.requires.on)).order
 
 pub run_one-passed-requires-clause-frontier : goal.run_one-passed-requires-clause-frontier
-run_one-passed-requires-clause-frontier c = (c.requires.ready _ (going_on shown c.args.runner.now c.requires.on)).frontier
+run_one-passed-requires-clause-frontier c =
+    (c.requires.ready _ (going_on shown c.args.runner.now c.requires.on)).frontier
 
 pub returns-clause-same : goal.returns-clause-same
 returns-clause-same c = (
@@ -108,7 +162,8 @@ returns-clause-room c =
     let whole = c.requires.room.whole in
     let places = c.requires.room.places in
     let places_same = ap (λ l. length l.items + l.spare) c.retire.ensures.passed ∙ c.leave_at.ensures.room in
-    let rest = room_next (count_of old.running) (count_of c.run_one-passed.new.running) periods c.args.place charge (room_of old.running) c.requires.place (c.requires.room.rest c.requires.on) count in
+    let rest = room_next (count_of old.running) (count_of c.run_one-passed.new.running) periods c.args.place charge
+    (room_of old.running) c.requires.place (c.requires.room.rest c.requires.on) count in
     record {
       whole = omega (arith, whole, same);
       places = omega (arith, places, places_same);

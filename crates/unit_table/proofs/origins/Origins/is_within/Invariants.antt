@@ -2,4 +2,5 @@ use Rattle.unit_table.proofs.Common.{◌≡◌, ℕ, ◌<◌, Some, pos, ◌+ℤ
 use Rattle.unit_table.proofs.origins.Origins.is_within.Given as goal
 
 abbrev pub invariant-loop-place : goal.invariant-loop-place
-invariant-loop-place l = (i : ℕ) (o : Origin) → i < l.place → slice_get l.self.list.items i ≡ Some o → (l.limit +ℤ pos 1) ≤ℤ o.cost
+invariant-loop-place l = (i : ℕ) (o : Origin) → i < l.place → slice_get l.self.list.items i ≡ Some o →
+    (l.limit +ℤ pos 1) ≤ℤ o.cost

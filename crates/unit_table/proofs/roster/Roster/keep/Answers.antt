@@ -25,8 +25,10 @@ bounds-runners-first c =
     let list = c.requires.roster in
     let low = c.loop-place-test.true in
     let count_same = c.loop-place.invariant.count_same in
-    let below = first_inside (live_at shown c.args.runners.now) list.0 c.args.self.now list.2 c.loop-place.place c.loop-place.kept c.loop-place.self.firsts.items
-    (c.loop-place.invariant.kept list.0 list.2) (omega (arith, low, count_same)) c.get-first.result.now c.get-first.ensures.item in
+    let below = first_inside (live_at shown c.args.runners.now) list.0 c.args.self.now list.2 c.loop-place.place
+    c.loop-place.kept c.loop-place.self.firsts.items
+    (c.loop-place.invariant.kept list.0 list.2) (omega (arith, low, count_same)) c.get-first.result.now
+    c.get-first.ensures.item in
     let most = list.1 in
     omega (arith, below, most)
 
@@ -35,8 +37,10 @@ offset_bounds-runners-first c =
     let list = c.requires.roster in
     let low = c.loop-place-test.true in
     let count_same = c.loop-place.invariant.count_same in
-    let below = first_inside (live_at shown c.args.runners.now) list.0 c.args.self.now list.2 c.loop-place.place c.loop-place.kept c.loop-place.self.firsts.items
-    (c.loop-place.invariant.kept list.0 list.2) (omega (arith, low, count_same)) c.get-first.result.now c.get-first.ensures.item in
+    let below = first_inside (live_at shown c.args.runners.now) list.0 c.args.self.now list.2 c.loop-place.place
+    c.loop-place.kept c.loop-place.self.firsts.items
+    (c.loop-place.invariant.kept list.0 list.2) (omega (arith, low, count_same)) c.get-first.result.now
+    c.get-first.ensures.item in
     let most = list.1 in
     omega (arith, below, most)
 
@@ -45,8 +49,10 @@ bounds-runners-first-in-loop-place c =
     let list = c.requires.roster in
     let low = c.loop-place-test.true in
     let count_same = c.loop-place.invariant.count_same in
-    let below = first_inside (live_at shown c.args.runners.now) list.0 c.args.self.now list.2 c.loop-place.place c.loop-place.kept c.loop-place.self.firsts.items
-    (c.loop-place.invariant.kept list.0 list.2) (omega (arith, low, count_same)) c.get-first.result.now c.get-first.ensures.item in
+    let below = first_inside (live_at shown c.args.runners.now) list.0 c.args.self.now list.2 c.loop-place.place
+    c.loop-place.kept c.loop-place.self.firsts.items
+    (c.loop-place.invariant.kept list.0 list.2) (omega (arith, low, count_same)) c.get-first.result.now
+    c.get-first.ensures.item in
     let most = list.1 in
     omega (arith, below, most)
 
@@ -74,24 +80,29 @@ loop-place-preserved c =
     let inside : p < old.count = omega (arith, low, count_same) in
     let here : first < length c.args.runners.now =
     (let list = c.requires.roster in
-    let below = first_inside live list.0 old list.2 p q items (c.loop-place.invariant.kept list.0 list.2) inside first c.get-first.ensures.item in
+    let below = first_inside live list.0 old list.2 p q items (c.loop-place.invariant.kept list.0 list.2) inside first
+    c.get-first.ensures.item in
     let most = list.1 in
     omega (arith, below, most)) in
     elim c.if-runners-first.branch [
       | then-runners-first w ↦
           let set = w.set.ensures.items in
-          let same : length w.set.new.self.items ≡ length items = ap (λ (xs : List ℕ). length xs) set ∙ length-set items q first in
+          let same : length w.set.new.self.items ≡ length items = ap (λ (xs : List ℕ). length xs) set ∙
+          length-set items q first in
           rw w.self-is (rw w.kept-is (record {
-            kept = λ until list. one_kept live until old list p q items (c.loop-place.invariant.kept until list) inside first c.get-first.ensures.item w.set.new.self.items set same;
+            kept = λ until list. one_kept live until old list p q items (c.loop-place.invariant.kept until list) inside
+                first c.get-first.ensures.item w.set.new.self.items set same;
             low = omega (arith, kept);
             same_length = same ∙ same_length;
             count_same = count_same;
           }))
       | else-runners-first w ↦
           rw w.self-is (rw w.kept-is (record {
-            kept = λ until list. one_off live until old list p q items (c.loop-place.invariant.kept until list) inside first c.get-first.ensures.item
+            kept = λ until list. one_off live until old list p q items (c.loop-place.invariant.kept until list) inside
+                first c.get-first.ensures.item
                 (item_off shown c.args.runners.now first here c.index-runners-first.result
-                (item_same shown c.args.runners.now first here c.index-runners-first.result c.index-runners-first.result false w.if-runners-first.false));
+                (item_same shown c.args.runners.now first here c.index-runners-first.result c.index-runners-first.result
+                false w.if-runners-first.false));
             low = omega (arith, kept);
             same_length = same_length;
             count_same = count_same;
@@ -102,4 +113,5 @@ pub returns-clause-roster : goal.returns-clause-roster
 returns-clause-roster c = λ until list.
     let same = c.loop-place.invariant.count_same in
     let end = c.loop-place-test.false in
-    all_kept (live_at shown c.args.runners.now) until c.args.self.now list c.loop-place.place _ (omega (arith, same, end)) (omega (arith, same)) (c.loop-place.invariant.kept until list)
+    all_kept (live_at shown c.args.runners.now) until c.args.self.now list c.loop-place.place _
+    (omega (arith, same, end)) (omega (arith, same)) (c.loop-place.invariant.kept until list)
