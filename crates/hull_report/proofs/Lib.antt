@@ -2,8 +2,8 @@
 pub mod Common
 -- record.rt, fixed.rt, fault.rt: texts one after another
 mod RecordTexts
--- record.rt, fixed.rt: the lines of a record's units
-mod RecordLines
+-- record.rt, settled.rt, fixed.rt: the texts of all units, number by number and kind by kind
+mod UnitTexts
 -- record.rt: the text of a record's report, part by part
 mod WholeReports
 -- The lemmas that answers cite.

@@ -8,6 +8,11 @@ module _ {S : Type 0} {held : S → Option (List ℕ)} {faults : S → ℕ} wher
   all_items {X = X} {old = old} {new = new} f xs i h p =
       record { ok = subst (λ (ys : List X). Gains held faults old new (flat_map f ys)) (take_all i xs h) p; err = tt }
 
+  -- a text that is another
+  pub writes_same : {E : Type 0} {last : Option ℕ} {old new : S} {r : Result (Unit {0}) E} {a b : List ℕ} →
+      a ≡ b → Writes held faults last old new r a → Writes held faults last old new r b
+  writes_same {last = last} {old = old} {new = new} {r = r} same w = subst (Writes held faults last old new r) same w
+
   -- the exit of a `?`
   writes_exit : {E : Type 0} {last : Option ℕ} {old new : S} (text : List ℕ) (r : Result (Unit {0}) E) → IsErr r → FallsShort held faults last old new text → Writes held faults last old new r text
   writes_exit text (Ok u) e h = cc

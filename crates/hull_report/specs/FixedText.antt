@@ -1,7 +1,8 @@
 -- The text of `hull fixed` (this project's profile).
 use Rattle.std.specs.Prelude.{ℕ, ◌+◌, ℤ, List, [], ◌∷◌, ◌++◌, length, codes}
 use Rattle.std.specs.List.{concat, flat_map}
-use Rattle.uc_model.specs.Data.{Market, thermal_names, renewable_names, bid_names}
+use Rattle.uc_model.specs.Data.{AnyUnit, Thermal, Flat, Bid, Market}
+use Rattle.uc_model.specs.Data.{thermal_names, renewable_names, bid_names}
 use Rattle.plain_lists.specs.Sums.{int_at}
 use Rattle.report_form.specs.Numerals.{numeral, signed_numeral}
 use Rattle.report_form.specs.Parts.{spaced, quoted}
@@ -30,6 +31,12 @@ unfoldable pub paid_text : List ℕ → PaidLine → List ℕ
 paid_text kind p = concat (
     kind ∷ quoted p.name ∷ codes " hull " ∷ signed_numeral p.hull
     ∷ codes " fixed " ∷ signed_numeral p.fixed ∷ codes "\n" ∷ [])
+
+-- what the line of a unit begins with
+abbrev pub paid_start : AnyUnit → List ℕ
+paid_start (Thermal g) = codes "unit thermal "
+paid_start (Flat r) = codes "unit renewable "
+paid_start (Bid b) = codes "unit bid "
 
 -- the line of the unit of a number and a name
 abbrev pub paid_line : ToldSide → ToldSide → ℕ → List ℕ → PaidLine

@@ -1,19 +1,17 @@
 //! The text of `hull fixed`.
-ghost use Rattle.std.specs.Prelude.{◌≡◌, ℕ, ◌<◌, List, length, codes};
-ghost use Rattle.std.specs.List.{flat_map};
+ghost use Rattle.std.specs.Prelude.{◌≡◌, ℕ, ◌<◌, List, length};
 ghost use Rattle.hull_io.specs.Edge.{Writes};
 ghost use Rattle.uc_model.specs.Data.{unit_count};
-ghost use Rattle.uc_model.specs.PlainCases.{market_of};
+ghost use Rattle.uc_model.specs.PlainCases.{market_of, unit_of};
 ghost use Rattle.right_report.specs.RightSide.{told_of};
 ghost use Rattle.hull_report.specs.FixedText.{sides_text, paid_text, paid_line};
-ghost use Rattle.hull_report.specs.FixedText.{thermal_paid, renewable_paid, bids_paid};
-ghost use Rattle.hull_report.specs.FixedText.{all_paid_text, sums_text, fixed_text};
+ghost use Rattle.hull_report.specs.FixedText.{paid_start, all_paid_text, sums_text, fixed_text};
 
 use hull_io::{Sink, WriteFailed};
 use report_form::laws::texts_add_up;
 use report_form::{Part, write_parts};
 use right_report::Side;
-use uc_model::cases::Case;
+use uc_model::cases::{Case, UnitRef};
 
 // Writes what each run chose, and the prices.
 fn write_sides<'a, S: Sink>(hull: &'a Side, fixed: &'a Side, out: &mut S) -> Result<(), WriteFailed>
@@ -75,6 +73,17 @@ fn paid_at(hull: &Side, fixed: &Side, number: usize) -> Paid
     }
 }
 
+// What the line of a unit begins with.
+fn line_start(unit: UnitRef<'_>) -> &'static [u8]
+    ensures { result.now ≡ paid_start (unit_of unit.entry) }
+{
+    match unit {
+        UnitRef::Thermal(_) => b"unit thermal ",
+        UnitRef::Renewable(_) => b"unit renewable ",
+        UnitRef::Bid(_) => b"unit bid ",
+    }
+}
+
 // Writes the line of a unit or a bid. `kind` is what it begins with.
 fn write_paid<'a, S: Sink>(
     kind: &'a [u8],
@@ -105,71 +114,6 @@ fn write_paid<'a, S: Sink>(
     )
 }
 
-// Writes the lines of the thermal units.
-fn write_thermal_paid<S: Sink>(
-    case: &Case,
-    hull: &Side,
-    fixed: &Side,
-    out: &mut S,
-) -> Result<(), WriteFailed>
-    requires hull { length hull.now.settlement.payments.items ≡ unit_count (market_of case.now) }
-    requires fixed { length fixed.now.settlement.payments.items ≡ unit_count (market_of case.now) }
-    ensures { Writes S.held S.faults S.last out.old out.new result
-        (flat_map (paid_text (codes "unit thermal "))
-        (thermal_paid (market_of case.now) (told_of hull.now) (told_of fixed.now))) }
-{
-    texts_add_up::<S>();
-    for (place, named) in case.thermal.as_slice().iter().enumerate() {
-        let paid = paid_at(hull, fixed, place);
-        write_paid(b"unit thermal ", named.name.as_str(), paid, out)?;
-    }
-    Ok(())
-}
-
-// Writes the lines of the renewable units.
-fn write_renewable_paid<S: Sink>(
-    case: &Case,
-    hull: &Side,
-    fixed: &Side,
-    out: &mut S,
-) -> Result<(), WriteFailed>
-    requires hull { length hull.now.settlement.payments.items ≡ unit_count (market_of case.now) }
-    requires fixed { length fixed.now.settlement.payments.items ≡ unit_count (market_of case.now) }
-    ensures { Writes S.held S.faults S.last out.old out.new result
-        (flat_map (paid_text (codes "unit renewable "))
-        (renewable_paid (market_of case.now) (told_of hull.now) (told_of fixed.now))) }
-{
-    texts_add_up::<S>();
-    let first = case.thermal.len();
-    for (place, named) in case.flat.as_slice().iter().enumerate() {
-        let paid = paid_at(hull, fixed, first + place);
-        write_paid(b"unit renewable ", named.name.as_str(), paid, out)?;
-    }
-    Ok(())
-}
-
-// Writes the lines of the bids.
-fn write_bids_paid<S: Sink>(
-    case: &Case,
-    hull: &Side,
-    fixed: &Side,
-    out: &mut S,
-) -> Result<(), WriteFailed>
-    requires hull { length hull.now.settlement.payments.items ≡ unit_count (market_of case.now) }
-    requires fixed { length fixed.now.settlement.payments.items ≡ unit_count (market_of case.now) }
-    ensures { Writes S.held S.faults S.last out.old out.new result
-        (flat_map (paid_text (codes "unit bid "))
-        (bids_paid (market_of case.now) (told_of hull.now) (told_of fixed.now))) }
-{
-    texts_add_up::<S>();
-    let first = case.producer_count();
-    for (place, named) in case.bids.as_slice().iter().enumerate() {
-        let paid = paid_at(hull, fixed, first + place);
-        write_paid(b"unit bid ", named.name.as_str(), paid, out)?;
-    }
-    Ok(())
-}
-
 // Writes the lines of all units and bids, in the order of their numbers.
 fn write_all_paid<S: Sink>(
     case: &Case,
@@ -183,9 +127,12 @@ fn write_all_paid<S: Sink>(
         (all_paid_text (market_of case.now) (told_of hull.now) (told_of fixed.now)) }
 {
     texts_add_up::<S>();
-    write_thermal_paid(case, hull, fixed, out)?;
-    write_renewable_paid(case, hull, fixed, out)?;
-    write_bids_paid(case, hull, fixed, out)
+    for number in 0..case.unit_count() as usize {
+        let paid = paid_at(hull, fixed, number);
+        let named = case.unit_at(number);
+        write_paid(line_start(named.unit), named.name, paid, out)?;
+    }
+    Ok(())
 }
 
 // Writes the sums of each run, and what the schedule costs.

@@ -7,7 +7,7 @@ ghost use Rattle.uc_model.specs.Data.{unit_count, thermal_names, renewable_names
 ghost use Rattle.uc_model.specs.PlainUnits.{schedule_of};
 ghost use Rattle.plain_lists.specs.declared.limits.TheConstants.{MOST_PROPOSALS};
 ghost use Rattle.report_form.specs.ReportText.{rows_text, head_text, chosen_text, thermal_text};
-ghost use Rattle.report_form.specs.ReportText.{renewable_text, bid_text, report_text};
+ghost use Rattle.report_form.specs.ReportText.{renewable_text, bid_text, report_text, owed_line};
 ghost use Rattle.right_report.specs.RecordReport.{line_of, lines_from, chosen_of, value_of};
 ghost use Rattle.right_report.specs.RecordReport.{report_of};
 ghost use Rattle.hull_report.specs.RecordText.{HasNumbers};
@@ -17,8 +17,7 @@ use board_core::Closed;
 use hull_io::{Sink, WriteFailed};
 use report_form::laws::texts_add_up;
 use report_form::report::{
-    Head, Owed, write_bid, write_chosen, write_foot, write_head, write_renewable, write_rows,
-    write_thermal,
+    Head, Owed, write_chosen, write_foot, write_head, write_rows, write_unit,
 };
 use report_form::{Part, write_parts};
 use right_report::{Choice, choice_of};
@@ -35,10 +34,9 @@ fn head_of(closed: &Closed, proposals: u32) -> Head
     ensures proposals { result.proposals ≡ proposals }
 {
     let case = closed.case();
-    let units = case.thermal.len() + case.flat.len() + case.bids.len();
     Head {
         periods: case.periods,
-        units: units as u32,
+        units: case.unit_count(),
         budget: closed.budget(),
         ahead: closed.ahead(),
         cost: closed.cost(),
@@ -76,13 +74,8 @@ fn take_line(
     requires number { number < unit_count closed.now.setup.market }
     requires horizon { length (schedule_of buffer.old.response).on
         ≡ closed.now.setup.market.periods }
-    ensures line { (name : List ℕ) → record {
-      name = name;
-      earned = result.earned;
-      scheduled = result.scheduled;
-      payment = result.payment;
-      response = schedule_of buffer.new.response;
-    } ≡ line_of closed.now settlement.now proposal number name }
+    ensures line { (name : List ℕ) → owed_line name result (schedule_of buffer.new.response)
+        ≡ line_of closed.now settlement.now proposal number name }
     ensures horizon { length (schedule_of buffer.new.response).on
         ≡ closed.now.setup.market.periods }
 {
@@ -92,87 +85,6 @@ fn take_line(
         scheduled: *settlement.scheduled.get(number as usize),
         payment: *settlement.payments.get(number as usize),
     }
-}
-
-// Writes the lines of the thermal units.
-fn write_thermal_lines<S: Sink>(
-    closed: &Closed,
-    settlement: &Settlement,
-    proposal: u32,
-    buffer: &mut Answered,
-    out: &mut S,
-) -> Result<(), WriteFailed>
-    requires numbers { HasNumbers closed.now settlement.now proposal }
-    requires horizon { length (schedule_of buffer.old.response).on
-        ≡ closed.now.setup.market.periods }
-    ensures text { Writes S.held S.faults S.last out.old out.new result
-        (flat_map thermal_text (lines_from (line_of closed.now settlement.now proposal) 0
-        (thermal_names closed.now.setup.market))) }
-    ensures horizon { length (schedule_of buffer.new.response).on
-        ≡ closed.now.setup.market.periods }
-{
-    texts_add_up::<S>();
-    let case = closed.case();
-    for (place, named) in case.thermal.as_slice().iter().enumerate() {
-        let owed = take_line(closed, settlement, proposal, place as u32, buffer);
-        write_thermal(named.name.as_str(), &owed, &buffer.response, out)?;
-    }
-    Ok(())
-}
-
-// Writes the lines of the renewable units.
-fn write_renewable_lines<S: Sink>(
-    closed: &Closed,
-    settlement: &Settlement,
-    proposal: u32,
-    buffer: &mut Answered,
-    out: &mut S,
-) -> Result<(), WriteFailed>
-    requires numbers { HasNumbers closed.now settlement.now proposal }
-    requires horizon { length (schedule_of buffer.old.response).on
-        ≡ closed.now.setup.market.periods }
-    ensures text { Writes S.held S.faults S.last out.old out.new result
-        (flat_map renewable_text (lines_from (line_of closed.now settlement.now proposal)
-        (length closed.now.setup.market.thermal) (renewable_names closed.now.setup.market))) }
-    ensures horizon { length (schedule_of buffer.new.response).on
-        ≡ closed.now.setup.market.periods }
-{
-    texts_add_up::<S>();
-    let case = closed.case();
-    let first = case.thermal.len();
-    for (place, named) in case.flat.as_slice().iter().enumerate() {
-        let owed = take_line(closed, settlement, proposal, (first + place) as u32, buffer);
-        write_renewable(named.name.as_str(), &owed, &buffer.response, out)?;
-    }
-    Ok(())
-}
-
-// Writes the lines of the bids.
-fn write_bid_lines<S: Sink>(
-    closed: &Closed,
-    settlement: &Settlement,
-    proposal: u32,
-    buffer: &mut Answered,
-    out: &mut S,
-) -> Result<(), WriteFailed>
-    requires numbers { HasNumbers closed.now settlement.now proposal }
-    requires horizon { length (schedule_of buffer.old.response).on
-        ≡ closed.now.setup.market.periods }
-    ensures text { Writes S.held S.faults S.last out.old out.new result
-        (flat_map bid_text (lines_from (line_of closed.now settlement.now proposal)
-        (length closed.now.setup.market.thermal + length closed.now.setup.market.flat)
-        (bid_names closed.now.setup.market))) }
-    ensures horizon { length (schedule_of buffer.new.response).on
-        ≡ closed.now.setup.market.periods }
-{
-    texts_add_up::<S>();
-    let case = closed.case();
-    let first = case.thermal.len() + case.flat.len();
-    for (place, named) in case.bids.as_slice().iter().enumerate() {
-        let owed = take_line(closed, settlement, proposal, (first + place) as u32, buffer);
-        write_bid(named.name.as_str(), &owed, &buffer.response, out)?;
-    }
-    Ok(())
 }
 
 // Writes the lines of all units and bids, in the order of their numbers.
@@ -199,9 +111,12 @@ fn write_unit_lines<S: Sink>(
         ≡ closed.now.setup.market.periods }
 {
     texts_add_up::<S>();
-    write_thermal_lines(closed, settlement, proposal, buffer, out)?;
-    write_renewable_lines(closed, settlement, proposal, buffer, out)?;
-    write_bid_lines(closed, settlement, proposal, buffer, out)
+    let case = closed.case();
+    for number in 0..case.unit_count() {
+        let owed = take_line(closed, settlement, proposal, number, buffer);
+        write_unit(case.unit_at(number as usize), &owed, &buffer.response, out)?;
+    }
+    Ok(())
 }
 
 /// Writes the report of a finished record with its settlement: every proposal, the chosen one, and

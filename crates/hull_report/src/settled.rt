@@ -8,7 +8,7 @@ ghost use Rattle.uc_model.specs.PlainCases.{market_of};
 ghost use Rattle.uc_model.specs.PlainUnits.{schedule_of};
 ghost use Rattle.price_settle.specs.Laws.{HasEachUnit};
 ghost use Rattle.price_settle.specs.Settled.{settled_of};
-ghost use Rattle.report_form.specs.ReportText.{thermal_text, renewable_text, bid_text};
+ghost use Rattle.report_form.specs.ReportText.{thermal_text, renewable_text, bid_text, owed_line};
 ghost use Rattle.report_form.specs.SettlementText.{settlement_text};
 ghost use Rattle.right_report.specs.RecordReport.{lines_from};
 ghost use Rattle.hull_report.specs.SettledText.{settled_line, settlement_of};
@@ -16,7 +16,7 @@ ghost use Rattle.hull_report.specs.SettledText.{settled_line, settlement_of};
 use hull_io::{Sink, WriteFailed};
 use price_settle::Settled;
 use report_form::laws::texts_add_up;
-use report_form::report::{Owed, write_bid, write_foot, write_renewable, write_thermal};
+use report_form::report::{Owed, write_foot, write_unit};
 use report_form::settlement::write_priced;
 use uc_model::cases::Case;
 use uc_model::units::Response;
@@ -34,13 +34,8 @@ fn line_at(settled: &Settled, number: usize) -> Line<'_>
     requires earned { number < length (settled_of settled.now).earned }
     requires scheduled { number < length (settled_of settled.now).scheduled }
     requires payments { number < length (settled_of settled.now).payments }
-    ensures { (name : List ℕ) → record {
-      name = name;
-      earned = result.owed.earned;
-      scheduled = result.owed.scheduled;
-      payment = result.owed.payment;
-      response = schedule_of result.response.now;
-    } ≡ settled_line (settled_of settled.now) number name }
+    ensures { (name : List ℕ) → owed_line name result.owed (schedule_of result.response.now)
+        ≡ settled_line (settled_of settled.now) number name }
 {
     let owed = Owed {
         earned: *settled.earned.get(number),
@@ -49,66 +44,6 @@ fn line_at(settled: &Settled, number: usize) -> Line<'_>
     };
     let response = settled.responses.responses.get(number);
     Line { owed, response }
-}
-
-// Writes the lines of the thermal units.
-fn write_thermal_settled<S: Sink>(
-    case: &Case,
-    settled: &Settled,
-    out: &mut S,
-) -> Result<(), WriteFailed>
-    requires { HasEachUnit (market_of case.now) (settled_of settled.now) }
-    ensures { Writes S.held S.faults S.last out.old out.new result
-        (flat_map thermal_text (lines_from (settled_line (settled_of settled.now)) 0
-        (thermal_names (market_of case.now)))) }
-{
-    texts_add_up::<S>();
-    for (place, named) in case.thermal.as_slice().iter().enumerate() {
-        let line = line_at(settled, place);
-        write_thermal(named.name.as_str(), &line.owed, line.response, out)?;
-    }
-    Ok(())
-}
-
-// Writes the lines of the renewable units.
-fn write_renewable_settled<S: Sink>(
-    case: &Case,
-    settled: &Settled,
-    out: &mut S,
-) -> Result<(), WriteFailed>
-    requires { HasEachUnit (market_of case.now) (settled_of settled.now) }
-    ensures { Writes S.held S.faults S.last out.old out.new result
-        (flat_map renewable_text (lines_from (settled_line (settled_of settled.now))
-        (length (market_of case.now).thermal) (renewable_names (market_of case.now)))) }
-{
-    texts_add_up::<S>();
-    let first = case.thermal.len();
-    for (place, named) in case.flat.as_slice().iter().enumerate() {
-        let line = line_at(settled, first + place);
-        write_renewable(named.name.as_str(), &line.owed, line.response, out)?;
-    }
-    Ok(())
-}
-
-// Writes the lines of the bids.
-fn write_bids_settled<S: Sink>(
-    case: &Case,
-    settled: &Settled,
-    out: &mut S,
-) -> Result<(), WriteFailed>
-    requires { HasEachUnit (market_of case.now) (settled_of settled.now) }
-    ensures { Writes S.held S.faults S.last out.old out.new result
-        (flat_map bid_text (lines_from (settled_line (settled_of settled.now))
-        (length (market_of case.now).thermal + length (market_of case.now).flat)
-        (bid_names (market_of case.now)))) }
-{
-    texts_add_up::<S>();
-    let first = case.producer_count();
-    for (place, named) in case.bids.as_slice().iter().enumerate() {
-        let line = line_at(settled, first + place);
-        write_bid(named.name.as_str(), &line.owed, line.response, out)?;
-    }
-    Ok(())
 }
 
 // Writes the lines of all units and bids, in the order of their numbers.
@@ -129,9 +64,11 @@ fn write_all_settled<S: Sink>(
         ) }
 {
     texts_add_up::<S>();
-    write_thermal_settled(case, settled, out)?;
-    write_renewable_settled(case, settled, out)?;
-    write_bids_settled(case, settled, out)
+    for number in 0..case.unit_count() as usize {
+        let line = line_at(settled, number);
+        write_unit(case.unit_at(number), &line.owed, line.response, out)?;
+    }
+    Ok(())
 }
 
 /// Writes the lines of `hull settle` for a settlement of a plan that costs so much money: the

@@ -1,8 +1,9 @@
 -- The text of `hull price` (this project's profile).
 use Rattle.std.specs.Prelude.{ℕ, suc, ℤ, List, [], ◌∷◌, ◌++◌, length, codes}
 use Rattle.std.specs.List.{concat, flat_map}
-use Rattle.uc_model.specs.Data.{Schedule}
+use Rattle.uc_model.specs.Data.{AnyUnit, Thermal, Flat, Bid, Schedule}
 use Rattle.uc_model.specs.PriceRule.{Proposal}
+use Rattle.report_form.specs.declared.report.Owed.{Owed}
 use Rattle.report_form.specs.Numerals.{numeral, signed_numeral}
 use Rattle.report_form.specs.Parts.{spaced, spaced_counts, spaced_flags, quoted}
 
@@ -14,6 +15,16 @@ pub record UnitLine : Type 0 where
   pub scheduled : ℤ
   pub payment : ℤ
   pub response : Schedule
+
+-- the line of a unit of that name, with what it is owed
+abbrev pub owed_line : List ℕ → Owed → Schedule → UnitLine
+owed_line name o response = record {
+  name = name;
+  earned = o.earned;
+  scheduled = o.scheduled;
+  payment = o.payment;
+  response = response;
+}
 
 -- What a report tells. Proposals count from 1; `chosen` is the number of one of them and `value`
 -- its dual value.
@@ -80,6 +91,12 @@ renewable_text = flat_text (codes "unit renewable ")
 
 abbrev pub bid_text : UnitLine → List ℕ
 bid_text = flat_text (codes "unit bid ")
+
+-- the lines of a unit of any kind
+abbrev pub unit_text : AnyUnit → UnitLine → List ℕ
+unit_text (Thermal g) u = thermal_text u
+unit_text (Flat r) u = renewable_text u
+unit_text (Bid b) u = bid_text u
 
 unfoldable pub foot_text : ℤ → ℤ → ℤ → List ℕ
 foot_text surplus payments gap = concat (

@@ -2,15 +2,15 @@
 ghost use Rattle.std.specs.Prelude.{◌≤◌, length, map};
 ghost use Rattle.hull_io.specs.Edge.{Writes};
 ghost use Rattle.uc_model.specs.PlainUnits.{schedule_of};
-ghost use Rattle.uc_model.specs.PlainCases.{proposal_of};
+ghost use Rattle.uc_model.specs.PlainCases.{proposal_of, unit_of};
 ghost use Rattle.plain_lists.specs.declared.limits.TheConstants.{MOST_PROPOSALS};
 ghost use Rattle.report_form.specs.ReportText.{head_text, row_text, rows_text, chosen_text};
-ghost use Rattle.report_form.specs.ReportText.{thermal_text, flat_text, renewable_text, bid_text};
+ghost use Rattle.report_form.specs.ReportText.{thermal_text, flat_text, unit_text, owed_line};
 ghost use Rattle.report_form.specs.ReportText.{foot_text};
 
 use crate::parts::{Part, write_parts};
 use hull_io::{Sink, WriteFailed};
-use uc_model::cases::Row;
+use uc_model::cases::{NamedRef, Row, UnitRef};
 use uc_model::units::Response;
 
 /// What a report begins with: the number of periods and of units with bids, the budget and the
@@ -119,21 +119,16 @@ pub fn write_chosen<S: Sink>(number: u32, value: i128, out: &mut S) -> Result<()
     )
 }
 
-/// Writes the lines of a thermal unit.
+// Writes the lines of a thermal unit.
 #[tactic(auto, unfolding(crate::specs::ReportText::thermal_text))]
-pub fn write_thermal<'a, S: Sink>(
+fn write_thermal<'a, S: Sink>(
     name: &'a str,
     owed: &Owed,
     response: &'a Response,
     out: &mut S,
 ) -> Result<(), WriteFailed>
-    ensures { Writes S.held S.faults S.last out.old out.new result (thermal_text (record {
-      name = name.now;
-      earned = owed.now.earned;
-      scheduled = owed.now.scheduled;
-      payment = owed.now.payment;
-      response = schedule_of response.now;
-    })) }
+    ensures { Writes S.held S.faults S.last out.old out.new result
+        (thermal_text (owed_line name.now owed.now (schedule_of response.now))) }
 {
     let bytes = name.as_bytes();
     let earned = i128::from(owed.earned);
@@ -164,6 +159,8 @@ pub fn write_thermal<'a, S: Sink>(
     )
 }
 
+// Writes the lines of a unit that is always on and gives no reserve. `kind` is what they begin
+// with.
 #[tactic(auto, unfolding(crate::specs::ReportText::flat_text))]
 fn write_flat<'a, S: Sink>(
     kind: &'a [u8],
@@ -172,13 +169,8 @@ fn write_flat<'a, S: Sink>(
     response: &'a Response,
     out: &mut S,
 ) -> Result<(), WriteFailed>
-    ensures { Writes S.held S.faults S.last out.old out.new result (flat_text kind.now (record {
-      name = name.now;
-      earned = owed.now.earned;
-      scheduled = owed.now.scheduled;
-      payment = owed.now.payment;
-      response = schedule_of response.now;
-    })) }
+    ensures { Writes S.held S.faults S.last out.old out.new result
+        (flat_text kind.now (owed_line name.now owed.now (schedule_of response.now))) }
 {
     let bytes = name.as_bytes();
     let earned = i128::from(owed.earned);
@@ -203,40 +195,22 @@ fn write_flat<'a, S: Sink>(
     )
 }
 
-/// Writes the lines of a renewable unit.
-pub fn write_renewable<S: Sink>(
-    name: &str,
+/// Writes the lines of a unit or bid under its name.
+pub fn write_unit<S: Sink>(
+    named: NamedRef<'_>,
     owed: &Owed,
     response: &Response,
     out: &mut S,
 ) -> Result<(), WriteFailed>
-    ensures { Writes S.held S.faults S.last out.old out.new result (renewable_text (record {
-      name = name.now;
-      earned = owed.now.earned;
-      scheduled = owed.now.scheduled;
-      payment = owed.now.payment;
-      response = schedule_of response.now;
-    })) }
+    ensures { Writes S.held S.faults S.last out.old out.new result
+        (unit_text (unit_of named.entry.unit)
+        (owed_line named.entry.name.now owed.now (schedule_of response.now))) }
 {
-    write_flat(b"unit renewable ", name, owed, response, out)
-}
-
-/// Writes the lines of a bid.
-pub fn write_bid<S: Sink>(
-    name: &str,
-    owed: &Owed,
-    response: &Response,
-    out: &mut S,
-) -> Result<(), WriteFailed>
-    ensures { Writes S.held S.faults S.last out.old out.new result (bid_text (record {
-      name = name.now;
-      earned = owed.now.earned;
-      scheduled = owed.now.scheduled;
-      payment = owed.now.payment;
-      response = schedule_of response.now;
-    })) }
-{
-    write_flat(b"unit bid ", name, owed, response, out)
+    match named.unit {
+        UnitRef::Thermal(_) => write_thermal(named.name, owed, response, out),
+        UnitRef::Renewable(_) => { write_flat(b"unit renewable ", named.name, owed, response, out) }
+        UnitRef::Bid(_) => write_flat(b"unit bid ", named.name, owed, response, out),
+    }
 }
 
 /// Writes the lines behind the units: what the surplus reserve of the plan is worth, the sum of the

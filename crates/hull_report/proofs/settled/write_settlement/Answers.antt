@@ -1,4 +1,4 @@
-use Rattle.hull_report.proofs.Common.{◌-ℤ◌, subst, rules, w128, to_z-of_z, market_of, settled_of, FallsShort, Gains, Writes}
+use Rattle.hull_report.proofs.Common.{◌-ℤ◌, subst, rules, w128, to_z-of_z, market_of, settled_of, Writes}
 use Rattle.hull_report.proofs.Lemmas.{first_of_three, second_of_three, last_of_three, whole_settlement}
 use Rattle.hull_report.proofs.settled.write_settlement.Goals as goal
 
