@@ -248,9 +248,15 @@ deal() {
 
 # Waits for one of the crates at work. One that ends badly, most likely killed for memory, is tried once more at the end.
 await_one() {
-    local ended="" status crate
-    wait -n -p ended "${!crate_of[@]}"
+    local ended="" status crate processes=("${!crate_of[@]}")
+    wait -n -p ended "${processes[@]}"
     status=$?
+    # (where the shell can't say which one has ended, it waits for the first)
+    if [ -z "${ended-}" ]; then
+        ended=${processes[0]}
+        wait "$ended"
+        status=$?
+    fi
     crate=${crate_of[$ended]} busy=$((busy - share_of[$ended]))
     unset "crate_of[$ended]"
     if [ "$status" = 0 ]; then

@@ -83,6 +83,17 @@ class FirstUse(Repository):
         self.assertEqual(proved, due - {"hull_cli"})
         self.assertFalse({it for it in below if it.startswith("test_")} & due)
 
+    def test_it_goes_on_where_the_shell_cannot_say_which_prover_has_ended(self):
+        self.write("crates.txt", "low:\nbeside:\nhigh: low beside\nhull_cli: high\n")
+        self.write("crates/beside/src/lib.rt", "")
+        wait = {"BASH_FUNC_wait%%": '() { [ "$1" != -n ] || return 127; builtin wait "$@"; }'}
+        self.assertEqual(self.hull("src", **wait)[:2], (0, b"one\n"))
+        self.assertEqual(sorted(self.asked()), sorted(["library beside", *BUILT]))
+        self.write("crates/low/src/lib.rt", "two\n")
+        status, output, said = self.hull("src", FAILS="high", **wait)
+        self.assertEqual((status, output), (127, b""))
+        self.assertIn(b"no program: high failed", said)
+
     def test_it_goes_on_where_nobody_reads_what_it_says(self):
         for way in ("2>&-", "2>/dev/full", "2> >(exec 0<&-)"):
             with self.subTest(way):
