@@ -77,7 +77,7 @@ def followed_csv(data, name, periods):
     """Rows of unit, period from 1, on, power and reserve; the first row names the columns, in any order."""
     rows = csv.DictReader(io.StringIO(data.decode("utf-8-sig")))
     if not {"unit", "period", "power"} <= set(rows.fieldnames or ()):
-        raise Wrong(f"{name}: the first line has to name the columns unit, period, on, power, reserve")
+        raise Wrong(f"{name}: the first line has to name the columns unit, period, on, power, reserve, with commas between them")
     found = Followed()
     for line, row in enumerate(rows, 2):
         try:
