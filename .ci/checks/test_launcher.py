@@ -86,7 +86,7 @@ class FirstUse(Repository):
     def test_it_goes_on_where_the_shell_cannot_say_which_prover_has_ended(self):
         self.write("crates.txt", "low:\nbeside:\nhigh: low beside\nhull_cli: high\n")
         self.write("crates/beside/src/lib.rt", "")
-        wait = {"BASH_FUNC_wait%%": '() { [ "$1" != -n ] || return 127; builtin wait "$@"; }'}
+        wait = {"BASH_FUNC_wait%%": '() { [ "${1-}" != -n ] || return 127; builtin wait "$@"; }'}
         self.assertEqual(self.hull("src", **wait)[:2], (0, b"one\n"))
         self.assertEqual(sorted(self.asked()), sorted(["library beside", *BUILT]))
         self.write("crates/low/src/lib.rt", "two\n")

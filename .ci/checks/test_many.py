@@ -47,6 +47,7 @@ class Many(unittest.TestCase):
                 it.write(text)
             os.chmod(f"{self.room}/bin/{name}", 0o755)
         self.days = []
+        self.env = {"PATH": f"{self.room}/bin:/usr/bin:/bin", "SEEN": f"{self.room}/seen", "TMPDIR": self.room}
 
     def day(self, name, misfortune=None, example="usual"):
         """A day of the example, whose case has a note."""
@@ -75,8 +76,7 @@ class Many(unittest.TestCase):
 
     def begin(self, *words):
         self.own()
-        env = {"PATH": f"{self.room}/bin:/usr/bin:/bin", "SEEN": f"{self.room}/seen", "TMPDIR": self.room}
-        how = {"cwd": self.room, "env": env, "stdin": subprocess.DEVNULL, "start_new_session": True}
+        how = {"cwd": self.room, "env": self.env, "stdin": subprocess.DEVNULL, "start_new_session": True}
         return subprocess.Popen(["bin/many.sh", *words], stdout=subprocess.PIPE, stderr=subprocess.PIPE, **how, **NOBODY)
 
     def many(self, *words):
@@ -159,6 +159,13 @@ class Many(unittest.TestCase):
             self.assertEqual(set(it.read().split()), {"one", "two"})
         # (and so are its three folders alone left there)
         self.assertEqual(len([it for it in os.listdir(self.room) if it.startswith("tmp")]), 3)
+
+    def test_a_shell_that_cannot_say_which_day_has_ended(self):
+        self.env["BASH_FUNC_wait%%"] = '() { [ "${1-}" != -n ] || return 127; builtin wait "$@"; }'
+        for day in ("first", "second", "third", "fourth"):
+            self.day(day)
+        self.assertEqual(self.many("price", "-j", "2", "-p", f"{self.room}/bin/hull", *self.days), (0, {}, ""))
+        self.assertEqual(self.many("audit", "-j", "3", "-p", f"{self.room}/bin/hull", *self.days), (0, {}, ""))
 
     def test_a_host_that_is_not_reached(self):
         self.day("right")
