@@ -20,6 +20,7 @@ from .schedules import Plan
 PARTS = 10**12  # how fine the weights of a mixture are
 IDLE = 4  # after how many rounds far from use a column is dropped
 CLOSER = 20  # how much nearer to its optimum than the prices are to theirs each master problem is solved
+BEGIN = 0.03  # how far from its optimum each begins, as a share of the value: nearer than that it starts out crooked
 STALE = 20  # after how many rounds that bring it no nearer the search ends
 STEPS = (1.0, 0.5, 0.25, 0.1)  # which shares of the way from the best prices to the master's are tried
 OPENING = (500, 24)  # how many proposals of `hull price` are made for a start, and how many of them are settled
@@ -201,7 +202,8 @@ def convex_prices(case, starts, settle, certify, limits, tell):
         within = limits.within(search.payments)
         master = search.master()
         accuracy = max(within / 10, min(gap, 1e6) / CLOSER) / finer
-        state = master.solve(search.centre, accuracy, 10 * min(gap, 1e6))
+        wide = max(10 * min(gap, 1e6), BEGIN * abs(search.best_value) / 1e6)
+        state = master.solve(search.centre, accuracy, wide)
         if master.bound(state) < best[0]:
             best = master.bound(state), list(search.columns), state.share
         search.ask(*trials(search, state.price, gap < 5 * within))

@@ -5,11 +5,16 @@ to 1, with balance and reserve as rows. There are few rows beside those of the s
 stops in the middle of the optimal face and doesn't go to a corner, which makes its duals good next prices (Gondzio, Gonzalez-Brevis
 and Munari 2013). Powers are in megawatts, money in the currency.
 """
-from dataclasses import dataclass
+import os
+from concurrent.futures import ThreadPoolExecutor
+from dataclasses import dataclass, fields
 
 import numpy as np
 from scipy.linalg import LinAlgError, cho_factor, cho_solve
 
+PART = 250  # how many columns are taken together
+POOL = ThreadPoolExecutor(max(1, min(8, os.cpu_count() or 1)))
+CORRECTORS, LONGER = 3, 0.3  # how many more correctors a step may have, and how much longer each is to make it
 LIMIT = 10_000.0  # the greatest price per MW and period, in the currency
 
 
@@ -60,6 +65,11 @@ class State:
     above: np.ndarray
     below: np.ndarray
 
+    def moved(self, step, primal, dual):
+        """The iterate that is so far along a step."""
+        names = ((it.name, primal if it.name in ("share", "single", "room") else dual) for it in fields(self))
+        return State(*(getattr(self, name) + length * getattr(step, name) for name, length in names))
+
 
 class Master:
     """Least cost of the columns and singles so that rows sum to `due` and the shares of each unit to 1."""
@@ -68,6 +78,8 @@ class Master:
         self.columns, self.singles, self.due = columns, singles, due
         self.bounded = np.isfinite(singles.most)
         self.most = np.where(self.bounded, singles.most, 1.0)
+        count = len(columns.cost)
+        self.parts = [slice(at, at + PART) for at in range(0, count, PART)]
 
     def begin(self, price, gap):
         """A point inside all bounds at given prices, with all products alike, that is about so far from the optimum."""
@@ -82,9 +94,11 @@ class Master:
         left = s.cost - s.sign * price[s.row]
         # (single * above = room * below = aim, with above - below = left and single + room = most)
         half = 2.0 * aim / (left * self.most + 2.0 * aim + np.sqrt((left * self.most) ** 2 + 4.0 * aim**2))
-        single = np.where(self.bounded, self.most * half, aim / np.maximum(left, 1e-3))
+        # (where a price is 0, as of reserve, what has no limit would be without end: it begins below what is due)
+        free = np.maximum(left, aim / np.maximum(1.0, np.abs(self.due[s.row])))
+        single = np.where(self.bounded, self.most * half, aim / free)
         room = np.where(self.bounded, self.most - single, 1.0)
-        above = np.where(self.bounded, aim / single, np.maximum(left, 1e-3))
+        above = np.where(self.bounded, aim / single, free)
         below = np.where(self.bounded, aim / np.maximum(room, 1e-300), 0.0)
         return State(share, single, room, price.copy(), least - scale, over, above, below)
 
@@ -122,10 +136,20 @@ class Master:
         narrow = 1.0 / (it.above / it.single + np.where(self.bounded, it.below / it.room, 0.0))
         of_unit = c.per_unit(weight)
         mean = c.per_unit(c.gives * weight) / of_unit
-        centred = (c.gives - mean[:, c.owner]) * np.sqrt(weight)
-        matrix = centred @ centred.T
+        matrix = self.matrix_of(weight, mean)
         matrix[np.diag_indices(rows)] += np.bincount(s.row, narrow, rows) + 1e-12
         return weight, narrow, of_unit, mean, cho_factor(matrix, lower=True, check_finite=False)
+
+    def matrix_of(self, weight, mean):
+        """The sum over the columns of weight * (gives - mean) * (gives - mean)', some columns beside others: nearly all of the time
+        goes by here, and a plain BLAS uses one processor."""
+        c = self.columns
+
+        def of(some):
+            centred = (c.gives[:, some] - mean[:, c.owner[some]]) * np.sqrt(weight[some])
+            return centred @ centred.T
+
+        return sum(POOL.map(of, self.parts))
 
     def step(self, it, parts, lack, products):
         """The step that mends the residuals and brings the products to what is due."""
@@ -174,24 +198,35 @@ class Master:
             it = self.advance(it, parts, lack, gap / self.count())
         return it
 
+    def products(self, it):
+        return it.share * it.over, it.single * it.above, np.where(self.bounded, it.room * it.below, 0.0)
+
     def advance(self, it, parts, lack, mean):
-        """A predictor step, and the corrector that it calls for (Mehrotra 1992)."""
-        none = (-it.share * it.over, -it.single * it.above, -it.room * it.below)
-        first = self.step(it, parts, lack, none)
-        primal, dual = (min(1.0, at) for at in self.lengths(it, first))
-        share, single, room = it.share + primal * first.share, it.single + primal * first.single, it.room + primal * first.room
-        ahead = share @ (it.over + dual * first.over) + single @ (it.above + dual * first.above)
-        ahead += room @ (it.below + dual * first.below)
+        """The iterate after a predictor step, the corrector that it calls for (Mehrotra 1992), and more of these (Gondzio 1996): the
+        matrix takes far longer than what is done with it."""
+        first = self.step(it, parts, lack, [-at for at in self.products(it)])
+        ahead = sum(at.sum() for at in self.products(it.moved(first, *cut(self.lengths(it, first)))))
         aim = mean * min(1.0, max(1e-6, ahead / (mean * self.count()))) ** 3
-        products = (
-            aim - it.share * it.over - first.share * first.over,
-            aim - it.single * it.above - first.single * first.above,
-            np.where(self.bounded, aim - it.room * it.below - first.room * first.below, 0.0),
-        )
-        step = self.step(it, parts, lack, products)
-        primal, dual = (min(1.0, 0.95 * at) for at in self.lengths(it, step))
-        for name in ("share", "single", "room"):
-            setattr(it, name, getattr(it, name) + primal * getattr(step, name))
-        for name in ("price", "level", "over", "above", "below"):
-            setattr(it, name, getattr(it, name) + dual * getattr(step, name))
-        return it
+        due = [aim - now - by for now, by in zip(self.products(it), self.products(first))]
+        due[2] *= self.bounded
+        step = self.step(it, parts, lack, due)
+        lengths = cut(self.lengths(it, step))
+        for _ in range(CORRECTORS):
+            due = self.nearer_products(it, step, lengths, due, aim)
+            more = self.step(it, parts, lack, due)
+            longer = cut(self.lengths(it, more))
+            if sum(longer) < sum(lengths) + 0.1 * LONGER:
+                break
+            step, lengths = more, longer
+        return it.moved(step, *(min(1.0, 0.95 * at) for at in self.lengths(it, step)))
+
+    def nearer_products(self, it, step, lengths, due, aim):
+        """What is due of the products, so that a step that is longer than this one can go leaves none of them far from the aim."""
+        far = self.products(it.moved(step, *cut(at + LONGER for at in lengths)))
+        changed = [np.clip(at, 0.1 * aim, 10 * aim) - at for at in far]
+        changed[2] *= self.bounded
+        return [now + np.maximum(more, -10 * aim) for now, more in zip(due, changed)]
+
+
+def cut(lengths):
+    return [min(1.0, at) for at in lengths]
