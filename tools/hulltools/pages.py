@@ -220,8 +220,8 @@ def nearness(priced, certificate):
     gap = money(priced.gap)
     if certificate is None:
         return (
-            f"Payments and surplus are {gap} together. How much of that other prices could save isn't said by this text: "
-            "`tools/convex_prices.py` reckons it."
+            f"Payments and surplus are {gap} together. How much of that other prices could save isn't said by this text; hull certify "
+            "says it, from a mixture such as tools/convex_prices.py finds."
         )
     if (certificate.cost, certificate.value) != (priced.cost, priced.best.value):
         raise Wrong(f"{certificate.name}: this certificate is of other prices or of another schedule")

@@ -16,7 +16,7 @@ STYLE = "".join(
     " .list { display: grid; grid-template: 'name bar sum' / minmax(7rem, 16rem) 1fr 7rem; gap: .1rem .8rem; align-items: center; margin: .6rem 0; font-size: .9rem; overflow-wrap: normal; }"
     " .list span { grid-area: name; } .list .stack { grid-area: bar; } .list span.sum { grid-area: sum; text-align: right; font-variant-numeric: tabular-nums; }"
     " @media (max-width: 40rem) { .list { grid-template: 'name sum' 'bar bar' / 1fr auto; } }"
-    " i.least { border: 0; border-left: 3px solid var(--red); width: 0; height: .9rem; margin-bottom: 0; }"
+    " .key { display: inline-block; margin-right: .8rem; } i.least { border: 0; border-left: 3px solid var(--red); width: 0; height: .9rem; margin-bottom: 0; }"
 )
 
 
@@ -32,10 +32,15 @@ def sentence(study):
     )
 
 
+def keys_of(keys):
+    """Keys of a picture, none of them parted from its mark by the end of a line."""
+    return " ".join(f'<span class="key">{it}</span>' for it in keys)
+
+
 def price_part(study, key, title):
     rows = [(name, [at / 1e3 for at in getattr(it.best, key)]) for name, it in study.settlements.items()]
     periods = next(iter(study.settlements.values())).periods
-    keys = " ".join(f'<i class="{name}"></i>{html.escape(LISTS[name])}' for name, _ in rows)
+    keys = keys_of(f'<i class="{name}"></i>{html.escape(LISTS[name])}' for name, _ in rows)
     return f"<h2>{title}</h2><p>{keys}</p>{steps_chart(title, rows, periods)}"
 
 
@@ -50,9 +55,9 @@ def uplift_part(study):
         least = f'<u style="left:{width(study.certificate.least)}"></u>' if study.certificate else ""
         told = f'<span>{html.escape(LISTS[name])}</span><div class="stack">{bars}{least}</div>'
         rows.append(f'<div class="list">{told}<span class="sum">{money(it.gap)}</span></div>')
-    keys = '<i class="box loss"></i>make-whole <i class="box"></i>lost opportunity <i class="box surplus"></i>surplus reserve\'s value'
-    keys += ' <i class="least"></i>certified least' if study.certificate else ""
-    return f'<h2>Payments and surplus</h2><p>{keys}</p>{"".join(rows)}'
+    keys = ['<i class="box loss"></i>make-whole', '<i class="box"></i>lost opportunity']
+    keys += ['<i class="box surplus"></i>surplus reserve\'s value'] + ['<i class="least"></i>certified least'] * bool(study.certificate)
+    return f'<h2>Payments and surplus</h2><p>{keys_of(keys)}</p>{"".join(rows)}'
 
 
 COST_HEADS = ("*Prices", "Cost", "Dual value", "Make-whole", "Lost opportunity", "Surplus", "Above the least", "Seconds")
