@@ -27,10 +27,10 @@ IsOwner s = s.view.caller ≡ 0
 
 -- what holds of every seat between two calls: it has no ticket and no board in hand, its numbers
 -- are those of what it knows, and it has seen a legal history
-pub record IsSeat (caller made place : ℕ) (me : Mine) : Type 0 where
+pub record IsSeat (caller made id : ℕ) (me : Mine) : Type 0 where
   pub at_rest : me.0.stage ≡ idle
   pub no_board : me.1 ≡ []
   pub of_caller : me.0.caller ≡ caller
   pub in_range : caller < me.0.setup.callers
-  pub of_owner : caller ≡ 0 → (place ≡ 0) × (me.0.made ≡ made) × (0 < made)
+  pub of_owner : caller ≡ 0 → (id ≡ 0) × (me.0.made ≡ made) × (0 < made)
   pub legal : IsLegalHistory me.0.setup me.0.seen

@@ -56,12 +56,12 @@ impl SharedBoard {
         let mut slots = Vec::with_capacity(alloc, 1)?;
         slots.push_reserved(board);
         match Table::new(alloc, &words, slots, &about) {
-            Ok((table, place)) => {
+            Ok((table, at_table)) => {
                 let shared = SharedBoard { table, callers };
                 let seat = Seat {
                     caller: 0,
                     made: 1,
-                    place,
+                    at_table,
                 };
                 Ok((shared, seat))
             }
@@ -81,9 +81,9 @@ impl SharedBoard {
         let Seat {
             caller: _,
             made: _,
-            place,
+            at_table,
         } = seat;
-        let mut closed = table.close_with(place);
+        let mut closed = table.close_with(at_table);
         let board = closed.take(0);
         closed.free();
         board.close()
@@ -108,7 +108,7 @@ impl SharedBoard {
         ensures legal { IsLegalHistory (view_of seat.new).setup (view_of seat.new).seen }
         ensures room { IsTaskFor (view_of seat.new).setup.market.periods into.new }
     {
-        self.claim_at(rt, &mut seat.place, seat.caller, into)
+        self.claim_at(rt, &mut seat.at_table, seat.caller, into)
     }
 
     /// Posts an answer for a task as the seat's caller, with the answers of `Board::post`: the
@@ -135,7 +135,7 @@ impl SharedBoard {
             (task_unit task.now) (answer_of answer.now))) }
         ensures legal { IsLegalHistory (view_of seat.new).setup (view_of seat.new).seen }
     {
-        self.post_at(rt, &mut seat.place, seat.caller, task, answer)
+        self.post_at(rt, &mut seat.at_table, seat.caller, task, answer)
     }
 
     /// Halts the seat's caller, as `Board::halt` does. The call waits for its turn, and the seat
@@ -148,7 +148,7 @@ impl SharedBoard {
             (view_of seat.old) (view_of seat.new) }
         ensures legal { IsLegalHistory (view_of seat.new).setup (view_of seat.new).seen }
     {
-        self.halt_at(rt, &mut seat.place, seat.caller);
+        self.halt_at(rt, &mut seat.at_table, seat.caller);
     }
 
     /// The next caller's seat, which has seen what the owner's has; none where as many seats were
@@ -168,12 +168,12 @@ impl SharedBoard {
             return None;
         }
         let caller = seat.made;
-        let place = self.table.shared.split_seat::<Cut>(&mut seat.place);
+        let at_table = self.table.shared.split_seat::<Cut>(&mut seat.at_table);
         seat.made = caller + 1;
         Some(Seat {
             caller,
             made: 0,
-            place,
+            at_table,
         })
     }
 
@@ -195,8 +195,8 @@ impl SharedBoard {
         let Seat {
             caller: _,
             made: _,
-            place,
+            at_table,
         } = other;
-        self.join_at(&mut seat.place, place);
+        self.join_at(&mut seat.at_table, at_table);
     }
 }

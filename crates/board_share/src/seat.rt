@@ -1,5 +1,5 @@
 //! What one caller of the shared board has.
-use crate::table::Place;
+use crate::table::TableSeat;
 use std::marker::Model;
 
 /// One caller's seat at a shared board. Contracts see it as the board that it is of and what it
@@ -10,7 +10,7 @@ use std::marker::Model;
 pub struct Seat {
     pub(crate) caller: u32,
     pub(crate) made: u32,
-    pub(crate) place: Place,
+    pub(crate) at_table: TableSeat,
 }
 
 impl Model for Seat {
@@ -18,7 +18,7 @@ impl Model for Seat {
 
     ghost Value = { SeatValue };
 
-    ghost view = { λ s. record { board = s.place.table_id; view = s.place.me.0 } };
+    ghost view = { λ s. record { board = s.at_table.table_id; view = s.at_table.me.0 } };
 
-    ghost invariant = { λ s. IsSeat s.caller s.made s.place.id s.place.me };
+    ghost invariant = { λ s. IsSeat s.caller s.made s.at_table.id s.at_table.me };
 }

@@ -16,7 +16,7 @@ ghost use Rattle.board_share.specs.Tells.{HasTaken, Follows, hand_history, Calle
 ghost use Rattle.board_share.specs.Views.{waits, turn, idle, at_stage, glued};
 
 use crate::plays::{Draw, Glue, Grow, Look, Pass, Told};
-use crate::table::{Place, Top};
+use crate::table::{TableSeat, Top};
 use board_core::{Claim, Posted};
 use std::sync::Wait;
 use std::thread;
@@ -38,26 +38,26 @@ pub struct SharedBoard {
 }
 
 impl SharedBoard {
-    fn draw(&self, place: &mut Place) -> u64
-        requires own { place.old.table_id ≡ self.now.table.shared.table_id }
-        requires ready { place.old.me.0.stage ≡ idle }
-        ensures same { (place.new.table_id ≡ place.old.table_id) × (place.new.id ≡ place.old.id)
-            × (place.new.me.1 ≡ place.old.me.1) }
+    fn draw(&self, seat: &mut TableSeat) -> u64
+        requires own { seat.old.table_id ≡ self.now.table.shared.table_id }
+        requires ready { seat.old.me.0.stage ≡ idle }
+        ensures same { (seat.new.table_id ≡ seat.old.table_id) × (seat.new.id ≡ seat.old.id)
+            × (seat.new.me.1 ≡ seat.old.me.1) }
         ensures drawn { (t : ℕ) × (result ≡ t % 2 ^ 64)
-            × (place.new.me.0 ≡ at_stage place.old.me.0 (waits t)) }
+            × (seat.new.me.0 ≡ at_stage seat.old.me.0 (waits t)) }
     {
-        self.table.shared.fetch_add::<Draw>(place, NEXT, 1)
+        self.table.shared.fetch_add::<Draw>(seat, NEXT, 1)
     }
 
-    fn take_turn<R: Wait>(&self, rt: &R, place: &mut Place, ticket: u64)
-        requires own { place.old.table_id ≡ self.now.table.shared.table_id }
-        requires ready { (place.old.me.1 ≡ [])
-            × ((t : ℕ) × (place.old.me.0.stage ≡ waits t) × (ticket ≡ t % 2 ^ 64)) }
-        ensures same { (place.new.table_id ≡ place.old.table_id) × (place.new.id ≡ place.old.id) }
-        ensures taken { (b : Content) × HasTaken place.old.me place.new.me b }
+    fn take_turn<R: Wait>(&self, rt: &R, seat: &mut TableSeat, ticket: u64)
+        requires own { seat.old.table_id ≡ self.now.table.shared.table_id }
+        requires ready { (seat.old.me.1 ≡ [])
+            × ((t : ℕ) × (seat.old.me.0.stage ≡ waits t) × (ticket ≡ t % 2 ^ 64)) }
+        ensures same { (seat.new.table_id ≡ seat.old.table_id) × (seat.new.id ≡ seat.old.id) }
+        ensures taken { (b : Content) × HasTaken seat.old.me seat.new.me b }
     {
         for _ in rt.forever() {
-            if self.table.shared.load::<Look>(place, SERVING) == ticket {
+            if self.table.shared.load::<Look>(seat, SERVING) == ticket {
                 return;
             }
             thread::yield_now();
@@ -67,138 +67,138 @@ impl SharedBoard {
 
     // Gives the board back, where `before` was the length of its history and `after` is what it is
     // now.
-    fn finish(&self, place: &mut Place, before: usize, after: usize)
-        requires own { place.old.table_id ≡ self.now.table.shared.table_id }
-        requires turn { (t : ℕ) × (place.old.me.0.stage ≡ turn t) }
-        requires hand { (b : Content) × (place.old.me.1 ≡ (0, b) ∷ [])
-            × Follows place.old.me.0.caller place.old.me.0.seen b.events × (after ≡ length b.events)
-            × (b.setup ≡ place.old.me.0.setup) }
-        requires before { before ≡ length place.old.me.0.seen }
-        ensures same { (place.new.table_id ≡ place.old.table_id) × (place.new.id ≡ place.old.id) }
-        ensures given { place.new.me
-            ≡ (record place.old.me.0 { seen = hand_history place.old.me.1; stage = idle }, []) }
+    fn finish(&self, seat: &mut TableSeat, before: usize, after: usize)
+        requires own { seat.old.table_id ≡ self.now.table.shared.table_id }
+        requires turn { (t : ℕ) × (seat.old.me.0.stage ≡ turn t) }
+        requires hand { (b : Content) × (seat.old.me.1 ≡ (0, b) ∷ [])
+            × Follows seat.old.me.0.caller seat.old.me.0.seen b.events × (after ≡ length b.events)
+            × (b.setup ≡ seat.old.me.0.setup) }
+        requires before { before ≡ length seat.old.me.0.seen }
+        ensures same { (seat.new.table_id ≡ seat.old.table_id) × (seat.new.id ≡ seat.old.id) }
+        ensures given { seat.new.me
+            ≡ (record seat.old.me.0 { seen = hand_history seat.old.me.1; stage = idle }, []) }
     {
-        self.note(place, before, after);
-        self.table.shared.fetch_add::<Pass>(place, SERVING, 1);
+        self.note(seat, before, after);
+        self.table.shared.fetch_add::<Pass>(seat, SERVING, 1);
     }
 
     // Sets the length where an event was made.
-    fn note(&self, place: &mut Place, before: usize, after: usize)
-        requires own { place.old.table_id ≡ self.now.table.shared.table_id }
-        requires turn { (t : ℕ) × (place.old.me.0.stage ≡ turn t) }
-        requires hand { (b : Content) × (place.old.me.1 ≡ (0, b) ∷ [])
-            × Follows place.old.me.0.caller place.old.me.0.seen b.events
+    fn note(&self, seat: &mut TableSeat, before: usize, after: usize)
+        requires own { seat.old.table_id ≡ self.now.table.shared.table_id }
+        requires turn { (t : ℕ) × (seat.old.me.0.stage ≡ turn t) }
+        requires hand { (b : Content) × (seat.old.me.1 ≡ (0, b) ∷ [])
+            × Follows seat.old.me.0.caller seat.old.me.0.seen b.events
             × (after ≡ length b.events) }
-        requires before { before ≡ length place.old.me.0.seen }
-        ensures same { (place.new.table_id ≡ place.old.table_id) × (place.new.id ≡ place.old.id) }
-        ensures noted { place.new.me
-            ≡ (record place.old.me.0 { seen = hand_history place.old.me.1 }, place.old.me.1) }
+        requires before { before ≡ length seat.old.me.0.seen }
+        ensures same { (seat.new.table_id ≡ seat.old.table_id) × (seat.new.id ≡ seat.old.id) }
+        ensures noted { seat.new.me
+            ≡ (record seat.old.me.0 { seen = hand_history seat.old.me.1 }, seat.old.me.1) }
     {
         if after != before {
-            self.table.shared.store::<Grow>(place, LENGTH, after as u64);
+            self.table.shared.store::<Grow>(seat, LENGTH, after as u64);
         }
     }
 
     pub(crate) fn claim_at<R: Wait>(
         &self,
         rt: &R,
-        place: &mut Place,
+        seat: &mut TableSeat,
         caller: u32,
         into: &mut Task,
     ) -> Claim
-        requires own { place.old.table_id ≡ self.now.table.shared.table_id }
-        requires ready { (place.old.me.0.stage ≡ idle) × (place.old.me.1 ≡ [])
-            × (place.old.me.0.caller ≡ caller) }
-        requires caller { caller < place.old.me.0.setup.callers }
-        requires room { IsTaskFor place.old.me.0.setup.market.periods into.old }
-        ensures same { (place.new.table_id ≡ place.old.table_id) × (place.new.id ≡ place.old.id)
-            × (place.new.me.1 ≡ []) }
+        requires own { seat.old.table_id ≡ self.now.table.shared.table_id }
+        requires ready { (seat.old.me.0.stage ≡ idle) × (seat.old.me.1 ≡ [])
+            × (seat.old.me.0.caller ≡ caller) }
+        requires caller { caller < seat.old.me.0.setup.callers }
+        requires room { IsTaskFor seat.old.me.0.setup.market.periods into.old }
+        ensures same { (seat.new.table_id ≡ seat.old.table_id) × (seat.new.id ≡ seat.old.id)
+            × (seat.new.me.1 ≡ []) }
         ensures called { Called (λ b. (result ≡ claim_of (claim_answer b))
             × LeavesTask b (claim_answer b) into.old into.new) (λ b. after_claim b caller)
-            place.old.me.0 place.new.me.0 }
-        ensures room { IsTaskFor place.old.me.0.setup.market.periods into.new }
-        ensures legal { IsLegalHistory place.new.me.0.setup place.new.me.0.seen }
+            seat.old.me.0 seat.new.me.0 }
+        ensures room { IsTaskFor seat.old.me.0.setup.market.periods into.new }
+        ensures legal { IsLegalHistory seat.new.me.0.setup seat.new.me.0.seen }
     {
-        let ticket = self.draw(place);
-        self.take_turn(rt, place, ticket);
-        let board = place.slot_mut(&self.table.shared, 0);
+        let ticket = self.draw(seat);
+        self.take_turn(rt, seat, ticket);
+        let board = seat.slot_mut(&self.table.shared, 0);
         let before = board.history().len();
         let answer = board.claim(caller, into);
         let after = board.history().len();
-        self.finish(place, before, after);
+        self.finish(seat, before, after);
         answer
     }
 
     pub(crate) fn post_at<R: Wait>(
         &self,
         rt: &R,
-        place: &mut Place,
+        seat: &mut TableSeat,
         caller: u32,
         task: &Task,
         answer: &Answered,
     ) -> Posted
-        requires own { place.old.table_id ≡ self.now.table.shared.table_id }
-        requires ready { (place.old.me.0.stage ≡ idle) × (place.old.me.1 ≡ [])
-            × (place.old.me.0.caller ≡ caller) }
-        requires caller { caller < place.old.me.0.setup.callers }
+        requires own { seat.old.table_id ≡ self.now.table.shared.table_id }
+        requires ready { (seat.old.me.0.stage ≡ idle) × (seat.old.me.1 ≡ [])
+            × (seat.old.me.0.caller ≡ caller) }
+        requires caller { caller < seat.old.me.0.setup.callers }
         requires fit { Fits (task_unit task.now) (prices_of task.now.prices)
             (schedule_of answer.now.response) }
         requires earned { earnings (task_unit task.now) (prices_of task.now.prices)
             (schedule_of answer.now.response) ≡ answer.now.earned }
-        ensures same { (place.new.table_id ≡ place.old.table_id) × (place.new.id ≡ place.old.id)
-            × (place.new.me.1 ≡ []) }
+        ensures same { (seat.new.table_id ≡ seat.old.table_id) × (seat.new.id ≡ seat.old.id)
+            × (seat.new.me.1 ≡ []) }
         ensures called { Called (λ b. result ≡ posted_of
             (post_answer b caller task.now.proposal task.now.unit (prices_of task.now.prices)
             (task_unit task.now) (answer_of answer.now)))
             (λ b. after_post b caller task.now.proposal task.now.unit (prices_of task.now.prices)
-            (task_unit task.now) (answer_of answer.now)) place.old.me.0 place.new.me.0 }
-        ensures legal { IsLegalHistory place.new.me.0.setup place.new.me.0.seen }
+            (task_unit task.now) (answer_of answer.now)) seat.old.me.0 seat.new.me.0 }
+        ensures legal { IsLegalHistory seat.new.me.0.setup seat.new.me.0.seen }
     {
-        let ticket = self.draw(place);
-        self.take_turn(rt, place, ticket);
-        let board = place.slot_mut(&self.table.shared, 0);
+        let ticket = self.draw(seat);
+        self.take_turn(rt, seat, ticket);
+        let board = seat.slot_mut(&self.table.shared, 0);
         let before = board.history().len();
         let posted = board.post(caller, task, answer);
         let after = board.history().len();
-        self.finish(place, before, after);
+        self.finish(seat, before, after);
         posted
     }
 
-    pub(crate) fn halt_at<R: Wait>(&self, rt: &R, place: &mut Place, caller: u32)
-        requires own { place.old.table_id ≡ self.now.table.shared.table_id }
-        requires ready { (place.old.me.0.stage ≡ idle) × (place.old.me.1 ≡ [])
-            × (place.old.me.0.caller ≡ caller) }
-        requires caller { caller < place.old.me.0.setup.callers }
-        ensures same { (place.new.table_id ≡ place.old.table_id) × (place.new.id ≡ place.old.id)
-            × (place.new.me.1 ≡ []) }
-        ensures called { Called (λ b. Unit {0}) (λ b. after_halt b caller) place.old.me.0
-            place.new.me.0 }
-        ensures legal { IsLegalHistory place.new.me.0.setup place.new.me.0.seen }
+    pub(crate) fn halt_at<R: Wait>(&self, rt: &R, seat: &mut TableSeat, caller: u32)
+        requires own { seat.old.table_id ≡ self.now.table.shared.table_id }
+        requires ready { (seat.old.me.0.stage ≡ idle) × (seat.old.me.1 ≡ [])
+            × (seat.old.me.0.caller ≡ caller) }
+        requires caller { caller < seat.old.me.0.setup.callers }
+        ensures same { (seat.new.table_id ≡ seat.old.table_id) × (seat.new.id ≡ seat.old.id)
+            × (seat.new.me.1 ≡ []) }
+        ensures called { Called (λ b. Unit {0}) (λ b. after_halt b caller) seat.old.me.0
+            seat.new.me.0 }
+        ensures legal { IsLegalHistory seat.new.me.0.setup seat.new.me.0.seen }
     {
-        let ticket = self.draw(place);
-        self.take_turn(rt, place, ticket);
-        let board = place.slot_mut(&self.table.shared, 0);
+        let ticket = self.draw(seat);
+        self.take_turn(rt, seat, ticket);
+        let board = seat.slot_mut(&self.table.shared, 0);
         let before = board.history().len();
         board.halt(caller);
         let after = board.history().len();
-        self.finish(place, before, after);
+        self.finish(seat, before, after);
     }
 
     // The two read word 0 twice: a join tells nothing, and the second read tells what it came to.
-    pub(crate) fn join_at(&self, place: &mut Place, other: Place)
-        requires own { (place.old.table_id ≡ self.now.table.shared.table_id)
-            × (other.table_id ≡ self.now.table.shared.table_id) × (place.old.id ≡ 0) }
-        requires ready { (place.old.me.0.stage ≡ idle) × (other.me.0.stage ≡ idle)
+    pub(crate) fn join_at(&self, seat: &mut TableSeat, other: TableSeat)
+        requires own { (seat.old.table_id ≡ self.now.table.shared.table_id)
+            × (other.table_id ≡ self.now.table.shared.table_id) × (seat.old.id ≡ 0) }
+        requires ready { (seat.old.me.0.stage ≡ idle) × (other.me.0.stage ≡ idle)
             × (other.me.1 ≡ []) }
-        ensures same { (place.new.table_id ≡ place.old.table_id) × (place.new.id ≡ place.old.id)
-            × (place.new.me.1 ≡ place.old.me.1) }
-        ensures glued { place.new.me.0 ≡ at_stage (glued place.old.me.0 other.me.0) idle }
-        ensures joined { Joined (glued place.old.me.0 other.me.0)
-            (glued place.old.me.0 other.me.0).stage }
-        ensures made { OnlyMade (glued place.old.me.0 other.me.0)
-            (glued place.old.me.0 other.me.0).seen }
+        ensures same { (seat.new.table_id ≡ seat.old.table_id) × (seat.new.id ≡ seat.old.id)
+            × (seat.new.me.1 ≡ seat.old.me.1) }
+        ensures glued { seat.new.me.0 ≡ at_stage (glued seat.old.me.0 other.me.0) idle }
+        ensures joined { Joined (glued seat.old.me.0 other.me.0)
+            (glued seat.old.me.0 other.me.0).stage }
+        ensures made { OnlyMade (glued seat.old.me.0 other.me.0)
+            (glued seat.old.me.0 other.me.0).seen }
     {
-        self.table.shared.join_seat::<Glue>(place, other);
-        self.table.shared.load::<Told>(place, LENGTH);
+        self.table.shared.join_seat::<Glue>(seat, other);
+        self.table.shared.load::<Told>(seat, LENGTH);
     }
 }

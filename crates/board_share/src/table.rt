@@ -26,6 +26,7 @@ impl TableRule<Board, Sight, Snapshot<Board>> for Turns {
     ghost first = { λ key. first_view key.value };
 }
 
-pub type Place = atomic_table::Seat<Board, Sight>;
+/// The seat of a table that a caller's seat has.
+pub type TableSeat = atomic_table::Seat<Board, Sight>;
 
 pub type Top = atomic_table::Table<Board, Sight, Snapshot<Board>, Turns, std::alloc::Global>;

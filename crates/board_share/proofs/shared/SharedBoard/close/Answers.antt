@@ -6,7 +6,7 @@ use Rattle.board_share.proofs.shared.SharedBoard.close.Goals.{After-close}
 closed_as : (c : After-close) → c.close.result ≡ content c.args.seat.view.setup c.args.seat.view.seen
 closed_as c =
     let s = c.seat in
-    let v = s.inside.place.me.0 in
+    let v = s.inside.at_table.me.0 in
     let who : v.caller ≡ 0 = ap (λ (x : SeatValue). x.view.caller) s.view_is ∙ c.requires.own.1 in
     let alone : length v.out ≡ 1 = ap (λ (x : SeatValue). length x.view.out) s.view_is ∙ c.requires.alone in
     let e = ends_with _ _ _ _ _ c.close_with-closed.ensures.values.2 (s.invariant.of_owner (sym s.invariant.of_caller ∙ who)).0 s.invariant.at_rest alone in
