@@ -22,6 +22,7 @@ use Rattle.plan_check.specs.declared.RuleFault.{RuleFault}
 use Rattle.hull_report.specs.declared.fault.FileKind.{FileKind}
 use Rattle.hull_report.specs.declared.fault.FileKind.TheVariants.{CaseFile, ScheduleFile}
 use Rattle.hull_report.specs.declared.fault.FileKind.TheVariants.{ReportFile, PricesFile}
+use Rattle.hull_report.specs.declared.fault.ReportCode.TheVariants.{OutOfForm, Wrong}
 use Rattle.hull_report.specs.declared.fault.TopFault.{TopFault}
 use Rattle.hull_report.specs.declared.fault.TopFault.TheVariants.{Read, CaseText, CaseField}
 use Rattle.hull_report.specs.declared.fault.TopFault.TheVariants.{PlanText, PlanShape, PlanRule}
@@ -138,7 +139,7 @@ IsWithinWork proposals c due = due ≡ within_work proposals c
 -- which they go on as none does
 abbrev pub IsReportIn : List ℕ → Result Report TopFault → Type 0
 IsReportIn bytes (Ok r) = IsReport r × (bytes ≡ report_text r)
-IsReportIn bytes (Err f) = (line : ℕ) × IsFault bytes line × (f ≡ Unfit 60 line)
+IsReportIn bytes (Err f) = (line : ℕ) × IsFault bytes line × (f ≡ Unfit OutOfForm line)
 
 -- the report of its file
 abbrev pub IsReportFile : Option (List ℕ) → Result Report TopFault → Type 0
@@ -151,7 +152,7 @@ IsJudged r c (Ok left) =
     IsRightReport c.market c.plan r.budget r.ahead r × (left ≡ c)
 IsJudged r c (Err f) =
     (line : ℕ) × (IsRightReport c.market c.plan r.budget r.ahead r → ⊥)
-    × DiffersFromRight c.market c.plan r line × (f ≡ Unfit 61 line)
+    × DiffersFromRight c.market c.plan r line × (f ≡ Unfit Wrong line)
 
 -- THE AUDIT of an input: the report of its file, then the limit of work for that report's budget,
 -- then whether it is right

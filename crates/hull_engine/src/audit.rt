@@ -12,7 +12,7 @@ ghost use Rattle.hull_engine.specs.Steps.{IsJudged};
 use crate::settle::bench_for;
 use audit_check::{Audit, check_report};
 use board_run::{RunInput, unit_count};
-use hull_report::TopFault;
+use hull_report::{ReportCode, TopFault};
 use report_read::Report;
 use slope_list::Slopes;
 use std::alloc::{AllocError, Global};
@@ -20,9 +20,6 @@ use std::sync::Wait;
 use std::thread::Threads;
 use uc_model::cases::Case;
 use unit_program::Bench;
-
-/// The code of a report that isn't right.
-const WRONG: u32 = 61;
 
 /// The units and periods of a proposal, multiplied, that are worth a job: to start a thread takes
 /// about as long.
@@ -74,7 +71,10 @@ pub fn right_proposals<R: Threads + Wait + Sync>(
     };
     match check_report(rt, alloc, case, &input.plan, input.cost, report, benches) {
         Ok(Audit::Right) => Ok(report.rows.len() as u32),
-        Ok(Audit::Wrong { line }) => Err(TopFault::Report { code: WRONG, line }),
+        Ok(Audit::Wrong { line }) => {
+            let code = ReportCode::Wrong;
+            Err(TopFault::Report { code, line })
+        }
         Err(AllocError) => Err(TopFault::Memory),
     }
 }

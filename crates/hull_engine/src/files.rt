@@ -19,7 +19,7 @@ ghost use Rattle.board_run.specs.Inputs.{planned_of, IsPlanned};
 
 use board_run::Input;
 use hull_io::{ReadFault, Shelf, read_whole};
-use hull_report::{FileKind, TopFault};
+use hull_report::{FileKind, ReportCode, TopFault};
 use plain_lists::limits::MOST_BYTES;
 use plan_check::check_plan;
 use plan_check::laws::refusals_are_exact;
@@ -33,9 +33,6 @@ use uc_plan::fault::PlanFault;
 use uc_plan::read_plan;
 use uc_prices::fault::PricesFault;
 use uc_prices::read_prices;
-
-/// The code of a report that isn't in form.
-const OUT_OF_FORM: u32 = 60;
 
 /// The bytes of a file.
 fn read_bytes<F: Shelf>(
@@ -206,7 +203,7 @@ fn report_in(alloc: Global, bytes: &[u8]) -> Result<Report, TopFault>
     match read_report(alloc, bytes) {
         Ok(report) => Ok(report),
         Err(ReportError::Fault { line }) => Err(TopFault::Report {
-            code: OUT_OF_FORM,
+            code: ReportCode::OutOfForm,
             line,
         }),
         Err(ReportError::Memory) => Err(TopFault::Memory),

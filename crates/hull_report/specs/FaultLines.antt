@@ -17,9 +17,10 @@ use Rattle.report_form.specs.Numerals.{numeral, signed_numeral}
 use Rattle.hull_report.specs.declared.fault.FileKind.{FileKind}
 use Rattle.hull_report.specs.declared.fault.FileKind.TheVariants.{CaseFile, ScheduleFile}
 use Rattle.hull_report.specs.declared.fault.FileKind.TheVariants.{PricesFile}
+use Rattle.hull_report.specs.declared.fault.ReportCode.{ReportCode}
 use Rattle.hull_report.specs.declared.fault.TopFault.{TopFault}
 use Rattle.hull_report.specs.declared.fault.TopFault.TheVariants as faults
-use Rattle.hull_report.specs.Words.{kind_word, file_word, file_status}
+use Rattle.hull_report.specs.Words.{kind_word, file_word, file_status, report_number}
 
 -- the status that a run with this fault answers, and that its line begins with
 abbrev pub status_of : TopFault → ℕ
@@ -77,8 +78,9 @@ work_told proposals units periods = concat (
     codes "work " ∷ numeral proposals ∷ codes " " ∷ numeral units ∷ codes " " ∷ numeral periods
     ∷ [])
 
-unfoldable pub report_told : (code line : ℕ) → List ℕ
-report_told code line = concat (codes "report " ∷ numeral code ∷ codes " at " ∷ numeral line ∷ [])
+unfoldable pub report_told : (code : ReportCode) (line : ℕ) → List ℕ
+report_told code line = concat (
+    codes "report " ∷ numeral (report_number code) ∷ codes " at " ∷ numeral line ∷ [])
 
 unfoldable pub price_told : PriceFault → List ℕ
 price_told f = concat (

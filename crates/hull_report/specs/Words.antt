@@ -5,6 +5,8 @@ use Rattle.uc_model.specs.declared.kinds.Kind.TheVariants as kinds
 use Rattle.hull_report.specs.declared.fault.FileKind.{FileKind}
 use Rattle.hull_report.specs.declared.fault.FileKind.TheVariants.{CaseFile, ScheduleFile}
 use Rattle.hull_report.specs.declared.fault.FileKind.TheVariants.{ReportFile, PricesFile}
+use Rattle.hull_report.specs.declared.fault.ReportCode.{ReportCode}
+use Rattle.hull_report.specs.declared.fault.ReportCode.TheVariants.{OutOfForm, Wrong}
 
 abbrev pub kind_word : Kind → List ℕ
 kind_word kinds.Case = codes "case"
@@ -24,3 +26,8 @@ file_status CaseFile = 3
 file_status ScheduleFile = 4
 file_status ReportFile = 8
 file_status PricesFile = 9
+
+-- the number that stands for what is wrong with a report
+abbrev pub report_number : ReportCode → ℕ
+report_number OutOfForm = 60
+report_number Wrong = 61

@@ -1,7 +1,7 @@
 //! The line of a fault.
 ghost use Rattle.std.specs.Prelude.{◌≡◌};
 ghost use Rattle.hull_io.specs.Edge.{Writes};
-ghost use Rattle.hull_report.specs.Words.{kind_word, file_word, file_status};
+ghost use Rattle.hull_report.specs.Words.{kind_word, file_word, file_status, report_number};
 ghost use Rattle.hull_report.specs.FaultLines.{status_of, words_told, read_told, text_told};
 ghost use Rattle.hull_report.specs.FaultLines.{field_told, shape_told, rule_told, too_big_told};
 ghost use Rattle.hull_report.specs.FaultLines.{work_told, report_told, status_told, fault_told};
@@ -27,6 +27,27 @@ pub enum FileKind {
     ScheduleFile,
     ReportFile,
     PricesFile,
+}
+
+/// What is wrong with a report.
+#[derive(Clone, Copy, PartialEq, Eq)]
+pub enum ReportCode {
+    /// It isn't in form: no report has its lines.
+    OutOfForm,
+    /// It isn't the right one.
+    Wrong,
+}
+
+impl ReportCode {
+    /// The number that stands for it in a fault line.
+    pub fn number(self) -> u32
+        ensures { result ≡ report_number self }
+    {
+        match self {
+            ReportCode::OutOfForm => 60,
+            ReportCode::Wrong => 61,
+        }
+    }
 }
 
 /// Why a command ends without its text.
@@ -56,9 +77,9 @@ pub enum TopFault {
     },
     /// Memory ran out.
     Memory,
-    /// The report isn't in form (code 60), or isn't right (code 61), first at this line, from 1.
+    /// The report isn't in form, or isn't right, first at this line, from 1.
     Report {
-        code: u32,
+        code: ReportCode,
         line: u32,
     },
     /// The prices file is no JSON text.
@@ -278,9 +299,10 @@ fn write_work_fault<S: Sink>(
 }
 
 #[tactic(auto, unfolding(crate::specs::FaultLines::report_told))]
-fn write_report_fault<S: Sink>(code: u32, line: u32, out: &mut S) -> Result<(), WriteFailed>
+fn write_report_fault<S: Sink>(code: ReportCode, line: u32, out: &mut S) -> Result<(), WriteFailed>
     ensures { Writes S.held S.faults S.last out.old out.new result (report_told code line) }
 {
+    let code = code.number();
     write_parts(
         out,
         &[

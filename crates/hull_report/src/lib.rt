@@ -12,7 +12,7 @@ mod settled;
 pub use audit::write_audit;
 pub use bound::{BoundLines, write_bound, write_bound_lines};
 pub use check::write_check;
-pub use fault::{FileKind, TopFault, write_fault};
+pub use fault::{FileKind, ReportCode, TopFault, write_fault};
 pub use fixed::write_fixed;
 pub use record::{write_report, write_try};
 pub use settled::write_settlement;

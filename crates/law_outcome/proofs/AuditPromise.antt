@@ -1,5 +1,5 @@
 -- What is promised of an audit.
-use Rattle.law_outcome.proofs.Common.{◌≡◌, ℕ, ◌<◌, ◌⊎◌, inl, inr, Bool, true, false, List, [], ◌∷◌, Option, None, Some, Result, Ok, Err, refl, sym, ap, ◌∙◌, subst, arith, length, nat_lt, if◌then◌else◌, ltb-true, MOST_BYTES, Asked, AuditAsked, audit, WordFault, status_of, fault_line, IsFlatLine, HasForm, TextDeterminesReport, RightReportHasForm, ReportPaymentsMakeUpTheGap, RunPricesAreWithin, NothingIsPaidBack, UnitLine, Report, report_text, CaseFile, ScheduleFile, ReportFile, TopFault, TooBig, Unfit, End, Done, Cut, Refused, Reads, bytes_of, IsInput, IsWithinWork, IsReportFile, IsAudit, PlannedCase, command_for, IsReadOf, AreReads, with_report, HasText, Ends, status_at, OverReads, IsAuditPromised, IsWrongAt, IsAuditRefused, BytesAreThoseRead, ReportBytesAreItsText}
+use Rattle.law_outcome.proofs.Common.{ReportCode, OutOfForm, Wrong, report_number, ◌≡◌, ℕ, ◌<◌, ◌⊎◌, inl, inr, Bool, true, false, List, [], ◌∷◌, Option, None, Some, Result, Ok, Err, refl, sym, ap, ◌∙◌, subst, arith, length, nat_lt, if◌then◌else◌, ltb-true, MOST_BYTES, Asked, AuditAsked, audit, WordFault, status_of, fault_line, IsFlatLine, HasForm, TextDeterminesReport, RightReportHasForm, ReportPaymentsMakeUpTheGap, RunPricesAreWithin, NothingIsPaidBack, UnitLine, Report, report_text, CaseFile, ScheduleFile, ReportFile, TopFault, TooBig, Unfit, End, Done, Cut, Refused, Reads, bytes_of, IsInput, IsWithinWork, IsReportFile, IsAudit, PlannedCase, command_for, IsReadOf, AreReads, with_report, HasText, Ends, status_at, OverReads, IsAuditPromised, IsWrongAt, IsAuditRefused, BytesAreThoseRead, ReportBytesAreItsText}
 use Rattle.std.specs.List.{AllByRecursion}
 use Rattle.std.proofs.lemmas.List.Elements.{All-from_recursion}
 use Rattle.right_report.specs.RightReport.{IsRightReport}
@@ -79,7 +79,7 @@ module _ (got : BytesAreThoseRead) (text_read : ReportBytesAreItsText) (gap : Re
 
 -- the code of a fault of a report
 abbrev code_of : TopFault → ℕ
-code_of (Unfit code line) = code
+code_of (Unfit code line) = report_number code
 code_of f = 0
 
 -- bytes that are too many
@@ -102,16 +102,16 @@ module _ (got : BytesAreThoseRead) (text_read : ReportBytesAreItsText) (determin
       let e = determined r s (within_has_form r bounds) (has_form i.market i.plan s.budget s.ahead s right) same in
       other (subst (λ (x : Report). IsRightReport i.market i.plan x.budget x.ahead x) (sym e) right)
 
-  never_61 : (line other : ℕ) → f ≡ Unfit 60 line → f ≡ Unfit 61 other → ⊥
+  never_61 : (line other : ℕ) → f ≡ Unfit OutOfForm line → f ≡ Unfit Wrong other → ⊥
   never_61 line other e g = let h : 60 ≡ 61 = ap code_of (sym e ∙ g) in omega (arith, h)
 
-  never_big : (code line : ℕ) → f ≡ TooBig ReportFile → f ≡ Unfit code line → ⊥
+  never_big : (code : ReportCode) (line : ℕ) → f ≡ TooBig ReportFile → f ≡ Unfit code line → ⊥
   never_big code line e g = let h : TooBig ReportFile ≡ Unfit code line = sym e ∙ g in absurd cc
 
-  one_line : (code line other : ℕ) → f ≡ Unfit code line → f ≡ Unfit code other → line ≡ other
+  one_line : (code : ReportCode) (line other : ℕ) → f ≡ Unfit code line → f ≡ Unfit code other → line ≡ other
   one_line code line other e g = let h : Unfit code line ≡ Unfit code other = sym e ∙ g in cc
 
-  of_wrong : (i : PlannedCase) (r : Report) → IsInput reads (Ok i) → IsReportFile (reads ReportFile) (Ok r) → (IsRightReport i.market i.plan r.budget r.ahead r → ⊥) → (line : ℕ) → DiffersFromRight i.market i.plan r line → f ≡ Unfit 61 line → IsSo
+  of_wrong : (i : PlannedCase) (r : Report) → IsInput reads (Ok i) → IsReportFile (reads ReportFile) (Ok r) → (IsRightReport i.market i.plan r.budget r.ahead r → ⊥) → (line : ℕ) → DiffersFromRight i.market i.plan r line → f ≡ Unfit Wrong line → IsSo
   of_wrong i r input file other line differs e = (
     i,
     record {
@@ -122,16 +122,16 @@ module _ (got : BytesAreThoseRead) (text_read : ReportBytesAreItsText) (determin
       input = input;
       bytes = report_text r;
       is_read = text_read (reads ReportFile) r file;
-      too_big = λ big. absurd (never_big 61 line big e);
+      too_big = λ big. absurd (never_big Wrong line big e);
       unfit = λ at is. absurd (never_61 at line is e);
-      wrong = λ at is. subst (IsWrongAt i (report_text r)) (one_line 61 line at e is)
+      wrong = λ at is. subst (IsWrongAt i (report_text r)) (one_line Wrong line at e is)
           (record { report = r; bounds = is_within (reads ReportFile) r file; is_text = refl; wrong = other; differs = differs });
       none = λ fits s bounds right same. not_right i r (is_within (reads ReportFile) r file) other s right same;
       never = λ at is s right same. not_right i r (is_within (reads ReportFile) r file) other s right same;
     },
   )
 
-  of_form : (i : PlannedCase) (bytes : List ℕ) (line : ℕ) → IsInput reads (Ok i) → reads ReportFile ≡ Some bytes → IsFault bytes line → f ≡ Unfit 60 line → IsSo
+  of_form : (i : PlannedCase) (bytes : List ℕ) (line : ℕ) → IsInput reads (Ok i) → reads ReportFile ≡ Some bytes → IsFault bytes line → f ≡ Unfit OutOfForm line → IsSo
   of_form i bytes line input read fault is = (
     i,
     record {
@@ -142,8 +142,8 @@ module _ (got : BytesAreThoseRead) (text_read : ReportBytesAreItsText) (determin
       input = input;
       bytes = bytes;
       is_read = read;
-      too_big = λ big. absurd (never_big 60 line big is);
-      unfit = λ at also. subst (IsFault bytes) (one_line 60 line at is also) fault;
+      too_big = λ big. absurd (never_big OutOfForm line big is);
+      unfit = λ at also. subst (IsFault bytes) (one_line OutOfForm line at is also) fault;
       wrong = λ other also. absurd (never_61 line other is also);
       none = λ fits s bounds right same. fault.none s bounds same;
       never = λ other also s right same. never_61 line other is also;
@@ -162,10 +162,10 @@ module _ (got : BytesAreThoseRead) (text_read : ReportBytesAreItsText) (determin
       bytes = bytes;
       is_read = read;
       too_big = λ big. long;
-      unfit = λ at also. absurd (never_big 60 at is also);
-      wrong = λ at also. absurd (never_big 61 at is also);
+      unfit = λ at also. absurd (never_big OutOfForm at is also);
+      wrong = λ at also. absurd (never_big Wrong at is also);
       none = λ fits s bounds right same. omega (arith, fits, long);
-      never = λ at also s right same. never_big 61 at is also;
+      never = λ at also s right same. never_big Wrong at is also;
     },
   )
 

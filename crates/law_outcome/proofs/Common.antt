@@ -20,6 +20,9 @@ pub use Rattle.right_report.specs.RightReport.{unit_lines, IsRightReport}
 pub use Rattle.right_report.specs.RightSide.{SidePaymentsMakeUpTheGap, OneRightSide}
 pub use Rattle.hull_report.specs.declared.fault.FileKind.TheVariants.{CaseFile, ScheduleFile, ReportFile, PricesFile}
 pub use Rattle.hull_report.specs.declared.fault.TopFault.{TopFault}
+pub use Rattle.hull_report.specs.Words.{report_number}
+pub use Rattle.hull_report.specs.declared.fault.ReportCode.{ReportCode}
+pub use Rattle.hull_report.specs.declared.fault.ReportCode.TheVariants.{OutOfForm, Wrong}
 pub use Rattle.hull_report.specs.declared.fault.TopFault.TheVariants.{TooBig, Report as Unfit, PlanRule, Words, Read, CaseText, CaseField, PlanText, PlanShape, Work, Memory, PricesText, PricesValue, Report as report_fault}
 pub use Rattle.hull_words.specs.Asked.{Asked, AuditAsked, audit, BoundAsked, bound, PriceAsked, fixed, price, check, try, settle, CheckAsked, SettleAsked}
 pub use Rattle.hull_words.specs.Words.{words_of}

@@ -1,5 +1,5 @@
 -- Over what was read at most one thing is due, and at most one text may be printed.
-use Rattle.law_outcome.proofs.Common.{◌≡◌, ℕ, ◌<◌, ℤ, List, length, unsigned_abs, Option, Some, inl, inr, Result, Ok, Err, sym, ap, subst, ◌∙◌, arith, cases_lt, same_Some, slice_get, Market, Schedule, Proposal, Asked, price, check, try, bound, fixed, audit, settle, WordFault, PriceLists, OneSettlement, Settled, IsSettledAt, PricesFile, prices_fault, IsPrices, IsPricesFile, IsPriced, IsSettlementText, fixed_market, TextDeterminesReport, OneRightReport, RightReportHasForm, Report, report_text, OneRightSide, CaseFile, ScheduleFile, ReportFile, TopFault, PlanRule, Unfit, Goes, Then, Reads, IsBytes, case_fault, plan_fault, IsCase, IsCaseFile, IsPlan, IsPlanFile, IsChecked, IsInput, IsMade, IsWithinWork, IsReportIn, IsReportFile, IsJudged, IsAudit, PlannedCase, IsReportText, IsBoundText, IsFixedText, IsAuditText, command_for}
+use Rattle.law_outcome.proofs.Common.{OutOfForm, Wrong, ◌≡◌, ℕ, ◌<◌, ℤ, List, length, unsigned_abs, Option, Some, inl, inr, Result, Ok, Err, sym, ap, subst, ◌∙◌, arith, cases_lt, same_Some, slice_get, Market, Schedule, Proposal, Asked, price, check, try, bound, fixed, audit, settle, WordFault, PriceLists, OneSettlement, Settled, IsSettledAt, PricesFile, prices_fault, IsPrices, IsPricesFile, IsPriced, IsSettlementText, fixed_market, TextDeterminesReport, OneRightReport, RightReportHasForm, Report, report_text, OneRightSide, CaseFile, ScheduleFile, ReportFile, TopFault, PlanRule, Unfit, Goes, Then, Reads, IsBytes, case_fault, plan_fault, IsCase, IsCaseFile, IsPlan, IsPlanFile, IsChecked, IsInput, IsMade, IsWithinWork, IsReportIn, IsReportFile, IsJudged, IsAudit, PlannedCase, IsReportText, IsBoundText, IsFixedText, IsAuditText, command_for}
 use Rattle.std.proofs.lemmas.Int.{ints}
 use Rattle.std.specs.Result.{result_map_both}
 use Rattle.uc_model.specs.Refusals.{Refusal}
@@ -86,7 +86,7 @@ module _ (ones : AreOne) where
   one_report_in bytes (Ok r) (Ok s) p q = ap Ok (ones.report r s p.0 q.0 (sym p.1 ∙ q.1))
   one_report_in bytes (Ok r) (Err g) p (line, fault, is) = absurd (fault.none r p.0 p.1)
   one_report_in bytes (Err f) (Ok s) (line, fault, is) q = absurd (fault.none s q.0 q.1)
-  one_report_in bytes (Err f) (Err g) (k, fault, is) (l, other, also) = ap Err (is ∙ ap (Unfit 60) (ones.fault bytes k l fault other) ∙ sym also)
+  one_report_in bytes (Err f) (Err g) (k, fault, is) (l, other, also) = ap Err (is ∙ ap (Unfit OutOfForm) (ones.fault bytes k l fault other) ∙ sym also)
 
   one_judged : (r : Report) (c : PlannedCase) (a b : Result PlannedCase TopFault) → IsJudged r c a → IsJudged r c b → a ≡ b
   one_judged r c (Ok x) (Ok y) p q = ap Ok (p.1 ∙ sym q.1)
@@ -95,7 +95,7 @@ module _ (ones : AreOne) where
   one_judged r c (Err f) (Err g) (k, wrong, (right, is_right, differs), is) (l, again, (same, is_same, other), also) =
       let e = ones.right c.market c.plan r.budget r.ahead same right is_same is_right in
       let line = ones.difference (report_text r) (report_text right) k l differs (subst (λ (x : Report). DiffersAt (report_text r) (report_text x) l) e other) in
-      ap Err (is ∙ ap (Unfit 61) line ∙ sym also)
+      ap Err (is ∙ ap (Unfit Wrong) line ∙ sym also)
 
   one_audit : (reads : Reads) (c : PlannedCase) (a b : Result PlannedCase TopFault) → IsAudit reads c a → IsAudit reads c b → a ≡ b
   one_audit reads c =

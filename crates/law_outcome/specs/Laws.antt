@@ -42,6 +42,7 @@ use Rattle.hull_report.specs.declared.fault.FileKind.TheVariants.{CaseFile, Sche
 use Rattle.hull_report.specs.declared.fault.FileKind.TheVariants.{ReportFile, PricesFile}
 use Rattle.hull_report.specs.declared.fault.TopFault.{TopFault}
 use Rattle.hull_report.specs.declared.fault.TopFault.TheVariants.{Words, Read, TooBig, Memory}
+use Rattle.hull_report.specs.declared.fault.ReportCode.TheVariants.{OutOfForm, Wrong}
 use Rattle.hull_report.specs.declared.fault.TopFault.TheVariants.{Report as Unfit}
 use Rattle.report_read.specs.Bounds.{IsReport}
 use Rattle.report_read.specs.Faults.{IsFault}
@@ -273,11 +274,11 @@ pub record IsAuditRefused (c : Command) (gained short : List ℕ → Type 0) (re
   pub bytes : List ℕ
   pub is_read : reads ReportFile ≡ Some bytes
   pub too_big : fault ≡ TooBig ReportFile → MOST_BYTES < length bytes
-  pub unfit : (line : ℕ) → fault ≡ Unfit 60 line → IsFault bytes line
-  pub wrong : (line : ℕ) → fault ≡ Unfit 61 line → IsWrongAt i bytes line
+  pub unfit : (line : ℕ) → fault ≡ Unfit OutOfForm line → IsFault bytes line
+  pub wrong : (line : ℕ) → fault ≡ Unfit Wrong line → IsWrongAt i bytes line
   pub none : length bytes ≤ MOST_BYTES → (r : Report) → IsReport r →
       IsRightReport i.market i.plan r.budget r.ahead r → bytes ≡ report_text r → ⊥
-  pub never : (line : ℕ) → fault ≡ Unfit 61 line → (r : Report) →
+  pub never : (line : ℕ) → fault ≡ Unfit Wrong line → (r : Report) →
       IsRightReport i.market i.plan r.budget r.ahead r → bytes ≡ report_text r → ⊥
 
 -- THE PROMISE of `hull settle`, where it answers 0: there are bytes of the case, of the schedule
