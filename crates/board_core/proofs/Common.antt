@@ -14,7 +14,7 @@ pub use Rattle.std.specs.List.{range_with_len, list_any, flat_map, All, AllZip, 
 pub use Rattle.std.specs.Option.{option_map_or}
 pub use Rattle.std.specs.Prelude.{not, nat_lt, nat_le, slice_get, slice_index, slice_index_or, is_some, replicate, slice_set}
 pub use Rattle.board_store.specs.Answers.{Kept, Answers, nothing, kept_of}
-pub use Rattle.board_core.specs.Boards.{kept_answer, setup_for}
+pub use Rattle.board_core.specs.Boards.{kept_answer}
 pub use Rattle.board_core.specs.Events.{task_number, event_of, events_of, event_by}
 pub use Rattle.board_core.specs.Ledgers.{LedgerValue, with_prices, with_value, blank, raised_by, with_schedule}
 pub use Rattle.board_core.specs.Openings.{blank_ledger, with_openings, with_opening}

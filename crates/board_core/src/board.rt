@@ -14,7 +14,7 @@ ghost use Rattle.uc_model.specs.PriceRule.{opening_prices_of};
 ghost use Rattle.uc_model.specs.Runs.{Fits};
 ghost use Rattle.uc_model.specs.TaskRoom.{IsTaskFor};
 ghost use Rattle.plain_lists.specs.declared.limits.TheConstants.{MOST_PROPOSALS};
-ghost use Rattle.board_core.specs.Boards.{setup_for, empty_board, kept_answer};
+ghost use Rattle.board_core.specs.Boards.{empty_board, kept_answer};
 ghost use Rattle.board_core.specs.Replies.{claim_of, posted_of};
 ghost use Rattle.board_core.specs.Setups.{IsSetup, setup_of};
 ghost use Rattle.board_core.specs.Stored.{answer_of};
@@ -32,7 +32,7 @@ use board_store::Store;
 use board_task::tasks::copy_task;
 use std::alloc::{AllocError, Global};
 use std::marker::Model;
-use uc_model::cases::{Case, Plan, Row, Task};
+use uc_model::cases::{Row, Task};
 use uc_model::units::Answered;
 
 mod closed;
@@ -116,39 +116,22 @@ impl Drop for Board {
 }
 
 impl Board {
-    /// A board without events for a case and a feasible plan with its cost, with up to `budget`
-    /// proposals, of which those 1 to `ahead` are open, and for so many callers. All memory that it
-    /// ever needs is taken here; case and plan are dropped where there isn't enough. Conditions:
-    /// the plan is feasible and `cost` is its cost; 1 to 10,000 proposals, 1 to 16 ahead, 1 to 33
-    /// callers, and at most 50,000,000 for proposals times units times periods, bids counted as
-    /// units.
-    pub fn make(
-        alloc: Global,
-        case: Case,
-        plan: Plan,
-        cost: i128,
-        budget: u32,
-        ahead: u32,
-        callers: u32,
-    ) -> Result<Board, AllocError>
-        requires { IsSetup (setup_for case plan cost budget ahead callers) }
-        ensures { IfOk result
-            (λ b. b ≡ empty_board (setup_for case plan cost budget ahead callers)) }
+    /// A board without events on these terms, with the proposals 1 to `ahead` open. All memory that
+    /// it ever needs is taken here; `AllocError` is want of it, and the terms are then dropped.
+    /// Conditions: the plan is feasible and `cost` is its cost; 1 to 10,000 proposals, 1 to 16
+    /// ahead, 1 to 33 callers, and at most 50,000,000 for proposals times units times periods, bids
+    /// counted as units.
+    pub fn make(alloc: Global, terms: Terms) -> Result<Board, AllocError>
+        requires { IsSetup (setup_of terms) }
+        ensures { IfOk result (λ b. b ≡ empty_board (setup_of terms)) }
     {
         board_laws();
-        let terms = Terms {
-            case,
-            plan,
-            cost,
-            budget,
-            ahead,
-            callers,
-        };
         let periods = terms.case.periods;
+        let budget = terms.budget;
         let tasks = budget as usize * terms.case.unit_count() as usize;
-        let lists = no_events(alloc, tasks, budget as usize, callers as usize)?;
+        let lists = no_events(alloc, tasks, budget as usize, terms.callers as usize)?;
         let mut room = Room::make(alloc, periods)?;
-        let ledger = open_ledger(alloc, &terms.case, budget, ahead, &mut room.next)?;
+        let ledger = open_ledger(alloc, &terms.case, budget, terms.ahead, &mut room.next)?;
         let store = Store::make(alloc, tasks, periods)?;
         Ok(Board {
             terms,
@@ -297,7 +280,8 @@ impl Board {
     }
 
     fn into_terms(self) -> Terms
-        ensures { setup_of result ≡ self.setup }
+        ensures terms { setup_of result ≡ self.setup }
+        ensures setup { IsSetup self.setup }
     {
         let Board {
             terms,
@@ -350,7 +334,9 @@ impl Board {
             ≡ self.now.setup.market.periods }
     {
         board_laws();
-        self.store
-            .take(task_number(self.terms.case.unit_count(), proposal, unit), into);
+        self.store.take(
+            task_number(self.terms.case.unit_count(), proposal, unit),
+            into,
+        );
     }
 }

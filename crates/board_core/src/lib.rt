@@ -18,3 +18,4 @@ mod terms;
 
 pub use board::{Board, Closed};
 pub use replies::{Claim, Differs, Posted};
+pub use terms::Terms;

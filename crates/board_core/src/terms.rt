@@ -7,14 +7,19 @@ ghost use Rattle.board_core.specs.Setups.{setup_of};
 
 use uc_model::cases::{Case, Plan};
 
-/// A case with a feasible plan and its cost in money; how many proposals there may be, how many are
-/// open ahead of the closed ones, and the number of callers.
+/// What a run is for, and its board is made for.
 pub struct Terms {
+    /// The case.
     pub case: Case,
+    /// A feasible plan of it.
     pub plan: Plan,
+    /// What the plan costs, in money.
     pub cost: i128,
+    /// How many proposals there may be, from 1.
     pub budget: u32,
+    /// How many proposals are open ahead of the closed ones, from 1.
     pub ahead: u32,
+    /// How many callers there are, from 1: one for each worker.
     pub callers: u32,
 }
 

@@ -11,14 +11,14 @@ pub use Rattle.std.specs.Prelude.{IfOk, ◌==◌, if◌then◌else◌, vec_capac
 pub use Rattle.answer_workers.specs.Answers.{IsBenchOf, Suffices}
 pub use Rattle.answer_workers.specs.Workers.{IsWorkerOf, HasParts, Came, HasWorked, HaveWorked, HaveEnded, HasSeenHalt, HasFinished}
 pub use Rattle.answer_workers.specs.declared.worker.Worker.{Worker}
-pub use Rattle.board_core.specs.Boards.{empty_board, setup_for, kept_answer}
-pub use Rattle.board_core.specs.Setups.{IsSetup}
+pub use Rattle.board_core.specs.Boards.{empty_board, kept_answer}
+pub use Rattle.board_core.specs.Setups.{IsSetup, setup_of}
 pub use Rattle.board_history.specs.Board.{Content, IsLegalHistory, Setup}
 pub use Rattle.board_history.specs.Bounds.{RowsAreWithin}
 pub use Rattle.board_history.specs.Calls.{own_rows, has_finished}
 pub use Rattle.board_history.specs.Laws.{FinishedHasRow, FinishedIsRun, FinishedStays}
 pub use Rattle.board_run.specs.Crews.{StartsWith, named_by, IsNew, IsCrew, IsHired, IsCalmWorker, IsCalm, SomeEnd, AreOut}
-pub use Rattle.board_run.specs.Rounds.{setup_of, IsEnded}
+pub use Rattle.board_run.specs.Rounds.{IsEnded}
 pub use Rattle.board_share.specs.Seats.{SeatValue, view_of, IsSeatOf, IsSameBoard, IsOwner}
 pub use Rattle.board_share.specs.Views.{BoardEvent, View, caller_of, content, cut_left, cut_right, first_view, without}
 pub use Rattle.case_answers.specs.Tops.{IsBenchOver, AreTops}

@@ -1,9 +1,7 @@
--- The two runs of `hull fixed`: their sides, and the second run's input.
-use Rattle.board_run.proofs.Common.{◌≡◌, ℕ, suc, ◌*◌, ◌≤◌, ℤ, List, [], ◌∷◌, ◌++◌, map, length, Result, Ok, Err, sym, ap, ◌∙◌, subst, arith, append_assoc, same_Some, All-nil, All-cons, All, IfOk, setup_for, IsSetup, Setup, Content, AnyUnit, Thermal, Flat, Bid, Market, NamedThermalUnit, NamedRenewableUnit, NamedBidUnit, PriceLists, Schedule, unit_count, IsMarket, market_of, schedules_of, prices_of, Proposal, IsFeasiblePlan, plan_cost, IsSettled, Settlement, IsBenchOver, SettlementsAreOfAllUnits, Suffices, IsBenchOf, setup_of, IsEnded}
+-- The two runs of `hull fixed`: their sides, and the terms of the second.
+use Rattle.board_run.proofs.Common.{◌≡◌, ℕ, suc, ◌*◌, ◌≤◌, List, [], ◌∷◌, ◌++◌, map, length, sym, ap, ◌∙◌, subst, arith, append_assoc, same_Some, All-nil, All-cons, All, IsSetup, Setup, Content, AnyUnit, Thermal, Flat, Bid, Market, NamedThermalUnit, NamedRenewableUnit, NamedBidUnit, PriceLists, Schedule, unit_count, IsMarket, prices_of, Proposal, IsFeasiblePlan, IsSettled, Settlement, IsBenchOver, SettlementsAreOfAllUnits, Suffices, IsBenchOf, IsEnded}
 use Rattle.slope_list.specs.Slopes.{room_of}
 use Rattle.slope_list.specs.declared.slopes.Slopes.{Slopes}
-use Rattle.uc_model.specs.declared.cases.Case.{Case}
-use Rattle.uc_model.specs.declared.cases.Plan.{Plan}
 use Rattle.plain_lists.specs.declared.limits.TheConstants.{MOST_WORK}
 use Rattle.uc_model.specs.declared.units.Point.{Point}
 use Rattle.unit_program.specs.Benches.{IsBenchFor}
@@ -12,12 +10,8 @@ use Rattle.fixed_price.specs.FixedCase.{fixed_market}
 use Rattle.fixed_price.specs.Laws.{CommitmentsAreFixed}
 use Rattle.right_report.specs.RightSide.{told_of, IsRightSide, TellsChoice, SettledSidesAreRight}
 use Rattle.right_report.specs.declared.side.Side.{Side}
-use Rattle.board_run.specs.declared.input.Input.{Input}
-use Rattle.board_run.specs.declared.input.RunInput.{RunInput}
-use Rattle.board_run.specs.declared.input.RunSize.{RunSize}
 use Rattle.board_run.specs.declared.run.Done.{Done}
-use Rattle.board_run.specs.Compared.{IsHullSide, IsHeldInput, IsHeldRun, IsFixedSide}
-use Rattle.board_run.specs.Inputs.{planned_of, IsPlanned, IsRunInput, PlannedCase}
+use Rattle.board_run.specs.Compared.{IsPaidSide, IsFixedSide, held_setup}
 
 -- ---- the bench of a run
 
@@ -66,13 +60,6 @@ own_right right lengths d s ended setup choice same =
       (lengths c.setup.market c.setup.plan (prices_of s.prices) s.settlement.scheduled.items s.settlement.payments.items s.settlement.surplus s.settlement.total ended.settled.feasible settled).1,
     )
 
--- and the side of the input that it is the run of
-pub hull_side : (run : RunInput) (b : Setup) (s : Side) → b ≡ setup_of run → IsRightSide b.market b.market b.plan b.budget b.ahead (told_of s) → length s.settlement.payments.items ≡ unit_count b.market → IsHullSide run s
-hull_side run b s is right count = record {
-  right = subst (λ (x : Setup). IsRightSide x.market x.market x.plan x.budget x.ahead (told_of s)) is right;
-  count = subst (λ (x : Setup). length s.settlement.payments.items ≡ unit_count x.market) is count;
-}
-
 -- the schedule of a record, settled at what the record chose, is a right side of the case as given
 pub held_right : SettledSidesAreRight → SettlementsAreOfAllUnits → (given : Market) (d : Done) (s : Side) → IsFeasiblePlan given d.closed.setup.plan → IsEnded d.closed.setup d → IsSetup d.closed.setup
     → TellsChoice d.closed s → IsSettled given d.closed.setup.plan (prices_of s.prices) s.settlement.scheduled.items s.settlement.payments.items s.settlement.surplus s.settlement.total
@@ -111,63 +98,43 @@ held_lengths lengths law given d t limits feasible ended held same =
     let count = ap unit_count held ∙ (law given c.setup.plan limits feasible).count in
     subst (λ (x : Settlement). (length x.scheduled.items ≡ unit_count given) × (length x.payments.items ≡ unit_count given)) (sym same) (long.0 ∙ count, long.1 ∙ count)
 
--- what a run gives back
-pub planned_back : (b : Setup) (i : Input) → IsSetup b → market_of i.case ≡ b.market → schedules_of i.plan ≡ b.plan → i.cost ≡ b.cost → IsPlanned i
-planned_back b i setup e f g = record {
-  feasible = subst (λ (m : Market). IsFeasiblePlan m (schedules_of i.plan)) (sym e) (subst (λ (p : List Schedule). IsFeasiblePlan b.market p) (sym f) setup.feasible);
-  cost = g ∙ setup.cost ∙ (λ j. plan_cost (sym e j) (sym f j));
-}
-
 -- ---- the second run
 
--- what it is made of
-pub held_input : (run : RunInput) (i : Input) → IsRunInput run → IsPlanned i → planned_of i ≡ planned_of run.input → IsHeldInput i.case i.plan i.cost run.size
-held_input run i ready planned same = record {
-  feasible = planned.feasible;
-  cost_is = planned.cost;
-  within = ready.size;
-  work = subst (λ (p : PlannedCase). run.size.budget * unit_count p.market * p.market.periods ≤ MOST_WORK) (sym same) ready.work;
-}
-
 -- what its board is made for
-pub held_setup : CommitmentsAreFixed → (given : Case) (plan : Plan) (cost : ℤ) (size : RunSize) (held : Case) → IsHeldInput given plan cost size → market_of held ≡ fixed_market (market_of given) (schedules_of plan)
-    → IsSetup (setup_for held plan cost size.budget size.ahead size.callers)
-held_setup law given plan cost size held h same =
-    let m = market_of given in
-    let fixing = law m (schedules_of plan) given.valid h.feasible in
-    let most = h.within.workers_in.at_most in
+pub held_is_setup : CommitmentsAreFixed → (b : Setup) → IsSetup b → IsSetup (held_setup b)
+held_is_setup law b S =
+    let fixing = law b.market b.plan S.market S.feasible in
     record {
-      market = held.valid;
-      feasible = subst (λ (x : Market). IsFeasiblePlan x (schedules_of plan)) (sym same) fixing.feasible;
-      cost = h.cost_is ∙ sym fixing.cost ∙ ap (λ (x : Market). plan_cost x (schedules_of plan)) (sym same);
-      some_budget = h.within.budget_in.at_least;
-      budget = h.within.budget_in.at_most;
-      some_ahead = h.within.ahead_in.at_least;
-      ahead = h.within.ahead_in.at_most;
-      some_caller = h.within.workers_in.at_least;
-      callers = omega (arith, most);
-      size = subst (λ (x : Market). size.budget * unit_count x * x.periods ≤ MOST_WORK) (sym same)
-          (subst (λ (k : ℕ). size.budget * k * m.periods ≤ MOST_WORK) (sym fixing.count) h.work);
+      market = fixing.market;
+      feasible = fixing.feasible;
+      cost = S.cost ∙ sym fixing.cost;
+      some_budget = S.some_budget;
+      budget = S.budget;
+      some_ahead = S.some_ahead;
+      ahead = S.ahead;
+      some_caller = S.some_caller;
+      callers = S.callers;
+      size = subst (λ (k : ℕ). b.budget * k * b.market.periods ≤ MOST_WORK) (sym fixing.count) S.size;
     }
 
--- and what that is
-pub held_opened : {E : Type 0} (given : Case) (plan : Plan) (cost shown : ℤ) (size : RunSize) (held : Case) → market_of held ≡ fixed_market (market_of given) (schedules_of plan) → shown ≡ cost
-    → (r : Result Setup E) → IfOk r (λ b. b ≡ setup_for held plan shown size.budget size.ahead size.callers) → IfOk r (IsHeldRun given plan cost size)
-held_opened given plan cost shown size held same e (Ok b) is = (held, same, is ∙ ap (λ (k : ℤ). setup_for held plan k size.budget size.ahead size.callers) e)
-held_opened given plan cost shown size held same e (Err f) is = tt
+-- the run with commitments held, on the terms that the first run gave back
+module _ (law : CommitmentsAreFixed) (b back held : Setup) (given : Market) (setup : IsSetup b) (same : back ≡ b)
+    (own : given ≡ back.market) (is_held : held ≡ held_setup back) where
+  setup_back : IsSetup back
+  setup_back = subst IsSetup (sym same) setup
 
--- the side of a run of that
-module _ (given : Case) (plan : Plan) (cost : ℤ) (size : RunSize) (b : Setup) (run : IsHeldRun given plan cost size b) where
-  pub held_feasible : IsFeasiblePlan (market_of given) (schedules_of plan) → (c : Setup) → c ≡ b → IsFeasiblePlan (market_of given) c.plan
-  held_feasible feasible c is = subst (λ (x : Setup). IsFeasiblePlan (market_of given) x.plan) (sym (is ∙ run.2)) feasible
+  pub held_setup_is : IsSetup held
+  held_setup_is = subst IsSetup (sym is_held) (held_is_setup law back setup_back)
 
-  pub held_market : (c : Setup) → c ≡ b → c.market ≡ fixed_market (market_of given) c.plan
-  held_market c is = subst (λ (x : Setup). x.market ≡ fixed_market (market_of given) x.plan) (sym (is ∙ run.2)) run.1
+  pub held_feasible : IsFeasiblePlan given held.plan
+  held_feasible = subst (λ (m : Market). IsFeasiblePlan m held.plan) (sym own)
+      (subst (λ (x : Setup). IsFeasiblePlan back.market x.plan) (sym is_held) setup_back.feasible)
 
-  pub fixed_right : (c : Setup) (s : Side) → c ≡ b → IsRightSide (market_of given) c.market c.plan c.budget c.ahead (told_of s) → length s.settlement.payments.items ≡ unit_count (market_of given)
-      → IsFixedSide (market_of given) (schedules_of plan) size s
-  fixed_right c s is right count = record {
-    right = subst (λ (m : Market). IsRightSide (market_of given) m (schedules_of plan) size.budget size.ahead (told_of s)) run.1
-        (subst (λ (x : Setup). IsRightSide (market_of given) x.market x.plan x.budget x.ahead (told_of s)) (is ∙ run.2) right);
-    count = count;
-  }
+  pub held_market : held.market ≡ fixed_market given held.plan
+  held_market = subst (λ (x : Setup). x.market ≡ fixed_market given x.plan) (sym is_held)
+      (ap (λ (m : Market). fixed_market m back.plan) (sym own))
+
+  pub fixed_side_is : (s : Side) → IsPaidSide given held s → IsFixedSide b s
+  fixed_side_is s paid =
+      subst (λ (x : Setup). IsFixedSide x s) same (subst (λ (m : Market). IsPaidSide m (held_setup back) s) own
+      (subst (λ (x : Setup). IsPaidSide given x s) is_held paid))

@@ -1,5 +1,3 @@
-pub mod Sizes
-pub mod Inputs
 pub mod Rounds
 pub mod Crews
 pub mod Rooms

@@ -1,19 +1,11 @@
 -- One run on one board: what it is for, and what it leaves (this project's profile).
 use Rattle.std.specs.Prelude.{◌≡◌, length}
 use Rattle.board_history.specs.Board.{Setup}
-use Rattle.board_core.specs.Boards.{setup_for}
 use Rattle.uc_model.specs.PlainUnits.{schedule_of}
 use Rattle.uc_model.specs.PriceRule.{Proposal}
 use Rattle.right_report.specs.RecordReport.{IsSettledRecord}
 use Rattle.answer_workers.specs.Answers.{IsBenchOf}
-use Rattle.board_run.specs.declared.input.RunInput.{RunInput}
 use Rattle.board_run.specs.declared.run.Done.{Done}
-
--- what the run of an input is for: one caller for each worker
-abbrev pub setup_of : RunInput → Setup
-setup_of run =
-    setup_for run.input.case run.input.plan run.input.cost run.size.budget run.size.ahead
-    run.size.callers
 
 -- a run that has ended: its record is finished and settled at the chosen prices
 pub record IsEnded (b : Setup) (d : Done) : Type 0 where

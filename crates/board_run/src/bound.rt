@@ -6,13 +6,11 @@ ghost use Rattle.gap_proof.specs.Sums.{IsRadius};
 ghost use Rattle.right_report.specs.Told.{IsTold};
 ghost use Rattle.right_report.specs.RecordReport.{chosen_of};
 ghost use Rattle.board_run.specs.Bounded.{IsBounded};
-ghost use Rattle.board_run.specs.Inputs.{IsRunInput};
-ghost use Rattle.board_run.specs.Rounds.{setup_of};
+ghost use Rattle.board_core.specs.Setups.{IsSetup, setup_of};
 
-use crate::input::RunInput;
 use crate::run::{Done, open_run, run_board};
 use answer_workers::Gate;
-use board_core::Closed;
+use board_core::{Closed, Terms};
 use board_history::laws::{finished_has_row, finished_is_run, rows_are_within};
 use gap_proof::laws::run_bounds_hold;
 use gap_proof::{Certified, best_range};
@@ -22,12 +20,14 @@ use std::alloc::{AllocError, Global};
 use std::sync::Wait;
 use std::thread::Threads;
 
-/// A run that has ended, and the best bound on the dual values of all prices that are each within
-/// the radius of its chosen ones, in money for a kilowatt and period.
+/// A run that has ended, and the best bound round its chosen prices.
 #[derive(Drop)]
 pub struct Bounded {
+    /// The run.
     pub done: Done,
+    /// How far each price may be from the chosen one, in money for a kilowatt and period.
     pub radius: i64,
+    /// The best bound on the dual values of all such prices, with the rows that it is of.
     pub certified: Certified,
 }
 
@@ -49,22 +49,22 @@ fn certify(closed: &Closed, radius: i64, work: &mut Amounts) -> Certified
     best_range(closed.case(), closed.rows(), closed.chosen(), radius, work)
 }
 
-/// The run of an input to its end, and the best bound round its chosen prices. All memory for both
-/// is taken before the run, the room for the bound first. `AllocError` is want of it; the input is
-/// then dropped.
+/// The run on these terms to its end, and the best bound round its chosen prices. All memory for
+/// both is taken before the run, the room for the bound first. `AllocError` is want of it; the terms
+/// are then dropped.
 pub fn bounded_run<R: Threads + Wait + Sync, G: Gate>(
     rt: &R,
     alloc: Global,
-    run: RunInput,
+    terms: Terms,
     radius: i64,
     gate: &G,
 ) -> Result<Bounded, AllocError>
-    requires run { IsRunInput run }
+    requires setup { IsSetup (setup_of terms) }
     requires radius { IsRadius radius }
-    ensures { IfOk result (λ bounded. IsBounded (setup_of run) radius bounded) }
+    ensures { IfOk result (λ bounded. IsBounded (setup_of terms) radius bounded) }
 {
-    let mut work = Amounts::filled(alloc, 2 * run.input.case.periods, 0)?;
-    let opened = open_run(alloc, run)?;
+    let mut work = Amounts::filled(alloc, 2 * terms.case.periods, 0)?;
+    let opened = open_run(alloc, terms)?;
     let done = run_board(rt, opened, gate);
     let certified = certify(&done.closed, radius, &mut work);
     Ok(Bounded {

@@ -2,20 +2,17 @@
 //! commitment in the schedule.
 ghost use Rattle.std.specs.Prelude.{◌≡◌, ◌+◌, ◌≤◌, length, IfOk};
 ghost use Rattle.uc_model.specs.Data.{unit_count as units_in};
-ghost use Rattle.uc_model.specs.PlainCases.{market_of, schedules_of};
+ghost use Rattle.uc_model.specs.PlainCases.{market_of};
 ghost use Rattle.uc_model.specs.PlainUnits.{prices_of};
 ghost use Rattle.uc_model.specs.Systems.{IsFeasiblePlan};
 ghost use Rattle.fixed_price.specs.FixedCase.{fixed_market};
-ghost use Rattle.right_report.specs.RightSide.{told_of};
-ghost use Rattle.right_report.specs.RightSide.{IsRightSide};
-ghost use Rattle.board_run.specs.Compared.{IsHullSide, IsHeldInput, IsHeldRun, IsFixedSide};
-ghost use Rattle.board_run.specs.Compared.{AreSides};
-ghost use Rattle.board_run.specs.Inputs.{planned_in, planned_of, IsPlanned, IsRunInput};
+ghost use Rattle.board_core.specs.Setups.{IsSetup, setup_of};
+ghost use Rattle.board_run.specs.Compared.{IsPaidSide, IsOwnSide, held_setup, AreSides};
 ghost use Rattle.board_run.specs.Rounds.{IsEnded};
 
-use crate::input::{Input, RunInput, RunSize, unit_count};
-use crate::run::{Done, Run, open_run, run_board};
+use crate::run::{Done, open_run, run_board};
 use answer_workers::Gate;
+use board_core::Terms;
 use case_answers::earn_all;
 use fixed_price::fix_case;
 use fixed_price::laws::commitments_are_fixed;
@@ -23,33 +20,34 @@ use plain_lists::lists::Numbers;
 use right_report::laws::{settled_sides_are_right, settlements_are_of_all_units};
 use right_report::{Side, chosen_side};
 use std::alloc::{AllocError, Global};
+use std::mem;
 use std::sync::Wait;
 use std::thread::Threads;
-use uc_model::cases::{Case, Plan};
+use uc_model::cases::Case;
 use uc_model::units::Prices;
 use uplift_settle::settle;
 
-/// A case with what its schedule costs in money, and a side for each run: `hull` of the case, and
-/// `fixed` with the schedule's commitments held. Both sides settle the case as given.
+/// A case with what its schedule costs, and a side for each run. Both sides settle the case as given.
 #[derive(Drop)]
 pub struct Sides {
+    /// The case as given.
     pub case: Case,
+    /// What its schedule costs, in money.
     pub cost: i128,
+    /// The side of the case's run.
     pub hull: Side,
+    /// The side of the run with the schedule's commitments held.
     pub fixed: Side,
 }
 
-/// The side of a run that has ended, with its input: its chosen prices are copied into the room.
+/// The side of a run that has ended, with its terms: its chosen prices are copied into the room.
 /// Lets all else of the run go, and takes no memory.
-fn own_side(done: Done, room: Prices) -> (Side, Input)
+fn own_side(done: Done, room: Prices) -> (Side, Terms)
     requires ended { IsEnded done.closed.setup done }
     requires horizon { length (prices_of room).energy ≡ done.closed.setup.market.periods }
-    ensures right { IsRightSide done.closed.setup.market done.closed.setup.market
-        done.closed.setup.plan done.closed.setup.budget done.closed.setup.ahead (told_of result.0) }
-    ensures count { length result.0.settlement.payments.items
-        ≡ units_in done.closed.setup.market }
-    ensures input { planned_of result.1 ≡ planned_in done.closed.setup }
-    ensures planned { IsPlanned result.1 }
+    ensures side { IsOwnSide done.closed.setup result.0 }
+    ensures terms { setup_of result.1 ≡ done.closed.setup }
+    ensures setup { IsSetup done.closed.setup }
 {
     let Done {
         closed,
@@ -60,26 +58,23 @@ fn own_side(done: Done, room: Prices) -> (Side, Input)
     settled_sides_are_right();
     settlements_are_of_all_units();
     let side = chosen_side(&closed, room, settlement);
-    let cost = closed.cost();
-    let (case, plan) = closed.into_parts();
-    (side, Input { case, plan, cost })
+    (side, closed.into_terms())
 }
 
-/// Runs the board of an input. Gives back the input, and lets all else of the run go but its side.
+/// Runs the board of these terms. Gives them back, and lets all else of the run go but its side.
 /// The memory that is needed after the opening of the run is taken before it.
 fn hull_side<R: Threads + Wait + Sync, G: Gate>(
     rt: &R,
     alloc: Global,
-    run: RunInput,
+    terms: Terms,
     gate: &G,
-) -> Result<(Side, Input), AllocError>
-    requires { IsRunInput run }
-    ensures side { IfOk result (λ r. IsHullSide run r.0) }
-    ensures input { IfOk result (λ r. planned_of r.1 ≡ planned_of run.input) }
-    ensures planned { IfOk result (λ r. IsPlanned r.1) }
+) -> Result<(Side, Terms), AllocError>
+    requires { IsSetup (setup_of terms) }
+    ensures side { IfOk result (λ r. IsOwnSide (setup_of terms) r.0) }
+    ensures terms { IfOk result (λ r. setup_of r.1 ≡ setup_of terms) }
 {
-    let room = Prices::make(alloc, run.input.case.periods)?;
-    let opened = open_run(alloc, run)?;
+    let room = Prices::make(alloc, terms.case.periods)?;
+    let opened = open_run(alloc, terms)?;
     Ok(own_side(run_board(rt, opened, gate), room))
 }
 
@@ -92,9 +87,7 @@ fn settled_side(given: &Case, done: Done, room: Prices, earned: Numbers) -> Side
         ≡ fixed_market (market_of given.now) done.closed.setup.plan }
     requires horizon { length (prices_of room).energy ≡ (market_of given.now).periods }
     requires count { units_in (market_of given.now) ≤ length earned.items + earned.spare }
-    ensures right { IsRightSide (market_of given.now) done.closed.setup.market
-        done.closed.setup.plan done.closed.setup.budget done.closed.setup.ahead (told_of result) }
-    ensures count { length result.settlement.payments.items ≡ units_in (market_of given.now) }
+    ensures { IsPaidSide (market_of given.now) done.closed.setup result }
 {
     let Done {
         closed,
@@ -126,62 +119,60 @@ fn side_room(alloc: Global, given: &Case) -> Result<(Prices, Numbers), AllocErro
         ≤ length r.1.items + r.1.spare) }
 {
     let room = Prices::make(alloc, given.periods)?;
-    let earned = Numbers::make(alloc, unit_count(given))?;
+    let earned = Numbers::make(alloc, given.unit_count())?;
     Ok((room, earned))
 }
 
-/// Opens the run of the case with the commitments of its schedule held.
-fn held_run(
-    alloc: Global,
-    given: &Case,
-    plan: Plan,
-    cost: i128,
-    size: RunSize,
-) -> Result<Run, AllocError>
-    requires { IsHeldInput given.now plan cost size }
-    ensures { IfOk result (IsHeldRun given.now plan cost size) }
+/// The case as given, and the terms with the commitments of their schedule held. `AllocError` is
+/// want of memory for the case that is held; the terms are then dropped.
+fn hold(alloc: Global, terms: Terms) -> Result<(Case, Terms), AllocError>
+    requires { IsSetup (setup_of terms) }
+    ensures given { IfOk result (λ r. market_of r.0 ≡ (setup_of terms).market) }
+    ensures held { IfOk result (λ r. setup_of r.1 ≡ held_setup (setup_of terms)) }
 {
-    commitments_are_fixed();
-    let case = fix_case(alloc, given, &plan)?;
-    let input = Input { case, plan, cost };
-    open_run(alloc, RunInput { input, size })
+    let mut terms = terms;
+    let held = fix_case(alloc, &terms.case, &terms.plan)?;
+    let given = mem::replace(&mut terms.case, held);
+    Ok((given, terms))
 }
 
-/// Runs the board of a case with the commitments of its schedule held. The memory that is needed
+/// Runs the board of the case with the commitments of its schedule held. The memory that is needed
 /// after the opening of the run is taken before it.
 fn fixed_side<R: Threads + Wait + Sync, G: Gate>(
     rt: &R,
     alloc: Global,
     given: &Case,
-    plan: Plan,
-    cost: i128,
-    size: RunSize,
+    held: Terms,
     gate: &G,
 ) -> Result<Side, AllocError>
-    requires { IsHeldInput given.now plan cost size }
-    ensures { IfOk result (IsFixedSide (market_of given.now) (schedules_of plan) size) }
+    requires setup { IsSetup (setup_of held) }
+    requires feasible { IsFeasiblePlan (market_of given.now) (setup_of held).plan }
+    requires held { (setup_of held).market
+        ≡ fixed_market (market_of given.now) (setup_of held).plan }
+    ensures { IfOk result (IsPaidSide (market_of given.now) (setup_of held)) }
 {
     let (room, earned) = side_room(alloc, given)?;
-    let opened = held_run(alloc, given, plan, cost, size)?;
+    let opened = open_run(alloc, held)?;
     Ok(settled_side(given, run_board(rt, opened, gate), room, earned))
 }
 
-/// Both runs of an input to their ends: of the case, and of the case with the commitments of its
+/// Both runs on these terms to their ends: of the case, and of the case with the commitments of its
 /// schedule held. The first board is gone before the second is opened. `AllocError` is want of
-/// memory, for either; the input is then dropped.
+/// memory, for either; the terms are then dropped.
 pub fn compared_runs<R: Threads + Wait + Sync, G: Gate>(
     rt: &R,
     alloc: Global,
-    run: RunInput,
+    terms: Terms,
     gate: &G,
 ) -> Result<Sides, AllocError>
-    requires { IsRunInput run }
-    ensures { IfOk result (AreSides run) }
+    requires { IsSetup (setup_of terms) }
+    ensures { IfOk result (AreSides (setup_of terms)) }
 {
-    let size = run.size;
-    let (hull, input) = hull_side(rt, alloc, run, gate)?;
-    let Input { case, plan, cost } = input;
-    let fixed = fixed_side(rt, alloc, &case, plan, cost, size, gate)?;
+    commitments_are_fixed();
+    let cost = terms.cost;
+    let (hull, terms) = hull_side(rt, alloc, terms, gate)?;
+    let (case, held) = hold(alloc, terms)?;
+    let fixed = fixed_side(rt, alloc, &case, held, gate)?;
     Ok(Sides {
         case,
         cost,

@@ -8,10 +8,8 @@
 mod bound;
 mod crew;
 mod fixed;
-mod input;
 mod run;
 
 pub use bound::{Bounded, bounded_run};
 pub use fixed::{Sides, compared_runs};
-pub use input::{Input, RunInput, RunSize, unit_count};
 pub use run::{Done, Run, open_run, run_board};

@@ -3,7 +3,7 @@
 ghost use Rattle.std.specs.Prelude.{◌≡◌, ◌+◌, ◌<◌, ◌≤◌, ℕ, true, length, IfOk};
 ghost use Rattle.board_history.specs.Calls.{own_rows, has_finished};
 ghost use Rattle.board_core.specs.Boards.{kept_answer};
-ghost use Rattle.board_core.specs.Setups.{IsSetup};
+ghost use Rattle.board_core.specs.Setups.{IsSetup, setup_of};
 ghost use Rattle.uc_model.specs.Data.{unit_count as units_in};
 ghost use Rattle.uc_model.specs.PlainCases.{market_of};
 ghost use Rattle.uc_model.specs.PlainUnits.{schedule_of};
@@ -11,12 +11,11 @@ ghost use Rattle.uc_model.specs.PriceRule.{Proposal};
 ghost use Rattle.plain_lists.specs.Sums.{int_at};
 ghost use Rattle.right_report.specs.RecordReport.{IsSettledRecord};
 ghost use Rattle.board_run.specs.Crews.{IsCrew};
-ghost use Rattle.board_run.specs.Rounds.{setup_of, IsEnded};
+ghost use Rattle.board_run.specs.Rounds.{IsEnded};
 
 use crate::crew::{answer_board, hire};
-use crate::input::{Input, RunInput, unit_count};
 use answer_workers::{Gate, Worker, most_points};
-use board_core::{Board, Closed};
+use board_core::{Board, Closed, Terms};
 use board_history::laws::{finished_has_row, rows_are_within};
 use board_share::SharedBoard;
 use plain_lists::lists::Numbers;
@@ -32,9 +31,7 @@ use unit_program::Bench;
 use uplift_settle::{Settlement, settle};
 
 /// A run that is opened: its board with a worker for each seat, and room for the settlement, what
-/// each unit earns at best, and an answer. Contracts see it as what its board was made for: the
-/// case, the schedule and its cost, how many proposals there may be and how many are open ahead,
-/// and one caller for each worker.
+/// each unit earns at best, and an answer. Contracts see it as what its board was made for.
 #[derive(Drop)]
 pub struct Run {
     board: SharedBoard,
@@ -60,13 +57,16 @@ impl Model for Run {
         (length r.earned.items + r.earned.spare) };
 }
 
-/// A run that has ended: the record of its board, the settlement of the schedule at the chosen
-/// prices, and room for an answer and for the work on one.
+/// A run that has ended.
 #[derive(Drop)]
 pub struct Done {
+    /// The record of its board.
     pub closed: Closed,
+    /// The settlement of the schedule at the chosen prices.
     pub settlement: Settlement,
+    /// Room for an answer over the horizon of the case.
     pub buffer: Answered,
+    /// Room for the work on an answer of any of its units.
     pub bench: Bench<Slopes>,
 }
 
@@ -82,45 +82,36 @@ fn room(alloc: Global, case: &Case) -> Result<(Answered, Settlement, Numbers), A
     ensures numbers { IfOk result (λ r. units_in (market_of case.now)
         ≤ length r.2.items + r.2.spare) }
 {
-    let units = unit_count(case);
+    let units = case.unit_count();
     let buffer = Answered::make(alloc, case.periods)?;
     let settlement = Settlement::make(alloc, units)?;
     let earned = Numbers::make(alloc, units)?;
     Ok((buffer, settlement, earned))
 }
 
-/// The shared board of an input, with a worker for each of its seats.
-fn staff(alloc: Global, run: RunInput) -> Result<(SharedBoard, Vec<Worker>), AllocError>
-    requires { IsSetup (setup_of run) }
-    ensures { IfOk result (λ r. IsCrew (setup_of run) r.0 r.1.items) }
+/// The shared board of a run, with a worker for each of its seats.
+fn staff(alloc: Global, terms: Terms) -> Result<(SharedBoard, Vec<Worker>), AllocError>
+    requires { IsSetup (setup_of terms) }
+    ensures { IfOk result (λ r. IsCrew (setup_of terms) r.0 r.1.items) }
 {
-    let RunInput { input, size } = run;
-    let Input { case, plan, cost } = input;
-    let periods = case.periods;
-    let points = most_points(&case);
-    let thermal = case.thermal.len() as u32;
-    let board = Board::make(
-        alloc,
-        case,
-        plan,
-        cost,
-        size.budget,
-        size.ahead,
-        size.callers,
-    )?;
+    let callers = terms.callers;
+    let periods = terms.case.periods;
+    let points = most_points(&terms.case);
+    let thermal = terms.case.thermal.len() as u32;
+    let board = Board::make(alloc, terms)?;
     let (board, owner) = SharedBoard::make(alloc, board)?;
-    let workers = hire(alloc, &board, owner, size.callers, thermal, periods, points)?;
+    let workers = hire(alloc, &board, owner, callers, thermal, periods, points)?;
     Ok((board, workers))
 }
 
-/// Opens the run of an input: takes all memory that the run needs to its end. `AllocError` is want
-/// of memory; the input is then dropped.
-pub fn open_run(alloc: Global, run: RunInput) -> Result<Run, AllocError>
-    requires { IsSetup (setup_of run) }
-    ensures { IfOk result (λ opened. opened ≡ setup_of run) }
+/// Opens a run on these terms: takes all memory that it needs to its end. `AllocError` is want of
+/// memory; the terms are then dropped.
+pub fn open_run(alloc: Global, terms: Terms) -> Result<Run, AllocError>
+    requires { IsSetup (setup_of terms) }
+    ensures { IfOk result (λ opened. opened ≡ setup_of terms) }
 {
-    let (buffer, settlement, earned) = room(alloc, &run.input.case)?;
-    let (board, workers) = staff(alloc, run)?;
+    let (buffer, settlement, earned) = room(alloc, &terms.case)?;
+    let (board, workers) = staff(alloc, terms)?;
     Ok(Run {
         board,
         workers,
@@ -141,7 +132,7 @@ fn earn_at(closed: &Closed, row: u32, earned: &mut Numbers)
         → int_at earned.new.items u ≡ (kept_answer closed.now row u).earned }
 {
     earned.clear();
-    for unit in 0..unit_count(closed.case()) {
+    for unit in 0..closed.case().unit_count() {
         earned.push(closed.earned(row, unit));
     }
 }

@@ -8,13 +8,13 @@ pub use Rattle.std.proofs.lemmas.Result.{err_from_is_err_and}
 pub use Rattle.std.specs.Int.{w64, w128}
 pub use Rattle.std.specs.List.{All, AllZip}
 pub use Rattle.std.specs.Prelude.{IsTrue, IfSome, nat_lt, if◌then◌else◌, option_and_then, OnOk, OnErr}
-pub use Rattle.board_run.specs.Inputs.{planned_in, planned_of, PlannedCase}
-pub use Rattle.board_run.specs.Rounds.{setup_of, IsEnded}
-pub use Rattle.board_run.specs.declared.input.RunInput.{RunInput}
-pub use Rattle.board_run.specs.declared.input.RunSize.{RunSize}
+pub use Rattle.hull_engine.specs.Planned.{planned_in, planned_of, planned_run, PlannedCase}
+pub use Rattle.board_run.specs.Rounds.{IsEnded}
+pub use Rattle.board_core.specs.Setups.{setup_of, IsSetup}
+pub use Rattle.board_core.specs.declared.terms.Terms.{Terms}
 pub use Rattle.audit_rows.specs.Benches.{IsBenchOver}
 pub use Rattle.hull_engine.specs.Answers.{HasStatus, IsRunText, IsFaultOf, IsCommandAnswer, IsTextOf, IsEndOf, HasRead, IsAnswer, HasSettled}
-pub use Rattle.hull_engine.specs.Inputs.{size_asked, try_asked, bound_asked, audit_asked, settle_asked}
+pub use Rattle.hull_engine.specs.Inputs.{HasNumbers, try_asked, bound_asked, audit_asked, settle_asked}
 pub use Rattle.hull_engine.specs.Rest.{Completes, IsPrepared, rest_with, rest_of, nothing_read, EndsIn}
 pub use Rattle.hull_engine.specs.Outcome.{IsReportText, IsBoundText, IsFixedText, Command, command_for, Ends, IsReadOf, HasText, IsAuditText, IsSettlementText, case_and_schedule, with_report, with_prices, AreReads, no_files}
 pub use Rattle.hull_engine.specs.Steps.{Then, Reads, IsInput, IsWithinWork, IsReportFile, IsJudged, IsAudit, bytes_of, IsBytes, IsMade, IsPlanFile, IsChecked, IsCaseFile, IsReportIn, IsCase, IsPlan, IsPrices, IsPricesFile, IsPriced}

@@ -7,7 +7,7 @@ use Rattle.hull_words.specs.declared.kinds.CommandKind.{CommandKind}
 use Rattle.hull_words.specs.declared.kinds.CommandKind.TheVariants as kinds
 use Rattle.hull_words.specs.Spelling.{command_named}
 use Rattle.hull_words.specs.Texts.{is_numeral, number_in}
-use Rattle.board_run.specs.Sizes.{IsWithin, IsWorkers, IsRunSize}
+use Rattle.hull_engine.specs.Sizes.{IsWithin, IsWorkers, IsRunSize}
 use Rattle.hull_engine.specs.Sizes.{HasSizes}
 
 -- ---- one number

@@ -22,7 +22,7 @@ use Rattle.hull_engine.specs.declared.answer.SettledInput.{SettledInput}
 use Rattle.hull_engine.specs.declared.end.End.{End}
 use Rattle.hull_engine.specs.declared.end.End.TheVariants.{Done, Cut, Refused}
 use Rattle.hull_engine.specs.Steps.{Reads}
-use Rattle.board_run.specs.Inputs.{PlannedCase, planned_in}
+use Rattle.hull_engine.specs.Planned.{PlannedCase, planned_in}
 use Rattle.hull_engine.specs.Outcome.{Command, IsReportText, IsBoundText, IsReadOf, AreReads}
 use Rattle.board_run.specs.Rounds.{IsEnded}
 use Rattle.board_run.specs.Bounded.{IsBounded}

@@ -1,11 +1,12 @@
 -- What the words of a command ask for.
+use Rattle.std.specs.Prelude.{◌≡◌}
 use Rattle.hull_words.specs.Asked.{TryAsked, BoundAsked, AuditAsked, SettleAsked, price_asked}
 use Rattle.hull_words.specs.declared.command.PriceWords.{PriceWords}
 use Rattle.hull_words.specs.declared.command.TryWords.{TryWords}
 use Rattle.hull_words.specs.declared.command.BoundWords.{BoundWords}
 use Rattle.hull_words.specs.declared.command.AuditWords.{AuditWords}
 use Rattle.hull_words.specs.declared.command.SettleWords.{SettleWords}
-use Rattle.board_run.specs.declared.input.RunSize.{RunSize}
+use Rattle.board_core.specs.declared.terms.Terms.{Terms}
 
 abbrev pub try_asked : TryWords → TryAsked
 try_asked w =
@@ -29,6 +30,8 @@ settle_asked w = record {
   prices_name = w.prices_name.items;
 }
 
--- how large the run of `hull price` is
-abbrev pub size_asked : PriceWords → RunSize
-size_asked w = record { budget = w.proposals; ahead = w.ahead; callers = w.workers }
+-- a run has the numbers that the words of `hull price` ask for
+pub record HasNumbers (w : PriceWords) (terms : Terms) : Type 0 where
+  pub budget : terms.budget ≡ w.proposals
+  pub ahead : terms.ahead ≡ w.ahead
+  pub callers : terms.callers ≡ w.workers

@@ -1,6 +1,7 @@
 pub mod Steps
 pub mod Outcome
 pub mod Sizes
+pub mod Planned
 pub mod Workers
 pub mod Inputs
 pub mod Answers

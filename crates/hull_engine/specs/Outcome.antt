@@ -14,7 +14,7 @@
 -- `(x : T) × P` is read 'there is an x with P', `×` between two statements 'and', `⊎` 'or', `⊥`
 -- 'never'.
 --
--- The steps of the commands are in Steps; a case with its schedule is in board_run's Inputs; the
+-- The steps of the commands are in Steps; a case with its schedule is in Planned; the
 -- text of a report in report_form's ReportText; the other texts, and what makes them right, in
 -- hull_report: RightReport, CheckText, TryText, BoundText, FixedText and RightSide, AuditText,
 -- SettledText, FaultLines; a case with its schedule's commitments held in fixed_price's FixedCase; which reports
@@ -49,7 +49,7 @@ use Rattle.hull_report.specs.declared.fault.TopFault.TheVariants.{Words, Memory}
 use Rattle.hull_engine.specs.declared.end.End.{End}
 use Rattle.hull_engine.specs.declared.end.End.TheVariants.{Done, Cut, Refused}
 use Rattle.hull_engine.specs.Steps.{Then, Reads, IsInput, IsMade, IsWithinWork}
-use Rattle.board_run.specs.Inputs.{PlannedCase}
+use Rattle.hull_engine.specs.Planned.{PlannedCase}
 use Rattle.price_settle.specs.Settled.{Settled, IsSettledAt}
 use Rattle.hull_engine.specs.Steps.{IsAudit, IsPricesFile, IsPriced}
 

@@ -11,7 +11,9 @@ use Rattle.report_form.specs.ReportText.{report_text}
 use Rattle.report_read.specs.Bounds.{IsReport, AreInOrder}
 use Rattle.report_read.specs.Plain.{report_of, told_of}
 use Rattle.report_read.specs.declared.report.Report.{Report}
-use Rattle.board_run.specs.Inputs.{PlannedCase, planned_of, IsRunInput}
+use Rattle.board_core.specs.Setups.{IsSetup, setup_of}
+use Rattle.hull_engine.specs.Sizes.{IsWorkers}
+use Rattle.hull_engine.specs.Planned.{PlannedCase, planned_run}
 use Rattle.hull_engine.specs.Answers.{IsAnswered, IsCommandAnswer, IsEndOf, IsFaultOf, HasReads}
 use Rattle.hull_engine.specs.Outcome.{Command, command_for, no_files, Ends, IsOutcome, status_at}
 use Rattle.hull_engine.specs.Outcome.{IsReportText, IsBoundText, IsFixedText, IsAuditText}
@@ -50,8 +52,7 @@ rest_with task c budget ahead = record {
 
 abbrev pub rest_of : Ready → Command
 rest_of ready =
-    rest_with ready.task (planned_of ready.run.input) ready.run.size.budget
-    ready.run.size.ahead
+    rest_with ready.task (planned_run ready.terms) ready.terms.budget ready.terms.ahead
 
 -- what the rest of a command comes to, the command comes to, over what was read
 pub record Completes (c : Command) (reads : Reads) (rest : Command) : Type 0 where
@@ -81,7 +82,8 @@ IsFitTask (Audit report) = IsFitReport report
 IsFitTask _ = ⊤
 
 pub record IsReady (ready : Ready) : Type 0 where
-  pub run : IsRunInput ready.run
+  pub setup : IsSetup (setup_of ready.terms)
+  pub workers : IsWorkers ready.terms.callers
   pub task : IsFitTask ready.task
 
 -- ---- before a run

@@ -14,7 +14,7 @@ use Rattle.uc_case.specs.CaseFiles.{IsCaseOf}
 use Rattle.uc_case.specs.declared.fault.FieldFault.{FieldFault}
 use Rattle.uc_plan.specs.PlanFiles.{IsPlanOf}
 use Rattle.uc_plan.specs.declared.fault.ShapeFault.{ShapeFault}
-use Rattle.board_run.specs.Inputs.{PlannedCase}
+use Rattle.hull_engine.specs.Planned.{PlannedCase}
 use Rattle.uc_prices.specs.PricesFiles.{IsPricesOf}
 use Rattle.uc_prices.specs.declared.fault.PriceFault.{PriceFault}
 use Rattle.plan_check.specs.Checks.{refusal_of}

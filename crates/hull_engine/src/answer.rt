@@ -1,11 +1,14 @@
 //! What is to be printed.
 
-use board_run::{Bounded, Done, Input, Sides};
+use crate::input::Input;
+use board_run::{Bounded, Done, Sides};
 use price_settle::Settled;
 
 /// A case with its schedule, and what that is settled at.
 pub struct SettledInput {
+    /// The case with its schedule.
     pub input: Input,
+    /// What the schedule is settled at.
     pub settled: Settled,
 }
 

@@ -1,7 +1,9 @@
 //! What a run leaves to be printed, but for the report of `hull price`.
 ghost use Rattle.std.specs.Prelude.{IfOk};
 ghost use Rattle.gap_proof.specs.Sums.{IsRadius};
-ghost use Rattle.board_run.specs.Inputs.{planned_of, IsRunInput};
+ghost use Rattle.board_core.specs.Setups.{IsSetup, setup_of};
+ghost use Rattle.hull_engine.specs.Planned.{planned_run};
+ghost use Rattle.hull_engine.specs.Sizes.{IsWorkers};
 ghost use Rattle.hull_engine.specs.Answers.{IsAnswered, IsCommandAnswer};
 ghost use Rattle.hull_engine.specs.Rest.{rest_with, nothing_read, IsFitReport};
 ghost use Rattle.hull_engine.specs.declared.ready.Task.TheVariants as tasks;
@@ -9,7 +11,8 @@ ghost use Rattle.hull_engine.specs.declared.ready.Task.TheVariants as tasks;
 use crate::answer::Answer;
 use crate::audit::right_proposals;
 use answer_workers::Gate;
-use board_run::{RunInput, bounded_run, compared_runs, open_run, run_board};
+use board_core::Terms;
+use board_run::{bounded_run, compared_runs, open_run, run_board};
 use hull_report::TopFault;
 use report_read::Report;
 use std::alloc::Global;
@@ -20,16 +23,16 @@ use std::thread::Threads;
 pub fn answer_try<R: Threads + Wait + Sync, G: Gate>(
     rt: &R,
     alloc: Global,
-    run: RunInput,
+    terms: Terms,
     number: u64,
     gate: &G,
 ) -> Result<Answer, TopFault>
-    requires { IsRunInput run }
-    ensures answers { IsCommandAnswer (rest_with (tasks.Try number) (planned_of run.input)
-        run.size.budget run.size.ahead) nothing_read result }
+    requires { IsSetup (setup_of terms) }
+    ensures answers { IsCommandAnswer (rest_with (tasks.Try number) (planned_run terms)
+        terms.budget terms.ahead) nothing_read result }
     ensures answered { IfOk result (λ answer. IsAnswered answer) }
 {
-    let opened = open_run(alloc, run)?;
+    let opened = open_run(alloc, terms)?;
     Ok(Answer::Try(number, run_board(rt, opened, gate)))
 }
 
@@ -37,46 +40,47 @@ pub fn answer_try<R: Threads + Wait + Sync, G: Gate>(
 pub fn answer_bound<R: Threads + Wait + Sync, G: Gate>(
     rt: &R,
     alloc: Global,
-    run: RunInput,
+    terms: Terms,
     radius: i64,
     gate: &G,
 ) -> Result<Answer, TopFault>
-    requires run { IsRunInput run }
+    requires setup { IsSetup (setup_of terms) }
     requires radius { IsRadius radius }
-    ensures answers { IsCommandAnswer (rest_with (tasks.Bound radius) (planned_of run.input)
-        run.size.budget run.size.ahead) nothing_read result }
+    ensures answers { IsCommandAnswer (rest_with (tasks.Bound radius) (planned_run terms)
+        terms.budget terms.ahead) nothing_read result }
     ensures answered { IfOk result (λ answer. IsAnswered answer) }
 {
-    Ok(Answer::Bound(bounded_run(rt, alloc, run, radius, gate)?))
+    Ok(Answer::Bound(bounded_run(rt, alloc, terms, radius, gate)?))
 }
 
 /// What `hull fixed` answers by its runs.
 pub fn answer_fixed<R: Threads + Wait + Sync, G: Gate>(
     rt: &R,
     alloc: Global,
-    run: RunInput,
+    terms: Terms,
     gate: &G,
 ) -> Result<Answer, TopFault>
-    requires { IsRunInput run }
-    ensures answers { IsCommandAnswer (rest_with tasks.Fixed (planned_of run.input)
-        run.size.budget run.size.ahead) nothing_read result }
+    requires { IsSetup (setup_of terms) }
+    ensures answers { IsCommandAnswer (rest_with tasks.Fixed (planned_run terms)
+        terms.budget terms.ahead) nothing_read result }
     ensures answered { IfOk result (λ answer. IsAnswered answer) }
 {
-    Ok(Answer::Fixed(compared_runs(rt, alloc, run, gate)?))
+    Ok(Answer::Fixed(compared_runs(rt, alloc, terms, gate)?))
 }
 
 /// What `hull audit` answers, after its run, of a report.
 pub fn answer_audit<R: Threads + Wait + Sync>(
     rt: &R,
     alloc: Global,
-    run: RunInput,
+    terms: Terms,
     report: Report,
 ) -> Result<Answer, TopFault>
-    requires run { IsRunInput run }
+    requires setup { IsSetup (setup_of terms) }
+    requires workers { IsWorkers terms.callers }
     requires report { IsFitReport report }
-    ensures answers { IsCommandAnswer (rest_with (tasks.Audit report) (planned_of run.input)
-        run.size.budget run.size.ahead) nothing_read result }
+    ensures answers { IsCommandAnswer (rest_with (tasks.Audit report) (planned_run terms)
+        terms.budget terms.ahead) nothing_read result }
     ensures answered { IfOk result (λ answer. IsAnswered answer) }
 {
-    Ok(Answer::Audit(right_proposals(rt, alloc, &run, &report)?))
+    Ok(Answer::Audit(right_proposals(rt, alloc, &terms, &report)?))
 }

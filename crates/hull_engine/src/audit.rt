@@ -6,12 +6,14 @@ ghost use Rattle.audit_rows.specs.Benches.{IsBenchOver};
 ghost use Rattle.report_read.specs.Bounds.{IsReport, AreInOrder};
 ghost use Rattle.report_read.specs.Plain.{report_of, told_of};
 ghost use Rattle.hull_engine.specs.Answers.{IsAnswer};
-ghost use Rattle.board_run.specs.Inputs.{planned_of, IsRunInput};
+ghost use Rattle.board_core.specs.Setups.{IsSetup, setup_of};
+ghost use Rattle.hull_engine.specs.Planned.{planned_run};
+ghost use Rattle.hull_engine.specs.Sizes.{IsWorkers};
 ghost use Rattle.hull_engine.specs.Steps.{IsJudged};
 
 use crate::settle::bench_for;
 use audit_check::{Audit, check_report};
-use board_run::{RunInput, unit_count};
+use board_core::Terms;
 use hull_report::{ReportCode, TopFault};
 use report_read::Report;
 use slope_list::Slopes;
@@ -32,7 +34,7 @@ fn job_count(case: &Case, workers: u32) -> u32
     ensures some { 1 ≤ result }
     ensures most { result ≤ workers }
 {
-    workers.min(1 + unit_count(case) * case.periods / WORTH_A_JOB)
+    workers.min(1 + case.unit_count() * case.periods / WORTH_A_JOB)
 }
 
 /// So many benches, each of which suffices for every thermal unit of the case.
@@ -48,28 +50,28 @@ fn benches_for(alloc: Global, case: &Case, count: u32) -> Result<Vec<Bench<Slope
     Ok(benches)
 }
 
-/// How many proposals a report has that is right for the input, or its first wrong line. The audit
+/// How many proposals a report has that is right for the terms, or its first wrong line. The audit
 /// is dealt to as many jobs as there are workers, or to fewer where a proposal is small.
 pub fn right_proposals<R: Threads + Wait + Sync>(
     rt: &R,
     alloc: Global,
-    run: &RunInput,
+    terms: &Terms,
     report: &Report,
 ) -> Result<u32, TopFault>
-    requires run { IsRunInput run.now }
+    requires setup { IsSetup (setup_of terms.now) }
+    requires workers { IsWorkers terms.now.callers }
     requires bounds { IsReport (report_of report.now) }
     requires order { AreInOrder 0 (map told_of report.now.lines.items) }
-    ensures answers { IsAnswer (IsJudged (report_of report.now) (planned_of run.now.input))
-        (λ (n : ℕ). planned_of run.now.input) result }
+    ensures answers { IsAnswer (IsJudged (report_of report.now) (planned_run terms.now))
+        (λ (n : ℕ). planned_run terms.now) result }
     ensures count { IfOk result (λ n. n ≡ length (report_of report.now).rows) }
 {
-    let input = &run.input;
-    let case = &input.case;
-    let jobs = job_count(case, run.size.callers);
+    let case = &terms.case;
+    let jobs = job_count(case, terms.callers);
     let Ok(benches) = benches_for(alloc, case, jobs) else {
         return Err(TopFault::Memory);
     };
-    match check_report(rt, alloc, case, &input.plan, input.cost, report, benches) {
+    match check_report(rt, alloc, case, &terms.plan, terms.cost, report, benches) {
         Ok(Audit::Right) => Ok(report.rows.len() as u32),
         Ok(Audit::Wrong { line }) => {
             let code = ReportCode::Wrong;

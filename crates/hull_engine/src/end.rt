@@ -8,9 +8,10 @@ ghost use Rattle.uc_model.specs.PriceRule.{Proposal};
 ghost use Rattle.uplift_settle.specs.declared.settlement.Settlement.{Settlement};
 ghost use Rattle.hull_engine.specs.Outcome.{status_at};
 ghost use Rattle.hull_engine.specs.Answers.{HasStatus, IsTextOf, IsAnswered, IsEndOf};
-ghost use Rattle.board_run.specs.Inputs.{planned_of, IsRunInput};
+ghost use Rattle.board_core.specs.Setups.{IsSetup, setup_of};
+ghost use Rattle.hull_engine.specs.Planned.{planned_run};
 ghost use Rattle.board_run.specs.Rounds.{IsEnded};
-ghost use Rattle.board_run.specs.Sizes.{IsWorkers};
+ghost use Rattle.hull_engine.specs.Sizes.{IsWorkers};
 ghost use Rattle.hull_engine.specs.Outcome.{Ends};
 ghost use Rattle.hull_engine.specs.Rest.{rest_of, rest_with, nothing_read, IsReady, IsFit};
 ghost use Rattle.hull_engine.specs.Rest.{IsBeforeOf, IsUntouched};
@@ -20,8 +21,8 @@ use crate::answer::{Answer, SettledInput};
 use crate::answers::{answer_audit, answer_bound, answer_fixed, answer_try};
 use crate::ready::{Before, Prepared, Ready, Task, manned};
 use answer_workers::Gate;
-use board_core::Closed;
-use board_run::{Bounded, Done, Run, RunInput, open_run, run_board};
+use board_core::{Closed, Terms};
+use board_run::{Bounded, Done, Run, open_run, run_board};
 use hull_io::{Sink, WriteFailed};
 use hull_report::{
     TopFault, write_audit, write_bound, write_check, write_fault, write_fixed, write_report,
@@ -190,17 +191,17 @@ pub fn end_prepared<S: Sink>(prepared: Result<Prepared, TopFault>, out: &mut S) 
 fn finish_price<R: Threads + Wait + Sync, S: Sink, G: Gate>(
     rt: &R,
     alloc: Global,
-    run: RunInput,
+    terms: Terms,
     out: &mut S,
     gate: &G,
 ) -> End
-    requires { IsRunInput run }
-    ensures { Ends (rest_with tasks.Price (planned_of run.input) run.size.budget run.size.ahead)
+    requires { IsSetup (setup_of terms) }
+    ensures { Ends (rest_with tasks.Price (planned_run terms) terms.budget terms.ahead)
         nothing_read (Gains S.held S.faults out.old out.new)
         (FallsShort S.held S.faults S.last out.old out.new) result }
 {
     record_report_is_right();
-    match open_run(alloc, run) {
+    match open_run(alloc, terms) {
         Ok(opened) => {
             let (status, _closed) = finish_run(rt, opened, out, gate);
             if status == 0 { End::Done } else { End::Cut }
@@ -224,13 +225,13 @@ pub fn end_ready<R: Threads + Wait + Sync, S: Sink, G: Gate>(
     ensures { Ends (rest_of ready) nothing_read (Gains S.held S.faults out.old out.new)
         (FallsShort S.held S.faults S.last out.old out.new) result }
 {
-    let Ready { task, run } = ready;
-    let run = manned(run, workers);
+    let Ready { task, terms } = ready;
+    let terms = manned(terms, workers);
     match task {
-        Task::Price => finish_price(rt, alloc, run, out, gate),
-        Task::Try(number) => finish(answer_try(rt, alloc, run, number, gate), out),
-        Task::Bound(radius) => finish(answer_bound(rt, alloc, run, radius, gate), out),
-        Task::Fixed => finish(answer_fixed(rt, alloc, run, gate), out),
-        Task::Audit(report) => finish(answer_audit(rt, alloc, run, report), out),
+        Task::Price => finish_price(rt, alloc, terms, out, gate),
+        Task::Try(number) => finish(answer_try(rt, alloc, terms, number, gate), out),
+        Task::Bound(radius) => finish(answer_bound(rt, alloc, terms, radius, gate), out),
+        Task::Fixed => finish(answer_fixed(rt, alloc, terms, gate), out),
+        Task::Audit(report) => finish(answer_audit(rt, alloc, terms, report), out),
     }
 }

@@ -15,9 +15,9 @@ ghost use Rattle.hull_engine.specs.Steps.{IsChecked, IsInput, IsReportIn, IsRepo
 ghost use Rattle.hull_engine.specs.Steps.{IsPrices, IsPricesFile};
 ghost use Rattle.hull_engine.specs.Outcome.{case_and_schedule};
 ghost use Rattle.hull_engine.specs.Answers.{IsAnswer, IsLaterShelf, HasRead, HasReads};
-ghost use Rattle.board_run.specs.Inputs.{planned_of, IsPlanned};
+ghost use Rattle.hull_engine.specs.Planned.{planned_of, IsPlanned};
 
-use board_run::Input;
+use crate::input::Input;
 use hull_io::{ReadFault, Shelf, read_whole};
 use hull_report::{FileKind, ReportCode, TopFault};
 use plain_lists::limits::MOST_BYTES;

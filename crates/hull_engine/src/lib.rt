@@ -24,7 +24,6 @@ mod settle;
 mod workers;
 
 use answer_workers::Gate;
-pub use board_run::{Done, Run, RunInput, open_run, run_board};
 pub use end::finish_run;
 use end::{end_prepared, end_ready};
 use hull_io::{Shelf, Sink};
@@ -71,7 +70,7 @@ pub fn finish_ready<R: Threads + Wait + Sync, S: Sink, G: Gate>(
     gate: &G,
 ) -> u8
     requires ready { IsReady ready }
-    requires workers { IsUseful ready.run.size.callers workers }
+    requires workers { IsUseful ready.terms.callers workers }
     ensures ends { EndsIn (rest_of ready) (Gains S.held S.faults out.old out.new)
         (FallsShort S.held S.faults S.last out.old out.new) result }
     ensures sink { S.faults out.old ≤ S.faults out.new }
@@ -112,7 +111,7 @@ pub fn hull_run<R: Threads + Wait + Sync, F: Shelf, S: Sink, G: Gate>(
     match hull_before_run(alloc, words, shelf, out) {
         Before::Ended(status) => status,
         Before::Ready(ready) => {
-            let workers = useful_workers(rt, ready.run.size.callers);
+            let workers = useful_workers(rt, ready.terms.callers);
             finish_ready(rt, alloc, ready, workers, out, gate)
         }
     }

@@ -11,19 +11,19 @@ ghost use Rattle.hull_engine.specs.Steps.{Then, Reads, IsInput, IsWithinWork, ma
 ghost use Rattle.hull_engine.specs.Outcome.{command_for, case_and_schedule};
 ghost use Rattle.hull_engine.specs.Answers.{IsFaultOf, IsAnswer, IsLaterShelf, HasReads};
 ghost use Rattle.hull_engine.specs.Rest.{IsPrepared, HasPrepared, IsAsked, IsFit};
-ghost use Rattle.board_run.specs.Inputs.{planned_of, IsPlanned, IsRunInput};
-ghost use Rattle.board_run.specs.declared.input.RunInput.{RunInput as PlainRun};
+ghost use Rattle.board_core.specs.Setups.{IsSetup, setup_of};
+ghost use Rattle.hull_engine.specs.Planned.{planned_of, planned_run, IsPlanned};
 ghost use Rattle.hull_engine.specs.Inputs.{try_asked, bound_asked, audit_asked, settle_asked};
-ghost use Rattle.hull_engine.specs.Inputs.{size_asked};
-ghost use Rattle.board_run.specs.Sizes.{IsWorkers, IsRunSize};
+ghost use Rattle.hull_engine.specs.Inputs.{HasNumbers};
+ghost use Rattle.hull_engine.specs.Sizes.{IsWorkers, IsRunSize};
 ghost use Rattle.hull_engine.specs.Sizes.{HasSizes};
 
 use crate::answer::Answer;
 use crate::files::{read_input, read_prices_file, read_report_file};
-use crate::input::within_work;
+use crate::input::{Input, within_work};
 use crate::ready::{Prepared, Ready, Task};
 use crate::settle::settled_input;
-use board_run::{Input, RunInput, RunSize};
+use board_core::Terms;
 use case_make::make_case;
 use hull_io::Shelf;
 use hull_report::TopFault;
@@ -67,31 +67,22 @@ fn prepare_check<F: Shelf>(
     Ok(Prepared::Answered(Answer::Check(input)))
 }
 
-/// The run that words ask for, over the case and the schedule of their files.
-fn read_run<F: Shelf>(
-    alloc: Global,
-    shelf: &mut F,
-    words: &PriceWords,
-) -> Result<RunInput, TopFault>
+/// The terms of the run that words ask for, over the case and the schedule of their files.
+fn read_run<F: Shelf>(alloc: Global, shelf: &mut F, words: &PriceWords) -> Result<Terms, TopFault>
     requires { IsRunSize words.now.proposals words.now.workers words.now.ahead }
     ensures answers { HasReads (F.told shelf.old)
         (λ name. Rose F.last (F.faults shelf.old name) (F.faults shelf.new name))
         (case_and_schedule words.now.case_name.items words.now.schedule_name.items)
         (λ reads. IsAnswer (Then (IsInput reads) (IsWithinWork words.now.proposals))
-        (λ (run : PlainRun). planned_of run.input) result) }
-    ensures run { IfOk result (λ run. IsRunInput run) }
-    ensures size { IfOk result (λ run. run.size ≡ size_asked words.now) }
+        planned_run result) }
+    ensures setup { IfOk result (λ terms. IsSetup (setup_of terms)) }
+    ensures numbers { IfOk result (HasNumbers words.now) }
     ensures shelf { IsLaterShelf F.told F.faults shelf.old shelf.new }
 {
     let case_name = words.case_name.as_str();
     let schedule_name = words.schedule_name.as_str();
     let input = read_input(alloc, shelf, case_name, schedule_name)?;
-    let size = RunSize {
-        budget: words.proposals,
-        callers: words.workers,
-        ahead: words.ahead,
-    };
-    within_work(input, size)
+    within_work(input, words.proposals, words.ahead, words.workers)
 }
 
 /// What `hull price` runs.
@@ -107,9 +98,9 @@ fn prepare_price<F: Shelf>(
     ensures fit { IfOk result IsFit }
     ensures shelf { IsLaterShelf F.told F.faults shelf.old shelf.new }
 {
-    let run = read_run(alloc, shelf, words)?;
+    let terms = read_run(alloc, shelf, words)?;
     let task = Task::Price;
-    Ok(Prepared::Ready(Ready { task, run }))
+    Ok(Prepared::Ready(Ready { task, terms }))
 }
 
 /// What `hull bound` runs.
@@ -126,9 +117,9 @@ fn prepare_bound<F: Shelf>(
     ensures fit { IfOk result IsFit }
     ensures shelf { IsLaterShelf F.told F.faults shelf.old shelf.new }
 {
-    let run = read_run(alloc, shelf, &words.run)?;
+    let terms = read_run(alloc, shelf, &words.run)?;
     let task = Task::Bound(words.radius);
-    Ok(Prepared::Ready(Ready { task, run }))
+    Ok(Prepared::Ready(Ready { task, terms }))
 }
 
 /// What `hull fixed` runs.
@@ -144,9 +135,9 @@ fn prepare_fixed<F: Shelf>(
     ensures fit { IfOk result IsFit }
     ensures shelf { IsLaterShelf F.told F.faults shelf.old shelf.new }
 {
-    let run = read_run(alloc, shelf, words)?;
+    let terms = read_run(alloc, shelf, words)?;
     let task = Task::Fixed;
-    Ok(Prepared::Ready(Ready { task, run }))
+    Ok(Prepared::Ready(Ready { task, terms }))
 }
 
 /// The case and the feasible schedule that a number stands for.
@@ -171,14 +162,9 @@ fn prepare_try(alloc: Global, words: &TryWords) -> Result<Prepared, TopFault>
     let Ok(input) = made_input(alloc, words.number) else {
         return Err(TopFault::Memory);
     };
-    let size = RunSize {
-        budget: words.proposals,
-        callers: words.workers,
-        ahead: words.ahead,
-    };
-    let run = within_work(input, size)?;
+    let terms = within_work(input, words.proposals, words.ahead, words.workers)?;
     let task = Task::Try(words.number);
-    Ok(Prepared::Ready(Ready { task, run }))
+    Ok(Prepared::Ready(Ready { task, terms }))
 }
 
 /// What `hull audit` runs. The limit of work is that of a run with the report's own budget.
@@ -199,14 +185,9 @@ fn prepare_audit<F: Shelf>(
     let report_name = words.report_name.as_str();
     let input = read_input(alloc, shelf, case_name, schedule_name)?;
     let report = read_report_file(alloc, shelf, report_name)?;
-    let size = RunSize {
-        budget: report.budget,
-        callers: words.workers,
-        ahead: report.ahead,
-    };
-    let run = within_work(input, size)?;
+    let terms = within_work(input, report.budget, report.ahead, words.workers)?;
     let task = Task::Audit(report);
-    Ok(Prepared::Ready(Ready { task, run }))
+    Ok(Prepared::Ready(Ready { task, terms }))
 }
 
 /// What `hull settle` answers.

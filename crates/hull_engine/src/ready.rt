@@ -1,10 +1,10 @@
 //! A command whose words and files are accepted, and what is left to be done of it.
 ghost use Rattle.std.specs.Prelude.{◌≡◌};
-ghost use Rattle.board_run.specs.Inputs.{IsRunInput};
-ghost use Rattle.board_run.specs.Sizes.{IsWorkers};
+ghost use Rattle.board_core.specs.Setups.{IsSetup, setup_of};
+ghost use Rattle.hull_engine.specs.Sizes.{IsWorkers};
 
 use crate::answer::Answer;
-use board_run::{RunInput, RunSize};
+use board_core::Terms;
 use report_read::Report;
 
 /// What is done with the run of an input.
@@ -23,12 +23,13 @@ pub enum Task {
     Audit(Report),
 }
 
-/// A command that is ready for its run: what is done with it, and what it works on, with as many
-/// workers as the words ask for.
+/// A command that is ready for its run.
 #[derive(Drop)]
 pub struct Ready {
+    /// What is done with the run.
     pub task: Task,
-    pub run: RunInput,
+    /// What the run is for, with as many callers as the words ask for workers.
+    pub terms: Terms,
 }
 
 /// What the words and the files of a command come to, where none is refused.
@@ -49,17 +50,15 @@ pub enum Before {
     Ready(Ready),
 }
 
-/// The run with so many workers: its board has a caller for each.
-pub fn manned(run: RunInput, workers: u32) -> RunInput
-    requires run { IsRunInput run }
+/// The same terms for so many workers: the board has a caller for each.
+pub fn manned(terms: Terms, workers: u32) -> Terms
+    requires setup { IsSetup (setup_of terms) }
     requires workers { IsWorkers workers }
-    ensures same { result ≡ record run { size = record run.size { callers = workers } } }
-    ensures run { IsRunInput result }
+    ensures same { result ≡ record terms { callers = workers } }
+    ensures setup { IsSetup (setup_of result) }
+    ensures workers { IsWorkers result.callers }
 {
-    let RunInput { input, size } = run;
-    let size = RunSize {
-        callers: workers,
-        ..size
-    };
-    RunInput { input, size }
+    let mut terms = terms;
+    terms.callers = workers;
+    terms
 }

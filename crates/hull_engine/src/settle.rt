@@ -2,14 +2,14 @@
 ghost use Rattle.std.specs.Prelude.{◌≡◌, length, IfOk};
 ghost use Rattle.uc_model.specs.PlainCases.{market_of, schedules_of};
 ghost use Rattle.uc_model.specs.PlainUnits.{prices_of};
-ghost use Rattle.board_run.specs.Inputs.{IsPlanned};
+ghost use Rattle.hull_engine.specs.Planned.{IsPlanned};
 ghost use Rattle.case_answers.specs.Tops.{IsBenchOver};
 ghost use Rattle.price_settle.specs.Settled.{IsSettledAt, settled_of};
 ghost use Rattle.hull_engine.specs.Answers.{HasSettled};
 
 use crate::answer::SettledInput;
+use crate::input::Input;
 use answer_workers::most_points;
-use board_run::Input;
 use case_answers::laws::benches_serve_all;
 use price_settle::laws::settlements_have_each_unit;
 use price_settle::settle_at;

@@ -1,6 +1,6 @@
 //! How many workers a run has, and the processors of the machine.
 ghost use Rattle.hull_engine.specs.Workers.{IsUseful};
-ghost use Rattle.board_run.specs.Sizes.{IsWorkers};
+ghost use Rattle.hull_engine.specs.Sizes.{IsWorkers};
 
 use plain_lists::limits::MOST_WORKERS;
 use std::thread;

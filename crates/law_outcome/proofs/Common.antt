@@ -5,7 +5,7 @@ pub use Rattle.std.proofs.lemmas.List.{length-map, get_or-map}
 pub use Rattle.std.proofs.lemmas.Option.{slice_get_within, same_Some}
 pub use Rattle.std.specs.List.{All}
 pub use Rattle.std.specs.Prelude.{nat_lt, if◌then◌else◌, IsTrue, IfSome, IsSome, ◌≤ℤ◌}
-pub use Rattle.board_run.specs.Inputs.{PlannedCase}
+pub use Rattle.hull_engine.specs.Planned.{PlannedCase}
 pub use Rattle.fixed_price.specs.FixedCase.{fixed_market}
 pub use Rattle.gap_proof.specs.Laws.{RunPricesAreWithin}
 pub use Rattle.hull_engine.specs.Laws.{BytesAreThoseRead, ReportBytesAreItsText, WordsHaveSizes}

@@ -48,7 +48,7 @@ use Rattle.report_read.specs.Bounds.{IsReport}
 use Rattle.report_read.specs.Faults.{IsFault}
 use Rattle.audit_check.specs.Right.{DiffersFromRight}
 use Rattle.hull_engine.specs.Steps.{Reads, IsInput, IsCaseFile, prices_fault}
-use Rattle.board_run.specs.Inputs.{PlannedCase}
+use Rattle.hull_engine.specs.Planned.{PlannedCase}
 use Rattle.hull_engine.specs.Outcome.{Command, command_for, AreReads, HasText, IsOutcome}
 
 -- ---- at most one thing is due

@@ -1,6 +1,7 @@
 //! Two units over one period with a demand of 150 kW: A gives up to 100 kW at 10 for each, and B
 //! gives exactly 100 kW for 3,000. The numbers expected are worked by hand.
 ghost use Rattle.std.specs.Prelude.{◌≡◌, ◌≤◌, ◌<◌, IfOk, IfSome, [], length};
+ghost use Rattle.board_core.specs.Setups.{IsSetup, setup_of};
 ghost use Rattle.uc_model.specs.Earnings.{earnings};
 ghost use Rattle.uc_model.specs.PlainCases.{task_unit};
 ghost use Rattle.uc_model.specs.PlainUnits.{prices_of, schedule_of};
@@ -8,7 +9,7 @@ ghost use Rattle.uc_model.specs.Runs.{Fits};
 ghost use Rattle.uc_model.specs.TaskRoom.{IsTaskFor};
 
 use crate::same::same;
-use board_core::{Board, Claim, Differs, Posted};
+use board_core::{Board, Claim, Differs, Posted, Terms};
 use flat_answer::best_flat;
 use plan_check::check_plan;
 use std::alloc::{AllocError, Global};
@@ -60,8 +61,8 @@ pub(crate) struct Sizes {
     pub callers: u32,
 }
 
-// A board for a case of one period and a plan, given as texts.
-pub(crate) fn board_of(alloc: Global, case: &[u8], plan: &[u8], sizes: Sizes) -> Result<Board, Fail>
+// What a board for a case of one period and a plan, given as texts, is made for.
+pub(crate) fn terms_of(alloc: Global, case: &[u8], plan: &[u8], sizes: Sizes) -> Result<Terms, Fail>
     requires case { length case.now ≤ 10000 }
     requires plan { length plan.now ≤ 10000 }
     requires some_budget { 1 ≤ sizes.budget }
@@ -70,9 +71,9 @@ pub(crate) fn board_of(alloc: Global, case: &[u8], plan: &[u8], sizes: Sizes) ->
     requires ahead { sizes.ahead ≤ 16 }
     requires some_callers { 1 ≤ sizes.callers }
     requires callers { sizes.callers ≤ 33 }
-    ensures periods { IfOk result (λ board. board.setup.market.periods ≡ 1) }
-    ensures callers { IfOk result (λ board. board.setup.callers ≡ sizes.callers) }
-    ensures empty { IfOk result (λ board. board.events ≡ []) }
+    ensures setup { IfOk result (λ terms. IsSetup (setup_of terms)) }
+    ensures periods { IfOk result (λ terms. (setup_of terms).market.periods ≡ 1) }
+    ensures callers { IfOk result (λ terms. terms.callers ≡ sizes.callers) }
 {
     let case = read_case(alloc, case)?;
     let plan = read_plan(alloc, &case, plan)?;
@@ -87,7 +88,32 @@ pub(crate) fn board_of(alloc: Global, case: &[u8], plan: &[u8], sizes: Sizes) ->
         ahead,
         callers,
     } = sizes;
-    Ok(Board::make(alloc, case, plan, cost, budget, ahead, callers)?)
+    Ok(Terms {
+        case,
+        plan,
+        cost,
+        budget,
+        ahead,
+        callers,
+    })
+}
+
+// A board for a case of one period and a plan, given as texts.
+pub(crate) fn board_of(alloc: Global, case: &[u8], plan: &[u8], sizes: Sizes) -> Result<Board, Fail>
+    requires case { length case.now ≤ 10000 }
+    requires plan { length plan.now ≤ 10000 }
+    requires some_budget { 1 ≤ sizes.budget }
+    requires budget { sizes.budget ≤ 10 }
+    requires some_ahead { 1 ≤ sizes.ahead }
+    requires ahead { sizes.ahead ≤ 16 }
+    requires some_callers { 1 ≤ sizes.callers }
+    requires callers { sizes.callers ≤ 33 }
+    ensures periods { IfOk result (λ board. board.setup.market.periods ≡ 1) }
+    ensures callers { IfOk result (λ board. board.setup.callers ≡ sizes.callers) }
+    ensures empty { IfOk result (λ board. board.events ≡ []) }
+{
+    let terms = terms_of(alloc, case, plan, sizes)?;
+    Ok(Board::make(alloc, terms)?)
 }
 
 // A board for three callers with one proposal ahead.

@@ -8,10 +8,11 @@ ghost use Rattle.uc_model.specs.PlainCases.{market_of, schedules_of, proposal_of
 ghost use Rattle.uc_model.specs.PlainUnits.{schedule_of};
 ghost use Rattle.uc_model.specs.PriceRule.{chosen_number};
 ghost use Rattle.board_core.specs.Boards.{kept_answer};
-ghost use Rattle.board_core.specs.Setups.{IsSetup};
+ghost use Rattle.board_core.specs.Setups.{IsSetup, setup_of};
 ghost use Rattle.board_core.specs.Stored.{answer_of};
 
 use super::Board;
+use crate::terms::Terms;
 use board_history::entries::Entry;
 use price_move::greatest;
 use std::marker::Model;
@@ -137,6 +138,14 @@ impl Closed {
             ≡ self.now.setup.market.periods }
     {
         self.board.answer_into(proposal, unit, into);
+    }
+
+    /// Gives back what the board was made for, which is within the limits.
+    pub fn into_terms(self) -> Terms
+        ensures terms { setup_of result ≡ self.setup }
+        ensures setup { IsSetup self.setup }
+    {
+        self.board.into_terms()
     }
 
     /// Gives back the case and the plan.

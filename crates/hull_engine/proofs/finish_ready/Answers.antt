@@ -3,7 +3,7 @@ use Rattle.hull_engine.proofs.Lemmas.{ends_later, useful_within}
 use Rattle.hull_engine.proofs.finish_ready.Goals as goal
 
 pub end_ready-requires-clause-workers : goal.end_ready-requires-clause-workers
-end_ready-requires-clause-workers g c κs lives = useful_within c.args.ready.run.size.callers c.args.workers c.requires.ready.run.size.workers_in c.requires.workers
+end_ready-requires-clause-workers g c κs lives = useful_within c.args.ready.terms.callers c.args.workers c.requires.ready.workers c.requires.workers
 
 pub returns-clause-ends : goal.returns-clause-ends
 returns-clause-ends g c = record { end = c.end_ready.result; ends = c.end_ready.ensures; status_is = c.status.ensures }

@@ -1,19 +1,19 @@
-use Rattle.board_run.proofs.Common.{rules, w128, to_z-of_z}
-use Rattle.board_run.proofs.Lemmas.{held_feasible, held_market, fixed_right}
+use Rattle.board_run.proofs.Common.{◌≡◌, sym, ◌∙◌, subst, Setup, market_of, IsFeasiblePlan}
+use Rattle.fixed_price.specs.FixedCase.{fixed_market}
+use Rattle.board_run.specs.Compared.{IsPaidSide}
 use Rattle.board_run.proofs.fixed.fixed_side.Goals as goal
 
 pub settled_side-requires-clause-feasible : goal.settled_side-requires-clause-feasible
 settled_side-requires-clause-feasible g c =
-    let run = rw (to_z-of_z w128 c.args.cost (search rules)) at c.in_ok-opened.ensures in
-    held_feasible c.args.given.now c.args.plan c.args.cost c.args.size c.in_ok-opened.opened run c.requires.feasible c.run_board.result.closed.setup c.run_board.ensures.setup
+    subst (λ (b : Setup). IsFeasiblePlan (market_of c.args.given.now) b.plan)
+    (sym (c.run_board.ensures.setup ∙ c.in_ok-opened.ensures)) c.requires.feasible
 
 pub settled_side-requires-clause-held : goal.settled_side-requires-clause-held
 settled_side-requires-clause-held g c =
-    let run = rw (to_z-of_z w128 c.args.cost (search rules)) at c.in_ok-opened.ensures in
-    held_market c.args.given.now c.args.plan c.args.cost c.args.size c.in_ok-opened.opened run c.run_board.result.closed.setup c.run_board.ensures.setup
+    subst (λ (b : Setup). b.market ≡ fixed_market (market_of c.args.given.now) b.plan)
+    (sym (c.run_board.ensures.setup ∙ c.in_ok-opened.ensures)) c.requires.held
 
 pub returns : goal.returns
 returns g c =
-    let run = rw (to_z-of_z w128 c.args.cost (search rules)) at c.in_ok-opened.ensures in
-    fixed_right c.args.given.now c.args.plan c.args.cost c.args.size c.in_ok-opened.opened run c.run_board.result.closed.setup c.settled_side.result
-    c.run_board.ensures.setup c.settled_side.ensures.right c.settled_side.ensures.count
+    subst (λ (b : Setup). IsPaidSide (market_of c.args.given.now) b c.settled_side.result)
+    (c.run_board.ensures.setup ∙ c.in_ok-opened.ensures) c.settled_side.ensures

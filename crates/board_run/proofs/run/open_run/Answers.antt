@@ -7,9 +7,9 @@ pub invariant_of-result : goal.invariant_of-result
 invariant_of-result c =
     let board = c.in_ok-board.board in
     let ws = c.in_ok-board.workers.items in
-    let names = crew_names (setup_of c.args.run) board ws c.in_ok-board.ensures in
+    let names = crew_names (setup_of c.args.terms) board ws c.in_ok-board.ensures in
     let earned = length c.in_ok-buffer.earned.items + c.in_ok-buffer.earned.spare in
-    let rooms : HasRoom (setup_of c.args.run) c.in_ok-buffer.buffer c.in_ok-buffer.settlement earned = record {
+    let rooms : HasRoom (setup_of c.args.terms) c.in_ok-buffer.buffer c.in_ok-buffer.settlement earned = record {
       horizon = c.in_ok-buffer.ensures.horizon;
       scheduled = c.in_ok-buffer.ensures.scheduled;
       payments = c.in_ok-buffer.ensures.payments;
@@ -20,4 +20,4 @@ invariant_of-result c =
     )
 
 pub returns : goal.returns
-returns c = crew_names (setup_of c.args.run) c.in_ok-board.board c.in_ok-board.workers.items c.in_ok-board.ensures
+returns c = crew_names (setup_of c.args.terms) c.in_ok-board.board c.in_ok-board.workers.items c.in_ok-board.ensures

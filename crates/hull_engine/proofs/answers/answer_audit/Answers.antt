@@ -1,4 +1,4 @@
-use Rattle.hull_engine.proofs.Common.{refl, ap, ◌∙◌, err_from_is_err_and, report_of, planned_of}
+use Rattle.hull_engine.proofs.Common.{refl, ap, ◌∙◌, err_from_is_err_and, report_of, planned_run}
 use Rattle.hull_report.specs.AuditText.{audit_text}
 use Rattle.hull_engine.proofs.answers.answer_audit.Goals as goal
 
@@ -10,7 +10,7 @@ returns-in_err-right_proposals-clause-answers g c =
 pub returns-clause-answers : goal.returns-clause-answers
 returns-clause-answers g c =
     let judged = c.in_ok-right_proposals.ensures.answers in (
-      planned_of c.args.run.input,
+      planned_run c.args.terms,
       judged,
       λ text is. (report_of c.args.report, refl, judged.0, is ∙ ap audit_text c.in_ok-right_proposals.ensures.count),
     )

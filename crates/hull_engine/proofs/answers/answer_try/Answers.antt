@@ -1,4 +1,4 @@
-use Rattle.hull_engine.proofs.Common.{inr, refl, sym, subst, ◌∙◌, err_from_is_err_and, try_text, planned_of, IsEnded}
+use Rattle.hull_engine.proofs.Common.{inr, refl, sym, subst, ◌∙◌, err_from_is_err_and, try_text, planned_run, IsEnded}
 use Rattle.board_history.specs.Board.{Setup}
 use Rattle.hull_engine.proofs.Lemmas.{run_texts}
 use Rattle.hull_engine.proofs.answers.answer_try.Goals as goal
@@ -10,9 +10,9 @@ returns-in_err-opened-clause-answers g c =
 
 pub returns-clause-answers : goal.returns-clause-answers
 returns-clause-answers g c = (
-  planned_of c.args.run.input,
+  planned_run c.args.terms,
   refl,
-  run_texts (try_text c.args.number) c.args.run c.run_board.result.closed.setup c.args.run.size.budget c.args.run.size.ahead (c.run_board.ensures.setup ∙ c.in_ok-opened.ensures) refl refl,
+  run_texts (try_text c.args.number) c.args.terms c.run_board.result.closed.setup c.args.terms.budget c.args.terms.ahead (c.run_board.ensures.setup ∙ c.in_ok-opened.ensures) refl refl,
 )
 
 pub returns-clause-answered : goal.returns-clause-answered

@@ -1,4 +1,4 @@
-use Rattle.hull_engine.proofs.Common.{arith, ◌∙◌, err_from_is_err_and, report_of, planned_of, IsInput, IsAudit}
+use Rattle.hull_engine.proofs.Common.{arith, ◌∙◌, err_from_is_err_and, report_of, planned_of, planned_run, IsInput, IsAudit}
 use Rattle.hull_engine.proofs.Lemmas.{report_refused, work_refused, completes_audit, unread, unread_is, report_added, are_report_added, refused_then}
 use Rattle.hull_engine.proofs.prepare.prepare_audit.Goals as goal
 
@@ -40,19 +40,19 @@ returns-in_err-report-clause-prepared g c =
       report_refused (report_added h.0 k.0) (planned_of c.in_ok-input.input) h.2 _ k.2,
     )
 
-pub returns-in_err-run-clause-prepared : goal.returns-in_err-run-clause-prepared
+pub returns-in_err-terms-clause-prepared : goal.returns-in_err-terms-clause-prepared
 unfolding report_of
-returns-in_err-run-clause-prepared g c =
+returns-in_err-terms-clause-prepared g c =
     let words = c.args.words.now in
     let told = g.F.Shelf.told c.args.shelf.now in
-    let p = err_from_is_err_and c.from_residual-in_err-run.result c.from_residual-in_err-run.ensures.1 in
+    let p = err_from_is_err_and c.from_residual-in_err-terms.result c.from_residual-in_err-terms.ensures.1 in
     let h = rw (c.as_str-case_name.ensures, c.as_str-schedule_name.ensures) at c.in_ok-input.ensures.answers in
     let k = rw (c.as_str-report_name.ensures, c.in_ok-input.ensures.shelf.told_same) at c.in_ok-report.ensures.answers in
     rw (p.1, p.2) (
       report_added h.0 k.0,
       are_report_added told g.F.Shelf.last _ _ _ words.case_name.items words.schedule_name.items words.report_name.items h.0 k.0
           c.in_ok-input.ensures.shelf.later c.in_ok-report.ensures.shelf.later h.1 k.1,
-      work_refused (report_added h.0 k.0) (planned_of c.in_ok-input.input) h.2 (report_of c.in_ok-report.report) k.2 _ c.in_err-run.ensures.answers,
+      work_refused (report_added h.0 k.0) (planned_of c.in_ok-input.input) h.2 (report_of c.in_ok-report.report) k.2 _ c.in_err-terms.ensures.answers,
     )
 
 pub returns-clause-prepared : goal.returns-clause-prepared
@@ -65,7 +65,7 @@ returns-clause-prepared g c =
       report_added h.0 k.0,
       are_report_added told g.F.Shelf.last _ _ _ words.case_name.items words.schedule_name.items words.report_name.items h.0 k.0
           c.in_ok-input.ensures.shelf.later c.in_ok-report.ensures.shelf.later h.1 k.1,
-      completes_audit words (report_added h.0 k.0) (planned_of c.in_ok-input.input) (planned_of c.in_ok-run.run'.input) c.in_ok-report.report c.in_ok-run.run'.size.budget c.in_ok-run.run'.size.ahead h.2 k.2 c.in_ok-run.ensures.answers,
+      completes_audit words (report_added h.0 k.0) (planned_of c.in_ok-input.input) (planned_run c.in_ok-terms.terms) c.in_ok-report.report c.in_ok-terms.terms.budget c.in_ok-terms.terms.ahead h.2 k.2 c.in_ok-terms.ensures.answers,
     )
 
 pub returns-clause-shelf : goal.returns-clause-shelf

@@ -1,4 +1,4 @@
-use Rattle.hull_engine.proofs.Common.{err_from_is_err_and, RunInput, planned_of, IsInput, IsWithinWork}
+use Rattle.hull_engine.proofs.Common.{err_from_is_err_and, planned_of, planned_run, IsInput, IsWithinWork}
 use Rattle.hull_engine.proofs.Lemmas.{refused_then, answer_then}
 use Rattle.hull_engine.proofs.prepare.read_run.Goals as goal
 
@@ -13,5 +13,5 @@ returns-clause-answers g c =
     let h = rw (c.as_str-case_name.ensures, c.as_str-schedule_name.ensures) at c.in_ok-input.ensures.answers in (
       h.0,
       h.1,
-      answer_then (IsInput h.0) (IsWithinWork c.args.words.now.proposals) (planned_of c.in_ok-input.input) (λ (r : RunInput). planned_of r.input) c.within_work.result h.2 c.within_work.ensures.answers,
+      answer_then (IsInput h.0) (IsWithinWork c.args.words.now.proposals) (planned_of c.in_ok-input.input) planned_run c.within_work.result h.2 c.within_work.ensures.answers,
     )

@@ -1,4 +1,4 @@
-use Rattle.board_core.proofs.Common.{rules, ◌≡◌, ◌≤◌, ℕ, ◌*◌, ℤ, Bool, false, List, [], length, min, sym, ap, ◌∙◌, subst, arith, FitsSigned, to_z-of_z, le-mul_of_pos_right, MOST_TASKS, MOST_WORK, Setup, IsSetup, length-map-range_with_len, w128, replicate, Answer, entries_of, Event, Entry, unit_count, start_prices, setup_for, events_of, blank_ledger, with_openings, Lists, unset, task_count, IsBoard, answers_kept}
+use Rattle.board_core.proofs.Common.{◌≡◌, ◌≤◌, ℕ, ◌*◌, Bool, false, List, [], length, min, sym, ap, ◌∙◌, subst, arith, le-mul_of_pos_right, MOST_TASKS, MOST_WORK, Setup, IsSetup, length-map-range_with_len, replicate, Answer, entries_of, Event, Entry, unit_count, start_prices, setup_of, events_of, blank_ledger, with_openings, Lists, unset, task_count, IsBoard, answers_kept}
 use Rattle.board_core.proofs.Lemmas.{as_many, IsOpened, opened}
 use Rattle.board_core.proofs.Starts.{starts, all_unset}
 use Rattle.board_core.proofs.board.Board.make.Goals as goal
@@ -11,10 +11,10 @@ few : (b : Setup) (S : IsSetup b) (units : ℕ) → units ≡ unit_count b.marke
 few b S units is = rw is (within (b.budget * unit_count b.market) b.market.periods S.market.horizon.at_least S.size)
 
 pub no_events-requires-clause-tasks : goal.no_events-requires-clause-tasks
-no_events-requires-clause-tasks c = few (setup_for c.args.case c.args.plan c.args.cost c.args.budget c.args.ahead c.args.callers) c.requires c.unit_count.result c.unit_count.ensures.value
+no_events-requires-clause-tasks c = few (setup_of c.args.terms) c.requires c.unit_count.result c.unit_count.ensures.value
 
 pub make-requires-2-clause-few : goal.make-requires-2-clause-few
-make-requires-2-clause-few c = few (setup_for c.args.case c.args.plan c.args.cost c.args.budget c.args.ahead c.args.callers) c.requires c.unit_count.result c.unit_count.ensures.value
+make-requires-2-clause-few c = few (setup_of c.args.terms) c.requires c.unit_count.result c.unit_count.ensures.value
 
 pub make-requires-2-clause-size : goal.make-requires-2-clause-size
 make-requires-2-clause-size c = rw c.unit_count.ensures.value c.requires.size
@@ -24,10 +24,8 @@ open_ledger-requires-clause-horizon c = c.in_ok-room.ensures.next
 
 pub invariant_of-result : goal.invariant_of-result
 invariant_of-result c =
-    let b = setup_for c.args.case c.args.plan c.args.cost c.args.budget c.args.ahead c.args.callers in
+    let b = setup_of c.args.terms in
     let m = b.market in
-    let f : FitsSigned w128 c.args.cost = search rules in
-    let cost = to_z-of_z w128 c.args.cost f in
     let units = unit_count m in
     let start = start_prices m in
     let long : length start ≡ m.periods = length-map-range_with_len _ 0 m.periods in
@@ -51,12 +49,11 @@ invariant_of-result c =
     let t3 = subst (λ (xs : List Bool). IsBoard b [] (lists [] x.marks.items x.counts.items xs) l) (sym e3) t2 in
     let t4 = subst (λ (xs : List ℕ). IsBoard b [] (lists xs x.marks.items x.counts.items x.halted.items) l) (sym e4) t3 in
     let t5 = subst (λ (xs : List (Event Answer)). IsBoard b xs (lists x.takers.items x.marks.items x.counts.items x.halted.items) l) (sym e5) t4 in
-    let t6 = subst (λ (z : ℤ). IsBoard (setup_for c.args.case c.args.plan z c.args.budget c.args.ahead c.args.callers) (events_of units kept x.history.items) (lists x.takers.items x.marks.items x.counts.items x.halted.items) l) (sym cost) t5 in
     let u1 = ap unset e1 ∙ all_unset (task_count b) in
     let u2 = ap unset e3 ∙ all_unset b.callers in
     let l1 = ap (λ (xs : List Entry). length xs) E.history in
     let l2 = ap (λ (xs : List ℕ). length xs) e4 in (
-      t6,
+      t5,
       record {
         room = omega (arith, u1, u2, l1, l2, tasks, E.room);
         takers_room = omega (arith, tasks, E.takers_room);

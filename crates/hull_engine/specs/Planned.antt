@@ -1,13 +1,12 @@
--- What a run works on.
-use Rattle.std.specs.Prelude.{◌≡◌, ◌*◌, ◌≤◌, ℤ, List}
+-- What a command works on: a case with a feasible schedule.
+use Rattle.std.specs.Prelude.{◌≡◌, ℤ, List}
+use Rattle.board_core.specs.Setups.{setup_of}
+use Rattle.board_core.specs.declared.terms.Terms.{Terms}
 use Rattle.board_history.specs.Board.{Setup}
-use Rattle.uc_model.specs.Data.{Market, Schedule, unit_count}
+use Rattle.uc_model.specs.Data.{Market, Schedule}
 use Rattle.uc_model.specs.PlainCases.{market_of, schedules_of}
 use Rattle.uc_model.specs.Systems.{IsFeasiblePlan, plan_cost}
-use Rattle.plain_lists.specs.declared.limits.TheConstants.{MOST_WORK}
-use Rattle.board_run.specs.declared.input.Input.{Input}
-use Rattle.board_run.specs.declared.input.RunInput.{RunInput}
-use Rattle.board_run.specs.Sizes.{IsRunSize}
+use Rattle.hull_engine.specs.declared.input.Input.{Input}
 
 -- a case, a schedule of all its units, and what that costs
 pub record PlannedCase : Type 0 where
@@ -24,14 +23,11 @@ planned_of input =
 abbrev pub planned_in : Setup → PlannedCase
 planned_in b = record { market = b.market; plan = b.plan; cost = b.cost }
 
+-- what a run works on
+abbrev pub planned_run : Terms → PlannedCase
+planned_run terms = planned_in (setup_of terms)
+
 -- the schedule is feasible, and this is its cost
 pub record IsPlanned (input : Input) : Type 0 where
   pub feasible : IsFeasiblePlan (market_of input.case) (schedules_of input.plan)
   pub cost : input.cost ≡ plan_cost (market_of input.case) (schedules_of input.plan)
-
--- and the numbers of the run are within their limits
-pub record IsRunInput (run : RunInput) : Type 0 where
-  pub planned : IsPlanned run.input
-  pub size : IsRunSize run.size.budget run.size.callers run.size.ahead
-  pub work : run.size.budget * unit_count (market_of run.input.case)
-      * (market_of run.input.case).periods ≤ MOST_WORK
