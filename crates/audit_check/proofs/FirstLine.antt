@@ -14,10 +14,10 @@ no_feed (x ∷ xs) h =
       | inr other ↦ (let rest = no_feed xs h.1 in sum_by-cons (λ b. cond (b == 10) 1 0) x xs ∙ (ap (λ (b : Bool). cond b 1 0 + line_feeds xs) other.0 ∙ omega (arith, rest)))
     ]
 
-feeds_behind : (xs ys : List ℕ) → line_feeds (xs ++ ys) ≡ line_feeds xs + line_feeds ys
+pub feeds_behind : (xs ys : List ℕ) → line_feeds (xs ++ ys) ≡ line_feeds xs + line_feeds ys
 feeds_behind xs ys = sum_by-append (λ b. cond (b == 10) 1 0) xs ys
 
-line_feed : (x : List ℕ) → IsLine x → line_feeds x ≡ 1
+pub line_feed : (x : List ℕ) → IsLine x → line_feeds x ≡ 1
 line_feed x h =
     let e = ap line_feeds h.ends in
     let f = feeds_behind h.inside (10 ∷ []) in
@@ -33,7 +33,7 @@ feeds_are (x ∷ xs) h =
     let rest = feeds_are xs h.1 in
     omega (arith, one, f, rest)
 
-lines_are : (xs : List (List ℕ)) → AreAllLines xs → AreLines (concat xs)
+pub lines_are : (xs : List (List ℕ)) → AreAllLines xs → AreLines (concat xs)
 lines_are [] h = inl refl
 lines_are (x ∷ xs) h =
     elim (lines_are xs h.1) [
@@ -52,7 +52,7 @@ same_inside (a ∷ x) (b ∷ y) u v h k e =
     let tail : x ++ 10 ∷ u ≡ y ++ 10 ∷ v = cc in
     ap (λ (c : ℕ). c ∷ x) head ∙ ap (λ (z : List ℕ). b ∷ z) (same_inside x y u v h.1 k.1 tail)
 
-one_front : (x y u v : List ℕ) → IsLine x → IsLine y → x ++ u ≡ y ++ v → x ≡ y
+pub one_front : (x y u v : List ℕ) → IsLine x → IsLine y → x ++ u ≡ y ++ v → x ≡ y
 one_front x y u v h k e =
     let left : x ++ u ≡ h.inside ++ 10 ∷ u = ap (λ (z : List ℕ). z ++ u) h.ends ∙ append_assoc h.inside (10 ∷ []) u in
     let right : y ++ v ≡ k.inside ++ 10 ∷ v = ap (λ (z : List ℕ). z ++ v) k.ends ∙ append_assoc k.inside (10 ∷ []) v in

@@ -4,4 +4,5 @@ pub use Rattle.audit_check.proofs.Early.{number_wrong, beyond, no_more, opening_
 pub use Rattle.audit_check.proofs.Judging.{amount_judged, amounts_judged, count_judged, choice_judged}
 pub use Rattle.audit_check.proofs.UnitCompared.{titles_differ, unit_compared, units_step, units_stop, units_end, due_lines, thermal_response, other_response, rows_step, rows_stop, rows_end}
 pub use Rattle.audit_check.proofs.UnitLaws.{read_item, zip_at, titles_length, map_item, title, thermal_title, renewable_title, bid_title}
+pub use Rattle.audit_check.proofs.SomeLine.{some_difference}
 pub use Rattle.audit_check.proofs.Verdicts.{first_wrong, not_right, row_made, row_long, mine_whole, right_whole, compared_as, number_behind, sum_is_worth, all_right, IsMade, wrong_right}

@@ -4,6 +4,7 @@
 mod audit;
 mod desk;
 mod due;
+pub mod laws;
 mod lines;
 mod parts;
 mod report;
