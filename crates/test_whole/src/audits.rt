@@ -25,7 +25,7 @@ use uc_model::limits::MOST_POINTS;
 use uc_plan::read_plan;
 use unit_program::Bench;
 
-const RIGHT: &str = "hull-report 1\n\
+pub(crate) const RIGHT: &str = "hull-report 1\n\
     periods 1\nunits 2\nbudget 1\nahead 1\ncost 3500\nproposals 1\n\
     proposal 1 value 2500\nenergy 30\nreserve 0\nsupplied 100\nreserved 0\n\
     chosen 1 value 2500\n\

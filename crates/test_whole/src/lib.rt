@@ -19,6 +19,8 @@ mod plan_files;
 #[cfg(test)]
 mod responses;
 #[cfg(test)]
+mod runs;
+#[cfg(test)]
 mod same;
 #[cfg(test)]
 mod seats;
