@@ -23,12 +23,14 @@ need_tools() {
     { [[ $kit == /* ]] && [ -x "$kit/bin/rattle" ]; } || fail "the program isn't built, and rt is on the path, but the kit isn't there behind it"
 }
 
-# Refuses a user who may not see what there is: it was built for another alone.
+# Refuses a user who may not see or run what there is: it was built for another alone, or lies on a disk on which no program may run.
 look_about() {
-    local it
+    local it mode
     for it in "$out" "$program" "$made_of"; do
         [ ! -e "$it" ] || [ -r "$it" ] || fail "$it may not be read by this user, for whom whoever built the program hasn't opened it"
     done
+    mode=$(stat -c %a "$program" 2>/dev/null)
+    [ -x "$program" ] || [ "$((8#${mode:-0} & 8#111))" = 0 ] || fail "$program may not be run by this user, or on this disk"
 }
 
 # Ends with why there is no program, $1, or that the disk is full, where it is: a write fails now, or the log $2 says that one did.

@@ -385,15 +385,26 @@ class Failing(Repository):
                 self.assertEqual(ended.returncode, 127)
                 self.assertRegex(last, "the disk is full|No space left on device")
 
-    def test_a_disk_on_which_no_program_may_run(self):
-        self.write("with_no_programs", "#!/bin/sh\nmount -t tmpfs -o noexec tmpfs crates/hull_cli/out && exec ./hull src\n")
-        os.makedirs(self.out)
+    def where_none_may_run(self):
+        """What a call says where no program may run on the disk of what was built, which is copied there."""
+        text = "#!/bin/sh\nmkdir -p built\nmount -t tmpfs -o noexec tmpfs crates/hull_cli/out && cp -a built/. crates/hull_cli/out && exec ./hull src\n"
+        self.write("with_no_programs", text)
         ended = subprocess.run(["unshare", "-m", "sh", "with_no_programs"], cwd=self.room, env=self.env, capture_output=True, timeout=120)
         if b"hull: " not in ended.stderr:
             self.skipTest(f"no disk can be mounted here: {ended.stderr[-100:]}")
-        self.assertEqual((ended.returncode, ended.stdout, ended.stderr.count(b"\n")), (127, b"", 1))
-        self.assertRegex(ended.stderr.decode(), r"\Ahull: no program: none may run in .*, as where a disk is mounted with noexec\n\Z")
+        self.assertEqual((ended.returncode, ended.stdout), (127, b""))
+        return ended.stderr.decode()
+
+    def test_a_disk_on_which_no_program_may_run(self):
+        os.makedirs(self.out)
+        said = self.where_none_may_run()
+        self.assertRegex(said, r"\Ahull: no program: none may run in .*, as where a disk is mounted with noexec\n\Z")
         self.assertEqual(self.asked(), [])
+        self.hull("src")
+        shutil.rmtree(f"{self.room}/built")
+        shutil.copytree(self.out, f"{self.room}/built")
+        self.assertRegex(self.where_none_may_run(), r"\Ahull: .*/hull_cli may not be run by this user, or on this disk\n\Z")
+        self.assertEqual(self.asked(), BUILT)
 
     def test_another_kit_than_the_readmes_is_told(self):
         self.assertNotIn(b"README", self.hull("check")[2])
