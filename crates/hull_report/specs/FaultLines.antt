@@ -50,7 +50,7 @@ read_told file = concat (codes "read " ∷ file_word file ∷ [])
 -- a fault of the text of a case, of a schedule or of prices
 unfoldable pub text_told : FileKind → TextFault → List ℕ
 text_told file f = concat (
-    file_word file ∷ codes " " ∷ numeral (text_code f.code) ∷ codes " at " ∷ numeral f.place ∷ [])
+    file_word file ∷ codes " " ∷ numeral (text_code f.code) ∷ codes " at " ∷ numeral f.offset ∷ [])
 
 unfoldable pub field_told : FieldFault → List ℕ
 field_told f = concat (

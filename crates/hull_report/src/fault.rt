@@ -192,7 +192,7 @@ fn write_text_fault<S: Sink>(
             Part::Text(b" "),
             Part::Count(code as u64),
             Part::Text(b" at "),
-            Part::Count(fault.place as u64),
+            Part::Count(fault.offset as u64),
         ],
     )
 }

@@ -14,7 +14,7 @@ fn answer_of(alloc: Global, bytes: &[u8]) -> (u32, u32) {
     }
     match read_tree(alloc, bytes) {
         Ok(_) => (0, 0),
-        Err(TextError::Fault(fault)) => (fault.code.number(), fault.place),
+        Err(TextError::Fault(fault)) => (fault.code.number(), fault.offset),
         Err(TextError::Memory) => (1, 0),
     }
 }

@@ -54,7 +54,7 @@ fn reads_the_smallest_case(rt: HostRuntime) -> Result<(), Fail> {
 
 #[test]
 fn a_cut_file(rt: HostRuntime) -> Result<(), Fail> {
-    for (len, place) in [
+    for (len, offset) in [
         (0, 0),
         (1, 1),
         (2, 1),
@@ -66,7 +66,7 @@ fn a_cut_file(rt: HostRuntime) -> Result<(), Fail> {
         assert!(rt; len <= SMALLEST.len());
         let want = CaseFault::Text(TextFault {
             code: TextCode::NotJson,
-            place,
+            offset,
         });
         same_of(
             &rt,

@@ -47,7 +47,7 @@ next_of : (p : Lexed) (ps : List Lexed) → NextIs (p ∷ ps) p ps
 next_of p ps = (ps, refl, λ _. refl)
 
 abbrev fault_at : TextCode → Lexed → TextFault
-fault_at code p = record { code = code; place = p.offset }
+fault_at code p = record { code = code; offset = p.offset }
 
 end_or_more : (t : Token) → (t ≡ end) ⊎ (goes t ≡ true)
 end_or_more end = inl refl

@@ -22,14 +22,14 @@ pub at_code : (m : ℕ) (before : List Token) (at : Token) (code : TextCode) (f 
 at_code m before at code f is s = subst (λ (k : TextCode). IsStuck m before at (test_of k)) (sym is) s
 
 pub name_stops : (m : ℕ) (all : List Lexed) (ps : List Pair) (first : Lexed) (r0 : List Lexed) (f : TextFault) → 0 < m → InMembers m all ps first r0
-    → ((k : List ℕ) → first.token ≢ key k) → f.place ≡ first.offset → f.code ≡ NotJson → StuckAt m (open_object ∷ []) all f
+    → ((k : List ℕ) → first.token ≢ key k) → f.offset ≡ first.offset → f.code ≡ NotJson → StuckAt m (open_object ∷ []) all f
 name_stops m all ps first r0 f lt i no_text offset code =
     stuck_behind m (open_object ∷ []) (passed_members ps) all i.ahead f i.passed
     (stuck_here m (open_object ∷ passed_members ps) i.ahead first r0 f i.next offset
     (subst (λ (ts : List Token). IsStuck m (open_object ∷ ts) first.token (test_of f.code)) (append-nil (passed_members ps)) (at_code m (opened_object ps []) first.token NotJson f code (stuck_at_name m ps first.token lt i.pass i.different no_text i.some))))
 
 pub double_stops : (m : ℕ) (all : List Lexed) (ps : List Pair) (first : Lexed) (r0 : List Lexed) (k : List ℕ) (f : TextFault) → 0 < m → InMembers m all ps first r0
-    → first.token ≡ key k → Contains (names ps) k → f.place ≡ first.offset → f.code ≡ DoubleKey → StuckAt m (open_object ∷ []) all f
+    → first.token ≡ key k → Contains (names ps) k → f.offset ≡ first.offset → f.code ≡ DoubleKey → StuckAt m (open_object ∷ []) all f
 double_stops m all ps first r0 k f lt i is has offset code =
     stuck_behind m (open_object ∷ []) (passed_members ps) all i.ahead f i.passed
     (stuck_here m (open_object ∷ passed_members ps) i.ahead first r0 f i.next offset
@@ -40,7 +40,7 @@ takes_name : (m : ℕ) (all : List Lexed) (ps : List Pair) (first : Lexed) (r0 :
 takes_name m all ps first r0 k i is = Takes-then all i.ahead r0 (passed_members ps) (key k ∷ []) i.passed (takes_next i.ahead first r0 (key k) i.next is refl)
 
 pub colon_stops : (m : ℕ) (all : List Lexed) (ps : List Pair) (first : Lexed) (r0 : List Lexed) (k : List ℕ) (between : Lexed) (r1 : List Lexed) (f : TextFault) → 0 < m → InMembers m all ps first r0
-    → first.token ≡ key k → IsNewName (names ps) k → NextIs r0 between r1 → between.token ≢ colon → f.place ≡ between.offset → f.code ≡ NotJson → StuckAt m (open_object ∷ []) all f
+    → first.token ≡ key k → IsNewName (names ps) k → NextIs r0 between r1 → between.token ≢ colon → f.offset ≡ between.offset → f.code ≡ NotJson → StuckAt m (open_object ∷ []) all f
 colon_stops m all ps first r0 k between r1 f lt i is new n no_colon offset code =
     stuck_behind m (open_object ∷ []) (passed_members ps ++ key k ∷ []) all r0 f (takes_name m all ps first r0 k i is)
     (stuck_here m (opened_object ps (key k ∷ [])) r0 between r1 f n offset (at_code m (opened_object ps (key k ∷ [])) between.token NotJson f code (stuck_at_colon m ps k between.token lt i.pass i.different new no_colon)))
@@ -69,7 +69,7 @@ takes_member m all ps first r0 k between r1 v r2 i is n colon_is t =
 
 pub member_stops_behind : (m : ℕ) (all : List Lexed) (ps : List Pair) (first : Lexed) (r0 : List Lexed) (k : List ℕ) (between : Lexed) (r1 : List Lexed) (v : Value) (r2 : List Lexed) (behind : Lexed) (r3 : List Lexed) (f : TextFault)
     → 0 < m → InMembers m all ps first r0 → first.token ≡ key k → IsNewName (names ps) k → NextIs r0 between r1 → between.token ≡ colon → Takes r1 (spell v) r2 → Passes double_keys (m - 1) v
-    → NextIs r2 behind r3 → behind.token ≢ comma → behind.token ≢ close_object → f.place ≡ behind.offset → f.code ≡ NotJson → StuckAt m (open_object ∷ []) all f
+    → NextIs r2 behind r3 → behind.token ≢ comma → behind.token ≢ close_object → f.offset ≡ behind.offset → f.code ≡ NotJson → StuckAt m (open_object ∷ []) all f
 member_stops_behind m all ps first r0 k between r1 v r2 behind r3 f lt i is new n colon_is t p n' no_comma no_end offset code =
     stuck_behind m (open_object ∷ []) (passed_members ps ++ key k ∷ colon ∷ spell v) all r2 f (takes_member m all ps first r0 k between r1 v r2 i is n colon_is t)
     (stuck_here m (opened_object ps (key k ∷ colon ∷ spell v)) r2 behind r3 f n' offset (at_code m (opened_object ps (key k ∷ colon ∷ spell v)) behind.token NotJson f code (stuck_behind_member m ps k v behind.token lt i.pass i.different new p no_comma no_end)))

@@ -33,7 +33,7 @@ stuck_behind m front s a b f t x = record {
 }
 
 -- a fault at the first of the tokens
-pub stuck_here : (m : ℕ) (front : List Token) (ts : List Lexed) (first : Lexed) (others : List Lexed) (f : TextFault) → NextIs ts first others → f.place ≡ first.offset → IsStuck m front first.token (test_of f.code) → StuckAt m front ts f
+pub stuck_here : (m : ℕ) (front : List Token) (ts : List Lexed) (first : Lexed) (others : List Lexed) (f : TextFault) → NextIs ts first others → f.offset ≡ first.offset → IsStuck m front first.token (test_of f.code) → StuckAt m front ts f
 stuck_here m front ts first others f n offset s = record {
   before = [];
   at = first;
@@ -100,7 +100,7 @@ items_empty m all first others n is = record { takes = takes_next all first othe
 
 pub items_stop_behind : (m : ℕ) (all : List Lexed) (vs : List Value) (first : Lexed) (r0 : List Lexed) (v : Value) (r1 : List Lexed) (behind : Lexed) (r2 : List Lexed) (f : TextFault)
     → 0 < m → (i : InItems m all vs first r0) → Takes i.ahead (spell v) r1 → Passes double_keys (m - 1) v → NextIs r1 behind r2 → behind.token ≢ comma → behind.token ≢ close_list
-    → f.place ≡ behind.offset → f.code ≡ NotJson → StuckAt m (open_list ∷ []) all f
+    → f.offset ≡ behind.offset → f.code ≡ NotJson → StuckAt m (open_list ∷ []) all f
 items_stop_behind m all vs first r0 v r1 behind r2 f lt i t p n not_comma not_closed offset code =
     stuck_behind m (open_list ∷ []) (passed_items vs ++ spell v) all r1 f (Takes-then all i.ahead r1 (passed_items vs) (spell v) i.passed t)
     (stuck_here m (open_list ∷ (passed_items vs ++ spell v)) r1 behind r2 f n offset (subst (λ (k : _). IsStuck m (opened vs (spell v)) behind.token (test_of k)) (sym code) (stuck_behind_item m vs v behind.token lt i.pass p not_comma not_closed)))

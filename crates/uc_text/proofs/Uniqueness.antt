@@ -117,8 +117,8 @@ code_of_rank TooDeep TooDeep e = refl
 code_of_rank DoubleKey DoubleKey e = refl
 code_of_rank c d e = absurd (omega arith)
 
-same_fault : (f g : TextFault) → f.code ≡ g.code → f.place ≡ g.place → f ≡ g
-same_fault f g c p = ap₂ (λ (k : TextCode) (n : ℕ). record { code = k; place = n }) c p
+same_fault : (f g : TextFault) → f.code ≡ g.code → f.offset ≡ g.offset → f ≡ g
+same_fault f g c p = ap₂ (λ (k : TextCode) (n : ℕ). record { code = k; offset = n }) c p
 
 same_test : (limit : ℕ) (before : List Token) (at : Token) (s t : Test) → IsFault limit before at s → IsFault limit before at t → rank s ≡ rank t
 same_test limit before at s t f g =

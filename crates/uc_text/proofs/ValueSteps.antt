@@ -57,7 +57,7 @@ stuck_deep_object = record { passed = nothing_read 0; tried = (object no_members
     deep_object_fails (list vs) after more p e = absurd cc
     deep_object_fails (object ms) after more p e = let lt : 0 < 0 = p.0 in absurd (omega arith)
 
-pub value_stops : (left : ℕ) (ts : List Lexed) (first : Lexed) (others : List Lexed) (f : TextFault) (code : TextCode) → NextIs ts first others → f.place ≡ first.offset → f.code ≡ code → IsStuck left [] first.token (test_of code) → StuckAt left [] ts f
+pub value_stops : (left : ℕ) (ts : List Lexed) (first : Lexed) (others : List Lexed) (f : TextFault) (code : TextCode) → NextIs ts first others → f.offset ≡ first.offset → f.code ≡ code → IsStuck left [] first.token (test_of code) → StuckAt left [] ts f
 value_stops left ts first others f code n offset is s = stuck_here left [] ts first others f n offset (at_code left [] first.token code f is s)
 
 -- a fault behind the opening bracket is one of the value
@@ -93,7 +93,7 @@ pub text_stops : (limit : ℕ) (bytes : List ℕ) (f : TextFault) → StuckAt li
 text_stops limit bytes f s = record { before = s.before; at = s.at; after = s.after; parts = s.parts; offset = s.offset; fails = fault_within limit (kinds s.before) s.at.token (test_of f.code) s.stuck }
 
 pub text_stops_behind : (limit : ℕ) (bytes : List ℕ) (v : Value) (r0 : List Lexed) (behind : Lexed) (r1 : List Lexed) (f : TextFault) → Reads limit (tokens bytes) v r0 → NextIs r0 behind r1 → behind.token ≢ end
-    → f.place ≡ behind.offset → f.code ≡ NotJson → IsFirstFault limit bytes f
+    → f.offset ≡ behind.offset → f.code ≡ NotJson → IsFirstFault limit bytes f
 text_stops_behind limit bytes v r0 behind r1 f r n not_end offset code = record {
   before = r.takes.part;
   at = behind;

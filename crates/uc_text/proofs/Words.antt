@@ -9,7 +9,7 @@ large_number bytes run offset is more = ap (λ (r : List ℕ). scalar (number (d
 pub text_node : (bytes behind : List ℕ) (offset : ℕ) → behind ≡ drop (offset + 1) bytes → IsOne bytes (TextNode offset) (scalar (text (said behind)))
 text_node bytes behind offset is more = ap (λ (r : List ℕ). scalar (text (said r)) ∷ values bytes more) (sym is)
 
-pub word_stops : (left : ℕ) (first : Lexed) (others ts : List Lexed) (s : Scalar) (f : TextFault) → first.token ≡ word s → s ≡ long_number → f ≡ record { code = NumberTooLong; place = first.offset } → NextIs ts first others → StuckAt left [] ts f
+pub word_stops : (left : ℕ) (first : Lexed) (others ts : List Lexed) (s : Scalar) (f : TextFault) → first.token ≡ word s → s ≡ long_number → f ≡ record { code = NumberTooLong; offset = first.offset } → NextIs ts first others → StuckAt left [] ts f
 word_stops left first others ts s f is long at n =
-    value_stops left ts first others f NumberTooLong n (ap (λ (g : TextFault). g.place) at) (ap (λ (g : TextFault). g.code) at)
+    value_stops left ts first others f NumberTooLong n (ap (λ (g : TextFault). g.offset) at) (ap (λ (g : TextFault). g.code) at)
     (subst (λ (t : Token). IsStuck left [] t length_of_numbers) (sym (is ∙ ap word long)) (stuck_long left))

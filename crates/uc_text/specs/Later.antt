@@ -12,5 +12,5 @@ use Rattle.uc_text.specs.declared.fault.TextFault.{TextFault}
 abbrev pub DoublesStop : ℕ → List Lexed → List Name → Type 0
 DoublesStop left ts ns =
     (n : ℕ) (d : Name) (f : TextFault) → n < length ns → IsFirst (names_said ns) n →
-    f.place ≡ (slice_index_or ns n d).offset → f.code ≡ DoubleKey →
+    f.offset ≡ (slice_index_or ns n d).offset → f.code ≡ DoubleKey →
     StuckAt left (open_object ∷ []) ts f

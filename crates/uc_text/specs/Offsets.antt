@@ -28,7 +28,7 @@ pub record StuckAt (left : ℕ) (front : List grammar.Token) (ts : List Lexed) (
   pub at : Lexed
   pub after : List Lexed
   pub parts : ts ≡ before ++ at ∷ after
-  pub offset : f.place ≡ at.offset
+  pub offset : f.offset ≡ at.offset
   pub stuck : IsStuck left (front ++ kinds before) at.token (test_of f.code)
 
 abbrev pub FaultIs : TextError → (TextFault → Type 0) → Type 0

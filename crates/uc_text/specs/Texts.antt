@@ -16,5 +16,5 @@ pub record IsFirstFault (limit : ℕ) (bytes : List ℕ) (f : TextFault) : Type 
   pub at : Lexed
   pub after : List Lexed
   pub parts : tokens bytes ≡ before ++ at ∷ after
-  pub offset : f.place ≡ at.offset
+  pub offset : f.offset ≡ at.offset
   pub fails : IsFault limit (kinds before) at.token (test_of f.code)

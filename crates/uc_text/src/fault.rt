@@ -32,18 +32,20 @@ impl TextCode {
     }
 }
 
-/// The first fault of a text; `place` is the offset from 0 of the first byte of its token.
+/// The first fault of a text.
 #[derive(Clone, Copy, Debug, PartialEq, Eq)]
 pub struct TextFault {
+    /// What is wrong.
     pub code: TextCode,
-    pub place: u32,
+    /// The offset from 0 of the first byte of the token that is in fault.
+    pub offset: u32,
 }
 
 /// Why there is no tree: the first fault of the text, or want of memory, which may come wherever
 /// memory is taken.
 #[derive(Clone, Copy, Debug, PartialEq, Eq, Drop, Error)]
 pub enum TextError {
-    #[error("not a JSON text of this profile at byte {}", .0.place)]
+    #[error("not a JSON text of this profile at byte {}", .0.offset)]
     Fault(TextFault),
     #[error("out of memory")]
     Memory,

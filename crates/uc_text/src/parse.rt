@@ -30,12 +30,9 @@ use text_tree::{Node, Tree};
 const LEVELS: u32 = 32;
 
 fn fault(code: TextCode, offset: u32) -> TextError
-    ensures { result ≡ TextError.Fault (record { code = code; place = offset }) }
+    ensures { result ≡ TextError.Fault (record { code = code; offset = offset }) }
 {
-    TextError::Fault(TextFault {
-        code,
-        place: offset,
-    })
+    TextError::Fault(TextFault { code, offset })
 }
 
 /// The node of a value of one token, unless it's a number that is too long.
@@ -45,7 +42,7 @@ fn word_node(word: Word<'_>, offset: u32) -> Result<Node, TextError>
         → IsOne bytes node (scalar (scalar_of word.entry))) }
     ensures short { OnOk result (IsShort (scalar_of word.entry)) }
     ensures fault { IfFault result (λ f. (scalar_of word.entry ≡ long_number)
-        × (f ≡ record { code = TextCode.NumberTooLong; place = offset })) }
+        × (f ≡ record { code = TextCode.NumberTooLong; offset = offset })) }
 {
     match word {
         Word::Null => Ok(Node::Null),
