@@ -16,6 +16,6 @@ pub use Rattle.hull_words.specs.declared.fault.WordCode.{WordCode}
 pub use Rattle.hull_words.specs.declared.fault.WordCode.TheVariants.{RepeatedOption, NoValue, StrayWord, NoCommand, UnknownCommand, BadNumber}
 pub use Rattle.hull_words.specs.declared.fault.WordFault.{WordFault}
 pub use Rattle.hull_words.specs.declared.kinds.CommandKind.{CommandKind}
-pub use Rattle.hull_words.specs.declared.kinds.CommandKind.TheVariants.{Try, Price, Check, Bound, Fixed, Audit, Settle}
+pub use Rattle.hull_words.specs.declared.kinds.CommandKind.TheVariants.{Try, Price, Check, Bound, Fixed, Audit, Settle, Certify}
 pub use Rattle.hull_words.specs.declared.kinds.OptionKind.{OptionKind}
-pub use Rattle.hull_words.specs.declared.kinds.OptionKind.TheVariants.{Case, Schedule, Report, Prices, Proposals, Workers, Ahead, Radius}
+pub use Rattle.hull_words.specs.declared.kinds.OptionKind.TheVariants.{Case, Schedule, Report, Prices, Mixture, Proposals, Workers, Ahead, Radius}

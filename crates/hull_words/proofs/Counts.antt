@@ -1,17 +1,18 @@
 -- How many values are set, and what one step of the reader adds.
-use Rattle.hull_words.proofs.Common.{◌≡◌, ℕ, ◌+◌, ◌≤◌, Bool, true, false, cond, List, Option, Some, None, Result, Ok, Err, refl, ap, subst, arith, is_some, CommandKind, Try, OptionKind, Case, Schedule, Report, Prices, Proposals, Workers, Ahead, Radius, WordCode, RepeatedOption, NoValue, StrayWord, is_option, option_name, can_be_value, Found, option_in, value_at, setting, try_number, flag, set_count, is_set, with_number, set_to, value_step, option_step, plain_step, word_step}
+use Rattle.hull_words.proofs.Common.{◌≡◌, ℕ, ◌+◌, ◌≤◌, Bool, true, false, cond, List, Option, Some, None, Result, Ok, Err, refl, ap, subst, arith, is_some, CommandKind, Try, OptionKind, Case, Schedule, Report, Prices, Mixture, Proposals, Workers, Ahead, Radius, WordCode, RepeatedOption, NoValue, StrayWord, is_option, option_name, can_be_value, Found, option_in, value_at, setting, try_number, flag, set_count, is_set, with_number, set_to, value_step, option_step, plain_step, word_step}
 
 pub flag_bound : (b : Bool) → flag b ≤ 1
 flag_bound true = omega arith
 flag_bound false = omega arith
 
-pub set_count_bound : (f : Found) → set_count f ≤ 9
+pub set_count_bound : (f : Found) → set_count f ≤ 10
 set_count_bound f = omega (
   arith,
   flag_bound (is_some f.case_name),
   flag_bound (is_some f.schedule_name),
   flag_bound (is_some f.report_name),
   flag_bound (is_some f.prices_name),
+  flag_bound (is_some f.mixture_name),
   flag_bound (is_some f.proposals),
   flag_bound (is_some f.workers),
   flag_bound (is_some f.ahead),
@@ -38,6 +39,7 @@ set_to-count Case text before after unset e = subst (OneMore before) (ok_is _ af
 set_to-count Schedule text before after unset e = subst (OneMore before) (ok_is _ after e) (omega (arith, ap flag unset))
 set_to-count Report text before after unset e = subst (OneMore before) (ok_is _ after e) (omega (arith, ap flag unset))
 set_to-count Prices text before after unset e = subst (OneMore before) (ok_is _ after e) (omega (arith, ap flag unset))
+set_to-count Mixture text before after unset e = subst (OneMore before) (ok_is _ after e) (omega (arith, ap flag unset))
 set_to-count Proposals text before after unset e =
     let p = number_ok (setting Proposals text) (λ n. record before { proposals = Some n }) after e in subst (OneMore before) p.2 (omega (arith, ap flag unset))
 set_to-count Workers text before after unset e =

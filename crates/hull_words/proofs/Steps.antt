@@ -1,5 +1,5 @@
 -- One step of the reader is the rules of that word.
-use Rattle.hull_words.proofs.Common.{◌≡◌, ℕ, Bool, true, false, ◌||◌, cond, List, [], ◌∷◌, Option, Some, None, is_some, Result, Ok, Err, refl, sym, ap, subst, ◌∙◌, find, bytes_eq-Decides, same_Some, CommandKind, Price, Check, Try, Bound, Fixed, Audit, Settle, OptionKind, Case, Schedule, Report, Prices, Proposals, Workers, Ahead, Radius, WordCode, RepeatedOption, NoValue, BadNumber, options, spelling, is_option, option_name, own_value, takes_next, can_be_value, Found, option_in, is_named, is_given, or_else, value_at, setting, fits, option_fault, is_value_after, plain_words, try_number, plain_fault, fault_at, first_of, value_of, found_in, is_set, with_number, set_to, value_step, option_step, plain_step, word_step}
+use Rattle.hull_words.proofs.Common.{◌≡◌, ℕ, Bool, true, false, ◌||◌, cond, List, [], ◌∷◌, Option, Some, None, is_some, Result, Ok, Err, refl, sym, ap, subst, ◌∙◌, find, bytes_eq-Decides, same_Some, CommandKind, Price, Check, Try, Bound, Fixed, Audit, Settle, Certify, OptionKind, Case, Schedule, Report, Prices, Mixture, Proposals, Workers, Ahead, Radius, WordCode, RepeatedOption, NoValue, BadNumber, options, spelling, is_option, option_name, own_value, takes_next, can_be_value, Found, option_in, is_named, is_given, or_else, value_at, setting, fits, option_fault, is_value_after, plain_words, try_number, plain_fault, fault_at, first_of, value_of, found_in, is_set, with_number, set_to, value_step, option_step, plain_step, word_step}
 use Rattle.std.specs.Str.{bytes_eq}
 use Rattle.hull_words.proofs.Counts.{ok_is, number_ok}
 use Rattle.hull_words.proofs.TextLemmas.{is_option-value}
@@ -74,6 +74,10 @@ prices_marks : (o : OptionKind) (text : List ℕ) (found : Found) → is_set o (
 prices_marks Prices text found = refl
 prices_marks _ text found = refl
 
+mixture_marks : (o : OptionKind) (text : List ℕ) (found : Found) → is_set o (record found { mixture_name = Some text }) ≡ (same o Mixture || is_set o found)
+mixture_marks Mixture text found = refl
+mixture_marks _ text found = refl
+
 proposals_marks : (o : OptionKind) (n : ℕ) (found : Found) → is_set o (record found { proposals = Some n }) ≡ (same o Proposals || is_set o found)
 proposals_marks Proposals n found = refl
 proposals_marks _ n found = refl
@@ -106,37 +110,40 @@ agrees_more m text earlier grown found after a g marks number values = record {
 proposals_values : (n : ℕ) (text : List ℕ) (earlier grown : List (List ℕ)) (found : Found) → Agrees earlier found → Grows Proposals text earlier grown → setting Proposals text ≡ Some n → record found { proposals = Some n } ≡ found_in grown
 unfolding found_in
 proposals_values n text earlier grown found a g e =
-    rw (a.values, g.value Case, g.value Schedule, g.value Report, g.value Prices, g.value Proposals, g.value Workers, g.value Ahead, g.value Radius, g.plain, e) refl
+    rw (a.values, g.value Case, g.value Schedule, g.value Report, g.value Prices, g.value Mixture, g.value Proposals, g.value Workers, g.value Ahead, g.value Radius, g.plain, e) refl
 
 workers_values : (n : ℕ) (text : List ℕ) (earlier grown : List (List ℕ)) (found : Found) → Agrees earlier found → Grows Workers text earlier grown → setting Workers text ≡ Some n → record found { workers = Some n } ≡ found_in grown
 unfolding found_in
 workers_values n text earlier grown found a g e =
-    rw (a.values, g.value Case, g.value Schedule, g.value Report, g.value Prices, g.value Proposals, g.value Workers, g.value Ahead, g.value Radius, g.plain, e) refl
+    rw (a.values, g.value Case, g.value Schedule, g.value Report, g.value Prices, g.value Mixture, g.value Proposals, g.value Workers, g.value Ahead, g.value Radius, g.plain, e) refl
 
 ahead_values : (n : ℕ) (text : List ℕ) (earlier grown : List (List ℕ)) (found : Found) → Agrees earlier found → Grows Ahead text earlier grown → setting Ahead text ≡ Some n → record found { ahead = Some n } ≡ found_in grown
 unfolding found_in
 ahead_values n text earlier grown found a g e =
-    rw (a.values, g.value Case, g.value Schedule, g.value Report, g.value Prices, g.value Proposals, g.value Workers, g.value Ahead, g.value Radius, g.plain, e) refl
+    rw (a.values, g.value Case, g.value Schedule, g.value Report, g.value Prices, g.value Mixture, g.value Proposals, g.value Workers, g.value Ahead, g.value Radius, g.plain, e) refl
 
 radius_values : (n : ℕ) (text : List ℕ) (earlier grown : List (List ℕ)) (found : Found) → Agrees earlier found → Grows Radius text earlier grown → setting Radius text ≡ Some n → record found { radius = Some n } ≡ found_in grown
 unfolding found_in
 radius_values n text earlier grown found a g e =
-    rw (a.values, g.value Case, g.value Schedule, g.value Report, g.value Prices, g.value Proposals, g.value Workers, g.value Ahead, g.value Radius, g.plain, e) refl
+    rw (a.values, g.value Case, g.value Schedule, g.value Report, g.value Prices, g.value Mixture, g.value Proposals, g.value Workers, g.value Ahead, g.value Radius, g.plain, e) refl
 
 pub agrees-set : (m : OptionKind) (text : List ℕ) (earlier grown : List (List ℕ)) (found after : Found) → Agrees earlier found → Grows m text earlier grown → set_to m text found ≡ Ok after → Agrees grown after
 unfolding found_in
 agrees-set Case text earlier grown found after a g e =
     subst (Agrees grown) (ok_is _ after e) (agrees_more Case text earlier grown found _ a g (λ o. case_marks o text found) refl
-    (rw (a.values, g.value Case, g.value Schedule, g.value Report, g.value Prices, g.value Proposals, g.value Workers, g.value Ahead, g.value Radius, g.plain) refl))
+    (rw (a.values, g.value Case, g.value Schedule, g.value Report, g.value Prices, g.value Mixture, g.value Proposals, g.value Workers, g.value Ahead, g.value Radius, g.plain) refl))
 agrees-set Schedule text earlier grown found after a g e =
     subst (Agrees grown) (ok_is _ after e) (agrees_more Schedule text earlier grown found _ a g (λ o. schedule_marks o text found) refl
-    (rw (a.values, g.value Case, g.value Schedule, g.value Report, g.value Prices, g.value Proposals, g.value Workers, g.value Ahead, g.value Radius, g.plain) refl))
+    (rw (a.values, g.value Case, g.value Schedule, g.value Report, g.value Prices, g.value Mixture, g.value Proposals, g.value Workers, g.value Ahead, g.value Radius, g.plain) refl))
 agrees-set Report text earlier grown found after a g e =
     subst (Agrees grown) (ok_is _ after e) (agrees_more Report text earlier grown found _ a g (λ o. report_marks o text found) refl
-    (rw (a.values, g.value Case, g.value Schedule, g.value Report, g.value Prices, g.value Proposals, g.value Workers, g.value Ahead, g.value Radius, g.plain) refl))
+    (rw (a.values, g.value Case, g.value Schedule, g.value Report, g.value Prices, g.value Mixture, g.value Proposals, g.value Workers, g.value Ahead, g.value Radius, g.plain) refl))
 agrees-set Prices text earlier grown found after a g e =
     subst (Agrees grown) (ok_is _ after e) (agrees_more Prices text earlier grown found _ a g (λ o. prices_marks o text found) refl
-    (rw (a.values, g.value Case, g.value Schedule, g.value Report, g.value Prices, g.value Proposals, g.value Workers, g.value Ahead, g.value Radius, g.plain) refl))
+    (rw (a.values, g.value Case, g.value Schedule, g.value Report, g.value Prices, g.value Mixture, g.value Proposals, g.value Workers, g.value Ahead, g.value Radius, g.plain) refl))
+agrees-set Mixture text earlier grown found after a g e =
+    subst (Agrees grown) (ok_is _ after e) (agrees_more Mixture text earlier grown found _ a g (λ o. mixture_marks o text found) refl
+    (rw (a.values, g.value Case, g.value Schedule, g.value Report, g.value Prices, g.value Mixture, g.value Proposals, g.value Workers, g.value Ahead, g.value Radius, g.plain) refl))
 agrees-set Proposals text earlier grown found after a g e =
     let p = number_ok (setting Proposals text) (λ n. record found { proposals = Some n }) after e in
     subst (Agrees grown) p.2 (agrees_more Proposals text earlier grown found _ a g (λ o. proposals_marks o p.0 found) refl (proposals_values p.0 text earlier grown found a g p.1))
@@ -188,6 +195,7 @@ set_follows Case text found = refl
 set_follows Schedule text found = refl
 set_follows Report text found = refl
 set_follows Prices text found = refl
+set_follows Mixture text found = refl
 set_follows Proposals text found = number_follows Proposals text (setting Proposals text) (λ n. record found { proposals = Some n }) refl
 set_follows Workers text found = number_follows Workers text (setting Workers text) (λ n. record found { workers = Some n }) refl
 set_follows Ahead text found = number_follows Ahead text (setting Ahead text) (λ n. record found { ahead = Some n }) refl
@@ -273,6 +281,7 @@ agrees-number n earlier word found a plain apart number = record {
     plain_value word earlier Schedule plain apart,
     plain_value word earlier Report plain apart,
     plain_value word earlier Prices plain apart,
+    plain_value word earlier Mixture plain apart,
     plain_value word earlier Proposals plain apart,
     plain_value word earlier Workers plain apart,
     plain_value word earlier Ahead plain apart,
@@ -314,6 +323,7 @@ plain_follows Bound earlier word later found a option apart = fault_at-plain Bou
 plain_follows Fixed earlier word later found a option apart = fault_at-plain Fixed earlier word (first_of later) (plain_words earlier) apart option refl
 plain_follows Audit earlier word later found a option apart = fault_at-plain Audit earlier word (first_of later) (plain_words earlier) apart option refl
 plain_follows Settle earlier word later found a option apart = fault_at-plain Settle earlier word (first_of later) (plain_words earlier) apart option refl
+plain_follows Certify earlier word later found a option apart = fault_at-plain Certify earlier word (first_of later) (plain_words earlier) apart option refl
 
 either_follows : (b : Bool) (command : CommandKind) (earlier : List (List ℕ)) (word : List ℕ) (later : List (List ℕ)) (found : Found) → Agrees earlier found → is_option word ≡ b → is_value_after earlier ≡ false
     → Follows command earlier word later (cond b (option_step (option_in command (option_name word)) (value_at word (first_of later)) found) (plain_step command word found))

@@ -4,11 +4,12 @@ use Rattle.hull_words.specs.declared.defaults.TheConstants.{DEFAULT_PROPOSALS, D
 use Rattle.hull_words.specs.declared.defaults.TheConstants.{DEFAULT_AHEAD, DEFAULT_RADIUS}
 use Rattle.hull_words.specs.declared.command.PriceWords.{PriceWords}
 use Rattle.hull_words.specs.declared.command.CheckWords.{CheckWords}
+use Rattle.hull_words.specs.declared.command.SettleWords.{SettleWords}
 use Rattle.hull_words.specs.declared.command.Command.{Command}
 use Rattle.hull_words.specs.declared.command.Command.TheVariants as commands
 use Rattle.hull_words.specs.declared.kinds.CommandKind.{CommandKind}
 use Rattle.hull_words.specs.declared.kinds.CommandKind.TheVariants.{Price, Check, Try, Bound, Fixed}
-use Rattle.hull_words.specs.declared.kinds.CommandKind.TheVariants.{Audit, Settle}
+use Rattle.hull_words.specs.declared.kinds.CommandKind.TheVariants.{Audit, Settle, Certify}
 
 pub record PriceAsked : Type 0 where
   pub case_name : List ℕ
@@ -42,6 +43,11 @@ pub record SettleAsked : Type 0 where
   pub schedule_name : List ℕ
   pub prices_name : List ℕ
 
+pub record CertifyAsked : Type 0 where
+  pub names : SettleAsked
+  pub mixture_name : List ℕ
+  pub radius : ℤ
+
 pub data Asked : Type 0 where
   price : PriceAsked → Asked
   check : CheckAsked → Asked
@@ -50,6 +56,7 @@ pub data Asked : Type 0 where
   fixed : PriceAsked → Asked
   audit : AuditAsked → Asked
   settle : SettleAsked → Asked
+  certify : CertifyAsked → Asked
 
 -- what a contract sees of a command
 abbrev pub price_asked : PriceWords → PriceAsked
@@ -64,6 +71,14 @@ price_asked w =
 
 abbrev pub check_asked : CheckWords → CheckAsked
 check_asked w = record { case_name = w.case_name.items; schedule_name = w.schedule_name.items }
+
+abbrev pub settle_asked : SettleWords → SettleAsked
+settle_asked w =
+    record {
+      case_name = w.case_name.items;
+      schedule_name = w.schedule_name.items;
+      prices_name = w.prices_name.items;
+    }
 
 abbrev pub asked : Command → Asked
 asked (commands.Price w) = price (price_asked w)
@@ -84,11 +99,12 @@ asked (commands.Audit w) =
       report_name = w.report_name.items;
       workers = w.workers;
     })
-asked (commands.Settle w) =
-    settle (record {
-      case_name = w.case_name.items;
-      schedule_name = w.schedule_name.items;
-      prices_name = w.prices_name.items;
+asked (commands.Settle w) = settle (settle_asked w)
+asked (commands.Certify w) =
+    certify (record {
+      names = settle_asked w.names;
+      mixture_name = w.mixture_name.items;
+      radius = w.radius;
     })
 
 -- the values that words give, each where it is given
@@ -97,6 +113,7 @@ pub record Found : Type 0 where
   pub schedule_name : Option (List ℕ)
   pub report_name : Option (List ℕ)
   pub prices_name : Option (List ℕ)
+  pub mixture_name : Option (List ℕ)
   pub proposals : Option ℕ
   pub workers : Option ℕ
   pub ahead : Option ℕ
@@ -123,6 +140,14 @@ price_from found = option_map (λ names. record {
   ahead = unwrap_or found.ahead DEFAULT_AHEAD;
 }) (names_from found)
 
+abbrev pub settle_from : Found → Option SettleAsked
+settle_from found =
+    with_both (names_from found) found.prices_name (λ names prices_name. record {
+      case_name = names.case_name;
+      schedule_name = names.schedule_name;
+      prices_name = prices_name;
+    })
+
 -- the command with its values, by default where absent; None where one that it requires is absent
 abbrev pub asked_from : CommandKind → Found → Option Asked
 asked_from Price found = option_map price (price_from found)
@@ -145,9 +170,10 @@ asked_from Audit found =
       report_name = report_name;
       workers = unwrap_or found.workers DEFAULT_WORKERS;
     }))
-asked_from Settle found =
-    with_both (names_from found) found.prices_name (λ names prices_name. settle (record {
-      case_name = names.case_name;
-      schedule_name = names.schedule_name;
-      prices_name = prices_name;
+asked_from Settle found = option_map settle (settle_from found)
+asked_from Certify found =
+    with_both (settle_from found) found.mixture_name (λ names mixture_name. certify (record {
+      names = names;
+      mixture_name = mixture_name;
+      radius = pos (unwrap_or found.radius DEFAULT_RADIUS);
     }))

@@ -7,7 +7,7 @@ use Rattle.hull_words.specs.declared.kinds.CommandKind.TheVariants.{Try}
 use Rattle.hull_words.specs.declared.kinds.OptionKind.{OptionKind}
 use Rattle.hull_words.specs.declared.kinds.OptionKind.TheVariants.{Case, Schedule, Report}
 use Rattle.hull_words.specs.declared.kinds.OptionKind.TheVariants.{Proposals, Workers, Ahead}
-use Rattle.hull_words.specs.declared.kinds.OptionKind.TheVariants.{Radius, Prices}
+use Rattle.hull_words.specs.declared.kinds.OptionKind.TheVariants.{Radius, Prices, Mixture}
 use Rattle.hull_words.specs.declared.fault.WordCode.{WordCode}
 use Rattle.hull_words.specs.declared.fault.WordCode.TheVariants.{UnknownOption, RepeatedOption}
 use Rattle.hull_words.specs.declared.fault.WordCode.TheVariants.{NoValue, BadNumber, StrayWord}
@@ -24,6 +24,7 @@ found_so_far given = record {
   schedule_name = option_copied given.schedule_name;
   report_name = option_copied given.report_name;
   prices_name = option_copied given.prices_name;
+  mixture_name = option_copied given.mixture_name;
   proposals = given.proposals;
   workers = given.workers;
   ahead = given.ahead;
@@ -38,6 +39,7 @@ nothing =
       schedule_name = None;
       report_name = None;
       prices_name = None;
+      mixture_name = None;
       proposals = None;
       workers = None;
       ahead = None;
@@ -50,6 +52,7 @@ is_set Case found = is_some found.case_name
 is_set Schedule found = is_some found.schedule_name
 is_set Report found = is_some found.report_name
 is_set Prices found = is_some found.prices_name
+is_set Mixture found = is_some found.mixture_name
 is_set Proposals found = is_some found.proposals
 is_set Workers found = is_some found.workers
 is_set Ahead found = is_some found.ahead
@@ -63,8 +66,8 @@ flag false = 0
 abbrev pub set_count : Found → ℕ
 set_count f =
     flag (is_some f.case_name) + flag (is_some f.schedule_name) + flag (is_some f.report_name)
-    + flag (is_some f.prices_name) + flag (is_some f.proposals)
-    + flag (is_some f.workers) + flag (is_some f.ahead) + flag (is_some f.radius)
+    + flag (is_some f.prices_name) + flag (is_some f.mixture_name)
+    + flag (is_some f.proposals) + flag (is_some f.workers) + flag (is_some f.ahead) + flag (is_some f.radius)
     + flag (is_some f.number)
 
 -- a step on a number that is there, and otherwise a bad one
@@ -77,6 +80,7 @@ set_to Case text found = Ok (record found { case_name = Some text })
 set_to Schedule text found = Ok (record found { schedule_name = Some text })
 set_to Report text found = Ok (record found { report_name = Some text })
 set_to Prices text found = Ok (record found { prices_name = Some text })
+set_to Mixture text found = Ok (record found { mixture_name = Some text })
 set_to Proposals text found =
     with_number (setting Proposals text) (λ n. record found { proposals = Some n })
 set_to Workers text found =

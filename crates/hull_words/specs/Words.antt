@@ -14,7 +14,7 @@ use Rattle.hull_words.specs.declared.kinds.CommandKind.TheVariants.{Try}
 use Rattle.hull_words.specs.declared.kinds.OptionKind.{OptionKind}
 use Rattle.hull_words.specs.declared.kinds.OptionKind.TheVariants.{Case, Schedule, Report}
 use Rattle.hull_words.specs.declared.kinds.OptionKind.TheVariants.{Proposals, Workers, Ahead}
-use Rattle.hull_words.specs.declared.kinds.OptionKind.TheVariants.{Radius, Prices}
+use Rattle.hull_words.specs.declared.kinds.OptionKind.TheVariants.{Radius, Prices, Mixture}
 use Rattle.hull_words.specs.declared.fault.WordCode.{WordCode}
 use Rattle.hull_words.specs.declared.fault.WordCode.TheVariants.{NoCommand, UnknownCommand}
 use Rattle.hull_words.specs.declared.fault.WordCode.TheVariants.{UnknownOption, RepeatedOption}
@@ -64,6 +64,7 @@ fits Case text = true
 fits Schedule text = true
 fits Report text = true
 fits Prices text = true
+fits Mixture text = true
 fits o text = is_some (setting o text)
 
 -- what is wrong with an option that the command has, or not, that was given before, or not, and
@@ -148,6 +149,7 @@ found_in words = record {
   schedule_name = value_of (spelling Schedule) None words;
   report_name = value_of (spelling Report) None words;
   prices_name = value_of (spelling Prices) None words;
+  mixture_name = value_of (spelling Mixture) None words;
   proposals = option_and_then (setting Proposals) (value_of (spelling Proposals) None words);
   workers = option_and_then (setting Workers) (value_of (spelling Workers) None words);
   ahead = option_and_then (setting Ahead) (value_of (spelling Ahead) None words);

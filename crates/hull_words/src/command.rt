@@ -75,6 +75,18 @@ pub struct SettleWords {
     pub prices_name: Name,
 }
 
+/// The words of `hull certify`.
+#[derive(Drop)]
+pub struct CertifyWords {
+    /// The names of the case, the schedule and the prices, as for `hull settle`.
+    pub names: SettleWords,
+    /// The name of the file with the mixture.
+    pub mixture_name: Name,
+    /// How far each price may be from the given one, in thousandths of the currency per MW and
+    /// period, 0 to 20,000,000; [`DEFAULT_RADIUS`] where the words don't say.
+    pub radius: i64,
+}
+
 /// A command with its words.
 pub enum Command {
     /// Runs the price rule and reports.
@@ -91,6 +103,8 @@ pub enum Command {
     Audit(AuditWords),
     /// Settles given prices.
     Settle(SettleWords),
+    /// Certifies given prices by a mixture of schedules.
+    Certify(CertifyWords),
 }
 
 // Written out, so that a drop of it is a call, and not one for each name of each command.
@@ -104,6 +118,7 @@ impl Drop for Command {
             Command::Fixed(_words) => {}
             Command::Audit(_words) => {}
             Command::Settle(_words) => {}
+            Command::Certify(_words) => {}
         }
     }
 }

@@ -14,6 +14,7 @@ pub enum CommandKind {
     Fixed,
     Audit,
     Settle,
+    Certify,
 }
 
 /// An option without its value.
@@ -23,6 +24,7 @@ pub enum OptionKind {
     Schedule,
     Report,
     Prices,
+    Mixture,
     Proposals,
     Workers,
     Ahead,
@@ -48,6 +50,8 @@ impl CommandKind {
             Some(CommandKind::Audit)
         } else if word == "settle" {
             Some(CommandKind::Settle)
+        } else if word == "certify" {
+            Some(CommandKind::Certify)
         } else {
             None
         }
@@ -86,6 +90,13 @@ impl CommandKind {
                 OptionKind::Workers,
             ],
             CommandKind::Settle => &[OptionKind::Case, OptionKind::Schedule, OptionKind::Prices],
+            CommandKind::Certify => &[
+                OptionKind::Case,
+                OptionKind::Schedule,
+                OptionKind::Prices,
+                OptionKind::Mixture,
+                OptionKind::Radius,
+            ],
         }
     }
 
@@ -110,6 +121,7 @@ impl OptionKind {
             OptionKind::Schedule => "schedule",
             OptionKind::Report => "report",
             OptionKind::Prices => "prices",
+            OptionKind::Mixture => "mixture",
             OptionKind::Proposals => "proposals",
             OptionKind::Workers => "workers",
             OptionKind::Ahead => "ahead",

@@ -9,6 +9,8 @@ mod kinds;
 mod reading;
 mod text;
 
-pub use command::{AuditWords, BoundWords, CheckWords, Command, PriceWords, SettleWords, TryWords};
+pub use command::{
+    AuditWords, BoundWords, CertifyWords, CheckWords, Command, PriceWords, SettleWords, TryWords,
+};
 pub use fault::{WordCode, WordError, WordFault};
 pub use reading::read_words;

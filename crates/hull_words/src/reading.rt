@@ -3,14 +3,14 @@ ghost use Rattle.std.specs.Prelude.{◌≡◌, ◌+◌, ◌*◌, ◌<◌, ◌≤
 ghost use Rattle.std.specs.Prelude.{OnOk};
 ghost use Rattle.std.specs.Option.{option_copied};
 ghost use Rattle.hull_words.specs.Asked.{asked, asked_from, check_asked, price_asked, names_from};
-ghost use Rattle.hull_words.specs.Asked.{price_from};
+ghost use Rattle.hull_words.specs.Asked.{price_from, settle_asked, settle_from};
 ghost use Rattle.hull_words.specs.Texts.{takes_next};
 ghost use Rattle.hull_words.specs.Reading.{found_so_far, nothing, flag, option_step, plain_step};
 ghost use Rattle.hull_words.specs.Reading.{set_count, word_step, read_from, seen};
 ghost use Rattle.hull_words.specs.Words.{Gives, first_of, option_in, or_missing, texts, words_of};
 
 use crate::command::{
-    AuditWords, BoundWords, CheckWords, Command, PriceWords, SettleWords, TryWords,
+    AuditWords, BoundWords, CertifyWords, CheckWords, Command, PriceWords, SettleWords, TryWords,
 };
 use crate::defaults::{DEFAULT_AHEAD, DEFAULT_PROPOSALS, DEFAULT_RADIUS, DEFAULT_WORKERS};
 use crate::fault::{WordCode, WordError, WordFault};
@@ -105,7 +105,7 @@ fn pass_word<'a>(
     given: Given<'a>,
 ) -> Result<(Given<'a>, bool), WordFault>
     requires within { index < length words.now }
-    // Each word that is no value sets one of nine values.
+    // Each word that is no value sets one of ten values.
     requires few { index + flag is_value ≤ 2 * set_count (found_so_far given) }
     ensures ok { IfOk result (λ x. read_from command (index + 2) is_value
         (drop index (texts words.now)) (found_so_far given.entry)
@@ -131,7 +131,7 @@ fn pass_word<'a>(
 /// The values that the words after the command give.
 fn read_later<'a>(command: CommandKind, words: &'a [String]) -> Result<Given<'a>, WordFault>
     ensures read { seen found_so_far result ≡ read_from command 2 false (texts words.now) nothing }
-    ensures few { OnOk result (length words.now ≤ 18) }
+    ensures few { OnOk result (length words.now ≤ 20) }
 {
     let mut given = Given::nothing();
     let mut is_value = false;
@@ -201,8 +201,7 @@ fn audit_words(alloc: Global, given: &Given, count: u32) -> Result<AuditWords, W
 }
 
 fn settle_words(alloc: Global, given: &Given, count: u32) -> Result<SettleWords, WordError>
-    ensures { Gives (λ words. asked (Command.Settle words)) result
-        (or_missing (asked_from CommandKind.Settle (found_so_far given.now)) count) }
+    ensures { Gives settle_asked result (or_missing (settle_from (found_so_far given.now)) count) }
 {
     let CheckWords {
         case_name,
@@ -213,6 +212,19 @@ fn settle_words(alloc: Global, given: &Given, count: u32) -> Result<SettleWords,
         case_name,
         schedule_name,
         prices_name: Name::copied(alloc, prices_name)?,
+    })
+}
+
+fn certify_words(alloc: Global, given: &Given, count: u32) -> Result<CertifyWords, WordError>
+    ensures { Gives (λ words. asked (Command.Certify words)) result
+        (or_missing (asked_from CommandKind.Certify (found_so_far given.now)) count) }
+{
+    let names = settle_words(alloc, given, count)?;
+    let mixture_name = required(given.mixture_name, count)?;
+    Ok(CertifyWords {
+        names,
+        mixture_name: Name::copied(alloc, mixture_name)?,
+        radius: i64::from(given.radius.unwrap_or(DEFAULT_RADIUS)),
     })
 }
 
@@ -241,13 +253,14 @@ fn command_of(
         CommandKind::Fixed => Ok(Command::Fixed(price_words(alloc, given, count)?)),
         CommandKind::Audit => Ok(Command::Audit(audit_words(alloc, given, count)?)),
         CommandKind::Settle => Ok(Command::Settle(settle_words(alloc, given, count)?)),
+        CommandKind::Certify => Ok(Command::Certify(certify_words(alloc, given, count)?)),
     }
 }
 
 /// The command that the words after the program's name give, or their first fault: the words are
-/// `price`, `check`, `try`, `bound`, `fixed`, `audit` or `settle`, and then its options and, for
-/// `try`, its number. It takes memory for the names alone; a name of 4 GiB or more is answered as want of
-/// memory.
+/// `price`, `check`, `try`, `bound`, `fixed`, `audit`, `settle` or `certify`, and then its options
+/// and, for `try`, its number. It takes memory for the names alone; a name of 4 GiB or more is
+/// answered as want of memory.
 pub fn read_words(alloc: Global, words: &[String]) -> Result<Command, WordError>
     ensures { Gives asked result (words_of (texts words.now)) }
 {

@@ -8,11 +8,12 @@ invariant-loop-index l =
       schedule_name = l.given.1.0;
       report_name = l.given.1.1.0;
       prices_name = l.given.1.1.1.0;
-      proposals = l.given.1.1.1.1.0;
-      workers = l.given.1.1.1.1.1.0;
-      ahead = l.given.1.1.1.1.1.1.0;
-      radius = l.given.1.1.1.1.1.1.1.0;
-      number = l.given.1.1.1.1.1.1.1.1.0;
+      mixture_name = l.given.1.1.1.1.0;
+      proposals = l.given.1.1.1.1.1.0;
+      workers = l.given.1.1.1.1.1.1.0;
+      ahead = l.given.1.1.1.1.1.1.1.0;
+      radius = l.given.1.1.1.1.1.1.1.1.0;
+      number = l.given.1.1.1.1.1.1.1.1.1.0;
     }) in
     record {
       rest : read_from l.command (l.index + 2) l.is_value (drop l.index (texts l.words)) found ≡ read_from l.command 2 false (texts l.words) nothing;
