@@ -14,6 +14,8 @@ unfoldable pub use Rattle.report_form.specs.Parts.{escaped}
 pub use Rattle.report_form.specs.Pending.{Pends, Adds}
 pub use Rattle.report_form.specs.ReportText.{UnitLine, rows_text, renewable_text, bid_text, Report}
 pub use Rattle.report_form.specs.SettlementText.{SettlementReport, TextDeterminesSettlement}
+pub use Rattle.report_form.specs.CertificateText.{Certificate, TextDeterminesCertificate}
+unfoldable pub use Rattle.report_form.specs.CertificateText.{certificate_text}
 unfoldable pub use Rattle.report_form.specs.SettlementText.{priced_text, settlement_text}
 unfoldable pub use Rattle.report_form.specs.ReportText.{head_text, row_text, chosen_text, thermal_text, flat_text, foot_text, report_text}
 pub use Rattle.plain_lists.proofs.ListLaws.{flat_map_at, flat_map_up_to}

@@ -18,5 +18,7 @@ mod ReadLines
 mod ReadReport
 -- laws.rt: a settlement, read back block by block
 mod ReadSettlement
+-- laws.rt: a certificate, read back line by line
+mod ReadCertificate
 -- The lemmas that answers cite.
 pub mod Lemmas

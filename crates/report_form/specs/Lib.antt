@@ -4,3 +4,4 @@ pub mod ReportText
 pub mod Pending
 pub mod Laws
 pub mod SettlementText
+pub mod CertificateText

@@ -1,6 +1,7 @@
 //! Laws over texts: each is the contract of a function that does nothing.
 ghost use Rattle.report_form.specs.Laws.{GainsAddUp, TextDeterminesReport};
 ghost use Rattle.report_form.specs.SettlementText.{TextDeterminesSettlement};
+ghost use Rattle.report_form.specs.CertificateText.{TextDeterminesCertificate};
 
 use hull_io::Sink;
 
@@ -19,4 +20,9 @@ pub fn text_determines_the_report()
 /// Two settlements with equal texts are equal, in the same way.
 pub fn text_determines_the_settlement()
     ensures { TextDeterminesSettlement }
+{}
+
+/// Two certificates with equal texts are equal.
+pub fn text_determines_the_certificate()
+    ensures { TextDeterminesCertificate }
 {}

@@ -1,6 +1,7 @@
 //! What a report is and how its text is made, part by part, whatever it tells.
 #![tactic(auto)]
 
+pub mod certificate;
 pub mod laws;
 pub mod parts;
 mod pieces;

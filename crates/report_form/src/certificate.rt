@@ -1,0 +1,66 @@
+//! The text of `hull certify`.
+ghost use Rattle.hull_io.specs.Edge.{Writes};
+ghost use Rattle.report_form.specs.CertificateText.{certificate_in, certificate_text};
+
+use crate::parts::{Part, write_parts};
+use hull_io::{Sink, WriteFailed};
+
+/// What the text tells: the number of periods and of units with bids; in money the cost of the
+/// plan, the dual value of the given prices, what surplus reserve is worth there, the sum of the
+/// payments, and the gap; the radius round these prices, in money for a kilowatt and period; and in
+/// money the bound on the dual value of all prices within it, how far that is above the value, and
+/// what payments and surplus sum to at least at any of these prices.
+#[derive(Clone, Copy)]
+pub struct CertificateLines {
+    pub periods: u32,
+    pub units: u32,
+    pub cost: i128,
+    pub value: i128,
+    pub surplus: i128,
+    pub payments: i128,
+    pub gap: i128,
+    pub radius: u64,
+    pub bound: i128,
+    pub distance: i128,
+    pub least: i128,
+}
+
+/// Writes the lines of `hull certify`. Refused only where the sink's count of faults rose, and then
+/// the sink gained a front of the text.
+#[tactic(auto, unfolding(crate::specs::CertificateText::certificate_text))]
+pub fn write_certificate_lines<S: Sink>(
+    lines: &CertificateLines,
+    out: &mut S,
+) -> Result<(), WriteFailed>
+    ensures { Writes S.held S.faults S.last out.old out.new result
+        (certificate_text (certificate_in lines.now)) }
+{
+    write_parts(
+        out,
+        &[
+            Part::Text(b"hull-certificate 1\nperiods "),
+            Part::Count(lines.periods as u64),
+            Part::Text(b"\nunits "),
+            Part::Count(lines.units as u64),
+            Part::Text(b"\ncost "),
+            Part::Amount(lines.cost),
+            Part::Text(b"\nvalue "),
+            Part::Amount(lines.value),
+            Part::Text(b"\nsurplus "),
+            Part::Amount(lines.surplus),
+            Part::Text(b"\npayments "),
+            Part::Amount(lines.payments),
+            Part::Text(b"\ngap "),
+            Part::Amount(lines.gap),
+            Part::Text(b"\nradius "),
+            Part::Count(lines.radius),
+            Part::Text(b"\nbound "),
+            Part::Amount(lines.bound),
+            Part::Text(b"\ndistance "),
+            Part::Amount(lines.distance),
+            Part::Text(b"\nleast "),
+            Part::Amount(lines.least),
+            Part::Text(b"\nend\n"),
+        ],
+    )
+}
