@@ -4,11 +4,12 @@ use Rattle.std.proofs.Common.{append-nil}
 use Rattle.std.proofs.lemmas.List.{drop_more}
 use Rattle.std.proofs.lemmas.Bool.{false≢true}
 use Rattle.std.proofs.lemmas.Option.{slice_get_within}
-use Rattle.std.specs.Prelude.{⊤, Result, Ok, Err, IsOk, IfErr, ◌↔◌}
+use Rattle.std.specs.Prelude.{⊤, Result, Ok, Err, IsOk, ◌↔◌}
 use Rattle.plain_lists.proofs.ListLaws.{all_nil, all_cons}
 use Rattle.uc_model.specs.Refusals.{Refusal, thermal_refusals}
 use Rattle.plan_check.proofs.ThermalLaws.{IsClear-none, none_clear, IsThermalFeasible-clear, IsClear-feasible}
 use Rattle.plan_check.proofs.ToldLaws.{append_nil_left, append_nil_right, append_nil, some_first}
+use Rattle.mixture_bound.specs.Laws.{MixturesBreakNoRule}
 use Rattle.mixture_bound.specs.Mixtures.{IsOver, AreEntries, HasMixtureShape}
 use Rattle.mixture_bound.specs.Refused.{EntryRefusal, entry_refusals, all_entries, mixture_refusals, FindsEntry, entry_refusal_of}
 use Rattle.mixture_bound.specs.declared.check.EntryFault.{EntryFault}
@@ -46,14 +47,15 @@ module _ (periods unit : ℕ) (g : ThermalUnit) where
       all_cons IsGoodEntry e es (IsThermalFeasible-clear periods g e.schedule o.on o.power o.reserve (IsClear-none periods unit g e.schedule here))
       (feasible_entries (suc first) es (tail_of IsOverEntry e es over) (append_nil_right (of_one first e) (entry_refusals periods unit g (suc first) es) none))
 
-  pub none_of_feasible : (first : ℕ) (es : List WeighedSchedule) → All IsOverEntry es → All IsGoodEntry es → entry_refusals periods unit g first es ≡ []
-  none_of_feasible first [] over good = refl
-  none_of_feasible first (e ∷ es) over good =
-      let o = head_of IsOverEntry e es over in
-      let clear = none_clear periods unit g e.schedule (IsClear-feasible periods g e.schedule o.on o.power o.reserve (head_of IsGoodEntry e es good)) in
+  pub none_of_feasible : (first : ℕ) (es : List WeighedSchedule) → All IsGoodEntry es → entry_refusals periods unit g first es ≡ []
+  none_of_feasible first [] good = refl
+  none_of_feasible first (e ∷ es) good =
+      let here = head_of IsGoodEntry e es good in
+      let s = here.schedule in
+      let clear = none_clear periods unit g e.schedule (IsClear-feasible periods g e.schedule s.on s.power s.reserve here) in
       append_nil (of_one first e) (entry_refusals periods unit g (suc first) es)
       (ap (map (λ (r : Refusal). record { entry = first; refusal = r })) clear)
-      (none_of_feasible (suc first) es (tail_of IsOverEntry e es over) (tail_of IsGoodEntry e es good))
+      (none_of_feasible (suc first) es (tail_of IsGoodEntry e es good))
 
 -- ---- unit by unit
 
@@ -73,28 +75,22 @@ module _ (periods : ℕ) (whole : ℤ) where
       let behind = append_nil_right (entry_refusals periods first n.unit 1 es) (all_entries periods (suc first) ns ess) none in
       (record { shares = shape.0.shares; feasible = feasible_entries periods first n.unit 1 es shape.0.over here }, mixed_from (suc first) ns ess shape.1 behind)
 
-  none_of_mixed : (first : ℕ) (ns : List NamedThermalUnit) (ess : List (List WeighedSchedule)) → AllZip Shaped ns ess → AllZip Mixed ns ess → all_entries periods first ns ess ≡ []
-  none_of_mixed first [] [] shape mixed = refl
-  none_of_mixed first [] (es ∷ ess) shape mixed = absurd shape
-  none_of_mixed first (n ∷ ns) [] shape mixed = absurd shape
-  none_of_mixed first (n ∷ ns) (es ∷ ess) shape mixed =
+  none_of_mixed : (first : ℕ) (ns : List NamedThermalUnit) (ess : List (List WeighedSchedule)) → AllZip Mixed ns ess → all_entries periods first ns ess ≡ []
+  none_of_mixed first [] [] mixed = refl
+  none_of_mixed first [] (es ∷ ess) mixed = absurd mixed
+  none_of_mixed first (n ∷ ns) [] mixed = absurd mixed
+  none_of_mixed first (n ∷ ns) (es ∷ ess) mixed =
       append_nil (entry_refusals periods first n.unit 1 es) (all_entries periods (suc first) ns ess)
-      (none_of_feasible periods first n.unit 1 es shape.0.over mixed.0.feasible) (none_of_mixed (suc first) ns ess shape.1 mixed.1)
+      (none_of_feasible periods first n.unit 1 es mixed.0.feasible) (none_of_mixed (suc first) ns ess mixed.1)
 
 -- ---- a check of all
 
-pub record IsChecked (m : Market) (x : MixtureLists) (found : Result ⊤ EntryFault) : Type 0 where
-  pub feasible : IsOk found ↔ IsMixture m x
-  pub refused : IfErr found (λ (f : EntryFault). slice_get (mixture_refusals m x) 0 ≡ Some (entry_refusal_of f))
+pub none_refused : MixturesBreakNoRule
+none_refused m x mixture = none_of_mixed m.periods x.whole 1 m.thermal x.entries mixture.mixed
 
-pub checked : (m : Market) (x : MixtureLists) (found : Result ⊤ EntryFault) → HasMixtureShape m x → FindsEntry (mixture_refusals m x) found → IsChecked m x found
+pub checked : (m : Market) (x : MixtureLists) (found : Result ⊤ EntryFault) → HasMixtureShape m x → FindsEntry (mixture_refusals m x) found → (IsOk found ↔ IsMixture m x)
 checked m x (Ok u) shape none =
     let low = shape.whole.at_least in
-    record {
-      feasible = (λ ok. record { some = omega (arith, ints, low); mixed = mixed_from m.periods x.whole 1 m.thermal x.entries shape.entries none }, λ mixture. refl);
-      refused = tt;
-    }
-checked m x (Err f) shape first = record {
-  feasible = (λ ok. absurd (false≢true ok), λ mixture. absurd (some_first (mixture_refusals m x) (entry_refusal_of f) first (none_of_mixed m.periods x.whole 1 m.thermal x.entries shape.entries mixture.mixed)));
-  refused = first;
-}
+    (λ ok. record { some = omega (arith, ints, low); mixed = mixed_from m.periods x.whole 1 m.thermal x.entries shape.entries none }, λ mixture. refl)
+checked m x (Err f) shape first =
+    (λ ok. absurd (false≢true ok), λ mixture. absurd (some_first (mixture_refusals m x) (entry_refusal_of f) first (none_refused m x mixture)))

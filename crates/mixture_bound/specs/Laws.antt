@@ -1,6 +1,6 @@
 -- What a mixture's bound says of all prices in its box. Each law is the clause of a public function
 -- of its name.
-use Rattle.std.specs.Prelude.{ℤ, pos, ◌+ℤ◌, ◌-ℤ◌, ◌≤ℤ◌, List}
+use Rattle.std.specs.Prelude.{◌≡◌, ℤ, pos, ◌+ℤ◌, ◌-ℤ◌, ◌≤ℤ◌, List, []}
 use Rattle.std.specs.Int.{int_max}
 use Rattle.gap_proof.specs.Laws.{ArePriced, IsInBox}
 use Rattle.uc_model.specs.Data.{PriceLists, Schedule, Market}
@@ -8,6 +8,7 @@ use Rattle.uc_model.specs.Limits.{IsMarket}
 use Rattle.uc_model.specs.Systems.{IsDualValue, IsFeasiblePlan, plan_cost, IsSettled}
 use Rattle.mixture_bound.specs.Mixtures.{MixtureLists, IsMixture}
 use Rattle.mixture_bound.specs.MixtureBound.{mixture_bound}
+use Rattle.mixture_bound.specs.Refused.{mixture_refusals}
 
 -- no prices in the box have a dual value above the bound, whatever the mixture
 abbrev pub MixtureBoundHolds : Type 0
@@ -23,6 +24,12 @@ MixtureBoundReachesCentre =
     (m : Market) (x : MixtureLists) (centre : PriceLists) (radius value : ℤ) →
     IsMarket m → IsMixture m x → ArePriced m centre → pos 0 ≤ℤ radius →
     IsDualValue m centre value → value ≤ℤ mixture_bound m x centre radius
+
+-- schedules that are feasible break no rule, so a check that answers exactly what is refused
+-- refuses no mixture
+abbrev pub MixturesBreakNoRule : Type 0
+MixturesBreakNoRule =
+    (m : Market) (x : MixtureLists) → IsMixture m x → mixture_refusals m x ≡ []
 
 -- what payments and surplus sum to at least, at a cost and a bound on the dual value
 abbrev pub least_paid : ℤ → ℤ → ℤ

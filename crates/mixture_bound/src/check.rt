@@ -1,12 +1,11 @@
 //! The first rule that an entry of a mixture breaks.
-ghost use Rattle.std.specs.Prelude.{◌≡◌, ◌∷◌, [], ◌↔◌, Some, IsOk, IfErr, length, map, slice_get};
+ghost use Rattle.std.specs.Prelude.{◌∷◌, [], ◌↔◌, IsOk, length, map};
 ghost use Rattle.std.specs.List.{All};
 ghost use Rattle.uc_model.specs.PlainCases.{market_of};
 ghost use Rattle.uc_model.specs.PlainUnits.{thermal_of};
 ghost use Rattle.mixture_bound.specs.Mixtures.{WeighedSchedule, entry_of, mixture_of, IsMixture};
 ghost use Rattle.mixture_bound.specs.Mixtures.{HasMixtureShape, IsOver};
-ghost use Rattle.mixture_bound.specs.Refused.{FindsEntry, entry_refusals, entry_refusal_of};
-ghost use Rattle.mixture_bound.specs.Refused.{mixture_refusals};
+ghost use Rattle.mixture_bound.specs.Refused.{FindsEntry, entry_refusals, mixture_refusals};
 
 use crate::mixtures::{Entry, Mixture};
 use plan_check::{RuleFault, check_thermal};
@@ -70,9 +69,8 @@ fn check_all(case: &Case, mixture: &Mixture) -> Result<(), EntryFault>
 pub fn check_mixture(case: &Case, mixture: &Mixture) -> Result<(), EntryFault>
     requires { HasMixtureShape (market_of case.now) (mixture_of mixture.now) }
     ensures feasible { IsOk result ↔ IsMixture (market_of case.now) (mixture_of mixture.now) }
-    ensures refused { IfErr result
-        (λ f. slice_get (mixture_refusals (market_of case.now) (mixture_of mixture.now)) 0
-        ≡ Some (entry_refusal_of f)) }
+    ensures finds { FindsEntry (mixture_refusals (market_of case.now) (mixture_of mixture.now))
+        result }
 {
     check_all(case, mixture)
 }
