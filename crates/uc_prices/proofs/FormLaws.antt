@@ -3,10 +3,10 @@ use Rattle.uc_prices.proofs.Common.{◌≡◌, ℕ, ◌+◌, ◌<◌, ℤ, pos, 
 use Rattle.uc_prices.specs.Tables.{is_reserve, price, prices, list, energy, reserve, prices_in}
 use Rattle.std.proofs.Common.{length-append, replicate}
 use Rattle.std.proofs.lemmas.List.{length-replicate, get_or-replicate}
-use Rattle.std.proofs.lemmas.List.Elements.{All-get_or}
+use Rattle.std.proofs.lemmas.Int.{ints}
+use Rattle.std.proofs.lemmas.List.Elements.{All-from_get_or}
 use Rattle.std.proofs.lemmas.Bool.{eqb-true}
-use Rattle.std.specs.Prelude.{Option, not, ◌==◌, codes, ◌≤ℤ◌}
-use Rattle.plain_lists.specs.Sums.{int_at}
+use Rattle.std.specs.Prelude.{Option, not, ◌==◌, codes}
 use Rattle.text_tree.specs.Values.{Value}
 use Rattle.uc_num.specs.Rounding.{rounded}
 use Rattle.uc_text.specs.declared.fault.TextFault.{TextFault}
@@ -79,33 +79,37 @@ list_is periods field v xs e =
     let r = each_is (site field) p.0 [] xs (All-nil (IsPriceOf field)) q.2 in
     (r.0, omega (arith, r.1, long))
 
-reserve_is : (periods : ℕ) (o : Option Value) (xs : List ℤ) → reserve periods o ≡ Ok xs → (length xs ≡ periods) × ((k : ℕ) → k < periods → pos 0 ≤ℤ int_at xs k)
+nothing : IsPriceOf Reserve (pos 0)
+nothing = record { at_least = omega (arith, ints); at_most = omega (arith, ints) }
+
+reserve_is : (periods : ℕ) (o : Option Value) (xs : List ℤ) → reserve periods o ≡ Ok xs → All (IsPriceOf Reserve) xs × (length xs ≡ periods)
 unfolding reserve
 reserve_is periods None xs e =
-    let same : replicate periods (pos 0) ≡ xs = cc in (
-      sym (ap (length {A = ℤ}) same) ∙ length-replicate periods (pos 0),
-      λ k lt. subst (λ (ys : List ℤ). pos 0 ≤ℤ int_at ys k) same (subst (λ (x : ℤ). pos 0 ≤ℤ x) (sym (get_or-replicate periods k (pos 0) (pos 0) lt)) (omega arith)),
+    let same : replicate periods (pos 0) ≡ xs = cc in
+    let count = length-replicate periods (pos 0) in (
+      subst (All (IsPriceOf Reserve)) same
+      (All-from_get_or (IsPriceOf Reserve) (replicate periods (pos 0)) (pos 0) (λ k lt. subst (IsPriceOf Reserve) (sym (get_or-replicate periods k (pos 0) (pos 0) (omega (arith, lt, count)))) nothing)),
+      sym (ap (length {A = ℤ}) same) ∙ count,
     )
-reserve_is periods (Some v) xs e =
-    let p = list_is periods Reserve v xs e in
-    (p.1, λ k lt. (All-get_or (IsPriceOf Reserve) xs k (pos 0) (omega (arith, lt, p.1)) p.0).at_least)
+reserve_is periods (Some v) xs e = list_is periods Reserve v xs e
 
 left_out_is : (periods : ℕ) (o : Option Value) (xs : List ℤ) → reserve periods o ≡ Ok xs → o ≡ None → xs ≡ replicate periods (pos 0)
 unfolding reserve
 left_out_is periods None xs e none = let same : replicate periods (pos 0) ≡ xs = cc in sym same
 left_out_is periods (Some v) xs e none = absurd cc
 
-energy_is : (periods : ℕ) (o : Option Value) (xs : List ℤ) → energy periods o ≡ Ok xs → length xs ≡ periods
+energy_is : (periods : ℕ) (o : Option Value) (xs : List ℤ) → energy periods o ≡ Ok xs → All (IsPriceOf Energy) xs × (length xs ≡ periods)
 unfolding energy
 energy_is periods None xs e = absurd cc
-energy_is periods (Some v) xs e = (list_is periods Energy v xs e).1
+energy_is periods (Some v) xs e = list_is periods Energy v xs e
 
 -- ---- the prices of a file
 
 record ValueForm (periods : ℕ) (v : Value) (π : PriceLists) : Type 0 where
   energy : length π.energy ≡ periods
   reserve : length π.reserve ≡ periods
-  from_0 : (k : ℕ) → k < periods → pos 0 ≤ℤ int_at π.reserve k
+  energy_within : All (IsPriceOf Energy) π.energy
+  reserve_within : All (IsPriceOf Reserve) π.reserve
   left_out : (ms : List Pair) → object_in v ≡ Some ms → value_of (codes "reserve") ms ≡ None → π.reserve ≡ replicate periods (pos 0)
 
 value_form : (periods : ℕ) (v : Value) (π : PriceLists) → prices_in periods v ≡ Ok π → ValueForm periods v π
@@ -119,11 +123,13 @@ value_form periods v π e =
     let at : PriceLists = record { energy = q.0; reserve = r.0 } in
     let same : at ≡ π = cc in
     let is = needed (fault (site Whole) WrongKind) (object_in v) p.0 p.1 in
+    let energies = energy_is periods (value_of (codes "energy") p.0) q.0 q.1 in
     let reserves = reserve_is periods (value_of (codes "reserve") p.0) r.0 r.1 in
     let form : ValueForm periods v at = record {
-      energy = energy_is periods (value_of (codes "energy") p.0) q.0 q.1;
-      reserve = reserves.0;
-      from_0 = reserves.1;
+      energy = energies.1;
+      reserve = reserves.1;
+      energy_within = energies.0;
+      reserve_within = reserves.0;
       left_out = λ ms given none. (let one : ms ≡ p.0 = cc in left_out_is periods (value_of (codes "reserve") p.0) r.0 r.1 (subst (λ (xs : List Pair). value_of (codes "reserve") xs ≡ None) one none));
     } in
     subst (ValueForm periods v) {x = at} same form
@@ -141,7 +147,8 @@ prices_have_form one periods bytes π (Ok v, file, e) =
     record {
       energy = f.energy;
       reserve = f.reserve;
-      from_0 = f.from_0;
+      energy_within = f.energy_within;
+      reserve_within = f.reserve_within;
       left_out = λ h. f.left_out h.1 (subst (λ (w : Value). object_in w ≡ Some h.1) (same_value {F = TextFault} (one bytes (Ok v) (Ok h.0) file h.2)) h.3) h.4;
     }
 prices_have_form one periods bytes π (Err f, file, e) = absurd cc

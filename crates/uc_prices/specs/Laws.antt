@@ -1,17 +1,18 @@
 -- A file has one list of prices over so many periods, or one first fault.
-use Rattle.std.specs.Prelude.{◌≡◌, ℕ, ◌<◌, pos, ◌≤ℤ◌, List, length, replicate, codes, Result, Ok}
-use Rattle.std.specs.Prelude.{Some, None}
-use Rattle.plain_lists.specs.Sums.{int_at}
+use Rattle.std.specs.Prelude.{◌≡◌, ℕ, pos, List, length, replicate, codes, Result, Ok, Some, None}
+use Rattle.std.specs.List.{All}
 use Rattle.uc_model.specs.Data.{PriceLists}
 use Rattle.text_tree.specs.Parts.{Pair}
 use Rattle.text_tree.specs.Values.{Value}
 use Rattle.uc_text.specs.Texts.{IsText}
 use Rattle.uc_case.specs.Files.{FileFault}
 use Rattle.uc_case.specs.Inside.{object_in, value_of}
+use Rattle.uc_prices.specs.Kept.{IsPriceOf}
 use Rattle.uc_prices.specs.Plain.{IsReadAs}
 use Rattle.uc_prices.specs.PricesFiles.{IsPricesOf}
 use Rattle.uc_prices.specs.Tables.{prices_in}
 use Rattle.uc_prices.specs.declared.fault.PriceFault.{PriceFault}
+use Rattle.uc_prices.specs.declared.fault.PriceField.TheVariants.{Energy, Reserve}
 
 abbrev pub SomePrices : Type 0
 SomePrices = (periods : ℕ) (bytes : List ℕ)
@@ -27,12 +28,13 @@ LeavesReserveOut bytes =
     (v : Value) × (members : List Pair) × IsText 32 bytes v × (object_in v ≡ Some members)
     × (value_of (codes "reserve") members ≡ None)
 
--- a file's prices: of both kinds one for each period, and no reserve price below 0; all of them 0
--- where the file leaves them out
+-- a file's prices: of both kinds one for each period, each within its limits, so that no reserve
+-- price is below 0; all of those are 0 where the file leaves them out
 pub record HaveForm (periods : ℕ) (bytes : List ℕ) (π : PriceLists) : Type 0 where
   pub energy : length π.energy ≡ periods
   pub reserve : length π.reserve ≡ periods
-  pub from_0 : (k : ℕ) → k < periods → pos 0 ≤ℤ int_at π.reserve k
+  pub energy_within : All (IsPriceOf Energy) π.energy
+  pub reserve_within : All (IsPriceOf Reserve) π.reserve
   pub left_out : LeavesReserveOut bytes → π.reserve ≡ replicate periods (pos 0)
 
 abbrev pub PricesHaveForm : Type 0

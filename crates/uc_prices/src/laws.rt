@@ -19,8 +19,8 @@ pub fn one_prices()
     one_file();
 }
 
-/// The prices of a file are one of each kind for each period, no reserve price is below 0, and where
-/// the file leaves the reserve prices out they are all 0.
+/// The prices of a file are one of each kind for each period and within their limits, so that no
+/// reserve price is below 0, and where the file leaves the reserve prices out they are all 0.
 pub fn prices_have_form()
     ensures { PricesHaveForm }
 {
