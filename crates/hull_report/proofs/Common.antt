@@ -12,7 +12,7 @@ pub use Rattle.hull_io.specs.Edge.{Gains, FallsShort, Writes}
 pub use Rattle.right_report.specs.Told.{IsTold}
 unfoldable pub use Rattle.hull_report.specs.BoundText.{bound_text}
 pub use Rattle.hull_report.specs.FaultLines.{status_of, status_told, fault_told}
-unfoldable pub use Rattle.hull_report.specs.FaultLines.{shape_told, field_told, rule_told, text_told, words_told}
+unfoldable pub use Rattle.hull_report.specs.FaultLines.{shape_told, field_told, rule_told, text_told, words_told, share_told, entry_told}
 pub use Rattle.right_report.specs.RightSide.{told_of}
 pub use Rattle.hull_report.specs.FixedText.{renewable_paid, PaidLine, paid_start, paid_line, thermal_paid, bids_paid}
 unfoldable pub use Rattle.hull_report.specs.FixedText.{sides_text, paid_text, sums_text}
@@ -32,5 +32,6 @@ pub use Rattle.uplift_settle.specs.declared.settlement.Settlement.{Settlement}
 pub use Rattle.price_settle.specs.Settled.{Settled, settled_of}
 pub use Rattle.hull_report.specs.SettledText.{settled_line}
 unfoldable pub use Rattle.hull_report.specs.SettledText.{settlement_of}
+unfoldable pub use Rattle.hull_report.specs.CertifiedText.{certificate_of}
 pub use Rattle.report_form.specs.SettlementText.{priced_text}
 unfoldable pub use Rattle.report_form.specs.SettlementText.{settlement_text}

@@ -11,12 +11,15 @@ use Rattle.uc_plan.specs.declared.fault.ShapeFault.{ShapeFault}
 use Rattle.uc_plan.specs.Shapes.{shape_number as shape_code}
 use Rattle.uc_prices.specs.declared.fault.PriceFault.{PriceFault}
 use Rattle.uc_prices.specs.Faults.{code_number as price_code, key_of as price_key}
+use Rattle.uc_mixture.specs.declared.fault.ShareFault.{ShareFault}
+use Rattle.uc_mixture.specs.Faults.{code_number as share_code}
+use Rattle.mixture_bound.specs.declared.check.EntryFault.{EntryFault}
 use Rattle.plan_check.specs.declared.RuleFault.{RuleFault}
 use Rattle.uc_model.specs.Refusals.{rule_number}
 use Rattle.report_form.specs.Numerals.{numeral, signed_numeral}
 use Rattle.hull_report.specs.declared.fault.FileKind.{FileKind}
 use Rattle.hull_report.specs.declared.fault.FileKind.TheVariants.{CaseFile, ScheduleFile}
-use Rattle.hull_report.specs.declared.fault.FileKind.TheVariants.{PricesFile}
+use Rattle.hull_report.specs.declared.fault.FileKind.TheVariants.{PricesFile, MixtureFile}
 use Rattle.hull_report.specs.declared.fault.ReportCode.{ReportCode}
 use Rattle.hull_report.specs.declared.fault.TopFault.{TopFault}
 use Rattle.hull_report.specs.declared.fault.TopFault.TheVariants as faults
@@ -37,6 +40,9 @@ status_of faults.Memory = 7
 status_of (faults.Report code line) = 8
 status_of (faults.PricesText f) = 9
 status_of (faults.PricesValue f) = 9
+status_of (faults.MixtureText f) = 10
+status_of (faults.MixtureShare f) = 10
+status_of (faults.MixtureRule f) = 10
 
 -- ---- what the line tells behind the status
 
@@ -47,7 +53,7 @@ words_told f =
 unfoldable pub read_told : FileKind → List ℕ
 read_told file = concat (codes "read " ∷ file_word file ∷ [])
 
--- a fault of the text of a case, of a schedule or of prices
+-- a fault of the text of a case, of a schedule, of prices or of a mixture
 unfoldable pub text_told : FileKind → TextFault → List ℕ
 text_told file f = concat (
     file_word file ∷ codes " " ∷ numeral (text_code f.code) ∷ codes " at " ∷ numeral f.offset ∷ [])
@@ -87,6 +93,20 @@ price_told f = concat (
     codes "prices " ∷ numeral (price_code f.code) ∷ codes " field " ∷ price_key f.field
     ∷ codes " item " ∷ numeral f.item ∷ [])
 
+unfoldable pub share_told : ShareFault → List ℕ
+share_told f = concat (
+    codes "mixture " ∷ numeral (share_code f.code) ∷ codes " kind " ∷ kind_word f.kind
+    ∷ codes " unit " ∷ numeral f.unit ∷ codes " entry " ∷ numeral f.entry
+    ∷ codes " item " ∷ numeral f.item ∷ [])
+
+-- a rule that an entry of a mixture breaks
+unfoldable pub entry_told : EntryFault → List ℕ
+entry_told f = concat (
+    codes "mixture " ∷ numeral (rule_number f.fault.code) ∷ codes " kind " ∷ kind_word f.fault.kind
+    ∷ codes " unit " ∷ numeral f.fault.unit ∷ codes " entry " ∷ numeral f.entry
+    ∷ codes " period " ∷ numeral f.fault.period ∷ codes " left " ∷ signed_numeral f.fault.left
+    ∷ codes " right " ∷ signed_numeral f.fault.right ∷ [])
+
 abbrev pub fault_told : TopFault → List ℕ
 fault_told (faults.Words f) = words_told f
 fault_told (faults.Read file) = read_told file
@@ -101,6 +121,9 @@ fault_told faults.Memory = codes "memory"
 fault_told (faults.Report code line) = report_told code line
 fault_told (faults.PricesText f) = text_told PricesFile f
 fault_told (faults.PricesValue f) = price_told f
+fault_told (faults.MixtureText f) = text_told MixtureFile f
+fault_told (faults.MixtureShare f) = share_told f
+fault_told (faults.MixtureRule f) = entry_told f
 
 -- ---- the line
 

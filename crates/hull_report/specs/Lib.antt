@@ -7,3 +7,4 @@ pub mod FixedText
 pub mod AuditText
 pub mod RecordText
 pub mod SettledText
+pub mod CertifiedText

@@ -5,16 +5,18 @@ ghost use Rattle.hull_report.specs.Words.{kind_word, file_word, file_status, rep
 ghost use Rattle.hull_report.specs.FaultLines.{status_of, words_told, read_told, text_told};
 ghost use Rattle.hull_report.specs.FaultLines.{field_told, shape_told, rule_told, too_big_told};
 ghost use Rattle.hull_report.specs.FaultLines.{work_told, report_told, status_told, fault_told};
-ghost use Rattle.hull_report.specs.FaultLines.{price_told, fault_line};
+ghost use Rattle.hull_report.specs.FaultLines.{price_told, share_told, entry_told, fault_line};
 ghost use Rattle.hull_report.specs.declared.fault.TopFault.TheVariants.{Memory};
 
 use hull_io::{Sink, WriteFailed, write_whole};
 use hull_words::WordFault;
+use mixture_bound::EntryFault;
 use plan_check::RuleFault;
 use report_form::laws::texts_add_up;
 use report_form::{Part, write_parts};
 use std::alloc::AllocError;
 use uc_case::fault::FieldFault;
+use uc_mixture::fault::ShareFault;
 use uc_model::kinds::Kind;
 use uc_plan::fault::ShapeFault;
 use uc_prices::fault::PriceFault;
@@ -27,6 +29,7 @@ pub enum FileKind {
     ScheduleFile,
     ReportFile,
     PricesFile,
+    MixtureFile,
 }
 
 /// What is wrong with a report.
@@ -86,6 +89,12 @@ pub enum TopFault {
     PricesText(TextFault),
     /// The prices file has no prices of the case.
     PricesValue(PriceFault),
+    /// The mixture file is no JSON text.
+    MixtureText(TextFault),
+    /// The mixture file is no mixture over the case.
+    MixtureShare(ShareFault),
+    /// An entry of the mixture breaks a rule.
+    MixtureRule(EntryFault),
 }
 
 impl From<AllocError> for TopFault {
@@ -115,6 +124,7 @@ fn file_text(file: FileKind) -> &'static [u8]
         FileKind::ScheduleFile => b"schedule",
         FileKind::ReportFile => b"report",
         FileKind::PricesFile => b"prices",
+        FileKind::MixtureFile => b"mixture",
     }
 }
 
@@ -128,6 +138,7 @@ impl FileKind {
             FileKind::ScheduleFile => 4,
             FileKind::ReportFile => 8,
             FileKind::PricesFile => 9,
+            FileKind::MixtureFile => 10,
         }
     }
 }
@@ -147,6 +158,7 @@ impl TopFault {
             TopFault::Memory => 7,
             TopFault::Report { .. } => 8,
             TopFault::PricesText(_) | TopFault::PricesValue(_) => 9,
+            TopFault::MixtureText(_) | TopFault::MixtureShare(_) | TopFault::MixtureRule(_) => 10,
         }
     }
 }
@@ -333,6 +345,57 @@ fn write_price_fault<S: Sink>(fault: &PriceFault, out: &mut S) -> Result<(), Wri
     )
 }
 
+#[tactic(auto, unfolding(crate::specs::FaultLines::share_told))]
+fn write_share_fault<S: Sink>(fault: &ShareFault, out: &mut S) -> Result<(), WriteFailed>
+    ensures { Writes S.held S.faults S.last out.old out.new result (share_told fault.now) }
+{
+    let code = fault.code.number();
+    let kind = kind_text(fault.kind);
+    write_parts(
+        out,
+        &[
+            Part::Text(b"mixture "),
+            Part::Count(code as u64),
+            Part::Text(b" kind "),
+            Part::Text(kind),
+            Part::Text(b" unit "),
+            Part::Count(fault.unit as u64),
+            Part::Text(b" entry "),
+            Part::Count(fault.entry as u64),
+            Part::Text(b" item "),
+            Part::Count(fault.item as u64),
+        ],
+    )
+}
+
+#[tactic(auto, unfolding(crate::specs::FaultLines::entry_told))]
+fn write_entry_fault<S: Sink>(fault: &EntryFault, out: &mut S) -> Result<(), WriteFailed>
+    ensures { Writes S.held S.faults S.last out.old out.new result (entry_told fault.now) }
+{
+    let rule = &fault.fault;
+    let code = rule.code.number();
+    let kind = kind_text(rule.kind);
+    write_parts(
+        out,
+        &[
+            Part::Text(b"mixture "),
+            Part::Count(code as u64),
+            Part::Text(b" kind "),
+            Part::Text(kind),
+            Part::Text(b" unit "),
+            Part::Count(rule.unit as u64),
+            Part::Text(b" entry "),
+            Part::Count(fault.entry),
+            Part::Text(b" period "),
+            Part::Count(rule.period as u64),
+            Part::Text(b" left "),
+            Part::Amount(rule.left),
+            Part::Text(b" right "),
+            Part::Amount(rule.right),
+        ],
+    )
+}
+
 /// Writes what the line of a fault tells behind its status.
 fn write_told<S: Sink>(fault: &TopFault, out: &mut S) -> Result<(), WriteFailed>
     ensures { Writes S.held S.faults S.last out.old out.new result (fault_told fault.now) }
@@ -355,6 +418,9 @@ fn write_told<S: Sink>(fault: &TopFault, out: &mut S) -> Result<(), WriteFailed>
         TopFault::Report { code, line } => write_report_fault(*code, *line, out),
         TopFault::PricesText(fault) => write_text_fault(FileKind::PricesFile, fault, out),
         TopFault::PricesValue(fault) => write_price_fault(fault, out),
+        TopFault::MixtureText(fault) => write_text_fault(FileKind::MixtureFile, fault, out),
+        TopFault::MixtureShare(fault) => write_share_fault(fault, out),
+        TopFault::MixtureRule(fault) => write_entry_fault(fault, out),
     }
 }
 

@@ -3,6 +3,7 @@
 
 pub mod audit;
 pub mod bound;
+mod certified;
 pub mod check;
 pub mod fault;
 mod fixed;
@@ -11,6 +12,7 @@ mod settled;
 
 pub use audit::write_audit;
 pub use bound::{BoundLines, write_bound, write_bound_lines};
+pub use certified::{BoundWithin, write_certificate};
 pub use check::write_check;
 pub use fault::{FileKind, ReportCode, TopFault, write_fault};
 pub use fixed::write_fixed;
