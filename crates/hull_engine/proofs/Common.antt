@@ -13,19 +13,19 @@ pub use Rattle.board_run.specs.Rounds.{IsEnded}
 pub use Rattle.board_core.specs.Setups.{setup_of, IsSetup}
 pub use Rattle.board_core.specs.declared.terms.Terms.{Terms}
 pub use Rattle.audit_rows.specs.Benches.{IsBenchOver}
-pub use Rattle.hull_engine.specs.Answers.{HasStatus, IsRunText, IsFaultOf, IsCommandAnswer, IsTextOf, IsEndOf, HasRead, IsAnswer, HasSettled}
-pub use Rattle.hull_engine.specs.Inputs.{HasNumbers, try_asked, bound_asked, audit_asked, settle_asked}
+pub use Rattle.hull_engine.specs.Answers.{HasStatus, IsRunText, IsFaultOf, IsCommandAnswer, IsTextOf, IsEndOf, HasRead, IsAnswer, HasSettled, IsCertifiedAt}
+pub use Rattle.hull_engine.specs.Inputs.{HasNumbers, try_asked, bound_asked, audit_asked, certify_asked}
 pub use Rattle.hull_engine.specs.Rest.{Completes, IsPrepared, rest_with, rest_of, nothing_read, EndsIn}
-pub use Rattle.hull_engine.specs.Outcome.{IsReportText, IsBoundText, IsFixedText, Command, command_for, Ends, IsReadOf, HasText, IsAuditText, IsSettlementText, case_and_schedule, with_report, with_prices, AreReads, no_files}
-pub use Rattle.hull_engine.specs.Steps.{Then, Reads, IsInput, IsWithinWork, IsReportFile, IsJudged, IsAudit, bytes_of, IsBytes, IsMade, IsPlanFile, IsChecked, IsCaseFile, IsReportIn, IsCase, IsPlan, IsPrices, IsPricesFile, IsPriced}
+pub use Rattle.hull_engine.specs.Outcome.{IsReportText, IsBoundText, IsFixedText, Command, command_for, Ends, IsReadOf, HasText, IsAuditText, IsSettlementText, case_and_schedule, with_report, with_prices, with_mixture, AreReads, no_files}
+pub use Rattle.hull_engine.specs.Steps.{Then, Reads, IsInput, IsWithinWork, IsReportFile, IsJudged, IsAudit, bytes_of, IsBytes, IsMade, IsPlanFile, IsChecked, IsCaseFile, IsReportIn, IsCase, IsPlan, IsPrices, IsPricesFile, IsPriced, IsShares, IsSharesFile, IsMixed, IsMixtureFile, IsCertifiable}
 pub use Rattle.hull_io.specs.Edge.{Gains, FallsShort, Rose}
 pub use Rattle.right_report.specs.RightSide.{told_of}
 pub use Rattle.hull_report.specs.FixedText.{fixed_text}
 pub use Rattle.hull_report.specs.TryText.{try_text}
-pub use Rattle.hull_report.specs.declared.fault.FileKind.TheVariants.{ReportFile, CaseFile, ScheduleFile, PricesFile}
+pub use Rattle.hull_report.specs.declared.fault.FileKind.TheVariants.{ReportFile, CaseFile, ScheduleFile, PricesFile, MixtureFile}
 pub use Rattle.hull_report.specs.declared.fault.TopFault.{TopFault}
 pub use Rattle.hull_report.specs.declared.fault.TopFault.TheVariants.{Words, TooBig, Memory}
-pub use Rattle.hull_words.specs.Asked.{Asked, Found, CheckAsked, PriceAsked, price, check, try, bound, fixed, audit, settle, with_both, names_from, asked_from, asked, price_asked}
+pub use Rattle.hull_words.specs.Asked.{Asked, Found, CheckAsked, PriceAsked, SettleAsked, price, check, try, bound, fixed, audit, settle, certify, with_both, names_from, settle_from, asked_from, asked, price_asked, settle_asked}
 pub use Rattle.hull_words.specs.Words.{first_fault, backwards, or_fault, or_missing, asked_of, later_words, texts}
 unfoldable pub use Rattle.hull_words.specs.Words.{found_in, words_of}
 pub use Rattle.hull_words.specs.declared.fault.WordFault.{WordFault}
@@ -34,3 +34,6 @@ unfoldable pub use Rattle.report_read.specs.Plain.{report_of}
 pub use Rattle.uc_case.specs.Files.{text, value}
 pub use Rattle.uc_model.specs.Data.{unit_count, AnyUnit, Thermal, Flat, Bid, NamedThermalUnit, NamedRenewableUnit, NamedBidUnit, Schedule, Market, units}
 pub use Rattle.uc_model.specs.PlainCases.{market_of, proposal_of, schedules_of}
+pub use Rattle.uc_model.specs.PlainUnits.{prices_of}
+pub use Rattle.mixture_bound.specs.Mixtures.{MixtureLists, mixture_of}
+pub use Rattle.mixture_bound.specs.MixtureBound.{mixture_bound}

@@ -12,6 +12,8 @@ pub mod WordSizes
 pub mod AuditLaws
 -- prepare.rt: a settlement at given prices
 pub mod SettleLaws
+-- prepare.rt: a certificate of given prices
+pub mod CertifyLaws
 -- prepare.rt, lib.rt: a run that is ready completes its command
 pub mod RestLaws
 -- end.rt: what is written of a run that has ended is the text of a right report

@@ -1,5 +1,5 @@
 -- What was read of a file, of the two files of an input, and of a report beside them.
-use Rattle.hull_engine.proofs.Common.{◌≡◌, ℕ, ◌+◌, ◌<◌, ◌≤◌, Bool, true, false, List, [], length, replicate, Option, None, Some, Ok, Err, refl, inl, inr, arith, IfSome, nat_lt, if◌then◌else◌, length-replicate, le-ltb, lt-ltb, Rose, CaseFile, ScheduleFile, ReportFile, PricesFile, TooBig, Reads, bytes_of, IsBytes, IsReadOf, case_and_schedule, with_report, with_prices, AreReads, HasRead}
+use Rattle.hull_engine.proofs.Common.{◌≡◌, ℕ, ◌+◌, ◌<◌, ◌≤◌, Bool, true, false, List, [], length, replicate, Option, None, Some, Ok, Err, refl, inl, inr, arith, IfSome, nat_lt, if◌then◌else◌, length-replicate, le-ltb, lt-ltb, Rose, CaseFile, ScheduleFile, ReportFile, PricesFile, MixtureFile, TooBig, Reads, bytes_of, IsBytes, IsReadOf, case_and_schedule, with_report, with_prices, with_mixture, SettleAsked, AreReads, HasRead}
 use Rattle.plain_lists.specs.declared.limits.TheConstants.{MOST_BYTES}
 use Rattle.hull_report.specs.declared.fault.FileKind.{FileKind}
 
@@ -68,6 +68,7 @@ two_reads case_read schedule_read CaseFile = case_read
 two_reads case_read schedule_read ScheduleFile = schedule_read
 two_reads case_read schedule_read ReportFile = None
 two_reads case_read schedule_read PricesFile = None
+two_reads case_read schedule_read MixtureFile = None
 
 pub are_two_reads : (told : List ℕ → Option (List ℕ)) (rose : List ℕ → Type 0) (case_name schedule_name : List ℕ) (case_read schedule_read : Option (List ℕ))
     → IsReadOf (told case_name) (rose case_name) case_read → IsReadOf (told schedule_name) (rose schedule_name) schedule_read
@@ -76,6 +77,7 @@ are_two_reads told rose case_name schedule_name case_read schedule_read p q Case
 are_two_reads told rose case_name schedule_name case_read schedule_read p q ScheduleFile = q
 are_two_reads told rose case_name schedule_name case_read schedule_read p q ReportFile = tt
 are_two_reads told rose case_name schedule_name case_read schedule_read p q PricesFile = tt
+are_two_reads told rose case_name schedule_name case_read schedule_read p q MixtureFile = tt
 
 -- what was read of a report too
 abbrev pub report_added : Reads → Option (List ℕ) → Reads
@@ -83,6 +85,7 @@ report_added reads read CaseFile = reads CaseFile
 report_added reads read ScheduleFile = reads ScheduleFile
 report_added reads read ReportFile = read
 report_added reads read PricesFile = reads PricesFile
+report_added reads read MixtureFile = reads MixtureFile
 
 -- what was read of prices too
 abbrev pub prices_added : Reads → Option (List ℕ) → Reads
@@ -90,6 +93,15 @@ prices_added reads read CaseFile = reads CaseFile
 prices_added reads read ScheduleFile = reads ScheduleFile
 prices_added reads read ReportFile = reads ReportFile
 prices_added reads read PricesFile = read
+prices_added reads read MixtureFile = reads MixtureFile
+
+-- what was read of a mixture too
+abbrev pub mixture_added : Reads → Option (List ℕ) → Reads
+mixture_added reads read CaseFile = reads CaseFile
+mixture_added reads read ScheduleFile = reads ScheduleFile
+mixture_added reads read ReportFile = reads ReportFile
+mixture_added reads read PricesFile = reads PricesFile
+mixture_added reads read MixtureFile = read
 
 -- a shelf counts the faults of a name before, between and after the reads of the input and of the last file
 module _ (told : List ℕ → Option (List ℕ)) (last : Option ℕ) (before between after : List ℕ → ℕ) (case_name schedule_name last_name : List ℕ) where
@@ -111,12 +123,29 @@ module _ (told : List ℕ → Option (List ℕ)) (last : Option ℕ) (before bet
     are_report_added ScheduleFile = schedule_later
     are_report_added ReportFile = last_earlier
     are_report_added PricesFile = tt
+    are_report_added MixtureFile = tt
 
     pub are_prices_added : AreReads told (λ name. Rose last (before name) (after name)) (with_prices case_name schedule_name last_name) (prices_added reads read)
     are_prices_added CaseFile = case_later
     are_prices_added ScheduleFile = schedule_later
     are_prices_added ReportFile = tt
     are_prices_added PricesFile = last_earlier
+    are_prices_added MixtureFile = tt
+
+-- and before, between and after the reads of the input with its prices and of a mixture
+module _ (told : List ℕ → Option (List ℕ)) (last : Option ℕ) (before between after : List ℕ → ℕ) (names : SettleAsked) (mixture_name : List ℕ) where
+  module _ (reads : Reads) (read : Option (List ℕ)) (early : (any : List ℕ) → before any ≤ between any) (late : (any : List ℕ) → between any ≤ after any)
+      (are : AreReads told (λ name. Rose last (before name) (between name)) (with_prices names.case_name names.schedule_name names.prices_name) reads)
+      (is : IsReadOf (told mixture_name) (Rose last (between mixture_name) (after mixture_name)) read) where
+    later : (name : List ℕ) (bytes : Option (List ℕ)) → IsReadOf (told name) (Rose last (before name) (between name)) bytes → IsReadOf (told name) (Rose last (before name) (after name)) bytes
+    later name bytes h = read_wider (told name) last (before name) (before name) (between name) (after name) bytes (omega arith) (late name) h
+
+    pub are_mixture_added : AreReads told (λ name. Rose last (before name) (after name)) (with_mixture names mixture_name) (mixture_added reads read)
+    are_mixture_added CaseFile = later names.case_name (reads CaseFile) (are CaseFile)
+    are_mixture_added ScheduleFile = later names.schedule_name (reads ScheduleFile) (are ScheduleFile)
+    are_mixture_added ReportFile = tt
+    are_mixture_added PricesFile = later names.prices_name (reads PricesFile) (are PricesFile)
+    are_mixture_added MixtureFile = read_wider (told mixture_name) last (before mixture_name) (between mixture_name) (after mixture_name) (after mixture_name) read (early mixture_name) (omega arith) is
 
 -- what may have been read of all files, whatever is told of them
 abbrev pub any_of : (told : List ℕ → Option (List ℕ)) → Option (List ℕ) → Option (List ℕ)

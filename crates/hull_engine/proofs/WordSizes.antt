@@ -1,5 +1,5 @@
 -- The numbers of a run that words ask for are within their ranges.
-use Rattle.hull_engine.proofs.Common.{◌≡◌, ℕ, ℤ, pos, ◌+◌, Bool, true, false, ◌&&◌, cond, leb, List, [], ◌∷◌, length, Option, Some, None, Ok, refl, subst, option_map, unwrap_or, arith, option_and_then, leb-true, ints, WordFault, Asked, Found, CheckAsked, PriceAsked, price, check, try, bound, fixed, audit, settle, with_both, names_from, asked_from, first_fault, backwards, found_in, or_fault, or_missing, asked_of, later_words, words_of}
+use Rattle.hull_engine.proofs.Common.{◌≡◌, ℕ, ℤ, pos, ◌+◌, Bool, true, false, ◌&&◌, cond, leb, List, [], ◌∷◌, length, Option, Some, None, Ok, refl, subst, option_map, unwrap_or, arith, option_and_then, leb-true, ints, WordFault, Asked, Found, CheckAsked, PriceAsked, SettleAsked, price, check, try, bound, fixed, audit, settle, certify, with_both, names_from, settle_from, asked_from, first_fault, backwards, found_in, or_fault, or_missing, asked_of, later_words, words_of}
 use Rattle.std.proofs.lemmas.Option.{same_Some}
 use Rattle.gap_proof.specs.Sums.{IsRadius}
 use Rattle.std.specs.Str.Parse.{digits_value}
@@ -91,11 +91,15 @@ by_report None report workers count a size e = absurd cc
 by_report (Some n) None workers count a size e = absurd cc
 by_report (Some n) (Some r) workers count a size e = subst HasSizes (same _ a count e) size
 
-by_prices : (names : Option CheckAsked) (prices : Option (List ℕ)) (count : ℕ) (a : Asked)
-    → Gives (with_both names prices (λ (n : CheckAsked) (p : List ℕ). settle (record { case_name = n.case_name; schedule_name = n.schedule_name; prices_name = p }))) count a → HasSizes a
-by_prices None prices count a e = absurd cc
-by_prices (Some n) None count a e = absurd cc
-by_prices (Some n) (Some p) count a e = subst HasSizes (same _ a count e) tt
+by_settle : (names : Option SettleAsked) (count : ℕ) (a : Asked) → Gives (option_map settle names) count a → HasSizes a
+by_settle None count a e = absurd cc
+by_settle (Some names) count a e = subst HasSizes (same _ a count e) tt
+
+by_mixture : (names : Option SettleAsked) (mixture : Option (List ℕ)) (radius : ℤ) (count : ℕ) (a : Asked) → IsRadius radius
+    → Gives (with_both names mixture (λ (n : SettleAsked) (x : List ℕ). certify (record { names = n; mixture_name = x; radius = radius }))) count a → HasSizes a
+by_mixture None mixture radius count a wide e = absurd cc
+by_mixture (Some n) None radius count a wide e = absurd cc
+by_mixture (Some n) (Some x) radius count a wide e = subst HasSizes (same _ a count e) wide
 
 by_kind : (command : CommandKind) (found : Found) (count : ℕ) (a : Asked) → Sizes found → Gives (asked_from command found) count a → HasSizes a
 by_kind kinds.Price found count a size e = by_price (names_from found) _ _ _ count a size.run e
@@ -104,7 +108,8 @@ by_kind kinds.Try found count a size e = by_number found.number _ _ _ count a si
 by_kind kinds.Bound found count a size e = by_run (names_from found) _ _ _ _ count a size.run size.radius e
 by_kind kinds.Fixed found count a size e = by_fixed (names_from found) _ _ _ count a size.run e
 by_kind kinds.Audit found count a size e = by_report (names_from found) found.report_name _ count a size.run.workers_in e
-by_kind kinds.Settle found count a size e = by_prices (names_from found) found.prices_name count a e
+by_kind kinds.Settle found count a size e = by_settle (settle_from found) count a e
+by_kind kinds.Certify found count a size e = by_mixture (settle_from found) found.mixture_name _ count a size.radius e
 
 by_values : (faulty : Option WordFault) (command : CommandKind) (found : Found) (count : ℕ) (a : Asked) → Sizes found → asked_of command count (or_fault faulty found) ≡ Ok a → HasSizes a
 by_values None command found count a size e = by_kind command found count a size e

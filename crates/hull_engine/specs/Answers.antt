@@ -1,34 +1,45 @@
 -- What the steps of a run answer, and what its end leaves.
-use Rattle.std.specs.Prelude.{◌≡◌, ◌⊎◌, ◌≤◌, ⊤, ℕ, List, Option, Result, Ok, Err}
+use Rattle.std.specs.Prelude.{◌≡◌, ◌⊎◌, ◌≤◌, ⊤, ℕ, ℤ, List, length, unsigned_abs, Option, Result}
+use Rattle.std.specs.Prelude.{Ok, Err}
+use Rattle.uc_model.specs.Data.{PriceLists}
 use Rattle.uc_model.specs.Limits.{IsSum, IsWorth}
-use Rattle.uc_model.specs.PlainCases.{market_of}
+use Rattle.uc_model.specs.PlainCases.{market_of, schedules_of}
+use Rattle.uc_model.specs.PlainUnits.{prices_of}
+use Rattle.mixture_bound.specs.Mixtures.{MixtureLists}
+use Rattle.mixture_bound.specs.MixtureBound.{mixture_bound}
+use Rattle.right_report.specs.Told.{IsTold}
 use Rattle.board_history.specs.Board.{Setup}
 use Rattle.hull_report.specs.AuditText.{audit_text}
+use Rattle.hull_report.specs.CertifiedText.{certificate_of}
 use Rattle.hull_report.specs.CheckText.{check_text}
 use Rattle.hull_report.specs.FaultLines.{fault_line}
 use Rattle.right_report.specs.RightSide.{told_of}
 use Rattle.hull_report.specs.FixedText.{fixed_text}
+use Rattle.report_form.specs.CertificateText.{certificate_text}
 use Rattle.report_form.specs.ReportText.{Report}
 use Rattle.hull_report.specs.SettledText.{settlement_of}
 use Rattle.report_form.specs.SettlementText.{settlement_text}
 use Rattle.hull_report.specs.TryText.{try_text}
 use Rattle.hull_report.specs.declared.fault.FileKind.{FileKind}
+use Rattle.hull_report.specs.declared.fault.FileKind.TheVariants.{PricesFile}
 use Rattle.hull_report.specs.declared.fault.TopFault.{TopFault}
 use Rattle.hull_report.specs.declared.fault.TopFault.TheVariants.{Memory}
 use Rattle.hull_engine.specs.declared.answer.Answer.{Answer}
 use Rattle.hull_engine.specs.declared.answer.Answer.TheVariants.{Check, Settle, Try, Bound, Fixed}
-use Rattle.hull_engine.specs.declared.answer.Answer.TheVariants.{Audit}
+use Rattle.hull_engine.specs.declared.answer.Answer.TheVariants.{Audit, Certify}
+use Rattle.hull_engine.specs.declared.answer.CertifiedInput.{CertifiedInput}
+use Rattle.hull_engine.specs.declared.answer.PricedInput.{PricedInput}
 use Rattle.hull_engine.specs.declared.answer.SettledInput.{SettledInput}
 use Rattle.hull_engine.specs.declared.end.End.{End}
 use Rattle.hull_engine.specs.declared.end.End.TheVariants.{Done, Cut, Refused}
-use Rattle.hull_engine.specs.Steps.{Reads}
-use Rattle.hull_engine.specs.Planned.{PlannedCase, planned_in}
+use Rattle.hull_engine.specs.Steps.{Reads, Then, IsInput, IsPricesFile, IsPriced}
+use Rattle.hull_engine.specs.Planned.{PlannedCase, planned_in, planned_of, IsPlanned}
 use Rattle.hull_engine.specs.Outcome.{Command, IsReportText, IsBoundText, IsReadOf, AreReads}
 use Rattle.board_run.specs.Rounds.{IsEnded}
 use Rattle.board_run.specs.Bounded.{IsBounded}
 use Rattle.board_run.specs.Compared.{ArePaid}
 use Rattle.price_settle.specs.Laws.{HasEachUnit}
-use Rattle.price_settle.specs.Settled.{settled_of}
+use Rattle.price_settle.specs.Settled.{settled_of, IsSettledAt}
 
 -- ---- a step
 
@@ -59,6 +70,20 @@ abbrev pub HasReads : (List ℕ → Option (List ℕ)) → (List ℕ → Type 0)
     (FileKind → Option (List ℕ)) → (Reads → Type 0) → Type 0
 HasReads told rose name_of P = (reads : Reads) × AreReads told rose name_of reads × P reads
 
+-- ---- an input with prices
+
+-- a feasible schedule of its case, and prices over the periods
+pub record IsFitPriced (p : PricedInput) : Type 0 where
+  pub planned : IsPlanned p.input
+  pub horizon : length (prices_of p.prices).energy ≡ (market_of p.input.case).periods
+
+-- the input and the prices of their files, or their first refusal, or want of memory
+abbrev pub IsPricedAnswer : Reads → Result PricedInput TopFault → Type 0
+IsPricedAnswer reads (Ok p) =
+    IsInput reads (Ok (planned_of p.input))
+    × IsPricesFile (market_of p.input.case).periods (reads PricesFile) (Ok (prices_of p.prices))
+IsPricedAnswer reads (Err f) = IsFaultOf (Then (IsInput reads) (IsPriced reads)) f
+
 -- ---- the answer of a command
 
 -- the texts that may be printed of a run
@@ -71,6 +96,10 @@ IsTextOf (Check input) text = text ≡ check_text (market_of input.case) input.c
 IsTextOf (Settle s) text =
     text ≡ settlement_text
     (settlement_of (market_of s.input.case) s.input.cost (settled_of s.settled))
+IsTextOf (Certify x) text =
+    text ≡ certificate_text
+    (certificate_of (market_of x.settled.input.case) x.settled.input.cost
+    (settled_of x.settled.settled) (unsigned_abs x.within.radius) x.within.bound)
 IsTextOf (Try number done) text = IsRunText (try_text number) done.closed.setup text
 IsTextOf (Bound b) text =
     IsBoundText b.done.closed.setup.budget b.done.closed.setup.ahead b.radius
@@ -85,10 +114,24 @@ pub record HasSettled (s : SettledInput) : Type 0 where
   pub value : IsWorth s.settled.row.value
   pub each : HasEachUnit (market_of s.input.case) (settled_of s.settled)
 
+-- so it is of a certificate, and its bound is one that may be told
+pub record HasCertified (x : CertifiedInput) : Type 0 where
+  pub settled : HasSettled x.settled
+  pub bound : IsTold x.within.bound
+
+-- the schedule's settlement at these prices, and the bound round them by this mixture
+pub record IsCertifiedAt (π : PriceLists) (mixture : MixtureLists) (radius : ℤ)
+    (x : CertifiedInput) : Type 0 where
+  pub settled : IsSettledAt (market_of x.settled.input.case) (schedules_of x.settled.input.plan)
+      π (settled_of x.settled.settled)
+  pub radius_is : x.within.radius ≡ radius
+  pub bound_is : x.within.bound ≡ mixture_bound (market_of x.settled.input.case) mixture π radius
+
 -- a run that is answered has ended, and each unit is paid
 abbrev pub IsAnswered : Answer → Type 0
 IsAnswered (Check input) = ⊤
 IsAnswered (Settle s) = HasSettled s
+IsAnswered (Certify x) = HasCertified x
 IsAnswered (Try number done) = IsEnded done.closed.setup done
 IsAnswered (Bound b) = IsBounded b.done.closed.setup b.radius b
 IsAnswered (Fixed s) = ArePaid s

@@ -1,11 +1,12 @@
 -- What the words of a command ask for.
 use Rattle.std.specs.Prelude.{◌≡◌}
-use Rattle.hull_words.specs.Asked.{TryAsked, BoundAsked, AuditAsked, SettleAsked, price_asked}
+use Rattle.hull_words.specs.Asked.{TryAsked, BoundAsked, AuditAsked, CertifyAsked, price_asked}
+use Rattle.hull_words.specs.Asked.{settle_asked}
 use Rattle.hull_words.specs.declared.command.PriceWords.{PriceWords}
 use Rattle.hull_words.specs.declared.command.TryWords.{TryWords}
 use Rattle.hull_words.specs.declared.command.BoundWords.{BoundWords}
 use Rattle.hull_words.specs.declared.command.AuditWords.{AuditWords}
-use Rattle.hull_words.specs.declared.command.SettleWords.{SettleWords}
+use Rattle.hull_words.specs.declared.command.CertifyWords.{CertifyWords}
 use Rattle.board_core.specs.declared.terms.Terms.{Terms}
 
 abbrev pub try_asked : TryWords → TryAsked
@@ -23,11 +24,11 @@ audit_asked w = record {
   workers = w.workers;
 }
 
-abbrev pub settle_asked : SettleWords → SettleAsked
-settle_asked w = record {
-  case_name = w.case_name.items;
-  schedule_name = w.schedule_name.items;
-  prices_name = w.prices_name.items;
+abbrev pub certify_asked : CertifyWords → CertifyAsked
+certify_asked w = record {
+  names = settle_asked w.names;
+  mixture_name = w.mixture_name.items;
+  radius = w.radius;
 }
 
 -- a run has the numbers that the words of `hull price` ask for

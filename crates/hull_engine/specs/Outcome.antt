@@ -17,24 +17,28 @@
 -- The steps of the commands are in Steps; a case with its schedule is in Planned; the
 -- text of a report in report_form's ReportText; the other texts, and what makes them right, in
 -- hull_report: RightReport, CheckText, TryText, BoundText, FixedText and RightSide, AuditText,
--- SettledText, FaultLines; a case with its schedule's commitments held in fixed_price's FixedCase; which reports
+-- SettledText, CertifiedText, FaultLines; a case with its schedule's commitments held in fixed_price's FixedCase; which reports
 -- are read, and the first line in fault, in report_read's Bounds and Faults; the first line at
 -- which a report differs from the right one in audit_check's Right; the bound round a row in
--- gap_proof's Candidates; a settlement at any prices in price_settle's Settled.
+-- gap_proof's Candidates; a settlement at any prices in price_settle's Settled; the bound by a
+-- mixture in mixture_bound's MixtureBound.
 use Rattle.std.specs.Prelude.{◌≡◌, ◌⊎◌, ℕ, ℤ, List, length, unsigned_abs, Option, None, Some}
 use Rattle.std.specs.Prelude.{Result, Ok, Err, IfSome}
 use Rattle.uc_model.specs.Data.{PriceLists}
 use Rattle.fixed_price.specs.FixedCase.{fixed_market}
 use Rattle.gap_proof.specs.Candidates.{RowRange, IsFirstLeast}
 use Rattle.hull_words.specs.Asked.{Asked, check, price, try, bound, fixed, audit, settle}
+use Rattle.hull_words.specs.Asked.{certify, SettleAsked}
 use Rattle.hull_words.specs.Words.{words_of}
 use Rattle.hull_words.specs.declared.fault.WordFault.{WordFault}
 use Rattle.hull_report.specs.AuditText.{audit_text}
 use Rattle.hull_report.specs.BoundText.{bound_text}
+use Rattle.hull_report.specs.CertifiedText.{certificate_of}
 use Rattle.hull_report.specs.CheckText.{check_text}
 use Rattle.hull_report.specs.FaultLines.{status_of, fault_line}
 use Rattle.right_report.specs.RightSide.{ToldSide}
 use Rattle.hull_report.specs.FixedText.{fixed_text}
+use Rattle.report_form.specs.CertificateText.{certificate_text}
 use Rattle.report_form.specs.ReportText.{Report, report_text}
 use Rattle.right_report.specs.RightReport.{IsRightReport}
 use Rattle.right_report.specs.RightSide.{IsRightSide}
@@ -43,7 +47,7 @@ use Rattle.report_form.specs.SettlementText.{settlement_text}
 use Rattle.hull_report.specs.TryText.{try_text}
 use Rattle.hull_report.specs.declared.fault.FileKind.{FileKind}
 use Rattle.hull_report.specs.declared.fault.FileKind.TheVariants.{CaseFile, ScheduleFile}
-use Rattle.hull_report.specs.declared.fault.FileKind.TheVariants.{ReportFile, PricesFile}
+use Rattle.hull_report.specs.declared.fault.FileKind.TheVariants.{ReportFile, PricesFile, MixtureFile}
 use Rattle.hull_report.specs.declared.fault.TopFault.{TopFault}
 use Rattle.hull_report.specs.declared.fault.TopFault.TheVariants.{Words, Memory}
 use Rattle.hull_engine.specs.declared.end.End.{End}
@@ -51,7 +55,9 @@ use Rattle.hull_engine.specs.declared.end.End.TheVariants.{Done, Cut, Refused}
 use Rattle.hull_engine.specs.Steps.{Then, Reads, IsInput, IsMade, IsWithinWork}
 use Rattle.hull_engine.specs.Planned.{PlannedCase}
 use Rattle.price_settle.specs.Settled.{Settled, IsSettledAt}
-use Rattle.hull_engine.specs.Steps.{IsAudit, IsPricesFile, IsPriced}
+use Rattle.hull_engine.specs.Steps.{IsAudit, IsPricesFile, IsPriced, IsMixtureFile, IsCertifiable}
+use Rattle.mixture_bound.specs.Mixtures.{MixtureLists}
+use Rattle.mixture_bound.specs.MixtureBound.{mixture_bound}
 
 -- ---- the commands
 
@@ -70,6 +76,7 @@ case_and_schedule case_name schedule_name CaseFile = Some case_name
 case_and_schedule case_name schedule_name ScheduleFile = Some schedule_name
 case_and_schedule case_name schedule_name ReportFile = None
 case_and_schedule case_name schedule_name PricesFile = None
+case_and_schedule case_name schedule_name MixtureFile = None
 
 abbrev pub with_report : (case_name schedule_name report_name : List ℕ) → FileKind →
     Option (List ℕ)
@@ -77,6 +84,7 @@ with_report case_name schedule_name report_name CaseFile = Some case_name
 with_report case_name schedule_name report_name ScheduleFile = Some schedule_name
 with_report case_name schedule_name report_name ReportFile = Some report_name
 with_report case_name schedule_name report_name PricesFile = None
+with_report case_name schedule_name report_name MixtureFile = None
 
 abbrev pub with_prices : (case_name schedule_name prices_name : List ℕ) → FileKind →
     Option (List ℕ)
@@ -84,6 +92,15 @@ with_prices case_name schedule_name prices_name CaseFile = Some case_name
 with_prices case_name schedule_name prices_name ScheduleFile = Some schedule_name
 with_prices case_name schedule_name prices_name ReportFile = None
 with_prices case_name schedule_name prices_name PricesFile = Some prices_name
+with_prices case_name schedule_name prices_name MixtureFile = None
+
+abbrev pub with_mixture : (names : SettleAsked) (mixture_name : List ℕ) → FileKind →
+    Option (List ℕ)
+with_mixture names mixture_name CaseFile = Some names.case_name
+with_mixture names mixture_name ScheduleFile = Some names.schedule_name
+with_mixture names mixture_name ReportFile = None
+with_mixture names mixture_name PricesFile = Some names.prices_name
+with_mixture names mixture_name MixtureFile = Some mixture_name
 
 -- what `text_of` writes of a right report for the input, with that budget and number of proposals
 -- ahead
@@ -123,6 +140,18 @@ IsSettlementText read c text =
     (prices : PriceLists) × IsPricesFile c.market.periods read (Ok prices)
     × (s : Settled) × IsSettledAt c.market c.plan prices s
     × (text ≡ settlement_text (settlement_of c.market c.cost s))
+
+-- the text that tells of the prices that were read what the schedule is settled at there, and the
+-- bound that the mixture that was read gives on the dual value of all whole prices within the limits
+-- and the radius
+abbrev pub IsCertificateText : (prices mixture : Option (List ℕ)) (radius : ℤ) → PlannedCase →
+    List ℕ → Type 0
+IsCertificateText prices mixture radius c text =
+    (π : PriceLists) × IsPricesFile c.market.periods prices (Ok π)
+    × (x : MixtureLists) × IsMixtureFile c.market mixture (Ok x)
+    × (s : Settled) × IsSettledAt c.market c.plan π s
+    × (text ≡ certificate_text (certificate_of c.market c.cost s (unsigned_abs radius)
+    (mixture_bound c.market x π radius)))
 
 -- words that are refused at once
 abbrev pub refused : WordFault → Command
@@ -177,6 +206,12 @@ command_for (Ok (settle a)) = record {
   name_of = with_prices a.case_name a.schedule_name a.prices_name;
   IsDue = λ reads. Then (IsInput reads) (IsPriced reads);
   IsText = λ reads. IsSettlementText (reads PricesFile);
+}
+-- how near to the best given prices are, by a mixture of schedules
+command_for (Ok (certify a)) = record {
+  name_of = with_mixture a.names a.mixture_name;
+  IsDue = λ reads. Then (IsInput reads) (IsCertifiable reads);
+  IsText = λ reads. IsCertificateText (reads PricesFile) (reads MixtureFile) a.radius;
 }
 command_for (Err f) = refused f
 

@@ -3,6 +3,7 @@ use Rattle.std.specs.Prelude.{◌≡◌, ⊤, ℕ, List, map, Option, None, Some
 use Rattle.gap_proof.specs.Sums.{IsRadius}
 use Rattle.hull_io.specs.Edge.{Rose}
 use Rattle.hull_words.specs.Asked.{Asked, check, price, try, bound, fixed, audit, settle}
+use Rattle.hull_words.specs.Asked.{certify}
 use Rattle.hull_words.specs.Words.{words_of}
 use Rattle.hull_words.specs.declared.fault.WordFault.{WordFault}
 use Rattle.hull_report.specs.TryText.{try_text}
@@ -92,6 +93,7 @@ pub record IsReady (ready : Ready) : Type 0 where
 abbrev pub AskForRun : Result Asked WordFault → Type 0
 AskForRun (Ok (check a)) = ⊥
 AskForRun (Ok (settle a)) = ⊥
+AskForRun (Ok (certify a)) = ⊥
 AskForRun (Ok (price a)) = ⊤
 AskForRun (Ok (try a)) = ⊤
 AskForRun (Ok (bound a)) = ⊤

@@ -4,6 +4,7 @@ use Rattle.std.specs.Prelude.{⊤, ℕ, ◌≤◌}
 use Rattle.plain_lists.specs.declared.limits.TheConstants.{MOST_PROPOSALS, MOST_WORKERS, MOST_AHEAD}
 use Rattle.gap_proof.specs.Sums.{IsRadius}
 use Rattle.hull_words.specs.Asked.{Asked, price, check, try, bound, fixed, audit, settle}
+use Rattle.hull_words.specs.Asked.{certify}
 
 -- the number is from low to high
 pub record IsWithin (low high n : ℕ) : Type 0 where
@@ -33,3 +34,4 @@ HasSizes (fixed a) = IsRunSize a.proposals a.workers a.ahead
 HasSizes (check a) = ⊤
 HasSizes (audit a) = IsWorkers a.workers
 HasSizes (settle a) = ⊤
+HasSizes (certify a) = IsRadius a.radius

@@ -1,6 +1,7 @@
 -- The steps of a command, in the order in which they refuse: each goes on with what it found, or
 -- ends in a refusal (this project's profile). What a file's bytes are is said in uc_case, uc_plan,
--- uc_prices and report_read, the rules of a schedule in uc_model, and what a right report is in hull_report.
+-- uc_prices, uc_mixture and report_read, the rules of a schedule in uc_model, and what a right report
+-- is in right_report.
 use Rattle.std.specs.Prelude.{◌≡◌, ℕ, ◌*◌, nat_lt, List, [], length, Option, None, Some, Result}
 use Rattle.std.specs.Prelude.{Ok, Err, slice_get, if◌then◌else◌}
 use Rattle.std.specs.Result.{result_map_both}
@@ -17,17 +18,24 @@ use Rattle.uc_plan.specs.declared.fault.ShapeFault.{ShapeFault}
 use Rattle.hull_engine.specs.Planned.{PlannedCase}
 use Rattle.uc_prices.specs.PricesFiles.{IsPricesOf}
 use Rattle.uc_prices.specs.declared.fault.PriceFault.{PriceFault}
+use Rattle.uc_mixture.specs.MixtureFiles.{IsMixtureFileOf}
+use Rattle.uc_mixture.specs.declared.fault.ShareFault.{ShareFault}
+use Rattle.mixture_bound.specs.Mixtures.{MixtureLists, IsMixture}
+use Rattle.mixture_bound.specs.Refused.{mixture_refusals, entry_refusal_of}
+use Rattle.mixture_bound.specs.declared.check.EntryFault.{EntryFault}
 use Rattle.plan_check.specs.Checks.{refusal_of}
 use Rattle.plan_check.specs.declared.RuleFault.{RuleFault}
 use Rattle.hull_report.specs.declared.fault.FileKind.{FileKind}
 use Rattle.hull_report.specs.declared.fault.FileKind.TheVariants.{CaseFile, ScheduleFile}
-use Rattle.hull_report.specs.declared.fault.FileKind.TheVariants.{ReportFile, PricesFile}
+use Rattle.hull_report.specs.declared.fault.FileKind.TheVariants.{ReportFile, PricesFile, MixtureFile}
 use Rattle.hull_report.specs.declared.fault.ReportCode.TheVariants.{OutOfForm, Wrong}
 use Rattle.hull_report.specs.declared.fault.TopFault.{TopFault}
 use Rattle.hull_report.specs.declared.fault.TopFault.TheVariants.{Read, CaseText, CaseField}
 use Rattle.hull_report.specs.declared.fault.TopFault.TheVariants.{PlanText, PlanShape, PlanRule}
 use Rattle.hull_report.specs.declared.fault.TopFault.TheVariants.{TooBig, Work, Report as Unfit}
 use Rattle.hull_report.specs.declared.fault.TopFault.TheVariants.{PricesText, PricesValue}
+use Rattle.hull_report.specs.declared.fault.TopFault.TheVariants.{MixtureText, MixtureShare}
+use Rattle.hull_report.specs.declared.fault.TopFault.TheVariants.{MixtureRule}
 use Rattle.report_form.specs.ReportText.{Report, report_text}
 use Rattle.right_report.specs.RightReport.{IsRightReport}
 use Rattle.report_read.specs.Bounds.{IsReport}
@@ -181,3 +189,40 @@ IsPricesFile periods read = Then (IsBytes PricesFile read) (IsPrices periods)
 abbrev pub IsPriced : Reads → PlannedCase → Result PlannedCase TopFault → Type 0
 IsPriced reads c =
     Then (IsPricesFile c.market.periods (reads PricesFile)) (λ prices due. due ≡ Ok c)
+
+-- ---- a mixture
+
+abbrev pub mixture_fault : FileFault ShareFault → TopFault
+mixture_fault (text f) = MixtureText f
+mixture_fault (value f) = MixtureShare f
+
+-- the mixture over the thermal units of a case that bytes are, whatever its schedules keep, or else
+-- the first fault of their text or of its values
+abbrev pub IsShares : Market → List ℕ → Result MixtureLists TopFault → Type 0
+IsShares m bytes due =
+    (found : Result MixtureLists (FileFault ShareFault)) × IsMixtureFileOf m bytes found
+    × (due ≡ result_map_both (λ x. x) mixture_fault found)
+
+-- the mixture of its file
+abbrev pub IsSharesFile : Market → Option (List ℕ) → Result MixtureLists TopFault → Type 0
+IsSharesFile m read = Then (IsBytes MixtureFile read) (IsShares m)
+
+-- a mixture of feasible schedules is left, and any other has its first refusal
+abbrev pub IsMixed : Market → MixtureLists → Result MixtureLists TopFault → Type 0
+IsMixed m x (Ok left) = IsMixture m x × (mixture_refusals m x ≡ []) × (left ≡ x)
+IsMixed m x (Err f) =
+    (rule : EntryFault) × (f ≡ MixtureRule rule)
+    × (slice_get (mixture_refusals m x) 0 ≡ Some (entry_refusal_of rule))
+
+-- the form of the mixture of its file, then the rules of its schedules
+abbrev pub IsMixtureFile : Market → Option (List ℕ) → Result MixtureLists TopFault → Type 0
+IsMixtureFile m read = Then (IsSharesFile m read) (IsMixed m)
+
+-- an input is left by a file of such a mixture, and refused by the first fault of any other
+abbrev pub HasMixture : Reads → PlannedCase → Result PlannedCase TopFault → Type 0
+HasMixture reads c =
+    Then (IsMixtureFile c.market (reads MixtureFile)) (λ x due. due ≡ Ok c)
+
+-- THE CERTIFICATE of an input: the prices of their file, then the mixture of its own
+abbrev pub IsCertifiable : Reads → PlannedCase → Result PlannedCase TopFault → Type 0
+IsCertifiable reads c = Then (IsPriced reads c) (HasMixture reads)

@@ -2,7 +2,16 @@
 
 use crate::input::Input;
 use board_run::{Bounded, Done, Sides};
+use hull_report::BoundWithin;
 use price_settle::Settled;
+use uc_model::units::Prices;
+
+/// A case with its schedule, and prices over its periods.
+#[derive(Drop)]
+pub struct PricedInput {
+    pub input: Input,
+    pub prices: Prices,
+}
 
 /// A case with its schedule, and what that is settled at.
 pub struct SettledInput {
@@ -22,6 +31,22 @@ impl Drop for SettledInput {
     }
 }
 
+/// What a schedule is settled at, and a bound round the prices.
+pub struct CertifiedInput {
+    pub settled: SettledInput,
+    pub within: BoundWithin,
+}
+
+// Written out, so that a drop of it is a call, and not one for each list.
+impl Drop for CertifiedInput {
+    fn drop(self) {
+        let CertifiedInput {
+            settled: _,
+            within: _,
+        } = self;
+    }
+}
+
 /// What a command is to print, but for the report of a run.
 #[derive(Drop)]
 pub enum Answer {
@@ -29,6 +54,8 @@ pub enum Answer {
     Check(Input),
     /// What a schedule is settled at, at given prices.
     Settle(SettledInput),
+    /// The same, with a bound on the dual value of all prices round them.
+    Certify(CertifiedInput),
     /// The sums of a run on the case that a number stands for.
     Try(u64, Done),
     /// The best bound round the prices that a run chose.

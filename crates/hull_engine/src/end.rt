@@ -17,7 +17,7 @@ ghost use Rattle.hull_engine.specs.Rest.{rest_of, rest_with, nothing_read, IsRea
 ghost use Rattle.hull_engine.specs.Rest.{IsBeforeOf, IsUntouched};
 ghost use Rattle.hull_engine.specs.declared.ready.Task.TheVariants as tasks;
 
-use crate::answer::{Answer, SettledInput};
+use crate::answer::{Answer, CertifiedInput, SettledInput};
 use crate::answers::{answer_audit, answer_bound, answer_fixed, answer_try};
 use crate::ready::{Before, Prepared, Ready, Task, manned};
 use answer_workers::Gate;
@@ -25,8 +25,8 @@ use board_core::{Closed, Terms};
 use board_run::{Bounded, Done, Run, open_run, run_board};
 use hull_io::{Sink, WriteFailed};
 use hull_report::{
-    TopFault, write_audit, write_bound, write_check, write_fault, write_fixed, write_report,
-    write_settlement, write_try,
+    TopFault, write_audit, write_bound, write_certificate, write_check, write_fault, write_fixed,
+    write_report, write_settlement, write_try,
 };
 use right_report::laws::{record_report_is_right, settlements_are_of_all_units};
 use std::alloc::{AllocError, Global};
@@ -130,6 +130,11 @@ fn write_answer<S: Sink>(answer: Answer, out: &mut S) -> Result<(), WriteFailed>
         Answer::Settle(settled) => {
             let SettledInput { input, settled } = &settled;
             write_settlement(&input.case, input.cost, settled, out)
+        }
+        Answer::Certify(certified) => {
+            let CertifiedInput { settled, within } = &certified;
+            let SettledInput { input, settled } = settled;
+            write_certificate(&input.case, input.cost, settled, *within, out)
         }
         Answer::Try(number, done) => {
             let written = write_try(number, &done.closed, &done.settlement, out);

@@ -35,7 +35,7 @@ use uc_prices::fault::PricesFault;
 use uc_prices::read_prices;
 
 /// The bytes of a file.
-fn read_bytes<F: Shelf>(
+pub fn read_bytes<F: Shelf>(
     alloc: Global,
     shelf: &mut F,
     name: &str,

@@ -14,6 +14,7 @@ ghost use Rattle.hull_engine.specs.Workers.{IsUseful};
 mod answer;
 mod answers;
 mod audit;
+mod certify;
 mod end;
 mod files;
 mod input;
@@ -35,7 +36,8 @@ use std::thread::Threads;
 pub use workers::useful_workers;
 
 /// Does all of a command that comes before a run: its words, its files and each refusal up to the
-/// opening of the run; of `hull check` and `hull settle` that is all. It answers the status with
+/// opening of the run; of `hull check`, `hull settle`
+/// and `hull certify` that is all. It answers the status with
 /// which the command has ended, or else what is left to be run, with nothing written yet. It starts
 /// no thread and waits for none, so it is proved to return.
 pub fn hull_before_run<F: Shelf, S: Sink>(

@@ -3,22 +3,25 @@
 ghost use Rattle.std.specs.Prelude.{◌≡◌, ℕ, List, Ok, Err, None, IfOk, IfErr};
 ghost use Rattle.gap_proof.specs.Sums.{IsRadius};
 ghost use Rattle.hull_words.specs.Asked.{asked, check, price, try, bound, fixed};
-ghost use Rattle.hull_words.specs.Asked.{audit, settle, check_asked, price_asked};
+ghost use Rattle.hull_words.specs.Asked.{audit, settle, certify, check_asked, price_asked};
+ghost use Rattle.hull_words.specs.Asked.{settle_asked};
 ghost use Rattle.hull_io.specs.Edge.{Rose};
 ghost use Rattle.hull_words.specs.Words.{texts, words_of};
 ghost use Rattle.hull_report.specs.declared.fault.FileKind.{FileKind};
 ghost use Rattle.hull_engine.specs.Steps.{Then, Reads, IsInput, IsWithinWork, made_case};
-ghost use Rattle.hull_engine.specs.Outcome.{command_for, case_and_schedule};
+ghost use Rattle.hull_engine.specs.Outcome.{command_for, case_and_schedule, with_prices};
 ghost use Rattle.hull_engine.specs.Answers.{IsFaultOf, IsAnswer, IsLaterShelf, HasReads};
+ghost use Rattle.hull_engine.specs.Answers.{IsFitPriced, IsPricedAnswer};
 ghost use Rattle.hull_engine.specs.Rest.{IsPrepared, HasPrepared, IsAsked, IsFit};
 ghost use Rattle.board_core.specs.Setups.{IsSetup, setup_of};
 ghost use Rattle.hull_engine.specs.Planned.{planned_of, planned_run, IsPlanned};
-ghost use Rattle.hull_engine.specs.Inputs.{try_asked, bound_asked, audit_asked, settle_asked};
-ghost use Rattle.hull_engine.specs.Inputs.{HasNumbers};
+ghost use Rattle.hull_engine.specs.Inputs.{try_asked, bound_asked, audit_asked};
+ghost use Rattle.hull_engine.specs.Inputs.{certify_asked, HasNumbers};
 ghost use Rattle.hull_engine.specs.Sizes.{IsWorkers, IsRunSize};
 ghost use Rattle.hull_engine.specs.Sizes.{HasSizes};
 
-use crate::answer::Answer;
+use crate::answer::{Answer, PricedInput};
+use crate::certify::{certified_input, read_mixture_file};
 use crate::files::{read_input, read_prices_file, read_report_file};
 use crate::input::{Input, within_work};
 use crate::ready::{Prepared, Ready, Task};
@@ -28,8 +31,8 @@ use case_make::make_case;
 use hull_io::Shelf;
 use hull_report::TopFault;
 use hull_words::{
-    AuditWords, BoundWords, CheckWords, Command, PriceWords, SettleWords, TryWords, WordError,
-    read_words,
+    AuditWords, BoundWords, CertifyWords, CheckWords, Command, PriceWords, SettleWords, TryWords,
+    WordError, read_words,
 };
 use plan_check::costs::cost_of_plan;
 use std::alloc::{AllocError, Global};
@@ -190,6 +193,28 @@ fn prepare_audit<F: Shelf>(
     Ok(Prepared::Ready(Ready { task, terms }))
 }
 
+/// The case, the schedule and the prices of the files of these names, or their first fault.
+fn read_priced<F: Shelf>(
+    alloc: Global,
+    shelf: &mut F,
+    words: &SettleWords,
+) -> Result<PricedInput, TopFault>
+    ensures answers { HasReads (F.told shelf.old)
+        (λ name. Rose F.last (F.faults shelf.old name) (F.faults shelf.new name))
+        (with_prices words.now.case_name.items words.now.schedule_name.items
+        words.now.prices_name.items)
+        (λ reads. IsPricedAnswer reads result) }
+    ensures fit { IfOk result IsFitPriced }
+    ensures shelf { IsLaterShelf F.told F.faults shelf.old shelf.new }
+{
+    let case_name = words.case_name.as_str();
+    let schedule_name = words.schedule_name.as_str();
+    let prices_name = words.prices_name.as_str();
+    let input = read_input(alloc, shelf, case_name, schedule_name)?;
+    let prices = read_prices_file(alloc, shelf, prices_name, &input.case)?;
+    Ok(PricedInput { input, prices })
+}
+
 /// What `hull settle` answers.
 fn prepare_settle<F: Shelf>(
     alloc: Global,
@@ -202,13 +227,29 @@ fn prepare_settle<F: Shelf>(
     ensures fit { IfOk result IsFit }
     ensures shelf { IsLaterShelf F.told F.faults shelf.old shelf.new }
 {
-    let case_name = words.case_name.as_str();
-    let schedule_name = words.schedule_name.as_str();
-    let prices_name = words.prices_name.as_str();
-    let input = read_input(alloc, shelf, case_name, schedule_name)?;
-    let prices = read_prices_file(alloc, shelf, prices_name, &input.case)?;
-    let settled = settled_input(alloc, input, prices)?;
+    let priced = read_priced(alloc, shelf, words)?;
+    let settled = settled_input(alloc, priced)?;
     Ok(Prepared::Answered(Answer::Settle(settled)))
+}
+
+/// What `hull certify` answers.
+fn prepare_certify<F: Shelf>(
+    alloc: Global,
+    shelf: &mut F,
+    words: &CertifyWords,
+) -> Result<Prepared, TopFault>
+    requires { IsRadius words.now.radius }
+    ensures prepared { HasPrepared F.told F.faults F.last shelf.old shelf.new
+        (Ok (certify (certify_asked words.now))) result }
+    ensures asked { IsAsked (Ok (certify (certify_asked words.now))) result }
+    ensures fit { IfOk result IsFit }
+    ensures shelf { IsLaterShelf F.told F.faults shelf.old shelf.new }
+{
+    let priced = read_priced(alloc, shelf, &words.names)?;
+    let mixture_name = words.mixture_name.as_str();
+    let mixture = read_mixture_file(alloc, shelf, mixture_name, &priced.input.case)?;
+    let certified = certified_input(alloc, priced, &mixture, words.radius)?;
+    Ok(Prepared::Answered(Answer::Certify(certified)))
 }
 
 /// What a command comes to before any run, or its first refusal.
@@ -235,6 +276,7 @@ fn prepare_command<F: Shelf>(
         Command::Fixed(words) => prepare_fixed(alloc, shelf, words),
         Command::Audit(words) => prepare_audit(alloc, shelf, words),
         Command::Settle(words) => prepare_settle(alloc, shelf, words),
+        Command::Certify(words) => prepare_certify(alloc, shelf, words),
     }
 }
 

@@ -1,4 +1,6 @@
-use Rattle.hull_engine.proofs.Common.{rules, refl, w64, w128, to_z-of_z, market_of, told_of, fixed_text, try_text}
+use Rattle.hull_engine.proofs.Common.{rules, refl, w64, w128, to_z-of_z, unsigned_abs, market_of, told_of, fixed_text, try_text}
+use Rattle.hull_report.specs.CertifiedText.{certificate_of}
+use Rattle.report_form.specs.CertificateText.{certificate_text}
 use Rattle.hull_report.specs.SettledText.{settlement_of}
 use Rattle.report_form.specs.SettlementText.{settlement_text}
 use Rattle.price_settle.specs.Settled.{settled_of}
@@ -13,6 +15,16 @@ returns-in-Settle g c =
       settlement_text (settlement_of (market_of s.input.case) s.input.cost (settled_of s.settled)),
       refl,
       rw (to_z-of_z w128 s.input.cost (search rules)) at c.write_settlement.ensures,
+    )
+
+pub returns-in-Certify : goal.returns-in-Certify
+returns-in-Certify g c =
+    let x = c.in-Certify.certified in
+    let input = x.settled.input in
+    rw c.in-Certify.is (
+      certificate_text (certificate_of (market_of input.case) input.cost (settled_of x.settled.settled) (unsigned_abs x.within.radius) x.within.bound),
+      refl,
+      rw (to_z-of_z w128 input.cost (search rules)) at c.write_certificate.ensures,
     )
 
 pub returns-in-Try : goal.returns-in-Try

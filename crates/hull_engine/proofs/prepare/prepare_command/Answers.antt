@@ -59,6 +59,15 @@ returns-in-Settle-clause-asked g c = rw c.in-Settle.is c.prepare_settle.ensures.
 pub returns-in-Settle-clause-unread : goal.returns-in-Settle-clause-unread
 returns-in-Settle-clause-unread g c = rw c.in-Settle.is (λ none. absurd (named _ (none CaseFile)))
 
+pub returns-in-Certify-clause-prepared : goal.returns-in-Certify-clause-prepared
+returns-in-Certify-clause-prepared g c = rw c.in-Certify.is c.prepare_certify.ensures.prepared
+
+pub returns-in-Certify-clause-asked : goal.returns-in-Certify-clause-asked
+returns-in-Certify-clause-asked g c = rw c.in-Certify.is c.prepare_certify.ensures.asked
+
+pub returns-in-Certify-clause-unread : goal.returns-in-Certify-clause-unread
+returns-in-Certify-clause-unread g c = rw c.in-Certify.is (λ none. absurd (named _ (none CaseFile)))
+
 pub returns-in-Try-clause-prepared : goal.returns-in-Try-clause-prepared
 returns-in-Try-clause-prepared g c =
     let reads = any_reads (g.F.Shelf.told c.args.shelf.now) no_files in

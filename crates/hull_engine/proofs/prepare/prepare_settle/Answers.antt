@@ -1,76 +1,23 @@
-use Rattle.hull_engine.proofs.Common.{arith, inr, refl, ◌∙◌, err_from_is_err_and, planned_of, IsInput, IsPriced}
-use Rattle.uc_model.specs.PlainUnits.{prices_of}
-use Rattle.hull_engine.proofs.Lemmas.{prices_refused, answers_settle, unread, unread_is, prices_added, are_prices_added, refused_then}
+use Rattle.hull_engine.proofs.Common.{inr, refl, err_from_is_err_and, prices_of}
+use Rattle.hull_engine.proofs.Lemmas.{answers_settle}
 use Rattle.hull_engine.proofs.prepare.prepare_settle.Goals as goal
 
-pub returns-in_err-input-clause-prepared : goal.returns-in_err-input-clause-prepared
-returns-in_err-input-clause-prepared g c =
-    let words = c.args.words.now in
-    let told = g.F.Shelf.told c.args.shelf.now in
+pub returns-in_err-priced-clause-prepared : goal.returns-in_err-priced-clause-prepared
+returns-in_err-priced-clause-prepared g c =
     let p = err_from_is_err_and c.from_residual.result c.from_residual.ensures.1 in
-    let h = rw (c.as_str-case_name.ensures, c.as_str-schedule_name.ensures) at c.in_err-input.ensures.answers in
-    let read = unread (told words.prices_name.items) in
-    rw (p.1, p.2) (
-      prices_added h.0 read,
-      are_prices_added told g.F.Shelf.last _ _ _ words.case_name.items words.schedule_name.items words.prices_name.items h.0 read
-          c.in_err-input.ensures.shelf.later (λ any. omega arith) h.1 (unread_is (told words.prices_name.items) _),
-      refused_then (IsInput h.0) (IsPriced (prices_added h.0 read)) _ h.2,
-    )
-
-pub returns-in_err-prices-clause-prepared : goal.returns-in_err-prices-clause-prepared
-returns-in_err-prices-clause-prepared g c =
-    let words = c.args.words.now in
-    let told = g.F.Shelf.told c.args.shelf.now in
-    let p = err_from_is_err_and c.from_residual-in_err-prices.result c.from_residual-in_err-prices.ensures.1 in
-    let h = rw (c.as_str-case_name.ensures, c.as_str-schedule_name.ensures) at c.in_ok-input.ensures.answers in
-    let k = rw (c.as_str-prices_name.ensures, c.in_ok-input.ensures.shelf.told_same) at c.in_err-prices.ensures.answers in
-    rw (p.1, p.2) (
-      prices_added h.0 k.0,
-      are_prices_added told g.F.Shelf.last _ _ _ words.case_name.items words.schedule_name.items words.prices_name.items h.0 k.0
-          c.in_ok-input.ensures.shelf.later c.in_err-prices.ensures.shelf.later h.1 k.1,
-      prices_refused (prices_added h.0 k.0) (planned_of c.in_ok-input.input) h.2 _ k.2,
-    )
+    rw (p.1, p.2) c.in_err-priced.ensures.answers
 
 pub returns-in_err-settled-clause-prepared : goal.returns-in_err-settled-clause-prepared
 returns-in_err-settled-clause-prepared g c =
-    let words = c.args.words.now in
-    let told = g.F.Shelf.told c.args.shelf.now in
     let p = err_from_is_err_and c.from_residual-in_err-settled.result c.from_residual-in_err-settled.ensures.1 in
-    let h = rw (c.as_str-case_name.ensures, c.as_str-schedule_name.ensures) at c.in_ok-input.ensures.answers in
-    let k = rw (c.as_str-prices_name.ensures, c.in_ok-input.ensures.shelf.told_same) at c.in_ok-prices.ensures.answers in
-    rw (p.1, p.2) (
-      prices_added h.0 k.0,
-      are_prices_added told g.F.Shelf.last _ _ _ words.case_name.items words.schedule_name.items words.prices_name.items h.0 k.0
-          c.in_ok-input.ensures.shelf.later c.in_ok-prices.ensures.shelf.later h.1 k.1,
-      inr refl,
-    )
+    let h = c.in_ok-priced.ensures.answers in
+    rw (p.1, p.2) (h.0, h.1, inr refl)
 
 pub returns-clause-prepared : goal.returns-clause-prepared
 returns-clause-prepared g c =
-    let words = c.args.words.now in
-    let told = g.F.Shelf.told c.args.shelf.now in
-    let h = rw (c.as_str-case_name.ensures, c.as_str-schedule_name.ensures) at c.in_ok-input.ensures.answers in
-    let k = rw (c.as_str-prices_name.ensures, c.in_ok-input.ensures.shelf.told_same) at c.in_ok-prices.ensures.answers in (
-      prices_added h.0 k.0,
-      are_prices_added told g.F.Shelf.last _ _ _ words.case_name.items words.schedule_name.items words.prices_name.items h.0 k.0
-          c.in_ok-input.ensures.shelf.later c.in_ok-prices.ensures.shelf.later h.1 k.1,
-      answers_settle c.in_ok-input.input c.in_ok-settled.settled c.in_ok-settled.ensures.input (prices_of c.in_ok-prices.prices) c.in_ok-settled.ensures.settled words (prices_added h.0 k.0) h.2 k.2,
+    let h = c.in_ok-priced.ensures.answers in
+    let priced = c.in_ok-priced.priced in (
+      h.0,
+      h.1,
+      answers_settle priced.input c.in_ok-settled.settled c.in_ok-settled.ensures.input (prices_of priced.prices) c.in_ok-settled.ensures.settled c.args.words.now h.0 h.2.0 h.2.1,
     )
-
-pub returns-in_err-settled-clause-shelf : goal.returns-in_err-settled-clause-shelf
-returns-in_err-settled-clause-shelf g c = record {
-  told_same = c.in_ok-prices.ensures.shelf.told_same ∙ c.in_ok-input.ensures.shelf.told_same;
-  later = λ any.
-      let early = c.in_ok-input.ensures.shelf.later any in
-      let late = c.in_ok-prices.ensures.shelf.later any in
-      omega (arith, early, late);
-}
-
-pub returns-clause-shelf : goal.returns-clause-shelf
-returns-clause-shelf g c = record {
-  told_same = c.in_ok-prices.ensures.shelf.told_same ∙ c.in_ok-input.ensures.shelf.told_same;
-  later = λ any.
-      let early = c.in_ok-input.ensures.shelf.later any in
-      let late = c.in_ok-prices.ensures.shelf.later any in
-      omega (arith, early, late);
-}
