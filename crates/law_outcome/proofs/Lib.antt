@@ -14,6 +14,8 @@ pub mod FixedPromise
 pub mod AuditPromise
 -- what is promised of a settlement
 pub mod SettlePromise
+-- what is promised of a certificate
+pub mod CertifyPromise
 -- two runs of the same words print the same
 pub mod SameOutput
 -- The lemmas that answers cite.

@@ -1,5 +1,5 @@
 -- Where a schedule is refused, no feasible one is in its file.
-use Rattle.law_outcome.proofs.Common.{◌≡◌, ℕ, ◌≤◌, ◌⊎◌, inl, inr, Bool, true, false, List, Option, None, Some, Result, Ok, Err, refl, sym, ap, ◌∙◌, subst, arith, length, nat_lt, if◌then◌else◌, ltb-true, Market, Schedule, IsFeasiblePlan, plan_cost, MOST_BYTES, CaseFile, ScheduleFile, TopFault, TooBig, CaseText, CaseField, Words, Read, Asked, check, price, try, bound, fixed, audit, settle, words_of, WordFault, End, done_whole, Cut, Refused, Reads, PlannedCase, bytes_of, Then, IsBytes, IsCaseFile, IsPlanFile, IsChecked, IsInput, status_of, fault_line, command_for, AreReads, Ends, status_at, OverReads}
+use Rattle.law_outcome.proofs.Common.{◌≡◌, ℕ, ◌≤◌, ◌⊎◌, inl, inr, Bool, true, false, List, Option, None, Some, Result, Ok, Err, refl, sym, ap, ◌∙◌, subst, arith, length, nat_lt, if◌then◌else◌, ltb-true, Market, Schedule, IsFeasiblePlan, plan_cost, MOST_BYTES, CaseFile, ScheduleFile, TopFault, TooBig, CaseText, CaseField, Words, Read, Asked, check, price, try, bound, fixed, audit, settle, certify, words_of, WordFault, End, done_whole, Cut, Refused, Reads, PlannedCase, bytes_of, Then, IsBytes, IsCaseFile, IsPlanFile, IsChecked, IsInput, status_of, fault_line, command_for, AreReads, Ends, status_at, OverReads}
 use Rattle.uc_case.specs.Files.{text, value}
 use Rattle.uc_case.specs.Laws.{CasesAreWithin, OneCase}
 use Rattle.uc_model.specs.Laws.{RefusalsAreExact}
@@ -9,7 +9,7 @@ use Rattle.uc_plan.specs.Laws.{OnePlan}
 use Rattle.uc_plan.specs.PlanFiles.{IsPlanOf}
 use Rattle.law_outcome.specs.Laws.{HasNoFeasibleSchedule}
 use Rattle.law_outcome.proofs.OneDue.{one_input}
-use Rattle.law_outcome.proofs.OutcomeLaws.{case_found, same_fault, bytes_fault, work_fault, audit_fault, priced_fault}
+use Rattle.law_outcome.proofs.OutcomeLaws.{case_found, same_fault, bytes_fault, work_fault, audit_fault, priced_fault, certifiable_fault}
 
 -- the fault of a case isn't one of a schedule
 case_is_read : (reads : Reads) (f : TopFault) → IsCaseFile (reads CaseFile) (Err f) → status_of f ≡ 4 → ⊥
@@ -50,6 +50,14 @@ input_is_refused (Ok (settle a)) reads f (Ok c, input, priced) z =
       | inr nine ↦ absurd (omega (arith, nine, z))
     ]
 input_is_refused (Ok (settle a)) reads f (Err g, input, e) z = refused_input reads f g e input
+input_is_refused (Ok (certify a)) reads f (Ok c, input, certifiable) z =
+    elim (certifiable_fault reads c f certifiable) [
+      | inl (inl p) ↦ let two : status_of f ≡ 2 = ap status_of p.0 in absurd (omega (arith, two, z))
+      | inl (inr p) ↦ let two : status_of f ≡ 2 = ap status_of p.0 in absurd (omega (arith, two, z))
+      | inr (inl nine) ↦ absurd (omega (arith, nine, z))
+      | inr (inr ten) ↦ absurd (omega (arith, ten, z))
+    ]
+input_is_refused (Ok (certify a)) reads f (Err g, input, e) z = refused_input reads f g e input
 input_is_refused (Err x) reads f due z = let s : f ≡ Words x = same_fault f _ due in let one : status_of f ≡ 1 = ap status_of s in absurd (omega (arith, one, z))
 
 -- a file that isn't too large is read as it is

@@ -1,11 +1,17 @@
 -- Over what was read at most one thing is due, and at most one text may be printed.
-use Rattle.law_outcome.proofs.Common.{OutOfForm, Wrong, ◌≡◌, ℕ, ◌<◌, ℤ, List, length, unsigned_abs, Option, Some, inl, inr, Result, Ok, Err, sym, ap, subst, ◌∙◌, arith, cases_lt, same_Some, slice_get, Market, Schedule, Proposal, Asked, price, check, try, bound, fixed, audit, settle, WordFault, PriceLists, OneSettlement, Settled, IsSettledAt, PricesFile, prices_fault, IsPrices, IsPricesFile, IsPriced, IsSettlementText, fixed_market, TextDeterminesReport, OneRightReport, RightReportHasForm, Report, report_text, OneRightSide, CaseFile, ScheduleFile, ReportFile, TopFault, PlanRule, Unfit, Goes, Then, Reads, IsBytes, case_fault, plan_fault, IsCase, IsCaseFile, IsPlan, IsPlanFile, IsChecked, IsInput, IsMade, IsWithinWork, IsReportIn, IsReportFile, IsJudged, IsAudit, PlannedCase, IsReportText, IsBoundText, IsFixedText, IsAuditText, command_for}
+use Rattle.law_outcome.proofs.Common.{OutOfForm, Wrong, ◌≡◌, ℕ, ◌<◌, ℤ, List, length, unsigned_abs, Option, Some, inl, inr, Result, Ok, Err, sym, ap, subst, ◌∙◌, arith, cases_lt, same_Some, slice_get, Market, Schedule, Proposal, Asked, price, check, try, bound, fixed, audit, settle, certify, WordFault, PriceLists, OneSettlement, Settled, IsSettledAt, PricesFile, prices_fault, IsPrices, IsPricesFile, IsPriced, IsSettlementText, IsCertificateText, MixtureFile, MixtureRule, MixtureLists, mixture_fault, IsShares, IsSharesFile, IsMixed, IsMixtureFile, HasMixture, IsCertifiable, fixed_market, TextDeterminesReport, OneRightReport, RightReportHasForm, Report, report_text, OneRightSide, CaseFile, ScheduleFile, ReportFile, TopFault, PlanRule, Unfit, Goes, Then, Reads, IsBytes, case_fault, plan_fault, IsCase, IsCaseFile, IsPlan, IsPlanFile, IsChecked, IsInput, IsMade, IsWithinWork, IsReportIn, IsReportFile, IsJudged, IsAudit, PlannedCase, IsReportText, IsBoundText, IsFixedText, IsAuditText, command_for}
 use Rattle.std.proofs.lemmas.Int.{ints}
 use Rattle.std.specs.Result.{result_map_both}
 use Rattle.uc_model.specs.Refusals.{Refusal}
 use Rattle.uc_case.specs.Laws.{OneCase}
 use Rattle.uc_plan.specs.Laws.{OnePlan}
 use Rattle.uc_prices.specs.Laws.{OnePrices}
+use Rattle.uc_mixture.specs.Laws.{OneMixture}
+use Rattle.mixture_bound.specs.MixtureBound.{mixture_bound}
+use Rattle.mixture_bound.specs.Refused.{EntryRefusal, entry_refusal_of}
+use Rattle.mixture_bound.specs.declared.check.EntryFault.{EntryFault}
+use Rattle.report_form.specs.CertificateText.{certificate_text}
+use Rattle.hull_report.specs.CertifiedText.{certificate_of}
 use Rattle.report_form.specs.SettlementText.{settlement_text}
 use Rattle.hull_report.specs.SettledText.{settlement_of}
 use Rattle.plan_check.specs.Checks.{refusal_of}
@@ -49,6 +55,7 @@ pub record AreOne : Type 0 where
   pub right : OneRightReport
   pub difference : OneDifference
   pub prices : OnePrices
+  pub mixture : OneMixture
 
 -- at most one input is due
 module _ (case : OneCase) (plan : OnePlan) where
@@ -75,6 +82,32 @@ module _ (prices : OnePrices) where
   one_priced : (reads : Reads) (c : PlannedCase) (a b : Result PlannedCase TopFault) → IsPriced reads c a → IsPriced reads c b → a ≡ b
   one_priced reads c =
       one_then (IsPricesFile c.market.periods (reads PricesFile)) (λ π due. due ≡ Ok c) (one_prices_file c.market.periods (reads PricesFile)) (λ π a b p q. p ∙ sym q)
+
+-- a fault of an entry is all that its refusal tells
+one_entry_fault : (f g : EntryFault) → entry_refusal_of f ≡ entry_refusal_of g → f ≡ g
+one_entry_fault f g e = ap (λ (r : EntryRefusal). record {
+  entry = r.entry;
+  fault = record { code = r.refusal.rule; kind = r.refusal.kind; unit = r.refusal.unit; period = r.refusal.period; left = r.refusal.left; right = r.refusal.right };
+}) e
+
+one_mixed : (m : Market) (x : MixtureLists) (a b : Result MixtureLists TopFault) → IsMixed m x a → IsMixed m x b → a ≡ b
+one_mixed m x (Ok y) (Ok z) p q = ap Ok (p.2 ∙ sym q.2)
+one_mixed m x (Ok y) (Err g) p q = let e = ap (λ (rs : List EntryRefusal). slice_get rs 0) p.1 in let h = q.2 in cc
+one_mixed m x (Err f) (Ok z) p q = let e = ap (λ (rs : List EntryRefusal). slice_get rs 0) q.1 in let h = p.2 in cc
+one_mixed m x (Err f) (Err g) (r, is_r, p) (s, is_s, q) =
+    let same : entry_refusal_of r ≡ entry_refusal_of s = cc in ap Err (is_r ∙ ap MixtureRule (one_entry_fault r s same) ∙ sym is_s)
+
+module _ (mixture : OneMixture) where
+  one_shares : (m : Market) (bytes : List ℕ) (a b : Result MixtureLists TopFault) → IsShares m bytes a → IsShares m bytes b → a ≡ b
+  one_shares m bytes a b (r, is_r, p) (s, is_s, q) = p ∙ ap (result_map_both (λ x. x) mixture_fault) (mixture m bytes r s is_r is_s) ∙ sym q
+
+  pub one_mixture_file : (m : Market) (read : Option (List ℕ)) (a b : Result MixtureLists TopFault) → IsMixtureFile m read a → IsMixtureFile m read b → a ≡ b
+  one_mixture_file m read =
+      one_then (IsSharesFile m read) (IsMixed m) (one_then (IsBytes MixtureFile read) (IsShares m) (λ a b p q. p ∙ sym q) (one_shares m)) (one_mixed m)
+
+  one_with_mixture : (reads : Reads) (c : PlannedCase) (a b : Result PlannedCase TopFault) → HasMixture reads c a → HasMixture reads c b → a ≡ b
+  one_with_mixture reads c =
+      one_then (IsMixtureFile c.market (reads MixtureFile)) (λ x due. due ≡ Ok c) (one_mixture_file c.market (reads MixtureFile)) (λ x a b p q. p ∙ sym q)
 
 module _ (ones : AreOne) where
   one_made : (number : ℕ) (a b : Result PlannedCase TopFault) → IsMade number a → IsMade number b → a ≡ b
@@ -115,6 +148,9 @@ module _ (ones : AreOne) where
       one_then (IsInput reads) (IsWithinWork x.proposals) (one_input ones.case ones.plan reads) (λ c a b p q. p ∙ sym q) a b p q
   one_due (Ok (audit x)) reads a b p q = one_then (IsInput reads) (IsAudit reads) (one_input ones.case ones.plan reads) (one_audit reads) a b p q
   one_due (Ok (settle x)) reads a b p q = one_then (IsInput reads) (IsPriced reads) (one_input ones.case ones.plan reads) (one_priced ones.prices reads) a b p q
+  one_due (Ok (certify x)) reads a b p q =
+      one_then (IsInput reads) (IsCertifiable reads) (one_input ones.case ones.plan reads)
+      (λ c. one_then (IsPriced reads c) (HasMixture reads) (one_priced ones.prices reads c) (one_with_mixture ones.mixture reads)) a b p q
   one_due (Err f) reads a b p q = p ∙ sym q
 
 -- there is one first candidate with the least bound
@@ -143,7 +179,7 @@ module _ (m : Market) (rows : List Proposal) (centre : ℕ) (radius : ℤ) where
         ]
       ]
 
-module _ (one : OneRightReport) (one_side : OneRightSide) (determined : TextDeterminesReport) (has_form : RightReportHasForm) (prices : OnePrices) (settled : OneSettlement) where
+module _ (one : OneRightReport) (one_side : OneRightSide) (determined : TextDeterminesReport) (has_form : RightReportHasForm) (prices : OnePrices) (settled : OneSettlement) (mixture : OneMixture) where
   one_report_text : (text_of : Report → List ℕ) (budget ahead : ℕ) (c : PlannedCase) (text other : List ℕ)
       → IsReportText text_of budget ahead c text → IsReportText text_of budget ahead c other → text ≡ other
   one_report_text text_of budget ahead c text other (r, is_r, p) (s, is_s, q) =
@@ -177,6 +213,16 @@ module _ (one : OneRightReport) (one_side : OneRightSide) (determined : TextDete
       let one_settled = settled c.market c.plan ρ s t (subst (λ (x : PriceLists). IsSettledAt c.market c.plan x s) same is_s) is_t in
       p ∙ ap (λ (x : Settled). settlement_text (settlement_of c.market c.cost x)) one_settled ∙ sym q
 
+  one_certificate_text : (read mixture_read : Option (List ℕ)) (radius : ℤ) (c : PlannedCase) (text other : List ℕ)
+      → IsCertificateText read mixture_read radius c text → IsCertificateText read mixture_read radius c other → text ≡ other
+  one_certificate_text read mixture_read radius c text other (π, file, x, mixture_file, s, is_s, p) (ρ, file_other, y, mixture_other, t, is_t, q) =
+      let e = one_prices_file prices c.market.periods read (Ok π) (Ok ρ) file file_other in
+      let same : π ≡ ρ = cc in
+      let k = one_mixture_file mixture c.market mixture_read (Ok x) (Ok y) mixture_file mixture_other in
+      let same_mixture : x ≡ y = cc in
+      let one_settled = settled c.market c.plan ρ s t (subst (λ (x : PriceLists). IsSettledAt c.market c.plan x s) same is_s) is_t in
+      p ∙ (λ i. certificate_text (certificate_of c.market c.cost (one_settled i) (unsigned_abs radius) (mixture_bound c.market (same_mixture i) (same i) radius))) ∙ sym q
+
   pub one_text : (w : Result Asked WordFault) (reads : Reads) (c : PlannedCase) (text other : List ℕ) → (command_for w).IsText reads c text → (command_for w).IsText reads c other → text ≡ other
   one_text (Ok (check x)) reads c text other p q = p ∙ sym q
   one_text (Ok (price x)) reads c text other p q = one_report_text report_text x.proposals x.ahead c text other p q
@@ -185,4 +231,5 @@ module _ (one : OneRightReport) (one_side : OneRightSide) (determined : TextDete
   one_text (Ok (fixed x)) reads c text other p q = one_fixed_text x.proposals x.ahead c text other p q
   one_text (Ok (audit x)) reads c text other p q = one_audit_text (reads ReportFile) c text other p q
   one_text (Ok (settle x)) reads c text other p q = one_settlement_text (reads PricesFile) c text other p q
+  one_text (Ok (certify x)) reads c text other p q = one_certificate_text (reads PricesFile) (reads MixtureFile) x.radius c text other p q
   one_text (Err f) reads c text other p q = absurd p

@@ -1,5 +1,5 @@
 -- What follows from the outcome of a run.
-use Rattle.law_outcome.proofs.Common.{◌≡◌, ℕ, ◌*◌, ◌≤◌, ◌⊎◌, inl, inr, Bool, true, false, List, Option, None, Some, Result, Ok, Err, refl, sym, ap, ◌∙◌, subst, arith, ◌-◌, ◌<◌, ℤ, pos, ◌≤ℤ◌, All, length-map, get_or-map, IsTrue, IfSome, IsSome, if◌then◌else◌, nat_lt, Market, Schedule, unit_count, IsFeasiblePlan, plan_cost, int_at, NothingIsPaidBack, RunPricesAreWithin, UnitLine, Report, unit_lines, IsRightReport, words_of, WordsHaveSizes, MOST_BYTES, Asked, CheckAsked, PriceAsked, AuditAsked, SettleAsked, price, check, try, bound, fixed, audit, settle, WordFault, PricesFile, PricesText, PricesValue, IsPricesFile, IsPriced, status_of, fault_line, ReportPaymentsMakeUpTheGap, CaseFile, ScheduleFile, ReportFile, TopFault, Words, Read, CaseText, CaseField, PlanText, PlanShape, PlanRule, TooBig, Work, Memory, report_fault, End, Done, Cut, Refused, Reads, bytes_of, IsCase, IsCaseFile, IsPlan, IsPlanFile, IsChecked, IsInput, IsWithinWork, IsReportFile, IsAudit, PlannedCase, command_for, case_and_schedule, IsReadOf, AreReads, HasText, Ends, status_at, is_refusal, IsWritten, IsUnread, HasCause, IsQuiet, IsDecided, word_fault, FollowsFromWords, IsPromised, BytesAreThoseRead}
+use Rattle.law_outcome.proofs.Common.{◌≡◌, ℕ, ◌*◌, ◌≤◌, ◌⊎◌, inl, inr, Bool, true, false, List, Option, None, Some, Result, Ok, Err, refl, sym, ap, ◌∙◌, subst, arith, ◌-◌, ◌<◌, ℤ, pos, ◌≤ℤ◌, All, length-map, get_or-map, IsTrue, IfSome, IsSome, if◌then◌else◌, nat_lt, Market, Schedule, unit_count, IsFeasiblePlan, plan_cost, int_at, NothingIsPaidBack, RunPricesAreWithin, UnitLine, Report, unit_lines, IsRightReport, words_of, WordsHaveSizes, MOST_BYTES, Asked, CheckAsked, PriceAsked, AuditAsked, SettleAsked, CertifyAsked, price, check, try, bound, fixed, audit, settle, certify, WordFault, PricesFile, MixtureFile, PricesText, PricesValue, MixtureText, MixtureShare, MixtureRule, IsPricesFile, IsPriced, IsMixtureFile, HasMixture, IsCertifiable, AskForPrices, status_of, fault_line, ReportPaymentsMakeUpTheGap, CaseFile, ScheduleFile, ReportFile, TopFault, Words, Read, CaseText, CaseField, PlanText, PlanShape, PlanRule, TooBig, Work, Memory, report_fault, End, Done, Cut, Refused, Reads, bytes_of, IsCase, IsCaseFile, IsPlan, IsPlanFile, IsChecked, IsInput, IsWithinWork, IsReportFile, IsAudit, PlannedCase, command_for, case_and_schedule, IsReadOf, AreReads, HasText, Ends, status_at, is_refusal, IsWritten, IsUnread, HasCause, IsQuiet, IsDecided, word_fault, FollowsFromWords, IsPromised, BytesAreThoseRead}
 use Rattle.uc_case.specs.Files.{text, value}
 use Rattle.uc_case.specs.CaseFiles.{IsCaseOf}
 use Rattle.uc_plan.specs.PlanFiles.{IsPlanOf}
@@ -9,7 +9,7 @@ use Rattle.plain_lists.specs.declared.limits.TheConstants.{MOST_WORK}
 
 -- ---- a fault by its status
 
-pub status_within : (f : TopFault) → (1 ≤ status_of f) × (status_of f ≤ 9) × ((status_of f ≡ 6) → ⊥)
+pub status_within : (f : TopFault) → (1 ≤ status_of f) × (status_of f ≤ 10) × ((status_of f ≡ 6) → ⊥)
 status_within (Words w) = (omega arith, omega arith, λ e. absurd cc)
 status_within (Read file) = (omega arith, omega arith, λ e. absurd cc)
 status_within (CaseText f) = (omega arith, omega arith, λ e. absurd cc)
@@ -21,11 +21,15 @@ status_within (TooBig CaseFile) = (omega arith, omega arith, λ e. absurd cc)
 status_within (TooBig ScheduleFile) = (omega arith, omega arith, λ e. absurd cc)
 status_within (TooBig ReportFile) = (omega arith, omega arith, λ e. absurd cc)
 status_within (TooBig PricesFile) = (omega arith, omega arith, λ e. absurd cc)
+status_within (TooBig MixtureFile) = (omega arith, omega arith, λ e. absurd cc)
 status_within (Work p u t) = (omega arith, omega arith, λ e. absurd cc)
 status_within Memory = (omega arith, omega arith, λ e. absurd cc)
 status_within (report_fault c l) = (omega arith, omega arith, λ e. absurd cc)
 status_within (PricesText f) = (omega arith, omega arith, λ e. absurd cc)
 status_within (PricesValue f) = (omega arith, omega arith, λ e. absurd cc)
+status_within (MixtureText f) = (omega arith, omega arith, λ e. absurd cc)
+status_within (MixtureShare f) = (omega arith, omega arith, λ e. absurd cc)
+status_within (MixtureRule f) = (omega arith, omega arith, λ e. absurd cc)
 
 -- a failed read is the fault of status 2, and want of memory that of status 7
 data Sort (f : TopFault) : Type 0 where
@@ -45,11 +49,15 @@ sort (TooBig CaseFile) = is_other (λ e. absurd cc) (λ e. absurd cc)
 sort (TooBig ScheduleFile) = is_other (λ e. absurd cc) (λ e. absurd cc)
 sort (TooBig ReportFile) = is_other (λ e. absurd cc) (λ e. absurd cc)
 sort (TooBig PricesFile) = is_other (λ e. absurd cc) (λ e. absurd cc)
+sort (TooBig MixtureFile) = is_other (λ e. absurd cc) (λ e. absurd cc)
 sort (Work p u t) = is_other (λ e. absurd cc) (λ e. absurd cc)
 sort Memory = is_memory refl
 sort (report_fault c l) = is_other (λ e. absurd cc) (λ e. absurd cc)
 sort (PricesText f) = is_other (λ e. absurd cc) (λ e. absurd cc)
 sort (PricesValue f) = is_other (λ e. absurd cc) (λ e. absurd cc)
+sort (MixtureText f) = is_other (λ e. absurd cc) (λ e. absurd cc)
+sort (MixtureShare f) = is_other (λ e. absurd cc) (λ e. absurd cc)
+sort (MixtureRule f) = is_other (λ e. absurd cc) (λ e. absurd cc)
 
 -- ---- which faults are due
 
@@ -143,13 +151,41 @@ priced_fault reads c f (Ok π, file, e) = absurd cc
 priced_fault reads c f (Err g, file, e) =
     prices_file_fault c.market.periods (reads PricesFile) f (subst (λ (h : TopFault). IsPricesFile c.market.periods (reads PricesFile) (Err h)) (sym (same_fault f g e)) file)
 
+-- the fault of a file with a mixture: of its read, or of status 10
+pub mixture_file_fault : (m : Market) (read : Option (List ℕ)) (f : TopFault) → IsMixtureFile m read (Err f) → ((f ≡ Read MixtureFile) × (read ≡ None)) ⊎ (status_of f ≡ 10)
+mixture_file_fault m read f (Ok x, shares, (rule, is, first)) = inr (ap status_of is)
+mixture_file_fault m read f (Err g, (Ok bytes, is, (Ok x, reading, k)), e) = absurd cc
+mixture_file_fault m read f (Err g, (Ok bytes, is, (Err (text t), reading, k)), e) = let s : f ≡ MixtureText t = cc in inr (ap status_of s)
+mixture_file_fault m read f (Err g, (Ok bytes, is, (Err (value t), reading, k)), e) = let s : f ≡ MixtureShare t = cc in inr (ap status_of s)
+mixture_file_fault m read f (Err g, (Err h, is, k), e) =
+    elim (bytes_fault MixtureFile read f (ap Err (same_fault f g e ∙ same_fault g h k) ∙ is)) [
+      | inl p ↦ inl p
+      | inr s ↦ inr (ap status_of s)
+    ]
+
+-- and that of a certificate: or of its prices
+pub certifiable_fault : (reads : Reads) (c : PlannedCase) (f : TopFault) → IsCertifiable reads c (Err f)
+    → (((f ≡ Read PricesFile) × (reads PricesFile ≡ None)) ⊎ ((f ≡ Read MixtureFile) × (reads MixtureFile ≡ None))) ⊎ ((status_of f ≡ 9) ⊎ (status_of f ≡ 10))
+certifiable_fault reads c f (Ok d, priced, (Ok x, file, e)) = absurd cc
+certifiable_fault reads c f (Ok d, priced, (Err g, file, e)) =
+    elim (mixture_file_fault d.market (reads MixtureFile) f (subst (λ (h : TopFault). IsMixtureFile d.market (reads MixtureFile) (Err h)) (sym (same_fault f g e)) file)) [
+      | inl p ↦ inl (inr p)
+      | inr ten ↦ inr (inr ten)
+    ]
+certifiable_fault reads c f (Err g, priced, e) =
+    elim (priced_fault reads c f (subst (λ (h : TopFault). IsPriced reads c (Err h)) (sym (same_fault f g e)) priced)) [
+      | inl p ↦ inl (inl p)
+      | inr nine ↦ inr (inl nine)
+    ]
+
 -- what a fault that is due says of the words
 data IsDueFault (w : Result Asked WordFault) (reads : Reads) (f : TopFault) : Type 0 where
   unread : (file : FileKind) (name : List ℕ) → f ≡ Read file → (command_for w).name_of file ≡ Some name → reads file ≡ None → IsDueFault w reads f
   of_input : 3 ≤ status_of f → status_of f ≤ 4 → IsDueFault w reads f
-  of_work : ((a : CheckAsked) → w ≡ Ok (check a) → ⊥) → ((a : SettleAsked) → w ≡ Ok (settle a) → ⊥) → status_of f ≡ 5 → IsDueFault w reads f
+  of_work : ((a : CheckAsked) → w ≡ Ok (check a) → ⊥) → ((a : SettleAsked) → w ≡ Ok (settle a) → ⊥) → ((a : CertifyAsked) → w ≡ Ok (certify a) → ⊥) → status_of f ≡ 5 → IsDueFault w reads f
   of_report : (a : AuditAsked) → w ≡ Ok (audit a) → status_of f ≡ 8 → IsDueFault w reads f
-  of_prices : (a : SettleAsked) → w ≡ Ok (settle a) → status_of f ≡ 9 → IsDueFault w reads f
+  of_prices : AskForPrices w → status_of f ≡ 9 → IsDueFault w reads f
+  of_mixture : (a : CertifyAsked) → w ≡ Ok (certify a) → status_of f ≡ 10 → IsDueFault w reads f
   of_words : (x : WordFault) → f ≡ Words x → word_fault w ≡ Some x → IsDueFault w reads f
 
 due_fault : (w : Result Asked WordFault) (reads : Reads) (f : TopFault) → (command_for w).IsDue reads (Err f) → IsDueFault w reads f
@@ -159,7 +195,7 @@ due_fault (Ok (check a)) reads f due =
       | inr (inl p) ↦ unread ScheduleFile a.schedule_name p.0 refl p.1
       | inr (inr p) ↦ of_input p.0 p.1
     ]
-due_fault (Ok (price a)) reads f (Ok c, input, work) = of_work (λ b e. absurd cc) (λ b e. absurd cc) (work_fault a.proposals c f work)
+due_fault (Ok (price a)) reads f (Ok c, input, work) = of_work (λ b e. absurd cc) (λ b e. absurd cc) (λ b e. absurd cc) (work_fault a.proposals c f work)
 due_fault (Ok (price a)) reads f (Err g, input, e) =
     let same : g ≡ f = sym (same_fault f g e) in
     elim (input_fault reads f (subst (λ (h : TopFault). IsInput reads (Err h)) same input)) [
@@ -167,9 +203,9 @@ due_fault (Ok (price a)) reads f (Err g, input, e) =
       | inr (inl p) ↦ unread ScheduleFile a.schedule_name p.0 refl p.1
       | inr (inr p) ↦ of_input p.0 p.1
     ]
-due_fault (Ok (try a)) reads f (Ok c, input, work) = of_work (λ b e. absurd cc) (λ b e. absurd cc) (work_fault a.proposals c f work)
+due_fault (Ok (try a)) reads f (Ok c, input, work) = of_work (λ b e. absurd cc) (λ b e. absurd cc) (λ b e. absurd cc) (work_fault a.proposals c f work)
 due_fault (Ok (try a)) reads f (Err g, made, e) = absurd made
-due_fault (Ok (bound a)) reads f (Ok c, input, work) = of_work (λ b e. absurd cc) (λ b e. absurd cc) (work_fault a.run.proposals c f work)
+due_fault (Ok (bound a)) reads f (Ok c, input, work) = of_work (λ b e. absurd cc) (λ b e. absurd cc) (λ b e. absurd cc) (work_fault a.run.proposals c f work)
 due_fault (Ok (bound a)) reads f (Err g, input, e) =
     let same : g ≡ f = sym (same_fault f g e) in
     elim (input_fault reads f (subst (λ (h : TopFault). IsInput reads (Err h)) same input)) [
@@ -177,7 +213,7 @@ due_fault (Ok (bound a)) reads f (Err g, input, e) =
       | inr (inl p) ↦ unread ScheduleFile a.run.schedule_name p.0 refl p.1
       | inr (inr p) ↦ of_input p.0 p.1
     ]
-due_fault (Ok (fixed a)) reads f (Ok c, input, work) = of_work (λ b e. absurd cc) (λ b e. absurd cc) (work_fault a.proposals c f work)
+due_fault (Ok (fixed a)) reads f (Ok c, input, work) = of_work (λ b e. absurd cc) (λ b e. absurd cc) (λ b e. absurd cc) (work_fault a.proposals c f work)
 due_fault (Ok (fixed a)) reads f (Err g, input, e) =
     let same : g ≡ f = sym (same_fault f g e) in
     elim (input_fault reads f (subst (λ (h : TopFault). IsInput reads (Err h)) same input)) [
@@ -189,7 +225,7 @@ due_fault (Ok (audit a)) reads f (Ok c, input, audited) =
     elim (audit_fault reads c f audited) [
       | inl p ↦ unread ReportFile a.report_name p.0 refl p.1
       | inr (inl eight) ↦ of_report a refl eight
-      | inr (inr five) ↦ of_work (λ b e. absurd cc) (λ b e. absurd cc) five
+      | inr (inr five) ↦ of_work (λ b e. absurd cc) (λ b e. absurd cc) (λ b e. absurd cc) five
     ]
 due_fault (Ok (audit a)) reads f (Err g, input, e) =
     let same : g ≡ f = sym (same_fault f g e) in
@@ -201,13 +237,27 @@ due_fault (Ok (audit a)) reads f (Err g, input, e) =
 due_fault (Ok (settle a)) reads f (Ok c, input, priced) =
     elim (priced_fault reads c f priced) [
       | inl p ↦ unread PricesFile a.prices_name p.0 refl p.1
-      | inr nine ↦ of_prices a refl nine
+      | inr nine ↦ of_prices (inl (a, refl)) nine
     ]
 due_fault (Ok (settle a)) reads f (Err g, input, e) =
     let same : g ≡ f = sym (same_fault f g e) in
     elim (input_fault reads f (subst (λ (h : TopFault). IsInput reads (Err h)) same input)) [
       | inl p ↦ unread CaseFile a.case_name p.0 refl p.1
       | inr (inl p) ↦ unread ScheduleFile a.schedule_name p.0 refl p.1
+      | inr (inr p) ↦ of_input p.0 p.1
+    ]
+due_fault (Ok (certify a)) reads f (Ok c, input, certifiable) =
+    elim (certifiable_fault reads c f certifiable) [
+      | inl (inl p) ↦ unread PricesFile a.names.prices_name p.0 refl p.1
+      | inl (inr p) ↦ unread MixtureFile a.mixture_name p.0 refl p.1
+      | inr (inl nine) ↦ of_prices (inr (a, refl)) nine
+      | inr (inr ten) ↦ of_mixture a refl ten
+    ]
+due_fault (Ok (certify a)) reads f (Err g, input, e) =
+    let same : g ≡ f = sym (same_fault f g e) in
+    elim (input_fault reads f (subst (λ (h : TopFault). IsInput reads (Err h)) same input)) [
+      | inl p ↦ unread CaseFile a.names.case_name p.0 refl p.1
+      | inr (inl p) ↦ unread ScheduleFile a.names.schedule_name p.0 refl p.1
       | inr (inr p) ↦ of_input p.0 p.1
     ]
 due_fault (Err x) reads f due = of_words x (same_fault f _ due) refl
@@ -236,9 +286,10 @@ module _ (w : Result Asked WordFault) (told : List ℕ → Option (List ℕ)) (r
   read_failed reads f are lines z due (unread file name is named none) =
       (file, name, named, rose_of reads are file name named none, subst (λ (g : TopFault). (command_for w).IsDue reads (Err g)) is due, subst (IsWritten (command_for w) told rose gained short) is lines)
   read_failed reads f are lines z due (of_input low high) = absurd (omega (arith, z, low))
-  read_failed reads f are lines z due (of_work other more five) = absurd (omega (arith, z, five))
+  read_failed reads f are lines z due (of_work other more third five) = absurd (omega (arith, z, five))
   read_failed reads f are lines z due (of_report a same eight) = absurd (omega (arith, z, eight))
-  read_failed reads f are lines z due (of_prices a same nine) = absurd (omega (arith, z, nine))
+  read_failed reads f are lines z due (of_prices asked nine) = absurd (omega (arith, z, nine))
+  read_failed reads f are lines z due (of_mixture a same ten) = absurd (omega (arith, z, ten))
   read_failed reads f are lines z due (of_words x is faulty) = let s : status_of f ≡ 1 = ap status_of is in absurd (omega (arith, z, s))
 
   pub has_cause : (n : ℕ) (reads : Reads) (e : End) → AreReads told rose (command_for w).name_of reads → Ends (command_for w) reads gained short e → n ≡ status_at e → HasCause (command_for w) told rose gained short n
@@ -316,42 +367,65 @@ module _ (w : Result Asked WordFault) (gained short : List ℕ → Type 0) where
   at_1_of : (reads : Reads) (f : TopFault) → Lines f → status_of f ≡ 1 → IsDueFault w reads f → (x : WordFault) × (word_fault w ≡ Some x) × Lines (Words x)
   at_1_of reads f lines z (unread file name is named none) = let s : status_of f ≡ 2 = ap status_of is in absurd (omega (arith, z, s))
   at_1_of reads f lines z (of_input low high) = absurd (omega (arith, z, low))
-  at_1_of reads f lines z (of_work other more five) = absurd (omega (arith, z, five))
+  at_1_of reads f lines z (of_work other more third five) = absurd (omega (arith, z, five))
   at_1_of reads f lines z (of_report a same eight) = absurd (omega (arith, z, eight))
-  at_1_of reads f lines z (of_prices a same nine) = absurd (omega (arith, z, nine))
+  at_1_of reads f lines z (of_prices asked nine) = absurd (omega (arith, z, nine))
+  at_1_of reads f lines z (of_mixture a same ten) = absurd (omega (arith, z, ten))
   at_1_of reads f lines z (of_words x is faulty) = (x, faulty, subst Lines is lines)
 
   at_8_of : (reads : Reads) (f : TopFault) → status_of f ≡ 8 → IsDueFault w reads f → (a : AuditAsked) × (w ≡ Ok (audit a))
   at_8_of reads f z (unread file name is named none) = let s : status_of f ≡ 2 = ap status_of is in absurd (omega (arith, z, s))
   at_8_of reads f z (of_input low high) = absurd (omega (arith, z, high))
-  at_8_of reads f z (of_work other more five) = absurd (omega (arith, z, five))
+  at_8_of reads f z (of_work other more third five) = absurd (omega (arith, z, five))
   at_8_of reads f z (of_report a same eight) = (a, same)
-  at_8_of reads f z (of_prices a same nine) = absurd (omega (arith, z, nine))
+  at_8_of reads f z (of_prices asked nine) = absurd (omega (arith, z, nine))
+  at_8_of reads f z (of_mixture a same ten) = absurd (omega (arith, z, ten))
   at_8_of reads f z (of_words x is faulty) = let s : status_of f ≡ 1 = ap status_of is in absurd (omega (arith, z, s))
 
-  at_9_of : (reads : Reads) (f : TopFault) → status_of f ≡ 9 → IsDueFault w reads f → (a : SettleAsked) × (w ≡ Ok (settle a))
+  at_9_of : (reads : Reads) (f : TopFault) → status_of f ≡ 9 → IsDueFault w reads f → AskForPrices w
   at_9_of reads f z (unread file name is named none) = let s : status_of f ≡ 2 = ap status_of is in absurd (omega (arith, z, s))
   at_9_of reads f z (of_input low high) = absurd (omega (arith, z, high))
-  at_9_of reads f z (of_work other more five) = absurd (omega (arith, z, five))
+  at_9_of reads f z (of_work other more third five) = absurd (omega (arith, z, five))
   at_9_of reads f z (of_report a same eight) = absurd (omega (arith, z, eight))
-  at_9_of reads f z (of_prices a same nine) = (a, same)
+  at_9_of reads f z (of_prices asked nine) = asked
+  at_9_of reads f z (of_mixture a same ten) = absurd (omega (arith, z, ten))
   at_9_of reads f z (of_words x is faulty) = let s : status_of f ≡ 1 = ap status_of is in absurd (omega (arith, z, s))
+
+  at_10_of : (reads : Reads) (f : TopFault) → status_of f ≡ 10 → IsDueFault w reads f → (a : CertifyAsked) × (w ≡ Ok (certify a))
+  at_10_of reads f z (unread file name is named none) = let s : status_of f ≡ 2 = ap status_of is in absurd (omega (arith, z, s))
+  at_10_of reads f z (of_input low high) = absurd (omega (arith, z, high))
+  at_10_of reads f z (of_work other more third five) = absurd (omega (arith, z, five))
+  at_10_of reads f z (of_report a same eight) = absurd (omega (arith, z, eight))
+  at_10_of reads f z (of_prices asked nine) = absurd (omega (arith, z, nine))
+  at_10_of reads f z (of_mixture a same ten) = (a, same)
+  at_10_of reads f z (of_words x is faulty) = let s : status_of f ≡ 1 = ap status_of is in absurd (omega (arith, z, s))
 
   check_never_5 : (reads : Reads) (f : TopFault) (a : CheckAsked) → w ≡ Ok (check a) → status_of f ≡ 5 → IsDueFault w reads f → ⊥
   check_never_5 reads f a same z (unread file name is named none) = let s : status_of f ≡ 2 = ap status_of is in omega (arith, z, s)
   check_never_5 reads f a same z (of_input low high) = omega (arith, z, high)
-  check_never_5 reads f a same z (of_work other more five) = other a same
+  check_never_5 reads f a same z (of_work other more third five) = other a same
   check_never_5 reads f a same z (of_report b also eight) = omega (arith, z, eight)
-  check_never_5 reads f a same z (of_prices b also nine) = omega (arith, z, nine)
+  check_never_5 reads f a same z (of_prices asked nine) = omega (arith, z, nine)
+  check_never_5 reads f a same z (of_mixture b also ten) = omega (arith, z, ten)
   check_never_5 reads f a same z (of_words x is faulty) = let s : status_of f ≡ 1 = ap status_of is in omega (arith, z, s)
 
   settle_never_5 : (reads : Reads) (f : TopFault) (a : SettleAsked) → w ≡ Ok (settle a) → status_of f ≡ 5 → IsDueFault w reads f → ⊥
   settle_never_5 reads f a same z (unread file name is named none) = let s : status_of f ≡ 2 = ap status_of is in omega (arith, z, s)
   settle_never_5 reads f a same z (of_input low high) = omega (arith, z, high)
-  settle_never_5 reads f a same z (of_work other more five) = more a same
+  settle_never_5 reads f a same z (of_work other more third five) = more a same
   settle_never_5 reads f a same z (of_report b also eight) = omega (arith, z, eight)
-  settle_never_5 reads f a same z (of_prices b also nine) = omega (arith, z, nine)
+  settle_never_5 reads f a same z (of_prices asked nine) = omega (arith, z, nine)
+  settle_never_5 reads f a same z (of_mixture b also ten) = omega (arith, z, ten)
   settle_never_5 reads f a same z (of_words x is faulty) = let s : status_of f ≡ 1 = ap status_of is in omega (arith, z, s)
+
+  certify_never_5 : (reads : Reads) (f : TopFault) (a : CertifyAsked) → w ≡ Ok (certify a) → status_of f ≡ 5 → IsDueFault w reads f → ⊥
+  certify_never_5 reads f a same z (unread file name is named none) = let s : status_of f ≡ 2 = ap status_of is in omega (arith, z, s)
+  certify_never_5 reads f a same z (of_input low high) = omega (arith, z, high)
+  certify_never_5 reads f a same z (of_work other more third five) = third a same
+  certify_never_5 reads f a same z (of_report b also eight) = omega (arith, z, eight)
+  certify_never_5 reads f a same z (of_prices asked nine) = omega (arith, z, nine)
+  certify_never_5 reads f a same z (of_mixture b also ten) = omega (arith, z, ten)
+  certify_never_5 reads f a same z (of_words x is faulty) = let s : status_of f ≡ 1 = ap status_of is in omega (arith, z, s)
 
   pub words_follow : (n : ℕ) (reads : Reads) (e : End) → Ends (command_for w) reads gained short e → n ≡ status_at e → FollowsFromWords w gained short n
   words_follow n reads Done (i, due, shown, right, ends) is = record {
@@ -359,24 +433,30 @@ module _ (w : Result Asked WordFault) (gained short : List ℕ → Type 0) where
     at_1 = λ z. absurd (omega (arith, is, z));
     check_at_5 = λ a e z. omega (arith, is, z);
     settle_at_5 = λ a e z. omega (arith, is, z);
+    certify_at_5 = λ a e z. omega (arith, is, z);
     at_8 = λ z. absurd (omega (arith, is, z));
     at_9 = λ z. absurd (omega (arith, is, z));
+    at_10 = λ z. absurd (omega (arith, is, z));
   }
   words_follow n reads Cut (i, due, shown, right, ends) is = record {
     faulty = λ f e. let h = refused_words w f reads (Ok i) e due in absurd cc;
     at_1 = λ z. absurd (omega (arith, is, z));
     check_at_5 = λ a e z. omega (arith, is, z);
     settle_at_5 = λ a e z. omega (arith, is, z);
+    certify_at_5 = λ a e z. omega (arith, is, z);
     at_8 = λ z. absurd (omega (arith, is, z));
     at_9 = λ z. absurd (omega (arith, is, z));
+    at_10 = λ z. absurd (omega (arith, is, z));
   }
   words_follow n reads (Refused f) (inl due, lines) is = record {
     faulty = λ x e. inl (is ∙ ap status_of (same_fault f (Words x) (refused_words w x reads (Err f) e due)));
     at_1 = λ z. at_1_of reads f lines (sym is ∙ z) (due_fault w reads f due);
     check_at_5 = λ a e z. check_never_5 reads f a e (sym is ∙ z) (due_fault w reads f due);
     settle_at_5 = λ a e z. settle_never_5 reads f a e (sym is ∙ z) (due_fault w reads f due);
+    certify_at_5 = λ a e z. certify_never_5 reads f a e (sym is ∙ z) (due_fault w reads f due);
     at_8 = λ z. at_8_of reads f (sym is ∙ z) (due_fault w reads f due);
     at_9 = λ z. at_9_of reads f (sym is ∙ z) (due_fault w reads f due);
+    at_10 = λ z. at_10_of reads f (sym is ∙ z) (due_fault w reads f due);
   }
   words_follow n reads (Refused f) (inr m, lines) is =
       let s : n ≡ 7 = is ∙ ap status_of m in
@@ -385,8 +465,10 @@ module _ (w : Result Asked WordFault) (gained short : List ℕ → Type 0) where
         at_1 = λ z. absurd (omega (arith, s, z));
         check_at_5 = λ a e z. omega (arith, s, z);
         settle_at_5 = λ a e z. omega (arith, s, z);
+        certify_at_5 = λ a e z. omega (arith, s, z);
         at_8 = λ z. absurd (omega (arith, s, z));
         at_9 = λ z. absurd (omega (arith, s, z));
+        at_10 = λ z. absurd (omega (arith, s, z));
       }
 
 -- ---- what is accepted
@@ -433,6 +515,13 @@ accepted_is_feasible (Ok (settle a)) reads i (Ok c, input, (Ok π, file, e)) =
     subst (λ (c : PlannedCase). IsFeasiblePlan c.market c.plan × (c.cost ≡ plan_cost c.market c.plan)) same (input_is_feasible reads c input)
 accepted_is_feasible (Ok (settle a)) reads i (Ok c, input, (Err g, file, e)) = absurd cc
 accepted_is_feasible (Ok (settle a)) reads i (Err g, input, e) = absurd cc
+accepted_is_feasible (Ok (certify a)) reads i (Ok c, input, (Ok d, (Ok π, prices, k), (Ok x, file, e))) =
+    let same : c ≡ i = cc in
+    subst (λ (c : PlannedCase). IsFeasiblePlan c.market c.plan × (c.cost ≡ plan_cost c.market c.plan)) same (input_is_feasible reads c input)
+accepted_is_feasible (Ok (certify a)) reads i (Ok c, input, (Ok d, (Err g, prices, k), (Ok x, file, e))) = absurd cc
+accepted_is_feasible (Ok (certify a)) reads i (Ok c, input, (Ok d, priced, (Err g, file, e))) = absurd cc
+accepted_is_feasible (Ok (certify a)) reads i (Ok c, input, (Err g, priced, e)) = absurd cc
+accepted_is_feasible (Ok (certify a)) reads i (Err g, input, e) = absurd cc
 accepted_is_feasible (Err f) reads i due = absurd cc
 
 -- ---- the promise of a report

@@ -1,8 +1,9 @@
 -- Two runs of the same words over the same bytes print the same.
-use Rattle.law_outcome.proofs.Common.{◌≡◌, ℕ, inl, inr, List, Option, None, Some, Result, Ok, Err, refl, sym, ap, ◌∙◌, subst, arith, IfSome, Asked, check, price, try, bound, fixed, audit, settle, status_of, fault_line, CaseFile, ScheduleFile, ReportFile, PricesFile, TopFault, End, Done, Cut, Refused, Reads, Then, IsCaseFile, IsPlanFile, IsChecked, IsInput, IsWithinWork, IsReportFile, IsJudged, IsPricesFile, IsAuditText, IsSettlementText, Report, PriceLists, PlannedCase, command_for, IsReadOf, AreReads, HasText, Ends, status_at, with_workers, TellTheSame, BytesAreThoseRead, ReportBytesAreItsText, report_text}
+use Rattle.law_outcome.proofs.Common.{◌≡◌, ℕ, inl, inr, List, Option, None, Some, Result, Ok, Err, refl, sym, ap, ◌∙◌, subst, arith, IfSome, Asked, check, price, try, bound, fixed, audit, settle, certify, status_of, fault_line, CaseFile, ScheduleFile, ReportFile, PricesFile, MixtureFile, TopFault, End, Done, Cut, Refused, Reads, Then, IsCaseFile, IsPlanFile, IsChecked, IsInput, IsWithinWork, IsReportFile, IsJudged, IsPricesFile, IsPriced, IsMixtureFile, HasMixture, MixtureLists, IsAuditText, IsSettlementText, IsCertificateText, Report, PriceLists, PlannedCase, command_for, IsReadOf, AreReads, HasText, Ends, status_at, with_workers, TellTheSame, BytesAreThoseRead, ReportBytesAreItsText, report_text}
 use Rattle.hull_report.specs.declared.fault.FileKind.{FileKind}
 use Rattle.law_outcome.proofs.OutcomeLaws.{status_within, same_fault, InputParts, input_parts}
 use Rattle.law_outcome.proofs.SettlePromise.{prices_parts}
+use Rattle.law_outcome.proofs.CertifyPromise.{mixture_parts}
 
 -- ---- reads that agree on the files of a command
 
@@ -15,6 +16,12 @@ AuditOf read c = Then (IsReportFile read) (λ r. Then (IsWithinWork r.budget c) 
 
 abbrev PricedOf : Option (List ℕ) → PlannedCase → Result PlannedCase TopFault → Type 0
 PricedOf read c = Then (IsPricesFile c.market.periods read) (λ π due. due ≡ Ok c)
+
+abbrev MixedOf : Option (List ℕ) → PlannedCase → Result PlannedCase TopFault → Type 0
+MixedOf read c = Then (IsMixtureFile c.market read) (λ x due. due ≡ Ok c)
+
+abbrev CertifiedOf : Option (List ℕ) → Option (List ℕ) → PlannedCase → Result PlannedCase TopFault → Type 0
+CertifiedOf prices mixture c = Then (PricedOf prices c) (MixedOf mixture)
 
 module _ (reads other : Reads) where
   abbrev pub Agree : Asked → Type 0
@@ -36,6 +43,10 @@ module _ (reads other : Reads) where
       subst (λ (o : Option (List ℕ)). Then (IsInput other) (AuditOf o) found) (same ReportFile) (input_over (AuditOf (reads ReportFile)) found (same CaseFile) (same ScheduleFile) due)
   due_over (settle x) found same due =
       subst (λ (o : Option (List ℕ)). Then (IsInput other) (PricedOf o) found) (same PricesFile) (input_over (PricedOf (reads PricesFile)) found (same CaseFile) (same ScheduleFile) due)
+  due_over (certify x) found same due =
+      subst (λ (o : Option (List ℕ)). Then (IsInput other) (CertifiedOf o (other MixtureFile)) found) (same PricesFile)
+      (subst (λ (o : Option (List ℕ)). Then (IsInput other) (CertifiedOf (reads PricesFile) o) found) (same MixtureFile)
+      (input_over (CertifiedOf (reads PricesFile) (reads MixtureFile)) found (same CaseFile) (same ScheduleFile) due))
 
   text_over : (a : Asked) (i : PlannedCase) (text : List ℕ) → Agree a → (command_for (Ok a)).IsText reads i text → (command_for (Ok a)).IsText other i text
   text_over (check x) i text same is = is
@@ -45,6 +56,9 @@ module _ (reads other : Reads) where
   text_over (fixed x) i text same is = is
   text_over (audit x) i text same is = subst (λ (o : Option (List ℕ)). IsAuditText o i text) (same ReportFile) is
   text_over (settle x) i text same is = subst (λ (o : Option (List ℕ)). IsSettlementText o i text) (same PricesFile) is
+  text_over (certify x) i text same is =
+      subst (λ (o : Option (List ℕ)). IsCertificateText o (other MixtureFile) x.radius i text) (same PricesFile)
+      (subst (λ (o : Option (List ℕ)). IsCertificateText (reads PricesFile) o x.radius i text) (same MixtureFile) is)
 
 -- ---- the files of an accepted input were read
 
@@ -57,42 +71,57 @@ module _ (got : BytesAreThoseRead) (text_read : ReportBytesAreItsText) (reads : 
   check_read x i p ScheduleFile = (p.plan_bytes, p.plan_read)
   check_read x i p ReportFile = tt
   check_read x i p PricesFile = tt
+  check_read x i p MixtureFile = tt
 
   price_read : (x : _) (i : PlannedCase) → InputParts reads i → AllRead (price x) reads
   price_read x i p CaseFile = (p.case_bytes, p.case_read)
   price_read x i p ScheduleFile = (p.plan_bytes, p.plan_read)
   price_read x i p ReportFile = tt
   price_read x i p PricesFile = tt
+  price_read x i p MixtureFile = tt
 
   bound_read : (x : _) (i : PlannedCase) → InputParts reads i → AllRead (bound x) reads
   bound_read x i p CaseFile = (p.case_bytes, p.case_read)
   bound_read x i p ScheduleFile = (p.plan_bytes, p.plan_read)
   bound_read x i p ReportFile = tt
   bound_read x i p PricesFile = tt
+  bound_read x i p MixtureFile = tt
 
   fixed_read : (x : _) (i : PlannedCase) → InputParts reads i → AllRead (fixed x) reads
   fixed_read x i p CaseFile = (p.case_bytes, p.case_read)
   fixed_read x i p ScheduleFile = (p.plan_bytes, p.plan_read)
   fixed_read x i p ReportFile = tt
   fixed_read x i p PricesFile = tt
+  fixed_read x i p MixtureFile = tt
 
   audit_read : (x : _) (i : PlannedCase) (r : Report) → InputParts reads i → IsReportFile (reads ReportFile) (Ok r) → AllRead (audit x) reads
   audit_read x i r p file CaseFile = (p.case_bytes, p.case_read)
   audit_read x i r p file ScheduleFile = (p.plan_bytes, p.plan_read)
   audit_read x i r p file ReportFile = (report_text r, text_read (reads ReportFile) r file)
   audit_read x i r p file PricesFile = tt
+  audit_read x i r p file MixtureFile = tt
 
   settle_read : (x : _) (i : PlannedCase) (π : PriceLists) → InputParts reads i → IsPricesFile i.market.periods (reads PricesFile) (Ok π) → AllRead (settle x) reads
   settle_read x i π p file CaseFile = (p.case_bytes, p.case_read)
   settle_read x i π p file ScheduleFile = (p.plan_bytes, p.plan_read)
   settle_read x i π p file ReportFile = tt
   settle_read x i π p file PricesFile = let prices = prices_parts got reads i.market.periods π file in (prices.bytes, prices.is_read)
+  settle_read x i π p file MixtureFile = tt
+
+  certify_read : (x : _) (i : PlannedCase) (π : PriceLists) (mixture : MixtureLists) → InputParts reads i → IsPricesFile i.market.periods (reads PricesFile) (Ok π)
+      → IsMixtureFile i.market (reads MixtureFile) (Ok mixture) → AllRead (certify x) reads
+  certify_read x i π mixture p file mixed CaseFile = (p.case_bytes, p.case_read)
+  certify_read x i π mixture p file mixed ScheduleFile = (p.plan_bytes, p.plan_read)
+  certify_read x i π mixture p file mixed ReportFile = tt
+  certify_read x i π mixture p file mixed PricesFile = let prices = prices_parts got reads i.market.periods π file in (prices.bytes, prices.is_read)
+  certify_read x i π mixture p file mixed MixtureFile = let parts = mixture_parts got reads i.market mixture mixed in (parts.bytes, parts.is_read)
 
   try_read : (x : _) → AllRead (try x) reads
   try_read x CaseFile = tt
   try_read x ScheduleFile = tt
   try_read x ReportFile = tt
   try_read x PricesFile = tt
+  try_read x MixtureFile = tt
 
   all_read : (a : Asked) (i : PlannedCase) → (command_for (Ok a)).IsDue reads (Ok i) → AllRead a reads
   all_read (check x) i due = check_read x i (input_parts got reads i due)
@@ -109,6 +138,13 @@ module _ (got : BytesAreThoseRead) (text_read : ReportBytesAreItsText) (reads : 
   all_read (settle x) i (Ok c, input, (Ok π, file, e)) = settle_read x c π (input_parts got reads c input) file
   all_read (settle x) i (Ok c, input, (Err g, file, e)) = absurd cc
   all_read (settle x) i (Err g, input, e) = absurd cc
+  all_read (certify x) i (Ok c, input, (Ok d, (Ok π, file, k), (Ok mixture, mixed, e))) =
+      let same : d ≡ c = cc in
+      certify_read x c π mixture (input_parts got reads c input) file (subst (λ (j : PlannedCase). IsMixtureFile j.market (reads MixtureFile) (Ok mixture)) same mixed)
+  all_read (certify x) i (Ok c, input, (Ok d, (Err g, file, k), (Ok mixture, mixed, e))) = absurd cc
+  all_read (certify x) i (Ok c, input, (Ok d, priced, (Err g, mixed, e))) = absurd cc
+  all_read (certify x) i (Ok c, input, (Err g, priced, e)) = absurd cc
+  all_read (certify x) i (Err g, input, e) = absurd cc
 
 -- where no count rose, each file was read
 quiet_read : (o : Option (List ℕ)) (told : List ℕ → Option (List ℕ)) (rose : List ℕ → Type 0) (read : Option (List ℕ)) → IfSome o (λ name. IsReadOf (told name) (rose name) read) → IfSome o (λ name. ¬ rose name)
@@ -141,6 +177,7 @@ free_reads (bound x) workers told rose reads are = are
 free_reads (fixed x) workers told rose reads are = are
 free_reads (audit x) workers told rose reads are = are
 free_reads (settle x) workers told rose reads are = are
+free_reads (certify x) workers told rose reads are = are
 
 free_ends : (a : Asked) (workers : ℕ) (reads : Reads) (gained short : List ℕ → Type 0) (e : End) → Ends (command_for (Ok (with_workers workers a))) reads gained short e → Ends (command_for (Ok a)) reads gained short e
 free_ends (check x) workers reads gained short e ends = ends
@@ -150,6 +187,7 @@ free_ends (bound x) workers reads gained short e ends = ends
 free_ends (fixed x) workers reads gained short e ends = ends
 free_ends (audit x) workers reads gained short e ends = ends
 free_ends (settle x) workers reads gained short e ends = ends
+free_ends (certify x) workers reads gained short e ends = ends
 
 free_names : (a : Asked) (workers : ℕ) (rose : List ℕ → Type 0) → ((file : FileKind) → IfSome ((command_for (Ok (with_workers workers a))).name_of file) (λ name. ¬ rose name))
     → (file : FileKind) → IfSome ((command_for (Ok a)).name_of file) (λ name. ¬ rose name)
@@ -160,6 +198,7 @@ free_names (bound x) workers rose quiet = quiet
 free_names (fixed x) workers rose quiet = quiet
 free_names (audit x) workers rose quiet = quiet
 free_names (settle x) workers rose quiet = quiet
+free_names (certify x) workers rose quiet = quiet
 
 -- ---- one output
 

@@ -1,12 +1,15 @@
 -- What is promised of a settlement at given prices.
-use Rattle.law_outcome.proofs.Common.{◌≡◌, ℕ, ℤ, ◌<◌, ◌⊎◌, inl, inr, Bool, true, false, List, Option, None, Some, Result, Ok, Err, refl, sym, ap, ◌∙◌, subst, arith, length, nat_lt, if◌then◌else◌, ltb-true, MOST_BYTES, PriceLists, Asked, SettleAsked, settle, WordFault, status_of, fault_line, CaseFile, ScheduleFile, PricesFile, TopFault, TooBig, End, Done, Cut, Refused, Reads, bytes_of, IsInput, IsPricesFile, PlannedCase, command_for, IsReadOf, AreReads, with_prices, HasText, Ends, status_at, OverReads, IsSettlePromised, IsSettleRefused, BytesAreThoseRead, SettlementsAddUp, prices_fault}
+use Rattle.law_outcome.proofs.Common.{◌≡◌, ℕ, ℤ, ◌<◌, ◌⊎◌, inl, inr, Bool, true, false, List, Option, None, Some, Result, Ok, Err, refl, sym, ap, ◌∙◌, subst, arith, length, nat_lt, if◌then◌else◌, ltb-true, MOST_BYTES, PriceLists, Asked, SettleAsked, settle, WordFault, status_of, fault_line, CaseFile, ScheduleFile, PricesFile, TopFault, TooBig, End, Done, Cut, Refused, Reads, bytes_of, IsInput, IsPricesFile, IsPriced, Then, Market, PlannedCase, command_for, IsReadOf, AreReads, with_prices, HasText, Ends, status_at, OverReads, IsSettlePromised, HasNoPrices, Command, All, pos, BytesAreThoseRead, SettlementsAddUp, prices_fault}
 use Rattle.uc_case.specs.Files.{text, value}
 use Rattle.uc_prices.specs.PricesFiles.{IsPricesOf}
 use Rattle.report_form.specs.SettlementText.{settlement_text}
 use Rattle.hull_report.specs.SettledText.{settlement_of}
 use Rattle.hull_report.specs.declared.fault.FileKind.{FileKind}
 use Rattle.uc_model.specs.Laws.{ReserveFrom0}
-use Rattle.uc_prices.specs.Laws.{OnePrices, PricesHaveForm}
+use Rattle.uc_prices.specs.Kept.{IsPriceOf}
+use Rattle.uc_prices.specs.Laws.{OnePrices, HaveForm, PricesHaveForm}
+use Rattle.uc_prices.specs.declared.fault.PriceField.TheVariants.{Reserve}
+use Rattle.std.proofs.lemmas.List.Elements.{All-get_or}
 use Rattle.law_outcome.proofs.OutcomeLaws.{status_within, same_fault, bytes_fault, input_fault, accepted_is_feasible, InputParts, input_parts}
 
 -- the bytes of prices that were read
@@ -35,6 +38,10 @@ module _ (got : BytesAreThoseRead) where
 
 -- ---- the promise
 
+-- the prices of a file ask nothing below 0 for reserve
+pub from_zero : (m : Market) (bytes : List ℕ) (π : PriceLists) → HaveForm m.periods bytes π → ReserveFrom0 m π
+from_zero m bytes π asks = record { horizon = asks.energy; reserve = λ k lt. (All-get_or (IsPriceOf Reserve) π.reserve k (pos 0) (omega (arith, lt, asks.reserve)) asks.reserve_within).at_least }
+
 module _ (got : BytesAreThoseRead) (add_up : SettlementsAddUp) (form : PricesHaveForm) (a : SettleAsked) (told : List ℕ → Option (List ℕ)) (rose gained : List ℕ → Type 0) where
   pub settle_promised : (reads : Reads) → AreReads told rose (with_prices a.case_name a.schedule_name a.prices_name) reads → HasText (command_for (Ok (settle a))) reads gained → IsSettlePromised a told gained
   settle_promised reads are (i, due, shown, (π, file, s, settled, is), printed) =
@@ -42,7 +49,7 @@ module _ (got : BytesAreThoseRead) (add_up : SettlementsAddUp) (form : PricesHav
       let prices = prices_parts got reads i.market.periods π file in
       let cost = (accepted_is_feasible (Ok (settle a)) reads i due).1 in
       let asks = form i.market.periods prices.bytes π prices.is_prices in
-      let from_0 : ReserveFrom0 i.market π = record { horizon = asks.energy; reserve = asks.from_0 } in
+      let from_0 = from_zero i.market prices.bytes π asks in
       record {
         case_bytes = parts.case_bytes;
         case_told = subst (IsReadOf (told a.case_name) (rose a.case_name)) parts.case_read (are CaseFile);
@@ -66,7 +73,7 @@ module _ (got : BytesAreThoseRead) (add_up : SettlementsAddUp) (form : PricesHav
 -- ---- the refusal of prices
 
 -- bytes that are too many
-too_many : (file : FileKind) (read : Option (List ℕ)) → Err (TooBig file) ≡ bytes_of file read → (bytes : List ℕ) × (read ≡ Some bytes) × (MOST_BYTES < length bytes)
+pub too_many : (file : FileKind) (read : Option (List ℕ)) → Err (TooBig file) ≡ bytes_of file read → (bytes : List ℕ) × (read ≡ Some bytes) × (MOST_BYTES < length bytes)
 too_many file None e = absurd cc
 too_many file (Some bytes) e = (bytes, refl, ltb-true MOST_BYTES (length bytes) (long (nat_lt MOST_BYTES (length bytes)) e))
   where
@@ -74,12 +81,12 @@ too_many file (Some bytes) e = (bytes, refl, ltb-true MOST_BYTES (length bytes) 
     long true e = refl
     long false e = absurd cc
 
-module _ (got : BytesAreThoseRead) (one : OnePrices) (a : SettleAsked) (gained short : List ℕ → Type 0) (reads : Reads) (f : TopFault) (lines : gained (fault_line f) ⊎ short (fault_line f))
-    (nine : status_of f ≡ 9) (due_f : (command_for (Ok (settle a))).IsDue reads (Err f)) where
+module _ (got : BytesAreThoseRead) (one : OnePrices) (c : Command) (gained short : List ℕ → Type 0) (reads : Reads) (f : TopFault) (lines : gained (fault_line f) ⊎ short (fault_line f))
+    (nine : status_of f ≡ 9) (due_f : c.IsDue reads (Err f)) where
   abbrev IsSo : Type 0
-  IsSo = (i : PlannedCase) × IsSettleRefused (command_for (Ok (settle a))) gained short reads i
+  IsSo = (i : PlannedCase) × HasNoPrices c gained short reads i
 
-  of_file : (i : PlannedCase) → IsInput reads (Ok i) → IsPricesFile i.market.periods (reads PricesFile) (Err f) → IsSo
+  pub of_file : (i : PlannedCase) → IsInput reads (Ok i) → IsPricesFile i.market.periods (reads PricesFile) (Err f) → IsSo
   of_file i input (Ok bytes, is, (Ok π, found, e)) = absurd cc
   of_file i input (Ok bytes, is, (Err first, found, e)) = (
     i,
@@ -116,18 +123,18 @@ module _ (got : BytesAreThoseRead) (one : OnePrices) (a : SettleAsked) (gained s
             )
       ]
 
-  of_due : (command_for (Ok (settle a))).IsDue reads (Err f) → IsSo
-  of_due (Ok i, input, (Ok π, file, e)) = absurd cc
-  of_due (Ok i, input, (Err g, file, e)) = of_file i input (subst (λ (h : TopFault). IsPricesFile i.market.periods (reads PricesFile) (Err h)) (sym (same_fault f g e)) file)
-  of_due (Err g, input, e) =
+  pub of_input : (g : TopFault) → ◌≡◌ {A = Result PlannedCase TopFault} (Err f) (Err g) → IsInput reads (Err g) → IsSo
+  of_input g e input =
       elim (input_fault reads f (subst (λ (h : TopFault). IsInput reads (Err h)) (sym (same_fault f g e)) input)) [
         | inl p ↦ let two : status_of f ≡ 2 = ap status_of p.0 in absurd (omega (arith, nine, two))
         | inr (inl p) ↦ let two : status_of f ≡ 2 = ap status_of p.0 in absurd (omega (arith, nine, two))
         | inr (inr p) ↦ let most = p.1 in absurd (omega (arith, nine, most))
       ]
 
-  pub settle_refused : IsSo
-  settle_refused = of_due due_f
+  pub of_priced : Then (IsInput reads) (IsPriced reads) (Err f) → IsSo
+  of_priced (Ok i, input, (Ok π, file, e)) = absurd cc
+  of_priced (Ok i, input, (Err g, file, e)) = of_file i input (subst (λ (h : TopFault). IsPricesFile i.market.periods (reads PricesFile) (Err h)) (sym (same_fault f g e)) file)
+  of_priced (Err g, input, e) = of_input g e input
 
 -- ---- both
 
@@ -135,14 +142,14 @@ module _ (got : BytesAreThoseRead) (add_up : SettlementsAddUp) (form : PricesHav
   abbrev Promise : Result Asked WordFault → ℕ → Type 0
   Promise w n =
       (n ≡ 0 → IsSettlePromised a told gained)
-      × (n ≡ 9 → OverReads (command_for w) told rose (λ reads. (i : PlannedCase) × IsSettleRefused (command_for w) gained short reads i))
+      × (n ≡ 9 → OverReads (command_for w) told rose (λ reads. (i : PlannedCase) × HasNoPrices (command_for w) gained short reads i))
 
   settled : (n : ℕ) (reads : Reads) (e : End) → AreReads told rose (command_for (Ok (settle a))).name_of reads → Ends (command_for (Ok (settle a))) reads gained short e → n ≡ status_at e → Promise (Ok (settle a)) n
   settled n reads Done are ends is = (λ z. settle_promised got add_up form a told rose gained reads are ends, λ z. absurd (omega (arith, is, z)))
   settled n reads Cut are ends is = (λ z. absurd (omega (arith, is, z)), λ z. absurd (omega (arith, is, z)))
   settled n reads (Refused f) are (inl due, lines) is = (
     λ z. absurd (omega (arith, is, z, (status_within f).0)),
-    λ z. (reads, are, settle_refused got one a gained short reads f lines (sym is ∙ z) due),
+    λ z. (reads, are, of_priced got one (command_for (Ok (settle a))) gained short reads f lines (sym is ∙ z) due due),
   )
   settled n reads (Refused f) are (inr memory, lines) is =
       let seven : n ≡ 7 = is ∙ ap status_of memory in (

@@ -10,44 +10,54 @@ use Rattle.std.specs.Prelude.{pos, ◌≤ℤ◌, length, slice_get, unsigned_abs
 use Rattle.uc_model.specs.Data.{Market, PriceLists, Schedule}
 use Rattle.uc_model.specs.Limits.{IsMarket}
 use Rattle.uc_model.specs.PriceRule.{Proposal}
-use Rattle.uc_model.specs.Systems.{IsFeasiblePlan, plan_cost}
+use Rattle.uc_model.specs.Systems.{IsFeasiblePlan, plan_cost, IsDualValue, IsSettled}
 use Rattle.uc_case.specs.CaseFiles.{IsCaseOf}
 use Rattle.uc_case.specs.Files.{FileFault}
 use Rattle.uc_plan.specs.PlanFiles.{IsPlanOf}
 use Rattle.uc_prices.specs.PricesFiles.{IsPricesOf}
 use Rattle.uc_prices.specs.declared.fault.PriceFault.{PriceFault}
+use Rattle.uc_mixture.specs.MixtureFiles.{IsMixtureFileOf}
+use Rattle.uc_mixture.specs.declared.fault.ShareFault.{ShareFault}
+use Rattle.mixture_bound.specs.Laws.{least_paid}
+use Rattle.mixture_bound.specs.Mixtures.{MixtureLists, IsMixture}
+use Rattle.mixture_bound.specs.MixtureBound.{mixture_bound}
+use Rattle.mixture_bound.specs.Refused.{mixture_refusals, entry_refusal_of}
+use Rattle.mixture_bound.specs.declared.check.EntryFault.{EntryFault}
 use Rattle.price_settle.specs.Laws.{AddsUp}
 use Rattle.price_settle.specs.Settled.{Settled, IsSettledAt}
 use Rattle.hull_io.specs.Edge.{Rose, Gains, FallsShort}
 use Rattle.plain_lists.specs.declared.limits.TheConstants.{MOST_BYTES}
 use Rattle.hull_words.specs.Asked.{Asked, CheckAsked, PriceAsked, TryAsked, BoundAsked, AuditAsked}
-use Rattle.hull_words.specs.Asked.{SettleAsked, check, price, try, bound, fixed, audit, settle}
+use Rattle.hull_words.specs.Asked.{SettleAsked, CertifyAsked, check, price, try, bound, fixed, audit}
+use Rattle.hull_words.specs.Asked.{settle, certify}
 use Rattle.hull_words.specs.Words.{words_of}
 use Rattle.hull_words.specs.declared.fault.WordFault.{WordFault}
 use Rattle.fixed_price.specs.FixedCase.{fixed_market}
 use Rattle.gap_proof.specs.Candidates.{RowRange, IsFirstLeast}
-use Rattle.gap_proof.specs.Laws.{IsBoundRound}
+use Rattle.gap_proof.specs.Laws.{IsBoundRound, IsInBox}
 use Rattle.hull_report.specs.AuditText.{audit_text}
 use Rattle.hull_report.specs.BoundText.{bound_text}
 use Rattle.hull_report.specs.FaultLines.{status_of, fault_line}
 use Rattle.right_report.specs.RightSide.{ToldSide}
 use Rattle.hull_report.specs.FixedText.{fixed_text}
 use Rattle.report_form.specs.ReportText.{UnitLine, Report, report_text}
+use Rattle.report_form.specs.CertificateText.{certificate_text}
 use Rattle.report_form.specs.SettlementText.{settlement_text}
+use Rattle.hull_report.specs.CertifiedText.{certificate_of}
 use Rattle.hull_report.specs.SettledText.{settlement_of}
 use Rattle.right_report.specs.RightReport.{IsRightReport, unit_lines}
 use Rattle.right_report.specs.RightSide.{IsRightSide, IsMadeUp}
 use Rattle.hull_report.specs.declared.fault.FileKind.{FileKind}
 use Rattle.hull_report.specs.declared.fault.FileKind.TheVariants.{CaseFile, ScheduleFile}
-use Rattle.hull_report.specs.declared.fault.FileKind.TheVariants.{ReportFile, PricesFile}
+use Rattle.hull_report.specs.declared.fault.FileKind.TheVariants.{ReportFile, PricesFile, MixtureFile}
 use Rattle.hull_report.specs.declared.fault.TopFault.{TopFault}
 use Rattle.hull_report.specs.declared.fault.TopFault.TheVariants.{Words, Read, TooBig, Memory}
 use Rattle.hull_report.specs.declared.fault.ReportCode.TheVariants.{OutOfForm, Wrong}
-use Rattle.hull_report.specs.declared.fault.TopFault.TheVariants.{Report as Unfit}
+use Rattle.hull_report.specs.declared.fault.TopFault.TheVariants.{Report as Unfit, MixtureRule}
 use Rattle.report_read.specs.Bounds.{IsReport}
 use Rattle.report_read.specs.Faults.{IsFault}
 use Rattle.audit_check.specs.Right.{DiffersFromRight}
-use Rattle.hull_engine.specs.Steps.{Reads, IsInput, IsCaseFile, prices_fault}
+use Rattle.hull_engine.specs.Steps.{Reads, IsInput, IsCaseFile, prices_fault, mixture_fault}
 use Rattle.hull_engine.specs.Planned.{PlannedCase}
 use Rattle.hull_engine.specs.Outcome.{Command, command_for, AreReads, HasText, IsOutcome}
 
@@ -75,7 +85,7 @@ AcceptedIsFeasible = (words : List (List ℕ)) (reads : Reads) (i : PlannedCase)
 
 -- the statuses of the faults of words and of what was read
 abbrev pub is_refusal : ℕ → Bool
-is_refusal n = n == 1 || n == 3 || n == 4 || n == 5 || n == 8 || n == 9
+is_refusal n = n == 1 || n == 3 || n == 4 || n == 5 || n == 8 || n == 9 || n == 10
 
 -- there are reads of the command's files over which P holds
 abbrev pub OverReads : Command → (told : List ℕ → Option (List ℕ)) (rose : List ℕ → Type 0) →
@@ -99,7 +109,7 @@ module _ (c : Command) (told : List ℕ → Option (List ℕ))
       × c.IsDue reads (Err (Read file)) × IsWritten (Read file)
 
   pub record HasCause (n : ℕ) : Type 0 where
-    pub known : n ≤ 9
+    pub known : n ≤ 10
     pub done : n ≡ 0 → OverReads c told rose (λ reads. HasText c reads gained)
     pub cut : n ≡ 6 → OverReads c told rose (λ reads. HasText c reads short)
     pub refused : IsTrue (is_refusal n) → OverReads c told rose (IsRefused n)
@@ -124,8 +134,14 @@ abbrev pub word_fault : Result Asked WordFault → Option WordFault
 word_fault (Ok asked) = None
 word_fault (Err f) = Some f
 
--- What a status tells of words. Faulty words end in 1 or 7 and no other words end in 1; a check and
--- a settlement have no limit of work; only an audit reads a report, and only a settlement prices.
+-- words that ask for given prices to be read
+abbrev pub AskForPrices : Result Asked WordFault → Type 0
+AskForPrices words =
+    ((a : SettleAsked) × (words ≡ Ok (settle a))) ⊎ ((a : CertifyAsked) × (words ≡ Ok (certify a)))
+
+-- What a status tells of words. Faulty words end in 1 or 7 and no other words end in 1; a check, a
+-- settlement and a certificate have no limit of work; only an audit reads a report, only a
+-- settlement and a certificate read prices, and only a certificate reads a mixture.
 pub record FollowsFromWords (words : Result Asked WordFault) (gained short : List ℕ → Type 0)
     (n : ℕ) : Type 0 where
   pub faulty : (f : WordFault) → word_fault words ≡ Some f → (n ≡ 1) ⊎ (n ≡ 7)
@@ -133,8 +149,10 @@ pub record FollowsFromWords (words : Result Asked WordFault) (gained short : Lis
       × (gained (fault_line (Words f)) ⊎ short (fault_line (Words f)))
   pub check_at_5 : (a : CheckAsked) → words ≡ Ok (check a) → n ≢ 5
   pub settle_at_5 : (a : SettleAsked) → words ≡ Ok (settle a) → n ≢ 5
+  pub certify_at_5 : (a : CertifyAsked) → words ≡ Ok (certify a) → n ≢ 5
   pub at_8 : n ≡ 8 → (a : AuditAsked) × (words ≡ Ok (audit a))
-  pub at_9 : n ≡ 9 → (a : SettleAsked) × (words ≡ Ok (settle a))
+  pub at_9 : n ≡ 9 → AskForPrices words
+  pub at_10 : n ≡ 10 → (a : CertifyAsked) × (words ≡ Ok (certify a))
 
 -- ---- what the status of a refused schedule promises
 
@@ -306,10 +324,10 @@ pub record IsSettlePromised (a : SettleAsked) (told : List ℕ → Option (List 
   pub adds_up : AddsUp market plan settlement
   pub printed : gained (settlement_text (settlement_of market (plan_cost market plan) settlement))
 
--- And where it answers 9, over an accepted input: the line of a fault that is due was written, as
+-- And where it, or `hull certify`, answers 9, over an accepted input: the line of a fault that is due was written, as
 -- far as the sink took it. The prices file has more than 67,108,864 bytes; or the fault is the
 -- first of the file. Unless its bytes are too many, it has no prices over the periods of the case.
-pub record IsSettleRefused (c : Command) (gained short : List ℕ → Type 0) (reads : Reads)
+pub record HasNoPrices (c : Command) (gained short : List ℕ → Type 0) (reads : Reads)
     (i : PlannedCase) : Type 0 where
   pub fault : TopFault
   pub status : status_of fault ≡ 9
@@ -323,6 +341,69 @@ pub record IsSettleRefused (c : Command) (gained short : List ℕ → Type 0) (r
       × (fault ≡ prices_fault first)
   pub none : length bytes ≤ MOST_BYTES → (prices : PriceLists) →
       IsPricesOf i.market.periods bytes (Ok prices) → ⊥
+
+-- THE PROMISE of `hull certify`, where it answers 0: there are bytes of the case, of the schedule,
+-- of the prices and of the mixture, those that are told where any are; they are a case, a feasible
+-- schedule of it, prices over its periods, and a mixture of feasible schedules of its thermal units;
+-- and what was printed is the certificate of what the schedule is settled at, at these prices, with
+-- the bound by this mixture. No whole prices within the limits and the radius of the given ones have
+-- a dual value above the bound, so neither have these; at any such prices payments and surplus sum
+-- to at least `least_paid`, and at the given ones to the gap.
+pub record IsCertifyPromised (a : CertifyAsked) (told : List ℕ → Option (List ℕ))
+    (gained : List ℕ → Type 0) : Type 0 where
+  pub case_bytes : List ℕ
+  pub case_told : IfSome (told a.names.case_name) (λ all. case_bytes ≡ all)
+  pub schedule_bytes : List ℕ
+  pub schedule_told : IfSome (told a.names.schedule_name) (λ all. schedule_bytes ≡ all)
+  pub prices_bytes : List ℕ
+  pub prices_told : IfSome (told a.names.prices_name) (λ all. prices_bytes ≡ all)
+  pub mixture_bytes : List ℕ
+  pub mixture_told : IfSome (told a.mixture_name) (λ all. mixture_bytes ≡ all)
+  pub market : Market
+  pub is_case : IsCaseOf case_bytes (Ok market)
+  pub plan : List Schedule
+  pub is_plan : IsPlanOf market schedule_bytes (Ok plan)
+  pub feasible : IsFeasiblePlan market plan
+  pub prices : PriceLists
+  pub is_prices : IsPricesOf market.periods prices_bytes (Ok prices)
+  pub mixture : MixtureLists
+  pub is_mixture : IsMixtureFileOf market mixture_bytes (Ok mixture)
+  pub mixed : IsMixture market mixture
+  pub settlement : Settled
+  pub settled : IsSettledAt market plan prices settlement
+  pub adds_up : AddsUp market plan settlement
+  pub limit : ℤ
+  pub limit_is : limit ≡ mixture_bound market mixture prices a.radius
+  pub holds : (π : PriceLists) (value : ℤ) → IsInBox market prices a.radius π →
+      IsDualValue market π value → value ≤ℤ limit
+  pub reached : settlement.row.value ≤ℤ limit
+  pub paid : (π : PriceLists) (scheduled payments : List ℤ) (surplus sum : ℤ) →
+      IsInBox market prices a.radius π → IsSettled market plan π scheduled payments surplus sum →
+      least_paid (plan_cost market plan) limit ≤ℤ (sum +ℤ surplus)
+  pub printed : gained (certificate_text (certificate_of market (plan_cost market plan) settlement
+      (unsigned_abs a.radius) limit))
+
+-- And where it answers 10, over an accepted input: the line of a fault that is due was written, as
+-- far as the sink took it. The mixture file has more than 67,108,864 bytes; or the fault is the
+-- first of the file; or it is the first rule that a schedule of the mixture breaks. Unless its bytes
+-- are too many, the file has no mixture of feasible schedules.
+pub record HasNoMixture (c : Command) (gained short : List ℕ → Type 0) (reads : Reads)
+    (i : PlannedCase) : Type 0 where
+  pub fault : TopFault
+  pub status : status_of fault ≡ 10
+  pub due : c.IsDue reads (Err fault)
+  pub written : gained (fault_line fault) ⊎ short (fault_line fault)
+  pub input : IsInput reads (Ok i)
+  pub bytes : List ℕ
+  pub is_read : reads MixtureFile ≡ Some bytes
+  pub cause : (MOST_BYTES < length bytes × (fault ≡ TooBig MixtureFile))
+      ⊎ (((first : FileFault ShareFault) × IsMixtureFileOf i.market bytes (Err first)
+      × (fault ≡ mixture_fault first))
+      ⊎ ((x : MixtureLists) × (rule : EntryFault) × IsMixtureFileOf i.market bytes (Ok x)
+      × (fault ≡ MixtureRule rule)
+      × (slice_get (mixture_refusals i.market x) 0 ≡ Some (entry_refusal_of rule))))
+  pub none : length bytes ≤ MOST_BYTES → (x : MixtureLists) →
+      IsMixtureFileOf i.market bytes (Ok x) → IsMixture i.market x → ⊥
 
 -- ---- how many workers there are
 
@@ -360,6 +441,7 @@ with_workers n (fixed a) = fixed (record a { workers = n })
 with_workers n (audit a) = audit (record a { workers = n })
 with_workers n (check a) = check a
 with_workers n (settle a) = settle a
+with_workers n (certify a) = certify a
 
 -- both tell the same bytes of each file that these words name
 abbrev pub TellTheSame : Asked → (told other : List ℕ → Option (List ℕ)) → Type 0
@@ -426,7 +508,16 @@ module _ {F S : Type 0} (told : F → List ℕ → Option (List ℕ)) (faults : 
       (a : SettleAsked) → words_of words ≡ Ok (settle a) →
       (n ≡ 0 → IsSettlePromised a told gained)
       × (n ≡ 9 → OverReads (command_for (words_of words)) told rose (λ reads.
-      (i : PlannedCase) × IsSettleRefused (command_for (words_of words)) gained short reads i)))
+      (i : PlannedCase) × HasNoPrices (command_for (words_of words)) gained short reads i)))
+
+  abbrev pub CertificatesHold : Type 0
+  CertificatesHold = OnRuns (λ words told rose gained short n.
+      (a : CertifyAsked) → words_of words ≡ Ok (certify a) →
+      (n ≡ 0 → IsCertifyPromised a told gained)
+      × (n ≡ 9 → OverReads (command_for (words_of words)) told rose (λ reads.
+      (i : PlannedCase) × HasNoPrices (command_for (words_of words)) gained short reads i))
+      × (n ≡ 10 → OverReads (command_for (words_of words)) told rose (λ reads.
+      (i : PlannedCase) × HasNoMixture (command_for (words_of words)) gained short reads i)))
 
 -- ---- two runs
 

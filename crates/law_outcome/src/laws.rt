@@ -4,11 +4,15 @@ ghost use Rattle.law_outcome.specs.Laws.{OneDue, OneText, AcceptedIsFeasible};
 ghost use Rattle.law_outcome.specs.Laws.{EachStatusHasItsCause, WhatWasReadDecides, WordsFollow};
 ghost use Rattle.law_outcome.specs.Laws.{RefusedSchedulesAreInfeasible, ReportsAreRight};
 ghost use Rattle.law_outcome.specs.Laws.{BoundsHold, BothGapsAreMadeUp, AuditsHold};
-ghost use Rattle.law_outcome.specs.Laws.{SettlementsHold, WorkersAreFree, RunsPrintTheSame};
+ghost use Rattle.law_outcome.specs.Laws.{SettlementsHold, CertificatesHold, WorkersAreFree};
+ghost use Rattle.law_outcome.specs.Laws.{RunsPrintTheSame};
 
 use gap_proof::laws::{run_bounds_hold, run_prices_are_within};
 use hull_engine::laws::{bytes_are_those_read, report_bytes_are_its_text, words_have_sizes};
 use hull_io::{Shelf, Sink};
+use mixture_bound::laws::{
+    mixture_bound_holds, mixture_bound_reaches_centre, mixtures_break_no_rule, payments_reach_least,
+};
 use plan_check::laws::refusals_are_exact;
 use price_settle::laws::{one_settlement, settlements_add_up};
 use report_form::laws::text_determines_the_report;
@@ -18,6 +22,7 @@ use right_report::laws::{
     right_report_has_form, side_payments_make_up_the_gap,
 };
 use uc_case::laws::{cases_are_within, one_case};
+use uc_mixture::laws::one_mixture;
 use uc_model::laws::{feasible_plans_have_shape, nothing_is_paid_back};
 use uc_plan::laws::one_plan;
 use uc_prices::laws::{one_prices, prices_have_form};
@@ -34,6 +39,7 @@ pub fn one_thing_is_due()
     one_report_is_right();
     one_line_differs();
     one_prices();
+    one_mixture();
 }
 
 /// At most one text may be printed of an input: what `hull price` prints is a function of the case,
@@ -47,6 +53,7 @@ pub fn one_text_is_right()
     right_report_has_form();
     one_prices();
     one_settlement();
+    one_mixture();
 }
 
 /// What a command accepts is a case with a feasible schedule and that schedule's cost.
@@ -71,6 +78,7 @@ pub fn what_was_read_decides<F: Shelf, S: Sink>()
     one_report_is_right();
     one_line_differs();
     one_prices();
+    one_mixture();
 }
 
 /// What the words alone say of the status, whatever is told of the files.
@@ -157,6 +165,27 @@ pub fn settlements_hold<F: Shelf, S: Sink>()
     settlements_add_up();
     prices_have_form();
     one_prices();
+}
+
+/// What `hull certify` promises: where it answers 0, what it prints is what the schedule is settled
+/// at, at the prices of the file, and the bound by the mixture of the file, and no whole prices
+/// within the limits and the radius of the given ones have a dual value above that bound; where it
+/// answers 9, as `hull settle` does; where it answers 10, the file has too many bytes, or the fault
+/// is its first and no mixture of feasible schedules is in it.
+pub fn certificates_hold<F: Shelf, S: Sink>()
+    ensures { CertificatesHold F.told F.faults F.last S.held S.faults S.last }
+{
+    words_have_sizes();
+    bytes_are_those_read();
+    settlements_add_up();
+    cases_are_within();
+    prices_have_form();
+    one_prices();
+    one_mixture();
+    mixture_bound_holds();
+    mixture_bound_reaches_centre();
+    payments_reach_least();
+    mixtures_break_no_rule();
 }
 
 /// Two runs of the same words but for the number of workers, over shelves that tell the same of the

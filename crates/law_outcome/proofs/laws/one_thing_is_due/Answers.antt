@@ -12,4 +12,5 @@ returns c words reads a b =
       right = c.one_report_is_right.ensures;
       difference = c.one_line_differs.ensures;
       prices = c.one_prices.ensures;
+      mixture = c.one_mixture.ensures;
     }) (words_of words) reads a b

@@ -12,5 +12,6 @@ returns g c words old new before after n h quiet =
       right = c.one_report_is_right.ensures;
       difference = c.one_line_differs.ensures;
       prices = c.one_prices.ensures;
+      mixture = c.one_mixture.ensures;
     } in
     (h.reads, h.are_reads, is_decided (words_of words) _ _ _ _ ones n h.reads h.end h.are_reads quiet h.ends h.status_is)
