@@ -1,5 +1,5 @@
 use crate::same::{same, same_of};
-use hull_words::{Command, PriceWords, TryWords, WordError, read_words};
+use hull_words::{Command, PriceWords, SettleWords, TryWords, WordError, read_words};
 use std::alloc::{AllocError, Global};
 use std::test::Fail;
 
@@ -36,6 +36,13 @@ fn price_text(alloc: Global, words: &PriceWords) -> Result<String, AllocError> {
         ..
     } = words;
     format!(in alloc; "{case_name} {schedule_name} {proposals} {workers} {ahead}")
+}
+
+fn settle_text(alloc: Global, words: &SettleWords) -> Result<String, AllocError> {
+    let case_name = words.case_name.as_str();
+    let schedule_name = words.schedule_name.as_str();
+    let prices_name = words.prices_name.as_str();
+    format!(in alloc; "{case_name} {schedule_name} {prices_name}")
 }
 
 /// The command and its values in the order of its fields.
@@ -76,10 +83,14 @@ fn command_text(alloc: Global, command: &Command) -> Result<String, AllocError> 
             format!(in alloc; "audit {case_name} {schedule_name} {report_name} {workers}")
         }
         Command::Settle(words) => {
-            let case_name = words.case_name.as_str();
-            let schedule_name = words.schedule_name.as_str();
-            let prices_name = words.prices_name.as_str();
-            format!(in alloc; "settle {case_name} {schedule_name} {prices_name}")
+            let names = settle_text(alloc, words)?;
+            format!(in alloc; "settle {names}")
+        }
+        Command::Certify(words) => {
+            let names = settle_text(alloc, &words.names)?;
+            let mixture_name = words.mixture_name.as_str();
+            let radius = words.radius;
+            format!(in alloc; "certify {names} {mixture_name} {radius}")
         }
     }
 }
@@ -105,6 +116,8 @@ const FAULTS: &[(&str, u32, u32)] = &[
     ("audit --prices p", 3, 2),
     ("settle --workers 1", 3, 2),
     ("settle --radius=1", 3, 2),
+    ("settle --mixture m", 3, 2),
+    ("certify --workers 1", 3, 2),
     // 4: given before
     ("price --case a --case b", 4, 4),
     ("price --proposals=1 --proposals=0", 4, 3),
@@ -114,6 +127,7 @@ const FAULTS: &[(&str, u32, u32)] = &[
     ("fixed --workers 1 --workers -", 4, 4),
     ("audit --report=a --report", 4, 3),
     ("settle --prices p --case a --prices=p", 4, 6),
+    ("certify --mixture p --case a --mixture=p", 4, 6),
     // 5: no value
     ("price --case", 5, 2),
     ("price --case= a", 5, 2),
@@ -125,6 +139,7 @@ const FAULTS: &[(&str, u32, u32)] = &[
     ("fixed --case=missing --schedule=-", 5, 3),
     ("audit --report -b", 5, 2),
     ("settle --case a --prices", 5, 4),
+    ("certify --radius", 5, 2),
     // 6: no number of the range
     ("price --proposals 0", 6, 2),
     ("price --proposals 10001", 6, 2),
@@ -133,6 +148,7 @@ const FAULTS: &[(&str, u32, u32)] = &[
     ("price --ahead 0", 6, 2),
     ("bound --radius 20000001", 6, 2),
     ("bound --ahead 1 --radius +5", 6, 4),
+    ("certify --radius 20000001", 6, 2),
     ("fixed --ahead 1_0", 6, 2),
     ("audit --workers 1.0", 6, 2),
     ("try 7 --ahead 17", 6, 3),
@@ -153,6 +169,8 @@ const FAULTS: &[(&str, u32, u32)] = &[
     ("audit --report missing --schedule missing", 7, 5),
     ("settle --case a --schedule b", 7, 5),
     ("settle --prices=p --schedule b", 7, 4),
+    ("certify --case a --schedule b --prices p --radius 0", 7, 9),
+    ("certify --mixture=m --case=a --schedule=b", 7, 4),
     // 8: a word too much
     ("price 7", 8, 2),
     ("price --case=a --schedule=b -5", 8, 4),
@@ -167,6 +185,7 @@ const FAULTS: &[(&str, u32, u32)] = &[
     ("fixed --case a --schedule b ", 8, 6),
     ("audit --case a --workers 2 1 --schedule=b --report=c", 8, 6),
     ("settle 7 --case a", 8, 2),
+    ("certify --case a 7", 8, 4),
 ];
 
 #[test]
@@ -207,6 +226,14 @@ const COMMANDS: &[(&str, &str)] = &[
         "audit try 7 a--b 1",
     ),
     ("settle --prices p --case a --schedule b", "settle a b p"),
+    (
+        "certify --mixture m --prices p --case a --schedule b",
+        "certify a b p m 20000000",
+    ),
+    (
+        "certify --radius=0 --case a --schedule=b --mixture=c --prices a",
+        "certify a b a c 0",
+    ),
 ];
 
 fn command_of_line(alloc: Global, line: &str) -> Result<Command, WordError> {
