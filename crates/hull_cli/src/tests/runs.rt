@@ -1,7 +1,7 @@
 //! A run over memory.
 
 use crate::same::same_of;
-use crate::tests::texts::Texts;
+use crate::tests::texts::{Texts, USUAL_PRICES};
 use answer_workers::{Gate, NoGate};
 use hull_engine::hull_run;
 use hull_io::{File, MemoryShelf, MemorySink, ReadFailed, Shelf};
@@ -91,6 +91,7 @@ fn files_of(alloc: Global, texts: Texts) -> Result<Vec<File>, AllocError> {
     push_file(alloc, &mut files, "c", case.as_bytes())?;
     push_file(alloc, &mut files, "s", schedule.as_bytes())?;
     push_file(alloc, &mut files, "r", report)?;
+    push_file(alloc, &mut files, "p", USUAL_PRICES)?;
     Ok(files)
 }
 

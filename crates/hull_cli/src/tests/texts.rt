@@ -95,6 +95,35 @@ chosen 1 value 686000000\nunit thermal \"G1\" earned 0 scheduled -66000000 payme
 power 0\nreserve 0\nunit renewable \"W1\" earned 294000000 scheduled 196000000 payment 98000000\n\
 power 3000\nsurplus 0\npayments 164000000\ngap 164000000\nend\n";
 
+// The prices of the usual case, on every shelf.
+pub const USUAL_PRICES: &[u8] = b"{\"energy\":[98]}";
+
+// G1 as in the schedule costs 850, and W1 can give what that lacks, at a price of 0.
+pub const USUAL_MIXTURE: &[u8] = b"\
+{\"weight\":1,\"thermal\":{\"G1\":[{\"weight\":1,\"on\":[1],\"power\":[8000],\"reserve\":[2000]}]}}";
+
+pub const USUAL_CERTIFIED: &[u8] = b"\
+hull-certificate 1\nperiods 1\nunits 2\ncost 850000000\nvalue 686000000\nsurplus 0\n\
+payments 164000000\ngap 164000000\nradius 20000000\nbound 850000000\ndistance 164000000\n\
+least 0\nend\n";
+
+// Seven times of ten G1 gives 10 MW for 1,030, and three times it is off: 3 MW are lacking in the
+// mean, which W1 can give, and 2 MW of reserve.
+pub const USUAL_WEIGHED: &[u8] = b"\
+{\"thermal\":{\"G1\":[{\"weight\":7.0,\"on\":[1],\"power\":[10000],\"reserve\":[0]},\
+{\"reserve\":[0],\"weight\":3,\"on\":[0],\"power\":[0]}]},\"weight\":1e1}";
+
+pub const USUAL_WEIGHED_CERTIFIED: &[u8] = b"\
+hull-certificate 1\nperiods 1\nunits 2\ncost 850000000\nvalue 686000000\nsurplus 0\n\
+payments 164000000\ngap 164000000\nradius 20000000\nbound 20721000000\ndistance 20035000000\n\
+least 0\nend\n";
+
+// At a reserve price of at most 1 the 2 MW cost 2 at most.
+pub const USUAL_WEIGHED_NEAR: &[u8] = b"\
+hull-certificate 1\nperiods 1\nunits 2\ncost 850000000\nvalue 686000000\nsurplus 0\n\
+payments 164000000\ngap 164000000\nradius 1000\nbound 723000000\ndistance 37000000\n\
+least 127000000\nend\n";
+
 // At a price of 98 G1 would earn nothing by being on, so it stays off and is owed what it loses.
 pub const USUAL_SETTLED: &[u8] = b"\
 hull-settlement 1\nperiods 1\nunits 2\ncost 850000000\nvalue 686000000\nenergy 98000\nreserve 0\n\
@@ -225,6 +254,24 @@ pub const AUDIT: [&str; 7] = [
 
 // The prices stand in the file r.
 pub const SETTLE: [&str; 4] = ["settle", "--case=c", "--schedule=s", "--prices=r"];
+
+// The mixture stands in the file r, and the prices in the file p.
+pub const CERTIFY: [&str; 5] = [
+    "certify",
+    "--case=c",
+    "--schedule=s",
+    "--prices=p",
+    "--mixture=r",
+];
+
+pub const CERTIFY_NEAR: [&str; 6] = [
+    "certify",
+    "--case=c",
+    "--schedule=s",
+    "--prices=p",
+    "--mixture=r",
+    "--radius=1000",
+];
 
 pub const PRICE: [&str; 8] = [
     "price",

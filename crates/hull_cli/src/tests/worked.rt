@@ -2,11 +2,13 @@
 
 use crate::tests::runs::{Run, runs_end};
 use crate::tests::texts::{
-    AUDIT, BOUND, CHECK, FIXED, NO_UNITS, ONE_BID, ONE_BID_CHECK, PRICE, RIGHT, SETTLE, SMALLEST,
-    SMALLEST_REPORT, SMALLEST_SCHEDULE, TRY, TWO_BIDS, TWO_BIDS_REPORT, TWO_BIDS_SCHEDULE,
-    TWO_PERIODS, TWO_PROPOSALS, TWO_PROPOSALS_BOUND, TWO_PROPOSALS_FIXED, TWO_UNITS,
-    TWO_UNITS_CHECK, TWO_UNITS_FIXED, TWO_UNITS_PLANNED, TWO_UNITS_REPORT, TWO_UNITS_SCHEDULE,
-    USUAL, USUAL_REPORT, USUAL_SCHEDULE, USUAL_SETTLED, WINDOW, WINDOW_REPORT, WINDOW_SCHEDULE,
+    AUDIT, BOUND, CERTIFY, CERTIFY_NEAR, CHECK, FIXED, NO_UNITS, ONE_BID, ONE_BID_CHECK, PRICE,
+    RIGHT, SETTLE, SMALLEST, SMALLEST_REPORT, SMALLEST_SCHEDULE, TRY, TWO_BIDS, TWO_BIDS_REPORT,
+    TWO_BIDS_SCHEDULE, TWO_PERIODS, TWO_PROPOSALS, TWO_PROPOSALS_BOUND, TWO_PROPOSALS_FIXED,
+    TWO_UNITS, TWO_UNITS_CHECK, TWO_UNITS_FIXED, TWO_UNITS_PLANNED, TWO_UNITS_REPORT,
+    TWO_UNITS_SCHEDULE, USUAL, USUAL_CERTIFIED, USUAL_MIXTURE, USUAL_REPORT, USUAL_SCHEDULE,
+    USUAL_SETTLED, USUAL_WEIGHED, USUAL_WEIGHED_CERTIFIED, USUAL_WEIGHED_NEAR, WINDOW,
+    WINDOW_REPORT, WINDOW_SCHEDULE,
 };
 use std::test::Fail;
 
@@ -255,4 +257,88 @@ fn settlements_answer_as_worked(rt: HostRuntime) -> Result<(), Fail> {
     let texts = (USUAL, USUAL_SCHEDULE, b"{}".as_slice());
     let text = b"fault 2 read prices\n".as_slice();
     Ok(runs_end(&rt, rt.alloc(), &[(&UNTOLD, texts, (2, text))])?)
+}
+
+const CERTIFIED: &[Run] = &[
+    (
+        &CERTIFY,
+        (USUAL, USUAL_SCHEDULE, USUAL_MIXTURE),
+        (0, USUAL_CERTIFIED),
+    ),
+    (
+        &CERTIFY,
+        (USUAL, USUAL_SCHEDULE, USUAL_WEIGHED),
+        (0, USUAL_WEIGHED_CERTIFIED),
+    ),
+    (
+        &CERTIFY_NEAR,
+        (USUAL, USUAL_SCHEDULE, USUAL_WEIGHED),
+        (0, USUAL_WEIGHED_NEAR),
+    ),
+];
+
+// Mixtures that are refused for the usual case. G1 gives 8 MW at least.
+const UNMIXED: &[(&[u8], &[u8])] = &[
+    (b"{\"weight\":1,}", b"fault 10 mixture 10 at 12\n"),
+    (
+        b"[]",
+        b"fault 10 mixture 42 kind case unit 0 entry 0 item 0\n",
+    ),
+    (
+        b"{\"weight\":0,\"thermal\":{\"G1\":[]}}",
+        b"fault 10 mixture 62 kind case unit 0 entry 0 item 0\n",
+    ),
+    (
+        b"{\"weight\":1,\"thermal\":{\"W1\":[]}}",
+        b"fault 10 mixture 40 kind thermal unit 1 entry 0 item 0\n",
+    ),
+    (
+        b"{\"weight\":1,\"thermal\":{}}",
+        b"fault 10 mixture 41 kind thermal unit 1 entry 0 item 0\n",
+    ),
+    (
+        b"{\"weight\":1,\"thermal\":{\"G1\":[]}}",
+        b"fault 10 mixture 42 kind thermal unit 1 entry 0 item 0\n",
+    ),
+    (
+        b"{\"weight\":1,\"thermal\":{\"G1\":\
+        [{\"weight\":1,\"on\":[1],\"power\":[7999],\"reserve\":[2000]}]}}",
+        b"fault 10 mixture 48 kind thermal unit 1 entry 1 period 1 left 8000 right 7999\n",
+    ),
+    (
+        b"{\"weight\":1,\"thermal\":{\"G1\":[{\"weight\":1,\"on\":[1],\"power\":[8000],\"reserve\":[0]},\
+        {\"weight\":0,\"on\":[2],\"power\":[0],\"reserve\":[0]}]}}",
+        b"fault 10 mixture 43 kind thermal unit 1 entry 2 item 1\n",
+    ),
+    (
+        b"{\"weight\":10,\"thermal\":{\"G1\":[{\"weight\":7,\"on\":[1],\"power\":[10000],\"reserve\":[0]},\
+        {\"weight\":4,\"on\":[0],\"power\":[0],\"reserve\":[0]}]}}",
+        b"fault 10 mixture 62 kind thermal unit 1 entry 0 item 0\n",
+    ),
+    (
+        b"{\"weight\":10,\"thermal\":{\"G1\":\
+        [{\"weight\":11,\"on\":[1],\"power\":[10000],\"reserve\":[0]}]}}",
+        b"fault 10 mixture 62 kind thermal unit 1 entry 1 item 0\n",
+    ),
+];
+
+// No file has this name.
+const UNTOLD_MIXTURE: [&str; 5] = [
+    "certify",
+    "--case=c",
+    "--schedule=s",
+    "--prices=p",
+    "--mixture=t",
+];
+
+#[test]
+fn certificates_answer_as_worked(rt: HostRuntime) -> Result<(), Fail> {
+    runs_end(&rt, rt.alloc(), CERTIFIED)?;
+    for (mixture, text) in UNMIXED {
+        let texts = (USUAL, USUAL_SCHEDULE, *mixture);
+        runs_end(&rt, rt.alloc(), &[(&CERTIFY, texts, (10, *text))])?;
+    }
+    let texts = (USUAL, USUAL_SCHEDULE, b"{}".as_slice());
+    let text = b"fault 2 read mixture\n".as_slice();
+    Ok(runs_end(&rt, rt.alloc(), &[(&UNTOLD_MIXTURE, texts, (2, text))])?)
 }
