@@ -15,7 +15,7 @@ class Scarf(unittest.TestCase):
                 [sys.executable, f"{EXAMPLES}/scarf/work_out.py", room], check=True, stdout=subprocess.DEVNULL
             )
             names = sorted(os.listdir(room))
-            self.assertEqual(len(names), 20)
+            self.assertEqual(len(names), 40)
             for name in names:
                 with open(f"{room}/{name}", "rb") as made, open(f"{EXAMPLES}/scarf/{name}", "rb") as kept:
                     self.assertEqual(made.read(), kept.read(), name)

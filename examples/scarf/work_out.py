@@ -2,7 +2,8 @@
 """Works out the modified Scarf example by itself: cases, schedules of least cost, convex hull prices and reports.
 
 usage: work_out.py [FOLDER]   writes DEMAND.case.json, DEMAND.schedule.json, DEMAND.words and DEMAND.output for each
-                              demand to the folder, and prints the table of README.md
+                              demand to the folder, with DEMAND.prices.json, DEMAND.mixture.json and DEMAND.certify.*,
+                              and prints the table of README.md
 
 It shares nothing with `hull`: one period, no ramps, no reserve, so that each rule is a line or two of whole numbers and
 fractions. Power is in kW, money in millionths.
@@ -84,6 +85,37 @@ def hull_price(demand):
         demand -= room
         if demand <= 0:
             return price
+
+
+def shares(demand):
+    """How much of each type's full power the envelope of the total cost takes at the demand."""
+    found = {}
+    for kind, number, start, per_kw, _, most in sorted(TYPES, key=lambda it: Fraction(it[2] + it[3] * it[5], it[5])):
+        found[kind] = Fraction(min(demand, number * most), number * most)
+        demand -= found[kind] * number * most
+    return found
+
+
+def mixture_of(demand):
+    """Each unit at full power as often as its type's share says, and else off."""
+    found = shares(demand)
+    whole = max(it.denominator for it in found.values())
+    units = {}
+    for name, _, _, _, most in UNITS:
+        on = int(found[name[:-1]] * whole)
+        entries = [(on, 1, most), (whole - on, 0, 0)]
+        units[name] = [{"weight": n, "on": [is_on], "power": [power], "reserve": [0]} for n, is_on, power in entries if n]
+    return {"weight": whole, "thermal": units}
+
+
+def certificate(demand, cost, price):
+    """The text of `hull certify`: nothing is lacking, so the bound is what the mixture costs, rounded down."""
+    full = {kind: start + per_kw * most for kind, _, start, per_kw, _, most in TYPES}
+    bound = int(sum(share * full[kind] * number for kind, number, *_ in TYPES for share in [shares(demand)[kind]]))
+    gap, distance = cost - value(price, demand), bound - value(price, demand)
+    lines = ["hull-certificate 1", "periods 1", f"units {len(UNITS)}", f"cost {cost}", f"value {cost - gap}", "surplus 0"]
+    lines += [f"payments {gap}", f"gap {gap}", "radius 20000000", f"bound {bound}", f"distance {distance}"]
+    return "\n".join([*lines, f"least {cost - bound}", "end", ""])
 
 
 def answer(unit, price):
@@ -201,7 +233,13 @@ def main():
                 "schedule.json": json.dumps(schedule) + "\n",
                 "output": text,
             }
-            files["words"] = f"price --case {megawatts}.case.json --schedule {megawatts}.schedule.json\n"
+            names = f"--case {megawatts}.case.json --schedule {megawatts}.schedule.json"
+            files["words"] = f"price {names}\n"
+            files["prices.json"] = json.dumps({"energy": [whole / 1000]}) + "\n"
+            files["mixture.json"] = json.dumps(mixture_of(demand)) + "\n"
+            more = f"--prices {megawatts}.prices.json --mixture {megawatts}.mixture.json"
+            files["certify.words"] = f"certify {names} {more}\n"
+            files["certify.output"] = certificate(demand, cost, whole)
             for ending, content in files.items():
                 with open(f"{folder}/{megawatts}.{ending}", "w", encoding="utf-8") as it:
                     it.write(content)
