@@ -7,8 +7,9 @@ import unittest
 
 from built import EXAMPLES, ROOT, run
 
-CHANGE = re.compile(r"`(\w+)/(case\.json|schedule\.json|price\.output|prices\.json)`: `(.+)` becomes `(.+)`")
+CHANGE = re.compile(r"`(\w+)/(case\.json|schedule\.json|price\.output|prices\.json|mixture\.json)`: `(.+)` becomes `(.+)`")
 TEXTS, CASES, PLANS, PRICES = range(10, 14), {*range(20, 35), 37} - {32}, range(40, 58), (20, 21, 23, 24, 25)
+SHARES = (*range(40, 44), 62)
 FILES = ["--case", "case.json", "--schedule", "schedule.json"]
 
 
@@ -25,13 +26,14 @@ def rows():
 class Faults(unittest.TestCase):
     def test_each_code_has_an_example(self):
         lines = [line.split() for _, line in rows()]
-        told = {(it[1], next(w for w in it[3:] if w.isdigit())) for it in lines if it[1] in "13489"}
+        told = {(it[1], next(w for w in it[3:] if w.isdigit())) for it in lines if it[1] in ("1", "3", "4", "8", "9", "10")}
         due = (
             {("1", str(it)) for it in range(1, 9)}
             | {("3", str(it)) for it in {*TEXTS, *CASES}}
             | {("4", str(it)) for it in {10, *PLANS} - {58}}
             | {("8", str(it)) for it in (32, 60, 61)}
             | {("9", str(it)) for it in {*TEXTS, *PRICES}}
+            | {("10", str(it)) for it in {*TEXTS, *SHARES}}
         )
         self.assertEqual(due - told, set())
         self.assertTrue({"2", "5"} <= {it[1] for it in lines})
@@ -45,13 +47,15 @@ def check_of(example, line):
             self.assertEqual(run(example.strip("`").split()[1:], folder=EXAMPLES), due)
             return
         folder, name, old, new = change.groups()
-        # Prices are settled with the evening's case and schedule.
-        beside = "evening" if name == "prices.json" else folder
+        # Prices are settled with the evening's case and schedule, a mixture goes with the usual ones.
+        beside = {"prices.json": "evening", "mixture.json": "usual"}.get(name, folder)
         words = ["check", *FILES]
         if name == "price.output":
             words = ["audit", *FILES, "--report", name]
         elif name == "prices.json":
             words = ["settle", *FILES, "--prices", name]
+        elif name == "mixture.json":
+            words = ["certify", *FILES, "--prices", f"{EXAMPLES}/certified/prices.json", "--mixture", name]
         with tempfile.TemporaryDirectory() as room:
             for it in ("case.json", "schedule.json"):
                 shutil.copy(f"{EXAMPLES}/{beside}/{it}", room)
