@@ -308,6 +308,21 @@ class Crowd:
         assert settled_of(ran.output)["cost"] == self.cost
         return ran
 
+    def certify(self, energy, reserve):
+        """A certificate by the schedule alone, at the greatest weight: it can't bound by less than the schedule's cost where nothing is lacking."""
+        self.settle(energy, reserve)
+        with open(f"{self.folder}/schedule", encoding="utf-8") as it:
+            units = json.load(it)["thermal"]
+        mixed = {name: [{"weight": 10**12, **lists}] for name, lists in units.items()}
+        with open(f"{self.folder}/mixture", "w", encoding="utf-8") as it:
+            json.dump({"weight": 10**12, "thermal": mixed}, it, separators=(",", ":"))
+        ran = self.run("certify", f"--prices={self.folder}/prices", f"--mixture={self.folder}/mixture", output="certificate")
+        assert ran.status == 0, ran.text()[:200]
+        told = dict(line.split() for line in ran.text().split("\n")[1:-2])
+        cost, value, bound = (int(told[it]) for it in ("cost", "value", "bound"))
+        assert (cost, int(told["distance"]), int(told["least"])) == (self.cost, bound - value, max(0, cost - bound)) and bound >= value
+        return ran
+
     def bound(self, proposals, *words):
         ran = self.run("bound", f"--proposals={proposals}", *words)
         assert ran.status == 0, ran.text()[:200]
@@ -339,6 +354,7 @@ class Largest(unittest.TestCase):
         for energy in (PRICE // 1000, -PRICE // 1000):
             for reserve in (0, PRICE // 1000):
                 crowd.settle(energy, reserve)
+        crowd.certify(PRICE // 1000, 0)
         return crowd
 
     def test_as_many_units_as_there_may_be(self):
@@ -372,6 +388,7 @@ def main():
                 (crowd.fixed, proposals[0]),
                 (crowd.settle, PRICE // 1000, PRICE // 1000),
                 (crowd.settle, -PRICE // 1000, 0),
+                (crowd.certify, PRICE // 1000, PRICE // 1000),
             ):
                 ran = run[0](*run[1:])
                 what = " ".join([run[0].__name__, *map(str, run[1:])])

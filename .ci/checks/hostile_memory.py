@@ -27,7 +27,7 @@ STARVED = ((7, b"fault 7 memory\n"), (7, b""))
 
 
 def commands(example, room, program):
-    """Runs of each command, on the files of an example and a report of three proposals in the room."""
+    """Runs of each command, on the files of an example, and in the room a report of three proposals, prices, and the schedule as a mixture."""
     files = [f"--{it}={EXAMPLES}/{example}/{it}.json" for it in ("case", "schedule")]
     report = f"--report={room}/report"
     with open(f"{room}/report", "wb") as it:
@@ -36,6 +36,10 @@ def commands(example, room, program):
         periods = json.load(it)["time_periods"]
     with open(f"{room}/prices", "w", encoding="utf-8") as it:
         json.dump({"energy": [30] * periods, "reserve": [1] * periods}, it)
+    with open(f"{EXAMPLES}/{example}/schedule.json", encoding="utf-8") as it:
+        units = json.load(it)["thermal"]
+    with open(f"{room}/mixture", "w", encoding="utf-8") as it:
+        json.dump({"weight": 2, "thermal": {name: [{"weight": 1, **lists}] * 2 for name, lists in units.items()}}, it)
     return {
         "check": ["check", *files],
         "price": ["price", *files, "--proposals=3", "--workers=1"],
@@ -45,6 +49,7 @@ def commands(example, room, program):
         "audit": ["audit", *files, report, "--workers=1"],
         "audit by four": ["audit", *files, report, "--workers=4"],
         "settle": ["settle", *files, f"--prices={room}/prices"],
+        "certify": ["certify", *files, f"--prices={room}/prices", f"--mixture={room}/mixture"],
         "try": ["try", "7", "--proposals=1", "--workers=1"],
     }
 

@@ -120,6 +120,29 @@ class Edges(unittest.TestCase):
         self.settled("fault 9 prices 32", "large.json")
         self.settled("fault 9 prices 32", "/dev/zero")
 
+    def certified(self, line, mixture, prices="prices.json"):
+        """The certificate by such a mixture ends with the line's status and prints the line alone."""
+        words = ["certify", "--case", "case.json", "--schedule", "schedule.json", "--prices", prices, "--mixture", mixture]
+        self.assertEqual(self.hull(*words), (int(line.split()[1]), f"{line}\n".encode(), b""))
+
+    def test_mixture_that_cannot_be_read(self):
+        self.write("prices.json", self.prices())
+        self.certified("fault 2 read mixture", "none.json")
+        self.certified("fault 2 read mixture", ".")
+        self.certified("fault 10 mixture 10 at 0", "/dev/null")
+        self.certified("fault 10 mixture 32", "/dev/zero")
+        # (the prices are refused before the mixture is read)
+        self.certified("fault 9 prices 10 at 0", "none.json", "/dev/null")
+
+    def test_a_case_without_thermal_units_has_an_empty_mixture(self):
+        self.write("prices.json", self.prices())
+        writer = self.fed(b'{"weight":1000000000000,"thermal":{}}')
+        words = ["certify", "--case", "case.json", "--schedule", "schedule.json", "--prices", "prices.json", "--mixture"]
+        status, output, said = self.hull(*words, "pipe")
+        writer.join(10)
+        self.assertEqual((status, said), (0, b""))
+        self.assertTrue(output.startswith(b"hull-certificate 1\n") and output.endswith(b"\nend\n"))
+
     def test_report_that_is_no_report(self):
         self.write("empty.txt", b"")
         self.audited("fault 8 report 60 at 1", "empty.txt")
