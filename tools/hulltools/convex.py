@@ -103,27 +103,23 @@ class Search:
         self.columns = [it for it in self.columns if it.idle < IDLE]
 
     def found(self, best, certify, ended):
-        """The best prices, and the mixture of the best master problem with the bound that it proves: by `hull certify`, or by our own
-        reckoning where that is None."""
+        """The best prices, and the mixture of the best master problem with the bound that it proves."""
         _, columns, shares = best
-        mixture, costs = self.mixture(columns, shares)
-        by = certify is not None
-        bound = certify(self.best, mixture).bound if by else mixture.bound(self.case, costs, self.best)
-        return Found(self.best, mixture, self.best_value, bound, self.payments, self.calls, ended, by)
+        mixture = self.mixture(columns, shares)
+        bound = certify(self.best, mixture).bound
+        return Found(self.best, mixture, self.best_value, bound, self.payments, self.calls, ended)
 
     def mixture(self, columns, shares):
-        """The shares of columns as whole weights, and what each entry costs."""
-        rows, costs = [[] for _ in self.case.thermal], [[] for _ in self.case.thermal]
+        """The shares of columns as whole weights."""
+        rows = [[] for _ in self.case.thermal]
         for it, share in zip(columns, shares):
             weight = int(round(max(0.0, share) * PARTS))
             if weight:
                 rows[it.unit].append(Entry(weight, it.plan))
-                costs[it.unit].append(it.cost)
         for entries in rows:
             largest = max(entries, key=lambda it: it.weight)
             largest.weight += PARTS - sum(it.weight for it in entries)
-        mixture = Mixture(PARTS, {unit.name: entries for unit, entries in zip(self.case.thermal, rows)})
-        return mixture, [it for row in costs for it in row]
+        return Mixture(PARTS, {unit.name: entries for unit, entries in zip(self.case.thermal, rows)})
 
 
 def singles_of(case):
@@ -149,7 +145,6 @@ class Found:
     payments: int
     calls: int
     ended: str
-    certified: bool
 
     @property
     def distance(self):

@@ -21,17 +21,16 @@ LISTS = {  # by name: what a list is in words
 
 @dataclass
 class Study:
-    """What was found: settlements by the list's name, the certificate where there is one, and seconds by name."""
+    """What was found: settlements by the list's name, seconds by name, and the certificate of the last list."""
 
     case_name: str
     settlements: dict
     seconds: dict
     certificate: Certificate = None
-    left_out: str = None
 
     def above_least(self, name):
         """What payments and surplus are above the certified least, in millionths."""
-        return self.settlements[name].gap - self.certificate.least if self.certificate else None
+        return self.settlements[name].gap - self.certificate.least
 
 
 class Maker:
@@ -46,8 +45,6 @@ class Maker:
         """Makes the prices of a list, settles them, and writes both."""
         began = time.monotonic()
         prices = make()
-        if prices is None:
-            return
         settlement = self.hull.settle(*self.files, prices)
         settlement.name = name
         self.study.settlements[name], self.study.seconds[name] = settlement, time.monotonic() - began
@@ -66,10 +63,6 @@ class Maker:
         """The prices of a search, whose mixture and certificate are written too."""
 
         def make():
-            if not self.hull.has("certify"):
-                self.study.left_out = "certified convex hull prices are left out: the program has no `certify`"
-                self.tell(self.study.left_out)
-                return None
             found = search([it.prices for it in self.study.settlements.values()])
             self.write("mixture.json", found.mixture.text())
             self.study.certificate = self.hull.certify(*self.files, found.prices, found.mixture)
@@ -101,13 +94,12 @@ def table_of(study):
     table = Table(HEADS.split(), False)
     for name, it in study.settlements.items():
         sums = (it.cost, it.best.value, it.payments, it.make_whole, it.payments - it.make_whole, it.surplus, it.gap)
-        above = study.above_least(name)
         mean = lambda numbers: f"{sum(numbers) / len(numbers) / 1000:.3f}"
         table.add(
             name,
             LISTS[name],
             *(decimal_text(number, 6) for number in sums),
-            None if above is None else decimal_text(above, 6),
+            decimal_text(study.above_least(name), 6),
             mean(it.best.energy),
             decimal_text(max(it.best.energy), 3),
             mean(it.best.reserve),

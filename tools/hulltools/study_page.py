@@ -23,8 +23,6 @@ STYLE = "".join(
 def sentence(study):
     """The certificate in one sentence."""
     it = study.certificate
-    if it is None:
-        return (study.left_out or "There is no certificate.").capitalize() + "."
     return (
         f"For this schedule no whole prices within the limits need less than {money(it.least)} of payments and surplus; the convex hull "
         f"prices need {money(it.gap)}, so none are better than these by more than {money(it.distance)}: hull certify works that out "
@@ -45,18 +43,18 @@ def price_part(study, key, title):
 
 
 def uplift_part(study):
-    """Payments and surplus of each list as stacked bars, with the certified least where there is one."""
+    """Payments and surplus of each list as stacked bars, with the certified least."""
     most = max([1, *(it.gap for it in study.settlements.values())])
     width = lambda number: f"{max(0, number) / most * 100:.3f}%"
     rows = []
     for name, it in study.settlements.items():
         parts = (("loss", it.make_whole), ("lost", it.payments - it.make_whole), ("surplus", it.surplus))
         bars = "".join(f'<b class="{style}" style="width:{width(number)}"></b>' for style, number in parts if number > 0)
-        least = f'<u style="left:{width(study.certificate.least)}"></u>' if study.certificate else ""
+        least = f'<u style="left:{width(study.certificate.least)}"></u>'
         told = f'<span>{html.escape(LISTS[name])}</span><div class="stack">{bars}{least}</div>'
         rows.append(f'<div class="list">{told}<span class="sum">{money(it.gap)}</span></div>')
     keys = ['<i class="box loss"></i>make-whole', '<i class="box"></i>lost opportunity']
-    keys += ['<i class="box surplus"></i>surplus reserve\'s value'] + ['<i class="least"></i>certified least'] * bool(study.certificate)
+    keys += ['<i class="box surplus"></i>surplus reserve\'s value', '<i class="least"></i>certified least']
     return f'<h2>Payments and surplus</h2><p>{keys_of(keys)}</p>{"".join(rows)}'
 
 
@@ -67,10 +65,8 @@ def cost_part(study):
     """The cost of the schedule parted for each list: value, payments and surplus sum to it."""
     rows = []
     for name, it in study.settlements.items():
-        above = study.above_least(name)
-        sums = (it.cost, it.best.value, it.make_whole, it.payments - it.make_whole, it.surplus)
+        sums = (it.cost, it.best.value, it.make_whole, it.payments - it.make_whole, it.surplus, study.above_least(name))
         cells = "".join(number_cell(number, money(number)) for number in sums)
-        cells += number_cell(-1 if above is None else above, "not known" if above is None else money(above))
         cells += number_cell(int(study.seconds[name] * 1e3), f"{study.seconds[name]:.1f}")
         rows.append(f'<tr><td class="text">{name.capitalize()}</td>{cells}</tr>')
     return (
@@ -96,11 +92,8 @@ def unit_part(study):
     )
 
 
-COUNTS = {1: "One price list", 2: "Two price lists", 3: "Three price lists", 4: "Four price lists", 5: "Five price lists"}
-
-
 def study_page(study):
-    title = f"{COUNTS[len(study.settlements)]}, one schedule"
+    title = "Five price lists, one schedule"
     first = next(iter(study.settlements.values()))
     reserves = any(any(it.best.reserve) for it in study.settlements.values())
     body = f"""<style>{STYLE}</style><h1>{title}</h1>

@@ -1,4 +1,5 @@
 """What of the package needs SciPy; test_package.py runs these in a Python that has it. Cases are those of examples/."""
+import csv
 import json
 import os
 import random
@@ -7,8 +8,12 @@ import subprocess
 import sys
 import tempfile
 import unittest
+from decimal import Decimal
 
-from tool import EXAMPLES, PROGRAM, ROOT, program_has, run
+from tool import EXAMPLES, PROGRAM, ROOT, run
+
+import hulltools
+from hulltools.numbers import money
 
 SMALL = ("usual", "evening", "windows")
 
@@ -65,18 +70,14 @@ class Rounding(unittest.TestCase):
 
 
 class Settled(unittest.TestCase):
-    """What needs the command `settle`."""
+    """What is settled and certified by the program."""
 
     def setUp(self):
-        if not program_has("settle"):
-            self.skipTest("the program has no command `settle`")
         folder = tempfile.TemporaryDirectory(prefix="hull-package-")
         self.addCleanup(folder.cleanup)
         self.room = folder.name
 
     def settle(self, example, prices):
-        import hulltools
-
         return hulltools.settle(*files(example), prices, hull=PROGRAM)
 
     def test_marginal_prices_leave_nothing_to_gain_with_commitments_held(self):
@@ -97,7 +98,7 @@ class Settled(unittest.TestCase):
         prices, mixture = f"{self.room}/prices.json", f"{self.room}/mixture.json"
         status, _, said = run("convex_prices.py", *files(example), prices, mixture, "--hull", PROGRAM, *more)
         self.assertEqual(status, 0, said)
-        self.assertIn("as near as was asked for", said)
+        self.assertIn("as near as was asked for: hull certify says", said)
         return self.settle(example, prices)
 
     def test_a_mixture_bounds_every_dual_value(self):
@@ -135,9 +136,13 @@ class Settled(unittest.TestCase):
         words = [files("windows")[0], folder, "--schedule", files("windows")[1], "--hull", PROGRAM]
         status, _, said = run("study.py", *words)
         self.assertEqual(status, 0, said)
-        lists = ["marginal", "relaxed", "default", "patient"] + ["convex"] * program_has("certify")
+        lists = ["marginal", "relaxed", "default", "patient", "convex"]
         with open(f"{folder}/table.csv", encoding="utf-8") as it:
-            self.assertEqual([row.split(",")[0] for row in it.read().split("\n")[1:-1]], lists)
+            rows = list(csv.DictReader(it))
+        self.assertEqual([row["list"] for row in rows], lists)
+        told = hulltools.read_output(f"{folder}/certificate.txt")
+        for row in rows:
+            self.assertEqual(Decimal(row["above_certified_least"]), Decimal(row["gap"]) - Decimal(told.least) / 10**6)
         for name in lists:
             self.assertTrue(os.path.exists(f"{folder}/{name}.settlement.txt"))
             self.settle("windows", f"{folder}/{name}.prices.json")
@@ -145,14 +150,21 @@ class Settled(unittest.TestCase):
             page = it.read()
         self.assertEqual(page.count('<tr><td class="text">'), len(lists) + 19)
         self.assertNotIn("http", page)
-        if not program_has("certify"):
-            self.assertIn("left out: the program has no `certify`", said)
-            self.skipTest("the program has no command `certify`: the fifth list wasn't tried")
+        self.assertIn(f"none are better than these by more than {money(told.distance)}: hull certify", page)
+        words = [f"{folder}/convex.settlement.txt", f"{folder}/page.html", "--certificate", f"{folder}/certificate.txt"]
+        self.assertEqual(run("report.py", "page", *words), (0, "", ""))
+        with open(f"{folder}/page.html", encoding="utf-8") as it:
+            self.assertIn(f"is within {money(told.distance)} of the greatest", it.read())
 
-    def test_the_certificate_is_what_the_tool_reckons(self):
-        if not program_has("certify"):
-            self.skipTest("the program has no command `certify`")
-        import hulltools
+    def test_a_program_without_certify_is_refused(self):
+        older = f"{self.room}/older"
+        with open(older, "w", encoding="utf-8") as it:
+            it.write("#!/bin/sh\nprintf 'fault 1 words 2 1\\n'\nexit 1\n")
+        os.chmod(older, 0o755)
+        status, _, said = run("study.py", files("usual")[0], f"{self.room}/study", "--hull", older)
+        self.assertEqual((status, said), (1, f"study.py: {older} has no command `certify`: a newer program is needed\n"))
+
+    def test_the_certificate_is_what_a_plain_reckoning_finds(self):
         from hulltools.cases import read_case
         from hulltools.costs import Costs
 

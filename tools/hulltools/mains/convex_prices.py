@@ -9,8 +9,8 @@ usage: convex_prices.py CASE SCHEDULE PRICES MIXTURE [--within MONEY] [--seconds
   --hull PROGRAM   the program that settles and certifies; the launcher of this repository if left out
 
 An interrupt (Ctrl-C) ends the search with the best so far; a second one ends it at once. Progress is told on standard error, and in the
-end which of these it was. Nothing of this tool has to be trusted: `hull certify` says how near the prices are, whatever they are. Where
-the program has no `certify`, the distance is told as this tool reckons it. Needs SciPy.
+end which of these it was. Nothing of this tool has to be trusted: `hull certify` says how near the prices are, whatever they are.
+Needs SciPy.
 """
 import signal
 
@@ -51,7 +51,7 @@ def search(hull, case, files, limits, tell, starts=None):
     from ..convex import convex_prices, first_prices
 
     settle = lambda prices: hull.settle(*files, prices)
-    certify = (lambda prices, mixture: hull.certify(*files, prices, mixture)) if hull.has("certify") else None
+    certify = lambda prices, mixture: hull.certify(*files, prices, mixture)
     most = max(1, MOST_WORK // (len(case.units) * case.periods))
     price = lambda count: hull.price(*files, "--proposals", str(min(count, most)), "--ahead", "1")
     return convex_prices(case, starts or first_prices(price), settle, certify, limits, tell)
@@ -59,10 +59,9 @@ def search(hull, case, files, limits, tell, starts=None):
 
 def told(found):
     """What was reached, in one sentence."""
-    by = "hull certify says that" if found.certified else "the program has no `certify`; by this tool's own reckoning"
     return (
-        f"{found.ended}: {by} the prices' dual value, {money(found.value)}, is within {money(found.distance)} of the greatest; "
-        f"payments {money(found.payments)}, {found.calls} calls of settle"
+        f"{found.ended}: hull certify says that the prices' dual value, {money(found.value)}, is within {money(found.distance)} of the "
+        f"greatest; payments {money(found.payments)}, {found.calls} calls of settle"
     )
 
 
@@ -75,7 +74,7 @@ def body(words, tell):
     from ..convex import Limits
 
     hull = Hull(given.hull, tell)
-    hull.need("settle")
+    hull.need("certify")
     hull.check(given.case, given.schedule)
     case = read_case(given.case)
     starts = [read_prices(given.start, case.periods)] if given.start else None

@@ -10,8 +10,7 @@ usage: study.py CASE FOLDER [--schedule S] [--within MONEY] [--seconds S] [--gap
   --hull PROGRAM   the program that prices, settles and certifies; the launcher of this repository if left out
 
 The lists are marginal prices with the schedule's commitments held, the duals of the linear relaxation, `hull price` as it comes, `hull
-price` with up to 1,000 proposals and one ahead, and convex hull prices with a certificate. The last is left out where the program has no
-`certify`. docs/STUDY.md says what they are. Needs SciPy.
+price` with up to 1,000 proposals and one ahead, and convex hull prices with a certificate. docs/STUDY.md says what they are. Needs SciPy.
 """
 import os
 from types import SimpleNamespace
@@ -55,7 +54,7 @@ def body(words, tell):
     from ..study_page import study_page
 
     hull = Hull(given.hull, tell)
-    hull.need("settle")
+    hull.need("certify")
     os.makedirs(given.folder, exist_ok=True)
     files = (given.case, schedule_of(given, tell))
     hull.check(*files)
