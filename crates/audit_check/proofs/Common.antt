@@ -36,10 +36,10 @@ pub use Rattle.report_read.specs.Faults.{IsLine, AreLines, line_feeds}
 pub use Rattle.report_read.specs.Plain.{Told, rank, same_kind, lines_of, told_of}
 unfoldable pub use Rattle.report_read.specs.Plain.{report_of}
 pub use Rattle.plain_lists.proofs.SignedLaws.{wider, fits_within}
-pub use Rattle.uc_model.specs.Data.{Schedule, Market, AnyUnit, Thermal, Flat, Bid, NamedThermalUnit, NamedRenewableUnit, NamedBidUnit, units, unit_count, thermal_names, renewable_names, bid_names}
+pub use Rattle.uc_model.specs.Data.{Schedule, Market, AnyUnit, Thermal, Flat, Bid, NamedThermalUnit, NamedRenewableUnit, NamedBidUnit, units, unit_count, unit_names, kind_of, thermal_names, renewable_names, bid_names}
 pub use Rattle.uc_model.specs.Earnings.{IsTop}
 pub use Rattle.uc_model.specs.Limits.{IsSum, IsWorth}
-pub use Rattle.uc_model.specs.PlainCases.{market_of, schedules_of, proposal_of}
+pub use Rattle.uc_model.specs.PlainCases.{market_of, unit_of, schedules_of, proposal_of}
 pub use Rattle.uc_model.specs.PlainUnits.{schedule_of, prices_of, named_thermal_of, named_renewable_of, named_bid_of}
 pub use Rattle.uc_model.specs.PriceRule.{Proposal, chosen_number}
 pub use Rattle.uc_model.specs.Runs.{IsRun, Fits, HasTotals}

@@ -1,5 +1,5 @@
 -- The title and the lines of the unit of a number.
-use Rattle.audit_check.proofs.Common.{◌≡◌, ℕ, zero, suc, ◌+◌, ◌<◌, ◌≤◌, Some, List, [], ◌∷◌, ◌++◌, map, drop, length, sym, ap, ◌∙◌, subst, refl, arith, length-append, slice_get, slice_index_or, AllZip, length-map, none-some, slice_get_read, NamedThermalUnit, NamedRenewableUnit, NamedBidUnit, Market, unit_count, thermal_names, renewable_names, bid_names, Kind, Title, titles_of, titles}
+use Rattle.audit_check.proofs.Common.{◌≡◌, ℕ, zero, suc, ◌+◌, ◌<◌, ◌≤◌, Some, List, [], ◌∷◌, ◌++◌, map, drop, length, sym, ap, ◌∙◌, subst, refl, arith, length-append, slice_get, slice_index_or, AllZip, length-map, none-some, slice_get_read, append_assoc, AnyUnit, Thermal, Flat, Bid, kind_of, units, unit_names, NamedThermalUnit, NamedRenewableUnit, NamedBidUnit, Market, unit_count, thermal_names, renewable_names, bid_names, Kind, Title, titles_of, titles}
 use Rattle.uc_model.specs.declared.kinds.Kind.TheVariants as kinds
 
 pub same_item : {X : Type 0} → (x y : X) → Some x ≡ Some y → x ≡ y
@@ -33,53 +33,56 @@ read_item f xs k x h e = map_item f xs k x (slice_get_read xs (length xs) k x re
 
 -- ---- titles
 
-front_item : {X : Type 0} → (xs ys : List X) (k : ℕ) (x : X) → slice_get xs k ≡ Some x → slice_get (xs ++ ys) k ≡ Some x
-front_item [] ys k x e = absurd (none-some x e)
-front_item (y ∷ xs) ys zero x e = e
-front_item (y ∷ xs) ys (suc k) x e = front_item xs ys k x e
-
-item_behind : {X : Type 0} → (xs ys : List X) (k : ℕ) (x : X) → slice_get ys k ≡ Some x → slice_get (xs ++ ys) (length xs + k) ≡ Some x
-item_behind [] ys k x e = let n : 0 + k ≡ k = omega arith in subst (λ (i : ℕ). slice_get ys i ≡ Some x) (sym n) e
-item_behind {X} (y ∷ xs) ys k x e =
-    let n : suc (length xs) + k ≡ suc (length xs + k) = omega arith in
-    subst (λ (i : ℕ). slice_get (y ∷ (xs ++ ys)) i ≡ Some x) (sym n) (item_behind xs ys k x e)
-
 abbrev pub title : Kind → List ℕ → Title
 title kind name = record { kind = kind; name = name }
-
-at_number : (m : Market) (k number : ℕ) (t : Title) → k ≡ number → slice_get (titles m) k ≡ Some t → slice_get (titles m) number ≡ Some t
-at_number m k number t same e = subst (λ (n : ℕ). slice_get (titles m) n ≡ Some t) same e
-
-pub thermal_title : (m : Market) (k : ℕ) (n : NamedThermalUnit) → slice_get m.thermal k ≡ Some n → slice_get (titles m) k ≡ Some (title kinds.Thermal n.name)
-thermal_title m k n e =
-    let named = map_item (λ (n : NamedThermalUnit). n.name) m.thermal k n e in
-    let at = map_item (title kinds.Thermal) (thermal_names m) k n.name named in
-    front_item (titles_of kinds.Thermal (thermal_names m)) _ k (title kinds.Thermal n.name) at
 
 titled_length : (kind : Kind) (names : List (List ℕ)) → length (titles_of kind names) ≡ length names
 titled_length kind names = length-map names (title kind)
 
-pub renewable_title : (m : Market) (k number : ℕ) (n : NamedRenewableUnit) → number ≡ length m.thermal + k → slice_get m.flat k ≡ Some n → slice_get (titles m) number ≡ Some (title kinds.Renewable n.name)
-renewable_title m k number n place e =
-    let named = map_item (λ (n : NamedRenewableUnit). n.name) m.flat k n e in
-    let at = map_item (title kinds.Renewable) (renewable_names m) k n.name named in
-    let ts = titles_of kinds.Thermal (thermal_names m) in
-    let long : length ts ≡ length m.thermal = titled_length kinds.Thermal (thermal_names m) ∙ length-map m.thermal (λ (n : NamedThermalUnit). n.name) in
-    let inner = front_item (titles_of kinds.Renewable (renewable_names m)) (titles_of kinds.Bid (bid_names m)) k (title kinds.Renewable n.name) at in
-    let whole = item_behind ts (titles_of kinds.Renewable (renewable_names m) ++ titles_of kinds.Bid (bid_names m)) k (title kinds.Renewable n.name) inner in
-    at_number m (length ts + k) number (title kinds.Renewable n.name) (omega (arith, long, place)) whole
+-- each unit has its kind and name
+abbrev pub AreTitled : List AnyUnit → List (List ℕ) → List Title → Type 0
+AreTitled us names ts = (k : ℕ) (u : AnyUnit) (called : List ℕ) → slice_get us k ≡ Some u →
+    slice_get names k ≡ Some called → slice_get ts k ≡ Some (title (kind_of u) called)
 
-pub bid_title : (m : Market) (k number : ℕ) (n : NamedBidUnit) → number ≡ (length m.thermal + length m.flat) + k → slice_get m.bids k ≡ Some n → slice_get (titles m) number ≡ Some (title kinds.Bid n.name)
-bid_title m k number n place e =
-    let named = map_item (λ (n : NamedBidUnit). n.name) m.bids k n e in
-    let at = map_item (title kinds.Bid) (bid_names m) k n.name named in
-    let ts = titles_of kinds.Thermal (thermal_names m) in
-    let fs = titles_of kinds.Renewable (renewable_names m) in
-    let long : length ts ≡ length m.thermal = titled_length kinds.Thermal (thermal_names m) ∙ length-map m.thermal (λ (n : NamedThermalUnit). n.name) in
-    let wide : length fs ≡ length m.flat = titled_length kinds.Renewable (renewable_names m) ∙ length-map m.flat (λ (n : NamedRenewableUnit). n.name) in
-    let inner = item_behind fs (titles_of kinds.Bid (bid_names m)) k (title kinds.Bid n.name) at in
-    let whole = item_behind ts (fs ++ titles_of kinds.Bid (bid_names m)) (length fs + k) (title kinds.Bid n.name) inner in
-    at_number m (length ts + (length fs + k)) number (title kinds.Bid n.name) (omega (arith, long, wide, place)) whole
+nothing_titled : AreTitled [] [] []
+nothing_titled k u called a b = absurd (none-some u a)
+
+-- units of one kind, alone and before others
+module _ {N : Type 0} (unit : N → AnyUnit) (name : N → List ℕ) (kind : Kind)
+    (same : (n : N) → kind_of (unit n) ≡ kind) where
+  one_titled : (n : N) (u : AnyUnit) (called : List ℕ) → Some (unit n) ≡ Some u → Some (name n) ≡ Some called →
+      Some (title kind (name n)) ≡ Some (title (kind_of u) called)
+  one_titled n u called a b =
+      let own = sym (same n) ∙ ap kind_of (same_item (unit n) u a) in
+      let named = same_item (name n) called b in
+      λ i. Some (title (own i) (named i))
+
+  kind_titled : (ns : List N) → AreTitled (map unit ns) (map name ns) (titles_of kind (map name ns))
+  kind_titled [] k u called a b = nothing_titled k u called a b
+  kind_titled (n ∷ ns) zero u called a b = one_titled n u called a b
+  kind_titled (n ∷ ns) (suc k) u called a b = kind_titled ns k u called a b
+
+  before_titled : (ns : List N) (us : List AnyUnit) (names : List (List ℕ)) (ts : List Title) → AreTitled us names ts →
+      AreTitled (map unit ns ++ us) (map name ns ++ names) (titles_of kind (map name ns) ++ ts)
+  before_titled [] us names ts rest k u called a b = rest k u called a b
+  before_titled (n ∷ ns) us names ts rest zero u called a b = one_titled n u called a b
+  before_titled (n ∷ ns) us names ts rest (suc k) u called a b = before_titled ns us names ts rest k u called a b
+
+pub titled : (m : Market) → AreTitled (units m) (unit_names m) (titles m)
+titled m k u called a b =
+    let ts = map (λ (n : NamedThermalUnit). Thermal n.unit) m.thermal in
+    let fs = map (λ (n : NamedRenewableUnit). Flat n.unit) m.flat in
+    let bs = map (λ (n : NamedBidUnit). Bid n.unit) m.bids in
+    let bids = kind_titled (λ (n : NamedBidUnit). Bid n.unit) (λ (n : NamedBidUnit). n.name) kinds.Bid (λ n. refl)
+    m.bids in
+    let others = before_titled (λ (n : NamedRenewableUnit). Flat n.unit) (λ (n : NamedRenewableUnit). n.name)
+    kinds.Renewable (λ n. refl) m.flat bs (bid_names m) (titles_of kinds.Bid (bid_names m)) bids in
+    before_titled (λ (n : NamedThermalUnit). Thermal n.unit) (λ (n : NamedThermalUnit). n.name) kinds.Thermal
+    (λ n. refl) m.thermal (fs ++ bs) (renewable_names m ++ bid_names m)
+    (titles_of kinds.Renewable (renewable_names m) ++ titles_of kinds.Bid (bid_names m)) others k u called
+    (ap (λ (xs : List AnyUnit). slice_get xs k) (sym (append_assoc ts fs bs)) ∙ a)
+    (ap (λ (xs : List (List ℕ)). slice_get xs k)
+    (sym (append_assoc (thermal_names m) (renewable_names m) (bid_names m))) ∙ b)
 
 pub titles_length : (m : Market) → length (titles m) ≡ unit_count m
 titles_length m =

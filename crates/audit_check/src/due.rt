@@ -1,5 +1,5 @@
 //! What is due to a unit or bid in a right report.
-ghost use Rattle.std.specs.Prelude.{◌≡◌, ◌+◌, ◌<◌, ◌≤◌, Some, length, slice_get};
+ghost use Rattle.std.specs.Prelude.{◌≡◌, ◌<◌, Some, slice_get};
 ghost use Rattle.uc_model.specs.Data.{unit_count};
 ghost use Rattle.uc_model.specs.PlainCases.{market_of};
 ghost use Rattle.audit_check.specs.RightLines.{titles};
@@ -20,22 +20,9 @@ pub fn title_at(case: &Case, number: usize) -> Title<'_>
     ensures { slice_get (titles (market_of case.now)) number
         ≡ Some (record { kind = result.kind; name = result.name.now }) }
 {
-    let thermal = case.thermal.len();
-    let producers = case.producer_count();
-    if number < thermal {
-        return Title {
-            kind: Kind::Thermal,
-            name: case.thermal.get(number).name.as_str(),
-        };
-    }
-    if number < producers {
-        return Title {
-            kind: Kind::Renewable,
-            name: case.flat.get(number - thermal).name.as_str(),
-        };
-    }
+    let named = case.unit_at(number);
     Title {
-        kind: Kind::Bid,
-        name: case.bids.get(number - producers).name.as_str(),
+        kind: named.unit.kind(),
+        name: named.name,
     }
 }

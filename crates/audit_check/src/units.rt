@@ -8,6 +8,7 @@ ghost use Rattle.uc_model.specs.PlainUnits.{prices_of, schedule_of};
 ghost use Rattle.uc_model.specs.Runs.{Fits};
 ghost use Rattle.plain_lists.specs.Sums.{int_at};
 ghost use Rattle.case_answers.specs.Tops.{HasSchedules, IsBenchOver};
+ghost use Rattle.report_form.specs.ReportText.{owed_line};
 ghost use Rattle.report_read.specs.Plain.{told_of};
 ghost use Rattle.audit_check.specs.Compared.{Compares};
 ghost use Rattle.audit_check.specs.ReportLines.{response_lines, unit_lines, told_lines};
@@ -77,13 +78,8 @@ fn unit_same(
 ) -> Result<u32, WrongLine>
     requires { first + 4 < 2 ^ 32 }
     ensures lines { Compares first result (told_lines (told_of mine.now))
-        (unit_lines title.now.kind (record {
-          name = title.now.name.now;
-          earned = owed.now.earned;
-          scheduled = owed.now.scheduled;
-          payment = owed.now.payment;
-          response = schedule_of right.now;
-        })) }
+        (unit_lines title.now.kind
+        (owed_line title.now.name.now owed.now (schedule_of right.now))) }
     ensures few { IfOk result (λ next. next ≤ first + 4) }
 {
     if !same_title(mine, title) || !same_money(mine, owed) {
