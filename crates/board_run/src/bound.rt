@@ -50,8 +50,8 @@ fn certify(closed: &Closed, radius: i64, work: &mut Amounts) -> Certified
 }
 
 /// The run on these terms to its end, and the best bound round its chosen prices. All memory for
-/// both is taken before the run, the room for the bound first. `AllocError` is want of it; the terms
-/// are then dropped.
+/// both is taken before the run, the room for the bound first. `AllocError` is want of it; the
+/// terms are then dropped.
 pub fn bounded_run<R: Threads + Wait + Sync, G: Gate>(
     rt: &R,
     alloc: Global,

@@ -27,7 +27,8 @@ use uc_model::cases::Case;
 use uc_model::units::Prices;
 use uplift_settle::settle;
 
-/// A case with what its schedule costs, and a side for each run. Both sides settle the case as given.
+/// A case with what its schedule costs, and a side for each run. Both sides settle the case as
+/// given.
 #[derive(Drop)]
 pub struct Sides {
     /// The case as given.
