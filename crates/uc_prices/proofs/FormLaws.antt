@@ -88,7 +88,7 @@ reserve_is periods None xs e =
     let same : replicate periods (pos 0) ≡ xs = cc in
     let count = length-replicate periods (pos 0) in (
       subst (All (IsPriceOf Reserve)) same
-      (All-from_get_or (IsPriceOf Reserve) (replicate periods (pos 0)) (pos 0) (λ k lt. subst (IsPriceOf Reserve) (sym (get_or-replicate periods k (pos 0) (pos 0) (omega (arith, lt, count)))) nothing)),
+          (All-from_get_or (IsPriceOf Reserve) (replicate periods (pos 0)) (pos 0) (λ k lt. subst (IsPriceOf Reserve) (sym (get_or-replicate periods k (pos 0) (pos 0) (omega (arith, lt, count)))) nothing)),
       sym (ap (length {A = ℤ}) same) ∙ count,
     )
 reserve_is periods (Some v) xs e = list_is periods Reserve v xs e

@@ -44,16 +44,16 @@ IsItemFault field v _ = ⊥
 -- ---- a list
 
 -- this stands at the index
-abbrev pub StandsAt : {A : Type 0} → List A → ℕ → A → Type 0
-StandsAt xs k x = slice_get xs k ≡ Some x
+abbrev pub IsItemAt : {A : Type 0} → List A → ℕ → A → Type 0
+IsItemAt xs k x = slice_get xs k ≡ Some x
 
 -- the value is a list of a price for each period
-pub record ArePrices (periods : ℕ) (field : PriceField) (v : Value) (xs : List ℤ) : Type 0 where
+pub record IsPriceList (periods : ℕ) (field : PriceField) (v : Value) (xs : List ℤ) : Type 0 where
   pub items : List Value
   pub is_list : list_in v ≡ Some items
   pub long : length items ≡ periods
   pub as_many : length xs ≡ periods
-  pub prices : (k : ℕ) (item : Value) (x : ℤ) → StandsAt items k item → StandsAt xs k x →
+  pub prices : (k : ℕ) (item : Value) (x : ℤ) → IsItemAt items k item → IsItemAt xs k x →
       IsItem field item x
 
 -- the list as a whole, item 0: it is none, or not of that length
@@ -69,10 +69,10 @@ pub record IsFirstItemFault (periods : ℕ) (field : PriceField) (v : Value) (co
   pub items : List Value
   pub is_list : list_in v ≡ Some items
   pub long : length items ≡ periods
-  pub before : (i : ℕ) (item : Value) → i < k → StandsAt items i item →
+  pub before : (i : ℕ) (item : Value) → i < k → IsItemAt items i item →
       (x : ℤ) × IsItem field item x
   pub item : Value
-  pub stands : StandsAt items k item
+  pub stands : IsItemAt items k item
   pub fault : IsItemFault field item code
 
 -- items are numbered from 1
@@ -84,11 +84,11 @@ IsListFault periods field v code (suc k) = IsFirstItemFault periods field v code
 
 abbrev pub AreEnergyPrices : ℕ → Option Value → List ℤ → Type 0
 AreEnergyPrices periods None xs = ⊥
-AreEnergyPrices periods (Some v) xs = ArePrices periods Energy v xs
+AreEnergyPrices periods (Some v) xs = IsPriceList periods Energy v xs
 
 abbrev pub AreReservePrices : ℕ → Option Value → List ℤ → Type 0
 AreReservePrices periods None xs = xs ≡ replicate periods (pos 0)
-AreReservePrices periods (Some v) xs = ArePrices periods Reserve v xs
+AreReservePrices periods (Some v) xs = IsPriceList periods Reserve v xs
 
 abbrev pub IsEnergyFault : ℕ → Option Value → PriceCode → ℕ → Type 0
 IsEnergyFault periods None code item = (code ≡ Missing) × (item ≡ 0)
