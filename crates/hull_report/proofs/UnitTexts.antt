@@ -1,5 +1,10 @@
 -- The texts of all units and bids: number by number, as they are written, and kind by kind.
-use Rattle.hull_report.proofs.Common.{◌≡◌, ℕ, zero, suc, ◌+◌, ◌<◌, ◌≤◌, Some, List, [], ◌∷◌, ◌++◌, map, length, get_or, slice_get, refl, sym, ap, ◌∙◌, subst, arith, length-map, length-append, flat_map, NamedThermalUnit, NamedRenewableUnit, NamedBidUnit, AnyUnit, Thermal, Flat, Bid, Market, units, unit_count, unit_names, thermal_names, renewable_names, bid_names, lines_from, UnitLine, unit_text, thermal_text, renewable_text, bid_text, market_of, named_thermal_of, named_renewable_of, named_bid_of}
+use Rattle.hull_report.proofs.Common.{◌≡◌, ℕ, zero, suc, ◌+◌, ◌<◌, ◌≤◌, Some, List, [], ◌∷◌, ◌++◌, map, length, get_or}
+use Rattle.hull_report.proofs.Common.{slice_get, refl, sym, ap, ◌∙◌, subst, arith, length-map, length-append, flat_map}
+use Rattle.hull_report.proofs.Common.{NamedThermalUnit, NamedRenewableUnit, NamedBidUnit, AnyUnit, Thermal, Flat, Bid}
+use Rattle.hull_report.proofs.Common.{Market, units, unit_count, unit_names, thermal_names, renewable_names, bid_names}
+use Rattle.hull_report.proofs.Common.{lines_from, UnitLine, unit_text, thermal_text, renewable_text, bid_text}
+use Rattle.hull_report.proofs.Common.{market_of, named_thermal_of, named_renewable_of, named_bid_of}
 use Rattle.std.proofs.lemmas.List.Concat.{flat_map-append}
 use Rattle.plain_lists.proofs.ListLaws.{none_some, same_item}
 use Rattle.uc_model.specs.declared.cases.Case.{Case}

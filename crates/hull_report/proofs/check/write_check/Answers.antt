@@ -1,4 +1,5 @@
-use Rattle.hull_report.proofs.Common.{rules, w128, to_z-of_z, length-map, named_thermal_of, named_renewable_of, named_bid_of}
+use Rattle.hull_report.proofs.Common.{rules, w128, to_z-of_z, length-map, named_thermal_of, named_renewable_of}
+use Rattle.hull_report.proofs.Common.{named_bid_of}
 use Rattle.hull_report.specs.CheckText.{check_text}
 use Rattle.hull_report.proofs.check.write_check.Goals as goal
 

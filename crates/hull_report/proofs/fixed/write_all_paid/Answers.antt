@@ -1,5 +1,7 @@
-use Rattle.hull_report.proofs.Common.{arith, refl, codes, List, ℕ, AnyUnit, market_of, told_of, paid_text, paid_start, paid_line, PaidLine, unit_of}
-use Rattle.hull_report.proofs.Lemmas.{all_texts, text_at, no_more_texts, told_by_kind, all_items, writes_same, gains_at_item, exit_at_item}
+use Rattle.hull_report.proofs.Common.{arith, refl, codes, List, ℕ, AnyUnit, market_of, told_of, paid_text, paid_start}
+use Rattle.hull_report.proofs.Common.{paid_line, PaidLine, unit_of}
+use Rattle.hull_report.proofs.Lemmas.{all_texts, text_at, no_more_texts, told_by_kind, all_items, writes_same}
+use Rattle.hull_report.proofs.Lemmas.{gains_at_item, exit_at_item}
 use Rattle.hull_report.proofs.fixed.write_all_paid.Goals as goal
 
 abbrev text : AnyUnit → PaidLine → List ℕ

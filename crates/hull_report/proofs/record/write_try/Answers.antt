@@ -18,6 +18,7 @@ returns g c =
       to_z-of_z w128 c.choice_of-choice.result.gap (search rules),
     ) at c.write_parts.ensures in
     subst (Writes g.S.Sink.held g.S.Sink.faults g.S.Sink.last c.args.out.now c.write_parts.new.out c.write_parts.result)
-    ((λ i. try_lines c.args.number (periods i) (thermal i) (flat i) (e.proposals i) (e.chosen i) (e.value i) (c.cost-cost.ensures.cost i) c.args.settlement.now.total c.args.settlement.now.surplus (e.gap i))
+    ((λ i. try_lines c.args.number (periods i) (thermal i) (flat i) (e.proposals i) (e.chosen i) (e.value i)
+    (c.cost-cost.ensures.cost i) c.args.settlement.now.total c.args.settlement.now.surplus (e.gap i))
     ∙ whole_try c.args.number c.args.closed.now c.args.settlement.now)
     text

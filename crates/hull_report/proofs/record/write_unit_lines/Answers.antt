@@ -1,5 +1,6 @@
 use Rattle.hull_report.proofs.Common.{arith, ap, unit_count, UnitLine, unit_text, unit_of, line_of}
-use Rattle.hull_report.proofs.Lemmas.{all_texts, text_at, no_more_texts, units_told, all_items, writes_same, gains_at_item, exit_at_item}
+use Rattle.hull_report.proofs.Lemmas.{all_texts, text_at, no_more_texts, units_told, all_items, writes_same}
+use Rattle.hull_report.proofs.Lemmas.{gains_at_item, exit_at_item}
 use Rattle.hull_report.proofs.record.write_unit_lines.Goals as goal
 
 pub returns-in_err-write_unit-clause-text : goal.returns-in_err-write_unit-clause-text

@@ -1,5 +1,7 @@
-use Rattle.hull_report.proofs.Common.{arith, ap, refl, market_of, UnitLine, unit_text, unit_of, settled_of, settled_line}
-use Rattle.hull_report.proofs.Lemmas.{all_texts, text_at, no_more_texts, units_told, all_items, writes_same, gains_at_item, exit_at_item}
+use Rattle.hull_report.proofs.Common.{arith, ap, refl, market_of, UnitLine, unit_text, unit_of, settled_of}
+use Rattle.hull_report.proofs.Common.{settled_line}
+use Rattle.hull_report.proofs.Lemmas.{all_texts, text_at, no_more_texts, units_told, all_items, writes_same}
+use Rattle.hull_report.proofs.Lemmas.{gains_at_item, exit_at_item}
 use Rattle.hull_report.proofs.settled.write_all_settled.Goals as goal
 
 pub returns-in_err-write_unit : goal.returns-in_err-write_unit
