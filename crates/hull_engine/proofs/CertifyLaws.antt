@@ -1,5 +1,5 @@
 -- The steps of a certificate, one after another.
-use Rattle.hull_engine.proofs.Common.{◌≡◌, ℤ, inl, inr, Ok, Err, refl, subst, ap, ◌∙◌, unsigned_abs, market_of, schedules_of, PricesFile, MixtureFile, TopFault, IsFaultOf, Then, Reads, IsInput, IsPricesFile, IsPriced, IsMixtureFile, IsCertifiable, planned_of, PlannedCase, IsCommandAnswer, IsCertifiedAt, command_for, certify, certify_asked, MixtureLists, mixture_bound}
+use Rattle.hull_engine.proofs.Common.{◌≡◌, inl, inr, Ok, Err, refl, subst, ap, ◌∙◌, unsigned_abs, market_of, schedules_of, PricesFile, MixtureFile, TopFault, IsFaultOf, Then, Reads, IsInput, IsPricesFile, IsPriced, IsMixtureFile, IsCertifiable, planned_of, PlannedCase, IsCommandAnswer, IsCertifiedAt, command_for, certify, certify_asked, MixtureLists, mixture_bound}
 use Rattle.uc_model.specs.Data.{PriceLists}
 use Rattle.hull_words.specs.declared.command.CertifyWords.{CertifyWords}
 use Rattle.hull_report.specs.CertifiedText.{certificate_of}
@@ -20,26 +20,22 @@ module _ (reads : Reads) (c : PlannedCase) (π : PriceLists) (input : IsInput re
   mixture_refused f (inl due) = inl (Ok c, input, (Ok c, (Ok π, file, refl), (Err f, due, refl)))
   mixture_refused f (inr memory) = inr memory
 
-module _ (input : Input) (x : CertifiedInput) (same : x.settled.input ≡ input) (π : PriceLists) (mixture : MixtureLists) (radius : ℤ) (certified : IsCertifiedAt π mixture radius x) where
-  bound_is : x.within.bound ≡ mixture_bound (market_of input.case) mixture π radius
-  bound_is = certified.bound_is ∙ ap (λ (y : Input). mixture_bound (market_of y.case) mixture π radius) same
+module _ (words : CertifyWords) (input : Input) (x : CertifiedInput) (same : x.settled.input ≡ input) (π : PriceLists) (mixture : MixtureLists) (certified : IsCertifiedAt π mixture words.radius x) where
+  bound_is : x.within.bound ≡ mixture_bound (market_of input.case) mixture π words.radius
+  bound_is = certified.bound_is ∙ ap (λ (y : Input). mixture_bound (market_of y.case) mixture π words.radius) same
 
-  pub answers_certify : (words : CertifyWords) (reads : Reads) → words.radius ≡ radius → IsInput reads (Ok (planned_of input)) → IsPricesFile (market_of input.case).periods (reads PricesFile) (Ok π)
-      → IsMixtureFile (market_of input.case) (reads MixtureFile) (Ok mixture) → IsCommandAnswer (command_for (Ok (certify (certify_asked words)))) reads (Ok (Certify x))
-  answers_certify words reads at is prices file =
-      let radius_is : x.within.radius ≡ words.radius = certified.radius_is ∙ (λ i. at (~ i)) in
-      let told = λ (r : ℤ). certificate_text (certificate_of (market_of input.case) input.cost (settled_of x.settled.settled) (unsigned_abs r) (mixture_bound (market_of input.case) mixture π r)) in (
-        planned_of input,
-        (Ok (planned_of input), is, (Ok (planned_of input), (Ok π, prices, refl), (Ok mixture, file, refl))),
-        λ text printed. (
-          π,
-          prices,
-          mixture,
-          file,
-          settled_of x.settled.settled,
-          subst (λ (y : Input). IsSettledAt (market_of y.case) (schedules_of y.plan) π (settled_of x.settled.settled)) same certified.settled,
-          printed
-              ∙ (λ i. certificate_text (certificate_of (market_of (same i).case) (same i).cost (settled_of x.settled.settled) (unsigned_abs (certified.radius_is i)) (bound_is i)))
-              ∙ ap told (λ i. at (~ i)),
-        ),
-      )
+  pub answers_certify : (reads : Reads) → IsInput reads (Ok (planned_of input)) → IsPricesFile (market_of input.case).periods (reads PricesFile) (Ok π) → IsMixtureFile (market_of input.case) (reads MixtureFile) (Ok mixture)
+      → IsCommandAnswer (command_for (Ok (certify (certify_asked words)))) reads (Ok (Certify x))
+  answers_certify reads is prices file = (
+    planned_of input,
+    (Ok (planned_of input), is, (Ok (planned_of input), (Ok π, prices, refl), (Ok mixture, file, refl))),
+    λ text printed. (
+      π,
+      prices,
+      mixture,
+      file,
+      settled_of x.settled.settled,
+      subst (λ (y : Input). IsSettledAt (market_of y.case) (schedules_of y.plan) π (settled_of x.settled.settled)) same certified.settled,
+      printed ∙ (λ i. certificate_text (certificate_of (market_of (same i).case) (same i).cost (settled_of x.settled.settled) (unsigned_abs (certified.radius_is i)) (bound_is i))),
+    ),
+  )
