@@ -1,11 +1,10 @@
 -- What is promised of a certificate of given prices.
-use Rattle.law_outcome.proofs.Common.{◌≡◌, ℕ, ℤ, pos, ◌⊎◌, inl, inr, List, Option, Some, Result, Ok, Err, refl, sym, ap, ◌∙◌, subst, arith, slice_get, unsigned_abs, ◌≤ℤ◌, PriceLists, Market, Asked, CertifyAsked, certify, WordFault, status_of, fault_line, CaseFile, ScheduleFile, PricesFile, MixtureFile, TopFault, TooBig, End, Done, Cut, Refused, Reads, bytes_of, Then, IsInput, IsPricesFile, IsPriced, IsMixtureFile, PlannedCase, command_for, IsReadOf, AreReads, with_mixture, HasText, Ends, status_at, OverReads, HasNoPrices, IsCertifyPromised, HasNoMixture, WordsHaveSizes, words_of, BytesAreThoseRead, SettlementsAddUp, mixture_fault, MixtureLists, IsMixture}
+use Rattle.law_outcome.proofs.Common.{◌≡◌, ℕ, ℤ, pos, ◌⊎◌, inl, inr, List, Option, Some, Result, Ok, Err, refl, sym, ap, ◌∙◌, subst, arith, slice_get, unsigned_abs, ◌≤ℤ◌, PriceLists, Market, Asked, CertifyAsked, certify, WordFault, status_of, fault_line, CaseFile, ScheduleFile, PricesFile, MixtureFile, TopFault, End, Done, Cut, Refused, Reads, bytes_of, Then, IsInput, IsPriced, IsMixtureFile, PlannedCase, command_for, IsReadOf, AreReads, with_mixture, HasText, Ends, status_at, OverReads, HasNoPrices, IsCertifyPromised, HasNoMixture, WordsHaveSizes, words_of, BytesAreThoseRead, SettlementsAddUp, mixture_fault, MixtureLists, IsMixture}
 use Rattle.gap_proof.specs.Laws.{ArePriced}
 use Rattle.uc_case.specs.Files.{text, value}
 use Rattle.uc_case.specs.Laws.{CasesAreWithin}
 use Rattle.uc_mixture.specs.Laws.{OneMixture}
 use Rattle.uc_mixture.specs.MixtureFiles.{IsMixtureFileOf}
-use Rattle.uc_model.specs.Limits.{IsMarket}
 use Rattle.uc_prices.specs.Laws.{OnePrices, HaveForm, PricesHaveForm}
 use Rattle.mixture_bound.specs.Laws.{MixtureBoundHolds, MixtureBoundReachesCentre, PaymentsReachLeast, MixturesBreakNoRule}
 use Rattle.mixture_bound.specs.MixtureBound.{mixture_bound}

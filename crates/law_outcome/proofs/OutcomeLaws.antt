@@ -1,5 +1,5 @@
 -- What follows from the outcome of a run.
-use Rattle.law_outcome.proofs.Common.{◌≡◌, ℕ, ◌*◌, ◌≤◌, ◌⊎◌, inl, inr, Bool, true, false, List, Option, None, Some, Result, Ok, Err, refl, sym, ap, ◌∙◌, subst, arith, ◌-◌, ◌<◌, ℤ, pos, ◌≤ℤ◌, All, length-map, get_or-map, IsTrue, IfSome, IsSome, if◌then◌else◌, nat_lt, Market, Schedule, unit_count, IsFeasiblePlan, plan_cost, int_at, NothingIsPaidBack, RunPricesAreWithin, UnitLine, Report, unit_lines, IsRightReport, words_of, WordsHaveSizes, MOST_BYTES, Asked, CheckAsked, PriceAsked, AuditAsked, SettleAsked, CertifyAsked, price, check, try, bound, fixed, audit, settle, certify, WordFault, PricesFile, MixtureFile, PricesText, PricesValue, MixtureText, MixtureShare, MixtureRule, IsPricesFile, IsPriced, IsMixtureFile, HasMixture, IsCertifiable, AskForPrices, status_of, fault_line, ReportPaymentsMakeUpTheGap, CaseFile, ScheduleFile, ReportFile, TopFault, Words, Read, CaseText, CaseField, PlanText, PlanShape, PlanRule, TooBig, Work, Memory, report_fault, End, Done, Cut, Refused, Reads, bytes_of, IsCase, IsCaseFile, IsPlan, IsPlanFile, IsChecked, IsInput, IsWithinWork, IsReportFile, IsAudit, PlannedCase, command_for, case_and_schedule, IsReadOf, AreReads, HasText, Ends, status_at, is_refusal, IsWritten, IsUnread, HasCause, IsQuiet, IsDecided, word_fault, FollowsFromWords, IsPromised, BytesAreThoseRead}
+use Rattle.law_outcome.proofs.Common.{◌≡◌, ℕ, ◌*◌, ◌≤◌, ◌⊎◌, inl, inr, Bool, true, false, List, Option, None, Some, Result, Ok, Err, refl, sym, ap, ◌∙◌, subst, arith, ◌-◌, ◌<◌, ℤ, pos, ◌≤ℤ◌, All, length-map, get_or-map, IsTrue, IfSome, IsSome, if◌then◌else◌, nat_lt, Market, Schedule, unit_count, IsFeasiblePlan, plan_cost, int_at, NothingIsPaidBack, RunPricesAreWithin, UnitLine, Report, unit_lines, IsRightReport, words_of, WordsHaveSizes, MOST_BYTES, Asked, CheckAsked, PriceAsked, AuditAsked, SettleAsked, CertifyAsked, price, check, try, bound, fixed, audit, settle, certify, WordFault, PricesFile, MixtureFile, PricesText, PricesValue, MixtureText, MixtureShare, MixtureRule, IsPricesFile, IsPriced, IsMixtureFile, IsCertifiable, AskForPrices, status_of, fault_line, ReportPaymentsMakeUpTheGap, CaseFile, ScheduleFile, ReportFile, TopFault, Words, Read, CaseText, CaseField, PlanText, PlanShape, PlanRule, TooBig, Work, Memory, report_fault, End, Done, Cut, Refused, Reads, bytes_of, IsCase, IsCaseFile, IsPlan, IsPlanFile, IsChecked, IsInput, IsWithinWork, IsReportFile, IsAudit, PlannedCase, command_for, case_and_schedule, IsReadOf, AreReads, HasText, Ends, status_at, is_refusal, IsWritten, IsUnread, HasCause, IsQuiet, IsDecided, word_fault, FollowsFromWords, IsPromised, BytesAreThoseRead}
 use Rattle.uc_case.specs.Files.{text, value}
 use Rattle.uc_case.specs.CaseFiles.{IsCaseOf}
 use Rattle.uc_plan.specs.PlanFiles.{IsPlanOf}

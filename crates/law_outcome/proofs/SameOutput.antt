@@ -1,5 +1,5 @@
 -- Two runs of the same words over the same bytes print the same.
-use Rattle.law_outcome.proofs.Common.{◌≡◌, ℕ, inl, inr, List, Option, None, Some, Result, Ok, Err, refl, sym, ap, ◌∙◌, subst, arith, IfSome, Asked, check, price, try, bound, fixed, audit, settle, certify, status_of, fault_line, CaseFile, ScheduleFile, ReportFile, PricesFile, MixtureFile, TopFault, End, Done, Cut, Refused, Reads, Then, IsCaseFile, IsPlanFile, IsChecked, IsInput, IsWithinWork, IsReportFile, IsJudged, IsPricesFile, IsPriced, IsMixtureFile, HasMixture, MixtureLists, IsAuditText, IsSettlementText, IsCertificateText, Report, PriceLists, PlannedCase, command_for, IsReadOf, AreReads, HasText, Ends, status_at, with_workers, TellTheSame, BytesAreThoseRead, ReportBytesAreItsText, report_text}
+use Rattle.law_outcome.proofs.Common.{◌≡◌, ℕ, inl, inr, List, Option, None, Some, Result, Ok, Err, refl, sym, ap, ◌∙◌, subst, arith, IfSome, Asked, check, price, try, bound, fixed, audit, settle, certify, status_of, fault_line, CaseFile, ScheduleFile, ReportFile, PricesFile, MixtureFile, TopFault, End, Done, Cut, Refused, Reads, Then, IsCaseFile, IsPlanFile, IsChecked, IsInput, IsWithinWork, IsReportFile, IsJudged, IsPricesFile, IsMixtureFile, MixtureLists, IsAuditText, IsSettlementText, IsCertificateText, Report, PriceLists, PlannedCase, command_for, IsReadOf, AreReads, HasText, Ends, status_at, with_workers, TellTheSame, BytesAreThoseRead, ReportBytesAreItsText, report_text}
 use Rattle.hull_report.specs.declared.fault.FileKind.{FileKind}
 use Rattle.law_outcome.proofs.OutcomeLaws.{status_within, same_fault, InputParts, input_parts}
 use Rattle.law_outcome.proofs.SettlePromise.{prices_parts}

@@ -1,5 +1,5 @@
 -- What is promised of a settlement at given prices.
-use Rattle.law_outcome.proofs.Common.{◌≡◌, ℕ, ℤ, ◌<◌, ◌⊎◌, inl, inr, Bool, true, false, List, Option, None, Some, Result, Ok, Err, refl, sym, ap, ◌∙◌, subst, arith, length, nat_lt, if◌then◌else◌, ltb-true, MOST_BYTES, PriceLists, Asked, SettleAsked, settle, WordFault, status_of, fault_line, CaseFile, ScheduleFile, PricesFile, TopFault, TooBig, End, Done, Cut, Refused, Reads, bytes_of, IsInput, IsPricesFile, IsPriced, Then, Market, PlannedCase, command_for, IsReadOf, AreReads, with_prices, HasText, Ends, status_at, OverReads, IsSettlePromised, HasNoPrices, Command, All, pos, BytesAreThoseRead, SettlementsAddUp, prices_fault}
+use Rattle.law_outcome.proofs.Common.{◌≡◌, ℕ, ℤ, ◌<◌, ◌⊎◌, inl, inr, Bool, true, false, List, Option, None, Some, Result, Ok, Err, refl, sym, ap, ◌∙◌, subst, arith, length, nat_lt, if◌then◌else◌, ltb-true, MOST_BYTES, PriceLists, Asked, SettleAsked, settle, WordFault, status_of, fault_line, CaseFile, ScheduleFile, PricesFile, TopFault, TooBig, End, Done, Cut, Refused, Reads, bytes_of, IsInput, IsPricesFile, IsPriced, Then, Market, PlannedCase, command_for, IsReadOf, AreReads, with_prices, HasText, Ends, status_at, OverReads, IsSettlePromised, HasNoPrices, Command, pos, BytesAreThoseRead, SettlementsAddUp, prices_fault}
 use Rattle.uc_case.specs.Files.{text, value}
 use Rattle.uc_prices.specs.PricesFiles.{IsPricesOf}
 use Rattle.report_form.specs.SettlementText.{settlement_text}

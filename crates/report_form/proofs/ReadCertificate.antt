@@ -1,5 +1,5 @@
 -- A certificate, read back from its text line by line.
-use Rattle.report_form.proofs.Common.{◌≡◌, codes, refl, certificate_text, TextDeterminesCertificate}
+use Rattle.report_form.proofs.Common.{codes, refl, certificate_text, TextDeterminesCertificate}
 use Rattle.report_form.proofs.ReadBack.{after_count, after_amount}
 
 pub certificate_determined : TextDeterminesCertificate

@@ -1,5 +1,5 @@
 -- What the prices of a file keep.
-use Rattle.uc_prices.proofs.Common.{◌≡◌, ℕ, ◌+◌, ◌<◌, ℤ, pos, Bool, true, false, ◌&&◌, List, [], ◌∷◌, ◌++◌, length, Result, Ok, Err, Some, None, refl, sym, ap, ◌∙◌, subst, arith, All, All-nil, All-push, nat_lt, int_lt, unsigned_abs, PriceLists, of_value, most_price, position, each, item_at, IsPriceOf, PriceSite}
+use Rattle.uc_prices.proofs.Common.{◌≡◌, ℕ, ◌+◌, ℤ, pos, Bool, true, false, ◌&&◌, List, [], ◌∷◌, ◌++◌, length, Result, Ok, Err, Some, None, refl, sym, ap, ◌∙◌, subst, arith, All, All-nil, All-push, nat_lt, int_lt, unsigned_abs, PriceLists, of_value, most_price, position, each, item_at, IsPriceOf, PriceSite}
 use Rattle.uc_prices.specs.Tables.{is_reserve, price, prices, list, energy, reserve, prices_in}
 use Rattle.std.proofs.Common.{length-append, replicate}
 use Rattle.std.proofs.lemmas.List.{length-replicate, get_or-replicate}
