@@ -14,14 +14,16 @@
 -- `(x : T) × P` is read 'there is an x with P', `×` between two statements 'and', `⊎` 'or', `⊥`
 -- 'never'.
 --
--- The steps of the commands are in Steps; a case with its schedule is in Planned; the
--- text of a report in report_form's ReportText; the other texts, and what makes them right, in
--- hull_report: RightReport, CheckText, TryText, BoundText, FixedText and RightSide, AuditText,
--- SettledText, CertifiedText, FaultLines; a case with its schedule's commitments held in fixed_price's FixedCase; which reports
--- are read, and the first line in fault, in report_read's Bounds and Faults; the first line at
--- which a report differs from the right one in audit_check's Right; the bound round a row in
--- gap_proof's Candidates; a settlement at any prices in price_settle's Settled; the bound by a
--- mixture in mixture_bound's MixtureBound.
+-- The steps of the commands are in Steps; a case with its schedule is in Planned; what makes a
+-- report and a side of `fixed` right in right_report's RightReport and RightSide; the texts of a
+-- report, a settlement and a certificate in report_form's ReportText, SettlementText and
+-- CertificateText; the others in hull_report: CheckText, TryText, BoundText, FixedText, AuditText,
+-- FaultLines, and what `settle` and `certify` tell in SettledText and CertifiedText; a case with
+-- its schedule's commitments held in fixed_price's FixedCase; which reports are read, and the
+-- first line in fault, in report_read's Bounds and Faults; the first line at which a report
+-- differs from the right one in audit_check's Right; the bound round a row in gap_proof's
+-- Candidates; a settlement at any prices in price_settle's Settled; the bound by a mixture in
+-- mixture_bound's MixtureBound.
 use Rattle.std.specs.Prelude.{◌≡◌, ◌⊎◌, ℕ, ℤ, List, length, unsigned_abs, Option, None, Some}
 use Rattle.std.specs.Prelude.{Result, Ok, Err, IfSome}
 use Rattle.uc_model.specs.Data.{PriceLists}

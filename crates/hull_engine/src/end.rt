@@ -216,7 +216,7 @@ fn finish_price<R: Threads + Wait + Sync, S: Sink, G: Gate>(
 }
 
 /// Does what is left of a command with so many workers, and writes its text or the line of its
-/// fault. Takes memory where a run is opened, and none later.
+/// fault. An audit takes memory as it goes; each other run when it opens.
 pub fn end_ready<R: Threads + Wait + Sync, S: Sink, G: Gate>(
     rt: &R,
     alloc: Global,

@@ -36,10 +36,10 @@ use std::thread::Threads;
 pub use workers::useful_workers;
 
 /// Does all of a command that comes before a run: its words, its files and each refusal up to the
-/// opening of the run; of `hull check`, `hull settle`
-/// and `hull certify` that is all. It answers the status with
-/// which the command has ended, or else what is left to be run, with nothing written yet. It starts
-/// no thread and waits for none, so it is proved to return.
+/// opening of the run; of `hull check`, `hull settle` and `hull certify` that is all. It answers the
+/// status with which the command has ended, or else what is left to be run, with nothing written
+/// yet. It starts no thread and waits for none, so it is proved to return where each read of the
+/// shelf and each write of the sink does.
 pub fn hull_before_run<F: Shelf, S: Sink>(
     alloc: Global,
     words: &[String],

@@ -324,9 +324,10 @@ pub record IsSettlePromised (a : SettleAsked) (told : List ℕ → Option (List 
   pub adds_up : AddsUp market plan settlement
   pub printed : gained (settlement_text (settlement_of market (plan_cost market plan) settlement))
 
--- And where it, or `hull certify`, answers 9, over an accepted input: the line of a fault that is due was written, as
--- far as the sink took it. The prices file has more than 67,108,864 bytes; or the fault is the
--- first of the file. Unless its bytes are too many, it has no prices over the periods of the case.
+-- And where it, or `hull certify`, answers 9, over an accepted input: the line of a fault that is
+-- due was written, as far as the sink took it. The prices file has more than 67,108,864 bytes; or
+-- the fault is the first of the file. Unless its bytes are too many, it has no prices over the
+-- periods of the case.
 pub record HasNoPrices (c : Command) (gained short : List ℕ → Type 0) (reads : Reads)
     (i : PlannedCase) : Type 0 where
   pub fault : TopFault
@@ -416,8 +417,8 @@ pub record AreAlike (c d : Command) : Type 0 where
   pub text : (reads : Reads) (i : PlannedCase) (text : List ℕ) →
       c.IsText reads i text → d.IsText reads i text
 
--- The number of workers changes nothing that is due and nothing that is printed. So by OneDue and
--- OneText a status and its bytes follow from the other words and the files.
+-- The number of workers changes nothing that is due and nothing that may be printed. So by OneDue
+-- and OneText both follow from the other words and from what was read.
 abbrev pub WorkersAreFree : Type 0
 WorkersAreFree =
     (n : ℕ)
