@@ -124,7 +124,8 @@ holds_current() {
 }
 
 # Whether the gate, called by itself, has left the program, made of what is there, and given no words it says so. The gate makes the folder of
-# each crate's results anew before it reads the crate: so what was changed while it ran is newer than that folder. Notes what it finds.
+# each crate's results anew before it reads the crate: so what was changed while it ran is newer than that folder, and the program, which comes
+# last, is newer too. (A build that fails makes such folders as well.) Notes what it finds.
 is_of_the_gate() {
     local text name born parts
     text=$(what_is_there)
@@ -135,6 +136,7 @@ is_of_the_gate() {
         born=$(stat -c %.9W -- "$home/crates/$name/out" 2>/dev/null) && [ "${born%.*}" -gt 0 ] || return 1
         # shellcheck disable=SC2164
         [ -z "$(cd -- "$home/" && find -L "${parts[@]}" -newerct "@$born" -print -quit 2>&1)" ] || return 1
+        [ -n "$(find -L "$program" -newerct "@$born" -print 2>/dev/null)" ] || return 1
     done
     [ "$("$program" </dev/null 2>/dev/null)" = "fault 1 words 1 0" ] || return 1
     # (without a kit on the path it isn't known which one it was)

@@ -285,6 +285,15 @@ class Gate(Repository):
             self.assertEqual(self.hull("src")[:2], (0, b"two\n"))
             self.assertEqual(self.asked(), BUILT)
 
+    def test_a_program_that_is_older_than_the_folders_of_results(self):
+        self.gate_alone()
+        # (as by a build that fails, once the program was put there by other hands)
+        for name in ("low", "high"):
+            shutil.rmtree(f"{self.room}/crates/{name}/out")
+            os.makedirs(f"{self.room}/crates/{name}/out")
+        self.assertEqual(self.hull("src")[:2], (0, b"one\n"))
+        self.assertEqual(self.asked(), BUILT)
+
     def test_a_program_of_the_gate_alone_that_is_damaged(self):
         for damaged in (b"", b"\x7fELF\0", b"#!/bin/sh\necho otherwise\n"):
             self.gate_alone()
