@@ -46,7 +46,7 @@ class Owed:
 
     @property
     def make_whole(self):
-        """The part of the payment that brings a loss in the schedule up to 0."""
+        """The part of the payment that makes a loss in the schedule good: up to 0, or up to the least loss that the unit can have."""
         return min(self.payment, max(0, -self.scheduled))
 
     @property

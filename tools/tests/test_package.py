@@ -13,6 +13,7 @@ from hulltools.costs import envelope
 from hulltools.json_texts import Refused, parse
 from hulltools.mixtures import Entry, Mixture
 from hulltools.numbers import decimal_text, kilowatts, money
+from hulltools.outputs import Owed
 from hulltools.schedules import Plan
 
 
@@ -34,6 +35,17 @@ class Numbers(unittest.TestCase):
     def test_numbers_are_told_exactly(self):
         self.assertEqual([decimal_text(it, 3) for it in (98000, -5, 0, 1500)], ["98", "-0.005", "0", "1.5"])
         self.assertEqual([money(it) for it in (850_000_000, -66_000_000, 4_999, -4_999)], ["850.00", "-66.00", "0.00", "0.00"])
+
+
+class Parts(unittest.TestCase):
+    def test_the_parts_of_a_payment_are_those_of_the_page(self):
+        """The table of docs/REPORT.md, 'How a payment is parted'."""
+        with open(f"{ROOT}/docs/REPORT.md", encoding="utf-8") as page:
+            rows = [[int(it.replace(",", "")) for it in row.split("|")[1:6]] for row in page if re.fullmatch(r"(\| -?[\d,]+ ){5}\|\n", row)]
+        self.assertEqual(len(rows), 5)
+        for earned, scheduled, payment, *parts in rows:
+            owed = Owed("thermal", "G1", earned, scheduled, payment)
+            self.assertEqual((earned - scheduled, [owed.make_whole, owed.lost_opportunity]), (payment, parts))
 
 
 class Costs(unittest.TestCase):
