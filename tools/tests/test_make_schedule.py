@@ -175,3 +175,9 @@ class WithoutSciPy(unittest.TestCase):
         status, _, said = run("make_schedule.py", "a", "b", flags=("-S", "-E"))
         self.assertEqual(status, 1)
         self.assertTrue(said.startswith("make_schedule.py: this needs SciPy"), said)
+
+    def test_each_tool_tells_its_words_all_the_same(self):
+        for tool in ("make_schedule.py", "convex_prices.py", "lmp.py", "study.py"):
+            status, text, said = run(tool, "--help", flags=("-S", "-E"))
+            self.assertEqual((status, said), (0, ""))
+            self.assertTrue(text.startswith(f"usage: {tool} CASE"), text)

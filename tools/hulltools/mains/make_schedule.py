@@ -76,8 +76,8 @@ def make(given, tell):
 
 
 def body(words, tell):
-    need_scipy()
     given = arguments(words)
+    need_scipy()
     refuse_inputs(given.schedule, [it for it in (given.case, given.follow) if it])
     cost, reached = make(given, tell)
     tell(f"hull check accepts {given.schedule}: cost {money(cost)}; {reached}")
