@@ -109,6 +109,35 @@ class Readers(unittest.TestCase):
                 self.assertNotIn("\n", str(found.exception))
 
 
+class Replaced(unittest.TestCase):
+    """convex_prices.py writes two files, and neither over one that it reads nor over the other."""
+
+    def setUp(self):
+        folder = tempfile.TemporaryDirectory(prefix="hull-replaced-")
+        self.addCleanup(folder.cleanup)
+        self.room = folder.name
+        self.start = f"{self.room}/start.json"
+        with open(self.start, "w", encoding="utf-8") as it:
+            it.write('{"energy":[98]}')
+
+    def refused(self, prices, mixture):
+        words = [*files("usual"), prices, mixture, "--start", self.start, "--hull", PROGRAM]
+        status, text, said = run("convex_prices.py", *words)
+        self.assertEqual((status, text, said.count("\n"), os.listdir(self.room)), (1, "", 1, ["start.json"]))
+        return said.replace(f"{self.room}/", "").removeprefix("convex_prices.py: ")
+
+    def test_a_file_that_is_read_is_not_replaced(self):
+        for it in (*files("usual"), self.start):
+            for given in ((it, f"{self.room}/new"), (f"{self.room}/new", it)):
+                self.assertTrue(self.refused(*given).endswith("this is a file to read, and it would be replaced\n"))
+        with open(self.start, encoding="utf-8") as it:
+            self.assertEqual(it.read(), '{"energy":[98]}')
+
+    def test_prices_and_mixture_are_two_files(self):
+        for other in ("new", "./new", f"../{os.path.basename(self.room)}/new"):
+            self.assertTrue(self.refused(f"{self.room}/new", f"{self.room}/{other}").endswith("new: prices and mixture need a file each\n"))
+
+
 def files(example):
     return f"{EXAMPLES}/{example}/case.json", f"{EXAMPLES}/{example}/schedule.json"
 

@@ -2,7 +2,7 @@
 
 usage: convex_prices.py CASE SCHEDULE PRICES MIXTURE [--within MONEY] [--seconds S] [--start FILE] [--hull PROGRAM]
 
-  PRICES, MIXTURE  where the prices and the mixture are written
+  PRICES, MIXTURE  two files that are written: the prices and the mixture. What is there is replaced, but for a file that is read
   --within MONEY   end once the distance is at most that, in the currency; 0.02 % of the payments or 1.00, whichever is more, if left out
   --seconds S      end after so many seconds with the best so far; no limit if left out
   --start FILE     a prices file to begin with; the first proposals of `hull price` if left out
@@ -10,8 +10,10 @@ usage: convex_prices.py CASE SCHEDULE PRICES MIXTURE [--within MONEY] [--seconds
 
 An interrupt (Ctrl-C) ends the search with the best so far; a second one ends it at once. Progress is told on standard error, and in the
 end which of these it was. Nothing of this tool has to be trusted: `hull certify` says how near the prices are, whatever they are.
+One mixture serves for any prices of the case: `hull certify` with prices of your own and MIXTURE says how near those are.
 Needs SciPy.
 """
+import os
 import signal
 
 from ..cases import read_case
@@ -19,7 +21,7 @@ from ..linear import need_scipy
 from ..numbers import money
 from ..prices import read_prices
 from ..program import MOST_WORK, Hull
-from ..trouble import refuse_inputs, run_tool, write_whole
+from ..trouble import Wrong, refuse_inputs, run_tool, write_whole
 from .words import asker, positive
 
 
@@ -67,10 +69,12 @@ def told(found):
 
 def body(words, tell):
     given = arguments(words)
-    need_scipy()
     inputs = [it for it in (given.case, given.schedule, given.start) if it]
     for it in (given.prices, given.mixture):
         refuse_inputs(it, inputs)
+    if os.path.realpath(given.prices) == os.path.realpath(given.mixture):
+        raise Wrong(f"{given.mixture}: prices and mixture need a file each")
+    need_scipy()
     from ..convex import Limits
 
     hull = Hull(given.hull, tell)
