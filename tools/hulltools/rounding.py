@@ -6,6 +6,8 @@ from .linear import INFINITY, Program
 
 NEAR = (3, 30, 3000)  # how many kilowatts the whole numbers may be from the solver's: tried in this order
 
+SLACK = 1e-3  # by how many kilowatts, in sum, a nearest solution may be farther than the nearest: what the solver doesn't tell apart
+
 
 @dataclass
 class Whole:
@@ -17,13 +19,14 @@ class Whole:
 
 
 class Rounding:
-    """The search for whole numbers, by least cost, or by least distance from `wanted` where that is given.
+    """The search for whole numbers of least cost; where `wanted` is given, of those that are nearest to it.
 
     `wanted` and the solver's powers are in megawatts: lists over the periods by (kind, place of the unit).
     """
 
     def __init__(self, case, flags, found, near, wanted=None):
-        self.case, self.near, self.wanted, self.program = case, near, wanted, Program()
+        self.case, self.near, self.wanted, self.program = case, near, wanted or {}, Program()
+        self.distances = []  # columns, in kilowatts
         self.sums, self.totals = [[] for _ in range(case.periods)], [0] * case.periods
         self.spare = [[] for _ in range(case.periods)]
         self.powers = [self.unit_powers(i, unit, flags[i], found) for i, unit in enumerate(case.thermal)]
@@ -53,11 +56,10 @@ class Rounding:
         column = self.program.variable(max(low - at, -self.near), min(high - at, self.near), 0.0, True)
         self.sums[t].append((column, sign))
         self.totals[t] += sign * at
-        if self.wanted is None:
-            self.cost_lines(column, self.lines_of(key, at, t))
-        elif key in self.wanted:
+        self.cost_lines(column, self.lines_of(key, at, t))
+        if key in self.wanted:
             off = at - self.wanted[key][t] * 1e3
-            self.cost_lines(column, [(1.0, off), (-1.0, -off)])
+            self.distances.append(self.greatest(column, [(1.0, off), (-1.0, -off)], 0.0))
         return Whole(at, column, high)
 
     def lines_of(self, key, at, t):
@@ -83,9 +85,14 @@ class Rounding:
         if len(lines) == 1:
             self.program.cost[column] += lines[0][0]
         elif lines:
-            cost = self.program.variable(-INFINITY, INFINITY, 1.0)
-            for slope, at in lines:
-                self.program.row([(cost, 1), (column, -slope)], at, INFINITY)
+            self.greatest(column, lines, 1.0)
+
+    def greatest(self, column, lines, cost):
+        """A variable of this cost that is at least each of the lines at the column's value."""
+        found = self.program.variable(-INFINITY, INFINITY, cost)
+        for slope, at in lines:
+            self.program.row([(found, 1), (column, -slope)], at, INFINITY)
+        return found
 
     def unit_powers(self, place, unit, on, found):
         """A number for each on period of a unit, and None for the others."""
@@ -112,13 +119,25 @@ class Rounding:
             self.program.at_most([(reserve, 1), *rise], unit.ramp_up - above + was)
             self.spare[t].append((reserve, 1))
 
+    def hold_near(self):
+        """Bars what isn't nearest to the wanted powers; a nearest solution, or None where none was found."""
+        cost, near = self.program.cost, set(self.distances)
+        self.program.cost = [float(it in near) for it in range(len(cost))]
+        found = self.program.solve(time_limit=30.0, mip_rel_gap=1e-8)
+        self.program.cost = cost
+        if found.x is not None:
+            self.program.at_most([(it, 1) for it in near], found.fun + SLACK)
+        return found.x
+
     def solve(self, base):
         """The powers of thermal units, renewable units and bids, or None where none were found. `base` is what all costs by itself."""
         self.program.variable(1, 1, max(abs(base), 1.0))  # (so that a gap is a share of the whole cost)
-        solved = self.program.solve(time_limit=30.0, mip_rel_gap=1e-8)
-        if solved.x is None:
+        nearest = self.hold_near() if self.distances else None
+        solved = self.program.solve(time_limit=30.0, mip_rel_gap=1e-8).x
+        solved = nearest if solved is None else solved
+        if solved is None:
             return None
-        number = lambda it: it.at + int(round(solved.x[it.column])) if it else 0
+        number = lambda it: it.at + int(round(solved[it.column])) if it else 0
         return [
             [[number(it) for it in row] for row in rows] for rows in (self.powers, self.renewable, self.bids)
         ]

@@ -4,7 +4,7 @@ from dataclasses import dataclass, replace
 from .cases import POWER
 from .commitment import Commitment
 from .following import Followed
-from .rounding import reserves_of, whole_powers
+from .rounding import SLACK, reserves_of, whole_powers
 from .schedules import Plan, Schedule, flat_plan
 from .trouble import Wrong, one_line
 
@@ -151,25 +151,39 @@ def wanted_powers(case, followed: Followed):
 
 
 def add_distances(model, wanted):
-    """Makes the program's cost the distance from the wanted powers, in kilowatts, with what it costs as the last word."""
-    program, every = model.program, range(model.case.periods)
-    program.cost = [it * 1e-6 for it in program.cost]
+    """Adds variables whose sum is at least the distance from the wanted powers, in megawatts."""
+    program, every, added = model.program, range(model.case.periods), []
     parts = {("thermal", i): lambda t, it=it: [(it.on[t], it.unit.least / 1e3), (it.power[t], 1)] for i, it in enumerate(model.units)}
     parts.update({("renewable", i): lambda t, row=row: [(row[t], 1)] for i, row in enumerate(model.renewable)})
     parts.update({("bid", i): lambda t, row=row: [(it, 1) for it in row[t]] for i, row in enumerate(model.bids)})
     for key, powers in wanted.items():
         for t in every:
-            more, less = (program.variable(0, float("inf"), 1e3) for _ in range(2))
+            more, less = (program.variable(0, float("inf")) for _ in range(2))
             program.row([*parts[key](t), (more, -1), (less, 1)], powers[t], powers[t])
+            added += [more, less]
+    return added
+
+
+def nearest(model, wanted):
+    """The solution of least cost among those that are nearest to the wanted powers; None where there is none."""
+    program, distances = model.program, add_distances(model, wanted)
+    if distances:
+        cost, near = program.cost, set(distances)
+        program.cost = [float(it in near) for it in range(len(cost))]
+        solved = program.solve_linear()
+        if solved is None:
+            return None
+        program.cost = cost
+        program.at_most([(it, 1) for it in distances], solved.value + SLACK / 1e3)
+    return program.solve_linear()
 
 
 def follow(case, followed, name):
-    """A schedule with the commitments of one from elsewhere, in whole kilowatts, with powers as near as can be."""
+    """A schedule with the commitments of one from elsewhere, in whole kilowatts: of those with powers as near as can be, the cheapest."""
     flags = [[int(it > 0.5) for it in followed.on[unit.name]] for unit in case.thermal]
     model, wanted = Commitment(case), wanted_powers(case, followed)
     model.fix(flags)
-    add_distances(model, wanted)
-    solved = model.program.solve_linear()
+    solved = nearest(model, wanted)
     if solved is None:
         raise Wrong(f"{name}: its commitments can't be met in this case: hull check of a schedule with them says by which rule")
     lists = whole_powers(case, flags, powers_found(model, solved.x), solved.value, wanted)

@@ -114,6 +114,20 @@ class MakeSchedule(unittest.TestCase):
                 self.assertEqual(made["thermal"][name]["power"], unit["power"])
             self.assertEqual(made["bids"], schedule["bids"])
 
+    def test_what_is_not_followed_costs_as_little_as_can_be(self):
+        """Thermal units alone are followed; the rest then costs no more than in the example's schedule."""
+        for example in ("evening", "windows"):
+            case, followed = f"{EXAMPLES}/{example}/case.json", f"{self.room}/followed.csv"
+            with open(f"{EXAMPLES}/{example}/schedule.json", encoding="utf-8") as it:
+                schedule = json.load(it)
+            self.write_csv(followed, {"thermal": schedule["thermal"], "renewable": {}, "bids": {}})
+            status, _, said = self.make(case, "--follow", followed)
+            self.assertEqual(status, 0, said)
+            self.assertLessEqual(self.cost(case, f"{self.room}/schedule.json"), self.cost(case, f"{EXAMPLES}/{example}/schedule.json"))
+            with open(f"{self.room}/schedule.json", encoding="utf-8") as it:
+                made = json.load(it)["thermal"]
+            self.assertEqual({name: it["power"] for name, it in made.items()}, {name: it["power"] for name, it in schedule["thermal"].items()})
+
     @staticmethod
     def write_csv(name, schedule):
         """The schedule in megawatts, each power off by less than half a kilowatt."""

@@ -7,8 +7,8 @@ usage: make_schedule.py CASE SCHEDULE [--gap G] [--seconds S] [--follow FILE] [-
   --gap G         stop at a cost within this share of the solver's bound; 0.0001 if left out
   --seconds S     stop the search after so many seconds, and take what it has; 240 if left out
   --follow FILE   no search: the commitments of a schedule in megawatts from elsewhere, and whole kilowatts as near to its powers as
-                  can be: JSON as egret and UnitCommitment.jl write it, or as a schedule of hull in megawatts, or a csv with the columns
-                  unit, period, on, power and reserve
+                  can be; of these the cheapest, and powers that FILE hasn't are free. JSON as egret and UnitCommitment.jl write
+                  it, or as a schedule of hull in megawatts, or a csv with the columns unit, period, on, power and reserve
   --hull PROGRAM  the program that checks; the launcher of this repository if left out
 
 Needs SciPy with its solver HiGHS (Debian: python3-scipy, with /usr/bin/python3). Nothing of this tool is proved, and nothing has to
