@@ -1,15 +1,12 @@
 """A fault line of `hull` as a sentence: which file and unit, what was found there, and what is due."""
-import difflib
-import json
-import os
 import re
-from dataclasses import dataclass, field
 
+from .fault_rules import told_rule
+from .fault_shapes import told_shape
+from .named_files import GROUPS, WHOLE_FILES, Files, Known, who, written
 from .trouble import Wrong, one_line
 
-GROUPS = {"thermal": "thermal_generators", "renewable": "renewable_generators", "bid": "demand_bids"}
-PLAN_GROUPS = {"thermal": "thermal", "renewable": "renewable", "bid": "bids"}
-WHOLE_FILES = {"case": "the case", "schedule": "the schedule", "report": "the report", "prices": "the prices", "mixture": "the mixture"}
+__all__ = ["Files", "sentence"]
 
 WORDS = {
     1: "no command was given: `hull help` lists them",
@@ -57,103 +54,6 @@ LIMITS = {
     **{it: "4,096 members" for it in GROUPS.values()},
     **{it: "1,000,000 periods" for it in ("time_up_minimum", "time_down_minimum", "time_up_t0", "time_down_t0")},
 }
-SHAPES = {
-    40: "{who}: the case has no unit of that name and kind",
-    41: "{who} isn't in {file}: a unit that stays off is listed with zeros",
-    42: "{who} hasn't the lists that are due, with an item for each of the {periods} periods{found}",
-    43: "{who}: item {item} of a list isn't a whole number of kilowatts from 0 to 1,000,000,000, or a flag 0 or 1{found}",
-    62: "{who}: a weight isn't a whole number from 0 to the outermost one, or the weights of the unit don't sum to it",
-}
-RULES = {
-    44: "{who} is off in period {period}, and must run in all periods",
-    45: "{who} is {left_is} in period {period}, and has to stay {right_is} then: its minimum time from before period 1 isn't over",
-    46: "{who} stops in period {period} after {left} periods on, and {right} are due",
-    47: "{who} starts again in period {period} after {left} periods off, and {right} are due",
-    49: "{who} starts in period {period} with {left} kW of power and reserve, and its start limit is {right} kW",
-    50: "{who} stops after period {period} with {left} kW of power and reserve in it, and its stop limit is {right} kW",
-    51: "{who} rises into period {period} by {left} kW, reserve counted, and its upward ramp is {right} kW",
-    52: "{who} falls into period {period} by {left} kW, and its downward ramp is {right} kW",
-    54: "in period {period} the units give {left} kW, less what bids buy, and demand is {right} kW: {difference} kW {lacking}{megawatts}",
-    55: "in period {period} the units keep {right} kW of reserve, and {left} kW are required: {difference} kW are lacking",
-    56: "{who} is {left_is} in period {period}, and its window says {right_is}",
-    57: "{who} buys {left} kW in period {period}, and its blocks are {right} kW",
-}
-
-
-@dataclass
-class Files:
-    """The names of the files that the run was given, and what they hold, as far as they can be read."""
-
-    names: dict
-    values: dict = field(default_factory=dict)
-
-    def bytes_of(self, what):
-        try:
-            with open(self.names[what], "rb") as it:
-                return it.read(1 << 27)
-        except (OSError, KeyError, ValueError):
-            return b""
-
-    def is_empty(self, what):
-        try:
-            return os.path.getsize(self.names[what]) == 0
-        except (OSError, KeyError, ValueError):
-            return False
-
-    def value(self, what):
-        """The JSON value of a file with its numbers as they are written; None where it can't be read."""
-        if what not in self.values:
-            try:
-                text = self.bytes_of(what).decode("utf-8")
-                self.values[what] = json.loads(text, parse_float=Written, parse_int=Written, parse_constant=Written)
-            except (ValueError, RecursionError):
-                self.values[what] = None
-        return self.values[what]
-
-    def at(self, what, *path):
-        """What stands at a path of keys and of places from 1; None where nothing does."""
-        it = self.value(what)
-        for step in path:
-            if isinstance(it, dict) and isinstance(step, str):
-                it = it.get(step)
-            elif isinstance(it, (list, dict)) and isinstance(step, int):
-                rows = list(it.values()) if isinstance(it, dict) else it
-                it = rows[step - 1] if 1 <= step <= len(rows) else None
-            else:
-                return None
-        return it
-
-    def name_of(self, what, group, number):
-        members = self.at(what, group)
-        names = list(members) if isinstance(members, dict) else []
-        return names[number - 1] if 1 <= number <= len(names) else None
-
-
-class Written(str):
-    """A number as its file has it."""
-
-
-def written(value):
-    """A value as a file would have it, cut where it is long."""
-    if isinstance(value, Written):
-        return str(value)
-    if isinstance(value, list):
-        text = f"[{', '.join(written(it) for it in value[:200])}]"
-    elif isinstance(value, dict):
-        text = f"{{{', '.join(f'{json.dumps(key, ensure_ascii=False)}: {written(it)}' for key, it in list(value.items())[:50])}}}"
-    else:
-        text = json.dumps(value, ensure_ascii=False)
-    return text if len(text) <= 120 else text[:117] + "..."
-
-
-def who(files, kind, number, place_in="case"):
-    """A unit with its name, by its number within its kind."""
-    group = (GROUPS if place_in == "case" else PLAN_GROUPS)[kind]
-    name = files.name_of(place_in, group, number)
-    told = f" {json.dumps(name, ensure_ascii=False)}" if name is not None else ""
-    return f"{kind} unit{told} (number {number})" if kind != "bid" else f"bid{told} (number {number})"
-
-
 def told_text(files, what, code, place):
     """A fault of a file's text, with the line and what stands around it."""
     data = files.bytes_of(what)
@@ -231,88 +131,6 @@ def hint_of_field(files, what, code, limit, listed):
     if code == 25 and isinstance(listed, list) and isinstance(periods, str) and periods.isdigit() and len(listed) > int(periods):
         return " A decimal comma makes two items of one."
     return ""
-
-
-class Known(dict):
-    """What isn't known is told as such."""
-
-    def __missing__(self, key):
-        return "what the case says"
-
-
-def nearest_name(files, given, kind):
-    """A question after the case's unit whose name is like the given one, where there is one."""
-    members = files.at("case", GROUPS.get(kind, ""))
-    names = {it.casefold(): it for it in members} if isinstance(members, dict) else {}
-    near = difflib.get_close_matches((given or "").casefold(), names, 1)
-    return f" Is {json.dumps(names[near[0]], ensure_ascii=False)} meant?" if near else ""
-
-
-def told_shape(files, what, code, kind, number, item, entry=None):
-    """A fault of the form of a schedule or of a mixture."""
-    of_file = code == 40
-    name = who(files, kind, number, what if of_file else "case") if kind in GROUPS else "the whole"
-    name += f", entry {entry}" if entry else ""
-    unit = files.name_of("case", GROUPS.get(kind, ""), number)
-    plan = files.at(what, PLAN_GROUPS.get(kind, "thermal"), unit) if unit is not None else None
-    plan = plan[entry - 1] if entry and isinstance(plan, list) and entry <= len(plan) else plan
-    found = hint = ""
-    if of_file:
-        hint = nearest_name(files, files.name_of(what, PLAN_GROUPS.get(kind, ""), number), kind)
-    elif code == 43 and plan is not None:
-        lists = {key: plan.get(key) for key in ("on", "power", "reserve")} if isinstance(plan, dict) else {"power": plan}
-        cells = {key: it[item - 1] for key, it in lists.items() if isinstance(it, list) and item <= len(it)}
-        found = ". Found: " + ", ".join(f"{key} {written(it)}" for key, it in cells.items())
-        if any("." in written(it) for key, it in cells.items() if key != "on"):
-            hint = " Powers are whole kilowatts: are these megawatts?"
-    elif code == 42 and plan is not None:
-        lists = plan.items() if isinstance(plan, dict) else [("list", plan)]
-        found = ". Found: " + ", ".join(f"{key} with {len(it)} items" for key, it in lists if isinstance(it, list))
-    if code == 42 and kind == "case" and files.at(what, "time_periods") is not None:
-        hint = " Are the files swapped? This one is a case."
-    known = dict(who=name, item=item, found=found, file=files.names.get(what, f"the {what}"), periods=written(files.at("case", "time_periods")))
-    return SHAPES[code].format_map(Known(known)) + "." + hint
-
-
-def told_range(name, period, left, right, plan):
-    """Rule 48, which is three rules: off, above the least power, below the greatest with reserve."""
-    on = written(plan("on")) if plan else ""
-    if on == "0":
-        return f"{name} is off in period {period} with {left} kW of power or reserve, and 0 is due"
-    if left > right and plan and written(plan("power")) == str(right):
-        return f"{name} gives {right} kW in period {period}, and its least power is {left} kW{in_megawatts(right, left)}"
-    return f"{name} has {left} kW of power and reserve in period {period}, or a least power of that, against {right} kW"
-
-
-def in_megawatts(given, due):
-    """A question, where what is given is about a thousandth of what is due."""
-    return " (schedules are in kilowatts: are these megawatts?)" if 0 < given <= due // 500 else ""
-
-
-def told_rule(files, what, code, kind, number, period, left, right, entry=None):
-    """A rule of a feasible schedule that is broken."""
-    name = who(files, kind, number) if kind in GROUPS else ""
-    name += f", entry {entry} of the mixture," if entry else ""
-    unit = files.name_of("case", GROUPS.get(kind, ""), number)
-    rows = files.at(what, PLAN_GROUPS.get(kind, "thermal"), unit) if unit is not None else None
-    rows = rows[entry - 1] if entry and isinstance(rows, list) and entry <= len(rows) else rows
-    if code == 48:
-        plan = (lambda key: (rows.get(key) or [])[period - 1]) if isinstance(rows, dict) else None
-        try:
-            return told_range(name, period, left, right, plan) + "."
-        except (IndexError, TypeError):
-            return told_range(name, period, left, right, None) + "."
-    if code == 53:
-        given = rows[period - 1] if isinstance(rows, list) and period <= len(rows) else None
-        if given is not None and written(given) == str(right):
-            return f"{name} gives {right} kW in period {period}, and its least is {left} kW."
-        return f"{name} gives {left} kW in period {period}, and its greatest is {right} kW."
-    state = {0: "off", 1: "on"}
-    known = dict(who=name, period=period, left=left, right=right, difference=abs(right - left))
-    known.update(left_is=state.get(left, left), right_is=state.get(right, right))
-    known.update(lacking="are lacking" if left < right else "too much")
-    known["megawatts"] = in_megawatts(left, right)
-    return RULES[code].format_map(Known(known)) + "."
 
 
 NUMBER = r"(-?\d+)"

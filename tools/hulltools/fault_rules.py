@@ -1,0 +1,56 @@
+"""A rule of a feasible schedule that is broken, in words."""
+from .named_files import GROUPS, Known, plan_of, who, written
+
+RULES = {
+    44: "{who} is off in period {period}, and must run in all periods",
+    45: "{who} is {left_is} in period {period}, and has to stay {right_is} then: its minimum time from before period 1 isn't over",
+    46: "{who} stops in period {period} after {left} periods on, and {right} are due",
+    47: "{who} starts again in period {period} after {left} periods off, and {right} are due",
+    49: "{who} starts in period {period} with {left} kW of power and reserve, and its start limit is {right} kW",
+    50: "{who} stops after period {period} with {left} kW of power and reserve in it, and its stop limit is {right} kW",
+    51: "{who} rises into period {period} by {left} kW, reserve counted, and its upward ramp is {right} kW",
+    52: "{who} falls into period {period} by {left} kW, and its downward ramp is {right} kW",
+    54: "in period {period} the units give {left} kW, less what bids buy, and demand is {right} kW: {difference} kW {lacking}{megawatts}",
+    55: "in period {period} the units keep {right} kW of reserve, and {left} kW are required: {difference} kW are lacking",
+    56: "{who} is {left_is} in period {period}, and its window says {right_is}",
+    57: "{who} buys {left} kW in period {period}, and its blocks are {right} kW",
+}
+
+
+def told_range(name, period, left, right, plan):
+    """Rule 48, which is three rules: off, above the least power, below the greatest with reserve."""
+    on = written(plan("on")) if plan else ""
+    if on == "0":
+        return f"{name} is off in period {period} with {left} kW of power or reserve, and 0 is due"
+    if left > right and plan and written(plan("power")) == str(right):
+        return f"{name} gives {right} kW in period {period}, and its least power is {left} kW{in_megawatts(right, left)}"
+    return f"{name} has {left} kW of power and reserve in period {period}, or a least power of that, against {right} kW"
+
+
+def in_megawatts(given, due):
+    """A question, where what is given is about a thousandth of what is due."""
+    return " (schedules are in kilowatts: are these megawatts?)" if 0 < given <= due // 500 else ""
+
+
+def told_rule(files, what, code, kind, number, period, left, right, entry=None):
+    """A rule of a feasible schedule that is broken."""
+    name = who(files, kind, number) if kind in GROUPS else ""
+    name += f", entry {entry} of the mixture," if entry else ""
+    rows = plan_of(files, what, kind, number, entry)
+    if code == 48:
+        plan = (lambda key: (rows.get(key) or [])[period - 1]) if isinstance(rows, dict) else None
+        try:
+            return told_range(name, period, left, right, plan) + "."
+        except (IndexError, TypeError):
+            return told_range(name, period, left, right, None) + "."
+    if code == 53:
+        given = rows[period - 1] if isinstance(rows, list) and period <= len(rows) else None
+        if given is not None and written(given) == str(right):
+            return f"{name} gives {right} kW in period {period}, and its least is {left} kW."
+        return f"{name} gives {left} kW in period {period}, and its greatest is {right} kW."
+    state = {0: "off", 1: "on"}
+    known = dict(who=name, period=period, left=left, right=right, difference=abs(right - left))
+    known.update(left_is=state.get(left, left), right_is=state.get(right, right))
+    known.update(lacking="are lacking" if left < right else "too much")
+    known["megawatts"] = in_megawatts(left, right)
+    return RULES[code].format_map(Known(known)) + "."

@@ -1,0 +1,96 @@
+"""The files that a refused run was given, as they are written, for a fault line in words."""
+import json
+import os
+from dataclasses import dataclass, field
+
+GROUPS = {"thermal": "thermal_generators", "renewable": "renewable_generators", "bid": "demand_bids"}
+PLAN_GROUPS = {"thermal": "thermal", "renewable": "renewable", "bid": "bids"}
+WHOLE_FILES = {"case": "the case", "schedule": "the schedule", "report": "the report", "prices": "the prices", "mixture": "the mixture"}
+
+
+@dataclass
+class Files:
+    """The names of the files that the run was given, and what they hold, as far as they can be read."""
+
+    names: dict
+    values: dict = field(default_factory=dict)
+
+    def bytes_of(self, what):
+        try:
+            with open(self.names[what], "rb") as it:
+                return it.read(1 << 27)
+        except (OSError, KeyError, ValueError):
+            return b""
+
+    def is_empty(self, what):
+        try:
+            return os.path.getsize(self.names[what]) == 0
+        except (OSError, KeyError, ValueError):
+            return False
+
+    def value(self, what):
+        """The JSON value of a file with its numbers as they are written; None where it can't be read."""
+        if what not in self.values:
+            try:
+                text = self.bytes_of(what).decode("utf-8")
+                self.values[what] = json.loads(text, parse_float=Written, parse_int=Written, parse_constant=Written)
+            except (ValueError, RecursionError):
+                self.values[what] = None
+        return self.values[what]
+
+    def at(self, what, *path):
+        """What stands at a path of keys and of places from 1; None where nothing does."""
+        it = self.value(what)
+        for step in path:
+            if isinstance(it, dict) and isinstance(step, str):
+                it = it.get(step)
+            elif isinstance(it, (list, dict)) and isinstance(step, int):
+                rows = list(it.values()) if isinstance(it, dict) else it
+                it = rows[step - 1] if 1 <= step <= len(rows) else None
+            else:
+                return None
+        return it
+
+    def name_of(self, what, group, number):
+        members = self.at(what, group)
+        names = list(members) if isinstance(members, dict) else []
+        return names[number - 1] if 1 <= number <= len(names) else None
+
+
+class Written(str):
+    """A number as its file has it."""
+
+
+def written(value):
+    """A value as a file would have it, cut where it is long."""
+    if isinstance(value, Written):
+        return str(value)
+    if isinstance(value, list):
+        text = f"[{', '.join(written(it) for it in value[:200])}]"
+    elif isinstance(value, dict):
+        text = f"{{{', '.join(f'{json.dumps(key, ensure_ascii=False)}: {written(it)}' for key, it in list(value.items())[:50])}}}"
+    else:
+        text = json.dumps(value, ensure_ascii=False)
+    return text if len(text) <= 120 else text[:117] + "..."
+
+
+def who(files, kind, number, place_in="case"):
+    """A unit with its name, by its number within its kind."""
+    group = (GROUPS if place_in == "case" else PLAN_GROUPS)[kind]
+    name = files.name_of(place_in, group, number)
+    told = f" {json.dumps(name, ensure_ascii=False)}" if name is not None else ""
+    return f"{kind} unit{told} (number {number})" if kind != "bid" else f"bid{told} (number {number})"
+
+
+class Known(dict):
+    """What isn't known is told as such."""
+
+    def __missing__(self, key):
+        return "what the case says"
+
+
+def plan_of(files, what, kind, number, entry=None):
+    """What a schedule or a mixture has of a unit of the case, or of an entry of it; None where nothing is."""
+    unit = files.name_of("case", GROUPS.get(kind, ""), number)
+    found = files.at(what, PLAN_GROUPS.get(kind, ""), unit) if unit is not None else None
+    return found[entry - 1] if entry and isinstance(found, list) and entry <= len(found) else found
