@@ -16,15 +16,27 @@ class Explain(unittest.TestCase):
 
     def told(self, line, name=None, old="", new=""):
         """The sentence for a line, with a change of one file of examples/evening."""
+        self.change(EVENING, name, old, new)
+        return self.sentence(line)
+
+    def told_of_mixture(self, line, old, new):
+        """The sentence for a line, with a change of the mixture of examples/certified."""
+        shutil.copy(f"{EXAMPLES}/certified/mixture.json", self.room)
+        self.change(f"{EXAMPLES}/usual", "mixture.json", old, new)
+        return self.sentence(line, "--mixture", f"{self.room}/mixture.json")
+
+    def change(self, folder, name, old, new):
         for it in ("case.json", "schedule.json"):
-            shutil.copy(f"{EVENING}/{it}", self.room)
+            shutil.copy(f"{folder}/{it}", self.room)
         if name:
             with open(f"{self.room}/{name}", encoding="utf-8") as it:
                 text = it.read()
             self.assertIn(old, text)
             with open(f"{self.room}/{name}", "w", encoding="utf-8") as it:
                 it.write(text.replace(old, new, 1))
-        status, text, said = run("explain.py", f"{self.room}/case.json", f"{self.room}/schedule.json", input=f"{line}\n")
+
+    def sentence(self, line, *more):
+        status, text, said = run("explain.py", f"{self.room}/case.json", f"{self.room}/schedule.json", *more, input=f"{line}\n")
         self.assertEqual((status, said, text.count("\n")), (0, "", 1))
         return text.strip().replace(f"{self.room}/", "")
 
@@ -52,6 +64,58 @@ class Explain(unittest.TestCase):
 
         line = "fault 4 schedule 40 kind thermal unit 1 item 0"
         self.assertTrue(self.told(line, "schedule.json", '"G1"', '"g1"').endswith(' Is "G1" meant?'))
+
+    def test_a_weight(self):
+        line = "fault 10 mixture 62 kind thermal unit 1 entry 0 item 0"
+        self.assertEqual(
+            self.told_of_mixture(line, '"weight":3', '"weight":4'),
+            'mixture.json: thermal unit "G1" (number 1): its weights sum to 11, and the outermost one is 10. Found: 7 + 4.',
+        )
+        line = "fault 10 mixture 62 kind thermal unit 1 entry 2 item 0"
+        self.assertEqual(
+            self.told_of_mixture(line, '"weight":3', '"weight":0.33'),
+            'mixture.json: thermal unit "G1" (number 1), entry 2: its weight isn\'t a whole number. Found: 0.33. '
+            "Weights are whole, and no shares of 1: a share of 0.33 is 33 where the outermost weight is 100.",
+        )
+        told = self.told_of_mixture(line, '"weight":3', '"weight":11')
+        self.assertTrue(told.endswith("its weight isn't within its range, from 0 to the outermost weight, 10. Found: 11."), told)
+        told = self.told_of_mixture(line, '"weight":3', '"weight":"3"')
+        self.assertTrue(told.endswith('entry 2: its weight isn\'t a number. Found: "3".'), told)
+        told = self.told_of_mixture("fault 10 mixture 62 kind case unit 0 entry 0 item 0", '"weight":10', '"weight":0')
+        self.assertEqual(told, "mixture.json: the outermost weight isn't within its range, from 1 to 1,000,000,000,000. Found: 0.")
+
+    def test_a_unit_that_is_not_there_or_not_thermal(self):
+        line = "fault 4 schedule 41 kind bid unit 1 item 0"
+        told = self.told(line, "schedule.json", '"B1":[5000,5000,5000,5000,5000,5000]', "")
+        self.assertEqual(told, 'schedule.json: bid "B1" (number 1) isn\'t in schedule.json: a buyer that buys nothing is listed with zeros.')
+        told = self.told_of_mixture("fault 10 mixture 41 kind thermal unit 1 entry 0 item 0", '"thermal":{"G1"', '"thermal":{},"x":{"G1"')
+        self.assertTrue(told.endswith("isn't in mixture.json: each thermal unit needs an entry, if only one that is off."), told)
+        told = self.told_of_mixture("fault 10 mixture 40 kind thermal unit 1 entry 0 item 0", '"G1"', '"W1"')
+        self.assertEqual(
+            told,
+            'mixture.json: thermal unit "W1" (number 1): the case has no unit of that name and kind. '
+            "It has a renewable unit of that name: only thermal units have entries in a mixture.",
+        )
+        told = self.told("fault 4 schedule 40 kind thermal unit 1 item 0", "schedule.json", '"G1"', '"B1"')
+        self.assertTrue(told.endswith("It has a bid of that name: `bids` is where it is listed."), told)
+
+    def test_lists_that_are_not_there(self):
+        line = "fault 4 schedule 42 kind case unit 0 item 0"
+        told = self.told(line, "schedule.json", '"bids"', '"bid"')
+        self.assertEqual(told, "schedule.json: `bids` isn't there, and the case has bids.")
+        told = self.told(line, "schedule.json", '"renewable":{"W1":[10000,20000,15000,5000,5000,5000]}', '"renewable":[]')
+        self.assertEqual(told, "schedule.json: `renewable` isn't an object by the names of units.")
+        told = self.told_of_mixture("fault 10 mixture 42 kind case unit 0 entry 0 item 0", '"weight":10,', "")
+        self.assertEqual(told, "mixture.json: `weight` isn't there.")
+        line = "fault 4 schedule 42 kind renewable unit 1 item 0"
+        told = self.told(line, "schedule.json", "[10000,20000,15000,5000,5000,5000]", '{"power":[10000,20000,15000,5000,5000,5000]}')
+        self.assertEqual(
+            told,
+            'schedule.json: renewable unit "W1" (number 1): a plain list with an item for each of the 6 periods is due, and no object. '
+            "Found: power with 6 items.",
+        )
+        line = "fault 4 schedule 42 kind thermal unit 2 item 0"
+        self.assertIn(": `on` isn't there. Found: off with 6 items", self.told(line, "schedule.json", '"G2":{"on"', '"G2":{"off"'))
 
     def test_a_text_that_is_no_json(self):
         told = self.told("fault 3 case 10 at 0", "case.json", "{", "\ufeff{")
