@@ -1,5 +1,6 @@
 """A rule of a feasible schedule that is broken, in words."""
-from .named_files import GROUPS, Known, plan_of, who, written
+from .named_files import GROUPS, Known, number_of, plan_of, who, written
+from .numbers import kilowatts
 
 RULES = {
     44: "{who} is off in period {period}, and must run in all periods",
@@ -17,14 +18,30 @@ RULES = {
 }
 
 
-def told_range(name, period, left, right, plan):
-    """Rule 48, which is three rules: off, above the least power, below the greatest with reserve."""
-    on = written(plan("on")) if plan else ""
-    if on == "0":
+def told_range(name, period, left, right, cells, least):
+    """Rule 48, which is three rules: off, not below the least power, not above the greatest with reserve."""
+    on, power, reserve = (cells.get(it) for it in ("on", "power", "reserve"))
+    if on == 0:
         return f"{name} is off in period {period} with {left} kW of power or reserve, and 0 is due"
-    if left > right and plan and written(plan("power")) == str(right):
+    is_above = None not in (power, reserve) and power + reserve == left
+    if power == right and (left == least or not is_above):
         return f"{name} gives {right} kW in period {period}, and its least power is {left} kW{in_megawatts(right, left)}"
+    if is_above:
+        both = f" and keeps {int(reserve)} kW in reserve, {left} kW together" if reserve else ""
+        return f"{name} gives {int(power)} kW{both}, in period {period}, and its greatest power is {right} kW"
     return f"{name} has {left} kW of power and reserve in period {period}, or a least power of that, against {right} kW"
+
+
+def cells_of(plan, period):
+    """What a thermal unit's lists have in a period, as numbers."""
+    lists = {it: plan.get(it) for it in ("on", "power", "reserve")} if isinstance(plan, dict) else {}
+    return {key: number_of(it[period - 1]) for key, it in lists.items() if isinstance(it, list) and 1 <= period <= len(it)}
+
+
+def least_of(files, kind, number):
+    """The least power of a unit in kilowatts, or None where the case doesn't tell it."""
+    found = number_of(files.at("case", GROUPS.get(kind, ""), number, "power_output_minimum"))
+    return None if found is None else kilowatts(found)
 
 
 def in_megawatts(given, due):
@@ -37,12 +54,9 @@ def told_rule(files, what, code, kind, number, period, left, right, entry=None):
     name = who(files, kind, number) if kind in GROUPS else ""
     name += f", entry {entry} of the mixture," if entry else ""
     rows = plan_of(files, what, kind, number, entry)
+    least = least_of(files, kind, number)
     if code == 48:
-        plan = (lambda key: (rows.get(key) or [])[period - 1]) if isinstance(rows, dict) else None
-        try:
-            return told_range(name, period, left, right, plan) + "."
-        except (IndexError, TypeError):
-            return told_range(name, period, left, right, None) + "."
+        return told_range(name, period, left, right, cells_of(rows, period), least) + "."
     if code == 53:
         given = rows[period - 1] if isinstance(rows, list) and period <= len(rows) else None
         if given is not None and written(given) == str(right):
@@ -53,4 +67,12 @@ def told_rule(files, what, code, kind, number, period, left, right, entry=None):
     known.update(left_is=state.get(left, left), right_is=state.get(right, right))
     known.update(lacking="are lacking" if left < right else "too much")
     known["megawatts"] = in_megawatts(left, right)
-    return RULES[code].format_map(Known(known)) + "."
+    return RULES[code].format_map(Known(known)) + "." + barred(code, right, least)
+
+
+def barred(code, limit, least):
+    """What follows from a start or stop limit below the least power."""
+    verb = {49: "start", 50: "stop"}.get(code)
+    if verb is None or least is None or limit >= least:
+        return ""
+    return f" Its least power is {least} kW, so this unit can never {verb}: the case is to be mended."

@@ -2,9 +2,8 @@
 import difflib
 import json
 from dataclasses import dataclass
-from decimal import Decimal
 
-from .named_files import GROUPS, PLAN_GROUPS, Files, Written, plan_of, who, written
+from .named_files import GROUPS, PLAN_GROUPS, Files, number_of, plan_of, who, written
 
 KINDS = {"thermal": "a thermal unit", "renewable": "a renewable unit", "bid": "a bid"}
 # What to do about a unit of the case that isn't in the schedule.
@@ -152,12 +151,6 @@ def told_weight(at, item):
         return f"{at.name}: its weights don't sum to the outermost one."
     terms = " + ".join(weights[:20]) + (" + .." if len(weights) > 20 else "")
     return f"{at.name}: its weights sum to {sum(map(int, numbers))}, and the outermost one is {written(outermost)}. Found: {terms}."
-
-
-def number_of(value):
-    """A number of a file, or None where it is none."""
-    found = Decimal(value) if isinstance(value, Written) else Decimal("nan")
-    return found if found.is_finite() else None
 
 
 def why_no_weight(value, least, most):

@@ -2,6 +2,7 @@
 import json
 import os
 from dataclasses import dataclass, field
+from decimal import Decimal
 
 GROUPS = {"thermal": "thermal_generators", "renewable": "renewable_generators", "bid": "demand_bids"}
 PLAN_GROUPS = {"thermal": "thermal", "renewable": "renewable", "bid": "bids"}
@@ -59,6 +60,12 @@ class Files:
 
 class Written(str):
     """A number as its file has it."""
+
+
+def number_of(value):
+    """A number of a file, or None where it is none."""
+    found = Decimal(value) if isinstance(value, Written) else Decimal("nan")
+    return found if found.is_finite() else None
 
 
 def written(value):

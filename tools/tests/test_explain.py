@@ -65,6 +65,28 @@ class Explain(unittest.TestCase):
         line = "fault 4 schedule 40 kind thermal unit 1 item 0"
         self.assertTrue(self.told(line, "schedule.json", '"G1"', '"g1"').endswith(' Is "G1" meant?'))
 
+    def test_which_range_is_left(self):
+        line = "fault 4 schedule 48 kind thermal unit 2 period 2 left 10000 right 9000"
+        told = self.told(line, "schedule.json", '"power":[0,10000', '"power":[0,9000')
+        self.assertTrue(told.endswith("gives 9000 kW in period 2, and its least power is 10000 kW."), told)
+        line = "fault 4 schedule 48 kind thermal unit 1 period 3 left 105000 right 100000"
+        told = self.told(line, "schedule.json", "75000,90000", "75000,100000")
+        self.assertTrue(told.endswith("gives 100000 kW and keeps 5000 kW in reserve, 105000 kW together, in period 3, and its greatest power is 100000 kW."), told)
+        line = "fault 4 schedule 48 kind thermal unit 1 period 4 left 100001 right 100000"
+        told = self.told(line, "schedule.json", "90000,80000", "90000,100001")
+        self.assertTrue(told.endswith("gives 100001 kW, in period 4, and its greatest power is 100000 kW."), told)
+        line = "fault 10 mixture 48 kind thermal unit 1 entry 1 period 1 left 20001 right 20000"
+        told = self.told_of_mixture(line, '[10000],"reserve":[0]', '[20000],"reserve":[1]')
+        self.assertTrue(told.endswith("gives 20000 kW and keeps 1 kW in reserve, 20001 kW together, in period 1, and its greatest power is 20000 kW."), told)
+
+    def test_a_limit_below_the_least_power(self):
+        line = "fault 4 schedule 49 kind thermal unit 2 period 2 left 10000 right 9000"
+        told = self.told(line, "case.json", '"ramp_startup_limit":30', '"ramp_startup_limit":9')
+        self.assertTrue(told.endswith("its start limit is 9000 kW. Its least power is 10000 kW, so this unit can never start: the case is to be mended."), told)
+        line = "fault 4 schedule 50 kind thermal unit 2 period 3 left 30000 right 9000"
+        told = self.told(line, "case.json", '"ramp_shutdown_limit":30', '"ramp_shutdown_limit":9')
+        self.assertTrue(told.endswith("so this unit can never stop: the case is to be mended."), told)
+
     def test_a_weight(self):
         line = "fault 10 mixture 62 kind thermal unit 1 entry 0 item 0"
         self.assertEqual(
