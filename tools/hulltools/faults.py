@@ -15,7 +15,8 @@ WORDS = {
     4: "the option at word {0} was given before",
     5: "the option at word {0} has no value, or one that begins with -",
     6: "word {0} is or has a number that isn't 1 to 20 digits, or isn't within its range",
-    7: "a required option, or the number of `try`, is missing after word {0}",
+    7: "a required option, or the number of `try`, is missing after word {0}: every other command needs --case and --schedule, `audit` "
+    "--report too, `settle` --prices, and `certify` --prices and --mixture",
     8: "word {0} is neither an option nor the value of one",
 }
 TEXTS = {
@@ -178,7 +179,7 @@ FORMS = [
     ),
     (r"fault 7 memory", lambda files: "the machine gave no memory when it was asked."),
     (r"fault 8 (report) 60 at (\d+)", lambda files, what, at: told_report(files, at, "can't stand there in a report")),
-    (r"fault 8 (report) 61 at (\d+)", lambda files, what, at: told_report(files, at, "is the first that isn't that of the right report")),
+    (r"fault 8 (report) 61 at (\d+)", lambda files, what, at: told_report(files, at, "is the first that isn't that of the right report", of_others(at))),
 ]
 
 
@@ -198,20 +199,41 @@ def told_read(files, what):
     return f"{of(files, what)} can't be read: {why}".rstrip("?") + "."
 
 
-def told_report(files, at, what):
+def of_others(at):
+    """What a line of a report that isn't right says of where the report comes from: lines 2, 3, 6 and 8 follow from the files alone."""
+    return " The report is of another case or schedule, or of an older one." if int(at) in (2, 3, 6, 8) else ""
+
+
+def told_report(files, at, what, more=""):
     lines = files.bytes_of("report").split(b"\n")
     line = lines[int(at) - 1].decode("utf-8", "replace") if int(at) <= len(lines) else ""
     found = f" Found: {line[:160]!r}." if line else ""
     if line.endswith("\r"):
         found += " Carriage returns were put in since it was printed."
-    return f"{of(files, 'report')}: line {at} {what}.{found}"
+    return f"{of(files, 'report')}: line {at} {what}.{found}{more}"
+
+
+# The files that a line of each status is told of.
+TOLD_OF = {"3": ("case",), "4": ("case", "schedule"), "8": ("report",), "9": ("case", "prices"), "10": ("case", "mixture")}
+
+
+def need_files(line, files):
+    """Refuses to tell a line of a file that can't be read."""
+    for what in TOLD_OF.get(line.split(" ")[1], ()):
+        if what in files.names:
+            try:
+                with open(files.names[what], "rb") as it:
+                    it.read(1)
+            except (OSError, ValueError) as error:
+                raise Wrong(f"{files.names[what]}: {getattr(error, 'strerror', None) or error}") from None
 
 
 def sentence(line, files):
-    """The fault line in words."""
+    """The fault line in words; Wrong where it is none, or where a file that it is told of can't be read."""
     for form, told in FORMS:
         found = re.fullmatch(form, line)
         if found:
+            need_files(line, files)
             try:
                 return one_line(told(files, *found.groups()))
             except KeyError:

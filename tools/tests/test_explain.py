@@ -180,6 +180,40 @@ class Explain(unittest.TestCase):
         )
         self.assertIn("Are the files swapped?", ran[1])
 
+    def test_a_report_of_other_files(self):
+        with open(f"{EXAMPLES}/two_units/price.output", encoding="utf-8") as it:
+            report = it.read().split("\n")
+        others = " The report is of another case or schedule, or of an older one."
+        for line, more in ((6, others), (8, others), (14, "")):
+            self.change(f"{EXAMPLES}/two_units", None, "", "")
+            with open(f"{self.room}/report", "w", encoding="utf-8") as it:
+                it.write("\n".join([*report[: line - 1], report[line - 1] + "1", *report[line:]]))
+            told = self.sentence(f"fault 8 report 61 at {line}", "--report", f"{self.room}/report")
+            self.assertEqual(told, f"report: line {line} is the first that isn't that of the right report. Found: '{report[line - 1]}1'.{more}")
+
+    def test_an_option_that_is_missing(self):
+        told = self.told("fault 1 words 7 3")
+        self.assertEqual(
+            told,
+            "a required option, or the number of `try`, is missing after word 3: every other command needs --case and --schedule, "
+            "`audit` --report too, `settle` --prices, and `certify` --prices and --mixture.",
+        )
+
+    def test_a_file_that_is_not_there(self):
+        case, none = f"{EVENING}/case.json", f"{self.room}/none.json"
+        for line, words in (
+            ("fault 4 schedule 49 kind thermal unit 2 period 2 left 31000 right 30000", [case, none]),
+            ("fault 3 case 20 field must_run kind thermal unit 1 item 0", [none, case]),
+            ("fault 8 report 61 at 6", [case, case, "--report", none]),
+            ("fault 9 prices 10 at 13", [case, case, "--prices", none]),
+            ("fault 10 mixture 10 at 12", [case, case, "--mixture", none]),
+        ):
+            ran = run("explain.py", *words, input=f"{line}\n")
+            self.assertEqual(ran, (1, "", f"explain.py: {none}: No such file or directory\n"))
+        told = run("explain.py", case, none, input="fault 2 read schedule\n")
+        self.assertEqual(told, (0, f"{none} can't be read: No such file or directory.\n", ""))
+        self.assertEqual(run("explain.py", case, none, input="fault 1 words 1 0\n")[0], 0)
+
     def test_a_run_that_was_not_refused(self):
         with open(f"{EVENING}/check.output", encoding="utf-8") as it:
             self.assertEqual(self.told(it.read()), "The run wasn't refused: its text begins with 'hull-check 1'.")

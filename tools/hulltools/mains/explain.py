@@ -3,7 +3,8 @@
 usage: explain.py CASE SCHEDULE [--prices F] [--mixture F] [--report F] < LINE
 
 CASE and SCHEDULE are the files that the run was given, and so are those of the options. LINE is what the run printed: its first line
-that begins with `fault` is explained. A run that wasn't refused is said to be one.
+that begins with `fault` is explained. A run that wasn't refused is said to be one. A file that LINE is told of has to be there, unless LINE
+says that it couldn't be read.
 """
 import sys
 
