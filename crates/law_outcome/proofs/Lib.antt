@@ -16,6 +16,8 @@ pub mod AuditPromise
 pub mod SettlePromise
 -- what is promised of a certificate
 pub mod CertifyPromise
+-- the text of a settlement tells the settlement
+pub mod SettledTexts
 -- two runs of the same words print the same
 pub mod SameOutput
 -- The lemmas that answers cite.

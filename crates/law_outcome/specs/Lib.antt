@@ -1,2 +1,4 @@
 -- what holds of every run
 pub mod Laws
+-- what printed texts tell
+pub mod SettledTexts

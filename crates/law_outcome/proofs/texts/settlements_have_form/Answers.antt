@@ -1,0 +1,5 @@
+use Rattle.law_outcome.proofs.SettledTexts.{settlements_have_form}
+use Rattle.law_outcome.proofs.texts.settlements_have_form.Goals as goal
+
+pub returns : goal.returns
+returns c = settlements_have_form c.units_are_numbered.ensures

@@ -1,0 +1,24 @@
+//! Laws over texts that are printed: each is the contract of a function that answers nothing.
+ghost use Rattle.law_outcome.specs.SettledTexts.{SettlementsHaveForm, TextTellsTheSettlement};
+
+use price_settle::laws::one_settlement;
+use report_form::laws::text_determines_the_settlement;
+use uc_model::laws::units_are_numbered;
+
+/// What `price_settle::settle_at` answers has the form of which the text of `hull settle` tells
+/// all: its renewable units and bids are on in every period, with reserve 0.
+pub fn settlements_have_form()
+    ensures { SettlementsHaveForm }
+{
+    units_are_numbered();
+}
+
+/// Two settlements of a plan that have one text are one, so what `hull settle` prints tells the
+/// settlement.
+pub fn text_tells_the_settlement()
+    ensures { TextTellsTheSettlement }
+{
+    settlements_have_form();
+    text_determines_the_settlement();
+    one_settlement();
+}
