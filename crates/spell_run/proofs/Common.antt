@@ -25,7 +25,8 @@ pub use Rattle.spell_run.specs.Frontier.{IsWritten, IsChosen, IsFrontier, IsReac
 pub use Rattle.spell_run.specs.Frontier.{HasBestReserve, HasSamePowersAfter, IsSameAfter}
 pub use Rattle.spell_run.specs.Laws.{best_reserve, most_reserve, IsReserve, ReserveIsAKink, ReserveIsBest}
 pub use Rattle.spell_run.specs.Notes.{IsNoted, IsEndNoted, end_cost, IsSpellNoted, IsCheapest, passed_at}
-pub use Rattle.spell_run.specs.Spells.{IsSpellWithin, IsDispatch, net_cost_at, net_cost, spell_cost, IsSpellAnswer}
+pub use Rattle.spell_run.specs.Spells.{IsSpellWithin, IsDispatch, spell_cost, IsSpellAnswer}
+pub use Rattle.unit_rows.specs.NetCosts.{net_cost_at, net_cost}
 pub use Rattle.spell_run.specs.Spells.{IsBestDispatch, IsFirstDispatch, over_min}
 pub use Rattle.spell_run.specs.Steps.{IsFairStep, IsCostOf, IsKinked, IsSmall, cap_at, step_at, IsStepped, IsLeastCost}
 pub use Rattle.spell_run.specs.Steps.{IsLeastCostIn, IsMove, IsRun}

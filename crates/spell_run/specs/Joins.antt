@@ -7,7 +7,8 @@ use Rattle.shape_law.specs.Table.{Table, value_of}
 use Rattle.uc_model.specs.Data.{ThermalUnit, PriceLists, Schedule}
 use Rattle.uc_model.specs.Limits.{IsThermalUnit}
 use Rattle.spell_run.specs.Frontier.{IsFrontier}
-use Rattle.spell_run.specs.Spells.{IsDispatch, net_cost, spell_cost}
+use Rattle.spell_run.specs.Spells.{IsDispatch, spell_cost}
+use Rattle.unit_rows.specs.NetCosts.{net_cost}
 use Rattle.spell_run.specs.Steps.{level, IsRun}
 
 -- a run from `other` to period suc k ends where d does: it costs v up to period k, and what d costs

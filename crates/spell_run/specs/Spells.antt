@@ -3,13 +3,13 @@
 -- horizon has first 0: period 0 is its first. Dispatches are read in place: only the powers and
 -- reserves of the spell's periods count, and no flag is looked at.
 use Rattle.std.specs.Prelude.{◌≡◌, ℕ, zero, suc, ◌+◌, ◌-◌, ◌*◌, ◌<◌, ◌≤◌, ℤ, pos, neg_ℤ, ◌+ℤ◌, ◌-ℤ◌}
-use Rattle.std.specs.Prelude.{◌*ℤ◌, ◌≤ℤ◌, Bool, true, false, if◌then◌else◌, Option, MatchOption}
+use Rattle.std.specs.Prelude.{◌≤ℤ◌, true, false, Option, MatchOption}
 use Rattle.std.specs.Int.{int_min}
 use Rattle.uc_model.specs.Data.{ThermalUnit, PriceLists, Schedule}
-use Rattle.uc_model.specs.Envelope.{envelope}
 use Rattle.plain_lists.specs.Ranges.{IsFrom}
 use Rattle.uc_model.specs.Schedules.{power_in, reserve_in, cap_of}
-use Rattle.plain_lists.specs.Sums.{int_at, sum_below}
+use Rattle.plain_lists.specs.Sums.{sum_below}
+use Rattle.unit_rows.specs.NetCosts.{net_cost}
 
 -- the power above the least one in a period of a spell
 abbrev pub over_min : ThermalUnit → Schedule → ℕ → ℤ
@@ -33,18 +33,6 @@ pub record IsDispatch (g : ThermalUnit) (periods first last : ℕ) (d : Schedule
   pub leave : last < periods → over_min g d last ≤ℤ g.ramp_down
   pub stop_at_once : last < periods → last ≡ 0 → g.power0 ≤ℤ int_min g.stop_limit g.max_power
   pub leave_at_once : last < periods → last ≡ 0 → (pos 0 -ℤ over_min g d last) ≤ℤ g.ramp_up
-
--- the production cost of a power less what the prices pay for it and a reserve, in the period at
--- that place
-abbrev pub net_cost_at : ThermalUnit → PriceLists → ℕ → ℤ → ℤ → ℤ
-net_cost_at g π place power reserve =
-    envelope g.points power -ℤ ((int_at π.energy place *ℤ power)
-    +ℤ (int_at π.reserve place *ℤ reserve))
-
--- the same of a period of a dispatch
-abbrev pub net_cost : ThermalUnit → PriceLists → Schedule → ℕ → ℤ
-net_cost g π d zero = pos 0
-net_cost g π d (suc k) = net_cost_at g π k (power_in d (suc k)) (reserve_in d (suc k))
 
 -- f first + .. + f last
 abbrev pub sum_from_to : (ℕ → ℤ) → ℕ → ℕ → ℤ

@@ -8,11 +8,13 @@ pub use Rattle.std.specs.Int.{w64}
 pub use Rattle.std.specs.Option.{option_map, option_map_or}
 pub use Rattle.std.specs.Prelude.{IsTrue, IsFalse, IfSome, MatchOption, max, IfNone, FitsSigned}
 pub use Rattle.unit_table.specs.Laws.{StopsAtOnceCostNothing}
-pub use Rattle.unit_table.specs.Rows.{row_at, cost_at, first_at, before_at, HasEntryAtMost, IsWithinTimes, AreWithin, IsFirstRow}
-pub use Rattle.unit_table.specs.Spells.{IsSpell, start_cost_after, IsOffRun, on_time, IsGap, StopsAtOnce}
-pub use Rattle.unit_table.specs.Tables.{IsEnded, IsLatest, IsStarted, IsEntryAfter, IsComplete, IsEntry, IsLeastEntry, HasAtMost, IsTable}
-pub use Rattle.unit_table.specs.declared.table.Ended.{Ended}
-pub use Rattle.unit_table.specs.declared.table.Entry.{Entry}
+pub use Rattle.unit_rows.specs.Rows.{row_at, cost_at, first_at, before_at, HasEntryAtMost, IsWithinTimes, AreWithin}
+pub use Rattle.unit_rows.specs.Rows.{IsFirstRow}
+pub use Rattle.unit_rows.specs.Spells.{IsSpell, start_cost_after, IsOffRun, on_time, IsGap, StopsAtOnce}
+pub use Rattle.unit_table.specs.Tables.{IsEnded, IsLatest, IsComplete, IsTable}
+pub use Rattle.unit_rows.specs.Ends.{IsStarted, IsEntryAfter, IsEntry, IsLeastEntry, HasAtMost}
+pub use Rattle.unit_rows.specs.declared.table.Ended.{Ended}
+pub use Rattle.unit_rows.specs.declared.table.Entry.{Entry}
 pub use Rattle.test_spells.specs.Entries.{entry_of}
 pub use Rattle.spell_run.specs.Entries.{IsOnFromTo, IsSameOutside}
 pub use Rattle.test_spells.specs.Entries.{spell_first}

@@ -2,7 +2,7 @@
 use Rattle.std.specs.Prelude.{◌≡◌, ℕ, suc, ℤ, pos, ◌≤ℤ◌, Option, Some, length}
 use Rattle.uc_model.specs.Data.{ThermalUnit, PriceLists, Schedule}
 use Rattle.uc_model.specs.Schedules.{IsThermalFeasible}
-use Rattle.unit_table.specs.Spells.{IsOffRun}
+use Rattle.unit_rows.specs.Spells.{IsOffRun}
 use Rattle.unit_table.specs.Tables.{IsComplete}
 
 -- a complete table has no last on period after which the unit may be off to the end

@@ -7,10 +7,11 @@ use Rattle.uc_model.specs.Data.{ThermalUnit, PriceLists}
 use Rattle.uc_model.specs.Schedules.{mark_in}
 use Rattle.spell_run.specs.Spells.{IsSpellAnswer}
 use Rattle.test_spells.specs.Entries.{entry_of}
-use Rattle.unit_table.specs.declared.table.Ended.{Ended}
-use Rattle.unit_table.specs.Rows.{cost_at, first_at, before_at, AreWithin}
-use Rattle.unit_table.specs.Spells.{IsSpell}
-use Rattle.unit_table.specs.Tables.{HasAtMost, IsTable}
+use Rattle.unit_rows.specs.declared.table.Ended.{Ended}
+use Rattle.unit_rows.specs.Rows.{cost_at, first_at, before_at, AreWithin}
+use Rattle.unit_rows.specs.Spells.{IsSpell}
+use Rattle.unit_rows.specs.Ends.{HasAtMost}
+use Rattle.unit_table.specs.Tables.{IsTable}
 
 -- the least net cost of a spell with that last period; none ends before period 1
 abbrev pub net_at : List (Option ℤ) → ℕ → Option ℤ

@@ -14,9 +14,9 @@ ghost use Rattle.uc_model.specs.Schedules.{IsThermalFeasible};
 ghost use Rattle.uc_model.specs.Ties.{IsLeast};
 ghost use Rattle.unit_program.specs.Backs.{IsWritten, IsWrittenBack};
 ghost use Rattle.unit_program.specs.Builds.{IsIdle};
-ghost use Rattle.unit_table.specs.Rows.{cost_at};
-ghost use Rattle.unit_table.specs.Spells.{IsOffRun};
-ghost use Rattle.unit_table.specs.Tables.{IsLeastEnd};
+ghost use Rattle.unit_rows.specs.Rows.{cost_at};
+ghost use Rattle.unit_rows.specs.Spells.{IsOffRun};
+ghost use Rattle.unit_rows.specs.Ends.{IsLeastEnd};
 
 use crate::program::fill;
 use std::alloc::{AllocError, Global};
@@ -25,7 +25,7 @@ use test_shapes::Shape;
 use test_spells::{Spell, SpellCosts, spell_best};
 use uc_model::units::{Answered, Curve, Prices, Unit};
 use unit_program::answer::{clear, is_all_off, least_end, negated};
-use unit_table::table::{Ended, Entry, Table};
+use unit_rows::table::{Ended, Entry, Table};
 
 // Writes a dispatch of least net cost of the spell from `first` to `last`; nothing where it ends
 // before period 1.

@@ -6,16 +6,16 @@ ghost use Rattle.test_shapes.specs.Cell.{Frame};
 ghost use Rattle.test_spells.specs.Entries.{cells_for};
 ghost use Rattle.test_units.specs.Rows.{IsAdded, IsFilled};
 ghost use Rattle.uc_model.specs.PlainUnits.{thermal_of, prices_of};
-ghost use Rattle.unit_table.specs.Rows.{IsWithinTimes, AreWithin};
+ghost use Rattle.unit_rows.specs.Rows.{IsWithinTimes, AreWithin};
 
 use crate::spells::{add_spells, least_entry, open_until};
 use std::alloc::AllocError;
 use test_shapes::Shape;
 use test_spells::{SpellCosts, spell_costs};
 use uc_model::units::{Curve, Prices, Unit};
-use unit_table::commitment::may_end;
+use unit_rows::commitment::may_end;
+use unit_rows::table::{Entry, Table, begin_table};
 use unit_table::laws::stops_at_once_cost_nothing;
-use unit_table::table::{Entry, Table, begin_table};
 
 // Adds the spells that begin with period `first` after an entry, with one pass over the prices if
 // one may begin there.

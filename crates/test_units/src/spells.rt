@@ -5,14 +5,14 @@ ghost use Rattle.test_units.specs.Rows.{net_at, IsOpenUntil, IsUpdate};
 ghost use Rattle.uc_model.specs.PlainUnits.{thermal_of};
 ghost use Rattle.uc_model.specs.Schedules.{mark_in};
 ghost use Rattle.uc_model.specs.declared.limits.TheConstants.{MOST_PERIODS};
-ghost use Rattle.unit_table.specs.Rows.{cost_at, first_at, before_at, IsWithinTimes, AreWithin};
-ghost use Rattle.unit_table.specs.Spells.{IsOffRun, IsGap, on_time, start_cost_after};
-ghost use Rattle.unit_table.specs.Tables.{IsEntry, IsLeastEntry};
-ghost use Rattle.unit_table.specs.declared.table.Entry.{Entry};
+ghost use Rattle.unit_rows.specs.Rows.{cost_at, first_at, before_at, IsWithinTimes, AreWithin};
+ghost use Rattle.unit_rows.specs.Spells.{IsOffRun, IsGap, on_time, start_cost_after};
+ghost use Rattle.unit_rows.specs.Ends.{IsEntry, IsLeastEntry};
+ghost use Rattle.unit_rows.specs.declared.table.Entry.{Entry};
 
 use uc_model::units::{Mark, Unit};
-use unit_table::commitment::{may_end, off_from, time_off};
-use unit_table::table::{Ended, Entry, Table, lesser, put, start_after, sum_of};
+use unit_rows::commitment::{may_end, off_from, time_off};
+use unit_rows::table::{Ended, Entry, Table, lesser, put, start_after, sum_of};
 
 // How many of the marks from a place on come before the first `MustOff`, and the place where they
 // end.

@@ -1,47 +1,43 @@
 -- The names that the proofs of this crate take from its specs and from other crates, passed on from one place.
 pub use Rattle.std.proofs.Common.{◌≡◌, ℕ, zero, suc, ◌+◌, ◌-◌, ◌<◌, ◌≤◌, ◌⊎◌, inl, inr, Option, Some, None, ℤ, pos}
 pub use Rattle.std.proofs.Common.{◌+ℤ◌, ◌-ℤ◌, ◌*ℤ◌, ◌≤ℤ◌, List, length, refl, sym, ap, ◌∙◌, subst, arith, Bool, true}
-pub use Rattle.std.proofs.Common.{false, cond, [], ◌∷◌, ◌++◌, map, reverse, length-append, ◌*◌, neg_ℤ, not, ◌&&◌, ◌≢◌}
-pub use Rattle.std.proofs.Common.{get_or, set, get_or-set_same, get_or-set_other, rules, to_z, of_z, length-set}
-pub use Rattle.std.proofs.Common.{vec_capacity}
-pub use Rattle.std.proofs.Math.IntN.{*ℤ-zero, *ℤ_comm}
+pub use Rattle.std.proofs.Common.{false, cond, [], ◌∷◌, ◌++◌, map, reverse, length-append, ◌*◌, neg_ℤ, not, ◌&&◌}
+pub use Rattle.std.proofs.Common.{get_or, rules, vec_capacity}
+pub use Rattle.std.proofs.Math.IntN.{*ℤ-zero}
 pub use Rattle.std.proofs.Math.Nat.{mul-le-mul_left, mul-le-mul_right}
-pub use Rattle.std.proofs.lemmas.Bool.{cases_lt, cases_eq}
-pub use Rattle.std.proofs.lemmas.Int.{ints, clamps, to_z-of_z}
+pub use Rattle.std.proofs.lemmas.Bool.{cases_lt}
+pub use Rattle.std.proofs.lemmas.Int.{ints, to_z-of_z}
 pub use Rattle.std.proofs.lemmas.List.{reverse-append, reverse-reverse, map-append, length-reverse, length-map}
 pub use Rattle.std.proofs.lemmas.List.{length-replicate, with_items_is}
-pub use Rattle.std.proofs.lemmas.Option.{slice_get-get_or, get_or_from_slice_get}
-pub use Rattle.std.specs.Int.{int_max, int_min, w64}
-pub use Rattle.std.specs.List.{All, fold}
+pub use Rattle.std.proofs.lemmas.Option.{slice_get-get_or}
+pub use Rattle.std.specs.Int.{w64}
 pub use Rattle.std.specs.Option.{option_map, option_map_or}
 pub use Rattle.std.specs.Prelude.{IsTrue, IsFalse, IfSome, slice_index, slice_index_or, slice_get, IfNone, FitsSigned}
 pub use Rattle.unit_table.specs.Laws.{CappedRowsAreRows, StartsAreWithinLimits, LimitsAreAboveTheAmount}
-pub use Rattle.unit_table.specs.Limits.{capped, IsRowWithin, IsFilledWithin, IsEndWithin, EachCostsMore, IsInRange}
-pub use Rattle.unit_table.specs.Limits.{AreLimits}
+pub use Rattle.unit_rows.specs.Limits.{capped}
+pub use Rattle.unit_table.specs.Limits.{IsRowWithin, IsFilledWithin, IsEndWithin, EachCostsMore}
 pub use Rattle.unit_table.specs.Live.{places_of, HaveRoom, left_of, left_at}
-pub use Rattle.unit_table.specs.Rows.{row_at, cost_at, first_at, before_at, HasEntryAtMost, IsWithinTimes}
+pub use Rattle.unit_rows.specs.Rows.{row_at, cost_at, first_at, before_at, HasEntryAtMost, IsWithinTimes}
 pub use Rattle.unit_table.specs.Runners.{HaveWays}
-pub use Rattle.unit_table.specs.Spells.{IsSpell, start_cost_after, IsOffRun, paid, on_time, off_time, IsGap}
-pub use Rattle.unit_table.specs.Spells.{period_cost}
-pub use Rattle.unit_table.specs.Tables.{IsEnded, IsLatest, IsStarted, IsEntryAfter, IsComplete, IsLeastEnd, IsEntry}
-pub use Rattle.unit_table.specs.Tables.{HasAtMost}
+pub use Rattle.unit_rows.specs.Spells.{IsSpell, start_cost_after, IsOffRun, paid, on_time, off_time, IsGap, period_cost}
+pub use Rattle.unit_table.specs.Tables.{IsEnded, IsLatest, IsComplete}
+pub use Rattle.unit_rows.specs.Ends.{IsStarted, IsEntryAfter, IsLeastEnd, IsEntry, HasAtMost}
 pub use Rattle.unit_table.specs.declared.runner.Runner.{Runner}
-pub use Rattle.unit_table.specs.declared.table.Ended.{Ended}
-pub use Rattle.unit_table.specs.declared.table.Entry.{Entry}
+pub use Rattle.unit_rows.specs.declared.table.Ended.{Ended}
+pub use Rattle.unit_rows.specs.declared.table.Entry.{Entry}
 pub use Rattle.slope_list.specs.Slopes.{room_of}
 pub use Rattle.spell_run.specs.Entries.{IsOnFromTo, IsSameOutside}
 pub use Rattle.spell_run.specs.Notes.{passed_at, IsSpellNoted}
-pub use Rattle.spell_run.specs.Spells.{IsBestDispatch, IsFirstDispatch, over_min, IsDispatch, IsLeastSpell, net_cost}
-pub use Rattle.spell_run.specs.Spells.{spell_cost, sum_from_to}
+pub use Rattle.spell_run.specs.Spells.{IsBestDispatch, IsFirstDispatch, over_min, IsDispatch, IsLeastSpell, spell_cost}
+pub use Rattle.spell_run.specs.Spells.{sum_from_to}
+pub use Rattle.unit_rows.specs.NetCosts.{net_cost}
 pub use Rattle.spell_run.specs.declared.way.Passed.{Passed}
-pub use Rattle.plain_lists.proofs.IntLaws.{sum_below-same, sum_below-add, sum_below-sub, mul-mono_of, mul-add, mul-sub}
-pub use Rattle.plain_lists.proofs.SignedLaws.{IsWithin, stored, stored_is, fits64, product_within}
+pub use Rattle.plain_lists.proofs.IntLaws.{sum_below-same, sum_below-add, sum_below-sub}
 pub use Rattle.uc_model.specs.BoundLaws.{StartCostsAreWithin, EarningsAreWithin}
 pub use Rattle.uc_model.specs.Data.{ThermalUnit, PriceLists, Schedule, Thermal}
 pub use Rattle.uc_model.specs.Earnings.{earnings, IsBest, start_cost_of}
 pub use Rattle.uc_model.specs.Envelope.{envelope}
-pub use Rattle.plain_lists.specs.Ranges.{IsFrom}
-pub use Rattle.uc_model.specs.Limits.{IsThermalUnit, ArePrices, IsOutput, IsPoint, ArePointsOrdered, Spans}
+pub use Rattle.uc_model.specs.Limits.{IsThermalUnit, ArePrices}
 pub use Rattle.uc_model.specs.PlainUnits.{thermal_of, prices_of, schedule_of}
 pub use Rattle.uc_model.specs.Schedules.{on_in, power_in, reserve_in, IsSchedule, IsThermalFeasible, above_min}
 pub use Rattle.uc_model.specs.Schedules.{above_with_reserve, starts_in, time_down, cap_of, IsPeriod, KeepsDispatch}
@@ -49,9 +45,7 @@ pub use Rattle.uc_model.specs.Schedules.{stops_in, KeepsCommitment, mark_in}
 pub use Rattle.plain_lists.specs.Sums.{int_at, sum_below}
 pub use Rattle.uc_model.specs.Ties.{ComesBefore, IsLeast}
 pub use Rattle.uc_model.specs.declared.units.Mark.TheVariants.{MustOff, MustOn}
-pub use Rattle.uc_model.specs.declared.units.Point.{Point}
 pub use Rattle.unit_program.specs.Backs.{IsSameIn, IsZeroOff, IsWritten, IsWrittenBack}
 pub use Rattle.unit_program.specs.Builds.{IsUpTo, IsIdle, IsDispatchStep, MayStop}
-pub use Rattle.unit_program.specs.Nets.{HasLeastNet, AreKnown}
 pub use Rattle.unit_program.specs.Steps.{IsStep, time_up, held}
 pub use Rattle.unit_program.specs.Ties.{IsFirstUpTo, IsRival, HasSameFlags, HasSamePowers, IsFirstBeside}

@@ -6,9 +6,4 @@ pub use Rattle.unit_program.proofs.EndLaws.{IsEnd, least_end_of_all, no_end_of_a
 pub use Rattle.unit_program.proofs.EntryLaws.{IsLeastOf, if_some, one_more}
 pub use Rattle.unit_program.proofs.LimitLaws.{end_capped, end_earliest, end_low, if_none_more, none_feasible}
 pub use Rattle.unit_program.proofs.LimitLaws.{found_within, none_found}
-pub use Rattle.unit_program.proofs.LimitListLaws.{net_beside, worth_fits, net_fits, net_stored, net_bound}
-pub use Rattle.unit_program.proofs.LimitListLaws.{AreLimitsFrom, period_net, limit_here, limits_next, limits_whole}
-pub use Rattle.unit_program.proofs.LimitListLaws.{product_fits, less_fits, less_is, less_within, price_stored}
-pub use Rattle.unit_program.proofs.LimitListLaws.{min_bound, min_low, period_low}
-pub use Rattle.unit_program.proofs.NetLaws.{known_least, has_least, known_more, none_known}
 pub use Rattle.unit_program.proofs.RowLaws.{cost-is, first-is}

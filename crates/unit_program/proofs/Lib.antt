@@ -22,13 +22,9 @@ pub mod EntryLaws
 pub mod LimitBackLaws
 -- the rows and the ends as far as they are within the limits
 pub mod LimitLaws
--- the limits, as they are written from the last period back
-pub mod LimitListLaws
 -- every feasible schedule is a list of spells: from the last period back, by the run or the time off that a period is
 -- in
 pub mod ListLaws
--- the prices at which an end of the points has the least net cost
-pub mod NetLaws
 -- a place of a list that a spell left
 pub mod NoteLaws
 -- what is read off rows of the table

@@ -4,9 +4,9 @@ use Rattle.std.specs.Prelude.{Some}
 use Rattle.uc_model.specs.Data.{ThermalUnit, PriceLists, Schedule}
 use Rattle.uc_model.specs.Schedules.{on_in, power_in, reserve_in}
 use Rattle.spell_run.specs.Spells.{IsDispatch, IsFirstDispatch, IsLeastSpell, spell_cost}
-use Rattle.unit_table.specs.declared.table.Ended.{Ended}
+use Rattle.unit_rows.specs.declared.table.Ended.{Ended}
 use Rattle.unit_program.specs.Builds.{IsUpTo}
-use Rattle.unit_table.specs.Rows.{cost_at}
+use Rattle.unit_rows.specs.Rows.{cost_at}
 use Rattle.unit_program.specs.Ties.{IsFirstUpTo}
 
 -- a and b are the same in period t

@@ -8,7 +8,7 @@ use Rattle.uc_model.specs.Schedules.{on_in, above_min, above_with_reserve, reser
 use Rattle.uc_model.specs.Schedules.{starts_in, stops_in, cap_of}
 use Rattle.unit_program.specs.Steps.{IsStep, time_up}
 use Rattle.spell_run.specs.Spells.{over_min}
-use Rattle.unit_table.specs.Spells.{paid}
+use Rattle.unit_rows.specs.Spells.{paid}
 
 -- what the dispatch rules ask of the step from period k to the next
 pub record IsDispatchStep (g : ThermalUnit) (s : Schedule) (k : ℕ) : Type 0 where

@@ -4,4 +4,3 @@ pub mod Builds
 pub mod Lists
 pub mod Steps
 pub mod Ties
-pub mod Nets

@@ -4,7 +4,7 @@ use Rattle.std.specs.Prelude.{◌≡◌, ℕ, suc, ◌<◌, ◌≤◌, ◌⊎◌
 use Rattle.uc_model.specs.Data.{ThermalUnit, Schedule}
 use Rattle.uc_model.specs.Schedules.{on_in, IsThermalFeasible}
 use Rattle.spell_run.specs.Spells.{IsDispatch}
-use Rattle.unit_table.specs.Spells.{IsSpell, IsOffRun, IsGap}
+use Rattle.unit_rows.specs.Spells.{IsSpell, IsOffRun, IsGap}
 
 -- the periods from first to last; first 0 stands for a run that goes on from before the horizon
 pub record Run : Type 0 where

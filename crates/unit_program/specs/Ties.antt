@@ -4,7 +4,7 @@
 use Rattle.std.specs.Prelude.{◌≡◌, ℕ, suc, ◌<◌, ◌≤◌, ℤ, ◌≤ℤ◌, IsTrue, IsFalse}
 use Rattle.uc_model.specs.Data.{ThermalUnit, PriceLists, Schedule}
 use Rattle.uc_model.specs.Schedules.{on_in, power_in, reserve_in, IsThermalFeasible}
-use Rattle.unit_table.specs.Spells.{paid}
+use Rattle.unit_rows.specs.Spells.{paid}
 
 -- a feasible schedule that costs v up to period l, where a run of on periods ends with l, or l is 0
 pub record IsRival (g : ThermalUnit) (π : PriceLists) (periods l : ℕ) (v : ℤ) (s : Schedule) : Type

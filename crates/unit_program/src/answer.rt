@@ -3,13 +3,13 @@ ghost use Rattle.std.specs.Prelude.{◌≡◌, ℕ, ◌<◌, ◌≤◌, neg_ℤ,
 ghost use Rattle.std.specs.Prelude.{IfNone};
 ghost use Rattle.std.specs.Prelude.{ℤ, Some, length, slice_index, slice_index_or};
 ghost use Rattle.uc_model.specs.PlainUnits.{thermal_of, schedule_of};
-ghost use Rattle.unit_table.specs.Rows.{cost_at, IsWithinTimes};
-ghost use Rattle.unit_table.specs.Spells.{IsOffRun};
-ghost use Rattle.unit_table.specs.Tables.{IsLeastEnd};
+ghost use Rattle.unit_rows.specs.Rows.{cost_at, IsWithinTimes};
+ghost use Rattle.unit_rows.specs.Spells.{IsOffRun};
+ghost use Rattle.unit_rows.specs.Ends.{IsLeastEnd};
 
 use uc_model::units::{Answered, Unit};
-use unit_table::commitment::off_from;
-use unit_table::table::{Ended, Entry, lesser};
+use unit_rows::commitment::off_from;
+use unit_rows::table::{Ended, Entry, lesser};
 
 // The cost of all, where `last` is the last on period.
 fn end_at(rows: &[Option<Ended>], last: u32) -> Option<i64>

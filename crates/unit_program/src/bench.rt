@@ -10,12 +10,11 @@ ghost use Rattle.uc_model.specs.declared.limits.TheConstants.{MOST_PERIODS, MOST
 ghost use Rattle.unit_program.specs.Benches.{IsBenchFor};
 ghost use Rattle.unit_table.specs.Limits.{IsFilledWithin, IsEndWithin, EachCostsMore};
 ghost use Rattle.unit_table.specs.Live.{left_at, HaveRoom};
-ghost use Rattle.unit_table.specs.Rows.{cost_at, first_at};
+ghost use Rattle.unit_rows.specs.Rows.{cost_at, first_at};
 ghost use Rattle.unit_table.specs.Runners.{HaveWays};
 
 use crate::answer::least_end;
 use crate::kept::{Kept, NO_BOUND, guess_of};
-use crate::limits::fill_limits;
 use cost_curve::curves::curve_into;
 use plain_lists::lists::{Numbers, ReservedList};
 use slope_list::Slopes;
@@ -23,13 +22,14 @@ use std::alloc::{AllocError, Global};
 use std::mem::swap;
 use uc_model::laws::earnings_are_within;
 use uc_model::units::{Blocks, Curve, Prices, Unit};
+use unit_limits::fill_limits;
+use unit_rows::origins::Origins;
+use unit_rows::table::{Entry, Table};
 use unit_table::laws::limits_keep_rows;
-use unit_table::origins::Origins;
 use unit_table::periods::fill_by_periods;
 use unit_table::question::Question;
 use unit_table::roster::Roster;
 use unit_table::runner::Runner;
-use unit_table::table::{Entry, Table};
 
 /// Memory for the answers of units over so many periods, with so many cost points. What it holds
 /// between two calls is open.

@@ -16,7 +16,6 @@ pub mod answer;
 pub mod bench;
 pub mod kept;
 pub mod laws;
-pub mod limits;
 pub mod way;
 
 pub use bench::Bench;

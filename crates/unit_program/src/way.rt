@@ -9,7 +9,7 @@ ghost use Rattle.unit_program.specs.Backs.{IsWritten, IsWrittenBack};
 ghost use Rattle.unit_program.specs.Builds.{IsIdle};
 ghost use Rattle.unit_table.specs.Limits.{IsRowWithin, IsEndWithin};
 ghost use Rattle.unit_table.specs.Live.{left_at};
-ghost use Rattle.unit_table.specs.Rows.{cost_at, first_at};
+ghost use Rattle.unit_rows.specs.Rows.{cost_at, first_at};
 ghost use Rattle.unit_table.specs.Runners.{HaveWays};
 
 use crate::answer::{clear, is_all_off, negated};
@@ -17,9 +17,9 @@ use slope_list::Slopes;
 use spell_run::write_spell;
 use uc_model::laws::start_costs_are_within;
 use uc_model::units::{Answered, Prices, Unit};
+use unit_rows::table::{Ended, Entry};
 use unit_table::laws::limits_keep_rows;
 use unit_table::runner::Runner;
-use unit_table::table::{Ended, Entry};
 
 // Writes a dispatch of least net cost of the spell from `first` to `last`; nothing where it ends
 // before period 1.

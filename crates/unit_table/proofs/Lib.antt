@@ -1,6 +1,6 @@
 -- The names from elsewhere that the proofs here cite.
 pub mod Common
--- the table before the first period, and what it is read from
+-- what a spell begins with, by the rows that it is read from, and a stop in the first period
 pub mod BeginLaws
 -- the table as far as it is within the limits: what is above them can't become the answer
 pub mod LimitLaws
@@ -8,19 +8,17 @@ pub mod LimitLaws
 pub mod LiveLaws
 -- the places of a list that a spell left, read and written
 pub mod NoteLaws
--- the ends that the next start may follow, a period later, and the cheapest start
+-- the ends that the next start may follow, as a period of the table asks for them
 pub mod OriginLaws
 -- a period of the table, from its runners
 pub mod PeriodLaws
 -- what the rules of a step or a dispatch say of the range of a period, and what that says of a limit
 pub mod RangeLaws
--- when the unit has been off for long enough
-pub mod RipeLaws
 -- the list of the runners that are on: one more, some fewer, and a loop over it
 pub mod RosterLaws
 -- the table row by row: a period more, and all periods
 pub mod RowByRowLaws
--- rows of the table, and one of them written
+-- what is read off rows of the table
 pub mod RowLaws
 -- all runners over a period, one after the other
 pub mod RunAllLaws
@@ -28,8 +26,6 @@ pub mod RunAllLaws
 pub mod RunnerRowLaws
 -- a runner that stands for a run goes on standing for it: a period more, a start that isn't begun, a runner that goes
 pub mod StandInLaws
--- the cost of a start is within the limits of a lag's cost
-pub mod StartCosts
 -- a runner begun, and none
 pub mod StartLaws
 -- sums from a place to a place

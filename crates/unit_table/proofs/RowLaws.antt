@@ -1,7 +1,6 @@
--- Rows of the table, and one of them written.
-use Rattle.unit_table.proofs.Common.{◌≡◌, ℕ, ◌<◌, Option, Some, None, ℤ, ◌≤ℤ◌, List, length, refl, ap, ◌∙◌}
-use Rattle.unit_table.proofs.Common.{get_or-set_same, arith, slice_set, option_map, option_map_or, ints, Ended}
-use Rattle.unit_table.proofs.Common.{HasAtMost, row_at, cost_at, first_at, before_at}
+-- What is read off rows of the table.
+use Rattle.unit_table.proofs.Common.{◌≡◌, ℕ, Option, Some, None, ℤ, List, refl, ap, option_map, option_map_or, Ended}
+use Rattle.unit_table.proofs.Common.{row_at, cost_at, first_at, before_at}
 
 module _ (a b : List (Option Ended)) (l k : ℕ) (same : row_at a l ≡ row_at b k) where
   pub cost-same : cost_at a l ≡ cost_at b k
@@ -31,20 +30,3 @@ cost_from rows l v is = elim (row_at rows l) as (λ o. row_at rows l ≡ o →
       | None ↦ λ row cost. cc
       | Some r ↦ λ row cost. (r, row, (cc))
     ] refl is
-
-module _ (rows rows' : List (Option Ended)) (last : ℕ) (e : Ended) (room : last < length rows)
-    (set : rows' ≡ slice_set rows last (Some e)) where
-  pub written : row_at rows' last ≡ Some e
-  written = ap (λ (xs : List (Option Ended)). row_at xs last) set ∙ get_or-set_same rows last (Some e) None room
-
-  pub written_added : HasAtMost (cost_at rows' last) e.cost
-  written_added = (e.cost, cost-is rows' last e written, omega (arith, ints))
-
-  -- a cost that is written is no greater than the one before it
-  pub written_old : ((r : Ended) → row_at rows last ≡ Some r → e.cost ≤ℤ r.cost) → (v : ℤ) →
-      cost_at rows last ≡ Some v → HasAtMost (cost_at rows' last) v
-  written_old low v is =
-      let r = cost_from rows last v is in
-      let below = low r.0 r.1 in
-      let same = r.2 in
-      (e.cost, cost-is rows' last e written, omega (arith, ints, below, same))

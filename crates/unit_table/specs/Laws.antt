@@ -5,9 +5,9 @@ use Rattle.uc_model.specs.BoundLaws.{StartCostsAreWithin}
 use Rattle.uc_model.specs.Data.{ThermalUnit, PriceLists, Schedule}
 use Rattle.uc_model.specs.Limits.{IsThermalUnit}
 use Rattle.spell_run.specs.Spells.{IsDispatch, IsSpellAnswer, spell_cost}
-use Rattle.unit_table.specs.Limits.{AreLimits, cap_of_row}
-use Rattle.unit_table.specs.Spells.{IsSpell, StopsAtOnce}
-use Rattle.unit_table.specs.Tables.{IsStarted}
+use Rattle.unit_rows.specs.Limits.{AreLimits, cap_of_row}
+use Rattle.unit_rows.specs.Spells.{IsSpell, StopsAtOnce}
+use Rattle.unit_rows.specs.Ends.{IsStarted}
 
 -- a row within its limit is kept as it is, and the others read as the first number above it
 abbrev pub CappedRowsAreRows : Type 0

@@ -1,11 +1,8 @@
 pub mod Laws
 pub mod Limits
 pub mod Live
-pub mod Origins
 pub mod Questions
 pub mod Rosters
-pub mod Rows
 pub mod Runners
-pub mod Spells
 pub mod Tables
 pub mod Taken

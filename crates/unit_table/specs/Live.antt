@@ -7,8 +7,8 @@ use Rattle.uc_model.specs.Data.{ThermalUnit, PriceLists}
 use Rattle.spell_run.specs.declared.way.Passed.{Passed}
 use Rattle.spell_run.specs.Notes.{passed_at}
 use Rattle.unit_table.specs.declared.runner.Runner.{Runner}
-use Rattle.unit_table.specs.declared.table.Ended.{Ended}
-use Rattle.unit_table.specs.Rows.{cost_at, first_at, before_at, IsWithinTimes, AreWithin}
+use Rattle.unit_rows.specs.declared.table.Ended.{Ended}
+use Rattle.unit_rows.specs.Rows.{cost_at, first_at, before_at, IsWithinTimes, AreWithin}
 use Rattle.unit_table.specs.Runners.{Going, IsTableTo, AreRunners}
 
 abbrev pub going_of : {R : Type 0} → (R → Table) → Option (Runner R) → Option Going

@@ -14,9 +14,10 @@ use Rattle.spell_run.specs.Frontier.{IsFrontier}
 use Rattle.spell_run.specs.Notes.{IsOnNoted, IsEndNoted, IsSpellNoted}
 use Rattle.spell_run.specs.Spells.{spell_cost, IsDispatch, IsLeastSpell}
 use Rattle.spell_run.specs.Steps.{level, IsRun}
-use Rattle.unit_table.specs.Rows.{IsWithinTimes}
-use Rattle.unit_table.specs.Spells.{IsSpell, on_time}
-use Rattle.unit_table.specs.Tables.{HasAtMost, IsEntry, IsLeastEntry, IsFrom}
+use Rattle.unit_rows.specs.Rows.{IsWithinTimes}
+use Rattle.unit_rows.specs.Spells.{IsSpell, on_time}
+use Rattle.unit_rows.specs.Ends.{HasAtMost, IsEntry, IsLeastEntry}
+use Rattle.unit_table.specs.Tables.{IsFrom}
 
 -- what a runner has: the on period before its first one, the cost of its entry, a function of the
 -- power, and what it left at each place for the way back

@@ -5,14 +5,14 @@ use Rattle.std.specs.Prelude.{slice_get, Option, Some, None}
 use Rattle.shape_law.specs.Table.{Table}
 use Rattle.uc_model.specs.Data.{ThermalUnit, PriceLists}
 use Rattle.spell_run.specs.Frontier.{IsFrontier}
-use Rattle.unit_table.specs.declared.origins.Origins.{Origins}
+use Rattle.unit_rows.specs.declared.origins.Origins.{Origins}
 use Rattle.unit_table.specs.declared.roster.Roster.{Roster}
 use Rattle.unit_table.specs.declared.runner.Runner.{Runner}
-use Rattle.unit_table.specs.declared.table.Ended.{Ended}
+use Rattle.unit_rows.specs.declared.table.Ended.{Ended}
 use Rattle.unit_table.specs.Live.{live_at, left_at, IsRoomy, AreRoomy, HaveRoom}
 use Rattle.unit_table.specs.Live.{IsFilledTo}
 use Rattle.unit_table.specs.Rosters.{IsRoster}
-use Rattle.unit_table.specs.Rows.{row_at, cost_at, first_at, before_at, IsWithinTimes, AreWithin}
+use Rattle.unit_rows.specs.Rows.{row_at, cost_at, first_at, before_at, IsWithinTimes, AreWithin}
 use Rattle.unit_table.specs.Runners.{Going, MayBeOn, IsRowOf, IsGoneOn, IsEndLeft, HaveWays}
 
 -- no other runner is on, and those that are stay as they are

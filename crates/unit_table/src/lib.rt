@@ -5,15 +5,12 @@
 //! than a limit. Each leaves of its periods what the way back from a row needs.
 #![tactic(auto)]
 
-pub mod commitment;
 pub mod laws;
 pub mod notes;
-pub mod origins;
 pub mod periods;
 pub mod question;
 pub mod roster;
 pub mod runner;
-pub mod table;
 
 pub use periods::fill_by_periods;
 pub use question::Question;

@@ -10,30 +10,31 @@ ghost use Rattle.slope_list.specs.Slopes.{shown, count_of, room_of};
 ghost use Rattle.uc_model.specs.Data.{PriceLists};
 ghost use Rattle.uc_model.specs.PlainUnits.{thermal_of};
 ghost use Rattle.uc_model.specs.declared.limits.TheConstants.{MOST_PERIODS};
-ghost use Rattle.unit_table.specs.Limits.{AreLimits, IsFilledWithin};
+ghost use Rattle.unit_rows.specs.Limits.{AreLimits};
+ghost use Rattle.unit_table.specs.Limits.{IsFilledWithin};
 ghost use Rattle.unit_table.specs.Live.{live_at, left_at, AreRoomy, AreSmall, HaveRoom};
 ghost use Rattle.unit_table.specs.Live.{IsFilledTo};
 ghost use Rattle.unit_table.specs.Questions.{unit_of, prices_in, periods_in, charge_of};
 ghost use Rattle.unit_table.specs.Questions.{limits_in};
 ghost use Rattle.unit_table.specs.Taken.{AreKept, IsSweptTo, AreLonger, AreAsLong};
-ghost use Rattle.unit_table.specs.Origins.{AreInOrder, AreOrigins, AreOriginsWithin};
+ghost use Rattle.unit_rows.specs.Origins.{AreInOrder, AreOrigins, AreOriginsWithin};
 ghost use Rattle.unit_table.specs.Rosters.{IsRoster};
-ghost use Rattle.unit_table.specs.Rows.{row_at, cost_at, first_at, IsWithinTimes};
+ghost use Rattle.unit_rows.specs.Rows.{row_at, cost_at, first_at, IsWithinTimes};
 ghost use Rattle.unit_table.specs.Runners.{AreRunners, HaveWays};
-ghost use Rattle.unit_table.specs.Tables.{IsLeastEntry};
+ghost use Rattle.unit_rows.specs.Ends.{IsLeastEntry};
 
-use crate::commitment::is_must_off;
-use crate::origins::Origins;
 use crate::question::Question;
 use crate::roster::Roster;
 use crate::runner::{
     Runner, begin_runner, drop_beyond, is_less, is_undercut, prune, run_all, stop_all,
 };
-use crate::table::{Entry, Table, begin_table};
 use slope_list::Slopes;
 use spell_run::laws::{dispatches_are_runs, dispatches_go_on, runs_go_on};
 use uc_model::laws::start_costs_are_within;
 use uc_model::units::Unit;
+use unit_rows::commitment::is_must_off;
+use unit_rows::origins::Origins;
+use unit_rows::table::{Entry, Table, begin_table};
 
 // Begins the runner of the period after the one at a place after its least entry, if that is within
 // the limit and no runner undercuts it.
@@ -100,6 +101,7 @@ fn start(
     ensures roster { IsRoster (live_at shown runners.new) (suc (suc place)) roster.new }
     ensures list { length roster.new.firsts.items ≡ length roster.old.firsts.items }
 {
+    start_costs_are_within();
     if !origins.is_within(limit) {
         return;
     }

@@ -18,23 +18,23 @@ ghost use Rattle.unit_table.specs.Live.{going_of, live_at, left_at, places_of, I
 ghost use Rattle.unit_table.specs.Live.{AreSmall, IsUnder, IsBeyond, IsBelow, HaveRoom};
 ghost use Rattle.unit_table.specs.Questions.{unit_of, prices_in, periods_in, charge_of};
 ghost use Rattle.unit_table.specs.Rosters.{IsRoster};
-ghost use Rattle.unit_table.specs.Rows.{row_at, cost_at, first_at, before_at, IsWithinTimes};
-ghost use Rattle.unit_table.specs.Rows.{AreWithin};
+ghost use Rattle.unit_rows.specs.Rows.{row_at, cost_at, first_at, before_at, IsWithinTimes};
+ghost use Rattle.unit_rows.specs.Rows.{AreWithin};
 ghost use Rattle.unit_table.specs.Runners.{Going, MayBeOn, AreRunners, IsRowOf, IsGoneOn};
 ghost use Rattle.unit_table.specs.Runners.{IsEndLeft};
-ghost use Rattle.unit_table.specs.Spells.{on_time};
+ghost use Rattle.unit_rows.specs.Spells.{on_time};
 ghost use Rattle.unit_table.specs.Taken.{AreFewer, AreKept, IsReady, IsRowMore, IsOneRun};
 ghost use Rattle.unit_table.specs.Taken.{IsRunOver};
 
-use crate::commitment::{is_long_enough, may_end};
 use crate::notes::leave_at;
 use crate::question::Question;
 use crate::roster::Roster;
-use crate::table::{Entry, Table, put_end, sum_of};
 use plain_lists::lists::ReservedList;
 use slope_list::{Lowest, Slopes};
 use spell_run::{Passed, begin, end_and_run, run_over};
 use uc_model::units::Unit;
+use unit_rows::commitment::{is_long_enough, may_end};
+use unit_rows::table::{Entry, Table, put_end, sum_of};
 
 /// The spells that begin with one period; its place in a list of runners is that period, and 0
 /// stands for spells that go on from before the horizon. Where it isn't on, the rest is open.

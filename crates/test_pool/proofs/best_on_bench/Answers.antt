@@ -1,7 +1,7 @@
 use Rattle.std.proofs.Common.{◌≡◌, Result, Ok, Err, true, length, refl}
 use Rattle.std.specs.Prelude.{OnOk, is_ok}
 use Rattle.uc_model.specs.PlainUnits.{thermal_of, prices_of}
-use Rattle.unit_table.specs.Rows.{cost_at}
+use Rattle.unit_rows.specs.Rows.{cost_at}
 use Rattle.test_pool.proofs.best_on_bench.Goals as goal
 
 -- what holds of an answer that came

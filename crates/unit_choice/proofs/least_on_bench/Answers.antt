@@ -3,10 +3,10 @@ use Rattle.std.proofs.Common.{List, Option, length, sym, ap, subst, arith}
 use Rattle.uc_model.specs.PlainUnits.{thermal_of, prices_of}
 use Rattle.unit_table.specs.Limits.{IsEndWithin}
 use Rattle.unit_table.specs.Live.{left_at}
-use Rattle.unit_table.specs.Rows.{cost_at, first_at}
+use Rattle.unit_rows.specs.Rows.{cost_at, first_at}
 use Rattle.unit_table.specs.Runners.{HaveWays}
 use Rattle.unit_table.specs.declared.runner.Runner.{Runner}
-use Rattle.unit_table.specs.declared.table.Ended.{Ended}
+use Rattle.unit_rows.specs.declared.table.Ended.{Ended}
 use Rattle.unit_choice.proofs.least_on_bench.Goals as goal
 
 pub write_noted-requires-clause-ways : goal.write_noted-requires-clause-ways

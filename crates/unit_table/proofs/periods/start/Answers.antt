@@ -28,7 +28,8 @@ returns-then-not-is_within-clause-stands c = λ π limits ends here origins now.
     (c.args.limit +ℤ pos 1) ≤ℤ o.cost = told refl in
     starts_beyond (thermal_of c.args.unit.now) π limits ends c.args.place (live_at shown c.args.runners.now)
     (live_at shown c.args.runners.now) now
-    (λ e entry. (let above = entry_beyond (thermal_of c.args.unit.now) ends c.args.place c.args.origins.now origins
+    (λ e entry. (let above = entry_beyond (thermal_of c.args.unit.now) ends c.args.place c.args.origins.now
+    c.start_costs_are_within.ensures origins
     c.args.unit.now.valid.lags c.args.limit far e entry in omega (arith, ints, above, here)))
 
 pub returns-then-not-is_within-clause-roster : goal.returns-then-not-is_within-clause-roster

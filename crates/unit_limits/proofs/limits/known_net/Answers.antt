@@ -1,0 +1,126 @@
+use Rattle.unit_limits.proofs.Common.{rules, ◌≡◌, inl, inr, ℕ, ◌-◌, pos, ◌-ℤ◌, ◌*ℤ◌, ◌≤ℤ◌, ℤ, length, sym, subst}
+use Rattle.unit_limits.proofs.Common.{arith, FitsSigned, w64, ints, to_z-of_z, Point, All, HasLeastNet, IsFrom, neg_ℤ}
+use Rattle.unit_limits.proofs.Lemmas.{known_least, has_least, known_more}
+use Rattle.unit_limits.proofs.limits.known_net.Goals as goal
+
+abbrev none : Point
+none = record { at = pos 0; cost = pos 0 }
+
+pub returns-then-price-known-clause-least : goal.returns-then-price-known-clause-least
+returns-then-price-known-clause-least c =
+    let some = c.requires.some in
+    let fits_price : FitsSigned w64 c.args.price = search rules in
+    let fits_first : FitsSigned w64 c.args.known.now.first_to = search rules in
+    let fits : FitsSigned w64 c.net_of-first.result = search rules in
+    let value = simp to_z-of_z at c.net_of-first.ensures.value in
+    let low : c.args.price ≤ℤ c.args.known.now.first_to =
+    (let h = simp to_z-of_z at c.if-price-known.true in omega (arith, ints, h)) in
+    known_least c.args.points.now none 0 (omega (arith, some)) c.args.price c.net_of-first.result _ value
+    (to_z-of_z w64 c.net_of-first.result fits)
+    (c.requires.known.first c.args.price c.requires.price.at_least low)
+
+pub net_of-last-requires-clause-point : goal.net_of-last-requires-clause-point
+net_of-last-requires-clause-point c =
+    (let some = c.requires.some in c.requires.points (length c.args.points.now - 1) none (omega (arith, some)))
+
+pub returns-then-price-known-2-clause-least : goal.returns-then-price-known-2-clause-least
+returns-then-price-known-2-clause-least c =
+    let some = c.requires.some in
+    let fits_price : FitsSigned w64 c.args.price = search rules in
+    let fits_last : FitsSigned w64 c.args.known.now.last_from = search rules in
+    let fits : FitsSigned w64 c.net_of-last.result = search rules in
+    let value = simp to_z-of_z at c.net_of-last.ensures.value in
+    let high : c.args.known.now.last_from ≤ℤ c.args.price =
+    (let h = simp to_z-of_z at c.if-price-known-2.true in omega (arith, ints, h)) in
+    known_least c.args.points.now none (length c.args.points.now - 1) (omega (arith, some)) c.args.price
+    c.net_of-last.result _ value (to_z-of_z w64 c.net_of-last.result fits)
+    (c.requires.known.last (length c.args.points.now - 1) c.args.price (omega (arith, some)) high
+    c.requires.price.at_most)
+
+pub returns-clause-least : goal.returns-clause-least
+returns-clause-least c =
+    let ps = c.args.points.now in
+    let fits_price : FitsSigned w64 c.args.price = search rules in
+    let fits : FitsSigned w64 c.least_net-least.result = search rules in
+    let all : All (λ (p : Point). c.least_net-least.result ≤ℤ (p.cost -ℤ (c.args.price *ℤ p.at))) ps =
+    subst (λ (k : ℤ). All (λ (p : Point). c.least_net-least.result ≤ℤ (p.cost -ℤ (k *ℤ p.at))) ps)
+    (to_z-of_z w64 c.args.price fits_price) c.least_net-least.ensures.least in
+    subst (λ (z : ℤ). All (λ (p : Point). z ≤ℤ (p.cost -ℤ (c.args.price *ℤ p.at))) ps)
+    (sym (to_z-of_z w64 c.least_net-least.result fits)) all
+
+pub returns-clause-known : goal.returns-clause-known
+returns-clause-known c =
+    let ps = c.args.points.now in
+    let some = c.requires.some in
+    let fits_price : FitsSigned w64 c.args.price = search rules in
+    let fits_low : FitsSigned w64 c.known_at-known.result = search rules in
+    let fits_high : FitsSigned w64 c.known_at-known-2.result = search rules in
+    let fits_first_to : FitsSigned w64 c.args.known.now.first_to = search rules in
+    let fits_last_from : FitsSigned w64 c.args.known.now.last_from = search rules in
+    let fits_first : FitsSigned w64 c.net_of-first.result = search rules in
+    let fits_last : FitsSigned w64 c.net_of-last.result = search rules in
+    let fits_least : FitsSigned w64 c.least_net-least.result = search rules in
+    let all : All (λ (p : Point). c.least_net-least.result ≤ℤ (p.cost -ℤ (c.args.price *ℤ p.at))) ps =
+    subst (λ (k : ℤ). All (λ (p : Point). c.least_net-least.result ≤ℤ (p.cost -ℤ (k *ℤ p.at))) ps)
+    (to_z-of_z w64 c.args.price fits_price) c.least_net-least.ensures.least in
+    let first_is = simp to_z-of_z at c.net_of-first.ensures.value in
+    let last_is = simp to_z-of_z at c.net_of-last.ensures.value in
+    let first = simp to_z-of_z at c.known_at-known.ensures in
+    let last = simp to_z-of_z at c.known_at-known-2.ensures in
+    simp to_z-of_z (known_more ps c.requires.ordered c.args.price c.args.known.now.first_to c.args.known.now.last_from
+    c.known_at-known.result c.known_at-known-2.result c.requires.known
+    (elim first [
+      | inl z ↦ inl z
+      | inr h ↦ inr (
+        h.0,
+        has_least ps none 0 (omega (arith, some)) c.args.price c.net_of-first.result
+            c.least_net-least.result first_is h.1 all,
+      )
+    ])
+    (elim last [
+      | inl z ↦ inl z
+      | inr h ↦ inr (
+        h.0,
+        λ n end.
+            (let e : length ps - 1 ≡ n = omega (arith, end) in
+            subst (λ (k : ℕ). HasLeastNet ps k c.args.price) e
+            (has_least ps none (length ps - 1) (omega (arith, some)) c.args.price c.net_of-last.result
+            c.least_net-least.result last_is h.1 all)),
+      )
+    ]))
+
+pub bounds-points-0 : goal.bounds-points-0
+bounds-points-0 c = c.requires.some
+
+pub overflow_sub-points : goal.overflow_sub-points
+overflow_sub-points c = c.requires.some
+
+pub bounds-points-points : goal.bounds-points-points
+bounds-points-points c =
+    let some = c.requires.some in
+    omega (arith, some)
+
+pub offset_bounds-points-points : goal.offset_bounds-points-points
+offset_bounds-points-points c =
+    let some = c.requires.some in
+    omega (arith, some)
+
+pub net_of-first-requires-clause-point : goal.net_of-first-requires-clause-point
+net_of-first-requires-clause-point c =
+    let some = c.requires.some in
+    c.requires.points 0 none (omega (arith, some))
+
+pub returns-then-price-known-clause-bound : goal.returns-then-price-known-clause-bound
+returns-then-price-known-clause-bound c =
+    subst (IsFrom (neg_ℤ (pos 20010000000000000)) (pos 20010000000000000))
+    (sym (to_z-of_z w64 c.net_of-first.result (search rules))) c.net_of-first.ensures.bound
+
+pub returns-clause-bound : goal.returns-clause-bound
+returns-clause-bound c =
+    subst (IsFrom (neg_ℤ (pos 20010000000000000)) (pos 20010000000000000))
+    (sym (to_z-of_z w64 c.least_net-least.result (search rules))) c.least_net-least.ensures.bound
+
+pub returns-then-price-known-2-clause-bound : goal.returns-then-price-known-2-clause-bound
+returns-then-price-known-2-clause-bound c =
+    subst (IsFrom (neg_ℤ (pos 20010000000000000)) (pos 20010000000000000))
+    (sym (to_z-of_z w64 c.net_of-last.result (search rules))) c.net_of-last.ensures.bound

@@ -1,0 +1,91 @@
+use Rattle.unit_rows.proofs.Common.{rules, ◌≡◌, ◌⊎◌, inl, inr, ℕ, suc, ◌+◌, ◌*◌, ◌+ℤ◌, Option, Some, None, ℤ, refl, ap}
+use Rattle.unit_rows.proofs.Common.{◌∙◌, subst, arith, FitsSigned, IfSome, IfNone, w64, ints, to_z-of_z, thermal_of}
+use Rattle.unit_rows.proofs.Common.{Entry, AreOrigins, HasEntryAtMost, IsWithinTimes, start_cost_after, IsEntry}
+use Rattle.unit_rows.proofs.Common.{IsLeastEntry}
+use Rattle.unit_rows.proofs.Lemmas.{if_some, IsLeastUpTo, one_more, least_of_origins, none_of_origins}
+use Rattle.unit_rows.proofs.origins.Origins.least.Goals as goal
+
+pub sum_of-cost-requires-clause-a : goal.sum_of-cost-requires-clause-a
+sum_of-cost-requires-clause-a c =
+    let o = c.get-origin.result.now in
+    let fits : FitsSigned w64 o.cost = search rules in
+    let within = c.requires.within.cost c.loop-place.place o c.loop-place-test.true c.get-origin.ensures.item in
+    let last = c.requires.within.last c.loop-place.place o c.loop-place-test.true c.get-origin.ensures.item in
+    let small = c.requires.small in
+    let low = within.at_least in
+    let high = within.at_most in
+    let r : IsWithinTimes 400 o.cost = record
+    { at_least = omega (arith, ints, low, last, small); at_most = omega (arith, ints, high, last, small) } in
+    simp to_z-of_z r
+
+pub loop-place-preserved : goal.loop-place-preserved
+loop-place-preserved c =
+    let u = thermal_of c.args.unit.now in
+    let o = c.get-origin.result.now in
+    let x = c.sum_of-cost.result in
+    let start = c.start_after.result in
+    let least' = c.lesser-least.result in
+    let fits : FitsSigned w64 o.cost = search rules in
+    let fits_start : FitsSigned w64 start = search rules in
+    let fits_sum : FitsSigned w64 x = search rules in
+    let sum : x ≡ o.cost +ℤ start = simp to_z-of_z at c.sum_of-cost.ensures in
+    let started : start ≡ start_cost_after u o.last c.args.period = c.start_after.ensures.value in
+    let within = c.requires.within.cost c.loop-place.place o c.loop-place-test.true c.get-origin.ensures.item in
+    let last = c.requires.within.last c.loop-place.place o c.loop-place-test.true c.get-origin.ensures.item in
+    let low = within.at_least in
+    let high = within.at_most in
+    let low' = c.start_after.ensures.bound.at_least in
+    let high' = c.start_after.ensures.bound.at_most in
+    let from : IfSome least'
+    (λ (r : Entry). (c.loop-place.least ≡ Some r) ⊎ ((Some x ≡ Some r.cost) × (r.last ≡ o.last))) = simp to_z-of_z
+    at c.lesser-least.ensures.from in
+    let added : (v : ℤ) → Some x ≡ Some v → HasEntryAtMost least' v = simp to_z-of_z at c.lesser-least.ensures.added in
+    one_more u c.args.period c.args.self.now c.requires.order c.loop-place.place c.loop-place-test.true o
+    c.get-origin.ensures.item x (sum ∙ ap (λ (v : ℤ). o.cost +ℤ v) started)
+    (record {
+      at_least = omega (arith, ints, low, low', last, sum);
+      at_most = omega (arith, ints, high, high', last, sum);
+    })
+    c.loop-place.least least' c.loop-place.invariant
+    (λ r is. elim (if_some (λ (r : Entry). (c.loop-place.least ≡ Some r) ⊎ ((Some x ≡ Some r.cost) × (r.last ≡ o.last)))
+    least' r is from) [
+      | inl h ↦ inl h
+      | inr h ↦ inr ((let e = h.0 in cc), h.1)
+    ])
+    c.lesser-least.ensures.old (added x refl) c.lesser-least.ensures.kept
+
+pub returns-clause-some : goal.returns-clause-some
+returns-clause-some c =
+    let u = thermal_of c.args.unit.now in
+    let end : c.loop-place.place ≡ c.args.self.now.count = omega arith in
+    let all = subst (λ (i : ℕ). IsLeastUpTo u c.args.period c.args.self.now i c.loop-place.least) end
+    c.loop-place.invariant in
+    elim (c.loop-place.least) as (λ o. c.loop-place.least ≡ o →
+    IfSome o (λ e. (ends : ℕ → Option ℤ) → AreOrigins u ends c.args.period c.args.self.now →
+    IsLeastEntry u ends (suc c.args.period) e.last e.cost)) [
+      | None ↦ λ is. tt
+      | Some r ↦ λ is. (λ ends now. least_of_origins u c.args.period c.args.self.now ends now c.loop-place.least all r
+          is)
+    ] refl
+
+pub returns-clause-none : goal.returns-clause-none
+returns-clause-none c =
+    let u = thermal_of c.args.unit.now in
+    let end : c.loop-place.place ≡ c.args.self.now.count = omega arith in
+    let all = subst (λ (i : ℕ). IsLeastUpTo u c.args.period c.args.self.now i c.loop-place.least) end
+    c.loop-place.invariant in
+    elim (c.loop-place.least) as (λ o. c.loop-place.least ≡ o →
+    IfNone o ((ends : ℕ → Option ℤ) (e : ℤ) → AreOrigins u ends c.args.period c.args.self.now →
+    IsEntry u ends (suc c.args.period) e → ⊥)) [
+      | None ↦ λ is. (λ ends e now entry. none_of_origins u c.args.period c.args.self.now ends now c.loop-place.least
+          all is e entry)
+      | Some r ↦ λ is. tt
+    ] refl
+
+pub returns-clause-bound : goal.returns-clause-bound
+returns-clause-bound c =
+    elim (c.loop-place.least) as (λ o. c.loop-place.least ≡ o →
+    IfSome o (λ e. IsWithinTimes (2 * c.args.period + 3) e.cost)) [
+      | None ↦ λ is. tt
+      | Some r ↦ λ is. c.loop-place.invariant.bound r is
+    ] refl

@@ -1,0 +1,8 @@
+use Rattle.unit_rows.proofs.Common.{arith}
+use Rattle.unit_rows.proofs.origins.Origins.place_for.Goals as goal
+
+pub get-requires : goal.get-requires
+get-requires c =
+    let low = c.loop-back-test.true in
+    let room = c.requires in
+    omega (arith, low, room)

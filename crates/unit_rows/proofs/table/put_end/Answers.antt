@@ -1,0 +1,47 @@
+use Rattle.unit_rows.proofs.Common.{rules, ◌≡◌, suc, ◌+◌, ◌-◌, ◌*◌, ◌+ℤ◌, Option, ℤ, sym, ◌∙◌, subst, arith, to_z}
+use Rattle.unit_rows.proofs.Common.{of_z, FitsSigned, IfSome, w64, ints, to_z-of_z, IsWithinTimes, IsPut}
+use Rattle.unit_rows.proofs.Lemmas.{if_some}
+use Rattle.unit_rows.proofs.table.put_end.Goals as goal
+
+pub put-requires-clause-bound : goal.put-requires-clause-bound
+put-requires-clause-bound c =
+    let within = if_some (IsWithinTimes (suc c.args.last - c.args.first)) c.args.net c.in-Some.net c.in-Some.is
+    c.requires.net_bound in
+    let order = c.requires.order in
+    let fits : FitsSigned w64 c.sum_of.result = search rules in
+    let fits_net : FitsSigned w64 c.in-Some.net = search rules in
+    let fits_entry : FitsSigned w64 c.args.entry.now.cost = search rules in
+    let sum : c.sum_of.result ≡ c.args.entry.now.cost +ℤ c.in-Some.net = simp to_z-of_z at c.sum_of.ensures in
+    let low = within.at_least in
+    let high = within.at_most in
+    let low' = c.requires.bound.at_least in
+    let high' = c.requires.bound.at_most in
+    let r : IsWithinTimes (2 * c.args.last + 2) c.sum_of.result = record {
+      at_least = omega (arith, ints, low, low', sum, order);
+      at_most = omega (arith, ints, high, high', sum, order);
+    } in
+    simp to_z-of_z r
+
+pub returns-in-Some-clause-some : goal.returns-in-Some-clause-some
+returns-in-Some-clause-some c =
+    let fits : FitsSigned w64 c.sum_of.result = search rules in
+    let fits_net : FitsSigned w64 c.in-Some.net = search rules in
+    let fits_entry : FitsSigned w64 c.args.entry.now.cost = search rules in
+    let sum : c.sum_of.result ≡ c.args.entry.now.cost +ℤ c.in-Some.net = simp to_z-of_z at c.sum_of.ensures in
+    let cost : to_z w64 (of_z w64 c.sum_of.result) ≡ c.args.entry.now.cost +ℤ c.in-Some.net = to_z-of_z w64 _ fits ∙
+    sum in
+    let put : IsPut c.args.last
+    (record { cost = to_z w64 (of_z w64 c.sum_of.result); first = c.args.first; before = c.args.entry.now.last })
+    c.args.table.now.items c.put.new.table.items =
+    record {
+      here = c.put.ensures.here;
+      old = c.put.ensures.old;
+      added = c.put.ensures.added;
+      latest = c.put.ensures.latest;
+    } in
+    subst (λ (o : Option ℤ). IfSome o
+    (λ (x : ℤ). IsPut c.args.last
+    (record { cost = c.args.entry.now.cost +ℤ x; first = c.args.first; before = c.args.entry.now.last })
+    c.args.table.now.items c.put.new.table.items)) (sym c.in-Some.is)
+    (subst (λ (x : ℤ). IsPut c.args.last (record { cost = x; first = c.args.first; before = c.args.entry.now.last })
+    c.args.table.now.items c.put.new.table.items) cost put)

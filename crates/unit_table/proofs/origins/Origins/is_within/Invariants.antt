@@ -1,6 +1,0 @@
-use Rattle.unit_table.proofs.Common.{◌≡◌, ℕ, ◌<◌, Some, pos, ◌+ℤ◌, ◌≤ℤ◌, slice_get, Origin}
-use Rattle.unit_table.proofs.origins.Origins.is_within.Given as goal
-
-abbrev pub invariant-loop-place : goal.invariant-loop-place
-invariant-loop-place l = (i : ℕ) (o : Origin) → i < l.place → slice_get l.self.list.items i ≡ Some o →
-    (l.limit +ℤ pos 1) ≤ℤ o.cost

@@ -1,6 +1,0 @@
-use Rattle.unit_table.proofs.Common.{thermal_of}
-use Rattle.unit_table.proofs.Lemmas.{IsLeastUpTo}
-use Rattle.unit_table.proofs.origins.Origins.least.Given as goal
-
-abbrev pub invariant-loop-place : goal.invariant-loop-place
-invariant-loop-place l = IsLeastUpTo (thermal_of l.unit) l.period l.self l.place l.least

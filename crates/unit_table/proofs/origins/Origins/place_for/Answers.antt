@@ -1,8 +1,0 @@
-use Rattle.unit_table.proofs.Common.{arith}
-use Rattle.unit_table.proofs.origins.Origins.place_for.Goals as goal
-
-pub get-requires : goal.get-requires
-get-requires c =
-    let low = c.loop-back-test.true in
-    let room = c.requires in
-    omega (arith, low, room)
