@@ -7,7 +7,7 @@ use Rattle.spell_run.proofs.Common.{IsEndNoted, end_cost, IsSpellWithin, cap_at,
 use Rattle.spell_run.proofs.Common.{IsLeastCostIn}
 use Rattle.slope_step.specs.declared.read.Spot.{Spot}
 use Rattle.spell_run.proofs.CutLaws.{cut, stepped_cut, least_cut, turn_alike}
-use Rattle.spell_run.proofs.NoteLaws.{frontier_same}
+use Rattle.spell_run.proofs.FrontierLaws.{frontier_same}
 use Rattle.spell_run.proofs.RunLaws.{run_less}
 use Rattle.spell_run.proofs.StepLaws.{step_sound}
 

@@ -404,3 +404,22 @@ module _ (g : ThermalUnit) (π : PriceLists) (first k : ℕ) (c : Curve) (unit :
             },
             front.values least.0 v least.1.there,
           )
+
+-- ---- frontiers of the same periods have the same values
+
+module _ (g : ThermalUnit) (π : PriceLists) (first t : ℕ) (f h : Table) (front : IsFrontier g π first t f)
+    (other : IsFrontier g π first t h) where
+  pub frontier_same : (x v : ℤ) → value_of f x ≡ Some v → value_of h x ≡ Some v
+  frontier_same x v there =
+      let r = front.sound x v there in
+      let c = other.complete r.run r.keeps in
+      let at : value_of h x ≡ Some c.0 = ap (value_of h) (sym r.ends) ∙ c.1 in
+      let q = other.sound x c.0 at in
+      let d = front.complete q.run q.keeps in
+      let e = same_some (value_of f x) (ap (value_of f) (sym q.ends) ∙ d.1) there in
+      let a = c.2 in
+      let b = d.2 in
+      let i = r.cost in
+      let j = q.cost in
+      let same : c.0 ≡ v = omega (arith, ints, e, a, b, i, j) in
+      at ∙ ap Some same

@@ -2,8 +2,6 @@
 pub mod Common
 -- a value that is there is one
 pub mod Options
--- the powers and the reserve of a period as they are stored, and that they stay within limits
-pub mod ChoiceLaws
 -- a function cut above a power, and a step before a stop that only cuts
 pub mod CutLaws
 -- what is noted of the last step of a spell
@@ -14,10 +12,6 @@ pub mod FairLaws
 pub mod FrontierLaws
 -- a period of one spell behind a run of another
 pub mod JoinLaws
--- the way back by what the steps noted
-pub mod NoteLaws
--- periods that are on, and one before them
-pub mod OnLaws
 -- the best reserve for given powers
 pub mod ReserveLaws
 -- runs of periods: one more period, the periods that two schedules share, and dispatches
@@ -26,11 +20,7 @@ pub mod RunLaws
 pub mod StepLaws
 -- what a value was before something was added to it
 pub mod SumLaws
--- a way on from the power before a spell is a best dispatch, and the first of those of its cost
-pub mod TieLaws
 -- the turn of a step: where the kinked function before it is least
 pub mod TurnLaws
--- the periods that are written make, with what comes before them, a dispatch of least cost
-pub mod WayLaws
 -- The lemmas that answers cite.
 pub mod Lemmas

@@ -1,4 +1,3 @@
-pub mod Entries
 pub mod Frontier
 pub mod Joins
 pub mod Laws

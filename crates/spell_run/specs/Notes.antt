@@ -1,27 +1,19 @@
 -- What the steps of a spell leave for the way back over it (Bellman's principle, and the convexity
 -- of the functions; this project's profile).
-use Rattle.std.specs.Prelude.{◌≡◌, ℕ, suc, ◌-◌, ◌<◌, ◌≤◌, ◌==◌, nat_lt, ℤ, pos, ◌+ℤ◌, ◌-ℤ◌, Bool}
+use Rattle.std.specs.Prelude.{◌≡◌, ℕ, suc, ◌-◌, ◌<◌, ◌≤◌, ◌==◌, nat_lt, ℤ, pos, Bool}
 use Rattle.std.specs.Prelude.{false, List, length, slice_index_or, Option, Some, None}
 use Rattle.std.specs.Option.{option_map}
 use Rattle.cost_curve.specs.CostCurve.{IsCostCurve}
-use Rattle.shape_law.specs.Effect.{IsLeast, IsLeastIn}
+use Rattle.shape_law.specs.Effect.{IsLeast}
 use Rattle.shape_law.specs.Table.{Table}
-use Rattle.shape_law.specs.declared.step.Step.{Step}
 use Rattle.slope_list.specs.declared.slopes.Lowest.{Lowest}
 use Rattle.slope_step.specs.Turn.{IsTurn, IsFirst, IsLast}
 use Rattle.uc_model.specs.declared.units.Curve.{Curve}
 use Rattle.uc_model.specs.Data.{ThermalUnit, PriceLists}
-use Rattle.spell_run.specs.declared.way.Note.{Note}
-use Rattle.spell_run.specs.declared.way.Passed.{Passed}
+use Rattle.spell_run.specs.declared.notes.Note.{Note}
+use Rattle.spell_run.specs.declared.notes.Passed.{Passed}
 use Rattle.spell_run.specs.Frontier.{IsFrontier}
-use Rattle.spell_run.specs.Steps.{step_at, IsKinked, IsStepped}
-
--- y is the cheapest power before a step to power x, the least of those
-pub record IsCheapest (s : Step) (f : Table) (x y : ℤ) : Type 0 where
-  pub kinked : Table
-  pub is_kinked : IsKinked s f kinked
-  pub value : ℤ
-  pub least : IsLeastIn (x -ℤ s.ramp_up) (x +ℤ s.ramp_down) kinked value y
+use Rattle.spell_run.specs.Steps.{step_at, IsStepped}
 
 -- n is noted of a step over period suc k, from the frontier of the periods before it
 pub record IsNoted (g : ThermalUnit) (π : PriceLists) (first k : ℕ) (stops : Bool) (n : Note)

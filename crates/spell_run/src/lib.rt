@@ -1,4 +1,4 @@
-//! One spell of a thermal unit: a run of periods in which it is on.
+//! One spell of a thermal unit, on the way forward: a run of periods in which it is on.
 //!
 //! The least net cost of a spell is found by a dynamic program over convex functions of the power
 //! at the end of a period. One pass gives it for every last period, and leaves what a pass back
@@ -6,10 +6,9 @@
 #![tactic(auto)]
 
 pub mod laws;
+pub mod notes;
 pub mod running;
 pub mod step;
-pub mod way;
-pub mod write;
 
+pub use notes::{Note, Passed};
 pub use running::{begin, end_and_run, run_over};
-pub use way::{Note, Passed, write_spell};

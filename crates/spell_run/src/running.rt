@@ -11,8 +11,8 @@ ghost use Rattle.spell_run.specs.Spells.{IsSpellAnswer, IsSpellWithin};
 ghost use Rattle.uc_model.specs.Data.{PriceLists};
 ghost use Rattle.uc_model.specs.PlainUnits.{thermal_of, prices_of};
 
+use crate::notes::{Note, Passed};
 use crate::step::{is_alike, starts_in, step_of};
-use crate::way::{Note, Passed};
 use cost_curve::laws::envelope_is_cost;
 use slope_list::{Lowest, Slopes, Spot};
 use uc_model::units::{Curve, Prices, Unit};

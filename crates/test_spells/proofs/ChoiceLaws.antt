@@ -1,6 +1,6 @@
 -- The powers that one is chosen from as they are stored, and what is chosen.
 use Rattle.test_spells.proofs.Common.{◌≡◌, ℕ, ℤ, ◌+ℤ◌, ◌-ℤ◌, sym, ap, ◌∙◌, subst, arith, ints, reserve_term, IsLeastIn, Table, value_of, HasNone, Some, Schedule, IsFrom, IsOutput, Step, IsWritten, IsChosen, best_reserve, IsFairStep, IsKinked, IsSmall}
-use Rattle.spell_run.proofs.ChoiceLaws.{stored, stored_within, output_stored}
+use Rattle.spell_way.proofs.ChoiceLaws.{stored, stored_within, output_stored}
 use Rattle.spell_run.proofs.SumLaws.{added}
 
 module _ (s : Step) (fair : IsFairStep s) (p : ℤ) (p_out : IsOutput p) where

@@ -1,6 +1,6 @@
 -- Functions with the same values, and the range of a step as it is stored.
 use Rattle.test_spells.proofs.Common.{◌≡◌, ℕ, ℤ, ◌+ℤ◌, Bool, true, Option, sym, ap, ◌∙◌, option_map, reserve_term, Table, IsSame, Curve, ThermalUnit, PriceLists, Step, step_at, IsFairStep, IsSmall, IsStepped, IsLeastCostIn}
-use Rattle.spell_run.proofs.ChoiceLaws.{stored}
+use Rattle.spell_way.proofs.ChoiceLaws.{stored}
 use Rattle.spell_run.proofs.FairLaws.{IsStep, range_moved}
 
 -- the least cost at the powers of a step before a stop

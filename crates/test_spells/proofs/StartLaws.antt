@@ -1,7 +1,7 @@
 -- The function before a spell, and the whole way from there, by whether the unit starts.
 use Rattle.test_spells.proofs.Common.{ℕ, ◌≤◌, ◌-◌, ◌≡◌, ℤ, pos, Bool, true, false, cond, refl, subst, arith, length, IsPoint, Table, ThermalUnit, PriceLists, Schedule, IsThermalUnit, ArePrices, IsFrontier, IsWayFrom, IsBestDispatch, IsFirstDispatch, IsSpellStart, spell_first}
 use Rattle.spell_run.proofs.FrontierLaws.{begin_started, frontier_goes_on}
-use Rattle.spell_run.proofs.NoteLaws.{whole_way}
+use Rattle.spell_way.proofs.NoteLaws.{whole_way}
 
 pub frontier_begin : (g : ThermalUnit) (π : PriceLists) (periods first : ℕ) (started : Bool) (f : Table) → IsThermalUnit g → IsSpellStart g periods first started →
     IsPoint (cond started g.min_power g.power0) (pos 0) f → IsFrontier g π (spell_first started first) (first - 1) f

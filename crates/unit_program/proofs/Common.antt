@@ -26,12 +26,12 @@ pub use Rattle.unit_table.specs.declared.runner.Runner.{Runner}
 pub use Rattle.unit_rows.specs.declared.table.Ended.{Ended}
 pub use Rattle.unit_rows.specs.declared.table.Entry.{Entry}
 pub use Rattle.slope_list.specs.Slopes.{room_of}
-pub use Rattle.spell_run.specs.Entries.{IsOnFromTo, IsSameOutside}
+pub use Rattle.spell_way.specs.Entries.{IsOnFromTo, IsSameOutside}
 pub use Rattle.spell_run.specs.Notes.{passed_at, IsSpellNoted}
 pub use Rattle.spell_run.specs.Spells.{IsBestDispatch, IsFirstDispatch, over_min, IsDispatch, IsLeastSpell, spell_cost}
 pub use Rattle.spell_run.specs.Spells.{sum_from_to}
 pub use Rattle.unit_rows.specs.NetCosts.{net_cost}
-pub use Rattle.spell_run.specs.declared.way.Passed.{Passed}
+pub use Rattle.spell_run.specs.declared.notes.Passed.{Passed}
 pub use Rattle.plain_lists.proofs.IntLaws.{sum_below-same, sum_below-add, sum_below-sub}
 pub use Rattle.uc_model.specs.BoundLaws.{StartCostsAreWithin, EarningsAreWithin}
 pub use Rattle.uc_model.specs.Data.{ThermalUnit, PriceLists, Schedule, Thermal}

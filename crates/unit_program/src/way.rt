@@ -14,7 +14,7 @@ ghost use Rattle.unit_table.specs.Runners.{HaveWays};
 
 use crate::answer::{clear, is_all_off, negated};
 use slope_list::Slopes;
-use spell_run::write_spell;
+use spell_way::write_spell;
 use uc_model::laws::start_costs_are_within;
 use uc_model::units::{Answered, Prices, Unit};
 use unit_rows::table::{Ended, Entry};

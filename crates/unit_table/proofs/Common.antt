@@ -38,7 +38,7 @@ pub use Rattle.spell_run.specs.Spells.{IsSpellAnswer, spell_cost, IsDispatch, Is
 pub use Rattle.unit_rows.specs.NetCosts.{net_cost}
 pub use Rattle.spell_run.specs.Steps.{IsMove, IsRun}
 unfoldable pub use Rattle.spell_run.specs.Steps.{level}
-pub use Rattle.spell_run.specs.declared.way.Passed.{Passed}
+pub use Rattle.spell_run.specs.declared.notes.Passed.{Passed}
 pub use Rattle.uc_model.specs.BoundLaws.{StartCostsAreWithin}
 pub use Rattle.uc_model.specs.Data.{ThermalUnit, PriceLists, Schedule}
 pub use Rattle.uc_model.specs.Limits.{IsThermalUnit, IsLag}

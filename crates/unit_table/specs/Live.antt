@@ -4,7 +4,7 @@ use Rattle.std.specs.Prelude.{◌≡◌, ℕ, suc, ◌+◌, ◌-◌, ◌*◌, �
 use Rattle.std.specs.Prelude.{IsTrue, List, [], length, slice_get, Option, Some, None}
 use Rattle.shape_law.specs.Table.{Table, value_of}
 use Rattle.uc_model.specs.Data.{ThermalUnit, PriceLists}
-use Rattle.spell_run.specs.declared.way.Passed.{Passed}
+use Rattle.spell_run.specs.declared.notes.Passed.{Passed}
 use Rattle.spell_run.specs.Notes.{passed_at}
 use Rattle.unit_table.specs.declared.runner.Runner.{Runner}
 use Rattle.unit_rows.specs.declared.table.Ended.{Ended}

@@ -9,7 +9,7 @@ use Rattle.uc_model.specs.declared.units.Mark.TheVariants.{MustOff}
 use Rattle.uc_model.specs.Data.{ThermalUnit, PriceLists, Schedule}
 use Rattle.uc_model.specs.Schedules.{mark_in}
 use Rattle.slope_list.specs.declared.slopes.Lowest.{Lowest}
-use Rattle.spell_run.specs.declared.way.Passed.{Passed}
+use Rattle.spell_run.specs.declared.notes.Passed.{Passed}
 use Rattle.spell_run.specs.Frontier.{IsFrontier}
 use Rattle.spell_run.specs.Notes.{IsOnNoted, IsEndNoted, IsSpellNoted}
 use Rattle.spell_run.specs.Spells.{spell_cost, IsDispatch, IsLeastSpell}

@@ -1,13 +1,13 @@
 -- A way on from the power before a spell is a best dispatch, and the first of those of its cost.
-use Rattle.spell_run.proofs.Common.{◌≡◌, ℕ, zero, suc, ◌+◌, ◌-◌, ◌<◌, ◌≤◌, inl, inr, ℤ, pos, ◌+ℤ◌, ◌*ℤ◌, ◌≤ℤ◌, eqb}
-use Rattle.spell_run.proofs.Common.{length, refl, sym, ap, ◌∙◌, subst, arith, ints, cases_lt, IsPoint, same_some, Table}
-use Rattle.spell_run.proofs.Common.{value_of, ThermalUnit, PriceLists, Schedule, IsThermalUnit, ArePrices, power_in}
-use Rattle.spell_run.proofs.Common.{reserve_in, int_at, sum_below, stops_at, HasBestReserve, IsWayFrom, best_reserve}
-use Rattle.spell_run.proofs.Common.{IsReserve, IsDispatch, net_cost_at, net_cost, spell_cost, IsBestDispatch}
-use Rattle.spell_run.proofs.Common.{IsFirstDispatch, cap_at, level}
+use Rattle.spell_way.proofs.Common.{◌≡◌, ℕ, zero, suc, ◌+◌, ◌-◌, ◌<◌, ◌≤◌, inl, inr, ℤ, pos, ◌+ℤ◌, ◌*ℤ◌, ◌≤ℤ◌, eqb}
+use Rattle.spell_way.proofs.Common.{length, refl, sym, ap, ◌∙◌, subst, arith, ints, cases_lt, IsPoint, same_some, Table}
+use Rattle.spell_way.proofs.Common.{value_of, ThermalUnit, PriceLists, Schedule, IsThermalUnit, ArePrices, power_in}
+use Rattle.spell_way.proofs.Common.{reserve_in, int_at, sum_below, stops_at, HasBestReserve, IsWayFrom, best_reserve}
+use Rattle.spell_way.proofs.Common.{IsReserve, IsDispatch, net_cost_at, net_cost, spell_cost, IsBestDispatch}
+use Rattle.spell_way.proofs.Common.{IsFirstDispatch, cap_at, level}
 use Rattle.spell_run.proofs.ReserveLaws.{reserve_is_best}
 use Rattle.spell_run.proofs.RunLaws.{level_before, level_within, move_same, reserve_not_negative}
-use Rattle.spell_run.proofs.WayLaws.{move_of}
+use Rattle.spell_way.proofs.WayLaws.{move_of}
 
 -- where sums of terms that are no greater are equal, so are the terms
 same_terms : (n : ℕ) (f g : ℕ → ℤ) → ((i : ℕ) → i < n → f i ≤ℤ g i) → sum_below n f ≡ sum_below n g → (i : ℕ) → i < n →

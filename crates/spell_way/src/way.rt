@@ -7,40 +7,20 @@ ghost use Rattle.std.specs.Prelude.{◌≡◌, ℤ, suc, ◌==◌, ◌<◌, ◌�
 ghost use Rattle.shape_law.specs.Effect.{Reaches};
 ghost use Rattle.shape_law.specs.Table.{Table, value_of};
 ghost use Rattle.slope_step.specs.Turn.{IsTurn, IsFirst, IsLast};
-ghost use Rattle.spell_run.specs.Entries.{IsOnFromTo, IsSameOutside};
-ghost use Rattle.spell_run.specs.Frontier.{IsChosen};
-ghost use Rattle.spell_run.specs.Notes.{IsCheapest, IsNoted, IsSpellNoted, passed_at};
+ghost use Rattle.spell_way.specs.Entries.{IsOnFromTo, IsSameOutside};
+ghost use Rattle.spell_way.specs.Ways.{IsChosen};
+ghost use Rattle.spell_run.specs.Notes.{IsNoted, IsSpellNoted, passed_at};
+ghost use Rattle.spell_way.specs.Ways.{IsCheapest};
 ghost use Rattle.spell_run.specs.Spells.{IsBestDispatch, IsFirstDispatch};
 ghost use Rattle.spell_run.specs.Steps.{step_at, IsFairStep};
 ghost use Rattle.uc_model.specs.Limits.{IsOutput};
 ghost use Rattle.uc_model.specs.PlainUnits.{thermal_of, prices_of, schedule_of};
 
-use crate::step::{Step, starts_in, step_of};
 use crate::write::write_best;
 use cost_curve::laws::envelope_is_cost;
-use slope_list::Lowest;
+use spell_run::step::{Step, starts_in, step_of};
+use spell_run::{Note, Passed};
 use uc_model::units::{Answered, Prices, Unit};
-
-/// What a step leaves for the way back, in kilowatts.
-#[derive(Clone, Copy)]
-pub struct Note {
-    /// The least power of the least value before the step, less the worth of its reserve.
-    pub turn: i64,
-    /// The first power before the step.
-    pub first: i64,
-    /// The last power before the step.
-    pub last: i64,
-}
-
-/// What a spell leaves of a period for the way back.
-#[derive(Clone, Copy)]
-pub struct Passed {
-    /// Of the step that goes on.
-    pub note: Note,
-    /// The least cost of the spells that end with the period, its power, and the turn of their last
-    /// step; None where there is none.
-    pub end: Option<Lowest>,
-}
 
 /// A period on the way back.
 #[derive(Clone, Copy)]

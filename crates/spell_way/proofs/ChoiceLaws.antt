@@ -1,7 +1,7 @@
 -- The powers and the reserve of a period as they are stored, and that they stay within limits.
-use Rattle.spell_run.proofs.Common.{◌≡◌, ℕ, ℤ, pos, nat_abs, ◌+ℤ◌, ◌-ℤ◌, ◌≤ℤ◌, ◌<ℤ◌, sym, ap, ◌∙◌, subst, arith, w64}
-use Rattle.spell_run.proofs.Common.{FitsSigned, to_z, of_z, int_min, ints, to_z-of_z, Schedule, IsOutput, IsWithin}
-use Rattle.spell_run.proofs.Common.{fits_within, Step, IsWritten, best_reserve, IsFairStep}
+use Rattle.spell_way.proofs.Common.{◌≡◌, ℕ, ℤ, pos, nat_abs, ◌+ℤ◌, ◌-ℤ◌, ◌≤ℤ◌, ◌<ℤ◌, sym, ap, ◌∙◌, subst, arith, w64}
+use Rattle.spell_way.proofs.Common.{FitsSigned, to_z, of_z, int_min, ints, to_z-of_z, Schedule, IsOutput, IsWithin}
+use Rattle.spell_way.proofs.Common.{fits_within, Step, IsWritten, best_reserve, IsFairStep}
 use Rattle.spell_run.proofs.ReserveLaws.{best_where_paid, best_may}
 
 abbrev pub stored : ℤ → ℤ

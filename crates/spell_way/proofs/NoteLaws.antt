@@ -1,25 +1,24 @@
 -- The way back by what the steps noted: the power nearest to the turn is the cheapest power before, and the periods
--- that
--- are written for it are a way on.
-use Rattle.spell_run.proofs.Common.{◌≡◌, ℕ, zero, suc, ◌-◌, ◌<◌, ◌≤◌, ltb, eqb, ◌⊎◌, inl, inr, ℤ, pos, ◌+ℤ◌, ◌-ℤ◌, ◌≤ℤ◌}
-use Rattle.spell_run.proofs.Common.{◌<ℤ◌, Bool, false, length, Some, sym, ap, ◌∙◌, subst, arith, option_map, int_min}
-use Rattle.spell_run.proofs.Common.{int_max, ints, clamps, by_lt_z, EnvelopeIsCost, reserve_term, IsPoint, IsLeast}
-use Rattle.spell_run.proofs.Common.{IsLeastIn, Reaches, same_some, Table, value_of, Step, IsBottom, IsTurn, IsFirst}
-use Rattle.spell_run.proofs.Common.{IsLast, ThermalUnit, PriceLists, Schedule, IsOutput, IsThermalUnit, ArePrices}
-use Rattle.spell_run.proofs.Common.{int_at, Lowest, Note, IsOnFromTo, IsSameOutside, IsFrontier, IsWritten, IsChosen}
-use Rattle.spell_run.proofs.Common.{IsWayFrom, best_reserve, IsNoted, IsEndNoted, IsSpellNoted, IsCheapest}
-use Rattle.spell_run.proofs.Common.{IsBestDispatch, IsFirstDispatch, spell_cost, cap_at, step_at, level, IsStepped}
-use Rattle.spell_run.specs.declared.way.Passed.{Passed}
-use Rattle.spell_run.proofs.ChoiceLaws.{stored, output_stored}
+-- that are written for it are a way on.
+use Rattle.spell_way.proofs.Common.{◌≡◌, ℕ, zero, suc, ◌-◌, ◌<◌, ◌≤◌, ltb, eqb, ◌⊎◌, inl, inr, ℤ, pos, ◌+ℤ◌, ◌-ℤ◌, ◌≤ℤ◌}
+use Rattle.spell_way.proofs.Common.{◌<ℤ◌, Bool, false, length, Some, sym, ap, ◌∙◌, subst, arith, option_map, int_min}
+use Rattle.spell_way.proofs.Common.{int_max, ints, clamps, by_lt_z, EnvelopeIsCost, reserve_term, IsPoint, IsLeast}
+use Rattle.spell_way.proofs.Common.{IsLeastIn, Reaches, same_some, Table, value_of, Step, IsBottom, IsTurn, IsFirst}
+use Rattle.spell_way.proofs.Common.{IsLast, ThermalUnit, PriceLists, Schedule, IsOutput, IsThermalUnit, ArePrices}
+use Rattle.spell_way.proofs.Common.{int_at, Lowest, Note, IsOnFromTo, IsSameOutside, IsFrontier, IsWritten, IsChosen}
+use Rattle.spell_way.proofs.Common.{IsWayFrom, best_reserve, IsNoted, IsEndNoted, IsSpellNoted, IsCheapest}
+use Rattle.spell_way.proofs.Common.{IsBestDispatch, IsFirstDispatch, spell_cost, cap_at, step_at, level, IsStepped}
+use Rattle.spell_run.specs.declared.notes.Passed.{Passed}
+use Rattle.spell_way.proofs.ChoiceLaws.{stored, output_stored}
 use Rattle.spell_run.proofs.CutLaws.{between_powers}
 use Rattle.spell_run.proofs.FairLaws.{cap_out}
-use Rattle.spell_run.proofs.FrontierLaws.{frontier_more}
-use Rattle.spell_run.proofs.OnLaws.{on_last, on_more}
+use Rattle.spell_run.proofs.FrontierLaws.{frontier_more, frontier_same}
+use Rattle.spell_way.proofs.OnLaws.{on_last, on_more}
 use Rattle.spell_run.proofs.RunLaws.{level_before, level_within, cost_none, cost_zero}
 use Rattle.spell_run.proofs.StepLaws.{step_sound}
 use Rattle.spell_run.proofs.SumLaws.{added}
-use Rattle.spell_run.proofs.TieLaws.{of_way}
-use Rattle.spell_run.proofs.WayLaws.{stops_before, stops_last, onward_end, onward_more, way_of_choice}
+use Rattle.spell_way.proofs.TieLaws.{of_way}
+use Rattle.spell_way.proofs.WayLaws.{stops_before, stops_last, onward_end, onward_more, way_of_choice}
 
 -- ---- the power nearest to the turn
 
@@ -97,30 +96,15 @@ cheapest_near s f m a b va x y w z turn first last there reach is =
       least = subst (λ (z : ℤ). IsLeastIn (x -ℤ s.ramp_up) (x +ℤ s.ramp_down) kinked value.0 z) (sym is) least;
     }
 
--- ---- frontiers of the same periods have the same values
+-- ---- a way on from a frontier is one from any of the same periods
 
 module _ (g : ThermalUnit) (π : PriceLists) (first t : ℕ) (f h : Table) (front : IsFrontier g π first t f)
     (other : IsFrontier g π first t h) where
-  pub frontier_same : (x v : ℤ) → value_of f x ≡ Some v → value_of h x ≡ Some v
-  frontier_same x v there =
-      let r = front.sound x v there in
-      let c = other.complete r.run r.keeps in
-      let at : value_of h x ≡ Some c.0 = ap (value_of h) (sym r.ends) ∙ c.1 in
-      let q = other.sound x c.0 at in
-      let d = front.complete q.run q.keeps in
-      let e = same_some (value_of f x) (ap (value_of f) (sym q.ends) ∙ d.1) there in
-      let a = c.2 in
-      let b = d.2 in
-      let i = r.cost in
-      let j = q.cost in
-      let same : c.0 ≡ v = omega (arith, ints, e, a, b, i, j) in
-      at ∙ ap Some same
-
   pub way_moved : (last : ℕ) (d : Schedule) (y c : ℤ) → IsWayFrom g π first t last f d y c →
       IsWayFrom g π first t last h d y c
   way_moved last d y c way = record {
     before = way.before;
-    there = frontier_same y way.before way.there;
+    there = frontier_same g π first t f h front other y way.before way.there;
     completes = way.completes;
     least = way.least;
     rest = way.rest;

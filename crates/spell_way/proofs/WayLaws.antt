@@ -1,12 +1,12 @@
 -- The way back: the periods that are written make, with what comes before them, a dispatch of least cost, the first of
 -- those of that cost.
-use Rattle.spell_run.proofs.Common.{◌≡◌, ℕ, zero, suc, ◌<◌, ◌≤◌, inl, inr, ℤ, pos, ◌+ℤ◌, ◌-ℤ◌, ◌≤ℤ◌, Bool, true, false}
-use Rattle.spell_run.proofs.Common.{◌&&◌, eqb, ltb, length, Some, refl, sym, ap, ◌∙◌, subst, arith, option_map, ints}
-use Rattle.spell_run.proofs.Common.{cases_lt, eq-eqb, ne_eqb, and_right, IsCostCurve, reserve_term, IsLeast, same_some}
-use Rattle.spell_run.proofs.Common.{Table, value_of, Curve, ThermalUnit, PriceLists, Schedule, IsThermalUnit, ArePrices}
-use Rattle.spell_run.proofs.Common.{power_in, reserve_in, int_at, IsFrontier, IsChosen, stops_at, HasSamePowersAfter}
-use Rattle.spell_run.proofs.Common.{IsSameAfter, HasBestReserve, IsWayFrom, best_reserve, IsReserve, IsDispatch}
-use Rattle.spell_run.proofs.Common.{net_cost_at, net_cost, spell_cost, cap_at, step_at, IsMove, level, IsRun, IsStepped}
+use Rattle.spell_way.proofs.Common.{◌≡◌, ℕ, zero, suc, ◌<◌, ◌≤◌, inl, inr, ℤ, pos, ◌+ℤ◌, ◌-ℤ◌, ◌≤ℤ◌, Bool, true, false}
+use Rattle.spell_way.proofs.Common.{◌&&◌, eqb, ltb, length, Some, refl, sym, ap, ◌∙◌, subst, arith, option_map, ints}
+use Rattle.spell_way.proofs.Common.{cases_lt, eq-eqb, ne_eqb, and_right, IsCostCurve, reserve_term, IsLeast, same_some}
+use Rattle.spell_way.proofs.Common.{Table, value_of, Curve, ThermalUnit, PriceLists, Schedule, IsThermalUnit, ArePrices}
+use Rattle.spell_way.proofs.Common.{power_in, reserve_in, int_at, IsFrontier, IsChosen, stops_at, HasSamePowersAfter}
+use Rattle.spell_way.proofs.Common.{IsSameAfter, HasBestReserve, IsWayFrom, best_reserve, IsReserve, IsDispatch}
+use Rattle.spell_way.proofs.Common.{net_cost_at, net_cost, spell_cost, cap_at, step_at, IsMove, level, IsRun, IsStepped}
 use Rattle.spell_run.proofs.ReserveLaws.{best_may}
 use Rattle.spell_run.proofs.RunLaws.{level_power, move_same, run_more, cost_more, reserve_not_negative, move_parts}
 use Rattle.spell_run.proofs.RunLaws.{move_whole, dispatch_from_run, run_from_dispatch, end_from_dispatch}

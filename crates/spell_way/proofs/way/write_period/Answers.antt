@@ -1,9 +1,9 @@
-use Rattle.spell_run.proofs.Common.{rules, ◌≡◌, ℤ, ◌≤ℤ◌, suc, eqb, to_z, of_z, Some, sym, subst, arith, w64, FitsSigned}
-use Rattle.spell_run.proofs.Common.{ints, to_z-of_z, Reaches, Table, value_of, IsTurn, IsFirst, IsLast, Step, IsOutput}
-use Rattle.spell_run.proofs.Common.{thermal_of, prices_of, schedule_of, Note, IsCheapest, cap_at}
-use Rattle.spell_run.proofs.Lemmas.{output_stored, power_range, before_out, before_rise, before_under, chosen_noted}
-use Rattle.spell_run.proofs.way.write_period.Goals as goal
-use Rattle.spell_run.proofs.way.write_period.Goals.{Start}
+use Rattle.spell_way.proofs.Common.{rules, ◌≡◌, ℤ, ◌≤ℤ◌, suc, eqb, to_z, of_z, Some, sym, subst, arith, w64, FitsSigned}
+use Rattle.spell_way.proofs.Common.{ints, to_z-of_z, Reaches, Table, value_of, IsTurn, IsFirst, IsLast, Step, IsOutput}
+use Rattle.spell_way.proofs.Common.{thermal_of, prices_of, schedule_of, Note, IsCheapest, cap_at}
+use Rattle.spell_way.proofs.Lemmas.{output_stored, power_range, before_out, before_rise, before_under, chosen_noted}
+use Rattle.spell_way.proofs.way.write_period.Goals as goal
+use Rattle.spell_way.proofs.way.write_period.Goals.{Start}
 
 -- the power is one of the step
 range : (c : Start) → IsOutput c.args.visit.power ×

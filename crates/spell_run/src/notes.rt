@@ -1,0 +1,23 @@
+//! What the steps of a spell leave for the way back over it.
+use slope_list::Lowest;
+
+/// What a step leaves for the way back, in kilowatts.
+#[derive(Clone, Copy)]
+pub struct Note {
+    /// The least power of the least value before the step, less the worth of its reserve.
+    pub turn: i64,
+    /// The first power before the step.
+    pub first: i64,
+    /// The last power before the step.
+    pub last: i64,
+}
+
+/// What a spell leaves of a period for the way back.
+#[derive(Clone, Copy)]
+pub struct Passed {
+    /// Of the step that goes on.
+    pub note: Note,
+    /// The least cost of the spells that end with the period, its power, and the turn of their last
+    /// step; None where there is none.
+    pub end: Option<Lowest>,
+}
