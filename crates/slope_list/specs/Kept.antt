@@ -1,9 +1,9 @@
 -- What a list of pieces keeps (this project's profile).
 use Rattle.std.specs.Prelude.{ℕ, ◌≤◌, List, length, Option, Some, None}
 use Rattle.std.specs.Option.{ForSome}
-use Rattle.slope_step.specs.declared.piece.Piece.{Piece}
+use Rattle.slope_piece.specs.declared.piece.Piece.{Piece}
 use Rattle.slope_step.specs.declared.step.Made.{Made}
-use Rattle.slope_step.specs.Drawn.{ArePiecesAfter, AreWithinAfter}
+use Rattle.slope_step.specs.After.{ArePiecesAfter, AreWithinAfter}
 
 -- how many pieces a function has
 abbrev pub used_of : Option Made → ℕ

@@ -2,14 +2,14 @@
 ghost use Rattle.std.specs.Prelude.{◌≡◌, ◌≤◌, length, vec_capacity, IfSome, MatchOption};
 ghost use Rattle.shape_law.specs.Effect.{IsLeast};
 ghost use Rattle.shape_law.specs.Table.{IsEmpty};
-ghost use Rattle.slope_step.specs.Drawn.{table_after, ArePiecesAfter, AreWithinAfter};
+ghost use Rattle.slope_step.specs.After.{table_after, ArePiecesAfter, AreWithinAfter};
 ghost use Rattle.slope_list.specs.Kept.{AreKept};
 
 use shape_law::step::Step;
-use slope_step::below;
-use slope_step::laws::pieces_begin_and_end;
-use slope_step::piece::{Piece, Start};
-use slope_step::read::{self, Spot};
+use slope_piece::laws::pieces_begin_and_end;
+use slope_piece::piece::{self, Piece, Start};
+use slope_read::below;
+use slope_read::read::{self, Spot};
 use slope_step::step::{Made, Stepped, slope_step};
 use std::alloc::{AllocError, Global};
 use std::mem;
@@ -93,8 +93,8 @@ impl Slopes {
     ghost use Rattle.shape_law.specs.Effect.{IsPoint, IsLeast, IsLeastIn};
     ghost use Rattle.shape_law.specs.Steps.{IsFairStep, IsCostOf, IsStepped, IsSmall};
     ghost use Rattle.shape_law.specs.Table.{Table, value_of, IsPlace, IsAmount, IsEmpty, HasNone};
-    ghost use Rattle.slope_step.specs.Below.{IsShift, IsNowhereAbove, IsAbove};
-    ghost use Rattle.slope_step.specs.Turn.{IsTurn, IsFirst, IsLast};
+    ghost use Rattle.slope_read.specs.Below.{IsShift, IsNowhereAbove, IsAbove};
+    ghost use Rattle.slope_piece.specs.Turn.{IsTurn, IsFirst, IsLast};
     ghost use Rattle.slope_list.specs.Slopes.{shown, room_of, count_of, turn_of};
 
     /// A function on an empty interval, and room for so many pieces.
@@ -233,7 +233,7 @@ impl Slopes {
     {
         pieces_begin_and_end();
         match self.made {
-            Some(made) => Some(read::last_power(&self.pieces[..made.used], made.start.first)),
+            Some(made) => Some(piece::last_power(&self.pieces[..made.used], made.start.first)),
             None => None,
         }
     }

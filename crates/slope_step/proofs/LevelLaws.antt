@@ -1,7 +1,7 @@
 -- The value of a step at a power, as the code computes it.
 use Rattle.slope_step.proofs.Common.{◌≡◌, ap, ◌∙◌, arith, neg_ℤ, ℤ, pos, ◌+ℤ◌, ◌-ℤ◌, ◌*ℤ◌, FitsSigned, w64, int_min, ints, IsFrom, IsOutput, IsCost, Step, IsFairStep}
 use Rattle.slope_step.proofs.BoundLaws.{reserve_within, slope_within}
-use Rattle.slope_step.proofs.WrapLaws.{coded, IsNear, near_fits, coded_is, output_near, price_near, slope_near, most_near}
+use Rattle.slope_piece.proofs.WrapLaws.{coded, IsNear, near_fits, coded_is, output_near, price_near, slope_near, most_near}
 
 module _ (s : Step) (fair : IsFairStep s) (value near x cost m : ℤ) (v : IsFrom (neg_ℤ (pos 500000000000000000)) (pos 500000000000000000) value)
     (n : IsOutput near) (o : IsOutput x) (k : IsCost cost) (m_is : m ≡ int_min s.cap (s.ramp_up +ℤ near)) where

@@ -1,10 +1,12 @@
 -- The parts of a step together.
 use Rattle.slope_step.proofs.Common.{◌≡◌, ℕ, zero, suc, ◌+◌, ◌-◌, ◌≤◌, List, [], length, take, Option, Some, None, refl, sym, ap, ◌∙◌, subst, arith, ℤ, pos, negsuc, ◌+ℤ◌, ◌-ℤ◌, ◌*ℤ◌, ◌≤ℤ◌, ◌<ℤ◌, MatchOption, int_min, int_max, ints, clamps, Curve, IsOutput, IsCost, Step, curve_value, reserve_term, StepKeepsConvexity, ConvexityIsOfPlaces, IsFairStep, IsCostOf, IsStepped, IsSmall, Table, value_of, offset_value, IsConvex, IsPlace, IsAmount, Piece, Start, piece, end_at, last_power, function_of, table_on, table_of, AreSlopes, Stand, kinked, AreSmall, AreWithin, AreGentle, IsValley, nearest, moved, HasCosts, cost_at, paid, stepped, IsTurn}
-use Rattle.slope_step.proofs.LineLaws.{line_step}
-use Rattle.slope_step.proofs.PieceLaws.{ends_rise_to, along_line, along_curves, along_from_stand, last_power-take, stand-take}
-use Rattle.slope_step.proofs.FunctionLaws.{on_inside, by_power, on_same, IsConvex-from_curves, convex_steps, IsSum-on, IsCurveSum-on, cost_at_is}
-use Rattle.slope_step.proofs.ValleyLaws.{IsBottom-valley, IsWindow-valley}
-use Rattle.slope_step.proofs.WindowLaws.{nearest_inside}
+use Rattle.slope_piece.proofs.LineLaws.{line_step}
+use Rattle.slope_piece.proofs.PieceLaws.{ends_rise_to, along_line, along_curves, along_from_stand, last_power-take, stand-take}
+use Rattle.slope_piece.proofs.FunctionLaws.{on_inside, by_power, on_same}
+use Rattle.slope_step.proofs.TableLaws.{IsConvex-from_curves, convex_steps, IsSum-on, IsCurveSum-on}
+use Rattle.slope_draw.proofs.BlockLaws.{cost_at_is}
+use Rattle.slope_step.proofs.ReachLaws.{IsBottom-valley, IsWindow-valley}
+use Rattle.slope_run.proofs.WindowLaws.{nearest_inside}
 use Rattle.slope_step.proofs.BoundLaws.{level_within}
 
 -- ---- pieces of a convex function are slopes

@@ -1,10 +1,2 @@
-pub mod Pieces
-pub mod Kink
-pub mod Window
-pub mod Blocks
-pub mod Drawn
+pub mod After
 pub mod Way
-pub mod Totals
-pub mod Turn
-pub mod Laws
-pub mod Below

@@ -1,39 +1,15 @@
--- Runs of pieces that go into the function after a step alike, and the way over them (this
--- project's profile).
-use Rattle.std.specs.Prelude.{◌≡◌, ◌+◌, ◌≤◌, ℤ, neg_ℤ, ◌+ℤ◌, ◌≤ℤ◌, ◌<ℤ◌, List}
+-- The way over the runs of a step (this project's profile).
+use Rattle.std.specs.Prelude.{◌+◌, ◌≤◌, ℤ, ◌≤ℤ◌, ◌<ℤ◌, List}
 use Rattle.uc_model.specs.declared.units.Curve.{Curve}
-use Rattle.uc_model.specs.declared.limits.TheConstants.{POWER_LIMIT}
-use Rattle.plain_lists.specs.Ranges.{IsFrom}
-use Rattle.slope_step.specs.declared.piece.Piece.{Piece}
-use Rattle.slope_step.specs.declared.run.Run.{Run}
-use Rattle.slope_step.specs.declared.window.Window.{Window}
+use Rattle.slope_piece.specs.declared.piece.Piece.{Piece}
+use Rattle.slope_piece.specs.Cursors.{IsPlaced}
+use Rattle.slope_draw.specs.Blocks.{IsInBlock}
+use Rattle.slope_draw.specs.Drawn.{IsDrawn}
+use Rattle.slope_run.specs.declared.window.Window.{Window}
+use Rattle.slope_run.specs.Runs.{IsNear}
+use Rattle.slope_run.specs.Window.{runs_from}
 use Rattle.slope_step.specs.declared.way.Way.{Way}
-use Rattle.slope_step.specs.Pieces.{last_power, function_of, IsLine}
-use Rattle.slope_step.specs.Kink.{IsPlaced, IsSteep}
-use Rattle.slope_step.specs.Window.{nearest, runs_from}
-use Rattle.slope_step.specs.Blocks.{IsInBlock}
-use Rattle.slope_step.specs.Drawn.{paid, stepped, IsDrawn}
-
--- the power before the step is the one in reach that is nearest to the turn
-abbrev pub IsNear : Window → ℤ → ℤ → Type 0
-IsNear w y x = y ≡ nearest w.step.ramp_up w.step.ramp_down w.turn x
-
--- from a power on, lines of the function before the step are lines of the one after it, without the
--- curve's cost, moved and with a slope added
-pub record IsRun (w : Window) (from : ℤ) (run : Run) : Type 0 where
-  pub rise : from <ℤ run.until
-  pub last : run.until ≤ℤ last_power w.start.first w.pieces.now
-  pub high : (run.until +ℤ run.shift) ≤ℤ w.high
-  pub near : IsNear w run.until (run.until +ℤ run.shift)
-  pub shift : IsFrom (neg_ℤ POWER_LIMIT) POWER_LIMIT run.shift
-  pub steep : IsSteep run.slope
-  pub lines : (a b slope : ℤ) → from ≤ℤ a → b ≤ℤ run.until →
-      IsLine (function_of w.start w.pieces.now) a b slope →
-      IsLine (paid w.start w.pieces.now w.step w.turn) (a +ℤ run.shift) (b +ℤ run.shift)
-      (slope +ℤ run.slope)
-  pub fewer : (run.until +ℤ run.shift) <ℤ w.high →
-      runs_from w.step w.turn run.until (run.until +ℤ run.shift) + 1
-      ≤ runs_from w.step w.turn from (from +ℤ run.shift)
+use Rattle.slope_step.specs.After.{stepped}
 
 -- the way went on from one power to a later one, and what lies between them is written
 pub record IsFurther (w : Window) (c : Curve) (old new : List Piece) (from to : Way) : Type 0 where

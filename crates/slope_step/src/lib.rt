@@ -4,14 +4,5 @@
 //! and adds what the prices pay and the production cost.
 #![tactic(auto)]
 
-pub mod below;
-mod blocks;
-mod draw;
-mod kink;
-pub mod laws;
-pub mod piece;
-pub mod read;
-mod run;
 pub mod step;
 mod way;
-mod window;

@@ -18,7 +18,7 @@ pub use Rattle.shape_law.specs.Effect.{IsSum, IsLeastIn, IsLeast, IsCurveSum, Is
 pub use Rattle.shape_law.specs.Table.{Table, value_of, HasNone, offset_value, IsEmpty, IsPlace, IsAmount}
 pub use Rattle.shape_law.specs.declared.step.Step.{Step}
 pub use Rattle.slope_list.specs.declared.slopes.Lowest.{Lowest}
-pub use Rattle.slope_step.specs.Turn.{IsTurn}
+pub use Rattle.slope_piece.specs.Turn.{IsTurn}
 pub use Rattle.spell_run.proofs.Options.{same_some}
 pub use Rattle.spell_run.specs.Frontier.{IsFrontier, IsReached}
 pub use Rattle.spell_run.specs.Laws.{best_reserve, most_reserve, IsReserve, ReserveIsAKink, ReserveIsBest}

@@ -5,7 +5,7 @@ use Rattle.spell_run.proofs.Common.{◌∙◌, subst, arith, slice_get, MatchOpt
 use Rattle.spell_run.proofs.Common.{curve_value, reserve_term, IsLeast, IsLeastIn, IsSum, IsCurveSum, Table, value_of}
 use Rattle.spell_run.proofs.Common.{offset_value, IsTurn, Curve, ThermalUnit, PriceLists, IsThermalUnit, int_at, cap_at}
 use Rattle.spell_run.proofs.Common.{step_at, IsKinked, IsStepped}
-use Rattle.slope_step.specs.Pieces.{powers_to}
+use Rattle.slope_piece.specs.Pieces.{powers_to}
 use Rattle.spell_run.proofs.StepLaws.{under_cap, cap_over, under_most, step_sound}
 
 -- ---- powers of a table

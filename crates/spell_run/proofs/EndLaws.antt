@@ -5,7 +5,7 @@ use Rattle.spell_run.proofs.Common.{IsCostCurve, IsLeast, IsLeastIn, Table, valu
 use Rattle.spell_run.proofs.Common.{Curve, ThermalUnit, PriceLists, IsThermalUnit, int_at, Note, IsFrontier, IsNoted}
 use Rattle.spell_run.proofs.Common.{IsEndNoted, end_cost, IsSpellWithin, cap_at, step_at, IsStepped, IsLeastCost}
 use Rattle.spell_run.proofs.Common.{IsLeastCostIn}
-use Rattle.slope_step.specs.declared.read.Spot.{Spot}
+use Rattle.slope_read.specs.declared.read.Spot.{Spot}
 use Rattle.spell_run.proofs.CutLaws.{cut, stepped_cut, least_cut, turn_alike}
 use Rattle.spell_run.proofs.FrontierLaws.{frontier_same}
 use Rattle.spell_run.proofs.RunLaws.{run_less}

@@ -7,7 +7,7 @@ use Rattle.cost_curve.specs.CostCurve.{IsCostCurve}
 use Rattle.shape_law.specs.Effect.{IsLeast}
 use Rattle.shape_law.specs.Table.{Table}
 use Rattle.slope_list.specs.declared.slopes.Lowest.{Lowest}
-use Rattle.slope_step.specs.Turn.{IsTurn, IsFirst, IsLast}
+use Rattle.slope_piece.specs.Turn.{IsTurn, IsFirst, IsLast}
 use Rattle.uc_model.specs.declared.units.Curve.{Curve}
 use Rattle.uc_model.specs.Data.{ThermalUnit, PriceLists}
 use Rattle.spell_run.specs.declared.notes.Note.{Note}

@@ -15,7 +15,7 @@ pub use Rattle.shape_law.specs.Effect.{IsLeastIn, IsLeast, IsPoint, Reaches}
 pub use Rattle.shape_law.specs.Table.{Table, value_of}
 pub use Rattle.shape_law.specs.declared.step.Step.{Step}
 pub use Rattle.slope_list.specs.declared.slopes.Lowest.{Lowest}
-pub use Rattle.slope_step.specs.Turn.{IsTurn, IsBottom, IsFirst, IsLast}
+pub use Rattle.slope_piece.specs.Turn.{IsTurn, IsBottom, IsFirst, IsLast}
 pub use Rattle.spell_run.proofs.Options.{same_some}
 pub use Rattle.spell_way.specs.Entries.{IsOnFromTo, IsSameOutside}
 pub use Rattle.spell_way.specs.Ways.{IsWritten, IsChosen, IsWayFrom, stops_at}

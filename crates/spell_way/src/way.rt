@@ -6,7 +6,7 @@
 ghost use Rattle.std.specs.Prelude.{◌≡◌, ℤ, suc, ◌==◌, ◌<◌, ◌≤◌, length, Some};
 ghost use Rattle.shape_law.specs.Effect.{Reaches};
 ghost use Rattle.shape_law.specs.Table.{Table, value_of};
-ghost use Rattle.slope_step.specs.Turn.{IsTurn, IsFirst, IsLast};
+ghost use Rattle.slope_piece.specs.Turn.{IsTurn, IsFirst, IsLast};
 ghost use Rattle.spell_way.specs.Entries.{IsOnFromTo, IsSameOutside};
 ghost use Rattle.spell_way.specs.Ways.{IsChosen};
 ghost use Rattle.spell_run.specs.Notes.{IsNoted, IsSpellNoted, passed_at};

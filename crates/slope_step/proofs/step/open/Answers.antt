@@ -1,6 +1,6 @@
 use Rattle.slope_step.proofs.Common.{to_z, of_z, ◌≡◌, ap, sym, ◌∙◌, subst, refl, rules, ℤ, FitsSigned, ◌+ℤ◌, ◌-ℤ◌, ◌*ℤ◌, ◌≤ℤ◌, w64, int_min, int_max, to_z-of_z, IsCost, reserve_term, last_power, function_of, nearest}
 use Rattle.slope_step.proofs.Lemmas.{wide_of, on_curve, end_of-width, end_of_valley, within_from_small, nearest_inside, le_trans, lt_le_trans, same_le, level_joined, coded_is, output_near, up_coded, down_coded, fits_sum, fits_less}
-use Rattle.slope_step.proofs.FunctionLaws.{cost_at_is}
+use Rattle.slope_draw.proofs.BlockLaws.{cost_at_is}
 use Rattle.slope_step.proofs.step.open.Goals as goal
 use Rattle.slope_step.proofs.step.open.Goals.{After-max-near}
 

@@ -1,0 +1,5 @@
+pub mod Pieces
+pub mod Cursors
+pub mod Totals
+pub mod Turn
+pub mod Laws

@@ -1,0 +1,3 @@
+pub mod Kink
+pub mod Window
+pub mod Runs
