@@ -18,5 +18,5 @@ mod worker;
 pub use all::answer_all;
 pub use gate::{Gate, NoGate};
 pub use last::LastAnswers;
-pub use tasks::{answer_task, most_points};
-pub use worker::{Ended, Held, MOST_HELD, Worker};
+pub use tasks::most_points;
+pub use worker::{Ended, Worker};

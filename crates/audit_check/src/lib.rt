@@ -13,5 +13,3 @@ mod units;
 mod wrong;
 
 pub use audit::{Audit, check_report};
-pub use desk::Desk;
-pub use report::first_difference;

@@ -14,4 +14,3 @@ mod sums;
 
 pub use answerer::Answerer;
 pub use rows::right_rows;
-pub use sums::Sums;

@@ -11,7 +11,7 @@ mod record;
 mod settled;
 
 pub use audit::write_audit;
-pub use bound::{BoundLines, write_bound, write_bound_lines};
+pub use bound::write_bound;
 pub use certified::{BoundWithin, write_certificate};
 pub use check::write_check;
 pub use fault::{FileKind, ReportCode, TopFault, write_fault};

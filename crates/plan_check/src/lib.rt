@@ -9,18 +9,21 @@ mod states;
 pub mod totals;
 
 pub use check::{check_plan, check_thermal};
-pub use uc_model::kinds::{Kind, RuleCode};
+use uc_model::kinds::{Kind, RuleCode};
 
 /// Why a schedule isn't feasible: the first rule that it breaks.
 #[derive(Clone, Copy, PartialEq, Eq)]
 pub struct RuleFault {
+    /// The rule.
     pub code: RuleCode,
+    /// The kind of the unit, or `Case`.
     pub kind: Kind,
     /// The unit's position within its kind, from 1, and 0 for the case.
     pub unit: u32,
     /// Periods count from 1; before a stop in period 1 stands period 0.
     pub period: u32,
-    /// The two numbers that the rule compares.
+    /// The first of the two numbers that the rule compares.
     pub left: i128,
+    /// The second of them.
     pub right: i128,
 }

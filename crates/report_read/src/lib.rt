@@ -15,4 +15,4 @@ mod units;
 mod words;
 
 pub use read::read_report;
-pub use report::{Report, ReportError, RowList, UnitLine, UnitLines};
+pub use report::{Report, ReportError, UnitLine};

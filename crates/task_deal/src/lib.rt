@@ -22,5 +22,5 @@ mod rule;
 mod seat;
 mod settle;
 
-pub use deal::{MOST_JOBS, deal_all};
+pub use deal::deal_all;
 pub use job::Job;

@@ -9,5 +9,3 @@ mod parse;
 
 pub use fault::{TextCode, TextError, TextFault};
 pub use parse::read_tree;
-pub use text_tokens::small;
-pub use text_tree::{Branch, Member, Tree};
