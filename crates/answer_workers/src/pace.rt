@@ -5,6 +5,7 @@ ghost use Rattle.std.specs.Prelude.{◌<◌};
 /// the other workers get some too.
 #[derive(Clone, Copy)]
 pub struct Pace {
+    /// How many workers there are, from 1 on.
     pub workers: usize,
     /// The greatest unit number of the tasks so far, and at least the number of thermal units.
     pub last: usize,
@@ -12,8 +13,8 @@ pub struct Pace {
 }
 
 impl Pace {
-    // Whether a worker has its share that holds so many tasks, the last of them of that unit: one
-    // task where there is no other worker, since it then waits for none.
+    /// Whether a worker has its share that holds so many tasks, the last of them of that unit: one
+    /// task where there is no other worker, since it then waits for none.
     pub fn is_share(&mut self, held: usize, unit: u32) -> bool {
         let unit = unit as usize;
         self.last = self.last.max(unit);

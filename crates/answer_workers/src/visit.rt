@@ -28,8 +28,11 @@ pub struct Lookout;
 /// any running worker may take.
 #[derive(Drop)]
 pub struct Crew {
+    /// Held during each visit.
     pub call: Mutex<Call>,
+    /// Held by the worker that looks for a task.
     pub lookout: Mutex<Lookout>,
+    /// How many workers there are, from 1 on.
     pub workers: usize,
     ghost some: { 0 < workers },
 }
@@ -37,7 +40,9 @@ pub struct Crew {
 /// What came of a visit: how many tasks were given, and the answer of its last claim.
 #[derive(Clone, Copy)]
 pub struct Outcome {
+    /// How many tasks were given.
     pub given: usize,
+    /// The answer of the last claim.
     pub end: Claim,
 }
 
@@ -105,7 +110,7 @@ fn take_call<'a, R: Wait>(rt: &R, crew: &'a Crew) -> MutexGuard<'a, Call> {
     crew.call.lock(rt)
 }
 
-// Posts the answers to the first tasks that the worker holds, and claims others in their place.
+/// Posts the answers to the first tasks that the worker holds, and claims others in their place.
 pub fn visit<R: Wait>(
     rt: &R,
     board: &SharedBoard,

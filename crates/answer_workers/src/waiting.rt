@@ -48,7 +48,7 @@ fn tell_each<G: Gate>(worker: &Worker, answered: usize, gate: &G)
     }
 }
 
-// Posts the answers and claims, and waits where there is no task yet.
+/// Posts the answers and claims, and waits where there is no task yet.
 pub fn next_visit<R: Wait, G: Gate>(
     rt: &R,
     board: &SharedBoard,

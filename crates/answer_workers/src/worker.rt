@@ -24,7 +24,9 @@ pub const MOST_HELD: usize = 8;
 
 /// A task that a worker holds, and the answer to it.
 pub struct Held {
+    /// The task.
     pub task: Task,
+    /// The answer to it, or to an earlier one.
     pub answer: Answered,
     /// The proposal of the task that the answer is to.
     pub proposal: u32,
@@ -47,7 +49,9 @@ impl Drop for Held {
 /// A seat at a shared board, and all the memory that its answers take.
 #[derive(Drop)]
 pub struct Worker {
+    /// Its seat at the board.
     pub seat: Seat,
+    /// Where it answers thermal units.
     pub bench: Bench<Slopes>,
     /// Where it is given a task.
     pub task: Task,

@@ -11,9 +11,13 @@ use uplift_settle::Settlement;
 /// What a comparison writes to: a bench on which units are answered, their answers one after
 /// another, and the money of all units at the chosen prices.
 pub struct Desk {
+    /// Where thermal units are answered.
     pub bench: Bench<Slopes>,
+    /// The answer of one unit.
     pub answer: Answered,
+    /// What each unit earns at best, in money.
     pub earned: Numbers,
+    /// What each unit earns in the schedule and is owed.
     pub settlement: Settlement,
 }
 

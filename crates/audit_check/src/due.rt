@@ -10,7 +10,9 @@ use uc_model::kinds::Kind;
 /// A unit's or bid's kind and name.
 #[derive(Clone, Copy)]
 pub struct Title<'a> {
+    /// Whether it is thermal, renewable or a bid.
     pub kind: Kind,
+    /// Its name in the case.
     pub name: &'a str,
 }
 

@@ -5,6 +5,7 @@ ghost use Rattle.audit_check.specs.Compared.{wrong_from};
 /// A line that differs, with its number from 1.
 #[derive(Clone, Copy, Debug, Drop)]
 pub struct WrongLine {
+    /// The number of the line.
     pub line: u32,
 }
 

@@ -21,13 +21,19 @@ use unit_program::Bench;
 /// keeps the numbers that it answered since the proposal began, and the sums of their answers.
 #[derive(Drop)]
 pub struct Answerer<'a> {
+    /// The case.
     pub case: &'a Case,
+    /// Where thermal units are answered.
     pub bench: Bench<Slopes>,
+    /// The prices of the proposal.
     pub prices: Prices,
+    /// The last answer.
     pub answer: Answered,
+    /// The numbers that it answered at these prices.
     pub numbers: ReservedList<u32>,
     /// How many more numbers it may get at these prices.
     pub left: u32,
+    /// The sums of their answers.
     pub sums: Sums,
     ghost some: { CanAnswer (market_of case.now) },
     ghost over: { IsBenchOver (market_of case.now) bench },

@@ -29,9 +29,14 @@ pub enum Reply {
 /// has proposal 0 and unit 0.
 #[derive(Clone, Copy, PartialEq, Eq, Debug)]
 pub struct Entry {
+    /// Who called.
     pub caller: u32,
+    /// What was asked for.
     pub call: Call,
+    /// The proposal of the task.
     pub proposal: u32,
+    /// The unit of the task.
     pub unit: u32,
+    /// What came of it.
     pub reply: Reply,
 }

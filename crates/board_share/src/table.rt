@@ -15,6 +15,7 @@ impl Model for Sight {
     ghost view = { λ _. nobody };
 }
 
+/// The rule of the table: what holds of the shared part, and what the first seat knows.
 pub struct Turns;
 
 impl TableRule<Board, Sight, Snapshot<Board>> for Turns {
@@ -29,4 +30,5 @@ impl TableRule<Board, Sight, Snapshot<Board>> for Turns {
 /// The seat of a table that a caller's seat has.
 pub type TableSeat = atomic_table::Seat<Board, Sight>;
 
+/// The table itself.
 pub type Top = atomic_table::Table<Board, Sight, Snapshot<Board>, Turns, std::alloc::Global>;

@@ -16,8 +16,11 @@ use uc_model::units::{Powers, Response, ResponseList};
 /// number in all periods, in kilowatts.
 #[derive(Drop)]
 pub struct Growing {
+    /// The schedules.
     pub responses: ResponseList,
+    /// Their power in each period.
     pub power: Numbers,
+    /// Their reserve in any period.
     pub reserve: u64,
 }
 

@@ -11,7 +11,9 @@ use uc_model::units::Point;
 /// less power, and by how much money it is cheaper there.
 #[derive(Clone, Copy)]
 pub struct Slope {
+    /// The price, in money for a kilowatt.
     pub price: i64,
+    /// How much cheaper, in money.
     pub width: i64,
     ghost price_limit: { IsFrom (neg_ℤ (pos 20000000000001)) (pos 20000000000001) price },
     ghost width_limit: { IsPower width },
@@ -21,6 +23,8 @@ pub struct Slope {
 /// the kilowatts between the two, the first `width` cost `price - 1` each, and the others `price`.
 #[derive(Clone, Copy)]
 pub struct Edge {
+    /// The place of the next point, from 0.
     pub place: usize,
+    /// The slope to it.
     pub slope: Slope,
 }

@@ -11,7 +11,9 @@ use uc_model::units::Answered;
 /// A power in kilowatts, and what it earns in its period.
 #[derive(Clone, Copy)]
 pub struct Choice {
+    /// The power.
     pub power: u32,
+    /// What it earns, in money.
     pub earned: i64,
 }
 

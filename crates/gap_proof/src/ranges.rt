@@ -17,8 +17,11 @@ use uc_model::units::Prices;
 /// `last`, numbered from 1, whose mean gives it.
 #[derive(Clone, Copy, PartialEq, Eq, Debug)]
 pub struct Certified {
+    /// The first of the rows.
     pub first: u32,
+    /// The last of them.
     pub last: u32,
+    /// The bound.
     pub bound: i128,
 }
 

@@ -13,7 +13,9 @@ use std::alloc::{AllocError, Global};
 /// Bytes under a name.
 #[derive(Drop)]
 pub struct File {
+    /// The name under which it is read.
     pub name: String,
+    /// What a read of it gives.
     pub bytes: Vec<u8>,
 }
 

@@ -18,12 +18,19 @@ use right_report::choice_of;
 /// proposals are numbered from 1.
 #[derive(Clone, Copy)]
 pub struct BoundLines {
+    /// How many proposals there are.
     pub proposals: u32,
+    /// The chosen one.
     pub chosen: u32,
+    /// Its dual value.
     pub value: i128,
+    /// The radius round its prices.
     pub radius: u64,
+    /// The first of the rows.
     pub first: u32,
+    /// The last of them.
     pub last: u32,
+    /// What no dual value within the radius is above.
     pub bound: i128,
 }
 

@@ -40,6 +40,7 @@ impl WordCode {
 /// The first fault of a list of words.
 #[derive(Clone, Copy, Debug, PartialEq, Eq, Drop)]
 pub struct WordFault {
+    /// What is wrong.
     pub code: WordCode,
     /// The position of the word in fault, from 1; 0 where there is no word, and the number of words
     /// where something is missing.

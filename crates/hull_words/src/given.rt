@@ -12,15 +12,25 @@ use plain_lists::limits::{MOST_AHEAD, MOST_PROPOSALS, MOST_RADIUS, MOST_WORKERS}
 /// The values that the words gave so far, each where it was given.
 #[derive(Clone, Copy)]
 pub struct Given<'a> {
+    /// The case file.
     pub case_name: Option<&'a str>,
+    /// The schedule file.
     pub schedule_name: Option<&'a str>,
+    /// The report file.
     pub report_name: Option<&'a str>,
+    /// The prices file.
     pub prices_name: Option<&'a str>,
+    /// The mixture file.
     pub mixture_name: Option<&'a str>,
+    /// The most proposals of the run.
     pub proposals: Option<u32>,
+    /// How many threads answer.
     pub workers: Option<u32>,
+    /// How many proposals may be open ahead of the last answered one.
     pub ahead: Option<u32>,
+    /// How far from the chosen prices a bound reaches, in money for a kilowatt and period.
     pub radius: Option<u32>,
+    /// Which case is generated.
     pub number: Option<u64>,
 }
 

@@ -4,7 +4,9 @@ use uc_model::units::Response;
 
 /// A schedule of a thermal unit, and how often it counts.
 pub struct Entry {
+    /// How often it counts, from 0 to the whole of the mixture.
     pub weight: i64,
+    /// The schedule.
     pub response: Response,
 }
 
@@ -21,11 +23,14 @@ impl Drop for Entry {
 /// The entries of one unit.
 pub type Entries = ReservedList<Entry>;
 
+/// The entries of each thermal unit, in the case's order.
 pub type EntryLists = ReservedList<Entries>;
 
 /// For each thermal unit of a case, in the case's order, entries whose weights sum to `weight`.
 pub struct Mixture {
+    /// The whole, from 1 on.
     pub weight: i64,
+    /// The entries of each thermal unit.
     pub thermal: EntryLists,
 }
 

@@ -24,7 +24,9 @@ use uc_model::units::{Response, Unit};
 /// Power and reserve in kilowatts, each as often as weights say.
 #[derive(Clone, Copy)]
 pub struct Weighed {
+    /// The power.
     pub power: i128,
+    /// The reserve.
     pub reserve: i128,
 }
 

@@ -20,15 +20,20 @@ use uc_model::cases::Case;
 /// The lowest and the highest price of an interval.
 #[derive(Clone, Copy)]
 pub struct Interval {
+    /// The lowest price, in money for a kilowatt.
     pub low: i64,
+    /// The highest price, in money for a kilowatt.
     pub high: i64,
 }
 
 /// What is lacking of demand in the period of a place, for so many times the case.
 #[derive(Clone, Copy)]
 pub struct Lack {
+    /// The place of the period, from 0.
     pub place: usize,
+    /// How many times the case.
     pub weight: i64,
+    /// What is lacking, in kilowatts.
     pub power: i128,
 }
 

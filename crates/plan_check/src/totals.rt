@@ -23,7 +23,9 @@ use uc_model::units::Response;
 /// Sums over schedules in one period, in kilowatts.
 #[derive(Clone, Copy)]
 pub struct Totals {
+    /// The sum of the powers, what bids buy counted below 0.
     pub power: i64,
+    /// The sum of the reserves.
     pub reserve: i64,
 }
 
@@ -99,7 +101,9 @@ pub fn balance_sides(case: &Case, plan: &Plan, place: usize) -> Option<Sides>
 /// The required reserve of a period, and what the schedules of all units give, in kilowatts.
 #[derive(Clone, Copy)]
 pub struct Reserves {
+    /// The required reserve.
     pub required: i64,
+    /// The reserve of all units.
     pub given: i64,
 }
 

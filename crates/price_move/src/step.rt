@@ -19,7 +19,10 @@ use uc_model::money::price_near;
 /// A step moves a price by `gap` times its entry of the direction over `scale`.
 #[derive(Clone, Copy)]
 pub struct Step {
+    /// The cost of the plan less the row's dual value, in money.
     pub gap: i128,
+    /// The squared length of the direction, doubled the more often the longer no better value was
+    /// found.
     pub scale: i128,
 }
 

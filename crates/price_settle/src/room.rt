@@ -17,11 +17,17 @@ use uplift_settle::Settlement;
 /// settlement.
 #[derive(Drop)]
 pub struct Room {
+    /// The answers, one for each unit, over the periods.
     pub spare: Vec<Answered>,
+    /// Room for a response of each unit.
     pub responses: ResponseList,
+    /// Room for what each unit earns.
     pub earned: Numbers,
+    /// A total for each period.
     pub supply: Amounts,
+    /// A total for each period.
     pub reserve: Amounts,
+    /// Room for the payments.
     pub settlement: Settlement,
 }
 

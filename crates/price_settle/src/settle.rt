@@ -28,9 +28,13 @@ use uplift_settle::{Settlement, settle};
 /// numbers, the least of its best responses and what that earns in money; and what the plan earns
 /// and is paid.
 pub struct Settled {
+    /// The row of the prices.
     pub row: Row,
+    /// The least best response of each unit.
     pub responses: Plan,
+    /// What each unit earns at best.
     pub earned: Numbers,
+    /// What each unit earns in the plan and is paid.
     pub settlement: Settlement,
 }
 

@@ -23,7 +23,9 @@ use uc_model::units::{NamedFlat, Unit};
 /// A unit's full-load price, and its greatest power in kilowatts.
 #[derive(Clone, Copy, PartialEq, Eq, PartialOrd, Ord)]
 pub struct Priced {
+    /// The full-load price, in money for a kilowatt.
     pub price: i64,
+    /// The greatest power.
     pub power: i64,
 }
 

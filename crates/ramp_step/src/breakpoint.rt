@@ -5,6 +5,8 @@
 /// neighbours; no knot stands for the empty interval.
 #[derive(Clone, Copy)]
 pub struct Knot {
+    /// The power.
     pub at: i64,
+    /// The value.
     pub value: i64,
 }

@@ -12,16 +12,27 @@ use hull_io::{Sink, WriteFailed};
 /// what payments and surplus sum to at least at any of these prices.
 #[derive(Clone, Copy)]
 pub struct CertificateLines {
+    /// How many periods the case has.
     pub periods: u32,
+    /// How many units and bids it has.
     pub units: u32,
+    /// The cost of the plan.
     pub cost: i128,
+    /// The dual value of the given prices.
     pub value: i128,
+    /// What surplus reserve is worth at them.
     pub surplus: i128,
+    /// The sum of the payments at them.
     pub payments: i128,
+    /// The cost less the dual value.
     pub gap: i128,
+    /// The radius round the given prices.
     pub radius: u64,
+    /// What no dual value within the radius is above.
     pub bound: i128,
+    /// The bound less the dual value.
     pub distance: i128,
+    /// What payments and surplus sum to at least within the radius.
     pub least: i128,
 }
 

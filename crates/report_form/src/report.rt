@@ -17,19 +17,28 @@ use uc_model::units::Response;
 /// number ahead, the cost of the plan in money, and the number of proposals.
 #[derive(Clone, Copy)]
 pub struct Head {
+    /// How many periods the case has.
     pub periods: u32,
+    /// How many units and bids it has.
     pub units: u32,
+    /// The most proposals of the run.
     pub budget: u32,
+    /// How many proposals may be open ahead of the last answered one.
     pub ahead: u32,
+    /// The cost of the plan.
     pub cost: i128,
+    /// How many proposals the run has.
     pub proposals: u32,
 }
 
 /// What a unit or a bid earns at best and in the plan, and what it is owed, in money.
 #[derive(Clone, Copy)]
 pub struct Owed {
+    /// What it earns at best.
     pub earned: i64,
+    /// What it earns in the plan.
     pub scheduled: i64,
+    /// What it is owed: the former less the latter.
     pub payment: i64,
 }
 

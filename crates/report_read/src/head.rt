@@ -13,8 +13,11 @@ use uc_model::limits::MOST_PERIODS;
 /// What stands behind the units, in money.
 #[derive(Clone, Copy)]
 pub struct Foot {
+    /// What reserve beyond the requirement is worth.
     pub surplus: i128,
+    /// The sum of the payments.
     pub payments: i128,
+    /// The cost of the plan less the chosen dual value.
     pub gap: i128,
 }
 

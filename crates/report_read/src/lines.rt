@@ -84,7 +84,9 @@ pub fn amount_line<'a>(word: &[u8], bytes: &'a [u8]) -> Result<(i128, &'a [u8]),
 /// The number of a proposal, and its value in money.
 #[derive(Clone, Copy)]
 pub struct Valued {
+    /// The number, from 1.
     pub number: u32,
+    /// The dual value.
     pub value: i128,
 }
 

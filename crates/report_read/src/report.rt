@@ -16,11 +16,17 @@ pub type UnitLines = ReservedList<UnitLine>;
 /// A unit or a bid at the chosen prices: what it earns at best and in the plan, what it is owed, in
 /// money, and its response. A renewable unit or a bid is on in every period, with reserve 0.
 pub struct UnitLine {
+    /// Whether it is thermal, renewable or a bid.
     pub kind: Kind,
+    /// Its name in the case.
     pub name: Name,
+    /// What it earns at best.
     pub earned: i64,
+    /// What it earns in the plan.
     pub scheduled: i64,
+    /// What it is owed.
     pub payment: i64,
+    /// Its best response, in kilowatts over the periods.
     pub response: Response,
 }
 
@@ -42,17 +48,29 @@ impl Drop for UnitLine {
 /// `chosen_value` its dual value. The units stand in the order thermal, renewable, bids. Values,
 /// costs and payments are in money.
 pub struct Report {
+    /// How many periods the case has.
     pub periods: u32,
+    /// How many units and bids it has.
     pub units: u32,
+    /// The most proposals of the run.
     pub budget: u32,
+    /// How many proposals may be open ahead of the last answered one.
     pub ahead: u32,
+    /// The cost of the plan.
     pub cost: i128,
+    /// The rows, one for each proposal.
     pub rows: RowList,
+    /// The number of the chosen proposal.
     pub chosen: u32,
+    /// The dual value of the chosen proposal.
     pub chosen_value: i128,
+    /// A line for each unit and bid.
     pub lines: UnitLines,
+    /// What reserve beyond the requirement is worth.
     pub surplus: i128,
+    /// The sum of the payments.
     pub payments: i128,
+    /// The cost of the plan less the chosen dual value.
     pub gap: i128,
 }
 

@@ -24,8 +24,11 @@ use uc_model::units::{Powers, Response};
 /// The first line of a unit or bid.
 #[derive(Drop)]
 pub struct Title {
+    /// Whether it is thermal, renewable or a bid.
     pub kind: Kind,
+    /// Its name in the case.
     pub name: Name,
+    /// What it earns and is owed.
     pub owed: Owed,
 }
 

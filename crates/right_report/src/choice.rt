@@ -13,9 +13,13 @@ use uc_model::laws::plan_costs_are_within;
 /// what the schedule costs above that value.
 #[derive(Clone, Copy)]
 pub struct Choice {
+    /// How many proposals the run has.
     pub proposals: u32,
+    /// The chosen one.
     pub chosen: u32,
+    /// Its dual value.
     pub value: i128,
+    /// The cost of the schedule less that value.
     pub gap: i128,
 }
 

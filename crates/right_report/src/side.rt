@@ -15,10 +15,15 @@ use uplift_settle::Settlement;
 /// dual value in money and its prices in money for a kilowatt and period, and the settlement of the
 /// schedule at these prices.
 pub struct Side {
+    /// How many proposals the run has.
     pub proposals: u32,
+    /// The chosen one.
     pub chosen: u32,
+    /// Its dual value.
     pub value: i128,
+    /// Its prices.
     pub prices: Prices,
+    /// What each unit earns and is owed at them.
     pub settlement: Settlement,
 }
 

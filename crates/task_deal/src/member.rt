@@ -14,7 +14,9 @@ use thread_start::make_way;
 /// A job with the handles of its worker: what one thread gets.
 #[derive(Drop)]
 pub struct Member<J> {
+    /// The job.
     pub job: J,
+    /// The handles.
     pub seat: Seat,
 }
 

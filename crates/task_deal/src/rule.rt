@@ -10,8 +10,11 @@ use std::collections::LinkedList;
 /// What a pass has put into its queue and taken from it. The owner's pass counts the parts that
 /// are out, any other has one part or none. Contracts alone speak of it: no value of it is made.
 pub struct Account {
+    /// How many parts are out, or whether it has one.
     pub parts: u64,
+    /// The numbers that it put.
     pub put: LinkedList<u32>,
+    /// The numbers that it took.
     pub taken: LinkedList<u32>,
 }
 
@@ -89,19 +92,26 @@ impl Lesson<u32, Account> for Fitting {
     ghost fact = { λ v items. Fits v };
 }
 
+/// The queue that all numbers are put into first.
 pub type Source = Injector<u32, Global, Account, Rule>;
 
+/// A worker's leave to take from the source.
 pub type SourcePass = InjectorPass<u32, Account>;
 
+/// A worker's own queue.
 pub type Deque = Worker<u32, Global, Account, Rule>;
 
+/// What others steal from a worker's queue with.
 pub type Thief = Stealer<u32, Global, Account, Rule>;
 
+/// A worker's leave to steal from another's queue.
 pub type ThiefPass = Pass<u32, Account>;
 
 /// What all workers share: the source, and what to steal from each deque with.
 #[derive(Drop)]
 pub struct Shared {
+    /// The source.
     pub source: Source,
+    /// One for each deque, in the workers' order.
     pub thieves: Vec<Thief>,
 }

@@ -20,8 +20,11 @@ const BATCH: usize = 32;
 /// each deque. A pass has no bytes.
 #[derive(Drop)]
 pub struct Seat {
+    /// The pass of the source.
     pub source: SourcePass,
+    /// The deque.
     pub own: Deque,
+    /// A pass for each deque, in the workers' order.
     pub purse: Vec<ThiefPass>,
 }
 

@@ -67,6 +67,7 @@ pub fn one_period(alloc: Global, demand: i64, reserve: i64, most: i64) -> Result
     })
 }
 
+/// Prices of one period, in money for a kilowatt.
 pub fn one_price(alloc: Global, energy: i64, reserve: i64) -> Result<Prices, AllocError>
     requires energy { IsFrom (neg_ℤ price_limit) price_limit energy }
     requires reserve { IsFrom (pos 0) price_limit reserve }

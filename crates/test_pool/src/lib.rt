@@ -27,9 +27,13 @@ use unit_rows::table::Table;
 /// is open.
 #[derive(Drop)]
 pub struct PoolBench {
+    /// The cells of the shapes.
     pub pool: Pool,
+    /// The cost of a power.
     pub curve: Curve,
+    /// The costs of the spells of one first period.
     pub costs: SpellCosts,
+    /// The table of least costs.
     pub table: Table,
 }
 

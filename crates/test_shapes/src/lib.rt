@@ -33,6 +33,7 @@ pub trait Cells {
 /// The home of the heap. It doesn't count: a shape there takes what memory it needs.
 #[derive(Drop)]
 pub struct Heap {
+    /// Where the memory comes from.
     pub alloc: Global,
 }
 

@@ -11,9 +11,13 @@ use std::marker::Model;
 /// where `last` is before the horizon's end.
 #[derive(Clone, Copy)]
 pub struct Spell {
+    /// The first on period.
     pub first: u32,
+    /// The last on period.
     pub last: u32,
+    /// Whether a start is at `first`.
     pub started: bool,
+    /// Whether a stop follows.
     pub stops: bool,
 }
 

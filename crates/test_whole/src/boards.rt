@@ -56,8 +56,11 @@ pub(crate) const PLAN: &[u8] = b"{\"thermal\":{\"A\":{\"on\":[1],\"power\":[50],
 // What a board is made for beside its case and plan.
 #[derive(Clone, Copy)]
 pub(crate) struct Sizes {
+    /// The most proposals.
     pub budget: u32,
+    /// How many proposals may be open ahead of the last answered one.
     pub ahead: u32,
+    /// How many callers there are.
     pub callers: u32,
 }
 

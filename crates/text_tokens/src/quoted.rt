@@ -5,6 +5,7 @@ ghost use Rattle.text_tokens.specs.Strings.{string_of, len_or};
 /// The bytes behind the opening quote of a string that is closed.
 #[derive(Clone, Copy)]
 pub struct Quoted<'a> {
+    /// The rest of the text from there on; the closing quote stands in it.
     pub bytes: &'a [u8],
     ghost closed: { is_some (string_of bytes.now) ≡ true },
     ghost few: { length bytes.now < 2 ^ 32 },

@@ -11,7 +11,9 @@ use crate::token::{Lexeme, Token, is_blank, mark, token_at};
 /// A text, and the offset behind the last token that was read.
 #[derive(Drop)]
 pub struct Reader<'a> {
+    /// The whole text.
     pub bytes: &'a [u8],
+    /// The offset.
     pub at: usize,
     ghost within: { at ≤ length bytes.now },
     ghost few: { length bytes.now < 2 ^ 30 },

@@ -11,6 +11,7 @@ use uc_num::Decimal;
 /// The bytes of a number.
 #[derive(Clone, Copy)]
 pub struct Run<'a> {
+    /// All bytes of it, and no others.
     pub bytes: &'a [u8],
     ghost few: { length bytes.now < 2 ^ 30 },
     ghost number: { is_number (number_of bytes.now) ≡ true },

@@ -7,8 +7,11 @@ use uc_num::Decimal;
 /// A number of few digits, as most are, in 8 bytes: a `Decimal` takes 32.
 #[derive(Clone, Copy)]
 pub struct SmallNumber {
+    /// The digits as a whole number.
     pub digits: u32,
+    /// The power of ten that they are multiplied by.
     pub exponent: i16,
+    /// Whether it is negated.
     pub negative: bool,
 }
 

@@ -25,7 +25,9 @@ pub enum Said {
 /// What some bytes of a string say, and how many they are.
 #[derive(Clone, Copy)]
 pub struct Piece {
+    /// What they say.
     pub said: Said,
+    /// How many they are.
     pub len: usize,
 }
 

@@ -48,7 +48,9 @@ pub enum Token<'a> {
 /// A token, and the offset of its first byte.
 #[derive(Clone, Copy)]
 pub struct Lexeme<'a> {
+    /// The token.
     pub token: Token<'a>,
+    /// How many bytes stand before it.
     pub offset: u32,
 }
 

@@ -12,7 +12,9 @@ use uc_num::Decimal;
 /// is none.
 #[derive(Clone, Copy)]
 pub struct Branch<'a> {
+    /// The text, in which the nodes' offsets count.
     pub bytes: &'a [u8],
+    /// The nodes from its own on.
     pub nodes: &'a [Node],
     ghost few: { length bytes.now < 2 ^ 30 },
 }

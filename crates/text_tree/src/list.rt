@@ -8,8 +8,11 @@ use std::alloc::{AllocError, Global};
 /// A list within a tree: its items are the first of these nodes.
 #[derive(Clone, Copy)]
 pub struct ListBranch<'a> {
+    /// The text, in which the nodes' offsets count.
     pub bytes: &'a [u8],
+    /// The nodes from the first item on.
     pub nodes: &'a [Node],
+    /// How many items it has.
     pub count: u32,
     ghost few: { length bytes.now < 2 ^ 30 },
 }

@@ -9,8 +9,11 @@ use text_tokens::Quoted;
 /// An object within a tree: its names and values are the first of these nodes.
 #[derive(Clone, Copy)]
 pub struct ObjectBranch<'a> {
+    /// The text, in which the nodes' offsets count.
     pub bytes: &'a [u8],
+    /// The nodes from the first name on.
     pub nodes: &'a [Node],
+    /// How many members it has.
     pub count: u32,
     ghost few: { length bytes.now < 2 ^ 30 },
 }
@@ -18,7 +21,9 @@ pub struct ObjectBranch<'a> {
 /// A key of an object and its value.
 #[derive(Clone, Copy)]
 pub struct Member<'a> {
+    /// The key.
     pub name: Quoted<'a>,
+    /// The value under it.
     pub value: Branch<'a>,
 }
 

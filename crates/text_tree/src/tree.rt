@@ -7,7 +7,9 @@ use crate::node::Node;
 /// The values of a text in reading order, and the bytes that they are of.
 #[derive(Drop)]
 pub struct Tree<'a> {
+    /// The text, in which the nodes' offsets count.
     pub bytes: &'a [u8],
+    /// The values, each behind the one that it is in.
     pub nodes: Vec<Node>,
     ghost few: { length bytes.now < 2 ^ 30 },
 }

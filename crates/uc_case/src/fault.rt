@@ -136,19 +136,28 @@ impl Field {
 /// 0 outside of lists.
 #[derive(Clone, Copy)]
 pub struct Site {
+    /// The field.
     pub field: Field,
+    /// The kind of the unit, or `Case`.
     pub kind: Kind,
+    /// The position of the unit, or 0.
     pub unit: u32,
+    /// The position of the item, or 0.
     pub item: u32,
 }
 
 /// A test that failed, and where: the parts of a `Site`.
 #[derive(Clone, Copy, PartialEq, Eq)]
 pub struct FieldFault {
+    /// The test that failed.
     pub code: CaseCode,
+    /// The field.
     pub field: Field,
+    /// The kind of the unit, or `Case`.
     pub kind: Kind,
+    /// The position of the unit, or 0.
     pub unit: u32,
+    /// The position of the item, or 0.
     pub item: u32,
 }
 

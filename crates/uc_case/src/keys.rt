@@ -17,7 +17,9 @@ use text_tree::{Branch, Member};
 /// A unit or the case: the site of its faults but for the field, and its members.
 #[derive(Drop)]
 pub struct Keys<'a> {
+    /// The site, with any field.
     pub at: Site,
+    /// The members in file order.
     pub members: Vec<Member<'a>>,
 }
 

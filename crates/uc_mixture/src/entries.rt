@@ -24,7 +24,9 @@ use uc_plan::units::read_lists;
 /// of each unit sum to.
 #[derive(Clone, Copy)]
 pub struct Frame {
+    /// How many items each list has.
     pub periods: u32,
+    /// The whole, from 1 on.
     pub whole: i64,
 }
 

@@ -38,8 +38,11 @@ impl ShareCode {
 /// entry 0, and the file as a whole is of kind `Case` with unit 0 and entry 0.
 #[derive(Clone, Copy)]
 pub struct ShareSite {
+    /// `Thermal`, or `Case`.
     pub kind: Kind,
+    /// The position of the unit, or 0.
     pub unit: u32,
+    /// The position of the entry, or 0.
     pub entry: u32,
 }
 
@@ -49,10 +52,15 @@ pub struct ShareSite {
 /// position from 1 among the unit's entries, or 0. `item` is the period, or 0.
 #[derive(Clone, Copy, PartialEq, Eq)]
 pub struct ShareFault {
+    /// The test that failed.
     pub code: ShareCode,
+    /// `Thermal`, or `Case`.
     pub kind: Kind,
+    /// The position of the unit, or 0.
     pub unit: u32,
+    /// The position of the entry, or 0.
     pub entry: u32,
+    /// The period, or 0.
     pub item: u32,
 }
 

@@ -13,8 +13,11 @@ use thiserror::Error;
 /// The number `digits * 10^exponent`, negated where `negative`.
 #[derive(Clone, Copy, Debug, PartialEq, Eq)]
 pub struct Decimal {
+    /// The digits as a whole number.
     pub digits: u128,
+    /// The power of ten that they are multiplied by.
     pub exponent: i32,
+    /// Whether it is negated.
     pub negative: bool,
 }
 

@@ -40,7 +40,9 @@ impl ShapeCode {
 /// A unit or bid at its position within its kind, from 1; the file as a whole has unit 0.
 #[derive(Clone, Copy)]
 pub struct Seat {
+    /// The kind of the unit, or `Case`.
     pub kind: Kind,
+    /// The position, or 0.
     pub unit: u32,
 }
 
@@ -49,9 +51,13 @@ pub struct Seat {
 /// the file as a whole. `item` is the period, or 0.
 #[derive(Clone, Copy, PartialEq, Eq)]
 pub struct ShapeFault {
+    /// The test that failed.
     pub code: ShapeCode,
+    /// The kind of the unit, or `Case`.
     pub kind: Kind,
+    /// The position of the unit, or 0.
     pub unit: u32,
+    /// The period, or 0.
     pub item: u32,
 }
 

@@ -41,8 +41,11 @@ fn list_under<'a>(members: &[Member<'a>], key: &str, periods: u32) -> Option<Lis
 /// The lists of a thermal unit's schedule, each of an item for each period.
 #[derive(Clone, Copy)]
 pub struct ThermalLists<'a> {
+    /// The on flags.
     pub on: ListBranch<'a>,
+    /// The powers in kilowatts.
     pub power: ListBranch<'a>,
+    /// The reserves in kilowatts.
     pub reserve: ListBranch<'a>,
 }
 
@@ -71,8 +74,11 @@ pub fn object_under<'a>(members: &[Member<'a>], key: &str) -> Option<ObjectBranc
 /// The objects of a schedule, by unit name.
 #[derive(Clone, Copy)]
 pub struct Groups<'a> {
+    /// The schedules of the thermal units.
     pub thermal: ObjectBranch<'a>,
+    /// The powers of the renewable units.
     pub renewable: ObjectBranch<'a>,
+    /// What the bids buy.
     pub bids: ObjectBranch<'a>,
 }
 

@@ -62,15 +62,20 @@ impl PriceField {
 /// Where a test looks: the outermost value or a list, with item 0, or the item of a period.
 #[derive(Clone, Copy)]
 pub struct PriceSite {
+    /// The outermost value, or which list.
     pub field: PriceField,
+    /// The period, or 0.
     pub item: u32,
 }
 
 /// A test that failed, and where: the parts of a `PriceSite`.
 #[derive(Clone, Copy, PartialEq, Eq)]
 pub struct PriceFault {
+    /// The test that failed.
     pub code: PriceCode,
+    /// The outermost value, or which list.
     pub field: PriceField,
+    /// The period, or 0.
     pub item: u32,
 }
 

@@ -14,7 +14,9 @@ use text_tokens::{Quoted, text_of};
 /// A name of an object, and the offset of its first byte.
 #[derive(Clone, Copy)]
 pub struct Name<'a> {
+    /// The name as it is written.
     pub quoted: Quoted<'a>,
+    /// How many bytes of the text stand before it.
     pub offset: u32,
 }
 
