@@ -1,4 +1,5 @@
 -- A list of runners, and one of them written.
+use Rattle.unit_table.proofs.Common.{shown, count_of, room_of}
 use Rattle.unit_table.proofs.Common.{◌≡◌, ◌≢◌, ℕ, zero, suc, ◌+◌, ◌-◌, ◌*◌, ◌<◌, ◌≤◌, inl, inr, Bool, true, false, cond}
 use Rattle.unit_table.proofs.Common.{Option, Some, None, ℤ, pos, ◌+ℤ◌, ◌-ℤ◌, ◌≤ℤ◌, ◌<ℤ◌, List, [], ◌∷◌, length, refl}
 use Rattle.unit_table.proofs.Common.{sym, ap, ◌∙◌, subst, arith, IfSome, slice_get, slice_set, ints, slice_get_within}
@@ -26,46 +27,45 @@ small_of g π limits ends live t n few low now f r is =
           record { at_least = omega (arith, ints, c, count); at_most = omega (arith, ints, d, count) };
     }
 
-module _ {R : Type 0} (function : R → Table) where
-  -- a runner that is on is one of the list
-  pub on_some : (o : Option (Runner R)) (x : Going) → going_of function o ≡ Some x →
-      (r : Runner R) × (o ≡ Some r) × (r.is_on ≡ true) ×
-      (x ≡ record { before = r.before; cost = r.cost; function = function r.running; left = passed_at r.passed.items })
-  on_some None x is = cc
-  on_some (Some r) x is = elim (r.is_on) as (λ b. r.is_on ≡ b →
-      cond b (Some (record
-      { before = r.before; cost = r.cost; function = function r.running; left = passed_at r.passed.items })) None ≡ Some
-      x →
-      (s : Runner R) × (Some r ≡ Some s) × (s.is_on ≡ true) ×
-      (x ≡ record {
-        before = s.before;
-        cost = s.cost;
-        function = function s.running;
-        left = passed_at s.passed.items;
-      })) [
-        | true ↦ λ on is. (r, refl, on, (cc))
-        | false ↦ λ off is. cc
-      ] refl is
+-- a runner that is on is one of the list
+pub on_some : (o : Option Runner) (x : Going) → going_of o ≡ Some x →
+    (r : Runner) × (o ≡ Some r) × (r.is_on ≡ true) ×
+    (x ≡ record { before = r.before; cost = r.cost; function = shown r.running; left = passed_at r.passed.items })
+on_some None x is = cc
+on_some (Some r) x is = elim (r.is_on) as (λ b. r.is_on ≡ b →
+    cond b (Some (record
+    { before = r.before; cost = r.cost; function = shown r.running; left = passed_at r.passed.items })) None ≡ Some
+    x →
+    (s : Runner) × (Some r ≡ Some s) × (s.is_on ≡ true) ×
+    (x ≡ record {
+      before = s.before;
+      cost = s.cost;
+      function = shown s.running;
+      left = passed_at s.passed.items;
+    })) [
+      | true ↦ λ on is. (r, refl, on, (cc))
+      | false ↦ λ off is. cc
+    ] refl is
 
-  pub going_on : (r : Runner R) → r.is_on ≡ true → going_of function (Some r) ≡ Some
-      (record { before = r.before; cost = r.cost; function = function r.running; left = passed_at r.passed.items })
-  going_on r on = ap (λ (b : Bool). cond b
-      (Some (record {
-        before = r.before;
-        cost = r.cost;
-        function = function r.running;
-        left = passed_at r.passed.items;
-      })) None) on
+pub going_on : (r : Runner) → r.is_on ≡ true → going_of (Some r) ≡ Some
+    (record { before = r.before; cost = r.cost; function = shown r.running; left = passed_at r.passed.items })
+going_on r on = ap (λ (b : Bool). cond b
+    (Some (record {
+      before = r.before;
+      cost = r.cost;
+      function = shown r.running;
+      left = passed_at r.passed.items;
+    })) None) on
 
-  pub going_off : (r : Runner R) → r.is_on ≡ false → going_of function (Some r) ≡ None
-  going_off r off = ap
-      (λ (b : Bool). cond b
-      (Some (record {
-        before = r.before;
-        cost = r.cost;
-        function = function r.running;
-        left = passed_at r.passed.items;
-      })) None) off
+pub going_off : (r : Runner) → r.is_on ≡ false → going_of (Some r) ≡ None
+going_off r off = ap
+    (λ (b : Bool). cond b
+    (Some (record {
+      before = r.before;
+      cost = r.cost;
+      function = shown r.running;
+      left = passed_at r.passed.items;
+    })) None) off
 
 -- ---- one above another
 
@@ -97,23 +97,23 @@ get_set_other (x ∷ xs) zero (suc j) a other = refl
 get_set_other (x ∷ xs) (suc i) zero a other = refl
 get_set_other (x ∷ xs) (suc i) (suc j) a other = get_set_other xs i j a (λ z. other (ap suc z))
 
-module _ {R : Type 0} (function : R → Table) (runners runners' : List (Runner R)) (i : ℕ) (a : Runner R)
+module _ (runners runners' : List Runner) (i : ℕ) (a : Runner)
     (room : i < length runners) (set : runners' ≡ slice_set runners i a) where
   pub written_here : slice_get runners' i ≡ Some a
-  written_here = ap (λ (xs : List (Runner R)). slice_get xs i) set ∙ get_set_same runners i a room
+  written_here = ap (λ (xs : List Runner). slice_get xs i) set ∙ get_set_same runners i a room
 
   pub written_other : (j : ℕ) → j ≢ i → slice_get runners' j ≡ slice_get runners j
-  written_other j other = ap (λ (xs : List (Runner R)). slice_get xs j) set ∙ get_set_other runners i j a other
+  written_other j other = ap (λ (xs : List Runner). slice_get xs j) set ∙ get_set_other runners i j a other
 
-  pub live_here : live_at function runners' i ≡ going_of function (Some a)
-  live_here = ap (going_of function) written_here
+  pub live_here : live_at runners' i ≡ going_of (Some a)
+  live_here = ap going_of written_here
 
-  pub live_other : (j : ℕ) → j ≢ i → live_at function runners' j ≡ live_at function runners j
-  live_other j other = ap (going_of function) (written_other j other)
+  pub live_other : (j : ℕ) → j ≢ i → live_at runners' j ≡ live_at runners j
+  live_other j other = ap going_of (written_other j other)
 
   -- what holds of each runner
-  pub each_written : (P : Runner R → Type 0) → P a → ((j : ℕ) (r : Runner R) → slice_get runners j ≡ Some r → P r) →
-      (j : ℕ) (r : Runner R) → slice_get runners' j ≡ Some r → P r
+  pub each_written : (P : Runner → Type 0) → P a → ((j : ℕ) (r : Runner) → slice_get runners j ≡ Some r → P r) →
+      (j : ℕ) (r : Runner) → slice_get runners' j ≡ Some r → P r
   each_written P here all j r is = elim (cases_eq j i) [
     | inl z ↦ (let same : a ≡ r = (let e = ap (λ (k : ℕ). slice_get runners' k) z in let w = written_here in cc) in
         subst P same here)
@@ -154,150 +154,147 @@ slice_get_none (x ∷ xs) (suc f) h = (let e = slice_get_none xs f h in omega (a
 
 -- ---- the same runners, of which some were stopped or begun
 
-module _ {R : Type 0} (function : R → Table) (count room : R → ℕ) where
-  kept_one : (r : Runner R) → IsKeptFrom count room r r
-  kept_one r = record { room_same = refl; passed = refl; pieces = λ on. inr (on, refl) }
+kept_one : (r : Runner) → IsKeptFrom r r
+kept_one r = record { room_same = refl; passed = refl; pieces = λ on. inr (on, refl) }
 
-  pub stopped_one : (old a : Runner R) → a.is_on ≡ false → a.running ≡ old.running → a.passed ≡ old.passed →
-      IsKeptFrom count room old a
-  stopped_one old a off same passed = record { room_same = ap room same; passed = passed; pieces = λ on. absurd (cc) }
+pub stopped_one : (old a : Runner) → a.is_on ≡ false → a.running ≡ old.running → a.passed ≡ old.passed →
+    IsKeptFrom old a
+stopped_one old a off same passed = record { room_same = ap room_of same; passed = passed; pieces = λ on. absurd (cc) }
 
-  pub begun_one : (old a : Runner R) → count a.running ≡ 0 → room a.running ≡ room old.running → a.passed ≡ old.passed →
-      IsKeptFrom count room old a
-  begun_one old a none same passed = record { room_same = same; passed = passed; pieces = λ on. inl none }
+pub begun_one : (old a : Runner) → count_of a.running ≡ 0 → room_of a.running ≡ room_of old.running → a.passed ≡ old.passed →
+    IsKeptFrom old a
+begun_one old a none same passed = record { room_same = same; passed = passed; pieces = λ on. inl none }
 
-  pub kept_none : (runners : List (Runner R)) → AreKept count room runners runners
-  kept_none runners = record { count_same = refl; each = λ f r is. (r, is, kept_one r) }
+pub kept_none : (runners : List Runner) → AreKept runners runners
+kept_none runners = record { count_same = refl; each = λ f r is. (r, is, kept_one r) }
 
-  pub kept_then : (a b d : List (Runner R)) → AreKept count room a b → AreKept count room b d → AreKept count room a d
-  kept_then a b d early late = record {
-    count_same = late.count_same ∙ early.count_same;
-    each = λ f r is.
-        let n = late.each f r is in
-        let o = early.each f n.0 n.1 in (
-          o.0,
-          o.1,
-          record {
-            room_same = n.2.room_same ∙ o.2.room_same;
-            passed = n.2.passed ∙ o.2.passed;
-            pieces = λ on. elim (n.2.pieces on) [
-              | inl none ↦ inl none
-              | inr h ↦ elim (o.2.pieces h.0) [
-                | inl none ↦ inl (h.1 ∙ none)
-                | inr k ↦ inr (k.0, h.1 ∙ k.1)
-              ]
-            ];
-          },
-        );
-  }
-
-  pub kept_written : (runners runners' : List (Runner R)) (i : ℕ) (a old : Runner R) → i < length runners →
-      runners' ≡ slice_set runners i a → slice_get runners i ≡ Some old → IsKeptFrom count room old a →
-      AreKept count room runners runners'
-  kept_written runners runners' i a old low set was kept = record {
-    count_same = ap (λ (xs : List (Runner R)). length xs) set ∙ length-set runners i a;
-    each = λ f r is. elim (cases_eq f i) [
-      | inl z ↦
-          let e = ap (λ (k : ℕ). slice_get runners' k) z in
-          let w = written_here function runners runners' i a low set in
-          let same : a ≡ r = (cc) in (
-            old,
-            ap (λ (k : ℕ). slice_get runners k) z ∙ was,
-            subst (λ (r : Runner R). IsKeptFrom count room old r) same
-                kept,
-          )
-      | inr other ↦ (r, sym (written_other function runners runners' i a low set f other) ∙ is, kept_one r)
-    ];
-  }
-
-  module _ (old new : List (Runner R)) (kept : AreKept count room old new) where
-    pub kept_roomy : (periods t charge : ℕ) → AreRoomy count room periods t charge old →
-        AreRoomy count room periods t charge new
-    kept_roomy periods t charge roomy f r is =
-        let k = kept.each f r is in
-        let o = roomy f k.0 k.1 in
-        let whole = o.whole in
-        let places = o.places in
-        let same = k.2.room_same in
-        let length_same = ap (λ p. length p.items + p.spare) k.2.passed in
+pub kept_then : (a b d : List Runner) → AreKept a b → AreKept b d → AreKept a d
+kept_then a b d early late = record {
+  count_same = late.count_same ∙ early.count_same;
+  each = λ f r is.
+      let n = late.each f r is in
+      let o = early.each f n.0 n.1 in (
+        o.0,
+        o.1,
         record {
-          whole = omega (arith, whole, same);
-          places = omega (arith, places, length_same);
-          rest = λ on. elim (k.2.pieces on) [
-            | inl none ↦ (let rest = room_none periods t charge (room k.0.running) whole in omega
-                (arith, none, same, rest))
-            | inr h ↦ (let rest = o.rest h.0 in let pieces = h.1 in omega (arith, rest, pieces, same))
+          room_same = n.2.room_same ∙ o.2.room_same;
+          passed = n.2.passed ∙ o.2.passed;
+          pieces = λ on. elim (n.2.pieces on) [
+            | inl none ↦ inl none
+            | inr h ↦ elim (o.2.pieces h.0) [
+              | inl none ↦ inl (h.1 ∙ none)
+              | inr k ↦ inr (k.0, h.1 ∙ k.1)
+            ]
           ];
-        }
-
-    pub kept_room : (most periods : ℕ) → HaveRoom room most periods old → HaveRoom room most periods new
-    kept_room most periods have f r is =
-        let k = kept.each f r is in
-        let there = (have f k.0 k.1).0 in
-        let places = (have f k.0 k.1).1 in
-        let same = k.2.room_same in
-        let length_same = ap (λ p. length p.items + p.spare) k.2.passed in
-        (omega (arith, there, same), omega (arith, places, length_same))
-
-    pub kept_left : (f k : ℕ) → left_at new f k ≡ left_at old f k
-    kept_left f k = elim (slice_get new f) as (λ o. slice_get new f ≡ o → left_of o k ≡ left_at old f k) [
-      | None ↦ λ is. (
-          let past = kept.count_same in
-          let end = slice_get_none new f is in
-          sym (ap (λ o. left_of o k) (slice_get_past old f (omega (arith, past, end)))))
-      | Some r ↦ λ is. (let o = kept.each f r is in ap (λ p. passed_at p.items k) o.2.passed ∙
-          sym (ap (λ o. left_of o k) o.1))
-    ] refl
-
--- where none is on, the room of each is all its own
-pub off_roomy : {R : Type 0} (function : R → Table) (count room : R →
-    ℕ) (periods t charge : ℕ) (runners : List (Runner R)) →
-    ((f : ℕ) → live_at function runners f ≡ None) → HaveRoom room (periods * charge) periods runners →
-    AreRoomy count room periods t charge runners
-off_roomy function count room periods t charge runners off have f r is = record {
-  whole = (have f r is).0;
-  places = (have f r is).1;
-  rest = λ on. (let none = off f in let live = ap (going_of function) is ∙ going_on function r on in absurd (cc));
+        },
+      );
 }
 
-pub have_room : {R : Type 0} (count room : R → ℕ) (periods t charge : ℕ) (runners : List (Runner R)) →
-    AreRoomy count room periods t charge runners → HaveRoom room (periods * charge) periods runners
-have_room count room periods t charge runners roomy f r is = ((roomy f r is).whole, (roomy f r is).places)
+pub kept_written : (runners runners' : List Runner) (i : ℕ) (a old : Runner) → i < length runners →
+    runners' ≡ slice_set runners i a → slice_get runners i ≡ Some old → IsKeptFrom old a →
+    AreKept runners runners'
+kept_written runners runners' i a old low set was kept = record {
+  count_same = ap (λ (xs : List Runner). length xs) set ∙ length-set runners i a;
+  each = λ f r is. elim (cases_eq f i) [
+    | inl z ↦
+        let e = ap (λ (k : ℕ). slice_get runners' k) z in
+        let w = written_here runners runners' i a low set in
+        let same : a ≡ r = (cc) in (
+          old,
+          ap (λ (k : ℕ). slice_get runners k) z ∙ was,
+          subst (λ (r : Runner). IsKeptFrom old r) same
+              kept,
+        )
+    | inr other ↦ (r, sym (written_other runners runners' i a low set f other) ∙ is, kept_one r)
+  ];
+}
+
+module _ (old new : List Runner) (kept : AreKept old new) where
+  pub kept_roomy : (periods t charge : ℕ) → AreRoomy periods t charge old →
+      AreRoomy periods t charge new
+  kept_roomy periods t charge roomy f r is =
+      let k = kept.each f r is in
+      let o = roomy f k.0 k.1 in
+      let whole = o.whole in
+      let places = o.places in
+      let same = k.2.room_same in
+      let length_same = ap (λ p. length p.items + p.spare) k.2.passed in
+      record {
+        whole = omega (arith, whole, same);
+        places = omega (arith, places, length_same);
+        rest = λ on. elim (k.2.pieces on) [
+          | inl none ↦ (let rest = room_none periods t charge (room_of k.0.running) whole in omega
+              (arith, none, same, rest))
+          | inr h ↦ (let rest = o.rest h.0 in let pieces = h.1 in omega (arith, rest, pieces, same))
+        ];
+      }
+
+  pub kept_room : (most periods : ℕ) → HaveRoom most periods old → HaveRoom most periods new
+  kept_room most periods have f r is =
+      let k = kept.each f r is in
+      let there = (have f k.0 k.1).0 in
+      let places = (have f k.0 k.1).1 in
+      let same = k.2.room_same in
+      let length_same = ap (λ p. length p.items + p.spare) k.2.passed in
+      (omega (arith, there, same), omega (arith, places, length_same))
+
+  pub kept_left : (f k : ℕ) → left_at new f k ≡ left_at old f k
+  kept_left f k = elim (slice_get new f) as (λ o. slice_get new f ≡ o → left_of o k ≡ left_at old f k) [
+    | None ↦ λ is. (
+        let past = kept.count_same in
+        let end = slice_get_none new f is in
+        sym (ap (λ o. left_of o k) (slice_get_past old f (omega (arith, past, end)))))
+    | Some r ↦ λ is. (let o = kept.each f r is in ap (λ p. passed_at p.items k) o.2.passed ∙
+        sym (ap (λ o. left_of o k) o.1))
+  ] refl
+
+-- where none is on, the room of each is all its own
+pub off_roomy : (periods t charge : ℕ) (runners : List Runner) →
+    ((f : ℕ) → live_at runners f ≡ None) → HaveRoom (periods * charge) periods runners →
+    AreRoomy periods t charge runners
+off_roomy periods t charge runners off have f r is = record {
+  whole = (have f r is).0;
+  places = (have f r is).1;
+  rest = λ on. (let none = off f in let live = ap going_of is ∙ going_on r on in absurd (cc));
+}
+
+pub have_room : (periods t charge : ℕ) (runners : List Runner) →
+    AreRoomy periods t charge runners → HaveRoom (periods * charge) periods runners
+have_room periods t charge runners roomy f r is = ((roomy f r is).whole, (roomy f r is).places)
 
 -- ---- all stopped
 
 -- those before n are stopped
-pub record IsStopped {R : Type 0} (count room : R →
-    ℕ) (old : List (Runner R)) (n : ℕ) (new : List (Runner R)) : Type 0 where
-  pub off : (f : ℕ) (r : Runner R) → f < n → slice_get new f ≡ Some r → r.is_on ≡ false
-  pub kept : AreKept count room old new
+pub record IsStopped (old : List Runner) (n : ℕ) (new : List Runner) : Type 0 where
+  pub off : (f : ℕ) (r : Runner) → f < n → slice_get new f ≡ Some r → r.is_on ≡ false
+  pub kept : AreKept old new
 
-module _ {R : Type 0} (function : R → Table) (count room : R → ℕ) (old : List (Runner R)) where
-  pub none_stopped : IsStopped count room old 0 old
-  none_stopped = record { off = λ f r low is. absurd (omega (arith, low)); kept = kept_none function count room old }
+module _ (old : List Runner) where
+  pub none_stopped : IsStopped old 0 old
+  none_stopped = record { off = λ f r low is. absurd (omega (arith, low)); kept = kept_none old }
 
-  module _ (new : List (Runner R)) (n : ℕ) (all : IsStopped count room old n new) where
-    pub stopped_more : (new' : List (Runner R)) (a b : Runner R) → n < length new → slice_get new n ≡ Some b →
+  module _ (new : List Runner) (n : ℕ) (all : IsStopped old n new) where
+    pub stopped_more : (new' : List Runner) (a b : Runner) → n < length new → slice_get new n ≡ Some b →
         a.is_on ≡ false → a.running ≡ b.running → a.passed ≡ b.passed → new' ≡ slice_set new n a →
-        IsStopped count room old (n + 1) new'
+        IsStopped old (n + 1) new'
     stopped_more new' a b low was off same passed set = record {
       off = λ f r less is. elim (cases_eq f n) [
         | inl z ↦
-            let here = written_here function new new' n a low set in
+            let here = written_here new new' n a low set in
             let e : r ≡ a = (let w = ap (λ (k : ℕ). slice_get new' k) z in cc) in
-            ap (λ (r : Runner R). r.is_on) e ∙ off
+            ap (λ (r : Runner). r.is_on) e ∙ off
         | inr other ↦ all.off f r (omega (arith, less, other))
-            (sym (written_other function new new' n a low set f other) ∙ is)
+            (sym (written_other new new' n a low set f other) ∙ is)
       ];
-      kept = kept_then function count room old new new' all.kept
-          (kept_written function count room new new' n a b low set was
-          (stopped_one function count room b a off same passed));
+      kept = kept_then old new new' all.kept
+          (kept_written new new' n a b low set was
+          (stopped_one b a off same passed));
     }
 
-    pub stopped_off : length new ≤ n → (f : ℕ) → live_at function new f ≡ None
-    stopped_off end f = elim (slice_get new f) as (λ o. slice_get new f ≡ o → going_of function o ≡ None) [
+    pub stopped_off : length new ≤ n → (f : ℕ) → live_at new f ≡ None
+    stopped_off end f = elim (slice_get new f) as (λ o. slice_get new f ≡ o → going_of o ≡ None) [
       | None ↦ λ is. refl
-      | Some r ↦ λ is. going_off function r
+      | Some r ↦ λ is. going_off r
           (all.off f r (let low = slice_get_within new f r is in omega (arith, low, end)) is)
     ] refl
 
@@ -327,13 +324,13 @@ fewer_small a b fewer small f r is = elim (fewer f) [
   | inr none ↦ absurd (cc)
 ]
 
-module _ {R : Type 0} (function : R → Table) (runners runners' : List (Runner R)) (i : ℕ) (a : Runner R)
+module _ (runners runners' : List Runner) (i : ℕ) (a : Runner)
     (room : i < length runners) (set : runners' ≡ slice_set runners i a) where
-  pub fewer_stopped : a.is_on ≡ false → AreFewer (live_at function runners) (live_at function runners')
+  pub fewer_stopped : a.is_on ≡ false → AreFewer (live_at runners) (live_at runners')
   fewer_stopped off f = elim (cases_eq f i) [
-    | inl z ↦ inr (ap (live_at function runners') z ∙ live_here function runners runners' i a room set ∙
-        going_off function a off)
-    | inr other ↦ inl (live_other function runners runners' i a room set f other)
+    | inl z ↦ inr (ap (live_at runners') z ∙ live_here runners runners' i a room set ∙
+        going_off a off)
+    | inr other ↦ inl (live_other runners runners' i a room set f other)
   ]
 
 pub if_some_more : {X : Type 0} (P Q : X → Type 0) → ((x : X) → P x → Q x) → (o : Option X) → IfSome o P → IfSome o Q

@@ -1,7 +1,7 @@
 -- The list of the runners that are on: one more, some fewer, and a loop over it.
 use Rattle.unit_table.proofs.Common.{◌≡◌, ◌≢◌, ℕ, suc, ◌+◌, ◌<◌, ◌≤◌, ◌⊎◌, inl, inr, Option, Some, None, ℤ, List}
 use Rattle.unit_table.proofs.Common.{length, refl, sym, ap, ◌∙◌, subst, arith, length-set, slice_get, slice_set}
-use Rattle.unit_table.proofs.Common.{cases_lt, cases_eq, Table, ThermalUnit, PriceLists, Runner, Ended, going_of}
+use Rattle.unit_table.proofs.Common.{cases_lt, cases_eq, ThermalUnit, PriceLists, Runner, Ended, going_of}
 use Rattle.unit_table.proofs.Common.{live_at, AreRoomy, IsRoster, Going, IsRowOf, IsOneRun}
 use Rattle.unit_table.specs.declared.roster.Roster.{Roster}
 use Rattle.unit_table.proofs.LiveLaws.{get_set_same, get_set_other, going_on, live_other}
@@ -76,17 +76,17 @@ module _ (live live' : ℕ → Option Going) (until : ℕ) (roster roster' : Ros
   }
 
 -- a runner begun, and put into the list
-module _ {R : Type 0} (function : R → Table) (runners runners' : List (Runner R)) (until i : ℕ) (z : i ≡ until)
-    (a : Runner R) (within : i < length runners) (written : runners' ≡ slice_set runners i a)
-    (roster roster' : Roster) (list : IsRoster (live_at function runners) until roster)
+module _ (runners runners' : List Runner) (until i : ℕ) (z : i ≡ until)
+    (a : Runner) (within : i < length runners) (written : runners' ≡ slice_set runners i a)
+    (roster roster' : Roster) (list : IsRoster (live_at runners) until roster)
     (room : roster.count < length roster.firsts.items)
     (count : roster'.count ≡ suc roster.count)
     (set : roster'.firsts.items ≡ slice_set roster.firsts.items roster.count i) where
-  pub begun_listed : IsRoster (live_at function runners') (suc until) roster'
-  begun_listed = one_listed (live_at function runners) (live_at function runners') until roster roster' list room count
+  pub begun_listed : IsRoster (live_at runners') (suc until) roster'
+  begun_listed = one_listed (live_at runners) (live_at runners') until roster roster' list room count
       (set ∙ ap (slice_set roster.firsts.items roster.count) z)
       (ap (λ (xs : List ℕ). length xs) set ∙ length-set roster.firsts.items roster.count i)
-      (λ f other. live_other function runners runners' i a within written f (λ y. other (y ∙ z)))
+      (λ f other. live_other runners runners' i a within written f (λ y. other (y ∙ z)))
 
 -- ---- those kept whose runners are on
 
@@ -238,20 +238,19 @@ row_further g π periods live n m l end first before more off row = record {
   sound = λ v is. (let h = row.sound v is in let low = h.2 in (h.0, h.1, omega (arith, low, more), h.3, h.4, h.5));
 }
 
-module _ {R : Type 0} (function : R → Table) (count room : R →
-    ℕ) (g : ThermalUnit) (π : PriceLists) (t charge : ℕ) (rows₀ : List (Option Ended)) (runners₀ : List (Runner R))
+module _ (g : ThermalUnit) (π : PriceLists) (t charge : ℕ) (rows₀ : List (Option Ended)) (runners₀ : List Runner)
   where
     -- the first i of the list have run
     pub record IsListRun (roster : Roster) (bound i : ℕ) (rows : List (Option Ended))
-        (runners : List (Runner R)) : Type 0
+        (runners : List Runner) : Type 0
       where
         pub until : ℕ
         pub most : until ≤ bound
-        pub run : IsRunTo function count room g π t charge rows₀ runners₀ until rows runners
+        pub run : IsRunTo g π t charge rows₀ runners₀ until rows runners
         pub done : (j f : ℕ) → j < i → slice_get roster.firsts.items j ≡ Some f → f < until
         pub left : (j f : ℕ) → i ≤ j → j < roster.count → slice_get roster.firsts.items j ≡ Some f → until ≤ f
 
-    pub none_run : (roster : Roster) (bound : ℕ) → IsRunTo function count room g π t charge rows₀ runners₀ 0 rows₀
+    pub none_run : (roster : Roster) (bound : ℕ) → IsRunTo g π t charge rows₀ runners₀ 0 rows₀
         runners₀ → IsListRun roster bound 0 rows₀ runners₀
     none_run roster bound run = record {
       until = 0;
@@ -261,13 +260,13 @@ module _ {R : Type 0} (function : R → Table) (count room : R →
       left = λ j f from low is. omega arith;
     }
 
-    module _ (roomy₀ : AreRoomy count room (length π.energy) t charge runners₀) where
-      run_skip : (n m : ℕ) (rows : List (Option Ended)) (runners : List (Runner R)) → n ≤ m →
-          ((f : ℕ) → n ≤ f → f < m → live_at function runners₀ f ≡ None) →
-          IsRunTo function count room g π t charge rows₀ runners₀ n rows runners →
-          IsRunTo function count room g π t charge rows₀ runners₀ m rows runners
+    module _ (roomy₀ : AreRoomy (length π.energy) t charge runners₀) where
+      run_skip : (n m : ℕ) (rows : List (Option Ended)) (runners : List Runner) → n ≤ m →
+          ((f : ℕ) → n ≤ f → f < m → live_at runners₀ f ≡ None) →
+          IsRunTo g π t charge rows₀ runners₀ n rows runners →
+          IsRunTo g π t charge rows₀ runners₀ m rows runners
       run_skip n m rows runners more none run = record {
-        row = row_further g π (length π.energy) (live_at function runners₀) n m (suc t) _ _ _ more none run.row;
+        row = row_further g π (length π.energy) (live_at runners₀) n m (suc t) _ _ _ more none run.row;
         others = run.others;
         within = run.within;
         rows_length = run.rows_length;
@@ -277,7 +276,7 @@ module _ {R : Type 0} (function : R → Table) (count room : R →
         ];
         off = λ f low is. elim (cases_lt f n) [
           | inl less ↦ run.off f less is
-          | inr from ↦ ap (going_of function) (run.rest f from) ∙ is
+          | inr from ↦ ap going_of (run.rest f from) ∙ is
         ];
         rest = λ f from. run.rest f (omega (arith, from, more));
         roomy = λ f r low is. elim (cases_lt f n) [
@@ -287,8 +286,8 @@ module _ {R : Type 0} (function : R → Table) (count room : R →
               record {
                 whole = (roomy₀ f r before).whole;
                 places = (roomy₀ f r before).places;
-                rest = λ on. (let off = none f from low in let live = ap (going_of function) before ∙
-                    going_on function r on in absurd (cc));
+                rest = λ on. (let off = none f from low in let live = ap going_of before ∙
+                    going_on r on in absurd (cc));
               }
         ];
         ends = run.ends;
@@ -297,12 +296,12 @@ module _ {R : Type 0} (function : R → Table) (count room : R →
         count_same = run.count_same;
       }
 
-      module _ (roster : Roster) (bound : ℕ) (list : IsRoster (live_at function runners₀) bound roster) where
-        module _ (i : ℕ) (rows : List (Option Ended)) (runners : List (Runner R))
+      module _ (roster : Roster) (bound : ℕ) (list : IsRoster (live_at runners₀) bound roster) where
+        module _ (i : ℕ) (rows : List (Option Ended)) (runners : List Runner)
             (so_far : IsListRun roster bound i rows runners) (inside : i < roster.count) (first : ℕ)
             (is : slice_get roster.firsts.items i ≡ Some first) where
-          off_between : (f : ℕ) → so_far.until ≤ f → f < first → live_at function runners₀ f ≡ None
-          off_between f from low = elim (live_at function runners₀ f) as (λ o. live_at function runners₀ f ≡ o →
+          off_between : (f : ℕ) → so_far.until ≤ f → f < first → live_at runners₀ f ≡ None
+          off_between f from low = elim (live_at runners₀ f) as (λ o. live_at runners₀ f ≡ o →
               o ≡ None) [
                 | None ↦ λ e. refl
                 | Some r ↦ λ on.
@@ -321,18 +320,18 @@ module _ {R : Type 0} (function : R → Table) (count room : R →
                     absurd contradiction
               ] refl
 
-          pub run_before : IsRunTo function count room g π t charge rows₀ runners₀ first rows runners
+          pub run_before : IsRunTo g π t charge rows₀ runners₀ first rows runners
           run_before = run_skip so_far.until first rows runners
               (so_far.left i first (omega arith) inside is) off_between
               so_far.run
 
-          pub one_run : (rows' : List (Option Ended)) (runners' : List (Runner R)) →
-              IsOneRun function count room g π t charge first rows rows' runners runners' →
+          pub one_run : (rows' : List (Option Ended)) (runners' : List Runner) →
+              IsOneRun g π t charge first rows rows' runners runners' →
               IsListRun roster bound (i + 1) rows' runners'
           one_run rows' runners' one = record {
             until = first + 1;
             most = (let below = list.below i first inside is in omega (arith, below));
-            run = run_more function count room g π t charge rows₀ runners₀ first rows rows' runners runners' run_before
+            run = run_more g π t charge rows₀ runners₀ first rows rows' runners runners' run_before
                 one;
             done = λ j f low there. elim (cases_eq j i) [
               | inl z ↦ (let e = ap (slice_get roster.firsts.items) z in let same : f ≡ first = (cc) in omega
@@ -344,14 +343,14 @@ module _ {R : Type 0} (function : R → Table) (count room : R →
                 (let later = list.rising i j first f (omega (arith, from)) low is there in omega (arith, later));
           }
 
-        module _ (i : ℕ) (rows : List (Option Ended)) (runners : List (Runner R))
+        module _ (i : ℕ) (rows : List (Option Ended)) (runners : List Runner)
             (all : IsListRun roster bound i rows runners) (end : roster.count ≤ i) where
-          pub none_later : (f : ℕ) (r : Going) → live_at function runners₀ f ≡ Some r → f < all.until
+          pub none_later : (f : ℕ) (r : Going) → live_at runners₀ f ≡ Some r → f < all.until
           none_later f r on = (let h = list.all f r on in let low = h.1 in all.done h.0 f (omega (arith, low, end)) h.2)
 
-          pub run_whole : IsRunTo function count room g π t charge rows₀ runners₀ bound rows runners
+          pub run_whole : IsRunTo g π t charge rows₀ runners₀ bound rows runners
           run_whole = run_skip all.until bound rows runners all.most
-              (λ f from low. elim (live_at function runners₀ f) as (λ o. live_at function runners₀ f ≡ o → o ≡ None) [
+              (λ f from low. elim (live_at runners₀ f) as (λ o. live_at runners₀ f ≡ o → o ≡ None) [
                 | None ↦ λ e. refl
                 | Some r ↦ λ on. (let before = none_later f r on in absurd (omega (arith, before, from)))
               ] refl) all.run

@@ -1,7 +1,8 @@
 -- All runners over a period, one after the other.
+use Rattle.unit_table.proofs.Common.{shown, room_of}
 use Rattle.unit_table.proofs.Common.{◌≡◌, ◌≢◌, ℕ, suc, ◌+◌, ◌<◌, ◌≤◌, ◌⊎◌, ℤ, inl, inr, Bool, true, false, get_or}
 use Rattle.unit_table.proofs.Common.{Option, Some, None, List, length, refl, sym, ap, ◌∙◌, subst, arith, slice_get}
-use Rattle.unit_table.proofs.Common.{slice_set, slice_get-get_or, cases_lt, cases_eq, Table, ThermalUnit, PriceLists}
+use Rattle.unit_table.proofs.Common.{slice_set, slice_get-get_or, cases_lt, cases_eq, ThermalUnit, PriceLists}
 use Rattle.unit_table.proofs.Common.{passed_at, Runner, Ended, going_of, live_at, left_of, left_at, IsRoomy, AreRoomy}
 use Rattle.unit_table.proofs.Common.{HaveRoom, row_at, cost_at, first_at, before_at, AreWithin, Going, IsGoneOn}
 use Rattle.unit_table.proofs.Common.{IsEndLeft, IsRowTo, IsRowMore, IsOneRun, IsRunOver, places_of, length-set}
@@ -9,30 +10,29 @@ use Rattle.unit_table.proofs.LiveLaws.{going_on, going_off, on_some, get_set_sam
 use Rattle.unit_table.proofs.RowLaws.{cost-same, first-same}
 use Rattle.unit_table.proofs.RunnerRowLaws.{row_none, row_skip}
 
-module _ {R : Type 0} (function : R → Table) (count room : R →
-    ℕ) (g : ThermalUnit) (π : PriceLists) (t charge : ℕ) where
-  module _ (rows₀ : List (Option Ended)) (runners₀ : List (Runner R)) where
+module _ (g : ThermalUnit) (π : PriceLists) (t charge : ℕ) where
+  module _ (rows₀ : List (Option Ended)) (runners₀ : List Runner) where
     -- what those before n have changed
-    pub record IsRunTo (n : ℕ) (rows : List (Option Ended)) (runners : List (Runner R)) : Type 0 where
-      pub row : IsRowTo g π t (live_at function runners₀) n rows
+    pub record IsRunTo (n : ℕ) (rows : List (Option Ended)) (runners : List Runner) : Type 0 where
+      pub row : IsRowTo g π t (live_at runners₀) n rows
       pub others : (l : ℕ) → l ≢ suc t → row_at rows l ≡ row_at rows₀ l
       pub within : AreWithin rows
       pub rows_length : length rows ≡ length rows₀
-      pub goes : (f : ℕ) (r : Going) → f < n → live_at function runners₀ f ≡ Some r →
-          IsGoneOn g π t f r (live_at function runners f)
-      pub off : (f : ℕ) → f < n → live_at function runners₀ f ≡ None → live_at function runners f ≡ None
+      pub goes : (f : ℕ) (r : Going) → f < n → live_at runners₀ f ≡ Some r →
+          IsGoneOn g π t f r (live_at runners f)
+      pub off : (f : ℕ) → f < n → live_at runners₀ f ≡ None → live_at runners f ≡ None
       pub rest : (f : ℕ) → n ≤ f → slice_get runners f ≡ slice_get runners₀ f
-      pub roomy : (f : ℕ) (r : Runner R) → f < n → slice_get runners f ≡ Some r →
-          IsRoomy count room (length π.energy) (suc t) charge r
+      pub roomy : (f : ℕ) (r : Runner) → f < n → slice_get runners f ≡ Some r →
+          IsRoomy (length π.energy) (suc t) charge r
       pub ends : (v : ℤ) → cost_at rows (suc t) ≡ Some v →
           IsEndLeft g π (first_at rows (suc t)) t (left_at runners (first_at rows (suc t)) t)
       pub left : (f k : ℕ) → k ≢ t → left_at runners f k ≡ left_at runners₀ f k
-      pub keeps : (most periods : ℕ) → HaveRoom room most periods runners₀ → HaveRoom room most periods runners
+      pub keeps : (most periods : ℕ) → HaveRoom most periods runners₀ → HaveRoom most periods runners
       pub count_same : length runners ≡ length runners₀
 
     pub run_begins : AreWithin rows₀ → cost_at rows₀ (suc t) ≡ None → IsRunTo 0 rows₀ runners₀
     run_begins within none = record {
-      row = row_none g π (length π.energy) (live_at function runners₀) 0 (suc t) (cost_at rows₀ (suc t))
+      row = row_none g π (length π.energy) (live_at runners₀) 0 (suc t) (cost_at rows₀ (suc t))
           (first_at rows₀ (suc t)) (before_at rows₀ (suc t)) none;
       others = λ l other. refl;
       within = within;
@@ -53,32 +53,32 @@ module _ {R : Type 0} (function : R → Table) (count room : R →
       | inr most ↦ let z : n ≡ f = omega (arith, most, low) in subst P z here
     ]
 
-    pub run_more : (n : ℕ) (rows rows' : List (Option Ended)) (runners runners' : List (Runner R)) →
-        IsRunTo n rows runners → IsOneRun function count room g π t charge n rows rows' runners runners' →
+    pub run_more : (n : ℕ) (rows rows' : List (Option Ended)) (runners runners' : List Runner) →
+        IsRunTo n rows runners → IsOneRun g π t charge n rows rows' runners runners' →
         IsRunTo (n + 1) rows' runners'
     run_more n rows rows' runners runners' so_far one =
-        let here : live_at function runners n ≡ live_at function runners₀ n = ap (going_of function)
+        let here : live_at runners n ≡ live_at runners₀ n = ap going_of
         (so_far.rest n (omega arith)) in
         let same : (f : ℕ) → f < n → slice_get runners' f ≡ slice_get runners f = λ f less.
         one.rest f (λ z. omega (arith, z, less)) in
         let next : suc n ≡ n + 1 = omega arith in
         subst (λ (m : ℕ). IsRunTo m rows' runners') next (record {
-          row = one.more.row (live_at function runners₀) (sym here) so_far.row;
+          row = one.more.row (live_at runners₀) (sym here) so_far.row;
           others = λ l other. one.more.others l other ∙ so_far.others l other;
           within = one.more.within;
           rows_length = one.more.rows_length ∙ so_far.rows_length;
-          goes = λ f r low. at_last (λ (f : ℕ). live_at function runners₀ f ≡ Some r →
-              IsGoneOn g π t f r (live_at function runners' f)) n f low
-              (λ less is. subst (IsGoneOn g π t f r) (sym (ap (going_of function) (same f less)))
+          goes = λ f r low. at_last (λ (f : ℕ). live_at runners₀ f ≡ Some r →
+              IsGoneOn g π t f r (live_at runners' f)) n f low
+              (λ less is. subst (IsGoneOn g π t f r) (sym (ap going_of (same f less)))
               (so_far.goes f r less is))
               (λ is. one.goes r (here ∙ is));
-          off = λ f low. at_last (λ (f : ℕ). live_at function runners₀ f ≡ None →
-              live_at function runners' f ≡ None) n f low
-              (λ less is. ap (going_of function) (same f less) ∙ so_far.off f less is)
+          off = λ f low. at_last (λ (f : ℕ). live_at runners₀ f ≡ None →
+              live_at runners' f ≡ None) n f low
+              (λ less is. ap going_of (same f less) ∙ so_far.off f less is)
               (λ is. one.off (here ∙ is));
           rest = λ f from. one.rest f (λ z. omega (arith, z, from)) ∙ so_far.rest f (omega (arith, from));
           roomy = λ f r low. at_last (λ (f : ℕ). slice_get runners' f ≡ Some r →
-              IsRoomy count room (length π.energy) (suc t) charge r) n f low
+              IsRoomy (length π.energy) (suc t) charge r) n f low
               (λ less is. so_far.roomy f r less (sym (same f less) ∙ is))
               (λ is. one.roomy r is);
           ends = λ v is. elim (one.ends) [
@@ -102,10 +102,10 @@ module _ {R : Type 0} (function : R → Table) (count room : R →
         })
 
     -- none begins later
-    module _ (rows : List (Option Ended)) (runners : List (Runner R)) (all : IsRunTo (suc (suc t)) rows runners)
-        (none : (f : ℕ) (r : Going) → live_at function runners₀ f ≡ Some r → f < suc (suc t))
-        (roomy₀ : AreRoomy count room (length π.energy) t charge runners₀) where
-      all_roomy : AreRoomy count room (length π.energy) (suc t) charge runners
+    module _ (rows : List (Option Ended)) (runners : List Runner) (all : IsRunTo (suc (suc t)) rows runners)
+        (none : (f : ℕ) (r : Going) → live_at runners₀ f ≡ Some r → f < suc (suc t))
+        (roomy₀ : AreRoomy (length π.energy) t charge runners₀) where
+      all_roomy : AreRoomy (length π.energy) (suc t) charge runners
       all_roomy f r is = elim (cases_lt f (suc (suc t))) [
         | inl less ↦ all.roomy f r less is
         | inr from ↦
@@ -114,12 +114,12 @@ module _ {R : Type 0} (function : R → Table) (count room : R →
               whole = (roomy₀ f r before).whole;
               places = (roomy₀ f r before).places;
               rest = λ on.
-                  let low = none f _ (ap (going_of function) before ∙ going_on function r on) in
+                  let low = none f _ (ap going_of before ∙ going_on r on) in
                   absurd (omega (arith, low, from));
             }
       ]
 
-      pub run_over : IsRunOver function count room g π t charge rows₀ rows runners₀ runners
+      pub run_over : IsRunOver g π t charge rows₀ rows runners₀ runners
       run_over = record {
         row = all.row;
         others = all.others;
@@ -128,7 +128,7 @@ module _ {R : Type 0} (function : R → Table) (count room : R →
         goes = λ f r is. all.goes f r (none f r is) is;
         off = λ f is. elim (cases_lt f (suc (suc t))) [
           | inl less ↦ all.off f less is
-          | inr from ↦ ap (going_of function) (all.rest f from) ∙ is
+          | inr from ↦ ap going_of (all.rest f from) ∙ is
         ];
         ends = all.ends;
         left = all.left;
@@ -139,50 +139,50 @@ module _ {R : Type 0} (function : R → Table) (count room : R →
 
 -- ---- one of a list of runners, read or written
 
-module _ {R : Type 0} (function : R → Table) (runners : List (Runner R)) (i : ℕ) (low : i < length runners) where
-  pub item_at : (d : Runner R) → slice_get runners i ≡ Some (get_or runners i d)
+module _ (runners : List Runner) (i : ℕ) (low : i < length runners) where
+  pub item_at : (d : Runner) → slice_get runners i ≡ Some (get_or runners i d)
   item_at d = slice_get-get_or runners i d low
 
-  pub item_same : (d d' : Runner R) (b : Bool) → (get_or runners i d).is_on ≡ b → (get_or runners i d').is_on ≡ b
+  pub item_same : (d d' : Runner) (b : Bool) → (get_or runners i d).is_on ≡ b → (get_or runners i d').is_on ≡ b
   item_same d d' b is =
       (let x = item_at d in let y = item_at d' in let e : get_or runners i d' ≡ get_or runners i d = (cc) in ap
-      (λ (r : Runner R). r.is_on) e ∙ is)
+      (λ (r : Runner). r.is_on) e ∙ is)
 
-  pub item_live : (d : Runner R) → (get_or runners i d).is_on ≡ true →
-      live_at function runners i ≡ Some
+  pub item_live : (d : Runner) → (get_or runners i d).is_on ≡ true →
+      live_at runners i ≡ Some
       (record {
         before = (get_or runners i d).before;
         cost = (get_or runners i d).cost;
-        function = function (get_or runners i d).running;
+        function = shown (get_or runners i d).running;
         left = passed_at (get_or runners i d).passed.items;
       })
-  item_live d on = ap (going_of function) (item_at d) ∙ going_on function (get_or runners i d) on
+  item_live d on = ap going_of (item_at d) ∙ going_on (get_or runners i d) on
 
-  pub item_off : (d : Runner R) → (get_or runners i d).is_on ≡ false → live_at function runners i ≡ None
-  item_off d off = ap (going_of function) (item_at d) ∙ going_off function (get_or runners i d) off
+  pub item_off : (d : Runner) → (get_or runners i d).is_on ≡ false → live_at runners i ≡ None
+  item_off d off = ap going_of (item_at d) ∙ going_off (get_or runners i d) off
 
-  pub read_at : (x : Runner R) → x ≡ get_or runners i x → slice_get runners i ≡ Some x
+  pub read_at : (x : Runner) → x ≡ get_or runners i x → slice_get runners i ≡ Some x
   read_at x is = item_at x ∙ ap Some (sym is)
 
-  pub read_live : (x : Runner R) → x ≡ get_or runners i x → x.is_on ≡ true →
-      live_at function runners i ≡ Some
-      (record { before = x.before; cost = x.cost; function = function x.running; left = passed_at x.passed.items })
-  read_live x is on = ap (going_of function) (read_at x is) ∙ going_on function x on
+  pub read_live : (x : Runner) → x ≡ get_or runners i x → x.is_on ≡ true →
+      live_at runners i ≡ Some
+      (record { before = x.before; cost = x.cost; function = shown x.running; left = passed_at x.passed.items })
+  read_live x is on = ap going_of (read_at x is) ∙ going_on x on
 
   -- where it is known to be on
-  pub read_on : (x : Runner R) → x ≡ get_or runners i x → (r : Going) → live_at function runners i ≡ Some r →
+  pub read_on : (x : Runner) → x ≡ get_or runners i x → (r : Going) → live_at runners i ≡ Some r →
       x.is_on ≡ true
   read_on x is r on =
-      let s = on_some function (slice_get runners i) r on in
+      let s = on_some (slice_get runners i) r on in
       let at = read_at x is in
       let same : x ≡ s.0 = (let a = s.1 in cc) in
-      ap (λ (r : Runner R). r.is_on) same ∙ s.2
+      ap (λ (r : Runner). r.is_on) same ∙ s.2
 
-  module _ (count room : R → ℕ) (g : ThermalUnit) (π : PriceLists) (t charge : ℕ) (rows rows' : List (Option Ended))
+  module _ (g : ThermalUnit) (π : PriceLists) (t charge : ℕ) (rows rows' : List (Option Ended))
     where
       -- the runner at i is on, and goes to b
-      module _ (d b : Runner R) (on : (get_or runners i d).is_on ≡ true) where
-        was : Runner R
+      module _ (d b : Runner) (on : (get_or runners i d).is_on ≡ true) where
+        was : Runner
         was = get_or runners i d
 
         here : slice_get (slice_set runners i b) i ≡ Some b
@@ -191,34 +191,34 @@ module _ {R : Type 0} (function : R → Table) (runners : List (Runner R)) (i : 
         same_left : (k : ℕ) → left_at (slice_set runners i b) i k ≡ passed_at b.passed.items k
         same_left k = ap (λ o. left_of o k) here
 
-        pub run_written : IsRowMore g π t i (going_of function (Some (get_or runners i d))) rows rows' →
-            ((r : Going) → going_of function (Some (get_or runners i d)) ≡ Some r →
-            IsGoneOn g π t i r (going_of function (Some b))) →
+        pub run_written : IsRowMore g π t i (going_of (Some (get_or runners i d))) rows rows' →
+            ((r : Going) → going_of (Some (get_or runners i d)) ≡ Some r →
+            IsGoneOn g π t i r (going_of (Some b))) →
             (row_at rows' (suc t) ≡ row_at rows (suc t)) ⊎
             ((first_at rows' (suc t) ≡ i) × IsEndLeft g π i t (passed_at b.passed.items t)) →
             ((k : ℕ) → k ≢ t → passed_at b.passed.items k ≡ passed_at (get_or runners i d).passed.items k) →
-            IsRoomy count room (length π.energy) (suc t) charge b →
-            (room b.running ≡ room (get_or runners i d).running) × (places_of b ≡ places_of (get_or runners i d)) →
-            IsOneRun function count room g π t charge i rows rows' runners (slice_set runners i b)
+            IsRoomy (length π.energy) (suc t) charge b →
+            (room_of b.running ≡ room_of (get_or runners i d).running) × (places_of b ≡ places_of (get_or runners i d)) →
+            IsOneRun g π t charge i rows rows' runners (slice_set runners i b)
         run_written more goes ends left roomy same =
             let at = item_at d in
-            let live = ap (going_of function) at in
+            let live = ap going_of at in
             record {
               more = subst (λ o. IsRowMore g π t i o rows rows') (sym live) more;
-              goes = λ r is. subst (λ (o : Option Going). IsGoneOn g π t i r o) (sym (ap (going_of function) here))
+              goes = λ r is. subst (λ (o : Option Going). IsGoneOn g π t i r o) (sym (ap going_of here))
                   (goes r (sym live ∙ is));
               off = λ off. (let is = item_live d on in absurd (cc));
               rest = λ f other. get_set_other runners i f b other;
               roomy = λ r is. (let same : b ≡ r = (let h = here in cc) in subst
-                  (IsRoomy count room (length π.energy) (suc t) charge) same roomy);
+                  (IsRoomy (length π.energy) (suc t) charge) same roomy);
               ends = elim ends [
                 | inl kept ↦ inl kept
                 | inr named ↦ inr (named.0, subst (IsEndLeft g π i t) (sym (same_left t)) named.1)
               ];
               left = λ k other. same_left k ∙ left k other ∙ sym (ap (λ o. left_of o k) at);
               keeps = λ most periods have.
-                  each_written function runners (slice_set runners i b) i b low refl
-                  (λ r. (most ≤ room r.running) × (periods ≤ places_of r))
+                  each_written runners (slice_set runners i b) i b low refl
+                  (λ r. (most ≤ room_of r.running) × (periods ≤ places_of r))
                   (let there = (have i (get_or runners i d) at).0 in
                   let long = (have i (get_or runners i d) at).1 in
                   let fits = same.0 in
@@ -228,9 +228,9 @@ module _ {R : Type 0} (function : R → Table) (runners : List (Runner R)) (i : 
             }
 
       -- it is off
-      pub run_skipped : live_at function runners i ≡ None → AreWithin rows →
-          ((r : Runner R) → slice_get runners i ≡ Some r → IsRoomy count room (length π.energy) t charge r) →
-          IsOneRun function count room g π t charge i rows rows runners runners
+      pub run_skipped : live_at runners i ≡ None → AreWithin rows →
+          ((r : Runner) → slice_get runners i ≡ Some r → IsRoomy (length π.energy) t charge r) →
+          IsOneRun g π t charge i rows rows runners runners
       run_skipped off within roomy = record {
         more = record {
           row = λ live is row. row_skip g π (length π.energy) live i (suc t) _ _ _ row
@@ -247,7 +247,7 @@ module _ {R : Type 0} (function : R → Table) (runners : List (Runner R)) (i : 
             record {
               whole = old.whole;
               places = old.places;
-              rest = λ on. (let live = ap (going_of function) is ∙ going_on function r on in absurd (cc));
+              rest = λ on. (let live = ap going_of is ∙ going_on r on in absurd (cc));
             });
         ends = inl refl;
         left = λ k other. refl;
@@ -255,5 +255,5 @@ module _ {R : Type 0} (function : R → Table) (runners : List (Runner R)) (i : 
         count_same = refl;
       }
 
-pub on_of : {R : Type 0} (r x : Runner R) {b : Bool} → r ≡ x → x.is_on ≡ b → r.is_on ≡ b
+pub on_of : (r x : Runner) {b : Bool} → r ≡ x → x.is_on ≡ b → r.is_on ≡ b
 on_of r x same is = ap (λ r. r.is_on) same ∙ is

@@ -32,10 +32,10 @@ noted_more g π first t f h left left' front next kept noted old x v there k fro
 
 -- ---- what a runner that is on left
 
-pub left_live : {R : Type 0} (function : R → Table) (runners : List (Runner R)) (f : ℕ) (r : Going) (k : ℕ) →
-    live_at function runners f ≡ Some r → r.left k ≡ left_at runners f k
-left_live function runners f r k is =
-    let s = on_some function _ r is in
+pub left_live : (runners : List Runner) (f : ℕ) (r : Going) (k : ℕ) →
+    live_at runners f ≡ Some r → r.left k ≡ left_at runners f k
+left_live runners f r k is =
+    let s = on_some _ r is in
     ap (λ (r : Going). r.left k) s.3 ∙ sym (ap (λ o. left_of o k) s.1)
 
 -- ---- an end that is put into its row

@@ -3,6 +3,7 @@
 use Rattle.std.specs.Prelude.{◌≡◌, ℕ, suc, ◌+◌, ◌-◌, ◌*◌, ◌≤◌, ℤ, pos, ◌+ℤ◌, ◌≤ℤ◌, if◌then◌else◌}
 use Rattle.std.specs.Prelude.{IsTrue, List, [], length, slice_get, Option, Some, None}
 use Rattle.shape_law.specs.Table.{Table, value_of}
+use Rattle.slope_list.specs.Slopes.{shown, count_of, room_of}
 use Rattle.uc_model.specs.Data.{ThermalUnit, PriceLists}
 use Rattle.spell_run.specs.declared.notes.Passed.{Passed}
 use Rattle.spell_run.specs.Notes.{passed_at}
@@ -11,44 +12,43 @@ use Rattle.unit_rows.specs.declared.table.Ended.{Ended}
 use Rattle.unit_rows.specs.Rows.{cost_at, first_at, before_at, IsWithinTimes, AreWithin}
 use Rattle.unit_table.specs.Runners.{Going, IsTableTo, AreRunners}
 
-abbrev pub going_of : {R : Type 0} → (R → Table) → Option (Runner R) → Option Going
-going_of function None = None
-going_of function (Some r) =
+abbrev pub going_of : Option Runner → Option Going
+going_of None = None
+going_of (Some r) =
     if r.is_on then Some (record {
       before = r.before;
       cost = r.cost;
-      function = function r.running;
+      function = shown r.running;
       left = passed_at r.passed.items;
     }) else None
 
 -- the runner that begins with `first`, if it is on
-abbrev pub live_at : {R : Type 0} → (R → Table) → List (Runner R) → ℕ → Option Going
-live_at function runners first = going_of function (slice_get runners first)
+abbrev pub live_at : List Runner → ℕ → Option Going
+live_at runners first = going_of (slice_get runners first)
 
-abbrev pub left_of : {R : Type 0} → Option (Runner R) → ℕ → Passed
+abbrev pub left_of : Option Runner → ℕ → Passed
 left_of None k = passed_at [] k
 left_of (Some r) k = passed_at r.passed.items k
 
 -- what the runner that begins with `first` left at a place, whether it is on or not
-abbrev pub left_at : {R : Type 0} → List (Runner R) → ℕ → ℕ → Passed
+abbrev pub left_at : List Runner → ℕ → ℕ → Passed
 left_at runners first = left_of (slice_get runners first)
 
 -- for how many periods a runner has memory for what it leaves
-abbrev pub places_of : {R : Type 0} → Runner R → ℕ
+abbrev pub places_of : Runner → ℕ
 places_of r = length r.passed.items + r.passed.spare
 
 -- a runner has room for all periods, and for those after period t where it is on; each asks for as
 -- many pieces as `charge`
-pub record IsRoomy {R : Type 0} (count room : R → ℕ) (periods t charge : ℕ) (r : Runner R) : Type
-    0 where
-  pub whole : periods * charge ≤ room r.running
+pub record IsRoomy (periods t charge : ℕ) (r : Runner) : Type 0 where
+  pub whole : periods * charge ≤ room_of r.running
   pub places : periods ≤ places_of r
-  pub rest : IsTrue r.is_on → count r.running + (periods - t) * charge ≤ room r.running
+  pub rest : IsTrue r.is_on → count_of r.running + (periods - t) * charge ≤ room_of r.running
 
-abbrev pub AreRoomy : {R : Type 0} → (R → ℕ) → (R → ℕ) → ℕ → ℕ → ℕ → List (Runner R) → Type 0
-AreRoomy {R} count room periods t charge runners =
-    (first : ℕ) (r : Runner R) → slice_get runners first ≡ Some r →
-    IsRoomy count room periods t charge r
+abbrev pub AreRoomy : ℕ → ℕ → ℕ → List Runner → Type 0
+AreRoomy periods t charge runners =
+    (first : ℕ) (r : Runner) → slice_get runners first ≡ Some r →
+    IsRoomy periods t charge r
 
 -- its cost and its values are far within the limits
 pub record IsSmallGoing (r : Going) : Type 0 where
@@ -73,9 +73,9 @@ IsBelow f e f' e' =
     (x v : ℤ) → value_of f' x ≡ Some v → (u : ℤ) × (value_of f x ≡ Some u) × ((e +ℤ u) ≤ℤ (e' +ℤ v))
 
 -- each runner has room for so many pieces and periods
-abbrev pub HaveRoom : {R : Type 0} → (R → ℕ) → ℕ → ℕ → List (Runner R) → Type 0
-HaveRoom {R} room most periods runners =
-    (first : ℕ) (r : Runner R) → slice_get runners first ≡ Some r → (most ≤ room r.running)
+abbrev pub HaveRoom : ℕ → ℕ → List Runner → Type 0
+HaveRoom most periods runners =
+    (first : ℕ) (r : Runner) → slice_get runners first ≡ Some r → (most ≤ room_of r.running)
     × (periods ≤ places_of r)
 
 -- the rows up to period t are those of the table, and each run has a runner that stands for it

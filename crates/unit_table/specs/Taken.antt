@@ -2,7 +2,7 @@
 -- profile).
 use Rattle.std.specs.Prelude.{◌≡◌, ◌≢◌, ℕ, suc, ◌+◌, ◌*◌, ◌<◌, ◌≤◌, ◌⊎◌, ℤ, IsTrue, List, length}
 use Rattle.std.specs.Prelude.{slice_get, Option, Some, None}
-use Rattle.shape_law.specs.Table.{Table}
+use Rattle.slope_list.specs.Slopes.{count_of, room_of}
 use Rattle.uc_model.specs.Data.{ThermalUnit, PriceLists}
 use Rattle.spell_run.specs.Frontier.{IsFrontier}
 use Rattle.unit_rows.specs.declared.origins.Origins.{Origins}
@@ -21,17 +21,17 @@ AreFewer old new = (first : ℕ) → (new first ≡ old first) ⊎ (new first �
 
 -- a runner has the room that it had, and what it left; if it is on, its function is a new one, or
 -- as long as it was
-pub record IsKeptFrom {R : Type 0} (count room : R → ℕ) (old new : Runner R) : Type 0 where
-  pub room_same : room new.running ≡ room old.running
+pub record IsKeptFrom (old new : Runner) : Type 0 where
+  pub room_same : room_of new.running ≡ room_of old.running
   pub passed : new.passed ≡ old.passed
-  pub pieces : IsTrue new.is_on → (count new.running ≡ 0)
-      ⊎ (IsTrue old.is_on × (count new.running ≡ count old.running))
+  pub pieces : IsTrue new.is_on → (count_of new.running ≡ 0)
+      ⊎ (IsTrue old.is_on × (count_of new.running ≡ count_of old.running))
 
 -- so do all
-pub record AreKept {R : Type 0} (count room : R → ℕ) (old new : List (Runner R)) : Type 0 where
+pub record AreKept (old new : List Runner) : Type 0 where
   pub count_same : length new ≡ length old
-  pub each : (first : ℕ) (r : Runner R) → slice_get new first ≡ Some r →
-      (o : Runner R) × (slice_get old first ≡ Some o) × IsKeptFrom count room o r
+  pub each : (first : ℕ) (r : Runner) → slice_get new first ≡ Some r →
+      (o : Runner) × (slice_get old first ≡ Some o) × IsKeptFrom o r
 
 -- the runner that begins with `first` may go over period suc t
 pub record IsReady (g : ThermalUnit) (π : PriceLists) (t first : ℕ) (r : Going) : Type 0 where
@@ -57,65 +57,65 @@ pub record IsRowMore (g : ThermalUnit) (π : PriceLists) (t n : ℕ) (here : Opt
   pub rows_length : length rows' ≡ length rows
 
 -- the runner that begins with n has gone over period suc t, if it is on, and no other one
-pub record IsOneRun {R : Type 0} (function : R → Table) (count room : R → ℕ) (g : ThermalUnit)
+pub record IsOneRun (g : ThermalUnit)
     (π : PriceLists) (t charge n : ℕ) (rows rows' : List (Option Ended))
-    (runners runners' : List (Runner R)) : Type 0 where
-  pub more : IsRowMore g π t n (live_at function runners n) rows rows'
-  pub goes : (r : Going) → live_at function runners n ≡ Some r →
-      IsGoneOn g π t n r (live_at function runners' n)
-  pub off : live_at function runners n ≡ None → live_at function runners' n ≡ None
+    (runners runners' : List Runner) : Type 0 where
+  pub more : IsRowMore g π t n (live_at runners n) rows rows'
+  pub goes : (r : Going) → live_at runners n ≡ Some r →
+      IsGoneOn g π t n r (live_at runners' n)
+  pub off : live_at runners n ≡ None → live_at runners' n ≡ None
   pub rest : (f : ℕ) → f ≢ n → slice_get runners' f ≡ slice_get runners f
-  pub roomy : (r : Runner R) → slice_get runners' n ≡ Some r →
-      IsRoomy count room (length π.energy) (suc t) charge r
+  pub roomy : (r : Runner) → slice_get runners' n ≡ Some r →
+      IsRoomy (length π.energy) (suc t) charge r
   pub ends : (row_at rows' (suc t) ≡ row_at rows (suc t))
       ⊎ ((first_at rows' (suc t) ≡ n) × IsEndLeft g π n t (left_at runners' n t))
   pub left : (k : ℕ) → k ≢ t → left_at runners' n k ≡ left_at runners n k
-  pub keeps : (most periods : ℕ) → HaveRoom room most periods runners →
-      HaveRoom room most periods runners'
+  pub keeps : (most periods : ℕ) → HaveRoom most periods runners →
+      HaveRoom most periods runners'
   pub count_same : length runners' ≡ length runners
 
 -- all runners have gone over period suc t: its row is theirs, no other row is changed, and what
 -- names it left what the way back needs
-pub record IsRunOver {R : Type 0} (function : R → Table) (count room : R → ℕ) (g : ThermalUnit)
+pub record IsRunOver (g : ThermalUnit)
     (π : PriceLists) (t charge : ℕ) (rows rows' : List (Option Ended))
-    (runners runners' : List (Runner R)) : Type 0 where
-  pub row : IsRowTo g π t (live_at function runners) (suc (suc t)) rows'
+    (runners runners' : List Runner) : Type 0 where
+  pub row : IsRowTo g π t (live_at runners) (suc (suc t)) rows'
   pub others : (l : ℕ) → l ≢ suc t → row_at rows' l ≡ row_at rows l
   pub within : AreWithin rows'
   pub rows_length : length rows' ≡ length rows
-  pub goes : (f : ℕ) (r : Going) → live_at function runners f ≡ Some r →
-      IsGoneOn g π t f r (live_at function runners' f)
-  pub off : (f : ℕ) → live_at function runners f ≡ None → live_at function runners' f ≡ None
+  pub goes : (f : ℕ) (r : Going) → live_at runners f ≡ Some r →
+      IsGoneOn g π t f r (live_at runners' f)
+  pub off : (f : ℕ) → live_at runners f ≡ None → live_at runners' f ≡ None
   pub ends : (v : ℤ) → cost_at rows' (suc t) ≡ Some v →
       IsEndLeft g π (first_at rows' (suc t)) t (left_at runners' (first_at rows' (suc t)) t)
   pub left : (f k : ℕ) → k ≢ t → left_at runners' f k ≡ left_at runners f k
-  pub roomy : AreRoomy count room (length π.energy) (suc t) charge runners'
-  pub keeps : (most periods : ℕ) → HaveRoom room most periods runners →
-      HaveRoom room most periods runners'
+  pub roomy : AreRoomy (length π.energy) (suc t) charge runners'
+  pub keeps : (most periods : ℕ) → HaveRoom most periods runners →
+      HaveRoom most periods runners'
   pub count_same : length runners' ≡ length runners
 
 -- the table is filled up to period t, the runners go on from there, and the way back is left
-pub record IsSweptTo {R : Type 0} (function : R → Table) (count room : R → ℕ) (g : ThermalUnit)
+pub record IsSweptTo (g : ThermalUnit)
     (π : PriceLists) (limits : ℕ → ℤ) (t charge : ℕ) (rows : List (Option Ended))
-    (runners : List (Runner R)) (roster : Roster) : Type 0 where
-  pub filled : IsFilledTo g π limits t rows (live_at function runners)
+    (runners : List Runner) (roster : Roster) : Type 0 where
+  pub filled : IsFilledTo g π limits t rows (live_at runners)
   pub ways : HaveWays g π t (cost_at rows) (first_at rows) (left_at runners)
-  pub roomy : AreRoomy count room (length π.energy) t charge runners
-  pub roster_is : IsRoster (live_at function runners) (suc t) roster
+  pub roomy : AreRoomy (length π.energy) t charge runners
+  pub roster_is : IsRoster (live_at runners) (suc t) roster
 
 -- there are more than so many rows, runners and places for ends and first periods
-pub record AreLonger {R : Type 0} (periods : ℕ) (rows : List (Option Ended))
-    (runners : List (Runner R)) (roster : Roster) (origins : Origins) : Type 0 where
+pub record AreLonger (periods : ℕ) (rows : List (Option Ended))
+    (runners : List Runner) (roster : Roster) (origins : Origins) : Type 0 where
   pub rows_end : periods < length rows
   pub runners_end : periods < length runners
   pub firsts_end : periods < length roster.firsts.items
   pub list_end : periods < length origins.list.items
 
 -- as many as there were, each runner with its room
-pub record AreAsLong {R : Type 0} (room : R → ℕ) (rows rows' : List (Option Ended))
-    (runners runners' : List (Runner R)) (roster roster' : Roster) : Type 0 where
+pub record AreAsLong (rows rows' : List (Option Ended))
+    (runners runners' : List Runner) (roster roster' : Roster) : Type 0 where
   pub rows_length : length rows' ≡ length rows
   pub count_same : length runners' ≡ length runners
   pub firsts_same : length roster'.firsts.items ≡ length roster.firsts.items
-  pub keeps : (most periods : ℕ) → HaveRoom room most periods runners →
-      HaveRoom room most periods runners'
+  pub keeps : (most periods : ℕ) → HaveRoom most periods runners →
+      HaveRoom most periods runners'

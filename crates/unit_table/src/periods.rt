@@ -6,7 +6,6 @@
 //! for less than it costs. Nor does one go on, or start, that costs more than a limit, since it
 //! can't come within the amount that the limits are for.
 ghost use Rattle.std.specs.Prelude.{◌≡◌, ◌≢◌, ℕ, suc, ◌+◌, ◌*◌, ◌<◌, ◌≤◌, ℤ, Option, None, length};
-ghost use Rattle.slope_list.specs.Slopes.{shown, count_of, room_of};
 ghost use Rattle.uc_model.specs.Data.{PriceLists};
 ghost use Rattle.uc_model.specs.PlainUnits.{thermal_of};
 ghost use Rattle.uc_model.specs.declared.limits.TheConstants.{MOST_PERIODS};
@@ -28,7 +27,6 @@ use crate::roster::Roster;
 use crate::runner::{
     Runner, begin_runner, drop_beyond, is_less, is_undercut, prune, run_all, stop_all,
 };
-use slope_list::Slopes;
 use spell_run::laws::{dispatches_are_runs, dispatches_go_on, runs_go_on};
 use uc_model::laws::start_costs_are_within;
 use uc_model::units::Unit;
@@ -44,23 +42,23 @@ fn start_after(
     entry: &Entry,
     limit: i64,
     roster: &mut Roster,
-    runners: &mut [Runner<Slopes>],
+    runners: &mut [Runner],
 )
     requires small_place { place < MOST_PERIODS }
     requires runners { suc place < length runners.old }
     requires list { suc place < length roster.old.firsts.items }
-    requires roster { IsRoster (live_at shown runners.old) (suc place) roster.old }
+    requires roster { IsRoster (live_at runners.old) (suc place) roster.old }
     requires bound { IsWithinTimes (2 * place + 3) entry.now.cost }
-    requires small { AreSmall (live_at shown runners.old) }
+    requires small { AreSmall (live_at runners.old) }
     ensures stands { (π : PriceLists) (limits : ℕ → ℤ) (ends : ℕ → Option ℤ)
         → limits place ≡ limit →
         IsLeastEntry (thermal_of unit.now) ends (suc place) entry.now.last entry.now.cost →
-        AreRunners (thermal_of unit.now) π limits ends (live_at shown runners.old) place
+        AreRunners (thermal_of unit.now) π limits ends (live_at runners.old) place
         (suc place) →
-        AreRunners (thermal_of unit.now) π limits ends (live_at shown runners.new) place
+        AreRunners (thermal_of unit.now) π limits ends (live_at runners.new) place
         (suc (suc place)) }
-    ensures kept { AreKept count_of room_of runners.old runners.new }
-    ensures roster { IsRoster (live_at shown runners.new) (suc (suc place)) roster.new }
+    ensures kept { AreKept runners.old runners.new }
+    ensures roster { IsRoster (live_at runners.new) (suc (suc place)) roster.new }
     ensures list { length roster.new.firsts.items ≡ length roster.old.firsts.items }
 {
     if is_less(limit, entry.cost) {
@@ -81,24 +79,24 @@ fn start(
     limit: i64,
     origins: &Origins,
     roster: &mut Roster,
-    runners: &mut [Runner<Slopes>],
+    runners: &mut [Runner],
 )
     requires small_place { place < MOST_PERIODS }
     requires list { suc place < length roster.old.firsts.items }
-    requires roster { IsRoster (live_at shown runners.old) (suc place) roster.old }
+    requires roster { IsRoster (live_at runners.old) (suc place) roster.old }
     requires within { AreOriginsWithin place origins.now }
     requires order { AreInOrder origins.now }
     requires runners { suc place < length runners.old }
-    requires small { AreSmall (live_at shown runners.old) }
+    requires small { AreSmall (live_at runners.old) }
     ensures stands { (π : PriceLists) (limits : ℕ → ℤ) (ends : ℕ → Option ℤ)
         → limits place ≡ limit →
         AreOrigins (thermal_of unit.now) ends place origins.now →
-        AreRunners (thermal_of unit.now) π limits ends (live_at shown runners.old) place
+        AreRunners (thermal_of unit.now) π limits ends (live_at runners.old) place
         (suc place) →
-        AreRunners (thermal_of unit.now) π limits ends (live_at shown runners.new) place
+        AreRunners (thermal_of unit.now) π limits ends (live_at runners.new) place
         (suc (suc place)) }
-    ensures kept { AreKept count_of room_of runners.old runners.new }
-    ensures roster { IsRoster (live_at shown runners.new) (suc (suc place)) roster.new }
+    ensures kept { AreKept runners.old runners.new }
+    ensures roster { IsRoster (live_at runners.new) (suc (suc place)) roster.new }
     ensures list { length roster.new.firsts.items ≡ length roster.old.firsts.items }
 {
     start_costs_are_within();
@@ -117,7 +115,7 @@ fn take_period(
     place: u32,
     origins: &Origins,
     roster: &mut Roster,
-    runners: &mut [Runner<Slopes>],
+    runners: &mut [Runner],
     table: &mut Table,
 )
     requires place { place < periods_in question.now }
@@ -126,16 +124,16 @@ fn take_period(
     requires limits { (most : ℤ)
         × AreLimits (unit_of question.now) (prices_in question.now) most
         (limits_in question.now) }
-    requires now { IsSweptTo shown count_of room_of (unit_of question.now) (prices_in question.now)
+    requires now { IsSweptTo (unit_of question.now) (prices_in question.now)
         (limits_in question.now) place (charge_of question.now) table.old.items runners.old
         roster.old }
     requires origins { AreOrigins (unit_of question.now) (cost_at table.old.items)
         place origins.now }
-    ensures now { IsSweptTo shown count_of room_of (unit_of question.now) (prices_in question.now)
+    ensures now { IsSweptTo (unit_of question.now) (prices_in question.now)
         (limits_in question.now) (suc place) (charge_of question.now) table.new.items runners.new
         roster.new }
     ensures others { (l : ℕ) → l ≢ suc place → row_at table.new.items l ≡ row_at table.old.items l }
-    ensures same { AreAsLong room_of table.old.items table.new.items runners.old runners.new
+    ensures same { AreAsLong table.old.items table.new.items runners.old runners.new
         roster.old roster.new }
 {
     if is_must_off(question.unit, place) {
@@ -160,15 +158,15 @@ fn take_period(
 }
 
 // Begins the runner of the spells that go on from before the horizon, where the unit is on then.
-fn go_on(unit: &Unit, roster: &mut Roster, runners: &mut [Runner<Slopes>])
+fn go_on(unit: &Unit, roster: &mut Roster, runners: &mut [Runner])
     requires some { 1 ≤ length runners.old }
     requires list { 1 ≤ length roster.old.firsts.items }
     requires none { roster.old.count ≡ 0 }
-    requires off { (first : ℕ) → live_at shown runners.old first ≡ None }
+    requires off { (first : ℕ) → live_at runners.old first ≡ None }
     ensures stands { (π : PriceLists) (limits : ℕ → ℤ) (ends : ℕ → Option ℤ)
-        → AreRunners (thermal_of unit.now) π limits ends (live_at shown runners.new) 0 1 }
-    ensures kept { AreKept count_of room_of runners.old runners.new }
-    ensures roster { IsRoster (live_at shown runners.new) 1 roster.new }
+        → AreRunners (thermal_of unit.now) π limits ends (live_at runners.new) 0 1 }
+    ensures kept { AreKept runners.old runners.new }
+    ensures roster { IsRoster (live_at runners.new) 1 roster.new }
     ensures list { length roster.new.firsts.items ≡ length roster.old.firsts.items }
 {
     if unit.on0 {
@@ -179,17 +177,17 @@ fn go_on(unit: &Unit, roster: &mut Roster, runners: &mut [Runner<Slopes>])
 }
 
 // The table and the runners before the first period.
-fn begin_all(unit: &Unit, roster: &mut Roster, runners: &mut [Runner<Slopes>], table: &mut Table)
+fn begin_all(unit: &Unit, roster: &mut Roster, runners: &mut [Runner], table: &mut Table)
     requires runners { 1 ≤ length runners.old }
     requires list { 1 ≤ length roster.old.firsts.items }
     requires rows { 1 ≤ length table.old.items }
     ensures filled { (π : PriceLists) (limits : ℕ → ℤ) → 1 ≤ length π.energy
         → IsFilledTo (thermal_of unit.now) π limits 0 table.new.items
-        (live_at shown runners.new) }
-    ensures room { (periods charge : ℕ) → HaveRoom room_of (periods * charge) periods runners.old
-        → AreRoomy count_of room_of periods 0 charge runners.new }
-    ensures roster { IsRoster (live_at shown runners.new) 1 roster.new }
-    ensures same { AreAsLong room_of table.old.items table.new.items runners.old runners.new
+        (live_at runners.new) }
+    ensures room { (periods charge : ℕ) → HaveRoom (periods * charge) periods runners.old
+        → AreRoomy periods 0 charge runners.new }
+    ensures roster { IsRoster (live_at runners.new) 1 roster.new }
+    ensures same { AreAsLong table.old.items table.new.items runners.old runners.new
         roster.old roster.new }
 {
     begin_table(unit, table);
@@ -207,12 +205,12 @@ pub fn fill_by_periods(
     question: &Question,
     origins: &mut Origins,
     roster: &mut Roster,
-    runners: &mut [Runner<Slopes>],
+    runners: &mut [Runner],
     table: &mut Table,
 )
     requires long { AreLonger (periods_in question.now) table.old.items runners.old roster.old
         origins.old }
-    requires room { HaveRoom room_of (periods_in question.now * charge_of question.now)
+    requires room { HaveRoom (periods_in question.now * charge_of question.now)
         (periods_in question.now) runners.old }
     requires limits { (most : ℤ)
         × AreLimits (unit_of question.now) (prices_in question.now) most
@@ -223,7 +221,7 @@ pub fn fill_by_periods(
     ensures ways { HaveWays (unit_of question.now) (prices_in question.now)
         (periods_in question.now) (cost_at table.new.items) (first_at table.new.items)
         (left_at runners.new) }
-    ensures same { AreAsLong room_of table.old.items table.new.items runners.old runners.new
+    ensures same { AreAsLong table.old.items table.new.items runners.old runners.new
         roster.old roster.new }
     ensures list { length origins.new.list.items ≡ length origins.old.list.items }
 {

@@ -1,13 +1,11 @@
 //! Which runners are on: so that no loop goes over those that aren't.
 ghost use Rattle.std.specs.Prelude.{◌≡◌, ℕ, suc, ◌<◌, ◌≤◌, IfOk, length, slice_set};
-ghost use Rattle.slope_list.specs.Slopes.{shown};
 ghost use Rattle.uc_model.specs.declared.limits.TheConstants.{MOST_PERIODS};
 ghost use Rattle.unit_table.specs.Live.{live_at};
 ghost use Rattle.unit_table.specs.Rosters.{IsRoster};
 
 use crate::runner::Runner;
 use plain_lists::lists::ReservedList;
-use slope_list::Slopes;
 use std::alloc::{AllocError, Global};
 
 /// First periods of runners, rising: those of all that are on, and maybe of others.
@@ -58,13 +56,13 @@ impl Roster {
     }
 
     /// Takes those away whose runners are off.
-    pub fn keep(&mut self, runners: &[Runner<Slopes>])
+    pub fn keep(&mut self, runners: &[Runner])
         requires small { self.old.count ≤ 169 }
         requires roster { (until : ℕ) × (until ≤ length runners.now)
-            × IsRoster (live_at shown runners.now) until self.old }
+            × IsRoster (live_at runners.now) until self.old }
         ensures roster { (until : ℕ) →
-            IsRoster (live_at shown runners.now) until self.old →
-            IsRoster (live_at shown runners.now) until self.new }
+            IsRoster (live_at runners.now) until self.old →
+            IsRoster (live_at runners.now) until self.new }
         ensures length { length self.new.firsts.items ≡ length self.old.firsts.items }
     {
         let mut kept = 0;

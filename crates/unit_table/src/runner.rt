@@ -38,20 +38,20 @@ use unit_rows::table::{Entry, Table, put_end, sum_of};
 
 /// The spells that begin with one period; its place in a list of runners is that period, and 0
 /// stands for spells that go on from before the horizon. Where it isn't on, the rest is open.
-pub struct Runner<R> {
+pub struct Runner {
     pub is_on: bool,
     /// The cost of all before the spell and its start, in money.
     pub cost: i64,
     /// The on period before it.
     pub before: u32,
     /// The least net costs by the power at the end of a period.
-    pub running: R,
+    pub running: Slopes,
     /// What each period that it was taken over left for the way back, by place.
     pub passed: ReservedList<Passed>,
 }
 
 // Written out, so that a drop of it is a call, and not one for each list.
-impl<R: Drop> Drop for Runner<R> {
+impl Drop for Runner {
     fn drop(self) {
         let Runner {
             is_on: _,
@@ -64,7 +64,7 @@ impl<R: Drop> Drop for Runner<R> {
 }
 
 /// Begins a runner after an entry.
-pub fn begin_runner(unit: &Unit, first: u32, entry: &Entry, runner: &mut Runner<Slopes>)
+pub fn begin_runner(unit: &Unit, first: u32, entry: &Entry, runner: &mut Runner)
     ensures on { runner.new.is_on ≡ true }
     ensures cost { runner.new.cost ≡ entry.now.cost }
     ensures before { runner.new.before ≡ entry.now.last }
@@ -81,7 +81,7 @@ pub fn begin_runner(unit: &Unit, first: u32, entry: &Entry, runner: &mut Runner<
 }
 
 /// Stops a runner.
-fn stop(runner: &mut Runner<Slopes>)
+fn stop(runner: &mut Runner)
     ensures off { runner.new.is_on ≡ false }
     ensures running { runner.new.running ≡ runner.old.running }
     ensures passed { runner.new.passed ≡ runner.old.passed }
@@ -90,9 +90,9 @@ fn stop(runner: &mut Runner<Slopes>)
 }
 
 /// Stops all runners.
-pub fn stop_all(runners: &mut [Runner<Slopes>])
-    ensures off { (first : ℕ) → live_at shown runners.new first ≡ None }
-    ensures kept { AreKept count_of room_of runners.old runners.new }
+pub fn stop_all(runners: &mut [Runner])
+    ensures off { (first : ℕ) → live_at runners.new first ≡ None }
+    ensures kept { AreKept runners.old runners.new }
 {
     for place in 0..runners.len() {
         stop(&mut runners[place]);
@@ -122,7 +122,7 @@ pub(crate) fn is_less(a: i64, b: i64) -> bool
 }
 
 // Whether a runner that is on is at a power, its first, for less than a cost.
-fn undercuts(runner: &Runner<Slopes>, power: i64, cost: i64) -> bool
+fn undercuts(runner: &Runner, power: i64, cost: i64) -> bool
     requires bound { IsWithinTimes 400 runner.now.cost }
     requires values { (x v : ℤ) → value_of (shown runner.now.running) x ≡ Some v
         → IsWithinTimes 400 v }
@@ -142,10 +142,10 @@ fn undercuts(runner: &Runner<Slopes>, power: i64, cost: i64) -> bool
 }
 
 // Whether the runner that begins with a period is on, and undercuts a cost at a power.
-fn undercuts_from(runners: &[Runner<Slopes>], first: u32, power: i64, cost: i64) -> bool
+fn undercuts_from(runners: &[Runner], first: u32, power: i64, cost: i64) -> bool
     requires room { first < length runners.now }
-    requires small { AreSmall (live_at shown runners.now) }
-    ensures { OnTrue result ((r : Going) × (live_at shown runners.now first ≡ Some r)
+    requires small { AreSmall (live_at runners.now) }
+    ensures { OnTrue result ((r : Going) × (live_at runners.now first ≡ Some r)
         × IsUnder power cost r) }
 {
     if !runners[first as usize].is_on {
@@ -155,11 +155,11 @@ fn undercuts_from(runners: &[Runner<Slopes>], first: u32, power: i64, cost: i64)
 }
 
 /// Whether one of the runners of a roster is at a power, its first, for less than a cost.
-pub fn is_undercut(runners: &[Runner<Slopes>], roster: &Roster, power: i64, cost: i64) -> bool
-    requires roster { IsRoster (live_at shown runners.now) (length runners.now) roster.now }
-    requires small { AreSmall (live_at shown runners.now) }
+pub fn is_undercut(runners: &[Runner], roster: &Roster, power: i64, cost: i64) -> bool
+    requires roster { IsRoster (live_at runners.now) (length runners.now) roster.now }
+    requires small { AreSmall (live_at runners.now) }
     ensures { OnTrue result ((first : ℕ) × (r : Going)
-        × (live_at shown runners.now first ≡ Some r) × IsUnder power cost r) }
+        × (live_at runners.now first ≡ Some r) × IsUnder power cost r) }
 {
     for place in 0..roster.count {
         if undercuts_from(runners, *roster.firsts.get(place as usize), power, cost) {
@@ -216,12 +216,12 @@ fn cost_of(end: Option<Lowest>) -> Option<i64>
 }
 
 // Stops a runner where no run is left.
-fn retire(runner: &mut Runner<Slopes>)
+fn retire(runner: &mut Runner)
     requires { runner.old.is_on ≡ true }
     ensures running { runner.new.running ≡ runner.old.running }
     ensures passed { runner.new.passed ≡ runner.old.passed }
-    ensures next { (going_of shown (Some runner.new) ≡ going_of shown (Some runner.old))
-        ⊎ ((going_of shown (Some runner.new) ≡ None)
+    ensures next { (going_of (Some runner.new) ≡ going_of (Some runner.old))
+        ⊎ ((going_of (Some runner.new) ≡ None)
         × IsEmpty (shown runner.old.running)) }
 {
     if runner.running.is_empty() {
@@ -231,34 +231,28 @@ fn retire(runner: &mut Runner<Slopes>)
 
 // Takes a runner that is on over the period at a place, and puts the spells that end with it into
 // the table.
-fn take_runner(
-    question: &Question,
-    first: u32,
-    place: u32,
-    runner: &mut Runner<Slopes>,
-    table: &mut Table,
-)
+fn take_runner(question: &Question, first: u32, place: u32, runner: &mut Runner, table: &mut Table)
     requires place { place < periods_in question.now }
     requires on { runner.old.is_on ≡ true }
-    requires ready { (r : Going) → going_of shown (Some runner.old) ≡ Some r
+    requires ready { (r : Going) → going_of (Some runner.old) ≡ Some r
         → IsReady (unit_of question.now) (prices_in question.now) place first r }
-    requires room { IsRoomy count_of room_of (periods_in question.now) place
+    requires room { IsRoomy (periods_in question.now) place
         (charge_of question.now)
         runner.old }
     requires rows { periods_in question.now < length table.old.items }
     requires within { AreWithin table.old.items }
     ensures more { IsRowMore (unit_of question.now) (prices_in question.now) place first
-        (going_of shown (Some runner.old)) table.old.items table.new.items }
-    ensures goes { (r : Going) → going_of shown (Some runner.old) ≡ Some r
+        (going_of (Some runner.old)) table.old.items table.new.items }
+    ensures goes { (r : Going) → going_of (Some runner.old) ≡ Some r
         → IsGoneOn (unit_of question.now) (prices_in question.now) place first r
-        (going_of shown (Some runner.new)) }
+        (going_of (Some runner.new)) }
     ensures ends { (row_at table.new.items (suc place) ≡ row_at table.old.items (suc place)) ⊎
         ((first_at table.new.items (suc place) ≡ first)
         × IsEndLeft (unit_of question.now) (prices_in question.now) first place
         (passed_at runner.new.passed.items place)) }
     ensures left { (k : ℕ) → k ≢ place → passed_at runner.new.passed.items k
         ≡ passed_at runner.old.passed.items k }
-    ensures room { IsRoomy count_of room_of (periods_in question.now) (suc place)
+    ensures room { IsRoomy (periods_in question.now) (suc place)
         (charge_of question.now)
         runner.new }
     ensures same { (room_of runner.new.running ≡ room_of runner.old.running)
@@ -275,22 +269,16 @@ fn take_runner(
 }
 
 // Takes the runner that begins with a period over the period at a place, if it is on.
-fn run_at(
-    question: &Question,
-    place: u32,
-    first: u32,
-    runners: &mut [Runner<Slopes>],
-    table: &mut Table,
-)
+fn run_at(question: &Question, place: u32, first: u32, runners: &mut [Runner], table: &mut Table)
     requires place { place < periods_in question.now }
     requires runners { first < length runners.old }
-    requires ready { (r : Going) → live_at shown runners.old first ≡ Some r
+    requires ready { (r : Going) → live_at runners.old first ≡ Some r
         → IsReady (unit_of question.now) (prices_in question.now) place first r }
-    requires room { (r : Runner Slopes) → slice_get runners.old first ≡ Some r
-        → IsRoomy count_of room_of (periods_in question.now) place (charge_of question.now) r }
+    requires room { (r : Runner) → slice_get runners.old first ≡ Some r
+        → IsRoomy (periods_in question.now) place (charge_of question.now) r }
     requires rows { periods_in question.now < length table.old.items }
     requires within { AreWithin table.old.items }
-    ensures { IsOneRun shown count_of room_of (unit_of question.now) (prices_in question.now) place
+    ensures { IsOneRun (unit_of question.now) (prices_in question.now) place
         (charge_of question.now) first table.old.items table.new.items runners.old runners.new }
 {
     if runners[first as usize].is_on {
@@ -304,7 +292,7 @@ pub fn run_all(
     question: &Question,
     place: u32,
     roster: &Roster,
-    runners: &mut [Runner<Slopes>],
+    runners: &mut [Runner],
     table: &mut Table,
 )
     requires place { place < periods_in question.now }
@@ -313,15 +301,15 @@ pub fn run_all(
     requires now { (limits : ℕ → ℤ)
         × AreRunners (unit_of question.now) (prices_in question.now) limits
         (cost_at table.old.items)
-        (live_at shown runners.old) place (suc (suc place)) }
-    requires roster { IsRoster (live_at shown runners.old) (suc (suc place)) roster.now }
-    requires room { AreRoomy count_of room_of (periods_in question.now) place
+        (live_at runners.old) place (suc (suc place)) }
+    requires roster { IsRoster (live_at runners.old) (suc (suc place)) roster.now }
+    requires room { AreRoomy (periods_in question.now) place
         (charge_of question.now)
         runners.old }
     requires rows { periods_in question.now < length table.old.items }
     requires within { AreWithin table.old.items }
     requires none { cost_at table.old.items (suc place) ≡ None }
-    ensures { IsRunOver shown count_of room_of (unit_of question.now) (prices_in question.now) place
+    ensures { IsRunOver (unit_of question.now) (prices_in question.now) place
         (charge_of question.now) table.old.items table.new.items runners.old runners.new }
 {
     for index in 0..roster.count {
@@ -342,7 +330,7 @@ fn difference(a: i64, b: i64) -> i64
 
 // Whether a later runner may stop in each period after the next as an earlier one may, and is
 // nowhere above it.
-fn goes(unit: &Unit, period: u32, first: u32, late: &Runner<Slopes>, early: &Runner<Slopes>) -> bool
+fn goes(unit: &Unit, period: u32, first: u32, late: &Runner, early: &Runner) -> bool
     requires small { period ≤ MOST_PERIODS }
     requires order { first ≤ period }
     requires late { IsWithinTimes 400 late.now.cost }
@@ -365,21 +353,21 @@ fn prune_one(
     period: u32,
     early: u32,
     late: Option<u32>,
-    runners: &mut [Runner<Slopes>],
+    runners: &mut [Runner],
 ) -> Option<u32>
     requires periods { period ≤ MOST_PERIODS }
     requires early { early ≤ period }
     requires end { period < length runners.old }
     requires late { IfSome late (λ l. (early < l) × (l ≤ period)
-        × ((r : Going) × (live_at shown runners.old l ≡ Some r))) }
-    requires small { AreSmall (live_at shown runners.old) }
+        × ((r : Going) × (live_at runners.old l ≡ Some r))) }
+    requires small { AreSmall (live_at runners.old) }
     ensures late { IfSome result (λ l. (early ≤ l) × (l ≤ period)
-        × ((r : Going) × (live_at shown runners.new l ≡ Some r))) }
+        × ((r : Going) × (live_at runners.new l ≡ Some r))) }
     ensures stands { (π : PriceLists) (limits : ℕ → ℤ) (ends : ℕ → Option ℤ) (n : ℕ) →
-        AreRunners (thermal_of unit.now) π limits ends (live_at shown runners.old) period n →
-        AreRunners (thermal_of unit.now) π limits ends (live_at shown runners.new) period n }
-    ensures fewer { AreFewer (live_at shown runners.old) (live_at shown runners.new) }
-    ensures kept { AreKept count_of room_of runners.old runners.new }
+        AreRunners (thermal_of unit.now) π limits ends (live_at runners.old) period n →
+        AreRunners (thermal_of unit.now) π limits ends (live_at runners.new) period n }
+    ensures fewer { AreFewer (live_at runners.old) (live_at runners.new) }
+    ensures kept { AreKept runners.old runners.new }
 {
     if !runners[early as usize].is_on {
         return late;
@@ -401,16 +389,16 @@ fn prune_one(
 
 /// Stops each runner that a later one stands for at the end of a period. The roster has all that
 /// are on.
-pub fn prune(unit: &Unit, period: u32, roster: &Roster, runners: &mut [Runner<Slopes>])
+pub fn prune(unit: &Unit, period: u32, roster: &Roster, runners: &mut [Runner])
     requires periods { period ≤ MOST_PERIODS }
     requires end { period < length runners.old }
-    requires small { AreSmall (live_at shown runners.old) }
-    requires roster { IsRoster (live_at shown runners.old) (suc period) roster.now }
+    requires small { AreSmall (live_at runners.old) }
+    requires roster { IsRoster (live_at runners.old) (suc period) roster.now }
     ensures stands { (π : PriceLists) (limits : ℕ → ℤ) (ends : ℕ → Option ℤ) (n : ℕ) →
-        AreRunners (thermal_of unit.now) π limits ends (live_at shown runners.old) period n →
-        AreRunners (thermal_of unit.now) π limits ends (live_at shown runners.new) period n }
-    ensures fewer { AreFewer (live_at shown runners.old) (live_at shown runners.new) }
-    ensures kept { AreKept count_of room_of runners.old runners.new }
+        AreRunners (thermal_of unit.now) π limits ends (live_at runners.old) period n →
+        AreRunners (thermal_of unit.now) π limits ends (live_at runners.new) period n }
+    ensures fewer { AreFewer (live_at runners.old) (live_at runners.new) }
+    ensures kept { AreKept runners.old runners.new }
 {
     let mut late = None;
     for back in 0..roster.count {
@@ -420,7 +408,7 @@ pub fn prune(unit: &Unit, period: u32, roster: &Roster, runners: &mut [Runner<Sl
 }
 
 // Whether a runner is above a cost at each power.
-fn is_beyond(runner: &Runner<Slopes>, limit: i64) -> bool
+fn is_beyond(runner: &Runner, limit: i64) -> bool
     requires bound { IsWithinTimes 400 runner.now.cost }
     requires values { (x v : ℤ) → value_of (shown runner.now.running) x ≡ Some v
         → IsWithinTimes 400 v }
@@ -430,15 +418,15 @@ fn is_beyond(runner: &Runner<Slopes>, limit: i64) -> bool
 }
 
 // Stops the runner that begins with a period, if it is above the limit at each power.
-fn drop_at(limit: i64, first: u32, runners: &mut [Runner<Slopes>])
+fn drop_at(limit: i64, first: u32, runners: &mut [Runner])
     requires end { first < length runners.old }
-    requires small { AreSmall (live_at shown runners.old) }
+    requires small { AreSmall (live_at runners.old) }
     ensures stands { (g : ThermalUnit) (π : PriceLists) (limits : ℕ → ℤ) (ends : ℕ
         → Option ℤ) (t n : ℕ) → limits t ≡ limit →
-        AreRunners g π limits ends (live_at shown runners.old) t n →
-        AreRunners g π limits ends (live_at shown runners.new) t n }
-    ensures fewer { AreFewer (live_at shown runners.old) (live_at shown runners.new) }
-    ensures kept { AreKept count_of room_of runners.old runners.new }
+        AreRunners g π limits ends (live_at runners.old) t n →
+        AreRunners g π limits ends (live_at runners.new) t n }
+    ensures fewer { AreFewer (live_at runners.old) (live_at runners.new) }
+    ensures kept { AreKept runners.old runners.new }
 {
     if !runners[first as usize].is_on {
         return;
@@ -450,16 +438,16 @@ fn drop_at(limit: i64, first: u32, runners: &mut [Runner<Slopes>])
 
 /// Stops each runner that is above the limit of a period at each power. The roster has all that are
 /// on.
-pub fn drop_beyond(period: u32, limit: i64, roster: &Roster, runners: &mut [Runner<Slopes>])
+pub fn drop_beyond(period: u32, limit: i64, roster: &Roster, runners: &mut [Runner])
     requires end { period < length runners.old }
-    requires small { AreSmall (live_at shown runners.old) }
-    requires roster { IsRoster (live_at shown runners.old) (suc period) roster.now }
+    requires small { AreSmall (live_at runners.old) }
+    requires roster { IsRoster (live_at runners.old) (suc period) roster.now }
     ensures stands { (g : ThermalUnit) (π : PriceLists) (limits : ℕ → ℤ) (ends : ℕ
         → Option ℤ) (t n : ℕ) → limits t ≡ limit →
-        AreRunners g π limits ends (live_at shown runners.old) t n →
-        AreRunners g π limits ends (live_at shown runners.new) t n }
-    ensures fewer { AreFewer (live_at shown runners.old) (live_at shown runners.new) }
-    ensures kept { AreKept count_of room_of runners.old runners.new }
+        AreRunners g π limits ends (live_at runners.old) t n →
+        AreRunners g π limits ends (live_at runners.new) t n }
+    ensures fewer { AreFewer (live_at runners.old) (live_at runners.new) }
+    ensures kept { AreKept runners.old runners.new }
 {
     for place in 0..roster.count {
         drop_at(limit, *roster.firsts.get(place as usize), runners);

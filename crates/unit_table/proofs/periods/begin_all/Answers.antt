@@ -1,4 +1,3 @@
-use Rattle.slope_list.specs.Slopes.{shown, count_of, room_of}
 use Rattle.unit_table.proofs.Common.{◌*◌, ◌∙◌, ap, length, thermal_of, cost_at}
 use Rattle.unit_table.proofs.Lemmas.{kept_then, kept_room, kept_roomy, off_roomy}
 use Rattle.unit_table.proofs.RowByRowLaws.{table_begun}
@@ -16,16 +15,16 @@ returns-clause-filled c = λ π limits some.
 
 pub returns-clause-room : goal.returns-clause-room
 returns-clause-room c = λ periods charge have.
-    kept_roomy shown count_of room_of _ _ c.go_on.ensures.kept periods 0 charge
-    (off_roomy shown count_of room_of periods 0 charge c.stop_all.new.runners c.stop_all.ensures.off
-    (kept_room shown count_of room_of _ _ c.stop_all.ensures.kept (periods * charge) periods have))
+    kept_roomy _ _ c.go_on.ensures.kept periods 0 charge
+    (off_roomy periods 0 charge c.stop_all.new.runners c.stop_all.ensures.off
+    (kept_room _ _ c.stop_all.ensures.kept (periods * charge) periods have))
 
 pub returns-clause-same : goal.returns-clause-same
 returns-clause-same c =
-    let kept = kept_then shown count_of room_of _ _ _ c.stop_all.ensures.kept c.go_on.ensures.kept in
+    let kept = kept_then _ _ _ c.stop_all.ensures.kept c.go_on.ensures.kept in
     record {
       rows_length = c.begin_table.ensures.length;
       count_same = kept.count_same;
       firsts_same = c.go_on.ensures.list ∙ ap (λ l. length l.items) c.clear.ensures.firsts;
-      keeps = kept_room shown count_of room_of _ _ kept;
+      keeps = kept_room _ _ kept;
     }

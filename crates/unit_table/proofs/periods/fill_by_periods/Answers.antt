@@ -1,6 +1,5 @@
-use Rattle.slope_list.specs.Slopes.{shown, count_of, room_of}
-use Rattle.unit_table.proofs.Common.{◌≡◌, ℕ, suc, ◌+◌, List, Option, length, sym, ◌∙◌, subst, arith, thermal_of}
-use Rattle.unit_table.proofs.Common.{prices_of, Ended, int_at, live_at, left_at, IsFilledTo, IsSweptTo, AreOrigins}
+use Rattle.unit_table.proofs.Common.{◌≡◌, ℕ, suc, ◌+◌, List, Option, length, sym, ◌∙◌, subst, arith}
+use Rattle.unit_table.proofs.Common.{Ended, live_at, left_at, IsFilledTo, IsSweptTo, AreOrigins}
 use Rattle.unit_table.proofs.Common.{cost_at, first_at, HaveWays, ap, unit_of, prices_in, periods_in, charge_of}
 use Rattle.unit_table.proofs.Common.{limits_in}
 use Rattle.unit_table.proofs.Lemmas.{origins_to, filled_whole, cost-same}
@@ -27,7 +26,7 @@ loop-place-preserved c =
     let before = c.loop-place.invariant.same in
     let more = c.take_period.ensures.same in
     record {
-      now = subst (λ (t : ℕ). IsSweptTo shown count_of room_of (unit_of c.args.question.now)
+      now = subst (λ (t : ℕ). IsSweptTo (unit_of c.args.question.now)
           (prices_in c.args.question.now) (limits_in c.args.question.now) t
           (charge_of c.args.question.now) c.take_period.new.table.items c.take_period.new.runners
           c.take_period.new.roster) next c.take_period.ensures.now;
@@ -80,9 +79,9 @@ returns-clause-filled c = λ most right.
     let end : c.loop-place.place ≡ periods_in c.args.question.now = omega (arith, periods, from, until) in
     filled_whole (unit_of c.args.question.now) (prices_in c.args.question.now) c.args.question.now.unit.now.valid
     c.start_costs_are_within.ensures most (limits_in c.args.question.now) right c.loop-place.table.items
-    (live_at shown c.loop-place.runners)
+    (live_at c.loop-place.runners)
     (subst (λ (t : ℕ). IsFilledTo (unit_of c.args.question.now) (prices_in c.args.question.now)
-    (limits_in c.args.question.now) t c.loop-place.table.items (live_at shown c.loop-place.runners)) end
+    (limits_in c.args.question.now) t c.loop-place.table.items (live_at c.loop-place.runners)) end
     c.loop-place.invariant.now.filled)
 
 pub returns-clause-ways : goal.returns-clause-ways

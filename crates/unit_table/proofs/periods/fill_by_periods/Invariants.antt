@@ -1,13 +1,12 @@
-use Rattle.slope_list.specs.Slopes.{shown, count_of, room_of}
-use Rattle.unit_table.proofs.Common.{◌≡◌, ◌+◌, length, thermal_of, prices_of, int_at, IsSweptTo, AreAsLong, AreOrigins}
+use Rattle.unit_table.proofs.Common.{◌≡◌, length, IsSweptTo, AreAsLong, AreOrigins}
 use Rattle.unit_table.proofs.Common.{cost_at, unit_of, prices_in, charge_of, limits_in}
 use Rattle.unit_table.proofs.periods.fill_by_periods.Given as goal
 
 abbrev pub invariant-loop-place : goal.invariant-loop-place
 invariant-loop-place l = record {
-  now : IsSweptTo shown count_of room_of (unit_of l.question) (prices_in l.question) (limits_in l.question) l.place
+  now : IsSweptTo (unit_of l.question) (prices_in l.question) (limits_in l.question) l.place
       (charge_of l.question) l.table.items l.runners l.roster;
-  same : AreAsLong room_of l.fn.table.items l.table.items l.fn.runners l.runners l.fn.roster l.roster;
+  same : AreAsLong l.fn.table.items l.table.items l.fn.runners l.runners l.fn.roster l.roster;
   origins : AreOrigins (unit_of l.question) (cost_at l.table.items) l.place l.origins;
   list_same : length l.origins.list.items ≡ length l.fn.origins.list.items;
 }

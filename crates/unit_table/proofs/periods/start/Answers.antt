@@ -1,4 +1,3 @@
-use Rattle.slope_list.specs.Slopes.{shown, count_of, room_of}
 use Rattle.unit_table.proofs.Common.{rules, ◌≡◌, ℕ, suc, ◌<◌, Some, pos, ◌+ℤ◌, ◌≤ℤ◌, sym, ◌∙◌, arith, refl, ints}
 use Rattle.unit_table.proofs.Common.{FitsSigned, slice_get, w64, to_z-of_z, thermal_of, live_at, Origin}
 use Rattle.unit_table.proofs.Lemmas.{kept_none, still_listed, none_starts, starts_beyond, entry_beyond}
@@ -12,12 +11,12 @@ returns-in-Some-clause-stands c = λ π limits ends here origins now.
 
 pub returns-in-None-clause-stands : goal.returns-in-None-clause-stands
 returns-in-None-clause-stands c = λ π limits ends here origins now.
-    none_starts (thermal_of c.args.unit.now) π limits ends c.args.place (live_at shown c.args.runners.now)
-    (live_at shown c.args.runners.now) now (λ e. c.in-None.ensures.none ends e origins)
+    none_starts (thermal_of c.args.unit.now) π limits ends c.args.place (live_at c.args.runners.now)
+    (live_at c.args.runners.now) now (λ e. c.in-None.ensures.none ends e origins)
 
 pub returns-in-None-clause-roster : goal.returns-in-None-clause-roster
 returns-in-None-clause-roster c =
-    still_listed (live_at shown c.args.runners.now) (live_at shown c.args.runners.now) (suc c.args.place)
+    still_listed (live_at c.args.runners.now) (live_at c.args.runners.now) (suc c.args.place)
     (suc (suc c.args.place)) c.args.roster.now (omega arith) (λ f off. off) c.requires.roster
 
 pub returns-then-not-is_within-clause-stands : goal.returns-then-not-is_within-clause-stands
@@ -26,22 +25,22 @@ returns-then-not-is_within-clause-stands c = λ π limits ends here origins now.
     let told = simp to_z-of_z at c.if-not-is_within.ensures in
     let far : (i : ℕ) (o : Origin) → i < c.args.origins.now.count → slice_get c.args.origins.now.list.items i ≡ Some o →
     (c.args.limit +ℤ pos 1) ≤ℤ o.cost = told refl in
-    starts_beyond (thermal_of c.args.unit.now) π limits ends c.args.place (live_at shown c.args.runners.now)
-    (live_at shown c.args.runners.now) now
+    starts_beyond (thermal_of c.args.unit.now) π limits ends c.args.place (live_at c.args.runners.now)
+    (live_at c.args.runners.now) now
     (λ e entry. (let above = entry_beyond (thermal_of c.args.unit.now) ends c.args.place c.args.origins.now
     c.start_costs_are_within.ensures origins
     c.args.unit.now.valid.lags c.args.limit far e entry in omega (arith, ints, above, here)))
 
 pub returns-then-not-is_within-clause-roster : goal.returns-then-not-is_within-clause-roster
 returns-then-not-is_within-clause-roster c =
-    still_listed (live_at shown c.args.runners.now) (live_at shown c.args.runners.now) (suc c.args.place)
+    still_listed (live_at c.args.runners.now) (live_at c.args.runners.now) (suc c.args.place)
     (suc (suc c.args.place)) c.args.roster.now (omega arith) (λ f off. off) c.requires.roster
 
 pub start_after-requires-clause-runners : goal.start_after-requires-clause-runners
 start_after-requires-clause-runners c = c.requires.runners
 
 pub returns-in-None-clause-kept : goal.returns-in-None-clause-kept
-returns-in-None-clause-kept c = kept_none shown count_of room_of c.args.runners.now
+returns-in-None-clause-kept c = kept_none c.args.runners.now
 
 pub returns-then-not-is_within-clause-kept : goal.returns-then-not-is_within-clause-kept
-returns-then-not-is_within-clause-kept c = kept_none shown count_of room_of c.args.runners.now
+returns-then-not-is_within-clause-kept c = kept_none c.args.runners.now

@@ -1,4 +1,3 @@
-use Rattle.slope_list.specs.Slopes.{shown, count_of, room_of}
 use Rattle.unit_table.proofs.Common.{rules, ◌≡◌, ℕ, suc, ◌+◌, ◌*◌, pos, length, refl, sym, ap, ◌∙◌, subst, arith, to_z}
 use Rattle.unit_table.proofs.Common.{of_z, FitsSigned, w64, to_z-of_z, get_or_from_slice_get, ℤ, Some, List, slice_get}
 use Rattle.unit_table.proofs.Common.{unit_of, prices_in, periods_in, charge_of, limits_in, int_at, live_at, left_at}
@@ -23,18 +22,18 @@ returns-then-is_must_off-clause-now c =
     let none = now.filled.table.none (suc c.args.place) (omega arith) in
     record {
       filled = period_off g π (limits_in c.args.question.now) c.args.question.now.unit.now.valid c.args.place rows
-          (live_at shown old) now.filled c.requires.place
-          (live_at shown c.stop_all.new.runners) off (c.is_must_off.ensures.yes c.if-is_must_off.true);
+          (live_at old) now.filled c.requires.place
+          (live_at c.stop_all.new.runners) off (c.is_must_off.ensures.yes c.if-is_must_off.true);
       ways = ways_same g π (suc c.args.place) (cost_at rows) (first_at rows) (left_at old)
-          (left_at c.stop_all.new.runners) (kept_left shown count_of room_of _ _ kept)
+          (left_at c.stop_all.new.runners) (kept_left _ _ kept)
           (ways_none g π c.args.place (cost_at rows) (first_at rows) (left_at old) none now.ways);
-      roomy = off_roomy shown count_of room_of (periods_in c.args.question.now) (suc c.args.place)
+      roomy = off_roomy (periods_in c.args.question.now) (suc c.args.place)
           (charge_of c.args.question.now) c.stop_all.new.runners off
-          (kept_room shown count_of room_of _ _ kept (periods_in c.args.question.now * charge_of c.args.question.now)
+          (kept_room _ _ kept (periods_in c.args.question.now * charge_of c.args.question.now)
           (periods_in c.args.question.now)
-          (have_room count_of room_of (periods_in c.args.question.now) c.args.place (charge_of c.args.question.now) old
+          (have_room (periods_in c.args.question.now) c.args.place (charge_of c.args.question.now) old
           now.roomy));
-      roster_is = none_listed (live_at shown c.stop_all.new.runners) (suc (suc c.args.place)) c.clear.new.self
+      roster_is = none_listed (live_at c.stop_all.new.runners) (suc (suc c.args.place)) c.clear.new.self
           c.clear.ensures.count off;
     }
 
@@ -43,7 +42,7 @@ returns-then-is_must_off-clause-same c = record {
   rows_length = refl;
   count_same = c.stop_all.ensures.kept.count_same;
   firsts_same = ap (λ l. length l.items) c.clear.ensures.firsts;
-  keeps = kept_room shown count_of room_of _ _ c.stop_all.ensures.kept;
+  keeps = kept_room _ _ c.stop_all.ensures.kept;
 }
 
 -- ---- the runners, step by step
@@ -70,12 +69,12 @@ start-requires-clause-small c =
     let few = c.args.question.now.prices.now.valid.horizon.at_most in
     let place = c.requires.place in
     small_of (unit_of c.args.question.now) (prices_in c.args.question.now) (limits_in c.args.question.now) _
-    (live_at shown c.args.runners.now) c.args.place (suc c.args.place)
+    (live_at c.args.runners.now) c.args.place (suc c.args.place)
     (omega (arith, few, place)) (omega (arith, few, place)) c.requires.now.filled.runners
 
 pub run_all-requires-clause-room : goal.run_all-requires-clause-room
 run_all-requires-clause-room c =
-    kept_roomy shown count_of room_of _ _ c.start.ensures.kept (periods_in c.args.question.now) c.args.place
+    kept_roomy _ _ c.start.ensures.kept (periods_in c.args.question.now) c.args.place
     (charge_of c.args.question.now) c.requires.now.roomy
 
 pub run_all-requires-clause-now : goal.run_all-requires-clause-now
@@ -110,14 +109,14 @@ drop_beyond-requires-clause-small c =
     c.get-limit.ensures.item in
     let begun = c.start.ensures.stands π limits (cost_at rows) here c.requires.origins filled.runners in
     let ran = period_run g π limits c.args.question.now.unit.now.valid c.args.place rows
-    (live_at shown c.args.runners.now) filled c.requires.place
-    c.run_all.new.table.items (live_at shown c.start.new.runners) (live_at shown c.run_all.new.runners) begun
+    (live_at c.args.runners.now) filled c.requires.place
+    c.run_all.new.table.items (live_at c.start.new.runners) (live_at c.run_all.new.runners) begun
     c.requires.limits.0 c.requires.limits.1
     c.runs_go_on.ensures (c.is_must_off.ensures.no c.if-is_must_off.false) c.run_all.ensures.goes c.run_all.ensures.off
     in
     let few = c.args.question.now.prices.now.valid.horizon.at_most in
     let place = c.requires.place in
-    small_of g π limits _ (live_at shown c.run_all.new.runners) (suc c.args.place) (suc (suc c.args.place))
+    small_of g π limits _ (live_at c.run_all.new.runners) (suc c.args.place) (suc (suc c.args.place))
     (omega (arith, few, place)) (omega (arith, few, place)) ran
 
 pub prune-requires-clause-small : goal.prune-requires-clause-small
@@ -131,26 +130,26 @@ prune-requires-clause-small c =
     c.get-limit.ensures.item in
     let begun = c.start.ensures.stands π limits (cost_at rows) here c.requires.origins filled.runners in
     let ran = period_run g π limits c.args.question.now.unit.now.valid c.args.place rows
-    (live_at shown c.args.runners.now) filled c.requires.place
-    c.run_all.new.table.items (live_at shown c.start.new.runners) (live_at shown c.run_all.new.runners) begun
+    (live_at c.args.runners.now) filled c.requires.place
+    c.run_all.new.table.items (live_at c.start.new.runners) (live_at c.run_all.new.runners) begun
     c.requires.limits.0 c.requires.limits.1
     c.runs_go_on.ensures (c.is_must_off.ensures.no c.if-is_must_off.false) c.run_all.ensures.goes c.run_all.ensures.off
     in
     let few = c.args.question.now.prices.now.valid.horizon.at_most in
     let place = c.requires.place in
     fewer_small _ _ c.drop_beyond.ensures.fewer
-    (small_of g π limits _ (live_at shown c.run_all.new.runners) (suc c.args.place) (suc (suc c.args.place))
+    (small_of g π limits _ (live_at c.run_all.new.runners) (suc c.args.place) (suc (suc c.args.place))
     (omega (arith, few, place)) (omega (arith, few, place)) ran)
 
 pub drop_beyond-requires-clause-roster : goal.drop_beyond-requires-clause-roster
 drop_beyond-requires-clause-roster c =
-    still_listed (live_at shown c.start.new.runners) (live_at shown c.run_all.new.runners) (suc (suc c.args.place))
+    still_listed (live_at c.start.new.runners) (live_at c.run_all.new.runners) (suc (suc c.args.place))
     (suc (c.args.place + 1)) c.start.new.roster (omega arith)
     c.run_all.ensures.off c.start.ensures.roster
 
 pub prune-requires-clause-roster : goal.prune-requires-clause-roster
 prune-requires-clause-roster c =
-    still_listed (live_at shown c.start.new.runners) (live_at shown c.drop_beyond.new.runners) (suc (suc c.args.place))
+    still_listed (live_at c.start.new.runners) (live_at c.drop_beyond.new.runners) (suc (suc c.args.place))
     (suc (c.args.place + 1)) c.start.new.roster (omega arith)
     (λ f off. fewer_off _ _ c.drop_beyond.ensures.fewer f (c.run_all.ensures.off f off)) c.start.ensures.roster
 
@@ -171,7 +170,7 @@ keep-requires-clause-roster c =
     let e = c.drop_beyond.ensures.kept.count_same in (
       suc (suc c.args.place),
       omega (arith, place, runners, a, b, d, e),
-      still_listed (live_at shown c.start.new.runners) (live_at shown c.prune.new.runners) (suc (suc c.args.place))
+      still_listed (live_at c.start.new.runners) (live_at c.prune.new.runners) (suc (suc c.args.place))
           (suc (suc c.args.place)) c.start.new.roster (omega arith)
           (λ f off. fewer_off _ _ (fewer_then _ _ _ c.drop_beyond.ensures.fewer c.prune.ensures.fewer) f
           (c.run_all.ensures.off f off)) c.start.ensures.roster,
@@ -190,45 +189,45 @@ returns-clause-now c =
     c.get-limit.ensures.item in
     let begun = c.start.ensures.stands π limits (cost_at rows) here c.requires.origins filled.runners in
     let ran = period_run g π limits c.args.question.now.unit.now.valid c.args.place rows
-    (live_at shown c.args.runners.now) filled c.requires.place
-    c.run_all.new.table.items (live_at shown c.start.new.runners) (live_at shown c.run_all.new.runners) begun
+    (live_at c.args.runners.now) filled c.requires.place
+    c.run_all.new.table.items (live_at c.start.new.runners) (live_at c.run_all.new.runners) begun
     c.requires.limits.0 c.requires.limits.1
     c.runs_go_on.ensures (c.is_must_off.ensures.no c.if-is_must_off.false) c.run_all.ensures.goes c.run_all.ensures.off
     in
     let next : suc c.args.place ≡ c.args.place + 1 = omega arith in
     let next_is = limit_at c.args.question.now.limits.now.items (c.args.place + 1) c.get.result.now (search rules)
     c.get.ensures.item in
-    let there = subst (λ (t : ℕ). AreRunners g π limits (cost_at rows) (live_at shown c.run_all.new.runners) t
+    let there = subst (λ (t : ℕ). AreRunners g π limits (cost_at rows) (live_at c.run_all.new.runners) t
     (suc (suc c.args.place))) next ran in
-    let pruned = subst (λ (t : ℕ). AreRunners g π limits (cost_at rows) (live_at shown c.prune.new.runners) t
+    let pruned = subst (λ (t : ℕ). AreRunners g π limits (cost_at rows) (live_at c.prune.new.runners) t
     (suc (suc c.args.place))) (sym next)
     (c.prune.ensures.stands π limits (cost_at rows) (suc (suc c.args.place))
     (c.drop_beyond.ensures.stands g π limits (cost_at rows) (c.args.place + 1) (suc (suc c.args.place)) next_is there))
     in
     let rows' = c.run_all.new.table.items in
     let run = c.run_all.ensures in
-    let kept = kept_then shown count_of room_of _ _ _ c.drop_beyond.ensures.kept c.prune.ensures.kept in
+    let kept = kept_then _ _ _ c.drop_beyond.ensures.kept c.prune.ensures.kept in
     let fewer = fewer_then _ _ _ c.drop_beyond.ensures.fewer c.prune.ensures.fewer in
     let old_left = left_at c.args.runners.now in
     let left = ways_same g π c.args.place (cost_at rows) (first_at rows) old_left (left_at c.start.new.runners)
-    (kept_left shown count_of room_of _ _ c.start.ensures.kept) c.requires.now.ways in
+    (kept_left _ _ c.start.ensures.kept) c.requires.now.ways in
     let ways = ways_more g π c.args.place (suc (suc c.args.place)) (cost_at rows) (cost_at rows') (first_at rows)
     (first_at rows') _ (left_at c.start.new.runners) (left_at c.run_all.new.runners)
-    (live_at shown c.start.new.runners) limits begun (left_live shown c.start.new.runners) run.row run.ends run.left
+    (live_at c.start.new.runners) limits begun (left_live c.start.new.runners) run.row run.ends run.left
     (λ l other. cost-same rows' rows l l (run.others l other))
     (λ l other. first-same rows' rows l l (run.others l other)) left in
     record {
       filled = period_filled g π limits c.args.question.now.unit.now.valid c.args.place rows
-          (live_at shown c.args.runners.now) filled c.requires.place rows'
-          (live_at shown c.start.new.runners) (live_at shown c.run_all.new.runners) begun c.requires.limits.0
+          (live_at c.args.runners.now) filled c.requires.place rows'
+          (live_at c.start.new.runners) (live_at c.run_all.new.runners) begun c.requires.limits.0
           c.requires.limits.1 c.dispatches_go_on.ensures c.dispatches_are_runs.ensures
-          (live_at shown c.prune.new.runners) pruned run.row run.others run.within;
+          (live_at c.prune.new.runners) pruned run.row run.others run.within;
       ways = ways_same g π (suc c.args.place) (cost_at rows') (first_at rows') (left_at c.run_all.new.runners)
-          (left_at c.prune.new.runners) (kept_left shown count_of room_of _ _ kept) ways;
-      roomy = kept_roomy shown count_of room_of _ _ kept (periods_in c.args.question.now) (suc c.args.place)
+          (left_at c.prune.new.runners) (kept_left _ _ kept) ways;
+      roomy = kept_roomy _ _ kept (periods_in c.args.question.now) (suc c.args.place)
           (charge_of c.args.question.now) run.roomy;
       roster_is = c.keep.ensures.roster (suc (suc c.args.place))
-          (still_listed (live_at shown c.start.new.runners) (live_at shown c.prune.new.runners) (suc (suc c.args.place))
+          (still_listed (live_at c.start.new.runners) (live_at c.prune.new.runners) (suc (suc c.args.place))
           (suc (suc c.args.place)) c.start.new.roster (omega arith)
           (λ f off. fewer_off _ _ fewer f (run.off f off)) c.start.ensures.roster);
     }
@@ -238,15 +237,15 @@ returns-clause-others c = c.run_all.ensures.others
 
 pub returns-clause-same : goal.returns-clause-same
 returns-clause-same c =
-    let kept = kept_then shown count_of room_of _ _ _ c.drop_beyond.ensures.kept c.prune.ensures.kept in
+    let kept = kept_then _ _ _ c.drop_beyond.ensures.kept c.prune.ensures.kept in
     record {
       rows_length = c.run_all.ensures.rows_length;
       count_same = kept.count_same ∙ c.run_all.ensures.count_same ∙ c.start.ensures.kept.count_same;
       firsts_same = c.keep.ensures.length ∙ c.start.ensures.list;
       keeps = λ most periods have.
-          kept_room shown count_of room_of _ _ kept most periods
+          kept_room _ _ kept most periods
           (c.run_all.ensures.keeps most periods
-          (kept_room shown count_of room_of _ _ c.start.ensures.kept most periods have));
+          (kept_room _ _ c.start.ensures.kept most periods have));
     }
 
 -- ---- places and lengths

@@ -1,4 +1,3 @@
-use Rattle.slope_list.specs.Slopes.{shown, count_of, room_of}
 use Rattle.unit_table.proofs.Common.{live_at, ◌∙◌, arith, FitsSigned, w64, rules, sym, to_z-of_z}
 use Rattle.unit_table.proofs.Lemmas.{fewer_none, fewer_then, fewer_small, kept_none, kept_then}
 use Rattle.unit_table.proofs.runner.drop_beyond.Goals as goal
@@ -14,7 +13,7 @@ drop_at-requires-clause-end c =
 pub loop-place-preserved : goal.loop-place-preserved
 loop-place-preserved c = record {
   fewer = fewer_then _ _ _ c.loop-place.invariant.fewer c.drop_at.ensures.fewer;
-  kept = kept_then shown count_of room_of _ _ _ c.loop-place.invariant.kept c.drop_at.ensures.kept;
+  kept = kept_then _ _ _ c.loop-place.invariant.kept c.drop_at.ensures.kept;
   stands = λ u π limits ends t n here now. c.drop_at.ensures.stands u π limits ends t n here
       (c.loop-place.invariant.stands u π limits ends t n here now);
 }
@@ -27,8 +26,8 @@ get-requires c =
 
 pub loop-place-init : goal.loop-place-init
 loop-place-init c = record {
-  fewer = fewer_none (live_at shown c.args.runners.now);
-  kept = kept_none shown count_of room_of c.args.runners.now;
+  fewer = fewer_none (live_at c.args.runners.now);
+  kept = kept_none c.args.runners.now;
   stands = λ u π limits ends t n here now. now;
 }
 

@@ -1,12 +1,11 @@
-use Rattle.slope_list.specs.Slopes.{shown, count_of, room_of}
 use Rattle.unit_table.proofs.Common.{◌≡◌, ℕ, ℤ, Option, ThermalUnit, PriceLists, live_at, AreFewer, AreKept, AreRunners}
 use Rattle.unit_table.proofs.runner.drop_beyond.Given as goal
 
 abbrev pub invariant-loop-place : goal.invariant-loop-place
 invariant-loop-place l = record {
   stands : (u : ThermalUnit) (π : PriceLists) (limits : ℕ → ℤ) (ends : ℕ → Option ℤ) (t n : ℕ) → limits t ≡ l.limit →
-      AreRunners u π limits ends (live_at shown l.fn.runners) t n →
-      AreRunners u π limits ends (live_at shown l.runners) t n;
-  fewer : AreFewer (live_at shown l.fn.runners) (live_at shown l.runners);
-  kept : AreKept count_of room_of l.fn.runners l.runners;
+      AreRunners u π limits ends (live_at l.fn.runners) t n →
+      AreRunners u π limits ends (live_at l.runners) t n;
+  fewer : AreFewer (live_at l.fn.runners) (live_at l.runners);
+  kept : AreKept l.fn.runners l.runners;
 }

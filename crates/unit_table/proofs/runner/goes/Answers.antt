@@ -1,4 +1,4 @@
-use Rattle.slope_list.specs.Slopes.{shown}
+use Rattle.unit_table.proofs.Common.{shown}
 use Rattle.unit_table.proofs.Common.{rules, ◌≡◌, ◌-ℤ◌, ◌∙◌, to_z, of_z, FitsSigned, w64, OnTrue_at, OnTrue_from}
 use Rattle.unit_table.proofs.Common.{to_z-of_z, IsBelow}
 use Rattle.unit_table.proofs.Lemmas.{below_of}

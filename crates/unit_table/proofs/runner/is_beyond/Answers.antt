@@ -1,4 +1,4 @@
-use Rattle.slope_list.specs.Slopes.{shown}
+use Rattle.unit_table.proofs.Common.{shown}
 use Rattle.unit_table.proofs.Common.{arith, rules, ℤ, ◌+ℤ◌, FitsSigned, ◌<ℤ◌, ◌≡◌, Some, w64, OnTrue_at, OnTrue_from}
 use Rattle.unit_table.proofs.Common.{ints, to_z-of_z, IsBeyond, value_of}
 use Rattle.unit_table.proofs.Lemmas.{beyond_of}

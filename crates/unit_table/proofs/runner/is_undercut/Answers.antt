@@ -1,4 +1,3 @@
-use Rattle.slope_list.specs.Slopes.{shown}
 use Rattle.unit_table.proofs.Common.{rules, ◌≡◌, Some, FitsSigned, w64, to_z-of_z, live_at, IsUnder, Going, arith}
 use Rattle.unit_table.proofs.runner.is_undercut.Goals as goal
 
@@ -6,7 +5,7 @@ pub returns-then-undercuts_from : goal.returns-then-undercuts_from
 returns-then-undercuts_from c =
     let fits_power : FitsSigned w64 c.args.power = search rules in
     let fits_cost : FitsSigned w64 c.args.cost = search rules in
-    let found : (r : Going) × (live_at shown c.args.runners.now c.get.result.now ≡ Some r) × IsUnder c.args.power
+    let found : (r : Going) × (live_at c.args.runners.now c.get.result.now ≡ Some r) × IsUnder c.args.power
     c.args.cost r = simp to_z-of_z at c.if-undercuts_from.ensures in
     (c.get.result.now, found.0, found.1, found.2)
 

@@ -1,4 +1,3 @@
-use Rattle.slope_list.specs.Slopes.{shown, count_of, room_of}
 use Rattle.unit_table.proofs.Common.{◌≡◌, ◌+◌, ◌-◌, ◌<◌, ◌≤◌, ℕ, Some, arith, slice_get, live_at, Going}
 use Rattle.unit_table.proofs.Lemmas.{if_some_more, fewer_none, fewer_then, fewer_small, kept_none, kept_then}
 use Rattle.unit_table.proofs.runner.prune.Goals as goal
@@ -11,11 +10,11 @@ loop-back-preserved c =
     let first = c.get-first.result.now in
     record {
       fewer = fewer_then _ _ _ c.loop-back.invariant.fewer c.prune_one-late.ensures.fewer;
-      kept = kept_then shown count_of room_of _ _ _ c.loop-back.invariant.kept c.prune_one-late.ensures.kept;
+      kept = kept_then _ _ _ c.loop-back.invariant.kept c.prune_one-late.ensures.kept;
       late = if_some_more (λ l. (first ≤ l) × (l ≤ c.args.period) ×
-          ((r : Going) × (live_at shown c.prune_one-late.new.runners l ≡ Some r)))
+          ((r : Going) × (live_at c.prune_one-late.new.runners l ≡ Some r)))
           (λ l. ((j h : ℕ) → j + (c.loop-back.back + 1) < roster.count → slice_get roster.firsts.items j ≡ Some h →
-          h < l) × (l ≤ c.args.period) × ((r : Going) × (live_at shown c.prune_one-late.new.runners l ≡ Some r)))
+          h < l) × (l ≤ c.args.period) × ((r : Going) × (live_at c.prune_one-late.new.runners l ≡ Some r)))
           (λ l h. (
             (λ j f before is. (let from = h.0 in let earlier = list.rising j (roster.count - c.loop-back.back - 1) f
                 first (omega (arith, before)) (omega (arith, low)) is c.get-first.ensures.item in omega
@@ -35,8 +34,8 @@ get-first-requires c =
 
 pub loop-back-init : goal.loop-back-init
 loop-back-init c = record {
-  fewer = fewer_none (live_at shown c.args.runners.now);
-  kept = kept_none shown count_of room_of c.args.runners.now;
+  fewer = fewer_none (live_at c.args.runners.now);
+  kept = kept_none c.args.runners.now;
   late = tt;
   stands = λ π limits ends n now. now;
 }
@@ -60,8 +59,8 @@ prune_one-late-requires-clause-late c =
     let roster = c.args.roster.now in
     let first = c.get-first.result.now in
     if_some_more (λ l. ((j h : ℕ) → j + c.loop-back.back < roster.count → slice_get roster.firsts.items j ≡ Some h →
-    h < l) × (l ≤ c.args.period) × ((r : Going) × (live_at shown c.loop-back.runners l ≡ Some r)))
-    (λ l. (first < l) × (l ≤ c.args.period) × ((r : Going) × (live_at shown c.loop-back.runners l ≡ Some r)))
+    h < l) × (l ≤ c.args.period) × ((r : Going) × (live_at c.loop-back.runners l ≡ Some r)))
+    (λ l. (first < l) × (l ≤ c.args.period) × ((r : Going) × (live_at c.loop-back.runners l ≡ Some r)))
     (λ l h. (h.0 (roster.count - c.loop-back.back - 1) first (omega (arith, low)) c.get-first.ensures.item, h.1, h.2))
     c.loop-back.late c.loop-back.invariant.late
 

@@ -1,4 +1,3 @@
-use Rattle.slope_list.specs.Slopes.{shown, count_of, room_of}
 use Rattle.unit_table.proofs.Common.{◌≡◌, ℕ, ◌+◌, ◌<◌, ◌≤◌, ℤ, Option, Some, IfSome, slice_get, PriceLists, thermal_of}
 use Rattle.unit_table.proofs.Common.{live_at, AreFewer, AreKept, Going, AreRunners}
 use Rattle.unit_table.proofs.runner.prune.Given as goal
@@ -7,10 +6,10 @@ abbrev pub invariant-loop-back : goal.invariant-loop-back
 invariant-loop-back l = record {
   late : IfSome l.late
       (λ f. ((j h : ℕ) → j + l.back < l.roster.count → slice_get l.roster.firsts.items j ≡ Some h →
-      h < f) × (f ≤ l.period) × ((r : Going) × (live_at shown l.runners f ≡ Some r)));
+      h < f) × (f ≤ l.period) × ((r : Going) × (live_at l.runners f ≡ Some r)));
   stands : (π : PriceLists) (limits : ℕ → ℤ) (ends : ℕ → Option ℤ) (n : ℕ) →
-      AreRunners (thermal_of l.unit) π limits ends (live_at shown l.fn.runners) l.period n →
-      AreRunners (thermal_of l.unit) π limits ends (live_at shown l.runners) l.period n;
-  fewer : AreFewer (live_at shown l.fn.runners) (live_at shown l.runners);
-  kept : AreKept count_of room_of l.fn.runners l.runners;
+      AreRunners (thermal_of l.unit) π limits ends (live_at l.fn.runners) l.period n →
+      AreRunners (thermal_of l.unit) π limits ends (live_at l.runners) l.period n;
+  fewer : AreFewer (live_at l.fn.runners) (live_at l.runners);
+  kept : AreKept l.fn.runners l.runners;
 }

@@ -1,4 +1,3 @@
-use Rattle.slope_list.specs.Slopes.{shown, count_of, room_of}
 use Rattle.unit_table.proofs.Common.{◌≡◌, ◌<◌, ◌≤◌, true, Some, length, refl, ◌∙◌, arith, OnTrue_at, thermal_of}
 use Rattle.unit_table.proofs.Common.{live_at, Going, scaled_Fits, rules}
 use Rattle.unit_table.proofs.Lemmas.{if_some, live_here, live_other, going_off, item_at, item_same, item_live}
@@ -9,15 +8,15 @@ use Rattle.unit_table.proofs.runner.prune_one.Goals as goal
 pub goes-requires-clause-late : goal.goes-requires-clause-late
 goes-requires-clause-late c =
     let h = if_some (λ l. (c.args.early < l) × (l ≤ c.args.period) ×
-    ((r : Going) × (live_at shown c.args.runners.now l ≡ Some r))) c.args.late c.in-Some.first c.in-Some.is
+    ((r : Going) × (live_at c.args.runners.now l ≡ Some r))) c.args.late c.in-Some.first c.in-Some.is
     c.requires.late in
     let until = h.1 in
     let end = c.requires.end in
     let low : c.in-Some.first < length c.args.runners.now = omega (arith, until, end) in
     let x = c.index-runners-first.result in
-    let on = read_on shown c.args.runners.now c.in-Some.first low x c.index-runners-first.is h.2.0 h.2.1 in
+    let on = read_on c.args.runners.now c.in-Some.first low x c.index-runners-first.is h.2.0 h.2.1 in
     (c.requires.small c.in-Some.first _
-    (read_live shown c.args.runners.now c.in-Some.first low x c.index-runners-first.is on)).cost
+    (read_live c.args.runners.now c.in-Some.first low x c.index-runners-first.is on)).cost
 
 pub goes-requires-clause-early : goal.goes-requires-clause-early
 goes-requires-clause-early c =
@@ -26,15 +25,15 @@ goes-requires-clause-early c =
     let low : c.args.early < length c.args.runners.now = omega (arith, under, end) in
     let x = c.index-runners-early-in-Some.result in
     let on = on_of x _ c.index-runners-early-in-Some.is
-    (item_same shown c.args.runners.now c.args.early low c.index-runners-early.result x true
+    (item_same c.args.runners.now c.args.early low c.index-runners-early.result x true
     c.if-not-runners-early.false) in
     (c.requires.small c.args.early _
-    (read_live shown c.args.runners.now c.args.early low x c.index-runners-early-in-Some.is on)).cost
+    (read_live c.args.runners.now c.args.early low x c.index-runners-early-in-Some.is on)).cost
 
 pub returns-then-goes-clause-late : goal.returns-then-goes-clause-late
 returns-then-goes-clause-late c =
     let h = if_some (λ l. (c.args.early < l) × (l ≤ c.args.period) ×
-    ((r : Going) × (live_at shown c.args.runners.now l ≡ Some r))) c.args.late c.in-Some.first c.in-Some.is
+    ((r : Going) × (live_at c.args.runners.now l ≡ Some r))) c.args.late c.in-Some.first c.in-Some.is
     c.requires.late in
     let above = h.0 in
     let end = c.requires.end in
@@ -44,7 +43,7 @@ returns-then-goes-clause-late c =
       h.1,
       (
         h.2.0,
-        live_other shown c.args.runners.now _ c.args.early c.stop.new.runner low refl c.in-Some.first
+        live_other c.args.runners.now _ c.args.early c.stop.new.runner low refl c.in-Some.first
             (λ z. omega (arith, z, above)) ∙ h.2.1,
       ),
     )
@@ -52,7 +51,7 @@ returns-then-goes-clause-late c =
 pub returns-then-goes-clause-stands : goal.returns-then-goes-clause-stands
 returns-then-goes-clause-stands c = λ π limits ends n now.
     let h = if_some (λ l. (c.args.early < l) × (l ≤ c.args.period) ×
-    ((r : Going) × (live_at shown c.args.runners.now l ≡ Some r))) c.args.late c.in-Some.first c.in-Some.is
+    ((r : Going) × (live_at c.args.runners.now l ≡ Some r))) c.args.late c.in-Some.first c.in-Some.is
     c.requires.late in
     let above = h.0 in
     let until = h.1 in
@@ -63,17 +62,17 @@ returns-then-goes-clause-stands c = λ π limits ends n now.
     let x = c.index-runners-early-in-Some.result in
     let y = c.index-runners-first.result in
     let on = on_of x _ c.index-runners-early-in-Some.is
-    (item_same shown c.args.runners.now c.args.early low c.index-runners-early.result x true
+    (item_same c.args.runners.now c.args.early low c.index-runners-early.result x true
     c.if-not-runners-early.false) in
-    let on_late = read_on shown c.args.runners.now c.in-Some.first low_late y c.index-runners-first.is h.2.0 h.2.1 in
-    early_goes (thermal_of c.args.unit.now) π limits ends c.args.period (live_at shown c.args.runners.now) _ n
+    let on_late = read_on c.args.runners.now c.in-Some.first low_late y c.index-runners-first.is h.2.0 h.2.1 in
+    early_goes (thermal_of c.args.unit.now) π limits ends c.args.period (live_at c.args.runners.now) _ n
     c.args.early c.in-Some.first _ _ now
-    (read_live shown c.args.runners.now c.args.early low x c.index-runners-early-in-Some.is on)
-    (read_live shown c.args.runners.now c.in-Some.first low_late y c.index-runners-first.is on_late)
+    (read_live c.args.runners.now c.args.early low x c.index-runners-early-in-Some.is on)
+    (read_live c.args.runners.now c.in-Some.first low_late y c.index-runners-first.is on_late)
     above until (OnTrue_at c.if-goes.true c.goes.ensures.long) (OnTrue_at c.if-goes.true c.goes.ensures.below)
-    (live_here shown c.args.runners.now _ c.args.early c.stop.new.runner low refl ∙
-    going_off shown c.stop.new.runner c.stop.ensures.off)
-    (λ f other. live_other shown c.args.runners.now _ c.args.early c.stop.new.runner low refl f other)
+    (live_here c.args.runners.now _ c.args.early c.stop.new.runner low refl ∙
+    going_off c.stop.new.runner c.stop.ensures.off)
+    (λ f other. live_other c.args.runners.now _ c.args.early c.stop.new.runner low refl f other)
 
 pub returns-else-goes-clause-late : goal.returns-else-goes-clause-late
 returns-else-goes-clause-late c =
@@ -84,7 +83,7 @@ returns-else-goes-clause-late c =
       c.requires.early,
       (
         _,
-        item_live shown c.args.runners.now c.args.early low c.index-runners-early.result
+        item_live c.args.runners.now c.args.early low c.index-runners-early.result
             c.if-not-runners-early.false,
       ),
     )
@@ -98,7 +97,7 @@ returns-in_default-clause-late c =
       c.requires.early,
       (
         _,
-        item_live shown c.args.runners.now c.args.early low c.index-runners-early.result
+        item_live c.args.runners.now c.args.early low c.index-runners-early.result
             c.if-not-runners-early.false,
       ),
     )
@@ -112,7 +111,7 @@ offset_bounds-runners-early c =
 pub offset_bounds-runners-first : goal.offset_bounds-runners-first
 offset_bounds-runners-first c =
     let h = if_some (λ l. (c.args.early < l) × (l ≤ c.args.period) ×
-    ((r : Going) × (live_at shown c.args.runners.now l ≡ Some r))) c.args.late c.in-Some.first c.in-Some.is
+    ((r : Going) × (live_at c.args.runners.now l ≡ Some r))) c.args.late c.in-Some.first c.in-Some.is
     c.requires.late in
     let until = h.1 in
     let end = c.requires.end in
@@ -135,31 +134,31 @@ returns-then-goes-clause-fewer c =
     let end = c.requires.end in
     let under = c.requires.early in
     let low : c.args.early < length c.args.runners.now = omega (arith, under, end) in
-    fewer_stopped shown c.args.runners.now _ c.args.early c.stop.new.runner low refl c.stop.ensures.off
+    fewer_stopped c.args.runners.now _ c.args.early c.stop.new.runner low refl c.stop.ensures.off
 
 pub returns-then-goes-clause-kept : goal.returns-then-goes-clause-kept
 returns-then-goes-clause-kept c =
     let end = c.requires.end in
     let under = c.requires.early in
     let low : c.args.early < length c.args.runners.now = omega (arith, under, end) in
-    kept_written shown count_of room_of c.args.runners.now _ c.args.early c.stop.new.runner _ low refl
-    (item_at shown c.args.runners.now c.args.early low _)
-    (stopped_one shown count_of room_of _ _ c.stop.ensures.off c.stop.ensures.running c.stop.ensures.passed)
+    kept_written c.args.runners.now _ c.args.early c.stop.new.runner _ low refl
+    (item_at c.args.runners.now c.args.early low _)
+    (stopped_one _ _ c.stop.ensures.off c.stop.ensures.running c.stop.ensures.passed)
 
 pub returns-then-not-runners-early-clause-fewer : goal.returns-then-not-runners-early-clause-fewer
-returns-then-not-runners-early-clause-fewer c = fewer_none (live_at shown c.args.runners.now)
+returns-then-not-runners-early-clause-fewer c = fewer_none (live_at c.args.runners.now)
 
 pub returns-then-not-runners-early-clause-kept : goal.returns-then-not-runners-early-clause-kept
-returns-then-not-runners-early-clause-kept c = kept_none shown count_of room_of c.args.runners.now
+returns-then-not-runners-early-clause-kept c = kept_none c.args.runners.now
 
 pub returns-else-goes-clause-fewer : goal.returns-else-goes-clause-fewer
-returns-else-goes-clause-fewer c = fewer_none (live_at shown c.args.runners.now)
+returns-else-goes-clause-fewer c = fewer_none (live_at c.args.runners.now)
 
 pub returns-else-goes-clause-kept : goal.returns-else-goes-clause-kept
-returns-else-goes-clause-kept c = kept_none shown count_of room_of c.args.runners.now
+returns-else-goes-clause-kept c = kept_none c.args.runners.now
 
 pub returns-in_default-clause-fewer : goal.returns-in_default-clause-fewer
-returns-in_default-clause-fewer c = fewer_none (live_at shown c.args.runners.now)
+returns-in_default-clause-fewer c = fewer_none (live_at c.args.runners.now)
 
 pub returns-in_default-clause-kept : goal.returns-in_default-clause-kept
-returns-in_default-clause-kept c = kept_none shown count_of room_of c.args.runners.now
+returns-in_default-clause-kept c = kept_none c.args.runners.now

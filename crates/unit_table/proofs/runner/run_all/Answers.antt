@@ -1,4 +1,3 @@
-use Rattle.slope_list.specs.Slopes.{shown, count_of, room_of}
 use Rattle.unit_table.proofs.Common.{suc, sym, ap, ◌∙◌, arith, going_of, unit_of, prices_in, charge_of}
 use Rattle.unit_table.proofs.Lemmas.{none_run, run_before, one_run, run_whole, run_begins, run_over, may_next}
 use Rattle.unit_table.proofs.runner.run_all.Goals as goal
@@ -8,21 +7,21 @@ loop-index-init c =
     let g = unit_of c.args.question.now in
     let π = prices_in c.args.question.now in
     let charge = charge_of c.args.question.now in
-    none_run shown count_of room_of g π c.args.place charge c.args.table.now.items c.args.runners.now c.args.roster.now
+    none_run g π c.args.place charge c.args.table.now.items c.args.runners.now c.args.roster.now
     (suc (suc c.args.place))
-    (run_begins shown count_of room_of g π c.args.place charge c.args.table.now.items c.args.runners.now
+    (run_begins g π c.args.place charge c.args.table.now.items c.args.runners.now
     c.requires.within c.requires.none)
 
 pub run_at-requires-clause-ready : goal.run_at-requires-clause-ready
 run_at-requires-clause-ready c = λ r is.
     let first = c.get-first.result.now in
-    let run = run_before shown count_of room_of (unit_of c.args.question.now) (prices_in c.args.question.now)
+    let run = run_before (unit_of c.args.question.now) (prices_in c.args.question.now)
     c.args.place (charge_of c.args.question.now)
     c.args.table.now.items c.args.runners.now c.requires.room c.args.roster.now (suc (suc c.args.place))
     c.requires.roster
     c.loop-index.index c.loop-index.table.items c.loop-index.runners c.loop-index.invariant c.loop-index-test.true first
     c.get-first.ensures.item in
-    let same = ap (going_of shown) (run.rest first (omega arith)) in
+    let same = ap going_of (run.rest first (omega arith)) in
     let runner = c.requires.now.1.right first r (sym same ∙ is) in
     let low = runner.0 in
     record {
@@ -35,7 +34,7 @@ run_at-requires-clause-ready c = λ r is.
 pub run_at-requires-clause-room : goal.run_at-requires-clause-room
 run_at-requires-clause-room c = λ r is.
     let first = c.get-first.result.now in
-    let run = run_before shown count_of room_of (unit_of c.args.question.now) (prices_in c.args.question.now)
+    let run = run_before (unit_of c.args.question.now) (prices_in c.args.question.now)
     c.args.place (charge_of c.args.question.now)
     c.args.table.now.items c.args.runners.now c.requires.room c.args.roster.now (suc (suc c.args.place))
     c.requires.roster
@@ -45,7 +44,7 @@ run_at-requires-clause-room c = λ r is.
 
 pub loop-index-preserved : goal.loop-index-preserved
 loop-index-preserved c =
-    one_run shown count_of room_of (unit_of c.args.question.now) (prices_in c.args.question.now) c.args.place
+    one_run (unit_of c.args.question.now) (prices_in c.args.question.now) c.args.place
     (charge_of c.args.question.now)
     c.args.table.now.items c.args.runners.now c.requires.room c.args.roster.now (suc (suc c.args.place))
     c.requires.roster
@@ -60,8 +59,8 @@ returns c =
     let charge = charge_of c.args.question.now in
     let rows = c.args.table.now.items in
     let runners = c.args.runners.now in
-    run_over shown count_of room_of g π c.args.place charge rows runners c.loop-index.table.items c.loop-index.runners
-    (run_whole shown count_of room_of g π c.args.place charge rows runners c.requires.room c.args.roster.now
+    run_over g π c.args.place charge rows runners c.loop-index.table.items c.loop-index.runners
+    (run_whole g π c.args.place charge rows runners c.requires.room c.args.roster.now
     (suc (suc c.args.place)) c.requires.roster
     c.loop-index.index c.loop-index.table.items c.loop-index.runners c.loop-index.invariant c.loop-index-test.false)
     (λ f r is. (c.requires.now.1.right f r is).0) c.requires.room

@@ -1,31 +1,30 @@
-use Rattle.slope_list.specs.Slopes.{shown, count_of, room_of}
 use Rattle.unit_table.proofs.Common.{true, scaled_Fits, rules, length, unit_of, prices_in, charge_of}
 use Rattle.unit_table.proofs.Lemmas.{item_at, item_same, item_off, run_written, run_skipped}
 use Rattle.unit_table.proofs.runner.run_at.Goals as goal
 
 pub take_runner-requires-clause-on : goal.take_runner-requires-clause-on
 take_runner-requires-clause-on c =
-    item_same shown c.args.runners.now c.args.first c.requires.runners c.index-runners-first.result _ true
+    item_same c.args.runners.now c.args.first c.requires.runners c.index-runners-first.result _ true
     c.if-runners-first.true
 
 pub take_runner-requires-clause-ready : goal.take_runner-requires-clause-ready
 take_runner-requires-clause-ready c = λ r is.
-    let at = item_at shown c.args.runners.now c.args.first c.requires.runners
+    let at = item_at c.args.runners.now c.args.first c.requires.runners
     c.index-runners-first-then-runners-first.result in
     c.requires.ready r (cc)
 
 pub take_runner-requires-clause-room : goal.take_runner-requires-clause-room
 take_runner-requires-clause-room c =
-    c.requires.room _ (item_at shown c.args.runners.now c.args.first c.requires.runners
+    c.requires.room _ (item_at c.args.runners.now c.args.first c.requires.runners
     c.index-runners-first-then-runners-first.result)
 
 pub returns-then-runners-first : goal.returns-then-runners-first
 returns-then-runners-first c =
     let d = c.index-runners-first-then-runners-first.result in
-    let on = item_same shown c.args.runners.now c.args.first c.requires.runners c.index-runners-first.result d true
+    let on = item_same c.args.runners.now c.args.first c.requires.runners c.index-runners-first.result d true
     c.if-runners-first.true in
     let taken = c.take_runner.ensures in
-    run_written shown c.args.runners.now c.args.first c.requires.runners count_of room_of (unit_of c.args.question.now)
+    run_written c.args.runners.now c.args.first c.requires.runners (unit_of c.args.question.now)
     (prices_in c.args.question.now)
     c.args.place (charge_of c.args.question.now) c.args.table.now.items c.take_runner.new.table.items d
     c.take_runner.new.runner on
@@ -33,10 +32,10 @@ returns-then-runners-first c =
 
 pub returns-else-runners-first : goal.returns-else-runners-first
 returns-else-runners-first c =
-    run_skipped shown c.args.runners.now c.args.first c.requires.runners count_of room_of (unit_of c.args.question.now)
+    run_skipped c.args.runners.now c.args.first c.requires.runners (unit_of c.args.question.now)
     (prices_in c.args.question.now)
     c.args.place (charge_of c.args.question.now) c.args.table.now.items c.args.table.now.items
-    (item_off shown c.args.runners.now c.args.first c.requires.runners c.index-runners-first.result
+    (item_off c.args.runners.now c.args.first c.requires.runners c.index-runners-first.result
     c.if-runners-first.false) c.requires.within c.requires.room
 
 pub offset_bounds-runners-first : goal.offset_bounds-runners-first

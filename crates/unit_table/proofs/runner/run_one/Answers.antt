@@ -1,4 +1,4 @@
-use Rattle.slope_list.specs.Slopes.{shown}
+use Rattle.unit_table.proofs.Common.{shown}
 use Rattle.unit_table.proofs.Common.{◌≡◌, ℕ, suc, ◌+◌, ◌<◌, ◌≤◌, subst, arith, unit_of, periods_in, on_time}
 use Rattle.unit_table.proofs.Lemmas.{always}
 use Rattle.unit_table.proofs.runner.run_one.Goals as goal

@@ -1,26 +1,25 @@
-use Rattle.slope_list.specs.Slopes.{shown, count_of, room_of}
 use Rattle.unit_table.proofs.Common.{refl, arith, scaled_Fits, rules, length}
 use Rattle.unit_table.proofs.Lemmas.{none_stopped, stopped_more, stopped_off, item_at}
 use Rattle.unit_table.proofs.runner.stop_all.Goals as goal
 
 pub loop-place-init : goal.loop-place-init
-loop-place-init c = none_stopped shown count_of room_of c.args.runners.now
+loop-place-init c = none_stopped c.args.runners.now
 
 pub loop-place-preserved : goal.loop-place-preserved
 loop-place-preserved c =
     let low = c.loop-place-test.true in
     let same = c.loop-place.invariant.kept.count_same in
-    stopped_more shown count_of room_of c.args.runners.now c.loop-place.runners c.loop-place.place
+    stopped_more c.args.runners.now c.loop-place.runners c.loop-place.place
     c.loop-place.invariant
     _ c.stop.new.runner _ (omega (arith, low, same))
-    (item_at shown c.loop-place.runners c.loop-place.place (omega (arith, low, same)) c.index-runners-place.result)
+    (item_at c.loop-place.runners c.loop-place.place (omega (arith, low, same)) c.index-runners-place.result)
     c.stop.ensures.off c.stop.ensures.running c.stop.ensures.passed refl
 
 pub returns-clause-off : goal.returns-clause-off
 returns-clause-off c =
     let end = c.loop-place-test.false in
     let same = c.loop-place.invariant.kept.count_same in
-    stopped_off shown count_of room_of c.args.runners.now c.loop-place.runners c.loop-place.place c.loop-place.invariant
+    stopped_off c.args.runners.now c.loop-place.runners c.loop-place.place c.loop-place.invariant
     (omega (arith, end, same))
 
 pub offset_bounds-runners-place : goal.offset_bounds-runners-place

@@ -1,4 +1,4 @@
-use Rattle.slope_list.specs.Slopes.{shown, count_of, room_of}
+use Rattle.unit_table.proofs.Common.{shown, count_of, room_of}
 use Rattle.unit_table.proofs.Common.{rules, ◌≡◌, ℕ, suc, ◌+◌, ◌-◌, ◌*◌, ◌<◌, ◌≤◌, ◌+ℤ◌, ℤ, inl, inr, Some, length, sym}
 use Rattle.unit_table.proofs.Common.{ap, ◌∙◌, subst, arith, to_z, of_z, FitsSigned, IfSome, w64, to_z-of_z, unit_of}
 use Rattle.unit_table.proofs.Common.{prices_in, periods_in, charge_of, going_of, Going, IsGoneOn, Lowest, passed_at}
@@ -8,7 +8,7 @@ use Rattle.unit_table.proofs.runner.take_runner.Goals as goal
 
 pub returns-clause-more : goal.returns-clause-more
 returns-clause-more c =
-    let ready = c.requires.ready _ (going_on shown c.args.runner.now c.requires.on) in
+    let ready = c.requires.ready _ (going_on c.args.runner.now c.requires.on) in
     let fits : FitsSigned w64 c.args.runner.now.cost = search rules in
     let cost : to_z w64 (of_z w64 c.args.runner.now.cost) ≡ c.args.runner.now.cost = to_z-of_z w64 _ fits in
     let next : c.args.place + 1 ≡ suc c.args.place = omega arith in
@@ -30,7 +30,7 @@ returns-clause-more c =
             function = shown c.args.runner.now.running;
             left = passed_at c.args.runner.now.passed.items;
           })
-          (is ∙ going_on shown c.args.runner.now c.requires.on)
+          (is ∙ going_on c.args.runner.now c.requires.on)
           c.requires.place ready.order ready.may c.cost_of.result (rw c.cost_of.ensures c.run_one-passed.ensures.answer)
           (end_some c.run_one-passed.result.end c.cost_of.result
           (λ _. suc c.args.place < periods_in c.args.question.now →
@@ -73,7 +73,7 @@ returns-clause-goes c = λ r is.
     let unit = unit_of c.args.question.now in
     let prices = prices_in c.args.question.now in
     let same = ap (λ l. passed_at l.items c.args.place) c.retire.ensures.passed ∙ c.leave_at.ensures.here in
-    let ran = going_on shown
+    let ran = going_on
     (record {
       is_on = c.args.runner.now.is_on;
       cost = c.args.runner.now.cost;
@@ -88,14 +88,14 @@ returns-clause-goes c = λ r is.
       function = shown c.run_one-passed.new.running;
       left = passed_at l.items;
     })) c.retire.ensures.passed in
-    let at = going_on shown c.args.runner.now c.requires.on in
+    let at = going_on c.args.runner.now c.requires.on in
     let here : record {
       before = c.args.runner.now.before;
       cost = c.args.runner.now.cost;
       function = shown c.args.runner.now.running;
       left = passed_at c.args.runner.now.passed.items;
     } ≡ r = (cc) in
-    subst (λ (r : Going). IsGoneOn unit prices c.args.place c.args.first r (going_of shown (Some c.retire.new.runner)))
+    subst (λ (r : Going). IsGoneOn unit prices c.args.place c.args.first r (going_of (Some c.retire.new.runner)))
     here (record {
       function = shown c.run_one-passed.new.running;
       left = passed_at c.retire.new.runner.passed.items;
@@ -129,21 +129,21 @@ put_end-requires-clause-room c =
 
 pub put_end-requires-clause-order : goal.put_end-requires-clause-order
 put_end-requires-clause-order c =
-    let order = (c.requires.ready _ (going_on shown c.args.runner.now c.requires.on)).order in
+    let order = (c.requires.ready _ (going_on c.args.runner.now c.requires.on)).order in
     omega (arith, order)
 
 pub put_end-requires-clause-bound : goal.put_end-requires-clause-bound
 put_end-requires-clause-bound c =
     let fits : FitsSigned w64 c.args.runner.now.cost = search rules in
     subst (IsWithinTimes (2 * c.args.first + 1)) (sym (to_z-of_z w64 _ fits))
-    (c.requires.ready _ (going_on shown c.args.runner.now c.requires.on)).within
+    (c.requires.ready _ (going_on c.args.runner.now c.requires.on)).within
 
 pub run_one-passed-requires-clause-order : goal.run_one-passed-requires-clause-order
-run_one-passed-requires-clause-order c = (c.requires.ready _ (going_on shown c.args.runner.now c.requires.on)).order
+run_one-passed-requires-clause-order c = (c.requires.ready _ (going_on c.args.runner.now c.requires.on)).order
 
 pub run_one-passed-requires-clause-frontier : goal.run_one-passed-requires-clause-frontier
 run_one-passed-requires-clause-frontier c =
-    (c.requires.ready _ (going_on shown c.args.runner.now c.requires.on)).frontier
+    (c.requires.ready _ (going_on c.args.runner.now c.requires.on)).frontier
 
 pub returns-clause-same : goal.returns-clause-same
 returns-clause-same c = (

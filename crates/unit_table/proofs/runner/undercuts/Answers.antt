@@ -1,4 +1,4 @@
-use Rattle.slope_list.specs.Slopes.{shown}
+use Rattle.unit_table.proofs.Common.{shown}
 use Rattle.unit_table.proofs.Common.{rules, ◌≡◌, pos, ◌+ℤ◌, ◌≤ℤ◌, Some, to_z, of_z, FitsSigned, w64, OnTrue_from}
 use Rattle.unit_table.proofs.Common.{to_z-of_z, value_of, passed_at, IsUnder, IsWithinTimes}
 use Rattle.unit_table.proofs.Lemmas.{under_of}

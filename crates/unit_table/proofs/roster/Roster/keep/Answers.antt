@@ -1,4 +1,3 @@
-use Rattle.slope_list.specs.Slopes.{shown}
 use Rattle.unit_table.proofs.Common.{◌≡◌, ℕ, ◌<◌, false, List, length, refl, ap, ◌∙◌, arith, length-set, live_at}
 use Rattle.unit_table.proofs.Lemmas.{none_kept, one_kept, one_off, all_kept, first_inside, item_same, item_off}
 use Rattle.unit_table.proofs.roster.Roster.keep.Goals as goal
@@ -6,7 +5,7 @@ use Rattle.unit_table.proofs.roster.Roster.keep.Goals.{then-runners-first, else-
 
 pub loop-place-init : goal.loop-place-init
 loop-place-init c = record {
-  kept = λ until list. none_kept (live_at shown c.args.runners.now) until c.args.self.now list;
+  kept = λ until list. none_kept (live_at c.args.runners.now) until c.args.self.now list;
   low = omega arith;
   same_length = refl;
   count_same = refl;
@@ -25,7 +24,7 @@ bounds-runners-first c =
     let list = c.requires.roster in
     let low = c.loop-place-test.true in
     let count_same = c.loop-place.invariant.count_same in
-    let below = first_inside (live_at shown c.args.runners.now) list.0 c.args.self.now list.2 c.loop-place.place
+    let below = first_inside (live_at c.args.runners.now) list.0 c.args.self.now list.2 c.loop-place.place
     c.loop-place.kept c.loop-place.self.firsts.items
     (c.loop-place.invariant.kept list.0 list.2) (omega (arith, low, count_same)) c.get-first.result.now
     c.get-first.ensures.item in
@@ -37,7 +36,7 @@ offset_bounds-runners-first c =
     let list = c.requires.roster in
     let low = c.loop-place-test.true in
     let count_same = c.loop-place.invariant.count_same in
-    let below = first_inside (live_at shown c.args.runners.now) list.0 c.args.self.now list.2 c.loop-place.place
+    let below = first_inside (live_at c.args.runners.now) list.0 c.args.self.now list.2 c.loop-place.place
     c.loop-place.kept c.loop-place.self.firsts.items
     (c.loop-place.invariant.kept list.0 list.2) (omega (arith, low, count_same)) c.get-first.result.now
     c.get-first.ensures.item in
@@ -49,7 +48,7 @@ bounds-runners-first-in-loop-place c =
     let list = c.requires.roster in
     let low = c.loop-place-test.true in
     let count_same = c.loop-place.invariant.count_same in
-    let below = first_inside (live_at shown c.args.runners.now) list.0 c.args.self.now list.2 c.loop-place.place
+    let below = first_inside (live_at c.args.runners.now) list.0 c.args.self.now list.2 c.loop-place.place
     c.loop-place.kept c.loop-place.self.firsts.items
     (c.loop-place.invariant.kept list.0 list.2) (omega (arith, low, count_same)) c.get-first.result.now
     c.get-first.ensures.item in
@@ -67,7 +66,7 @@ set-requires c =
 
 pub loop-place-preserved : goal.loop-place-preserved
 loop-place-preserved c =
-    let live = live_at shown c.args.runners.now in
+    let live = live_at c.args.runners.now in
     let old = c.args.self.now in
     let p = c.loop-place.place in
     let q = c.loop-place.kept in
@@ -100,8 +99,8 @@ loop-place-preserved c =
           rw w.self-is (rw w.kept-is (record {
             kept = λ until list. one_off live until old list p q items (c.loop-place.invariant.kept until list) inside
                 first c.get-first.ensures.item
-                (item_off shown c.args.runners.now first here c.index-runners-first.result
-                (item_same shown c.args.runners.now first here c.index-runners-first.result c.index-runners-first.result
+                (item_off c.args.runners.now first here c.index-runners-first.result
+                (item_same c.args.runners.now first here c.index-runners-first.result c.index-runners-first.result
                 false w.if-runners-first.false));
             low = omega (arith, kept);
             same_length = same_length;
@@ -113,5 +112,5 @@ pub returns-clause-roster : goal.returns-clause-roster
 returns-clause-roster c = λ until list.
     let same = c.loop-place.invariant.count_same in
     let end = c.loop-place-test.false in
-    all_kept (live_at shown c.args.runners.now) until c.args.self.now list c.loop-place.place _
+    all_kept (live_at c.args.runners.now) until c.args.self.now list c.loop-place.place _
     (omega (arith, same, end)) (omega (arith, same)) (c.loop-place.invariant.kept until list)
