@@ -13,13 +13,13 @@ use Rattle.spell_run.proofs.StepLaws.{under_cap, cap_over, under_most, step_soun
 get_before : (xs : List ℤ) (j k : ℕ) (w : ℤ) → slice_get xs j ≡ Some w → k ≤ j → (v : ℤ) × (slice_get xs k ≡ Some v)
 get_before [] j k w h low = cc
 get_before (x ∷ xs) j zero w h low = (x, refl)
-get_before (x ∷ xs) zero (suc k) w h low = absurd (omega (arith, low))
-get_before (x ∷ xs) (suc j) (suc k) w h low = get_before xs j k w h (omega (arith, low))
+get_before (x ∷ xs) zero (suc k) w h low = absurd (omega arith)
+get_before (x ∷ xs) (suc j) (suc k) w h low = get_before xs j k w h (omega arith)
 
 between_by : (values : List ℤ) (d e z u w : ℤ) → offset_value values d ≡ Some u → offset_value values e ≡ Some w →
     d ≤ℤ z → z ≤ℤ e → (v : ℤ) × (offset_value values z ≡ Some v)
-between_by values (pos i) (pos j) (pos k) u w p q low high = get_before values j k w q (omega (arith, ints, high))
-between_by values (pos i) (pos j) (negsuc k) u w p q low high = absurd (omega (arith, ints, low))
+between_by values (pos i) (pos j) (pos k) u w p q low high = get_before values j k w q (omega (arith, ints))
+between_by values (pos i) (pos j) (negsuc k) u w p q low high = absurd (omega (arith, ints))
 between_by values (pos i) (negsuc j) z u w p q low high = cc
 between_by values (negsuc i) e z u w p q low high = cc
 
@@ -27,7 +27,7 @@ between_by values (negsuc i) e z u w p q low high = cc
 pub between_powers : (f : Table) (a b x u w : ℤ) → value_of f a ≡ Some u → value_of f b ≡ Some w → a ≤ℤ x → x ≤ℤ b →
     (v : ℤ) × (value_of f x ≡ Some v)
 between_powers f a b x u w p q low high = between_by f.values (a -ℤ f.lo) (b -ℤ f.lo) (x -ℤ f.lo) u w p q
-    (omega (arith, ints, low)) (omega (arith, ints, high))
+    (omega (arith, ints)) (omega (arith, ints))
 
 -- ---- the powers up to one
 
@@ -35,34 +35,34 @@ pub cut : Table → ℤ → Table
 cut f hi = record { lo = f.lo; values = take (powers_to (hi -ℤ f.lo)) f.values }
 
 take_inside : (n : ℕ) (xs : List ℤ) (k : ℕ) → k < n → slice_get (take n xs) k ≡ slice_get xs k
-take_inside zero xs k h = absurd (omega (arith, h))
+take_inside zero xs k h = absurd (omega arith)
 take_inside (suc n) [] k h = refl
 take_inside (suc n) (x ∷ xs) zero h = refl
-take_inside (suc n) (x ∷ xs) (suc k) h = take_inside n xs k (omega (arith, h))
+take_inside (suc n) (x ∷ xs) (suc k) h = take_inside n xs k (omega arith)
 
 take_past : (n : ℕ) (xs : List ℤ) (k : ℕ) → n ≤ k → slice_get (take n xs) k ≡ None
 take_past zero xs k h = refl
 take_past (suc n) [] k h = refl
-take_past (suc n) (x ∷ xs) zero h = absurd (omega (arith, h))
-take_past (suc n) (x ∷ xs) (suc k) h = take_past n xs k (omega (arith, h))
+take_past (suc n) (x ∷ xs) zero h = absurd (omega arith)
+take_past (suc n) (x ∷ xs) (suc k) h = take_past n xs k (omega arith)
 
 inside_by : (values : List ℤ) (d e : ℤ) → d ≤ℤ e → offset_value (take (powers_to e) values) d ≡ offset_value values d
-inside_by values (pos k) (pos m) h = take_inside (suc m) values k (omega (arith, ints, h))
-inside_by values (pos k) (negsuc m) h = absurd (omega (arith, ints, h))
+inside_by values (pos k) (pos m) h = take_inside (suc m) values k (omega (arith, ints))
+inside_by values (pos k) (negsuc m) h = absurd (omega (arith, ints))
 inside_by values (negsuc k) e h = refl
 
 past_by : (values : List ℤ) (d e : ℤ) → e <ℤ d → offset_value (take (powers_to e) values) d ≡ None
-past_by values (pos k) (pos m) h = take_past (suc m) values k (omega (arith, ints, h))
+past_by values (pos k) (pos m) h = take_past (suc m) values k (omega (arith, ints))
 past_by values (pos k) (negsuc m) h = take_past 0 values k (omega arith)
 past_by values (negsuc k) e h = refl
 
 pub cut_inside : (f : Table) (hi x : ℤ) → x ≤ℤ hi → value_of (cut f hi) x ≡ value_of f x
 unfolding cut
-cut_inside f hi x h = inside_by f.values (x -ℤ f.lo) (hi -ℤ f.lo) (omega (arith, ints, h))
+cut_inside f hi x h = inside_by f.values (x -ℤ f.lo) (hi -ℤ f.lo) (omega (arith, ints))
 
 pub cut_past : (f : Table) (hi x : ℤ) → hi <ℤ x → value_of (cut f hi) x ≡ None
 unfolding cut
-cut_past f hi x h = past_by f.values (x -ℤ f.lo) (hi -ℤ f.lo) (omega (arith, ints, h))
+cut_past f hi x h = past_by f.values (x -ℤ f.lo) (hi -ℤ f.lo) (omega (arith, ints))
 
 none_some : {P : Type 0} (o : Option ℤ) (v : ℤ) → o ≡ None → o ≡ Some v → P
 none_some o v a b = cc

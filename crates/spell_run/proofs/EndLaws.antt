@@ -77,7 +77,7 @@ module _ (g : ThermalUnit) (π : PriceLists) (first k : ℕ) (n : Note) (e : Low
   pub end_noted_last : suc k ≡ length π.energy → IsLeast h e.value e.at → e.turn ≡ n.turn → IsEndNoted g π first k n e
   end_noted_last end least turn =
       let stop : false ≡ ltb (suc k) (length π.energy) = sym
-      (le-ltb (suc k) (length π.energy) (omega (arith, end))) in (
+      (le-ltb (suc k) (length π.energy) (omega arith)) in (
         h,
         subst (λ (b : Bool). IsNoted g π first k b (record { turn = e.turn; first = n.first; last = n.last }) h) stop
             (turned g π first k false n e.turn h turn noted),

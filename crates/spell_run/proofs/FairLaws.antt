@@ -41,22 +41,21 @@ step_path a b c d e f g = cc
 
 pub cap_out : (g : ThermalUnit) (starts stops : Bool) → IsThermalUnit g → IsOutput (cap_at g starts stops)
 cap_out g true true unit = record {
-  at_least = (let a = unit.max_power.at_least in let b = unit.start_limit.at_least in let c = unit.stop_limit.at_least
-      in omega (arith, ints, clamps, a, b, c));
-  at_most = (let a = unit.max_power.at_most in omega (arith, ints, clamps, a));
+  at_least = (let c = unit.stop_limit.at_least
+      in omega (arith, ints, clamps));
+  at_most = (omega (arith, ints, clamps));
 }
 cap_out g true false unit = record {
-  at_least = (let a = unit.max_power.at_least in let b = unit.start_limit.at_least in omega
-      (arith, ints, clamps, a, b));
-  at_most = (let a = unit.max_power.at_most in omega (arith, ints, clamps, a));
+  at_least = (omega (arith, ints, clamps));
+  at_most = (omega (arith, ints, clamps));
 }
 cap_out g false true unit = record {
-  at_least = (let a = unit.max_power.at_least in let c = unit.stop_limit.at_least in omega (arith, ints, clamps, a, c));
-  at_most = (let a = unit.max_power.at_most in omega (arith, ints, clamps, a));
+  at_least = (omega (arith, ints, clamps));
+  at_most = (omega (arith, ints, clamps));
 }
 cap_out g false false unit = record {
-  at_least = (let a = unit.max_power.at_least in omega (arith, ints, clamps, a));
-  at_most = (let a = unit.max_power.at_most in omega (arith, ints, clamps, a));
+  at_least = (omega (arith, ints, clamps));
+  at_most = (omega (arith, ints, clamps));
 }
 
 most_out : (g : ThermalUnit) (π : PriceLists) (k : ℕ) (starts stops : Bool) → IsThermalUnit g →
@@ -74,51 +73,43 @@ most_out g π k starts true unit =
   where
     least : (c : ℤ) → pos 0 ≤ℤ c → pos 0 ≤ℤ g.min_power → pos 0 ≤ℤ g.ramp_down →
         pos 0 ≤ℤ int_min c (g.min_power +ℤ g.ramp_down)
-    least c h m d = omega (arith, ints, clamps, h, m, d)
+    least c h m d = omega (arith, ints, clamps)
 
     most : (c : ℤ) → c ≤ℤ pos 10000000 → int_min c (g.min_power +ℤ g.ramp_down) ≤ℤ pos 10000000
-    most c h = omega (arith, ints, clamps, h)
+    most c h = omega (arith, ints, clamps)
 most_out g π k starts false unit = cap_out g starts false unit
 
 pub step_fair : (g : ThermalUnit) (π : PriceLists) (k : ℕ) (starts stops : Bool) → IsThermalUnit g → ArePrices π →
     k < length π.energy → IsFairStep (step_at g π k starts stops)
 step_fair g π k starts stops unit prices within =
     let e = prices.energy k (pos 0) within in
-    let r = prices.reserve k (pos 0) (let s = prices.lengths in omega (arith, s, within)) in
-    let a = e.at_least in
-    let b = e.at_most in
-    let c = r.at_least in
-    let d = r.at_most in
+    let r = prices.reserve k (pos 0) (omega arith) in
     record {
       least = record {
         at_least = unit.min_power.at_least;
-        at_most = (let m = unit.range in let n = unit.max_power.at_most in omega (arith, ints, m, n));
+        at_most = (omega (arith, ints));
       };
       most = most_out g π k starts stops unit;
       cap = cap_out g starts stops unit;
       ramp_up = unit.ramp_up;
       ramp_down = unit.ramp_down;
       reserve_price = r;
-      slope = record { at_least = omega (arith, ints, b, c); at_most = omega (arith, ints, a, d) };
+      slope = record { at_least = omega (arith, ints); at_most = omega (arith, ints) };
     }
 
 pub power_fits : (x : ℤ) → IsPower x → FitsSigned w64 x
 power_fits x h = fits_within w64 1000000000 x
-    (let a = h.at_least in let b = h.at_most in record { at_least = omega (arith, ints, a); at_most = b }) (omega arith)
+    (let b = h.at_most in record { at_least = omega (arith, ints); at_most = b }) (omega arith)
 
 pub output_fits : (x : ℤ) → IsOutput x → FitsSigned w64 x
 output_fits x h = power_fits x
-    (let a = h.at_least in let b = h.at_most in record { at_least = a; at_most = omega (arith, ints, b) })
+    (let a = h.at_least in record { at_least = a; at_most = omega (arith, ints) })
 
 pub difference_fits : (r e : ℤ) → IsFrom (pos 0) (pos 10000000) r → IsFrom (neg_ℤ (pos 10000000)) (pos 10000000) e →
     FitsSigned w64 (r -ℤ e)
 difference_fits r e h i =
-    let a = h.at_least in
-    let b = h.at_most in
-    let c = i.at_least in
-    let d = i.at_most in
     fits_within w64 20000000 (r -ℤ e)
-    (record { at_least = omega (arith, ints, a, d); at_most = omega (arith, ints, b, c) }) (omega arith)
+    (record { at_least = omega (arith, ints); at_most = omega (arith, ints) }) (omega arith)
 
 abbrev stored : ℤ → ℤ
 stored z = to_z w64 (of_z w64 z)
@@ -133,11 +124,8 @@ most_chosen g cap result unit fits fits' is =
     let sum : stored g.min_power +ℤ stored g.ramp_down ≡ g.min_power +ℤ g.ramp_down = ap
     (λ (x : ℤ). x +ℤ stored g.ramp_down) low ∙ ap (λ (y : ℤ). g.min_power +ℤ y) down in
     let a = unit.min_power.at_least in
-    let b = unit.min_power.at_most in
-    let c = unit.ramp_down.at_least in
-    let d = unit.ramp_down.at_most in
     let sum_fits = fits_within w64 2000000000 (g.min_power +ℤ g.ramp_down)
-    (record { at_least = omega (arith, ints, a, c); at_most = omega (arith, ints, b, d) }) (omega arith) in
+    (record { at_least = omega (arith, ints); at_most = omega (arith, ints) }) (omega arith) in
     to_z-of_z w64 result fits' ∙ is ∙ ap (λ (x : ℤ). int_min x (stored (stored g.min_power +ℤ stored g.ramp_down)))
     (to_z-of_z w64 cap fits)
     ∙ ap (λ (y : ℤ). int_min cap y) (ap stored sum ∙ to_z-of_z w64 (g.min_power +ℤ g.ramp_down) sum_fits)
@@ -154,12 +142,12 @@ module _ (g : ThermalUnit) (π : PriceLists) (k : ℕ) (starts stops : Bool) (un
 
   reserve_within : IsFrom (pos 0) (pos 10000000) reserve
   reserve_within = subst (λ (z : ℤ). IsFrom (pos 0) (pos 10000000) z) (sym reserve_is)
-      (prices.reserve k (pos 0) (let s = prices.lengths in omega (arith, s, within)))
+      (prices.reserve k (pos 0) (omega arith))
 
   reserve_stored : stored reserve ≡ reserve
   reserve_stored = to_z-of_z w64 reserve
       (power_fits reserve (let a = reserve_within.at_least in let b = reserve_within.at_most in record
-      { at_least = a; at_most = omega (arith, ints, b) }))
+      { at_least = a; at_most = omega (arith, ints) }))
 
   energy_stored : stored energy ≡ energy
   energy_stored = to_z-of_z w64 energy (fits_within w64 10000000 energy energy_within (omega arith))
@@ -224,22 +212,21 @@ module _ (g : ThermalUnit) (c : Curve) (unit : IsThermalUnit g) (curve : IsCostC
     origin = record { at = pos 0; cost = pos 0 }
 
     place_of : (x : ℤ) → IsPower x → IsPlace x
-    place_of x h = (let a = h.at_least in omega (arith, ints, a), let b = h.at_most in omega (arith, ints, b))
+    place_of x h = (omega (arith, ints), omega (arith, ints))
 
     amount_of : (v : ℤ) → IsCost v → IsAmount v
-    amount_of v h = (let a = h.at_least in omega (arith, ints, a), let b = h.at_most in omega (arith, ints, b))
+    amount_of v h = (omega (arith, ints), omega (arith, ints))
 
     limited : IsLimitedCurve c
     limited =
         let n = length g.points - 1 in
-        let some = unit.some_point in
-        let last : suc n ≡ length g.points = omega (arith, some) in
+        let last : suc n ≡ length g.points = omega arith in
         record {
           blocks = curve.blocks;
           first_place = place_of c.at
-              (subst IsPower (sym (curve.starts origin)) (unit.points 0 origin (omega (arith, some))).at);
+              (subst IsPower (sym (curve.starts origin)) (unit.points 0 origin (omega arith)).at);
           last_place = place_of (end_of c.at c.blocks.items)
-              (subst IsPower (sym (curve.ends n origin last)) (unit.points n origin (omega (arith, last))).at);
+              (subst IsPower (sym (curve.ends n origin last)) (unit.points n origin (omega arith)).at);
           values = λ x v h.
               let spans = curve.inside x (some_is (curve_value c x) v h) in
               let e : v ≡ envelope g.points x = same_some (curve_value c x) h (curve.value x spans) in
@@ -263,7 +250,7 @@ module _ (g : ThermalUnit) (π : PriceLists) (k : ℕ) (starts stops : Bool) (s 
     (within : k < length π.energy) (c : Curve) (curve : IsCostCurve g.points c) (law : EnvelopeIsCost) where
   pub cost_is : IsCostOf s c
   cost_is =
-      let price = (prices.reserve k (pos 0) (let e = prices.lengths in omega (arith, e, within))).at_least in
+      let price = (prices.reserve k (pos 0) (omega arith)).at_least in
       subst (λ (s : Step). IsCostOf s c) (sym is) (cost_of_step g c unit curve law π k starts stops price)
 
 pub step_moved : (g : ThermalUnit) (π : PriceLists) (k : ℕ) (starts starts' stops : Bool) (s : Step) (c : Curve)

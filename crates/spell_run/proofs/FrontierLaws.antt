@@ -23,24 +23,19 @@ within_more : (n m : ℕ) (v w : ℤ) → m ≡ suc n → IsWithin (n * 10000000
 within_more n m v w is h i =
     let size : m * 1000000000000000 ≡ n * 1000000000000000 + 1000000000000000 = ap (λ (k : ℕ). k * 1000000000000000) is
     ∙ (omega arith) in
-    let a = h.at_least in
-    let b = h.at_most in
-    let c = i.at_least in
-    let d = i.at_most in
-    record { at_least = omega (arith, ints, a, c, size); at_most = omega (arith, ints, b, d, size) }
+    record { at_least = omega (arith, ints); at_most = omega (arith, ints) }
 
 zero_within : (n : ℕ) (v : ℤ) → v ≡ pos 0 → IsWithin n v
-zero_within n v z = record { at_least = omega (arith, ints, z); at_most = omega (arith, ints, z) }
+zero_within n v z = record { at_least = omega (arith, ints); at_most = omega (arith, ints) }
 
 -- a frontier is small
 pub small_frontier : (g : ThermalUnit) (π : PriceLists) (first t : ℕ) (f : Table) → t ≤ 168 → IsFrontier g π first t f →
     IsSmall f
 small_frontier g π first t f few front x v h =
     let b = front.values x v h in
-    let count : suc t - first ≤ 169 = omega (arith, few) in
+    let count : suc t - first ≤ 169 = omega arith in
     let a = b.at_least in
-    let c = b.at_most in
-    (front.powers x v h, record { at_least = omega (arith, ints, a, count); at_most = omega (arith, ints, c, count) })
+    (front.powers x v h, record { at_least = omega (arith, ints); at_most = omega (arith, ints) })
 
 -- ---- the beginning
 
@@ -62,7 +57,7 @@ module _ (g : ThermalUnit) (π : PriceLists) (first t : ℕ) (x : ℤ) (f : Tabl
           cost = cost (blank (length π.energy)) ∙ sym z;
           idle = λ k is free. blank_reserve (length π.energy) k;
         };
-    complete = λ d run. (pos 0, ap (value_of f) (here d) ∙ point.there, let e = cost d in omega (arith, ints, e));
+    complete = λ d run. (pos 0, ap (value_of f) (here d) ∙ point.there, let e = cost d in omega (arith, ints));
     powers = λ y v h. (let e = point.only y v h in subst IsOutput (sym e) out);
     values = λ y v h.
         let e = point.only y v h in
@@ -73,7 +68,7 @@ module _ (g : ThermalUnit) (π : PriceLists) (first t : ℕ) (x : ℤ) (f : Tabl
 pub least_power_out : (g : ThermalUnit) → IsThermalUnit g → IsOutput g.min_power
 least_power_out g unit = record {
   at_least = unit.min_power.at_least;
-  at_most = (let a = unit.range in let b = unit.max_power.at_most in omega (arith, ints, a, b));
+  at_most = (omega (arith, ints));
 }
 
 -- before a start in period suc b, and before a spell that goes on
@@ -81,18 +76,18 @@ pub frontier_start : (g : ThermalUnit) (π : PriceLists) (b : ℕ) (f : Table) �
     IsPoint g.min_power (pos 0) f → IsFrontier g π (suc b) b f
 frontier_start g π b f unit point =
     begin_at g π (suc b) b g.min_power f point (least_power_out g unit)
-    (λ k from until. absurd (omega (arith, from, until))) (λ d. level_before g (suc b) d b (omega arith))
+    (λ k from until. absurd (omega arith)) (λ d. level_before g (suc b) d b (omega arith))
     (λ d. cost_none g π (suc b) b d (omega arith))
 
 pub frontier_goes_on : (g : ThermalUnit) (π : PriceLists) (f : Table) → IsThermalUnit g → IsPoint g.power0 (pos 0) f →
     IsFrontier g π 0 0 f
 frontier_goes_on g π f unit point =
-    begin_at g π 0 0 g.power0 f point unit.power0 (λ k from until. absurd (omega (arith, until)))
-    (λ d. let e = level_within g 0 d 0 (omega arith) in omega (arith, ints, e)) (λ d. cost_zero g π d)
+    begin_at g π 0 0 g.power0 f point unit.power0 (λ k from until. absurd (omega arith))
+    (λ d. let e = level_within g 0 d 0 (omega arith) in omega (arith, ints)) (λ d. cost_zero g π d)
 
 pub begin_started : (g : ThermalUnit) (π : PriceLists) (first : ℕ) (f : Table) → IsThermalUnit g → 1 ≤ first →
     IsPoint g.min_power (pos 0) f → IsFrontier g π first (first - 1) f
-begin_started g π zero f unit one point = absurd (omega (arith, one))
+begin_started g π zero f unit one point = absurd (omega arith)
 begin_started g π (suc b) f unit one point =
     let z : b ≡ suc b - 1 = omega arith in
     subst (λ (t : ℕ). IsFrontier g π (suc b) t f) z (frontier_start g π b f unit point)
@@ -116,7 +111,7 @@ module _ (g : ThermalUnit) (π : PriceLists) (first k : ℕ) (c : Curve) (unit :
   starts = eqb first (suc k)
 
   reserve_price : IsFrom (pos 0) (pos 10000000) (int_at π.reserve k)
-  reserve_price = prices.reserve k (pos 0) (let e = prices.lengths in omega (arith, e, within))
+  reserve_price = prices.reserve k (pos 0) (omega arith)
 
   energy_price : IsFrom (neg_ℤ (pos 10000000)) (pos 10000000) (int_at π.energy k)
   energy_price = prices.energy k (pos 0) within
@@ -141,8 +136,8 @@ module _ (g : ThermalUnit) (π : PriceLists) (first k : ℕ) (c : Curve) (unit :
       let old = reached.run in
       let run = with_period old k n.0 m.0 in
       let same = written_alike old k n.0 m.0 in
-      let in_power : k < length old.power = (let e = reached.power_length in omega (arith, e, within)) in
-      let in_reserve : k < length old.reserve = (let e = reached.reserve_length in omega (arith, e, within)) in
+      let in_power : k < length old.power = (omega arith) in
+      let in_reserve : k < length old.reserve = (omega arith) in
       let power : power_in run (suc k) ≡ x = written_power old k n.0 m.0 in_power ∙ sym n.1 in
       let reserve : reserve_in run (suc k) ≡ r = written_reserve old k n.0 m.0 in_reserve ∙ sym m.1 in
       let more = cost_more g π first k run from in
@@ -174,9 +169,7 @@ module _ (g : ThermalUnit) (π : PriceLists) (first k : ℕ) (c : Curve) (unit :
     more_sound : (x v : ℤ) → value_of h x ≡ Some v → IsReached g π first (suc k) x v
     more_sound x v is =
         let m = moved x v is in
-        let low = m.move.least in
-        let bottom = unit.min_power.at_least in
-        let b = build f front m.before m.old x m.reserve m.there (omega (arith, ints, low, bottom)) m.not_negative in
+        let b = build f front m.before m.old x m.reserve m.there (omega (arith, ints)) m.not_negative in
         record {
           run = b.run;
           power_length = b.power_length;
@@ -187,7 +180,7 @@ module _ (g : ThermalUnit) (π : PriceLists) (first k : ℕ) (c : Curve) (unit :
           ends = level_power g first b.run k from ∙ b.power;
           cost = b.cost ∙ sym m.cost;
           idle = λ j is free.
-              let z : j ≡ k = omega (arith, is) in
+              let z : j ≡ k = omega arith in
               let here : int_at π.reserve k ≡ pos 0 = ap (int_at π.reserve) (sym z) ∙ free in
               ap (λ (i : ℕ). reserve_in b.run (suc i)) z ∙ b.reserve ∙ m.idle here;
         }
@@ -200,19 +193,13 @@ module _ (g : ThermalUnit) (π : PriceLists) (first k : ℕ) (c : Curve) (unit :
         let s = step_complete g π k c unit reserve_price.at_least curve starts false f h step (level g first d k) b.0
         (power_in d (suc k)) (reserve_in d (suc k)) b.1 m (reserve_not_negative d k) in
         let more = cost_more g π first k d from in
-        let low = b.2 in
-        let least = s.2 in
-        (s.0, ap (value_of h) (level_power g first d k from) ∙ s.1, omega (arith, ints, more, low, least))
+        (s.0, ap (value_of h) (level_power g first d k from) ∙ s.1, omega (arith, ints))
 
     more_powers : (x v : ℤ) → value_of h x ≡ Some v → IsOutput x
     more_powers x v is =
         let m = moved x v is in
         let u = (under_cap g starts false (x +ℤ m.reserve) m.move.greatest).most in
-        let low = m.move.least in
-        let bottom = unit.min_power.at_least in
-        let top = unit.max_power.at_most in
-        let kept = m.not_negative in
-        record { at_least = omega (arith, ints, low, bottom); at_most = omega (arith, ints, u, top, kept) }
+        record { at_least = omega (arith, ints); at_most = omega (arith, ints) }
 
     more_values : (x v : ℤ) → value_of h x ≡ Some v → IsSpellWithin first (suc k) v
     more_values x v is =
@@ -220,7 +207,7 @@ module _ (g : ThermalUnit) (π : PriceLists) (first k : ℕ) (c : Curve) (unit :
         let old = front.values m.before m.old m.there in
         let net = net_within g π k c unit reserve_price.at_least curve starts false m.before x m.reserve law
         energy_price reserve_price.at_most m.move m.not_negative in
-        let count : suc (suc k) - first ≡ suc (suc k - first) = omega (arith, from) in
+        let count : suc (suc k) - first ≡ suc (suc k - first) = omega arith in
         subst (λ (z : ℤ). IsSpellWithin first (suc k) z) (sym m.cost)
         (within_more (suc k - first) (suc (suc k) - first) m.old (net_cost_at g π k x m.reserve) count old net)
 
@@ -251,18 +238,14 @@ module _ (g : ThermalUnit) (π : PriceLists) (first k : ℕ) (c : Curve) (unit :
         let s = step_complete g π k c unit reserve_price.at_least curve starts stops f h step (level g first d k) b.0
         (power_in d (suc k)) (reserve_in d (suc k)) b.1 m (reserve_not_negative d k) in
         let more = cost_more g π first k d from in
-        let low = b.2 in
-        let least = s.2 in
-        (s.0, s.1, omega (arith, ints, more, low, least))
+        (s.0, s.1, omega (arith, ints))
 
     end_reached : (x v : ℤ) → value_of h x ≡ Some v →
         ((d : Schedule) × IsDispatch g periods first (suc k) d × (spell_cost g π first (suc k) d ≡ v)) × IsSpellWithin
         first (suc k) v
     end_reached x v is =
         let m = step_sound g π k c unit reserve_price.at_least curve starts stops f h step x v is in
-        let low = m.move.least in
-        let bottom = unit.min_power.at_least in
-        let b = build f front m.before m.old x m.reserve m.there (omega (arith, ints, low, bottom)) m.not_negative in
+        let b = build f front m.before m.old x m.reserve m.there (omega (arith, ints)) m.not_negative in
         let d = b.run in
         let whole = move_same g starts stops m.before x m.reserve (level g first d k) (power_in d (suc k))
         (reserve_in d (suc k)) (sym b.before) (sym b.power) (sym b.reserve) m.move in
@@ -274,7 +257,7 @@ module _ (g : ThermalUnit) (π : PriceLists) (first k : ℕ) (c : Curve) (unit :
         let old = front.values m.before m.old m.there in
         let net = net_within g π k c unit reserve_price.at_least curve starts stops m.before x m.reserve law
         energy_price reserve_price.at_most m.move m.not_negative in
-        let count : suc (suc k) - first ≡ suc (suc k - first) = omega (arith, from) in (
+        let count : suc (suc k) - first ≡ suc (suc k - first) = omega arith in (
           (d, dispatch, b.cost ∙ sym m.cost),
           subst (λ (z : ℤ). IsSpellWithin first (suc k) z) (sym m.cost)
               (within_more (suc k - first) (suc (suc k) - first) m.old (net_cost_at g π k x m.reserve) count old net),
@@ -283,7 +266,7 @@ module _ (g : ThermalUnit) (π : PriceLists) (first k : ℕ) (c : Curve) (unit :
     pub answer_of_step : (o : Option ℤ) → IsLeastCost h o → IsAnswer o
     answer_of_step None empty = (
       λ d dispatch. let e = end_least d dispatch in let none : value_of h (power_in d (suc k)) ≡ None = empty
-          (power_in d (suc k)) in let some = e.1 in cc,
+          (power_in d (suc k)) in cc,
       tt,
     )
     answer_of_step (Some v) least =
@@ -295,8 +278,7 @@ module _ (g : ThermalUnit) (π : PriceLists) (first k : ℕ) (c : Curve) (unit :
             least = λ d dispatch.
                 let e = end_least d dispatch in
                 let low = least.1.least (power_in d (suc k)) e.0 e.1 in
-                let high = e.2 in
-                omega (arith, ints, low, high);
+                omega (arith, ints);
           },
           r.1,
         )
@@ -317,13 +299,13 @@ module _ (g : ThermalUnit) (π : PriceLists) (first k : ℕ) (c : Curve) (unit :
       whole_reached x v is =
           let r = front.sound x v is in
           let may : MayEnd g periods k (power_in r.run (suc k)) (reserve_in r.run (suc k)) = record
-          { stop = λ low. absurd (omega (arith, low, end)); leave = λ low. absurd (omega (arith, low, end)) } in
+          { stop = λ low. absurd (omega arith); leave = λ low. absurd (omega arith) } in
           (r.run, dispatch_from_run g periods first unit.ramp_down.at_least r.run k from r.keeps may, r.cost)
 
       pub answer_at_end : (o : Option ℤ) → IsLeastCost h o → IsAnswer o
       answer_at_end None empty = (
         λ d dispatch. let e = front_least d dispatch in let none : value_of h (power_in d (suc k)) ≡ None = empty
-            (power_in d (suc k)) in let some = e.1 in cc,
+            (power_in d (suc k)) in cc,
         tt,
       )
       answer_at_end (Some v) least =
@@ -335,8 +317,7 @@ module _ (g : ThermalUnit) (π : PriceLists) (first k : ℕ) (c : Curve) (unit :
               least = λ d dispatch.
                   let e = front_least d dispatch in
                   let low = least.1.least (power_in d (suc k)) e.0 e.1 in
-                  let high = e.2 in
-                  omega (arith, ints, low, high);
+                  omega (arith, ints);
             },
             front.values least.0 v least.1.there,
           )
@@ -356,13 +337,13 @@ module _ (g : ThermalUnit) (π : PriceLists) (first k : ℕ) (c : Curve) (unit :
           let parts = under_most g π k starts true x top in
           let here = (r.keeps k from (omega arith)).greatest in
           let stop : (power_in d (suc k) +ℤ reserve_in d (suc k)) ≤ℤ cap_at g starts true = elim alike [
-            | inl free ↦ let none = r.idle k refl free in let low = parts.0 in omega (arith, ints, none, low, power)
-            | inr same ↦ omega (arith, ints, here, same)
+            | inl free ↦ let none = r.idle k refl free in let low = parts.0 in omega (arith, ints)
+            | inr same ↦ omega (arith, ints)
           ] in
           let under = under_cap g starts true (power_in d (suc k) +ℤ reserve_in d (suc k)) stop in
           let may : MayEnd g periods k (power_in d (suc k)) (reserve_in d (suc k)) = record {
             stop = λ low. under.stop refl;
-            leave = λ low. (let l = parts.1 refl in omega (arith, ints, l, power));
+            leave = λ low. (let l = parts.1 refl in omega (arith, ints));
           } in
           (d, dispatch_from_run g periods first unit.ramp_down.at_least d k from r.keeps may, r.cost)
 
@@ -375,9 +356,8 @@ module _ (g : ThermalUnit) (π : PriceLists) (first k : ℕ) (c : Curve) (unit :
           (run k from (omega arith)) end in
           let m = subst (λ (b : Bool). IsMove g starts b (level g first d k) (power_in d (suc k))
           (reserve_in d (suc k))) (lt-ltb (suc k) periods before) whole in
-          let greatest = m.greatest in
           let kept = reserve_not_negative d k in
-          (m.least, most_over g π k starts true (power_in d (suc k)) (omega (arith, ints, greatest, kept)) m.leave)
+          (m.least, most_over g π k starts true (power_in d (suc k)) (omega (arith, ints)) m.leave)
 
       pub answer_alike : (o : Option ℤ) → IsLeastCostIn g.min_power high h o → IsAnswer o
       answer_alike None empty = (
@@ -385,7 +365,6 @@ module _ (g : ThermalUnit) (π : PriceLists) (first k : ℕ) (c : Curve) (unit :
             let e = front_least d dispatch in
             let inside = alike_inside d dispatch in
             let none : value_of h (power_in d (suc k)) ≡ None = empty (power_in d (suc k)) inside.0 inside.1 in
-            let some = e.1 in
             cc,
         tt,
       )
@@ -400,7 +379,7 @@ module _ (g : ThermalUnit) (π : PriceLists) (first k : ℕ) (c : Curve) (unit :
                   let inside = alike_inside d dispatch in
                   let low = least.1.least (power_in d (suc k)) e.0 e.1 inside.0 inside.1 in
                   let high = e.2 in
-                  omega (arith, ints, low, high);
+                  omega (arith, ints);
             },
             front.values least.0 v least.1.there,
           )
@@ -417,9 +396,5 @@ module _ (g : ThermalUnit) (π : PriceLists) (first t : ℕ) (f h : Table) (fron
       let q = other.sound x c.0 at in
       let d = front.complete q.run q.keeps in
       let e = same_some (value_of f x) (ap (value_of f) (sym q.ends) ∙ d.1) there in
-      let a = c.2 in
-      let b = d.2 in
-      let i = r.cost in
-      let j = q.cost in
-      let same : c.0 ≡ v = omega (arith, ints, e, a, b, i, j) in
+      let same : c.0 ≡ v = omega (arith, ints) in
       at ∙ ap Some same

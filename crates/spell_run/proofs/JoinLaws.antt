@@ -27,7 +27,7 @@ move_on g starts q p r move =
 no_start : (other k : ℕ) → other ≤ k → false ≡ eqb other (suc k)
 no_start other k low = elim (eqb other (suc k)) as (λ b. eqb other (suc k) ≡ b → false ≡ b) [
   | false ↦ λ e. refl
-  | true ↦ λ e. let z = eqb-true other (suc k) e in absurd (omega (arith, z, low))
+  | true ↦ λ e. let z = eqb-true other (suc k) e in absurd (omega arith)
 ] refl
 
 module _ (g : ThermalUnit) (π : PriceLists) (first other k : ℕ) (f : Table) (d : Schedule) (v : ℤ)
@@ -50,15 +50,15 @@ module _ (g : ThermalUnit) (π : PriceLists) (first other k : ℕ) (f : Table) (
       let old = reached.run in
       let run = with_period old k n.0 m.0 in
       let same = written_alike old k n.0 m.0 in
-      let in_power : k < length old.power = (let e = reached.power_length in omega (arith, e, within)) in
-      let in_reserve : k < length old.reserve = (let e = reached.reserve_length in omega (arith, e, within)) in
+      let in_power : k < length old.power = (omega arith) in
+      let in_reserve : k < length old.reserve = (omega arith) in
       let power : power_in run (suc k) ≡ power_in d (suc k) = written_power old k n.0 m.0 in_power ∙ sym n.1 in
       let reserve : reserve_in run (suc k) ≡ reserve_in d (suc k) = written_reserve old k n.0 m.0 in_reserve ∙
       sym m.1 in
       let net : net_cost g π run (suc k) ≡ net_cost g π d (suc k) =
       ap (λ (p : ℤ). net_cost_at g π k p (reserve_in run (suc k))) power ∙
       ap (λ (r : ℤ). net_cost_at g π k (power_in d (suc k)) r) reserve in
-      let more = cost_more g π other k run (omega (arith, low)) in
+      let more = cost_more g π other k run (omega arith) in
       let before = cost_alike g π other k old run same in
       record {
         run = run;
@@ -87,7 +87,7 @@ module _ (g : ThermalUnit) (π : PriceLists) (first other k : ℕ) (f : Table) (
       record {
         run = j.run;
         keeps = joined_run j run;
-        ends = level_power g other j.run k (omega (arith, low)) ∙ j.power ∙ sym (level_power g first d k from);
+        ends = level_power g other j.run k (omega arith) ∙ j.power ∙ sym (level_power g first d k from);
         cost = j.cost;
       }
 
@@ -96,15 +96,13 @@ module _ (g : ThermalUnit) (π : PriceLists) (first other k : ℕ) (f : Table) (
       let j = joined in
       let run = run_from_dispatch g (length π.energy) first unit.ramp_down.at_least d k from dispatch in
       let end = end_from_dispatch g (length π.energy) first unit.ramp_down.at_least d k from dispatch in
-      let power = j.power in
-      let reserve = j.reserve in
       record {
         dispatch = j.run;
-        keeps = dispatch_from_run g (length π.energy) other unit.ramp_down.at_least j.run k (omega (arith, low))
+        keeps = dispatch_from_run g (length π.energy) other unit.ramp_down.at_least j.run k (omega arith)
             (joined_run j run)
             (record {
-              stop = λ inside. (let s = end.stop inside in omega (arith, ints, s, power, reserve));
-              leave = λ inside. (let s = end.leave inside in omega (arith, ints, s, power));
+              stop = λ inside. (let s = end.stop inside in omega (arith, ints));
+              leave = λ inside. (let s = end.leave inside in omega (arith, ints));
             });
         cost = j.cost;
       }

@@ -16,7 +16,7 @@ pub reserve_is_a_kink : ReserveIsAKink
 reserve_is_a_kink price cap up q p =
     let e = ap (λ (z : ℤ). price *ℤ z) (min_less cap up q p) in
     let f = mul-sub price (int_min cap (up +ℤ q)) p in
-    omega (arith, ints, e, f)
+    omega (arith, ints)
 
 -- ---- the best reserve by cases
 
@@ -49,7 +49,7 @@ best_earns price cap up q p h =
     by_lt_z (pos 0) price
     (λ paid. ap (λ (r : ℤ). price *ℤ r) (best_where_paid price cap up q p paid))
     (λ unpaid.
-    let z : price ≡ pos 0 = omega (arith, ints, h, unpaid) in
+    let z : price ≡ pos 0 = omega (arith, ints) in
     let none = zero-*ℤ (best_reserve price cap up q p) in
     let most = zero-*ℤ (most_reserve cap up q p) in
     let a = ap (λ (x : ℤ). x *ℤ best_reserve price cap up q p) z in
@@ -57,43 +57,39 @@ best_earns price cap up q p h =
     a ∙ none ∙ sym (b ∙ most))
 
 pub at_most_most : (cap up q p r : ℤ) → IsReserve cap up q p r → r ≤ℤ most_reserve cap up q p
-at_most_most cap up q p r h = let g = h.greatest in let i = h.ramp in omega (arith, ints, clamps, g, i)
+at_most_most cap up q p r h = omega (arith, ints, clamps)
 
 pub best_is_best : (price cap up q p r : ℤ) → pos 0 ≤ℤ price → IsReserve cap up q p r →
     (price *ℤ r) ≤ℤ (price *ℤ best_reserve price cap up q p)
 best_is_best price cap up q p r h may =
     let m = mul-mono_of price r (most_reserve cap up q p) h (at_most_most cap up q p r may) in
     let e = best_earns price cap up q p h in
-    omega (arith, ints, m, e)
+    omega (arith, ints)
 
 -- a product with a positive factor tells its other factor
 product_tells : (price r s : ℤ) → pos 0 <ℤ price → r ≤ℤ s → price *ℤ r ≡ price *ℤ s → r ≡ s
 product_tells price r s h low e =
     by_lt_z r s
     (λ less.
-    let one = mul-mono_of price (pos 1) (s -ℤ r) (omega (arith, ints, h)) (omega (arith, ints, less)) in
+    let one = mul-mono_of price (pos 1) (s -ℤ r) (omega (arith, ints)) (omega (arith, ints)) in
     let t = mul-sub price s r in
     let unit = *ℤ-one price in
-    absurd (omega (arith, ints, one, t, e, unit, h)))
-    (λ same. omega (arith, ints, same, low))
+    absurd (omega (arith, ints)))
+    (λ same. omega (arith, ints))
 
 pub reserve_is_best : ReserveIsBest
 reserve_is_best price cap up q p r h may =
-    let g = may.greatest in
-    let i = may.ramp in
-    let l = may.least in
     record {
-      may = best_may price cap up q p (omega (arith, ints, g, l)) (omega (arith, ints, i, l));
+      may = best_may price cap up q p (omega (arith, ints)) (omega (arith, ints));
       best = best_is_best price cap up q p r h may;
       least = λ same.
           by_lt_z (pos 0) price
-          (λ paid. (let o = only paid same in omega (arith, ints, o)))
-          (λ unpaid. (let e = best_where_not_paid price cap up q p unpaid in omega (arith, ints, e, l)));
+          (λ paid. (let o = only paid same in omega (arith, ints)))
+          (λ unpaid. (let e = best_where_not_paid price cap up q p unpaid in omega (arith, ints)));
       only = only;
     }
   where
     only : pos 0 <ℤ price → price *ℤ r ≡ price *ℤ best_reserve price cap up q p → r ≡ best_reserve price cap up q p
     only paid same =
         product_tells price r (best_reserve price cap up q p) paid
-        (let e = best_where_paid price cap up q p paid in let m = at_most_most cap up q p r may in omega
-        (arith, ints, e, m)) same
+        (let e = best_where_paid price cap up q p paid in let m = at_most_most cap up q p r may in omega (arith, ints)) same

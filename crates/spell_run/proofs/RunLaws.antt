@@ -21,7 +21,7 @@ level_within g first d t h = ap (λ (b : Bool). cond b g.min_power (over_min g d
 
 pub level_power : (g : ThermalUnit) (first : ℕ) (d : Schedule) (k : ℕ) → first ≤ suc k →
     level g first d (suc k) ≡ power_in d (suc k)
-level_power g first d k h = let e = level_within g first d (suc k) h in omega (arith, ints, e)
+level_power g first d k h = let e = level_within g first d (suc k) h in omega (arith, ints)
 
 -- ---- schedules that share periods
 
@@ -42,7 +42,7 @@ module _ (g : ThermalUnit) (first : ℕ) where
   level_alike t d d' same zero low = refl
   level_alike t d d' same (suc j) low =
       ap (λ (p : ℤ). cond (ltb (suc j) first) g.min_power ((p -ℤ g.min_power) +ℤ g.min_power))
-      (same.power j (omega (arith, low)))
+      (same.power j (omega arith))
 
   pub level_same : (t : ℕ) (d d' : Schedule) → IsAlike t d d' → level g first d' t ≡ level g first d t
   level_same t d d' same = level_alike t d d' same t (omega arith)
@@ -51,23 +51,23 @@ module _ (g : ThermalUnit) (first : ℕ) where
   run_alike t d d' same run k from until =
       move_same g (eqb first (suc k)) false (level g first d k) (power_in d (suc k)) (reserve_in d (suc k))
       (level g first d' k) (power_in d' (suc k)) (reserve_in d' (suc k))
-      (sym (level_alike t d d' same k (omega (arith, until)))) (sym (same.power k (omega (arith, until))))
-      (sym (same.reserve k (omega (arith, until)))) (run k from until)
+      (sym (level_alike t d d' same k (omega arith))) (sym (same.power k (omega arith)))
+      (sym (same.reserve k (omega arith))) (run k from until)
 
   -- one more period
   pub run_more : (k : ℕ) (d : Schedule) → IsRun g first k d →
       IsMove g (eqb first (suc k)) false (level g first d k) (power_in d (suc k)) (reserve_in d (suc k)) →
       IsRun g first (suc k) d
   run_more k d run move j from until = elim (cases_lt j k) [
-    | inl less ↦ run j from (omega (arith, less))
+    | inl less ↦ run j from (omega arith)
     | inr most ↦
-        let z : k ≡ j = omega (arith, most, until) in
+        let z : k ≡ j = omega arith in
         subst (λ (i : ℕ). IsMove g (eqb first (suc i)) false (level g first d i) (power_in d (suc i))
         (reserve_in d (suc i))) z move
   ]
 
   pub run_less : (k : ℕ) (d : Schedule) → IsRun g first (suc k) d → IsRun g first k d
-  run_less k d run j from until = run j from (omega (arith, until))
+  run_less k d run j from until = run j from (omega arith)
 
 -- ---- costs
 
@@ -75,25 +75,25 @@ module _ (g : ThermalUnit) (π : PriceLists) (first : ℕ) where
   net_alike : (t : ℕ) (d d' : Schedule) → IsAlike t d d' → (j : ℕ) → j ≤ t → net_cost g π d' j ≡ net_cost g π d j
   net_alike t d d' same zero low = refl
   net_alike t d d' same (suc j) low =
-      ap (λ (p : ℤ). net_cost_at g π j p (reserve_in d' (suc j))) (same.power j (omega (arith, low)))
-      ∙ ap (λ (r : ℤ). net_cost_at g π j (power_in d (suc j)) r) (same.reserve j (omega (arith, low)))
+      ap (λ (p : ℤ). net_cost_at g π j p (reserve_in d' (suc j))) (same.power j (omega arith))
+      ∙ ap (λ (r : ℤ). net_cost_at g π j (power_in d (suc j)) r) (same.reserve j (omega arith))
 
   pub cost_alike : (t : ℕ) (d d' : Schedule) → IsAlike t d d' → spell_cost g π first t d' ≡ spell_cost g π first t d
   cost_alike t d d' same =
       sum_below-same (suc t - first) (λ k. net_cost g π d' (first + k)) (λ k. net_cost g π d (first + k))
-      (λ k low. net_alike t d d' same (first + k) (omega (arith, low)))
+      (λ k low. net_alike t d d' same (first + k) (omega arith))
 
   pub cost_more : (k : ℕ) (d : Schedule) → first ≤ suc k →
       spell_cost g π first (suc k) d ≡ spell_cost g π first k d +ℤ net_cost g π d (suc k)
   cost_more k d from =
-      let count : suc (suc k) - first ≡ suc (suc k - first) = omega (arith, from) in
-      let last : first + (suc k - first) ≡ suc k = omega (arith, from) in
+      let count : suc (suc k) - first ≡ suc (suc k - first) = omega arith in
+      let last : first + (suc k - first) ≡ suc k = omega arith in
       ap (λ (n : ℕ). sum_below n (λ k. net_cost g π d (first + k))) count ∙
       ap (λ (t : ℕ). sum_below (suc k - first) (λ k. net_cost g π d (first + k)) +ℤ net_cost g π d t) last
 
   pub cost_none : (t : ℕ) (d : Schedule) → t < first → spell_cost g π first t d ≡ pos 0
   cost_none t d h =
-      let count : suc t - first ≡ 0 = omega (arith, h) in
+      let count : suc t - first ≡ 0 = omega arith in
       ap (λ (n : ℕ). sum_below n (λ k. net_cost g π d (first + k))) count
 
 pub cost_zero : (g : ThermalUnit) (π : PriceLists) (d : Schedule) → spell_cost g π 0 0 d ≡ pos 0
@@ -113,8 +113,8 @@ module _ (d : Schedule) (k n m : ℕ) where
 
   pub written_alike : IsAlike k d (with_period d k n m)
   written_alike = record {
-    power = λ j low. (let ne : j ≢ k = omega (arith, low) in ap pos (get_or-set_other d.power k j n 0 ne));
-    reserve = λ j low. (let ne : j ≢ k = omega (arith, low) in ap pos (get_or-set_other d.reserve k j m 0 ne));
+    power = λ j low. (let ne : j ≢ k = omega arith in ap pos (get_or-set_other d.power k j n 0 ne));
+    reserve = λ j low. (let ne : j ≢ k = omega arith in ap pos (get_or-set_other d.reserve k j m 0 ne));
   }
 
 -- nothing in any period
@@ -128,7 +128,7 @@ blank_at : (periods k : ℕ) → get_or (zeros periods) k 0 ≡ 0
 blank_at periods k = elim (cases_lt k periods) [
   | inl low ↦ get_or-replicate periods k 0 0 low
   | inr past ↦ get_or_past (zeros periods) k 0
-      (let e : length (zeros periods) ≡ periods = length-replicate periods 0 in omega (arith, past, e))
+      (let e : length (zeros periods) ≡ periods = length-replicate periods 0 in omega arith)
 ]
 
 pub blank_reserve : (periods k : ℕ) → reserve_in (blank periods) (suc k) ≡ pos 0
@@ -136,7 +136,7 @@ blank_reserve periods k = ap pos (blank_at periods k)
 
 pub natural : (x : ℤ) → pos 0 ≤ℤ x → (n : ℕ) × (x ≡ pos n)
 natural (pos n) h = (n, refl)
-natural (negsuc n) h = absurd (omega (arith, ints, h))
+natural (negsuc n) h = absurd (omega (arith, ints))
 
 pub reserve_not_negative : (d : Schedule) (k : ℕ) → pos 0 ≤ℤ reserve_in d (suc k)
 reserve_not_negative d k = omega (arith, ints)
@@ -187,32 +187,31 @@ module _ (g : ThermalUnit) (periods first : ℕ) (ramp_down : pos 0 ≤ℤ g.ram
     module _ (run : IsRun g first (suc k) d) (end : MayEnd g periods k (power_in d (suc k)) (reserve_in d (suc k)))
       where
         least_at : (t : ℕ) → 1 ≤ t → first ≤ t → t ≤ suc k → pos 0 ≤ℤ over_min g d t
-        least_at zero one low until = absurd (omega (arith, one))
-        least_at (suc j) one low until = let m = (run j low until).least in omega (arith, ints, m)
+        least_at zero one low until = absurd (omega arith)
+        least_at (suc j) one low until = let m = (run j low until).least in omega (arith, ints)
 
         greatest_at : (t : ℕ) → 1 ≤ t → first ≤ t → t ≤ suc k →
             (over_min g d t +ℤ reserve_in d t) ≤ℤ cap_of g false false
-        greatest_at zero one low until = absurd (omega (arith, one))
+        greatest_at zero one low until = absurd (omega arith)
         greatest_at (suc j) one low until =
             let m = (run j low until).greatest in
             let u = (under_cap g (eqb first (suc j)) false (power_in d (suc j) +ℤ reserve_in d (suc j)) m).most in
-            omega (arith, ints, clamps, u)
+            omega (arith, ints, clamps)
 
         start_at : (t : ℕ) → t ≡ first → 1 ≤ t → (over_min g d t +ℤ reserve_in d t) ≤ℤ cap_of g true false
-        start_at zero is one = absurd (omega (arith, one))
+        start_at zero is one = absurd (omega arith)
         start_at (suc j) is one =
-            let m = (run j (omega (arith, is)) (omega (arith, is, from))).greatest in
+            let m = (run j (omega arith) (omega arith)).greatest in
             let u = under_cap g (eqb first (suc j)) false (power_in d (suc j) +ℤ reserve_in d (suc j)) m in
-            let a = u.most in
             let b = u.start (eq-eqb first (suc j) (sym is)) in
-            omega (arith, ints, clamps, a, b)
+            omega (arith, ints, clamps)
 
         enter_at : (t : ℕ) → t ≡ first → 1 ≤ t → (over_min g d t +ℤ reserve_in d t) ≤ℤ g.ramp_up
-        enter_at zero is one = absurd (omega (arith, one))
+        enter_at zero is one = absurd (omega arith)
         enter_at (suc j) is one =
-            let m = (run j (omega (arith, is)) (omega (arith, is, from))).ramp_up in
-            let l = level_before g first d j (omega (arith, is)) in
-            omega (arith, ints, m, l)
+            let m = (run j (omega arith) (omega arith)).ramp_up in
+            let l = level_before g first d j (omega arith) in
+            omega (arith, ints)
 
         pub dispatch_from_run : IsDispatch g periods first (suc k) d
         dispatch_from_run = record {
@@ -221,20 +220,18 @@ module _ (g : ThermalUnit) (periods first : ℕ) (ramp_down : pos 0 ≤ℤ g.ram
           start = start_at first refl;
           enter = enter_at first refl;
           ramp_up = λ j low until.
-              (let m = (run j (omega (arith, low)) until).ramp_up in let l = level_within g first d j low in omega
-              (arith, ints, m, l));
+              (let m = (run j (omega arith) until).ramp_up in let l = level_within g first d j low in omega (arith, ints));
           ramp_down = λ j low until.
-              (let m = (run j (omega (arith, low)) until).ramp_down in let l = level_within g first d j low in omega
-              (arith, ints, m, l));
+              (let m = (run j (omega arith) until).ramp_down in let l = level_within g first d j low in omega (arith, ints));
           stop = λ inside one. (
               let m = (run k from (omega arith)).greatest in
               let a = (under_cap g (eqb first (suc k)) false (power_in d (suc k) +ℤ reserve_in d (suc k)) m).most in
               let b = end.stop inside in
-              omega (arith, ints, clamps, a, b)
+              omega (arith, ints, clamps)
               );
           leave = λ inside. end.leave inside;
-          stop_at_once = λ inside none. absurd (omega (arith, none));
-          leave_at_once = λ inside none. absurd (omega (arith, none));
+          stop_at_once = λ inside none. absurd (omega arith);
+          leave_at_once = λ inside none. absurd (omega arith);
         }
 
     module _ (h : IsDispatch g periods first (suc k) d) where
@@ -244,12 +241,12 @@ module _ (g : ThermalUnit) (periods first : ℕ) (ramp_down : pos 0 ≤ℤ g.ram
           let a = h.greatest (suc j) (omega arith) low until in
           cap_over g (eqb first (suc j)) false (power_in d (suc j) +ℤ reserve_in d (suc j))
           (record {
-            most = omega (arith, ints, clamps, a);
+            most = omega (arith, ints, clamps);
             start = λ e. (
                 let is = eqb-true first (suc j) e in
                 let b = subst (λ (t : ℕ). (over_min g d t +ℤ reserve_in d t) ≤ℤ cap_of g true false) is
-                (h.start (omega (arith, is))) in
-                omega (arith, ints, clamps, b)
+                (h.start (omega arith)) in
+                omega (arith, ints, clamps)
                 );
             stop = λ e. cc;
           })
@@ -264,22 +261,22 @@ module _ (g : ThermalUnit) (periods first : ℕ) (ramp_down : pos 0 ≤ℤ g.ram
                 let up = h.ramp_up j inside until in
                 let down = h.ramp_down j inside until in
                 record {
-                  least = omega (arith, ints, least);
+                  least = omega (arith, ints);
                   greatest = cap_here j low until;
-                  ramp_up = omega (arith, ints, l, up);
-                  ramp_down = omega (arith, ints, l, down);
+                  ramp_up = omega (arith, ints);
+                  ramp_down = omega (arith, ints);
                   leave = λ e. cc;
                 }
             | inl before ↦
-                let is : first ≡ suc j = omega (arith, before, low) in
+                let is : first ≡ suc j = omega arith in
                 let l = level_before g first d j before in
                 let up = subst (λ (t : ℕ). (over_min g d t +ℤ reserve_in d t) ≤ℤ g.ramp_up) is
-                (h.enter (omega (arith, is))) in
+                (h.enter (omega arith)) in
                 record {
-                  least = omega (arith, ints, least);
+                  least = omega (arith, ints);
                   greatest = cap_here j low until;
-                  ramp_up = omega (arith, ints, l, up);
-                  ramp_down = omega (arith, ints, l, least, ramp_down);
+                  ramp_up = omega (arith, ints);
+                  ramp_down = omega (arith, ints);
                   leave = λ e. cc;
                 }
           ]
@@ -289,6 +286,6 @@ module _ (g : ThermalUnit) (periods first : ℕ) (ramp_down : pos 0 ≤ℤ g.ram
 
       pub end_from_dispatch : MayEnd g periods k (power_in d (suc k)) (reserve_in d (suc k))
       end_from_dispatch = record {
-        stop = λ inside. (let s = h.stop inside (omega arith) in omega (arith, ints, clamps, s));
+        stop = λ inside. (let s = h.stop inside (omega arith) in omega (arith, ints, clamps));
         leave = λ inside. h.leave inside;
       }

@@ -19,23 +19,22 @@ pub record IsUnder (g : ThermalUnit) (starts stops : Bool) (z : ℤ) : Type 0 wh
 
 pub under_cap : (g : ThermalUnit) (starts stops : Bool) (z : ℤ) → z ≤ℤ cap_at g starts stops → IsUnder g starts stops z
 under_cap g true true z h = record {
-  most = omega (arith, ints, clamps, h);
-  start = λ _. omega (arith, ints, clamps, h);
+  most = omega (arith, ints, clamps);
+  start = λ _. omega (arith, ints, clamps);
   stop = λ _.
-      omega (arith, ints, clamps, h);
+      omega (arith, ints, clamps);
 }
 under_cap g true false z h = record
-    { most = omega (arith, ints, clamps, h); start = λ _. omega (arith, ints, clamps, h); stop = λ e. cc }
+    { most = omega (arith, ints, clamps); start = λ _. omega (arith, ints, clamps); stop = λ e. cc }
 under_cap g false true z h = record
-    { most = omega (arith, ints, clamps, h); start = λ e. cc; stop = λ _. omega (arith, ints, clamps, h) }
-under_cap g false false z h = record { most = omega (arith, ints, clamps, h); start = λ e. cc; stop = λ e. cc }
+    { most = omega (arith, ints, clamps); start = λ e. cc; stop = λ _. omega (arith, ints, clamps) }
+under_cap g false false z h = record { most = omega (arith, ints, clamps); start = λ e. cc; stop = λ e. cc }
 
 pub cap_over : (g : ThermalUnit) (starts stops : Bool) (z : ℤ) → IsUnder g starts stops z → z ≤ℤ cap_at g starts stops
-cap_over g true true z h = let a = h.most in let b = h.start refl in let c = h.stop refl in omega
-    (arith, ints, clamps, a, b, c)
-cap_over g true false z h = let a = h.most in let b = h.start refl in omega (arith, ints, clamps, a, b)
-cap_over g false true z h = let a = h.most in let c = h.stop refl in omega (arith, ints, clamps, a, c)
-cap_over g false false z h = let a = h.most in omega (arith, ints, clamps, a)
+cap_over g true true z h = let b = h.start refl in let c = h.stop refl in omega (arith, ints, clamps)
+cap_over g true false z h = let b = h.start refl in omega (arith, ints, clamps)
+cap_over g false true z h = let c = h.stop refl in omega (arith, ints, clamps)
+cap_over g false false z h = omega (arith, ints, clamps)
 
 -- the greatest power of a step
 pub under_most : (g : ThermalUnit) (π : PriceLists) (k : ℕ) (starts stops : Bool) (x : ℤ) →
@@ -44,7 +43,7 @@ pub under_most : (g : ThermalUnit) (π : PriceLists) (k : ℕ) (starts stops : B
 under_most g π k starts true x h =
     let c = cap_at g starts true in
     let z : x ≤ℤ int_min c (g.min_power +ℤ g.ramp_down) = h in
-    (omega (arith, ints, clamps, z), λ _. omega (arith, ints, clamps, z))
+    (omega (arith, ints, clamps), λ _. omega (arith, ints, clamps))
 under_most g π k starts false x h = (h, λ e. cc)
 
 pub most_over : (g : ThermalUnit) (π : PriceLists) (k : ℕ) (starts stops : Bool) (x : ℤ) → x ≤ℤ cap_at g starts stops →
@@ -53,7 +52,7 @@ most_over g π k starts true x h leave =
     let l = leave refl in
     let c = cap_at g starts true in
     let low : x ≤ℤ c = h in
-    let z : x ≤ℤ int_min c (g.min_power +ℤ g.ramp_down) = omega (arith, ints, clamps, l, low) in
+    let z : x ≤ℤ int_min c (g.min_power +ℤ g.ramp_down) = omega (arith, ints, clamps) in
     z
 most_over g π k starts false x h leave = h
 
@@ -65,7 +64,7 @@ sub_mul a b c =
     let f = mul-sub c a b in
     let i = *ℤ_comm c a in
     let j = *ℤ_comm c b in
-    omega (arith, ints, e, f, i, j)
+    omega (arith, ints)
 
 -- the parts of a step make up the net cost at the most reserve
 parts_are : (mu lambda cap up q p w e : ℤ) →
@@ -75,7 +74,7 @@ parts_are mu lambda cap up q p w e =
     let k = reserve_is_a_kink mu cap up q p in
     let s = sub_mul mu lambda p in
     let t : reserve_term mu cap up q ≡ neg_ℤ (mu *ℤ int_min cap (up +ℤ q)) = refl in
-    omega (arith, ints, k, s, t)
+    omega (arith, ints)
 
 -- ---- one step
 
@@ -95,8 +94,8 @@ module _ (g : ThermalUnit) (π : PriceLists) (k : ℕ) (c : Curve) (unit : IsThe
     (price : pos 0 ≤ℤ int_at π.reserve k) (curve : IsCostCurve g.points c) where
   spans : (x : ℤ) → g.min_power ≤ℤ x → x ≤ℤ g.max_power → Spans g.points x x
   spans x low high = record {
-    first = λ d. let e = unit.span.first d in omega (arith, ints, e, low);
-    last = λ n d is. let e = unit.span.last n d is in omega (arith, ints, e, high);
+    first = λ d. let e = unit.span.first d in omega (arith, ints);
+    last = λ n d is. let e = unit.span.last n d is in omega (arith, ints);
   }
 
   pub cost_on : (x : ℤ) → g.min_power ≤ℤ x → x ≤ℤ g.max_power → curve_value c x ≡ Some (envelope g.points x)
@@ -121,37 +120,32 @@ module _ (g : ThermalUnit) (π : PriceLists) (k : ℕ) (c : Curve) (unit : IsThe
         let low = w.2.0 in
         let high = under_most g π k starts stops x w.2.1 in
         let under = high.0 in
-        let back = w.3.0 in
-        let ahead = w.3.1 in
         let u = under_cap g starts stops x under in
         let at : x +ℤ pos 0 ≡ x = omega (arith, ints) in
         let e = same_some (curve_value c x) (subst (λ (y : ℤ). curve_value c y ≡ Some r.1) at r.3)
         (cost_on x low u.most) in
         let reserve = best_reserve mu cap g.ramp_up q x in
-        let may = best_may mu cap g.ramp_up q x under (omega (arith, ints, back)) in
+        let may = best_may mu cap g.ramp_up q x under (omega (arith, ints)) in
         let not_negative = may.least in
         let greatest = may.greatest in
         let ramp = may.ramp in
         let earns = best_earns mu cap g.ramp_up q x price in
         let parts = parts_are mu (int_at π.energy k) cap g.ramp_up q x b.0 r.1 in
-        let whole = r.4 in
-        let line = l.2 in
-        let kink = b.2 in
         record {
           before = q;
           old = b.0;
           reserve = reserve;
           there = b.1;
           not_negative = not_negative;
-          idle = λ none. best_where_not_paid mu cap g.ramp_up q x (omega (arith, ints, none));
+          idle = λ none. best_where_not_paid mu cap g.ramp_up q x (omega (arith, ints));
           move = record {
             least = low;
             greatest = greatest;
             ramp_up = ramp;
-            ramp_down = omega (arith, ints, ahead);
+            ramp_down = omega (arith, ints);
             leave = high.1;
           };
-          cost = omega (arith, ints, whole, line, kink, parts, e, earns);
+          cost = omega (arith, ints);
         }
 
     pub step_complete : (q w x r : ℤ) → value_of f q ≡ Some w → IsMove g starts stops q x r → pos 0 ≤ℤ r →
@@ -161,24 +155,23 @@ module _ (g : ThermalUnit) (π : PriceLists) (k : ℕ) (c : Curve) (unit : IsThe
         let greatest = move.greatest in
         let up = move.ramp_up in
         let down = move.ramp_down in
-        let under : x ≤ℤ cap = omega (arith, ints, greatest, kept) in
+        let under : x ≤ℤ cap = omega (arith, ints) in
         let u = under_cap g starts stops x under in
         let high = most_over g π k starts stops x under move.leave in
         let kinked : value_of step.kinked q ≡ Some (w +ℤ reserve_term mu cap g.ramp_up q) = step.is_kinked q ∙
         ap (option_map (λ v. v +ℤ reserve_term mu cap g.ramp_up q)) there in
         let n = step.is_window.least x q (w +ℤ reserve_term mu cap g.ramp_up q) kinked (low, high)
-        (omega (arith, ints, up, kept), omega (arith, ints, down)) in
+        (omega (arith, ints), omega (arith, ints)) in
         let line : value_of step.line x ≡ Some (n.0 +ℤ ((mu -ℤ int_at π.energy k) *ℤ x)) = step.is_line x ∙
         ap (option_map (λ v. v +ℤ ((mu -ℤ int_at π.energy k) *ℤ x))) n.1 in
         let p = on_curve x (n.0 +ℤ ((mu -ℤ int_at π.energy k) *ℤ x)) line low u.most in
         let may : IsReserve cap g.ramp_up q x r = record { least = kept; greatest = greatest; ramp = up } in
         let best = best_is_best mu cap g.ramp_up q x r price may in
         let earns = best_earns mu cap g.ramp_up q x price in
-        let parts = parts_are mu (int_at π.energy k) cap g.ramp_up q x w (envelope g.points x) in
-        let least = n.2 in (
+        let parts = parts_are mu (int_at π.energy k) cap g.ramp_up q x w (envelope g.points x) in (
           (n.0 +ℤ ((mu -ℤ int_at π.energy k) *ℤ x)) +ℤ envelope g.points x,
           p,
-          omega (arith, ints, least, best, earns, parts),
+          omega (arith, ints),
         )
       where
         on_curve : (x v : ℤ) → value_of step.line x ≡ Some v → g.min_power ≤ℤ x → x ≤ℤ g.max_power →
@@ -198,26 +191,18 @@ module _ (g : ThermalUnit) (π : PriceLists) (k : ℕ) (c : Curve) (unit : IsThe
       IsMove g starts stops q x r → pos 0 ≤ℤ r → IsWithin 1000000000000000 (net_cost_at g π k x r)
   net_within starts stops q x r law energy high move kept =
       let least = move.least in
-      let bottom = unit.min_power.at_least in
       let u = under_cap g starts stops (x +ℤ r) move.greatest in
-      let top = u.most in
-      let greatest = unit.max_power.at_most in
       let points : AreCostPoints g.points = record
       { some = unit.some_point; count = unit.point_count; points = unit.points; ordered = unit.points_ordered } in
-      let e = law g.points x points (spans x least (omega (arith, ints, top, kept))) in
+      let e = law g.points x points (spans x least (omega (arith, ints))) in
       let paid = product_within 10000000 10000000 (int_at π.energy k) x energy
-      (record { at_least = omega (arith, ints, least, bottom); at_most = omega (arith, ints, top, kept, greatest) })
+      (record { at_least = omega (arith, ints); at_most = omega (arith, ints) })
       in
       let worth = product_within 10000000 10000000 (int_at π.reserve k) r
-      (record { at_least = omega (arith, ints, price); at_most = high })
-      (record { at_least = kept; at_most = omega (arith, ints, top, least, bottom, greatest) }) in
+      (record { at_least = omega (arith, ints); at_most = high })
+      (record { at_least = kept; at_most = omega (arith, ints) }) in
       let a = e.at_least in
-      let b = e.at_most in
-      let c = paid.at_least in
-      let d = paid.at_most in
-      let i = worth.at_least in
-      let j = worth.at_most in
-      record { at_least = omega (arith, ints, a, b, c, d, i, j); at_most = omega (arith, ints, a, b, c, d, i, j) }
+      record { at_least = omega (arith, ints); at_most = omega (arith, ints) }
 
 -- ---- the best reserve of a step
 
@@ -231,9 +216,8 @@ module _ (g : ThermalUnit) (π : PriceLists) (k : ℕ) (price : pos 0 ≤ℤ int
   net_of_best =
       let parts = parts_are (int_at π.reserve k) (int_at π.energy k) cap g.ramp_up q x (pos 0) (envelope g.points x) in
       let earns = best_earns (int_at π.reserve k) cap g.ramp_up q x price in
-      omega (arith, ints, parts, earns)
+      omega (arith, ints)
 
   pub net_at_least : (r : ℤ) → IsReserve cap g.ramp_up q x r →
       net_cost_at g π k x (best_reserve (int_at π.reserve k) cap g.ramp_up q x) ≤ℤ net_cost_at g π k x r
-  net_at_least r may = let best = best_is_best (int_at π.reserve k) cap g.ramp_up q x r price may in omega
-      (arith, ints, best)
+  net_at_least r may = let best = best_is_best (int_at π.reserve k) cap g.ramp_up q x r price may in omega (arith, ints)

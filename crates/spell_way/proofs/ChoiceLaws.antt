@@ -13,58 +13,44 @@ stored_within z h = to_z-of_z w64 z (fits_within w64 3000000000 z h (omega arith
 module _ (s : Step) (fair : IsFairStep s) (p : ℤ) (p_out : IsOutput p) where
   p_stored : stored p ≡ p
   p_stored = stored_within p
-      (let a = p_out.at_least in let b = p_out.at_most in record
-      { at_least = omega (arith, ints, a); at_most = omega (arith, ints, b) })
+      (record
+      { at_least = omega (arith, ints); at_most = omega (arith, ints) })
 
   up_stored : stored s.ramp_up ≡ s.ramp_up
   up_stored = stored_within s.ramp_up
-      (let a = fair.ramp_up.at_least in let b = fair.ramp_up.at_most in record
-      { at_least = omega (arith, ints, a); at_most = omega (arith, ints, b) })
+      (record
+      { at_least = omega (arith, ints); at_most = omega (arith, ints) })
 
   cap_stored : stored s.cap ≡ s.cap
   cap_stored = stored_within s.cap
-      (let a = fair.cap.at_least in let b = fair.cap.at_most in record
-      { at_least = omega (arith, ints, a); at_most = omega (arith, ints, b) })
+      (record
+      { at_least = omega (arith, ints); at_most = omega (arith, ints) })
 
   module _ (q : ℤ) (q_out : IsOutput q) where
     q_stored : stored q ≡ q
     q_stored = stored_within q
-        (let a = q_out.at_least in let b = q_out.at_most in record
-        { at_least = omega (arith, ints, a); at_most = omega (arith, ints, b) })
+        (record
+        { at_least = omega (arith, ints); at_most = omega (arith, ints) })
 
     under_stored : stored (stored s.cap -ℤ stored p) ≡ s.cap -ℤ p
     under_stored =
         ap (λ (x : ℤ). stored (x -ℤ stored p)) cap_stored ∙ ap (λ (x : ℤ). stored (s.cap -ℤ x)) p_stored
         ∙ stored_within (s.cap -ℤ p) (
-        let a = fair.cap.at_least in
-        let b = fair.cap.at_most in
-        let c = p_out.at_least in
-        let d = p_out.at_most in
-        record { at_least = omega (arith, ints, a, d); at_most = omega (arith, ints, b, c) }
+        record { at_least = omega (arith, ints); at_most = omega (arith, ints) }
         )
 
     ahead_stored : stored (stored s.ramp_up +ℤ stored q) ≡ s.ramp_up +ℤ q
     ahead_stored =
         ap (λ (x : ℤ). stored (x +ℤ stored q)) up_stored ∙ ap (λ (x : ℤ). stored (s.ramp_up +ℤ x)) q_stored
         ∙ stored_within (s.ramp_up +ℤ q) (
-        let a = fair.ramp_up.at_least in
-        let b = fair.ramp_up.at_most in
-        let c = q_out.at_least in
-        let d = q_out.at_most in
-        record { at_least = omega (arith, ints, a, c); at_most = omega (arith, ints, b, d) }
+        record { at_least = omega (arith, ints); at_most = omega (arith, ints) }
         )
 
     rise_stored : stored (stored (stored s.ramp_up +ℤ stored q) -ℤ stored p) ≡ (s.ramp_up +ℤ q) -ℤ p
     rise_stored =
         ap (λ (x : ℤ). stored (x -ℤ stored p)) ahead_stored ∙ ap (λ (x : ℤ). stored ((s.ramp_up +ℤ q) -ℤ x)) p_stored
         ∙ stored_within ((s.ramp_up +ℤ q) -ℤ p) (
-        let a = fair.ramp_up.at_least in
-        let b = fair.ramp_up.at_most in
-        let c = q_out.at_least in
-        let d = q_out.at_most in
-        let e = p_out.at_least in
-        let f = p_out.at_most in
-        record { at_least = omega (arith, ints, a, c, f); at_most = omega (arith, ints, b, d, e) }
+        record { at_least = omega (arith, ints); at_most = omega (arith, ints) }
         )
 
     pub reserve_is : (result : ℤ) → FitsSigned w64 result → pos 0 <ℤ s.reserve_price →
@@ -81,15 +67,12 @@ module _ (s : Step) (fair : IsFairStep s) (p : ℤ) (p_out : IsOutput p) where
     reserve_out under rise =
         let may = best_may s.reserve_price s.cap s.ramp_up q p under rise in
         let a = may.least in
-        let b = may.greatest in
-        let c = fair.cap.at_most in
-        let d = p_out.at_least in
-        record { at_least = a; at_most = omega (arith, ints, b, c, d) }
+        record { at_least = a; at_most = omega (arith, ints) }
 
 pub output_stored : (z : ℤ) → IsOutput z → stored z ≡ z
 output_stored z h = stored_within z
-    (let a = h.at_least in let b = h.at_most in record
-    { at_least = omega (arith, ints, a); at_most = omega (arith, ints, b) })
+    (record
+    { at_least = omega (arith, ints); at_most = omega (arith, ints) })
 
 -- ---- what is written
 
@@ -97,7 +80,7 @@ cast_is : (z : ℤ) → IsOutput z → pos (nat_abs (stored z)) ≡ z
 cast_is z h = let e = output_stored z h in let a = h.at_least in ap (λ (x : ℤ). pos (nat_abs x)) e ∙ abs_is z a
   where
     abs_is : (z : ℤ) → pos 0 ≤ℤ z → pos (nat_abs z) ≡ z
-    abs_is z a = omega (arith, ints, a)
+    abs_is z a = omega (arith, ints)
 
 pub written_cast : (k : ℕ) (p r b : ℤ) (d d' : Schedule) → IsOutput p → IsOutput r → r ≡ b →
     IsWritten k (pos (nat_abs (stored p))) (pos (nat_abs (stored r))) d d' → IsWritten k p b d d'

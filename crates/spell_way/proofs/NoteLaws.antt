@@ -37,7 +37,7 @@ module _ (k : Table) (m a b va vb : ℤ) (bottom : IsBottom k m) (first : value_
       let p = to m bottom.value bottom.there in
       let q = from y w there in
       let r = to y w there in
-      omega (arith, ints, clamps, p, q, r, low, high)
+      omega (arith, ints, clamps)
 
   pub near_value : (v : ℤ) × (value_of k near ≡ Some v)
   near_value = between_powers k a b near va vb first last near_from near_to
@@ -47,23 +47,23 @@ module _ (k : Table) (m a b va vb : ℤ) (bottom : IsBottom k m) (first : value_
       let q = from y w there in
       let r = to y w there in
       record {
-        inside = (omega (arith, ints, clamps), omega (arith, ints, clamps, q, r, low, high));
+        inside = (omega (arith, ints, clamps), omega (arith, ints, clamps));
         there = near_value.1;
         least = λ z u at above below.
             (let za = from z u at in
             let zb = to z u at in
             by_lt_z z near
             (λ (l : z <ℤ near). (let s = bottom.falls z near u near_value.0 at near_value.1 l
-            (omega (arith, ints, clamps, l, za, above)) in omega (arith, ints, s)))
+            (omega (arith, ints, clamps)) in omega (arith, ints)))
             (λ (l : near ≤ℤ z). by_lt_z near m
-            (λ (s : near <ℤ m). (let e : near ≡ z = omega (arith, ints, clamps, l, s, zb, below) in let same = same_some
-            (value_of k near) near_value.1 (ap (value_of k) e ∙ at) in omega (arith, ints, same)))
+            (λ (s : near <ℤ m). (let e : near ≡ z = omega (arith, ints, clamps) in let same = same_some
+            (value_of k near) near_value.1 (ap (value_of k) e ∙ at) in omega (arith, ints)))
             (λ (s : m ≤ℤ near). bottom.rises near z near_value.0 u near_value.1 at s l)));
         first = λ z at above below.
             (let za = from z near_value.0 at in
             by_lt_z z near
             (λ (l : z <ℤ near). (let s = bottom.falls z near near_value.0 near_value.0 at near_value.1 l
-            (omega (arith, ints, clamps, l, za, above)) in absurd (omega (arith, ints, s))))
+            (omega (arith, ints, clamps)) in absurd (omega (arith, ints))))
             (λ (l : near ≤ℤ z). l));
       }
 
@@ -120,7 +120,7 @@ module _ (g : ThermalUnit) (π : PriceLists) (first k : ℕ) (unit : IsThermalUn
   starts = eqb first (suc k)
 
   price : pos 0 ≤ℤ int_at π.reserve k
-  price = (prices.reserve k (pos 0) (let e = prices.lengths in omega (arith, e, within))).at_least
+  price = (prices.reserve k (pos 0) (omega arith)).at_least
 
   module _ (stops : Bool) (n : Note) (after : Table) (noted : IsNoted g π first k stops n after) where
     -- some power before leads to a power that is reached
@@ -129,24 +129,16 @@ module _ (g : ThermalUnit) (π : PriceLists) (first k : ℕ) (unit : IsThermalUn
     reached x v there =
         let m = step_sound g π k noted.curve unit price noted.is_curve starts stops noted.before after noted.stepped x v
         there in
-        let up = m.move.ramp_up in
-        let down = m.move.ramp_down in
-        let kept = m.not_negative in
-        (m.before, m.old, m.there, (omega (arith, ints, up, kept), omega (arith, ints, down)))
+        (m.before, m.old, m.there, (omega (arith, ints), omega (arith, ints)))
 
     -- and the power is one of the step
     pub power_range : (x v : ℤ) → value_of after x ≡ Some v → IsOutput x × (x ≤ℤ cap_at g starts stops)
     power_range x v there =
         let m = step_sound g π k noted.curve unit price noted.is_curve starts stops noted.before after noted.stepped x v
         there in
-        let low = m.move.least in
-        let greatest = m.move.greatest in
-        let kept = m.not_negative in
-        let cap = cap_out g starts stops unit in
-        let bottom = unit.min_power.at_least in
-        let top = cap.at_most in (
-          record { at_least = omega (arith, ints, low, bottom); at_most = omega (arith, ints, greatest, kept, top) },
-          omega (arith, ints, greatest, kept),
+        let cap = cap_out g starts stops unit in (
+          record { at_least = omega (arith, ints); at_most = omega (arith, ints) },
+          omega (arith, ints),
         )
 
     module _ (s : Step) (begins : Bool) (is : s ≡ step_at g π k begins stops) (same : begins ≡ starts) (x v : ℤ)
@@ -174,15 +166,14 @@ module _ (g : ThermalUnit) (π : PriceLists) (first k : ℕ) (unit : IsThermalUn
       pub before_rise : (x -ℤ y) ≤ℤ s.ramp_up
       before_rise =
           let c = cheapest_noted in
-          let low = c.least.inside.0 in
           let e = ap (λ (s : Step). s.ramp_up) step_is in
-          omega (arith, ints, low, e)
+          omega (arith, ints)
 
       pub before_under : x ≤ℤ s.cap
       before_under =
           let r = (power_range x v there).1 in
           let e = ap (λ (s : Step). s.cap) step_is in
-          omega (arith, ints, r, e)
+          omega (arith, ints)
 
       pub chosen_noted : (d d' : Schedule) → IsWritten k (stored x)
           (best_reserve s.reserve_price s.cap s.ramp_up (stored y) (stored x)) d d' →
@@ -232,7 +223,7 @@ module _ (g : ThermalUnit) (π : PriceLists) (first k : ℕ) (unit : IsThermalUn
         let here = way_moved g π first (suc k) f after front next last d x cost way in
         let onward = onward_more g π first k noted.curve unit prices noted.is_curve within from last low noted.before
         after noted.frontier d x cost here in
-        way_of_choice g π first k noted.curve unit prices noted.is_curve within from last (omega (arith, low))
+        way_of_choice g π first k noted.curve unit prices noted.is_curve within from last (omega arith)
         noted.before after noted.frontier step d d' x y cost onward choice
 
     -- the power that it is written for is one after the step
@@ -256,7 +247,7 @@ module _ (g : ThermalUnit) (π : PriceLists) (first b : ℕ) (base : ℤ) (f : T
       let c = front.complete some (λ k from until. absurd (none k from until)) in
       let there : value_of f base ≡ Some c.0 = ap (value_of f) (sym (at some)) ∙ c.1 in
       let r = front.sound base c.0 there in
-      let zero : c.0 ≡ pos 0 = (let i = r.cost in let j = free r.run in omega (arith, ints, i, j)) in
+      let zero : c.0 ≡ pos 0 = (let j = free r.run in omega (arith, ints)) in
       record {
         there = there ∙ ap Some zero;
         only = λ x v is. (let r = front.sound x v is in sym r.ends ∙ at r.run);
@@ -271,9 +262,9 @@ module _ (g : ThermalUnit) (π : PriceLists) (last : ℕ) (f : Table) (d : Sched
       let z : 0 - 1 ≡ 0 = omega arith in
       let here = subst (λ (t : ℕ). IsFrontier g π 0 t f) z front in
       let on = subst (λ (t : ℕ). IsWayFrom g π 0 t last f d y c) z way in
-      let none : (k : ℕ) → 0 ≤ suc k → suc k ≤ 0 → ⊥ = λ k from until. absurd (omega (arith, until)) in
+      let none : (k : ℕ) → 0 ≤ suc k → suc k ≤ 0 → ⊥ = λ k from until. absurd (omega arith) in
       let at : (d : Schedule) → level g 0 d 0 ≡ g.power0 = λ d.
-      (let e = level_within g 0 d 0 (omega arith) in omega (arith, ints, e)) in
+      (let e = level_within g 0 d 0 (omega arith) in omega (arith, ints)) in
       let point = point_from_frontier g π 0 0 g.power0 f here none at (cost_zero g π) d in
       let starts : (k : ℕ) → 0 ≤ suc k → 0 ≤ k = λ k from. omega arith in
       of_way g π 0 0 last g.power0 f d y c unit prices point none starts (at d) (cost_zero g π d) end on
@@ -281,11 +272,11 @@ module _ (g : ThermalUnit) (π : PriceLists) (last : ℕ) (f : Table) (d : Sched
       let z : suc b - 1 ≡ b = omega arith in
       let here = subst (λ (t : ℕ). IsFrontier g π (suc b) t f) z front in
       let on = subst (λ (t : ℕ). IsWayFrom g π (suc b) t last f d y c) z way in
-      let none : (k : ℕ) → suc b ≤ suc k → suc k ≤ b → ⊥ = λ k from until. absurd (omega (arith, from, until)) in
+      let none : (k : ℕ) → suc b ≤ suc k → suc k ≤ b → ⊥ = λ k from until. absurd (omega arith) in
       let at : (d : Schedule) → level g (suc b) d b ≡ g.min_power = λ d. level_before g (suc b) d b (omega arith) in
       let free : (d : Schedule) → spell_cost g π (suc b) b d ≡ pos 0 = λ d. cost_none g π (suc b) b d (omega arith) in
       let point = point_from_frontier g π (suc b) b g.min_power f here none at free d in
-      let starts : (k : ℕ) → suc b ≤ suc k → b ≤ k = λ k from. omega (arith, from) in
+      let starts : (k : ℕ) → suc b ≤ suc k → b ≤ k = λ k from. omega arith in
       of_way g π (suc b) b last g.min_power f d y c unit prices point none starts (at d) (free d) end on
 
 -- ---- period by period
@@ -312,10 +303,10 @@ outside_more k last old d d' low here rest = record {
   where
     apart : (j : ℕ) → (suc j < suc k) ⊎ (last < suc j) → (suc j < suc k) ⊎ (suc k < suc j)
     apart j (inl h) = inl h
-    apart j (inr h) = inr (omega (arith, h, low))
+    apart j (inr h) = inr (omega arith)
 
     far : (j : ℕ) → (suc j < suc k) ⊎ (last < suc j) → (suc j < suc (suc k)) ⊎ (last < suc j)
-    far j (inl h) = inl (omega (arith, h))
+    far j (inl h) = inl (omega arith)
     far j (inr h) = inr h
 
 module _ (g : ThermalUnit) (π : PriceLists) (first k last : ℕ) (unit : IsThermalUnit g) (prices : ArePrices π)
@@ -326,7 +317,7 @@ module _ (g : ThermalUnit) (π : PriceLists) (first k last : ℕ) (unit : IsTher
       IsChosen (step_at g π k (eqb first (suc k)) (ltb (suc k) (length π.energy))) noted.before k x y d d' →
       IsWrittenFrom g π first k last d d' y
   written_end n after noted cost is least outside chosen =
-      let within : k < length π.energy = omega (arith, is, until) in
+      let within : k < length π.energy = omega arith in
       record {
         before = noted.before;
         frontier = noted.frontier;
@@ -343,7 +334,7 @@ module _ (g : ThermalUnit) (π : PriceLists) (first k last : ℕ) (unit : IsTher
       IsChosen (step_at g π k (eqb first (suc k)) false) noted.before k x y d d' →
       IsWrittenFrom g π first k last old d' y
   written_more n after noted law low rest chosen =
-      let within : k < length π.energy = omega (arith, low, until) in
+      let within : k < length π.energy = omega arith in
       record {
         before = noted.before;
         frontier = noted.frontier;
@@ -351,7 +342,7 @@ module _ (g : ThermalUnit) (π : PriceLists) (first k last : ℕ) (unit : IsTher
         way = way_more g π first k unit prices within from last d d' x y rest.cost n after noted law low rest.before
             rest.frontier rest.way chosen;
         on = on_more k last x _ d d' chosen.written rest.on;
-        outside = outside_more k last old d d' (omega (arith, low)) chosen.written.outside rest.outside;
+        outside = outside_more k last old d d' (omega arith) chosen.written.outside rest.outside;
       }
 
 -- ---- the end that is noted
@@ -362,9 +353,9 @@ pub end_of_noted : (g : ThermalUnit) (π : PriceLists) (first last : ℕ) (passe
     (record { turn = e.turn; first = (passed (last - 1)).note.first; last = (passed (last - 1)).note.last }) after ×
     IsLeast after e.value e.at
 end_of_noted g π first last passed e one noted is =
-    let same : noted.lowest ≡ e = (let a = noted.is_end in cc) in
+    let same : noted.lowest ≡ e = (cc) in
     let here = subst (IsEndNoted g π first (last - 1) (passed (last - 1)).note) same noted.end in
-    let z : suc (last - 1) ≡ last = omega (arith, one) in (
+    let z : suc (last - 1) ≡ last = omega arith in (
       here.0,
       subst (λ (l : ℕ). IsNoted g π first (last - 1) (ltb l (length π.energy))
           (record {
@@ -416,8 +407,8 @@ module _ (g : ThermalUnit) (π : PriceLists) (first last : ℕ) (unit : IsTherma
       after e.value (stored e.at)
   end_stored =
       let here = end_of_noted g π first last passed e one noted is in
-      let within : last - 1 < length π.energy = omega (arith, one, until) in
-      let from : first ≤ suc (last - 1) = omega (arith, one, order) in
+      let within : last - 1 < length π.energy = omega arith in
+      let from : first ≤ suc (last - 1) = omega arith in
       let out = (power_range g π first (last - 1) unit prices within from (ltb last (length π.energy))
       (record { turn = e.turn; first = (passed (last - 1)).note.first; last = (passed (last - 1)).note.last })
       here.0 here.1 e.at e.value here.2.there).0 in (
@@ -436,8 +427,8 @@ module _ (g : ThermalUnit) (π : PriceLists) (first last : ℕ) (unit : IsTherma
       (stored e.at) y d d') → IsWrittenFrom g π first (last - 1) last d d' y
   written_last d d' y chosen =
       let here = end_stored in
-      let z : suc (last - 1) ≡ last = omega (arith, one) in
-      let from : first ≤ suc (last - 1) = omega (arith, one, order) in
+      let z : suc (last - 1) ≡ last = omega arith in
+      let from : first ≤ suc (last - 1) = omega arith in
       let P : ℕ → Type 0 = λ l. (noted : IsNoted g π first (last - 1) (ltb l (length π.energy)) end_note here.0) →
       IsChosen (step_at g π (last - 1) (eqb first (suc (last - 1))) (ltb l (length π.energy))) noted.before
       (last - 1) (stored e.at) y d d' →
@@ -458,7 +449,7 @@ module _ (g : ThermalUnit) (π : PriceLists) (last : ℕ) (unit : IsThermalUnit 
       (from.cost, w.0, w.1))
 
   pub written_on : (first : ℕ) → IsWrittenFrom g π first (first - 1) last old d y → IsOnFromTo first last d
-  written_on first from k low high = from.on k (omega (arith, low)) high
+  written_on first from k low high = from.on k (omega arith) high
 
   pub written_outside : (first : ℕ) → IsWrittenFrom g π first (first - 1) last old d y → IsSameOutside first last old d
   written_outside first from = record {
@@ -471,5 +462,5 @@ module _ (g : ThermalUnit) (π : PriceLists) (last : ℕ) (unit : IsThermalUnit 
   }
     where
       apart : (k : ℕ) → (suc k < first) ⊎ (last < suc k) → (suc k < suc (first - 1)) ⊎ (last < suc k)
-      apart k (inl h) = inl (omega (arith, h))
+      apart k (inl h) = inl (omega arith)
       apart k (inr h) = inr h

@@ -5,13 +5,13 @@ use Rattle.spell_way.proofs.Common.{Schedule, IsOnFromTo, IsWritten}
 pub on_more : (k last : ℕ) (p r : ℤ) (d d' : Schedule) → IsWritten k p r d d' → IsOnFromTo (suc (suc k)) last d →
     IsOnFromTo (suc k) last d'
 on_more k last p r d d' written on j from until = elim (cases_lt k j) [
-  | inl after ↦ written.outside.on j (inr (omega (arith, after))) ∙ on j (omega (arith, after)) until
-  | inr most ↦ let z : k ≡ j = omega (arith, most, from) in subst (λ (i : ℕ). IsTrue (get_or d'.on i false)) z
+  | inl after ↦ written.outside.on j (inr (omega arith)) ∙ on j (omega arith) until
+  | inr most ↦ let z : k ≡ j = omega arith in subst (λ (i : ℕ). IsTrue (get_or d'.on i false)) z
       written.on
 ]
 
 pub on_last : (k last : ℕ) (p r : ℤ) (d d' : Schedule) → suc k ≡ last → IsWritten k p r d d' →
     IsOnFromTo (suc k) last d'
 on_last k last p r d d' is written j from until =
-    let z : k ≡ j = omega (arith, is, from, until) in
+    let z : k ≡ j = omega arith in
     subst (λ (i : ℕ). IsTrue (get_or d'.on i false)) z written.on

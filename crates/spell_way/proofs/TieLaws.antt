@@ -12,21 +12,20 @@ use Rattle.spell_way.proofs.WayLaws.{move_of}
 -- where sums of terms that are no greater are equal, so are the terms
 same_terms : (n : ℕ) (f g : ℕ → ℤ) → ((i : ℕ) → i < n → f i ≤ℤ g i) → sum_below n f ≡ sum_below n g → (i : ℕ) → i < n →
     f i ≡ g i
-same_terms zero f g le same i low = absurd (omega (arith, low))
+same_terms zero f g le same i low = absurd (omega arith)
 same_terms (suc n) f g le same i low =
-    let rest = sums_le n f g (λ j h. le j (omega (arith, h))) in
+    let rest = sums_le n f g (λ j h. le j (omega arith)) in
     let last = le n (omega arith) in
     let whole : sum_below n f +ℤ f n ≡ sum_below n g +ℤ g n = same in
     elim (cases_lt i n) [
-      | inl less ↦ same_terms n f g (λ j h. le j (omega (arith, h))) (omega (arith, ints, rest, last, whole)) i less
-      | inr most ↦ let z : n ≡ i = omega (arith, most, low) in let e : f n ≡ g n = omega
-          (arith, ints, rest, last, whole) in subst (λ (j : ℕ). f j ≡ g j) z e
+      | inl less ↦ same_terms n f g (λ j h. le j (omega arith)) (omega (arith, ints)) i less
+      | inr most ↦ let z : n ≡ i = omega arith in let e : f n ≡ g n = omega (arith, ints) in subst (λ (j : ℕ). f j ≡ g j) z e
     ]
   where
     sums_le : (n : ℕ) (f g : ℕ → ℤ) → ((i : ℕ) → i < n → f i ≤ℤ g i) → sum_below n f ≤ℤ sum_below n g
     sums_le zero f g le = omega (arith, ints)
-    sums_le (suc n) f g le = let a = sums_le n f g (λ j h. le j (omega (arith, h))) in let b = le n (omega arith) in
-        omega (arith, ints, a, b)
+    sums_le (suc n) f g le = let a = sums_le n f g (λ j h. le j (omega arith)) in let b = le n (omega arith) in
+        omega (arith, ints)
 
 module _ (g : ThermalUnit) (π : PriceLists) (first last : ℕ) (unit : IsThermalUnit g) (prices : ArePrices π)
     (end : last ≤ length π.energy) (d other : Schedule)
@@ -42,14 +41,14 @@ module _ (g : ThermalUnit) (π : PriceLists) (first last : ℕ) (unit : IsTherma
   level_shared (suc i) low from = elim (cases_lt (suc i) first) [
     | inl before ↦ level_before g first other (suc i) before ∙ sym (level_before g first d (suc i) before)
     | inr inside ↦
-        let e = same i inside (omega (arith, low)) in
+        let e = same i inside (omega arith) in
         let a = level_within g first other (suc i) inside in
         let b = level_within g first d (suc i) inside in
-        omega (arith, ints, e, a, b)
+        omega (arith, ints)
   ]
 
   price_at : (j : ℕ) → j < last → pos 0 ≤ℤ int_at π.reserve j
-  price_at j low = (prices.reserve j (pos 0) (let e = prices.lengths in omega (arith, e, low, end))).at_least
+  price_at j low = (prices.reserve j (pos 0) (omega arith)).at_least
 
   abbrev cap_here : ℕ → ℤ
   cap_here j = cap_at g (eqb first (suc j)) (stops_at last (length π.energy) j)
@@ -58,7 +57,7 @@ module _ (g : ThermalUnit) (π : PriceLists) (first last : ℕ) (unit : IsTherma
   kept_here : (j : ℕ) → first ≤ suc j → j < last → IsReserve (cap_here j) g.ramp_up (level g first d j)
       (power_in d (suc j)) (reserve_in other (suc j))
   kept_here j from low =
-      let m = move_of g (length π.energy) first unit.ramp_down.at_least other last j from (omega (arith, low))
+      let m = move_of g (length π.energy) first unit.ramp_down.at_least other last j from (omega arith)
       other_dispatch in
       let n = move_same g (eqb first (suc j)) (stops_at last (length π.energy) j) (level g first other j)
       (power_in other (suc j)) (reserve_in other (suc j)) (level g first d j) (power_in d (suc j))
@@ -75,7 +74,7 @@ module _ (g : ThermalUnit) (π : PriceLists) (first last : ℕ) (unit : IsTherma
       let b = (reserve_is_best (int_at π.reserve j) (cap_here j) g.ramp_up (level g first d j) (power_in d (suc j))
       (reserve_in other (suc j)) (price_at j low) (kept_here j from low)).best in
       let e = ap (λ (r : ℤ). int_at π.reserve j *ℤ r) (best j from low) in
-      omega (arith, ints, b, e)
+      omega (arith, ints)
 
   net_parts : (j : ℕ) → first ≤ suc j → j < last → net_cost g π other (suc j) ≡ net_cost_at g π j (power_in d (suc j))
       (reserve_in other (suc j))
@@ -84,17 +83,17 @@ module _ (g : ThermalUnit) (π : PriceLists) (first last : ℕ) (unit : IsTherma
   net_le : (t : ℕ) → first ≤ t → t ≤ last → net_cost g π d t ≤ℤ net_cost g π other t
   net_le zero from low = omega (arith, ints)
   net_le (suc j) from low =
-      let e = net_parts j from (omega (arith, low)) in
-      let b = worth_le j from (omega (arith, low)) in
-      omega (arith, ints, e, b)
+      let e = net_parts j from (omega arith) in
+      let b = worth_le j from (omega arith) in
+      omega (arith, ints)
 
   pub reserve_first : spell_cost g π first last other ≡ spell_cost g π first last d → (k : ℕ) → first ≤ suc k →
       k < last → reserve_in d (suc k) ≤ℤ reserve_in other (suc k)
   reserve_first cost k from low =
       let terms = same_terms (suc last - first) (λ i. net_cost g π d (first + i)) (λ i. net_cost g π other (first + i))
-      (λ i h. net_le (first + i) (omega arith) (omega (arith, h))) (sym cost) (suc k - first)
-      (omega (arith, from, low)) in
-      let at : first + (suc k - first) ≡ suc k = omega (arith, from) in
+      (λ i h. net_le (first + i) (omega arith) (omega arith)) (sym cost) (suc k - first)
+      (omega arith) in
+      let at : first + (suc k - first) ≡ suc k = omega arith in
       let net : net_cost g π d (suc k) ≡ net_cost g π other (suc k) = subst
       (λ (t : ℕ). net_cost g π d t ≡ net_cost g π other t) at terms in
       let e = net_parts k from low in
@@ -102,8 +101,8 @@ module _ (g : ThermalUnit) (π : PriceLists) (first last : ℕ) (unit : IsTherma
       let worth = ap (λ (r : ℤ). int_at π.reserve k *ℤ r) is in
       let law = reserve_is_best (int_at π.reserve k) (cap_here k) g.ramp_up (level g first d k) (power_in d (suc k))
       (reserve_in other (suc k)) (price_at k low) (kept_here k from low) in
-      let least = law.least (omega (arith, ints, net, e, worth)) in
-      omega (arith, ints, least, is)
+      let least = law.least (omega (arith, ints)) in
+      omega (arith, ints)
 
 -- ---- a whole spell
 
@@ -119,8 +118,7 @@ module _ (g : ThermalUnit) (π : PriceLists) (first b last : ℕ) (base : ℤ) (
       let z : way.before ≡ pos 0 = same_some (value_of f base) (ap (value_of f) (sym e) ∙ way.there) point.there in
       let r = way.completes d (λ k from until. absurd (none k from until)) (at ∙ sym e)
       (record { power = λ j low high. refl; reserve = λ j low high. refl }) in
-      let cost = r.1 in
-      (r.0, omega (arith, ints, cost, cost_none, z), r.2)
+      (r.0, omega (arith, ints), r.2)
 
   pub of_way : IsBestDispatch g π (length π.energy) first last d c × IsFirstDispatch g π (length π.energy) first last d
       c

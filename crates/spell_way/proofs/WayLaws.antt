@@ -21,7 +21,7 @@ and_true false = refl
 
 pub stops_before : (last periods k : ℕ) → suc k < last → stops_at last periods k ≡ false
 stops_before last periods k h = and_right (ltb last periods) (eqb last (suc k))
-    (ne_eqb last (suc k) (λ e. absurd (omega (arith, e, h))))
+    (ne_eqb last (suc k) (λ e. absurd (omega arith)))
 
 pub stops_last : (periods k : ℕ) → stops_at (suc k) periods k ≡ ltb (suc k) periods
 stops_last periods k = ap (λ (b : Bool). ltb (suc k) periods && b) (eq-eqb (suc k) (suc k) refl) ∙
@@ -34,9 +34,9 @@ module _ (g : ThermalUnit) (periods first : ℕ) (ramp_down : pos 0 ≤ℤ g.ram
   pub move_of : (last k : ℕ) → first ≤ suc k → suc k ≤ last → IsDispatch g periods first last d →
       IsMove g (eqb first (suc k)) (stops_at last periods k) (level g first d k) (power_in d (suc k))
       (reserve_in d (suc k))
-  move_of zero k from until dispatch = absurd (omega (arith, until))
+  move_of zero k from until dispatch = absurd (omega arith)
   move_of (suc m) k from until dispatch =
-      let start : first ≤ suc m = omega (arith, from, until) in
+      let start : first ≤ suc m = omega arith in
       let run = run_from_dispatch g periods first ramp_down d m start dispatch in
       elim (cases_lt (suc k) (suc m)) [
         | inl less ↦
@@ -44,7 +44,7 @@ module _ (g : ThermalUnit) (periods first : ℕ) (ramp_down : pos 0 ≤ℤ g.ram
             subst (λ (b : Bool). IsMove g (eqb first (suc k)) b (level g first d k) (power_in d (suc k))
             (reserve_in d (suc k))) (sym e) (run k from until)
         | inr most ↦
-            let z : m ≡ k = omega (arith, most, until) in
+            let z : m ≡ k = omega arith in
             let end = end_from_dispatch g periods first ramp_down d m start dispatch in
             let whole = move_whole g (eqb first (suc m)) periods m (level g first d m) (power_in d (suc m))
             (reserve_in d (suc m)) (run m start (omega arith)) end in
@@ -55,10 +55,10 @@ module _ (g : ThermalUnit) (periods first : ℕ) (ramp_down : pos 0 ≤ℤ g.ram
       ]
 
   pub run_of : (last k : ℕ) → first ≤ suc k → suc k ≤ last → IsDispatch g periods first last d → IsRun g first k d
-  run_of zero k from until dispatch = absurd (omega (arith, until))
+  run_of zero k from until dispatch = absurd (omega arith)
   run_of (suc m) k from until dispatch = λ j low high.
-      run_from_dispatch g periods first ramp_down d m (omega (arith, from, until)) dispatch j low
-      (omega (arith, high, until))
+      run_from_dispatch g periods first ramp_down d m (omega arith) dispatch j low
+      (omega arith)
 
 -- ---- a period whose own power is found
 
@@ -101,7 +101,7 @@ module _ (g : ThermalUnit) (π : PriceLists) (first k : ℕ) (c : Curve) (unit :
   mu = int_at π.reserve k
 
   price : pos 0 ≤ℤ mu
-  price = (prices.reserve k (pos 0) (let e = prices.lengths in omega (arith, e, within))).at_least
+  price = (prices.reserve k (pos 0) (omega arith)).at_least
 
   -- ---- the last period
 
@@ -118,9 +118,7 @@ module _ (g : ThermalUnit) (π : PriceLists) (first k : ℕ) (c : Curve) (unit :
         (level g first other k) b.0 (power_in other (suc k)) (reserve_in other (suc k)) b.1 m
         (reserve_not_negative other k) in
         let more = cost_more g π first k other from in
-        let low = b.2 in
-        let least = s.2 in
-        (s.0, s.1, omega (arith, ints, more, low, least))
+        (s.0, s.1, omega (arith, ints))
 
     pub onward_end : IsOnward g π first k (suc k) h d x cost
     onward_end = record {
@@ -134,19 +132,19 @@ module _ (g : ThermalUnit) (π : PriceLists) (first k : ℕ) (c : Curve) (unit :
             dispatch_from_run g T first unit.ramp_down.at_least run k from (run_more g first k run keeps parts.0)
                 parts.1,
             omega (arith, ints),
-            λ j low high. absurd (omega (arith, low, high)),
+            λ j low high. absurd (omega arith),
           );
       least = λ other dispatch.
           (let l = last_value other dispatch in let a = is.least (power_in other (suc k)) l.0 l.1 in let b = l.2 in
-          omega (arith, ints, a, b));
+          omega (arith, ints));
       rest = λ other dispatch same power. omega (arith, ints);
       first_here = λ other dispatch cost_is same.
           let l = last_value other dispatch in
           let a = is.least (power_in other (suc k)) l.0 l.1 in
           let b = l.2 in
-          let e : l.0 ≡ cost = omega (arith, ints, a, b, cost_is) in
+          let e : l.0 ≡ cost = omega (arith, ints) in
           is.first (power_in other (suc k)) (l.1 ∙ ap Some e);
-      first_after = λ other dispatch cost_is i low high same. absurd (omega (arith, low, high));
+      first_after = λ other dispatch cost_is i low high same. absurd (omega arith);
     }
 
   -- ---- a period before the last one
@@ -164,8 +162,7 @@ module _ (g : ThermalUnit) (π : PriceLists) (first k : ℕ) (c : Curve) (unit :
       least = way.least;
       rest = λ other dispatch same power. way.rest other dispatch same (level_power g first other k from ∙ power);
       first_here = λ other dispatch cost_is same.
-          (let a = way.first_before other dispatch cost_is same in let e = level_power g first other k from in omega
-          (arith, ints, a, e));
+          (let a = way.first_before other dispatch cost_is same in let e = level_power g first other k from in omega (arith, ints));
       first_after = way.first_after;
     }
 
@@ -199,16 +196,12 @@ module _ (g : ThermalUnit) (π : PriceLists) (first k : ℕ) (c : Curve) (unit :
     move : IsMove g begins ends y x r
     move =
         let m = step_sound g π k c unit price curve begins ends f h step x onward.value onward.there in
-        let greatest = m.move.greatest in
-        let kept = m.not_negative in
-        let back = chosen.least.inside.0 in
-        let ahead = chosen.least.inside.1 in
-        let may = best_may mu cap g.ramp_up y x (omega (arith, ints, greatest, kept)) (omega (arith, ints, back)) in
+        let may = best_may mu cap g.ramp_up y x (omega (arith, ints)) (omega (arith, ints)) in
         record {
           least = m.move.least;
           greatest = may.greatest;
           ramp_up = may.ramp;
-          ramp_down = omega (arith, ints, ahead);
+          ramp_down = omega (arith, ints);
           leave = m.move.leave;
         }
 
@@ -220,66 +213,63 @@ module _ (g : ThermalUnit) (π : PriceLists) (first k : ℕ) (c : Curve) (unit :
         let kept = m.not_negative in
         let greatest = m.move.greatest in
         let up = m.move.ramp_up in
-        let down = m.move.ramp_down in
         let may_x = move.greatest in
-        let may = best_may mu cap g.ramp_up y x (omega (arith, ints, greatest, kept))
-        (let back = chosen.least.inside.0 in omega (arith, ints, back)) in
+        let may = best_may mu cap g.ramp_up y x (omega (arith, ints))
+        (omega (arith, ints)) in
         let s = step_complete g π k c unit price curve begins ends f h step y w x r source.1 move may.least in
         let same = same_some (value_of h x) s.1 onward.there in
-        let above = s.2 in
         let kinked : value_of chosen.kinked q ≡ Some (m.old +ℤ term q) = chosen.is_kinked q ∙
         ap (option_map (λ v. v +ℤ term q)) m.there in
-        let least = chosen.least.least q (m.old +ℤ term q) kinked (omega (arith, ints, up, kept))
-        (omega (arith, ints, down)) in
+        let least = chosen.least.least q (m.old +ℤ term q) kinked (omega (arith, ints))
+        (omega (arith, ints)) in
         let below = net_at_least g π k price cap q x m.reserve (record { least = kept; greatest = greatest; ramp = up })
         in
         let net_q = net_of_best g π k price cap q x in
         let net_y = net_of_best g π k price cap y x in
         let is = m.cost in
         let from_y = source.2 in
-        omega (arith, ints, same, above, least, below, net_q, net_y, is, from_y)
+        omega (arith, ints)
 
     power_after : (j : ℕ) → suc k ≤ j → power_in d' (suc j) ≡ power_in d (suc j)
-    power_after j later = ap pos (chosen.written.outside.power j (inr (omega (arith, later))))
+    power_after j later = ap pos (chosen.written.outside.power j (inr (omega arith)))
 
     reserve_after : (j : ℕ) → suc k ≤ j → reserve_in d' (suc j) ≡ reserve_in d (suc j)
-    reserve_after j later = ap pos (chosen.written.outside.reserve j (inr (omega (arith, later))))
+    reserve_after j later = ap pos (chosen.written.outside.reserve j (inr (omega arith)))
 
     same_later : (other : Schedule) → HasSamePowersAfter (suc k) last d' other → HasSamePowersAfter (suc k) last d other
     same_later other same j later high = same j later high ∙ power_after j later
 
     later_of : (i : ℕ) (other : Schedule) → k ≤ i → HasSamePowersAfter (suc i) last d' other →
         HasSamePowersAfter (suc i) last d other
-    later_of i other above same j later high = same j later high ∙ power_after j (omega (arith, later, above))
+    later_of i other above same j later high = same j later high ∙ power_after j (omega arith)
 
     way_completes : (run : Schedule) → IsRun g first k run → level g first run k ≡ y → IsSameAfter k last d' run →
         IsDispatch g T first last run × (spell_cost g π first last run ≡ spell_cost g π first k run +ℤ (cost -ℤ w)) ×
         ((j : ℕ) → k ≤ j → j < last → HasBestReserve g π first last run j)
     way_completes run keeps at same =
-        let power : power_in run (suc k) ≡ x = same.power k (omega arith) (omega (arith, low)) ∙ chosen.written.power in
-        let reserve : reserve_in run (suc k) ≡ r = same.reserve k (omega arith) (omega (arith, low)) ∙
+        let power : power_in run (suc k) ≡ x = same.power k (omega arith) (omega arith) ∙ chosen.written.power in
+        let reserve : reserve_in run (suc k) ≡ r = same.reserve k (omega arith) (omega arith) ∙
         chosen.written.reserve in
         let m = move_same g begins ends y x r (level g first run k) (power_in run (suc k)) (reserve_in run (suc k))
         (sym at) (sym power) (sym reserve) move in
         let later : IsSameAfter (suc k) last d run = record {
-          power = λ j above high. same.power j (omega (arith, above)) high ∙ power_after j above;
-          reserve = λ j above high. same.reserve j (omega (arith, above)) high ∙ reserve_after j above;
+          power = λ j above high. same.power j (omega arith) high ∙ power_after j above;
+          reserve = λ j above high. same.reserve j (omega arith) high ∙ reserve_after j above;
         } in
         let o = onward.completes run keeps power m later in
         let more = cost_more g π first k run from in
         let net : net_cost g π run (suc k) ≡ net_cost_at g π k x r = ap
         (λ (p : ℤ). net_cost_at g π k p (reserve_in run (suc k))) power ∙
         ap (λ (r : ℤ). net_cost_at g π k x r) reserve in
-        let whole = o.1 in
         let is = value_is in
         let best : HasBestReserve g π first last run k =
         reserve ∙ ap (λ (q : ℤ). best_reserve mu cap g.ramp_up q x) (sym at) ∙
         ap (λ (p : ℤ). best_reserve mu cap g.ramp_up (level g first run k) p) (sym power) in (
           o.0,
-          omega (arith, ints, whole, more, net, is),
+          omega (arith, ints),
           λ j above high. elim (cases_lt k j) [
-            | inl after ↦ o.2 j (omega (arith, after)) high
-            | inr most ↦ let z : k ≡ j = omega (arith, most, above) in subst
+            | inl after ↦ o.2 j (omega arith) high
+            | inr most ↦ let z : k ≡ j = omega arith in subst
                 (λ (i : ℕ). HasBestReserve g π first last run i) z best
           ],
         )
@@ -291,7 +281,7 @@ module _ (g : ThermalUnit) (π : PriceLists) (first k : ℕ) (c : Curve) (unit :
         q = level g first other k
 
         other_power : power_in other (suc k) ≡ x
-        other_power = same k (omega arith) (omega (arith, low)) ∙ chosen.written.power
+        other_power = same k (omega arith) (omega arith) ∙ chosen.written.power
 
         other_move : IsMove g begins ends q x (reserve_in other (suc k))
         other_move =
@@ -306,16 +296,16 @@ module _ (g : ThermalUnit) (π : PriceLists) (first k : ℕ) (c : Curve) (unit :
             let least = net_at_least g π k price cap q x (reserve_in other (suc k)) may in
             let same_net : net_cost g π other (suc k) ≡ net_cost_at g π k x (reserve_in other (suc k)) = ap
             (λ (p : ℤ). net_cost_at g π k p (reserve_in other (suc k))) other_power in
-            omega (arith, ints, least, same_net)
+            omega (arith, ints)
 
         other_rest : ((spell_cost g π first k other +ℤ net_cost g π other (suc k)) +ℤ (cost -ℤ onward.value)) ≤ℤ
             spell_cost g π first last other
         other_rest =
             let o = onward.rest other dispatch
-            (λ j later high. same j (omega (arith, later)) high ∙ power_after j later)
+            (λ j later high. same j (omega arith) high ∙ power_after j later)
             other_power in
             let more = cost_more g π first k other from in
-            omega (arith, ints, o, more)
+            omega (arith, ints)
 
         way_rest : q ≡ y → (spell_cost g π first k other +ℤ (cost -ℤ w)) ≤ℤ spell_cost g π first last other
         way_rest at =
@@ -324,7 +314,7 @@ module _ (g : ThermalUnit) (π : PriceLists) (first k : ℕ) (c : Curve) (unit :
             let is = value_is in
             let e : net_cost_at g π k x (best_reserve mu cap g.ramp_up q x) ≡ net_cost_at g π k x r = ap
             (λ (z : ℤ). net_cost_at g π k x (best_reserve mu cap g.ramp_up z x)) at in
-            omega (arith, ints, o, n, is, e)
+            omega (arith, ints)
 
         way_first : spell_cost g π first last other ≡ cost → y ≤ℤ q
         way_first cost_is =
@@ -332,20 +322,18 @@ module _ (g : ThermalUnit) (π : PriceLists) (first k : ℕ) (c : Curve) (unit :
             let n = other_net in
             let is = value_is in
             let b = front.complete other (run_of g T first unit.ramp_down.at_least other last k from low dispatch) in
-            let reached = b.2 in
             let kinked : value_of chosen.kinked q ≡ Some (b.0 +ℤ term q) = chosen.is_kinked q ∙
             ap (option_map (λ v. v +ℤ term q)) b.1 in
             let kept = reserve_not_negative other k in
             let up = other_move.ramp_up in
             let down = other_move.ramp_down in
-            let back : (x -ℤ g.ramp_up) ≤ℤ q = omega (arith, ints, up, kept) in
-            let ahead : q ≤ℤ (x +ℤ g.ramp_down) = omega (arith, ints, down) in
+            let back : (x -ℤ g.ramp_up) ≤ℤ q = omega (arith, ints) in
+            let ahead : q ≤ℤ (x +ℤ g.ramp_down) = omega (arith, ints) in
             let least = chosen.least.least q (b.0 +ℤ term q) kinked back ahead in
             let net_q = net_of_best g π k price cap q x in
             let net_y = net_of_best g π k price cap y x in
             let from_y = source.2 in
-            let e : b.0 +ℤ term q ≡ chosen.value = omega
-            (arith, ints, o, n, is, reached, least, net_q, net_y, from_y, cost_is) in
+            let e : b.0 +ℤ term q ≡ chosen.value = omega (arith, ints) in
             chosen.least.first q (kinked ∙ ap Some e) back ahead
 
     way_after : (other : Schedule) → IsDispatch g T first last other → spell_cost g π first last other ≡ cost →
@@ -353,17 +341,16 @@ module _ (g : ThermalUnit) (π : PriceLists) (first k : ℕ) (c : Curve) (unit :
         power_in d' (suc i) ≤ℤ power_in other (suc i)
     way_after other dispatch cost_is i above high same = elim (cases_lt k i) [
       | inl after ↦
-          let a = onward.first_after other dispatch cost_is i (omega (arith, after)) high (later_of i other above same)
+          let a = onward.first_after other dispatch cost_is i (omega arith) high (later_of i other above same)
           in
-          let e = power_after i (omega (arith, after)) in
-          omega (arith, ints, a, e)
+          let e = power_after i (omega arith) in
+          omega (arith, ints)
       | inr most ↦
-          let z : i ≡ k = omega (arith, most, above) in
+          let z : i ≡ k = omega arith in
           let here : HasSamePowersAfter (suc k) last d' other = subst
           (λ (t : ℕ). HasSamePowersAfter (suc t) last d' other) z same in
           let a = onward.first_here other dispatch cost_is (same_later other here) in
-          let e = chosen.written.power in
-          let b : power_in d' (suc k) ≤ℤ power_in other (suc k) = omega (arith, ints, a, e) in
+          let b : power_in d' (suc k) ≤ℤ power_in other (suc k) = omega (arith, ints) in
           subst (λ (t : ℕ). power_in d' (suc t) ≤ℤ power_in other (suc t)) (sym z) b
     ]
 

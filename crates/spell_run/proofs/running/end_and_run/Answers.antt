@@ -102,7 +102,7 @@ returns-then-is_alike-clause-ended c =
     let place = c.args.place in
     let before : suc place < length c.args.prices.now.energy.items = omega arith in
     let price = (c.args.prices.now.valid.reserve place (pos 0)
-    (let e = c.args.prices.now.valid.lengths in let low = c.requires.place in omega (arith, e, low))).at_least in
+    (omega arith)).at_least in
     let fits : FitsSigned w64 c.run_over-note-then-is_alike.result.turn = search rules in
     ended_alike (thermal_of c.args.unit.now) (prices_of c.args.prices.now) c.args.first place
     c.run_over-note-then-is_alike.result (shown c.args.running.now)
@@ -121,10 +121,8 @@ least_beside-end-requires-clause-curve c =
 
 pub least_beside-end-requires-clause-small : goal.least_beside-end-requires-clause-small
 least_beside-end-requires-clause-small c =
-    let horizon = c.args.prices.now.valid.horizon.at_most in
-    let place = c.requires.place in
     small_frontier (thermal_of c.args.unit.now) (prices_of c.args.prices.now) c.args.first c.args.place _
-    (omega (arith, horizon, place)) c.requires.frontier
+    (omega arith) c.requires.frontier
 
 pub run_over-note-requires-2-clause-frontier : goal.run_over-note-requires-2-clause-frontier
 run_over-note-requires-2-clause-frontier c =
@@ -141,7 +139,7 @@ by_step c =
     let first = c.args.first in
     let place = c.args.place in
     let f = shown c.args.running.now in
-    let before : suc place < length c.args.prices.now.energy.items = (let low = c.requires.place in omega (arith, low))
+    let before : suc place < length c.args.prices.now.energy.items = (omega arith)
     in
     let found = c.least_beside-end.ensures.least in
     answer_of_step unit prices first place c.args.curve.now c.args.unit.now.valid c.args.prices.now.valid
@@ -166,11 +164,11 @@ returns-clause-ended c =
     let first = c.args.first in
     let place = c.args.place in
     let f = shown c.args.running.now in
-    let before : suc place < length c.args.prices.now.energy.items = (let low = c.requires.place in omega (arith, low))
+    let before : suc place < length c.args.prices.now.energy.items = (omega arith)
     in
     let found = c.least_beside-end.ensures.least in
     let price = (c.args.prices.now.valid.reserve place (pos 0)
-    (let e = c.args.prices.now.valid.lengths in let low = c.requires.place in omega (arith, e, low))).at_least in
+    (omega arith)).at_least in
     let same = c.least_beside-end.ensures.shown in
     let is = c.step_of-last.ensures.step ∙ ap (λ b. step_at unit prices place b true) c.starts_in-starts.ensures in
     let least = subst (λ (s : Step). MatchOption c.least_beside-end.result (IsEmpty found.0)

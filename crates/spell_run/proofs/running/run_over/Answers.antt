@@ -13,10 +13,8 @@ step-requires-clause-curve c =
 
 pub step-requires-clause-small : goal.step-requires-clause-small
 step-requires-clause-small c =
-    let horizon = c.args.prices.now.valid.horizon.at_most in
-    let place = c.requires.place in
     small_frontier (thermal_of c.args.unit.now) (prices_of c.args.prices.now) c.args.first c.args.place _
-    (omega (arith, horizon, place)) c.requires.frontier
+    (omega arith) c.requires.frontier
 
 pub returns-clause-frontier : goal.returns-clause-frontier
 returns-clause-frontier c =

@@ -8,17 +8,11 @@ returns c = λ f v y w turn first last there reach.
     let s = c.args.step in
     let n = c.args.note in
     let x = c.args.power in
-    let p = c.requires.power.at_least in
-    let q = c.requires.power.at_most in
-    let u = c.requires.step.ramp_up.at_least in
-    let u' = c.requires.step.ramp_up.at_most in
-    let d = c.requires.step.ramp_down.at_least in
-    let d' = c.requires.step.ramp_down.at_most in
     let fits_low : FitsSigned w64 (x -ℤ s.ramp_up) = fits_within w64 3000000000 (x -ℤ s.ramp_up)
-    (record { at_least = omega (arith, ints, p, q, u, u'); at_most = omega (arith, ints, p, q, u, u') })
+    (record { at_least = omega (arith, ints); at_most = omega (arith, ints) })
     (omega arith) in
     let fits_high : FitsSigned w64 (x +ℤ s.ramp_down) = fits_within w64 3000000000 (x +ℤ s.ramp_down)
-    (record { at_least = omega (arith, ints, p, q, d, d'); at_most = omega (arith, ints, p, q, d, d') })
+    (record { at_least = omega (arith, ints); at_most = omega (arith, ints) })
     (omega arith) in
     let fits_x : FitsSigned w64 x = search rules in
     let fits_up : FitsSigned w64 s.ramp_up = search rules in

@@ -54,7 +54,7 @@ write_best-requires-clause-under c =
     (near c.step_of-step.result c.args.visit.note c.args.visit.power c.cheapest_before-before.result (search rules)
     c.cheapest_before-before.ensures) in
     let e = output_stored c.args.visit.power (range (goal.at.write_best-requires-clause-under c).Start).0 in
-    omega (arith, ints, under, e)
+    omega (arith, ints)
 
 pub write_best-requires-clause-rise : goal.write_best-requires-clause-rise
 write_best-requires-clause-rise c =
@@ -74,7 +74,7 @@ write_best-requires-clause-rise c =
     c.starts_in.ensures c.args.visit.power noted.2.0 noted.2.1 c.cheapest_before-before.result
     (near c.step_of-step.result c.args.visit.note c.args.visit.power c.cheapest_before-before.result (search rules)
     c.cheapest_before-before.ensures)) in
-    omega (arith, ints, rise, e, h)
+    omega (arith, ints)
 
 pub returns-clause-chosen : goal.returns-clause-chosen
 returns-clause-chosen c = λ after v noted there.

@@ -10,12 +10,8 @@ whole : (c : After-loop-back) → IsWrittenFrom (thermal_of c.args.unit.now) (pr
     (c.args.first - 1) c.args.last (schedule_of c.args.into.now.response) (schedule_of c.loop-back.into.response)
     (to_z w64 c.loop-back.power-bits)
 whole c =
-    let test = c.loop-back-test.false in
-    let most = c.max.ensures in
-    let order = c.requires.order in
-    let one = c.requires.some in
-    let end = c.loop-back.auto.back-end (omega (arith, most, order, one)) in
-    let z : c.args.last - c.loop-back.back ≡ c.args.first - 1 = omega (arith, test, most, end, order, one) in
+    let end = c.loop-back.auto.back-end (omega arith) in
+    let z : c.args.last - c.loop-back.back ≡ c.args.first - 1 = omega arith in
     subst (λ (t : ℕ). IsWrittenFrom (thermal_of c.args.unit.now) (prices_of c.args.prices.now) c.args.first t
     c.args.last (schedule_of c.args.into.now.response) (schedule_of c.loop-back.into.response)
     (to_z w64 c.loop-back.power-bits)) z c.loop-back.invariant.from
@@ -39,19 +35,16 @@ loop-back-init c =
 
 pub write_period-power-requires-in-loop-back-clause-noted : goal.write_period-power-requires-in-loop-back-clause-noted
 write_period-power-requires-in-loop-back-clause-noted c =
-    let test = c.loop-back-test.true in
-    let most = c.max.ensures in
     let k = (c.args.last - 1) - c.loop-back.back in
-    let z : c.args.last - c.loop-back.back ≡ suc k = omega (arith, test, most) in
+    let z : c.args.last - c.loop-back.back ≡ suc k = omega arith in
     let from = subst (λ (t : ℕ). IsWrittenFrom (thermal_of c.args.unit.now) (prices_of c.args.prices.now) c.args.first t
     c.args.last (schedule_of c.args.into.now.response) (schedule_of c.loop-back.into.response)
     (to_z w64 c.loop-back.power-bits)) z c.loop-back.invariant.from in
-    let order : c.args.first ≤ suc k = omega (arith, test, most) in
-    let low : suc k < c.args.last = (let one = c.loop-back.auto.back in omega (arith, test, most, one)) in
-    let until = c.requires.end in
+    let order : c.args.first ≤ suc k = omega arith in
+    let low : suc k < c.args.last = (omega arith) in
     let n = c.requires.noted.on k order low in
     let v = there_after (thermal_of c.args.unit.now) (prices_of c.args.prices.now) c.args.first k c.args.unit.now.valid
-    c.args.prices.now.valid (omega (arith, low, until)) order c.args.last
+    c.args.prices.now.valid (omega arith) order c.args.last
     (schedule_of c.loop-back.into.response) (schedule_of c.loop-back.into.response) (to_z w64 c.loop-back.power-bits)
     (to_z w64 c.loop-back.power-bits) from.cost (passed_at c.args.passed.now k).note n.0 n.1
     c.envelope_is_cost.ensures from.before from.frontier from.way in
@@ -60,19 +53,17 @@ write_period-power-requires-in-loop-back-clause-noted c =
 pub loop-back-preserved : goal.loop-back-preserved
 loop-back-preserved c =
     let fits : FitsSigned w64 c.write_period-power-in-loop-back.result = search rules in
-    let test = c.loop-back-test.true in
-    let most = c.max.ensures in
     let k = (c.args.last - 1) - c.loop-back.back in
-    let z : c.args.last - c.loop-back.back ≡ suc k = omega (arith, test, most) in
+    let z : c.args.last - c.loop-back.back ≡ suc k = omega arith in
     let from = subst (λ (t : ℕ). IsWrittenFrom (thermal_of c.args.unit.now) (prices_of c.args.prices.now) c.args.first t
     c.args.last (schedule_of c.args.into.now.response) (schedule_of c.loop-back.into.response)
     (to_z w64 c.loop-back.power-bits)) z c.loop-back.invariant.from in
-    let order : c.args.first ≤ suc k = omega (arith, test, most) in
-    let low : suc k < c.args.last = (let one = c.loop-back.auto.back in omega (arith, test, most, one)) in
+    let order : c.args.first ≤ suc k = omega arith in
+    let low : suc k < c.args.last = (omega arith) in
     let until = c.requires.end in
     let n = c.requires.noted.on k order low in
     let v = there_after (thermal_of c.args.unit.now) (prices_of c.args.prices.now) c.args.first k c.args.unit.now.valid
-    c.args.prices.now.valid (omega (arith, low, until)) order c.args.last
+    c.args.prices.now.valid (omega arith) order c.args.last
     (schedule_of c.loop-back.into.response) (schedule_of c.loop-back.into.response) (to_z w64 c.loop-back.power-bits)
     (to_z w64 c.loop-back.power-bits) from.cost (passed_at c.args.passed.now k).note n.0 n.1
     c.envelope_is_cost.ensures from.before from.frontier from.way in

@@ -4,9 +4,8 @@ use Rattle.spell_way.proofs.write.reserve_of.Goals as goal
 
 pub returns-clause-best : goal.returns-clause-best
 returns-clause-best c =
-    let least = c.requires.step.reserve_price.at_least in
     reserve_is c.args.step c.requires.step c.args.power c.requires.power c.args.before c.requires.before c.min.result
-    (record { sfits = c.min.type_inv }) (omega (arith, ints, least)) c.min.ensures.value
+    (record { sfits = c.min.type_inv }) (omega (arith, ints)) c.min.ensures.value
 
 pub returns-clause-bound : goal.returns-clause-bound
 returns-clause-bound c =
