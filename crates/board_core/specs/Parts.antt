@@ -9,6 +9,7 @@ use Rattle.board_history.specs.Entries.{entries_of}
 use Rattle.board_history.specs.Rounds.{Event, Posts, posts, Holders, holders, answers, prices_at}
 use Rattle.board_history.specs.Rounds.{rows_of, opened, is_halt_of, is_halt}
 use Rattle.board_history.specs.declared.entries.Entry.{Entry}
+use Rattle.board_store.specs.Answers.{Answers}
 use Rattle.uc_model.specs.Data.{units, unit_count}
 use Rattle.uc_model.specs.PriceRule.{Proposal}
 use Rattle.plain_lists.specs.Sums.{int_at, total}
@@ -137,11 +138,13 @@ pub record IsBoard (b : Setup) (h : List (Event Answer)) (x : Lists) (l : Ledger
   pub halts : AreHalts b x.halted x.any_halt h
 
 -- what the other fields of a board keep: room in its lists of entries and of takers, entries that
--- are those of its events, and stored answers and prices over the horizon
+-- are those of its events, a store over the horizon that takes an answer for each task that has
+-- none, and prices over the horizon
 pub record IsKept (b : Setup) (h : List (Event Answer)) (entries : List Entry) (x : Lists)
-    (most_entries most_takers over next_over : ℕ) : Type 0 where
+    (most_entries most_takers : ℕ) (s : Answers) (next_over : ℕ) : Type 0 where
   pub room : HasRoom b (length entries) (length x.takers) x.marks x.halted most_entries
   pub takers_room : task_count b ≤ most_takers
   pub entries_are : entries_of h ≡ entries
-  pub store : over ≡ b.market.periods
+  pub store : s.periods ≡ b.market.periods
+  pub left : unset x.marks ≤ s.left
   pub next : next_over ≡ b.market.periods

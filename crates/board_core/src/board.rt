@@ -25,7 +25,7 @@ use crate::ledger::Ledger;
 use crate::opening::{EventLists, Room, no_events, open_ledger};
 use crate::posts::{closed_of, count_up, post_entry, refusal};
 use crate::replies::{Claim, Posted};
-use crate::terms::{Terms, task_number};
+use crate::terms::{Terms, number_before, task_number};
 use board_history::entries::{Call, Entry, Reply};
 use board_history::laws::board_laws;
 use board_store::Store;
@@ -96,7 +96,7 @@ impl Model for Board {
           halted = b.lists.halted.items;
           any_halt = b.any_halt;
         })
-        (vec_capacity b.lists.history) (vec_capacity b.lists.takers) b.store.periods
+        (vec_capacity b.lists.history) (vec_capacity b.lists.takers) b.store
         (length (prices_of b.room.next).energy)
         × IsTaskFor (setup_of b.terms).market.periods b.room.own };
 }
@@ -222,7 +222,7 @@ impl Board {
         let before = task.proposal as usize - 1;
         let at = task_number(units, task.proposal, task.unit);
         self.lists.marks[at] = true;
-        self.store.put(at, answer);
+        self.store.put(at, answer, number_before(units, at));
         self.ledger.add(before, task, answer);
         let closes = count_up(&mut self.lists.counts, before) == units;
         self.lists

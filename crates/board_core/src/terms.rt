@@ -65,3 +65,11 @@ pub fn task_number(units: u32, proposal: u32, unit: u32) -> usize
 {
     (proposal as usize - 1) * units as usize + unit as usize
 }
+
+/// The number of the same unit's task in the proposal before, or 0 where there is none. What a unit
+/// does at prices it often does at the next ones too.
+pub fn number_before(units: u32, number: usize) -> usize
+    ensures { result ≤ number }
+{
+    number.saturating_sub(units as usize)
+}

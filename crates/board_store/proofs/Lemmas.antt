@@ -1,3 +1,3 @@
 -- The lemmas that answers cite, passed on from one place.
-pub use Rattle.board_store.proofs.Parts.{inside, stands, others_stay, length-with_part, length-part}
-pub use Rattle.board_store.proofs.Tables.{row_of, part_inside, within_used, room_for_numbers, table_written, rows_written, rows_kept, zeros, more_room, table_more, rows_more, map_replicate}
+pub use Rattle.board_store.proofs.Parts.{inside, length-part}
+pub use Rattle.board_store.proofs.Tables.{place_in, row_inside, place_inside, table_named, room_for_row, table_more, rows_blank, rows_named, rows_more}

@@ -1,188 +1,106 @@
--- A table with one more row written.
-use Rattle.board_store.proofs.Common.{◌≡◌, ℕ, zero, suc, ◌+◌, ◌*◌, ◌<◌, ◌≤◌, ◌⊎◌, inl, inr, List, [], ◌∷◌, ◌++◌, length, map, get_or, refl, sym, ap, ◌∙◌, arith, length-append, set, length-set, get_or-set_same, get_or-set_other, length-map, length-replicate, replicate, with_part, Rows, row_at, rows_in, blank, blanks, IsTable}
-use Rattle.std.proofs.lemmas.List.Sums.{sum_by-set}
-use Rattle.board_store.proofs.Parts.{inside, stands, others_stay, others_stay_more, stands_last, length-with_part, length-part}
+-- A table with one more row put.
+use Rattle.board_store.proofs.Common.{◌≡◌, ℕ, zero, suc, ◌+◌, ◌*◌, ◌<◌, ◌≤◌, ◌⊎◌, inl, inr, List, [], ◌∷◌, ◌++◌, length, take, drop, map, get_or, sym, ap, ◌∙◌, arith, set, length-set, get_or-set_same, get_or-set_other, length-map, length-replicate, map-set, replicate, refl, part, Rows, rows_in, IsTable}
+use Rattle.board_store.proofs.Parts.{inside, take_all, others_stay_more, stands_last}
 
 same_or : (x y : ℕ) → (x ≡ y) ⊎ (x ≡ y → ⊥)
 same_or x y = grind arith
 
--- ---- lists of numbers, mapped
-
-same_maps : {B : Type 0} (f g : ℕ → B) (xs ys : List ℕ) → length ys ≡ length xs → ((k : ℕ) → k < length xs → g (get_or ys k 0) ≡ f (get_or xs k 0)) → map g ys ≡ map f xs
-same_maps f g [] [] e h = refl
-same_maps f g [] (y ∷ ys) e h = absurd (omega (arith, e))
-same_maps f g (x ∷ xs) [] e h = absurd (omega (arith, e))
-same_maps {B} f g (x ∷ xs) (y ∷ ys) e h =
-    ap (λ (z : B). z ∷ map g ys) (h 0 (omega arith))
-    ∙ ap (λ (zs : List B). f x ∷ zs) (same_maps f g xs ys (omega (arith, e)) (λ k lt. h (suc k) (omega (arith, lt))))
-
--- one item is another, and the others are the same
-one_changed : {B : Type 0} (f g : ℕ → B) (xs ys : List ℕ) (i : ℕ) (v : B) → length ys ≡ length xs → i < length xs → g (get_or ys i 0) ≡ v → ((k : ℕ) → (k ≡ i → ⊥) → g (get_or ys k 0) ≡ f (get_or xs k 0)) → map g ys ≡ set (map f xs) i v
-one_changed f g [] ys i v e lt here there = absurd (omega (arith, lt))
-one_changed f g (x ∷ xs) [] i v e lt here there = absurd (omega (arith, e))
-one_changed {B} f g (x ∷ xs) (y ∷ ys) zero v e lt here there =
-    ap (λ (z : B). z ∷ map g ys) here
-    ∙ ap (λ (zs : List B). v ∷ zs) (same_maps f g xs ys (omega (arith, e)) (λ k _. there (suc k) (λ (s : suc k ≡ 0). absurd (omega (arith, s)))))
-one_changed {B} f g (x ∷ xs) (y ∷ ys) (suc i) v e lt here there =
-    ap (λ (z : B). z ∷ map g ys) (there 0 (λ (s : 0 ≡ suc i). absurd (omega (arith, s))))
-    ∙ ap (λ (zs : List B). f x ∷ zs) (one_changed f g xs ys i v (omega (arith, e)) (omega (arith, lt)) here (λ k ne. there (suc k) (λ (s : suc k ≡ suc i). ne (omega (arith, s)))))
+same_maps : {B : Type 0} (f g : ℕ → B) (xs : List ℕ) → ((k : ℕ) → k < length xs → g (get_or xs k 0) ≡ f (get_or xs k 0)) → map g xs ≡ map f xs
+same_maps f g [] h = refl
+same_maps {B} f g (x ∷ xs) h =
+    ap (λ (z : B). z ∷ map g xs) (h 0 (omega arith))
+    ∙ ap (λ (zs : List B). f x ∷ zs) (same_maps f g xs (λ k lt. h (suc k) (omega (arith, lt))))
 
 pub map_replicate : {B : Type 0} (f : ℕ → B) (n : ℕ) (x : ℕ) → map f (replicate n x) ≡ replicate n (f x)
 map_replicate f zero x = refl
 map_replicate {B} f (suc n) x = ap (λ (zs : List B). f x ∷ zs) (map_replicate f n x)
 
--- with more room a table is one still
-pub more_room : (long : ℕ) (ordinals : List ℕ) (used : ℕ) (numbers : List ℕ) (room more : ℕ) → room ≤ more → IsTable long ordinals used numbers room → IsTable long ordinals used numbers more
-more_room long ordinals used numbers room more le T = record { size = T.size; within = T.within; apart = T.apart; few = T.few; count = T.count; fits = omega (arith, T.fits, le) }
+-- a place of the table has one of its ordinals
+pub place_in : {A : Type 0} (v : Rows A) (long left : ℕ) (cells : List A) (ordinals : List ℕ) (place : ℕ) →
+    (let w : Rows A = record { long = long; left = left; rows = rows_in long cells ordinals } in w ≡ v) → place < length v.rows → place < length ordinals
+place_in {A} v long left cells ordinals place is lt =
+    let e : length (rows_in long cells ordinals) ≡ length v.rows = ap (λ (w : Rows A). length w.rows) is in
+    omega (arith, e, lt, length-map ordinals (part cells long))
 
--- a list of zeros
-pub zeros : (xs : List ℕ) → ((k : ℕ) → k < length xs → get_or xs k 0 ≡ 0) → xs ≡ replicate (length xs) 0
-zeros [] h = refl
-zeros (x ∷ xs) h =
-    ap (λ (y : ℕ). y ∷ xs) (h 0 (omega arith))
-    ∙ ap (λ (ys : List ℕ). 0 ∷ ys) (zeros xs (λ k lt. h (suc k) (omega (arith, lt))))
-
-blank_here : (ps : List ℕ) (i : ℕ) → i < length ps → get_or ps i 0 ≡ 0 → 1 ≤ blanks ps
-blank_here ps i lt e =
-    let s = sum_by-set blank ps i 1 0 lt in
-    let f : blank (get_or ps i 0) ≡ 1 = ap blank e in
-    omega (arith, s, f)
-
-module _ (long : ℕ) (ordinals : List ℕ) (used : ℕ) (numbers : List ℕ) (room : ℕ) (T : IsTable long ordinals used numbers room) (i : ℕ) (lt : i < length ordinals) where
+module _ (long : ℕ) (ordinals : List ℕ) (used cells room : ℕ) (T : IsTable long ordinals used cells room) where
   -- ---- the row of an ordinal
 
-  -- the numbers of the rows that have some are within
-  pub part_inside : (p : ℕ) → p < used → p * long + long ≤ length numbers
-  part_inside p h = inside p used long (length numbers) h T.size
+  pub row_inside : (n : ℕ) → n ≤ used → n * long + long ≤ cells
+  row_inside n le = inside n (suc used) long cells (omega (arith, le)) T.size
 
-  pub within_used : (p : ℕ) → get_or ordinals i 0 ≡ suc p → p < used
-  within_used p e = let w = T.within i in omega (arith, e, w)
+  pub place_inside : (i : ℕ) → get_or ordinals i 0 * long + long ≤ cells
+  place_inside i = row_inside (get_or ordinals i 0) (T.within i)
 
-  -- one more row may have numbers
-  pub room_for_one : get_or ordinals i 0 ≡ 0 → suc used ≤ length ordinals
-  room_for_one e = let b = blank_here ordinals i lt e in let f = T.few in omega (arith, b, f)
+  set_within : (i n most : ℕ) → i < length ordinals → n ≤ most → used ≤ most → (k : ℕ) → get_or (set ordinals i n) k 0 ≤ most
+  set_within i n most lt le more k = elim (same_or k i) [
+    | inl e ↦
+        let f : get_or (set ordinals i n) k 0 ≡ n = ap (λ (j : ℕ). get_or (set ordinals i n) j 0) e ∙ get_or-set_same ordinals i n 0 lt in
+        omega (arith, f, le)
+    | inr ne ↦ let f = get_or-set_other ordinals i k n 0 ne in let w = T.within k in omega (arith, f, w, more)
+  ]
 
-  pub room_for_numbers : get_or ordinals i 0 ≡ 0 → length numbers + long ≤ room
-  room_for_numbers e =
-      let m = inside used (length ordinals) long (length ordinals * long) (room_for_one e) refl in
-      let s = T.size in
-      let r = T.fits in
-      omega (arith, m, s, r)
+  module _ (i : ℕ) (lt : i < length ordinals) where
+    -- ---- a place names a row that is there
 
-  module _ (row : List ℕ) (size : length row ≡ long) where
-    -- ---- a row that has numbers
+    pub table_named : (n : ℕ) → n ≤ used → IsTable long (set ordinals i n) used cells room
+    table_named n le = record {
+      size = T.size;
+      within = set_within i n used lt le (omega arith);
+      few = let f = T.few in let l = length-set ordinals i n in omega (arith, f, l);
+      count = let c = T.count in let l = length-set ordinals i n in omega (arith, c, l);
+      fits = let e = ap (λ (m : ℕ). suc m * long) (length-set ordinals i n) in let r = T.fits in omega (arith, e, r);
+    }
 
-    module _ (p : ℕ) (is : get_or ordinals i 0 ≡ suc p) where
-      abbrev numbers2 : List ℕ
-      numbers2 = with_part numbers long p row
+    -- ---- a place names a row that is added
 
-      pub table_written : IsTable long ordinals used numbers2 room
-      table_written = record {
-        size = length-with_part numbers row long p (part_inside p (within_used p is)) size ∙ T.size;
-        within = T.within;
-        apart = T.apart;
-        few = T.few;
-        count = T.count;
-        fits = T.fits;
+    module _ (more : used < length ordinals) where
+      pub room_for_row : cells + long ≤ room
+      room_for_row =
+          let m = inside (suc used) (suc (length ordinals)) long (suc (length ordinals) * long) (omega (arith, more)) refl in
+          let s = T.size in
+          let r = T.fits in
+          omega (arith, m, s, r)
+
+      pub table_more : (n cells2 room2 : ℕ) → n ≡ suc used → cells2 ≡ cells + long → room ≤ room2 → IsTable long (set ordinals i n) n cells2 room2
+      table_more n cells2 room2 is longer wider = record {
+        size = let e = ap (λ (m : ℕ). suc m * long) is in let s = T.size in omega (arith, e, s, longer);
+        within = set_within i n n lt (omega arith) (omega (arith, is));
+        few = let l = length-set ordinals i n in omega (arith, more, is, l);
+        count = let c = T.count in let l = length-set ordinals i n in omega (arith, c, l);
+        fits = let e = ap (λ (m : ℕ). suc m * long) (length-set ordinals i n) in let r = T.fits in omega (arith, e, r, wider);
       }
 
-      other_row : (k : ℕ) → (k ≡ i → ⊥) → (q : ℕ) → get_or ordinals k 0 ≡ q → row_at long numbers2 q ≡ row_at long numbers q
-      other_row k ne zero at = refl
-      other_row k ne (suc q) at = others_stay numbers row long p q (part_inside p (within_used p is)) size
-          (λ (same : q ≡ p). ne (sym (T.apart i k (omega (arith, is)) (is ∙ ap suc (sym same) ∙ sym at))))
+-- ---- the rows
 
-      pub rows_written : rows_in long numbers2 ordinals ≡ set (rows_in long numbers ordinals) i row
-      rows_written =
-          one_changed (row_at long numbers) (row_at long numbers2) ordinals ordinals i row refl lt
-          (ap (row_at long numbers2) is ∙ stands numbers row long p (part_inside p (within_used p is)) size)
-          (λ k ne. other_row k ne (get_or ordinals k 0) refl)
+pub rows_blank : {A : Type 0} (long count : ℕ) (cells : List A) (ordinals : List ℕ) (blank : A) → cells ≡ replicate long blank → ordinals ≡ replicate count 0 →
+    rows_in long cells ordinals ≡ replicate count (replicate long blank)
+rows_blank {A} long count cells ordinals blank same zeros =
+    ap (map (part cells long)) zeros ∙ map_replicate (part cells long) count 0 ∙ ap (λ (r : List A). replicate count r)
+    ((let e : 0 * long ≡ 0 = omega arith in ap (λ (k : ℕ). take long (drop k cells)) e)
+    ∙ take_all cells long (ap (λ (r : List A). length r) same ∙ length-replicate {A = A} long blank) ∙ same)
 
-    -- ---- a row of zeros stays one
+module _ {A : Type 0} (v : Rows A) (long left : ℕ) (cells : List A) (ordinals : List ℕ) (i : ℕ) (row : List A)
+    (is : let w : Rows A = record { long = long; left = left; rows = rows_in long cells ordinals } in w ≡ v) (fits : length row ≡ v.long) where
+  size : length row ≡ long
+  size = fits ∙ sym (ap (λ (w : Rows A). w.long) is)
 
-    pub rows_kept : get_or ordinals i 0 ≡ 0 → row ≡ replicate long 0 → rows_in long numbers ordinals ≡ set (rows_in long numbers ordinals) i row
-    rows_kept is zero_row = one_changed (row_at long numbers) (row_at long numbers) ordinals ordinals i row refl lt (ap (row_at long numbers) is ∙ sym zero_row) (λ k ne. refl)
+  in_view : set (rows_in long cells ordinals) i row ≡ set v.rows i row
+  in_view = ap (λ (w : Rows A). set w.rows i row) is
 
-    -- ---- a row of zeros becomes another
+  -- the place names a row that is there, as the code saw it
+  pub rows_named : (n : ℕ) (seen : List A) → seen ≡ cells → part seen (length row) n ≡ row → rows_in long cells (set ordinals i n) ≡ set v.rows i row
+  rows_named n seen all same =
+      map-set (part cells long) ordinals i n
+      ∙ ap (λ (r : List A). set (rows_in long cells ordinals) i r) (ap (λ (xs : List A). part xs long n) (sym all) ∙ ap (λ (m : ℕ). part seen m n) (sym size) ∙ same)
+      ∙ in_view
 
-    module _ (is : get_or ordinals i 0 ≡ 0) (next : ℕ) (next_is : next ≡ suc used) where
-      abbrev ordinals2 : List ℕ
-      ordinals2 = set ordinals i next
-
-      here : get_or ordinals2 i 0 ≡ next
-      here = get_or-set_same ordinals i next 0 lt
-
-      there : (k : ℕ) → (k ≡ i → ⊥) → get_or ordinals2 k 0 ≡ get_or ordinals k 0
-      there k ne = get_or-set_other ordinals i k next 0 ne
-
-      within2 : (k : ℕ) → get_or ordinals2 k 0 ≤ next
-      within2 k = elim (same_or k i) [
-        | inl e ↦ let f : get_or ordinals2 k 0 ≡ next = ap (λ (j : ℕ). get_or ordinals2 j 0) e ∙ here in omega (arith, f)
-        | inr ne ↦ let f = there k ne in let w = T.within k in omega (arith, f, w, next_is)
-      ]
-
-      apart2 : (j k : ℕ) → 0 < get_or ordinals2 j 0 → get_or ordinals2 j 0 ≡ get_or ordinals2 k 0 → j ≡ k
-      apart2 j k some same = elim (same_or j i) [
-        | inl e ↦ elim (same_or k i) [
-          | inl f ↦ e ∙ sym f
-          | inr nf ↦
-              let x : get_or ordinals2 j 0 ≡ next = ap (λ (m : ℕ). get_or ordinals2 m 0) e ∙ here in
-              let y = there k nf in
-              let w = T.within k in
-              absurd (omega (arith, x, y, w, same, next_is))
-        ]
-        | inr ne ↦ elim (same_or k i) [
-          | inl f ↦
-              let x : get_or ordinals2 k 0 ≡ next = ap (λ (m : ℕ). get_or ordinals2 m 0) f ∙ here in
-              let y = there j ne in
-              let w = T.within j in
-              absurd (omega (arith, x, y, w, same, next_is))
-          | inr nf ↦
-              let x = there j ne in
-              let y = there k nf in
-              T.apart j k (omega (arith, x, some)) (sym x ∙ same ∙ y)
-        ]
-      ]
-
-      few2 : next + blanks ordinals2 ≤ length ordinals2
-      few2 =
-          let e = sum_by-set blank ordinals i next 0 lt in
-          let f : blank (get_or ordinals i 0) ≡ 1 = ap blank is in
-          let g : blank next ≡ 0 = ap blank next_is in
-          let l = length-set ordinals i next in
-          let h = T.few in
-          omega (arith, e, f, g, l, h, next_is)
-
-      pub table_more : IsTable long ordinals2 next (numbers ++ row) room
-      table_more = record {
-        size = let e = ap (λ (n : ℕ). n * long) next_is in let s = T.size in let l = length-append numbers row in omega (arith, e, s, l, size);
-        within = within2;
-        apart = apart2;
-        few = few2;
-        count = let l = length-set ordinals i next in let c = T.count in omega (arith, l, c);
-        fits = let e = ap (λ (n : ℕ). n * long) (length-set ordinals i next) in let r = T.fits in omega (arith, e, r);
-      }
-
-      other_more : (q : ℕ) → q ≤ used → row_at long (numbers ++ row) q ≡ row_at long numbers q
-      other_more zero le = refl
-      other_more (suc q) le = others_stay_more numbers row long q (part_inside q (omega (arith, le)))
-
-      pub rows_more : rows_in long (numbers ++ row) ordinals2 ≡ set (rows_in long numbers ordinals) i row
-      rows_more =
-          one_changed (row_at long numbers) (row_at long (numbers ++ row)) ordinals ordinals2 i row (length-set ordinals i next) lt
-          (ap (row_at long (numbers ++ row)) (here ∙ next_is) ∙ stands_last numbers row long used T.size size)
-          (λ k ne. ap (row_at long (numbers ++ row)) (there k ne) ∙ other_more (get_or ordinals k 0) (T.within k))
-
--- ---- a row is read
-
--- a row of the table has one of its ordinals
-pub row_of : (v : Rows) (long : ℕ) (numbers ordinals : List ℕ) (row : ℕ) → (let w : Rows = record { long = long; rows = rows_in long numbers ordinals } in w ≡ v) → row < length v.rows → row < length ordinals
-row_of v long numbers ordinals row is lt =
-    let e : length (rows_in long numbers ordinals) ≡ length v.rows = ap (λ (w : Rows). length w.rows) is in
-    omega (arith, e, lt, length-map ordinals (row_at long numbers))
-
-pub part_long : (long : ℕ) (ordinals : List ℕ) (used : ℕ) (numbers : List ℕ) (room : ℕ) → IsTable long ordinals used numbers room → (i p : ℕ) → get_or ordinals i 0 ≡ suc p → p * long + long ≤ length numbers
-part_long long ordinals used numbers room T i p e = inside p used long (length numbers) (let w = T.within i in omega (arith, e, w)) T.size
-
-pub row_long : (long : ℕ) (ordinals : List ℕ) (used : ℕ) (numbers : List ℕ) (room : ℕ) → IsTable long ordinals used numbers room → (i p : ℕ) → get_or ordinals i 0 ≡ p → length (row_at long numbers p) ≡ long
-row_long long ordinals used numbers room T i zero e = length-replicate {A = ℕ} long 0
-row_long long ordinals used numbers room T i (suc p) e = length-part numbers long p (part_long long ordinals used numbers room T i p e)
+  -- the place names a row that is added
+  pub rows_more : (used room : ℕ) → IsTable long ordinals used (length cells) room → (n : ℕ) → n ≡ suc used → (more : List A) → more ≡ cells ++ row →
+      rows_in long more (set ordinals i n) ≡ set v.rows i row
+  rows_more used room T n next more longer =
+      ap (λ (xs : List A). rows_in long xs (set ordinals i n)) longer
+      ∙ map-set (part (cells ++ row) long) ordinals i n
+      ∙ ap (λ (rs : List (List A)). set rs i (part (cells ++ row) long n))
+      (same_maps (part cells long) (part (cells ++ row) long) ordinals (λ k _. others_stay_more cells row long (get_or ordinals k 0) (place_inside long ordinals used (length cells) room T k)))
+      ∙ ap (λ (r : List A). set (rows_in long cells ordinals) i r) (stands_last cells row long n (T.size ∙ ap (λ (m : ℕ). m * long) (sym next)) size)
+      ∙ in_view

@@ -1,10 +1,6 @@
 -- Lists of one length, one after another in one list.
-use Rattle.std.specs.Prelude.{ℕ, ◌+◌, ◌*◌, List, ◌++◌, take, drop}
+use Rattle.std.specs.Prelude.{ℕ, ◌*◌, List, take, drop}
 
--- the list at a place
+-- the list of a number, counted from 0
 abbrev pub part : {A : Type 0} → List A → ℕ → ℕ → List A
-part xs long place = take long (drop (place * long) xs)
-
--- with another list there
-abbrev pub with_part : {A : Type 0} → List A → ℕ → ℕ → List A → List A
-with_part xs long place ys = take (place * long) xs ++ ys ++ drop (place * long + long) xs
+part xs long number = take long (drop (number * long) xs)

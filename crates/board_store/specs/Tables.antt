@@ -1,38 +1,31 @@
--- Rows of numbers of one length, where rows of zeros have no numbers.
-use Rattle.std.specs.Prelude.{◌≡◌, ℕ, zero, suc, ◌+◌, ◌*◌, ◌<◌, ◌≤◌, List, length, map, sum_by}
-use Rattle.std.specs.Prelude.{replicate, slice_index}
+-- Rows of one length, where places with the same row may share its cells.
+use Rattle.std.specs.Prelude.{◌≡◌, ℕ, suc, ◌*◌, ◌≤◌, List, length, map, slice_index, refl}
+use Rattle.std.specs.Coded.{Coded, code_by, coded×, coded_ℕ, coded_list}
 use Rattle.board_store.specs.Parts.{part}
 use Rattle.plain_lists.specs.declared.limits.TheConstants.{MOST_TASKS}
 
--- what a contract sees of a table
-pub record Rows : Type 0 where
+-- what a contract sees of a table: its rows by their places, and how many more may be put
+pub record Rows (T : Type 0) : Type 0 where
   pub long : ℕ
-  pub rows : List (List ℕ)
+  pub left : ℕ
+  pub rows : List (List T)
 
--- the row of an ordinal, which counts from 1 the rows with numbers; a row of zeros has ordinal 0
-abbrev pub row_at : ℕ → List ℕ → ℕ → List ℕ
-row_at long numbers zero = replicate long 0
-row_at long numbers (suc p) = part numbers long p
+-- such a table is stored as the tuple of its fields
+abbrev pub rows_code : {T : Type 0} → Coded T → Coded (Rows T)
+rows_code {T} code =
+    code_by ((ℕ × ℕ) × List (List T))
+    (coded× (coded× coded_ℕ coded_ℕ) (coded_list (coded_list code)))
+    (λ r. ((r.long, r.left), r.rows))
+    (λ p. record { long = p.0.0; left = p.0.1; rows = p.1 }) (λ _. refl)
 
-abbrev pub rows_in : ℕ → List ℕ → List ℕ → List (List ℕ)
-rows_in long numbers ordinals = map (row_at long numbers) ordinals
+-- the rows of these ordinals
+abbrev pub rows_in : {T : Type 0} → ℕ → List T → List ℕ → List (List T)
+rows_in long cells ordinals = map (part cells long) ordinals
 
--- how many rows have ordinal 0
-abbrev pub blank : ℕ → ℕ
-blank zero = 1
-blank (suc p) = 0
-
-abbrev pub blanks : List ℕ → ℕ
-blanks ordinals = sum_by blank ordinals
-
--- so many rows have numbers, each with an ordinal of its own, and there is room for those of all
--- rows
-pub record IsTable (long : ℕ) (ordinals : List ℕ) (used : ℕ) (numbers : List ℕ) (room : ℕ) : Type
-    0 where
-  pub size : length numbers ≡ used * long
+-- so many rows have cells beside the first, and there is room for one more at each place
+pub record IsTable (long : ℕ) (ordinals : List ℕ) (used : ℕ) (cells room : ℕ) : Type 0 where
+  pub size : cells ≡ suc used * long
   pub within : (k : ℕ) → slice_index ordinals k ≤ used
-  pub apart : (j k : ℕ) → 0 < slice_index ordinals j →
-      slice_index ordinals j ≡ slice_index ordinals k → j ≡ k
-  pub few : used + blanks ordinals ≤ length ordinals
+  pub few : used ≤ length ordinals
   pub count : length ordinals ≤ MOST_TASKS
-  pub fits : length ordinals * long ≤ room
+  pub fits : suc (length ordinals) * long ≤ room

@@ -1,7 +1,8 @@
 //! Answers of the units of a case, kept in little memory at places that count from 0.
 //!
 //! All memory is taken when a store is made, and a page of it costs none until it is written to.
-//! So the powers of an answer, or its reserves, stand nowhere where all of them are 0.
+//! What an answer does is kept as three rows: flags, powers and reserves. A row that is the same as
+//! the one at a place that the caller names, or that is blank, is not written again.
 #![tactic(auto)]
 
 mod store;

@@ -1,22 +1,22 @@
 //! The answers.
-ghost use Rattle.std.specs.Prelude.{◌≡◌, ◌*◌, ◌<◌, ◌≤◌, length, IfOk, slice_index_or, slice_set};
-ghost use Rattle.std.specs.Prelude.{replicate, pos, false};
+ghost use Rattle.std.specs.Prelude.{◌≡◌, ◌+◌, ◌*◌, ◌<◌, ◌≤◌, length, IfOk, replicate, pos};
+ghost use Rattle.std.specs.Prelude.{slice_index_or, slice_set};
 ghost use Rattle.uc_model.specs.PlainUnits.{schedule_of};
 ghost use Rattle.plain_lists.specs.declared.limits.TheConstants.{MOST_TASKS, MOST_WORK};
 ghost use Rattle.board_store.specs.Answers.{nothing, kept_of};
 
-use crate::table::{Table, put_part, take_part};
+use crate::table::Table;
 use std::alloc::{AllocError, Global};
 use std::marker::Model;
 use uc_model::units::Answered;
 
 /// So many answers over so many periods, each what a unit does and what that earns. Contracts see
-/// it as their list.
+/// it as their list, with how many more answers may be put: as many as there are places, also
+/// where some of them are put at one place.
 pub struct Store {
-    periods: usize,
-    on: Vec<bool>,
-    power: Table,
-    reserve: Table,
+    on: Table<bool>,
+    power: Table<u32>,
+    reserve: Table<u32>,
     earned: Vec<i64>,
 }
 
@@ -24,7 +24,6 @@ pub struct Store {
 impl Drop for Store {
     fn drop(self) {
         let Store {
-            periods: _,
             on: _,
             power: _,
             reserve: _,
@@ -34,23 +33,18 @@ impl Drop for Store {
 }
 
 impl Model for Store {
-    ghost use Rattle.board_store.specs.Answers.{Answers, AreParts, answers_in};
+    ghost use Rattle.board_store.specs.Answers.{Answers, AreParts, answers_in, least_left};
 
     ghost Value = { Answers };
 
     ghost view = { λ s. record {
-      periods = s.periods;
+      periods = s.on.long;
+      left = least_left s.on.left s.power.left s.reserve.left;
       answers =
-          answers_in s.periods s.on.items s.power.rows s.reserve.rows s.earned.items;
+          answers_in s.on.rows s.power.rows s.reserve.rows s.earned.items;
     } };
 
-    ghost invariant = { λ s. AreParts s.periods s.on.items s.power s.reserve s.earned.items };
-}
-
-fn no_flags(alloc: Global, count: usize) -> Result<Vec<bool>, AllocError>
-    ensures { IfOk result (λ v. v.items ≡ replicate count false) }
-{
-    vec![in alloc; false; count]
+    ghost invariant = { λ s. AreParts s.on s.power s.reserve s.earned.items };
 }
 
 fn no_earnings(alloc: Global, count: usize) -> Result<Vec<i64>, AllocError>
@@ -67,14 +61,13 @@ impl Store {
         requires size { count * periods ≤ MOST_WORK }
         ensures count { IfOk result (λ s. length s.answers ≡ count) }
         ensures periods { IfOk result (λ s. s.periods ≡ periods) }
+        ensures left { IfOk result (λ s. s.left ≡ count) }
     {
-        let periods = periods as usize;
-        let on = no_flags(alloc, count * periods)?;
-        let power = Table::make(alloc, count, periods)?;
-        let reserve = Table::make(alloc, count, periods)?;
+        let on = Table::make(alloc, count, periods, false)?;
+        let power = Table::make(alloc, count, periods, 0)?;
+        let reserve = Table::make(alloc, count, periods, 0)?;
         let earned = no_earnings(alloc, count)?;
         Ok(Store {
-            periods,
             on,
             power,
             reserve,
@@ -82,17 +75,21 @@ impl Store {
         })
     }
 
-    /// Writes the answer at a place. Takes no memory.
-    pub fn put(&mut self, place: usize, answer: &Answered)
+    /// Writes the answer at a place. `like` is a place whose answer may well do the same: what is
+    /// the same is kept once. Takes no memory.
+    pub fn put(&mut self, place: usize, answer: &Answered, like: usize)
         requires place { place < length self.old.answers }
         requires horizon { length (schedule_of answer.now.response).on ≡ self.old.periods }
+        requires like { like < length self.old.answers }
+        requires left { 1 ≤ self.old.left }
         ensures periods { self.new.periods ≡ self.old.periods }
+        ensures left { self.old.left ≤ self.new.left + 1 }
         ensures answers { self.new.answers ≡ slice_set self.old.answers place (kept_of answer.now) }
     {
         let response = &answer.response;
-        put_part(&mut self.on, self.periods, place, response.on.as_slice());
-        self.power.put(place, response.power.as_slice());
-        self.reserve.put(place, response.reserve.as_slice());
+        self.on.put(place, response.on.as_slice(), like);
+        self.power.put(place, response.power.as_slice(), like);
+        self.reserve.put(place, response.reserve.as_slice(), like);
         self.earned[place] = answer.earned;
     }
 
@@ -113,7 +110,7 @@ impl Store {
         ensures horizon { length (schedule_of into.new.response).on ≡ self.now.periods }
     {
         let response = &mut into.response;
-        take_part(&self.on, self.periods, place, &mut response.on);
+        self.on.take(place, &mut response.on);
         self.power.take(place, &mut response.power);
         self.reserve.take(place, &mut response.reserve);
         into.earned = self.earned[place];

@@ -1,72 +1,72 @@
-//! Rows of numbers, and lists of one length one after another.
-ghost use Rattle.std.specs.Prelude.{◌≡◌, ◌+◌, ◌*◌, ◌<◌, ◌≤◌, [], ◌++◌, length, IfOk, replicate};
-ghost use Rattle.std.specs.Prelude.{slice_index_or, slice_set, vec_len, vec_capacity};
+//! Rows of one length, each of which is kept once where another is like it.
+ghost use Rattle.std.specs.Prelude.{◌≡◌, ◌+◌, ◌*◌, ◌<◌, ◌≤◌, ◌↔◌, [], ◌++◌, length, IfOk, IsTrue};
+ghost use Rattle.std.specs.Prelude.{replicate, slice_index_or, slice_set, vec_len, vec_capacity};
 ghost use Rattle.plain_lists.specs.declared.limits.TheConstants.{MOST_TASKS, MOST_WORK};
-ghost use Rattle.board_store.specs.Parts.{part, with_part};
+ghost use Rattle.board_store.specs.Parts.{part};
 
-use plain_lists::lists::{ReservedList, are_zero};
+use plain_lists::lists::ReservedList;
 use std::alloc::{AllocError, Global};
 use std::marker::Model;
-use uc_model::units::Powers;
 
-/// Rows of one length, at first of zeros. A row of zeros has no numbers until another row is
-/// written there.
-pub struct Table {
+/// What a row has in each period.
+pub trait Cell: Copy + Drop {
+    /// Whether two rows are the same.
+    fn are_same(row: &[Self], other: &[Self]) -> bool
+        ensures { IsTrue result ↔ (row.now ≡ other.now) };
+}
+
+impl Cell for u32 {
+    fn are_same(row: &[u32], other: &[u32]) -> bool {
+        row == other
+    }
+}
+
+impl Cell for bool {
+    fn are_same(row: &[bool], other: &[bool]) -> bool {
+        row == other
+    }
+}
+
+/// Rows of one length, at first all blank. Places with the same row may share its cells, so a row
+/// that was written is never written over.
+pub struct Table<T> {
     long: usize,
-    // for each row 0, or which of the rows with numbers it is, counted from 1
+    // for each place which of the rows with cells is there, counted from 0, the blank one
     ordinals: Vec<u32>,
-    // how many rows have numbers
+    // how many rows have cells beside the blank one
     used: usize,
-    numbers: Vec<u32>,
+    cells: Vec<T>,
 }
 
 // Written out, so that a drop of it is a call, and not one for each list.
-impl Drop for Table {
+impl<T: Drop> Drop for Table<T> {
     fn drop(self) {
         let Table {
             long: _,
             ordinals: _,
             used: _,
-            numbers: _,
+            cells: _,
         } = self;
     }
 }
 
-impl Model for Table {
-    ghost use Rattle.std.specs.Prelude.{vec_capacity};
-    ghost use Rattle.board_store.specs.Tables.{Rows, IsTable, rows_in};
+impl<T> Model for Table<T> {
+    ghost use Rattle.std.specs.Prelude.{◌-◌, length, vec_capacity};
+    ghost use Rattle.board_store.specs.Tables.{Rows, rows_code, IsTable, rows_in};
 
-    ghost Value = { Rows };
+    ghost Value = { Rows T };
+
+    ghost coded = { rows_code T.code };
 
     ghost view = { λ t. record {
       long = t.long;
-      rows =
-          rows_in t.long t.numbers.items t.ordinals.items;
+      left =
+          length t.ordinals.items - t.used;
+      rows = rows_in t.long t.cells.items t.ordinals.items;
     } };
 
-    ghost invariant = { λ t. IsTable t.long t.ordinals.items t.used t.numbers.items
-        (vec_capacity t.numbers) };
-}
-
-/// Writes a list at its place among lists of one length.
-pub fn put_part<T: Copy + Drop>(store: &mut Vec<T>, long: usize, place: usize, list: &[T])
-    requires inside { place * long + long ≤ length store.old.items }
-    requires same { length list.now ≡ long }
-    ensures items { store.new.items ≡ with_part store.old.items long place list.now }
-    ensures capacity { vec_capacity store.new ≡ vec_capacity store.old }
-{
-    let from = place * long;
-    store[from..from + long].copy_from_slice(list);
-}
-
-/// Leaves the list at a place in another that has room for it.
-pub fn take_part<T: Copy + Drop>(store: &[T], long: usize, place: usize, into: &mut ReservedList<T>)
-    requires inside { place * long + long ≤ length store.now }
-    requires room { long ≤ length into.old.items + into.old.spare }
-    ensures { into.new.items ≡ part store.now long place }
-{
-    let from = place * long;
-    into.copy_from(&store[from..from + long]);
+    ghost invariant = { λ t. IsTable t.long t.ordinals.items t.used (length t.cells.items)
+        (vec_capacity t.cells) };
 }
 
 fn no_ordinals(alloc: Global, count: usize) -> Result<Vec<u32>, AllocError>
@@ -75,77 +75,95 @@ fn no_ordinals(alloc: Global, count: usize) -> Result<Vec<u32>, AllocError>
     vec![in alloc; 0; count]
 }
 
-// Leaves so many zeros in a list that has room for them.
-fn take_zeros(count: usize, into: &mut Powers)
-    requires { count ≤ length into.old.items + into.old.spare }
-    ensures { into.new.items ≡ replicate count 0 }
+// A blank row, with room for so many others.
+fn blank_row<T: Cell>(
+    alloc: Global,
+    count: usize,
+    long: u32,
+    blank: T,
+) -> Result<Vec<T>, AllocError>
+    requires size { count * long ≤ MOST_WORK }
+    ensures row { IfOk result (λ v. v.items ≡ replicate long blank) }
+    ensures room { IfOk result (λ v. count * long + long ≤ vec_capacity v) }
 {
-    into.clear();
-    for _ in 0..count {
-        into.push(0);
+    let mut cells = Vec::with_capacity(alloc, count * long as usize + long as usize)?;
+    for _ in 0..long {
+        cells.push_reserved(blank);
     }
+    Ok(cells)
 }
 
-// Adds a list at the end of another that has room for it.
-fn append(numbers: &mut Vec<u32>, list: &[u32])
-    requires { vec_len numbers.old + length list.now ≤ vec_capacity numbers.old }
-    ensures items { numbers.new.items ≡ numbers.old.items ++ list.now }
-    ensures capacity { vec_capacity numbers.old ≤ vec_capacity numbers.new }
+// Adds a row at the end of others that have room for it.
+fn append<T: Cell>(cells: &mut Vec<T>, row: &[T])
+    requires { vec_len cells.old + length row.now ≤ vec_capacity cells.old }
+    ensures items { cells.new.items ≡ cells.old.items ++ row.now }
+    ensures capacity { vec_capacity cells.old ≤ vec_capacity cells.new }
 {
     // There is room, so it can't fail and takes no memory.
-    let _ = numbers.extend_from_slice(list);
+    let _ = cells.extend_from_slice(row);
 }
 
-impl Table {
-    /// So many rows of so many zeros.
-    pub fn make(alloc: Global, count: usize, long: usize) -> Result<Table, AllocError>
+// Whether the row of an ordinal is another.
+fn is_row<T: Cell>(cells: &[T], ordinal: u32, row: &[T]) -> bool
+    requires { ordinal * length row.now + length row.now ≤ length cells.now }
+    ensures { IsTrue result ↔ (part cells.now (length row.now) ordinal ≡ row.now) }
+{
+    let from = ordinal as usize * row.len();
+    T::are_same(&cells[from..from + row.len()], row)
+}
+
+impl<T: Cell> Table<T> {
+    /// So many places, each with a row of so many blanks, and room for as many rows.
+    pub fn make(alloc: Global, count: usize, long: u32, blank: T) -> Result<Table<T>, AllocError>
         requires few { count ≤ MOST_TASKS }
         requires size { count * long ≤ MOST_WORK }
-        ensures rows { IfOk result (λ t. t.rows ≡ replicate count (replicate long 0)) }
+        ensures rows { IfOk result (λ t. t.rows ≡ replicate count (replicate long blank)) }
         ensures long { IfOk result (λ t. t.long ≡ long) }
+        ensures left { IfOk result (λ t. t.left ≡ count) }
     {
         let ordinals = no_ordinals(alloc, count)?;
-        let numbers = Vec::with_capacity(alloc, count * long)?;
+        let cells = blank_row(alloc, count, long, blank)?;
         Ok(Table {
-            long,
+            long: long as usize,
             ordinals,
             used: 0,
-            numbers,
+            cells,
         })
     }
 
-    /// Writes a row. Takes no memory.
-    pub fn put(&mut self, row: usize, list: &[u32])
-        requires row { row < length self.old.rows }
-        requires long { length list.now ≡ self.old.long }
-        ensures rows { self.new.rows ≡ slice_set self.old.rows row list.now }
+    /// Writes a row at a place. `like` is a place whose row may well be the same: then no cell is
+    /// written. Takes no memory.
+    pub fn put(&mut self, place: usize, row: &[T], like: usize)
+        requires place { place < length self.old.rows }
+        requires long { length row.now ≡ self.old.long }
+        requires like { like < length self.old.rows }
+        requires left { 1 ≤ self.old.left }
+        ensures rows { self.new.rows ≡ slice_set self.old.rows place row.now }
         ensures long { self.new.long ≡ self.old.long }
+        ensures left { self.old.left ≤ self.new.left + 1 }
     {
-        let ordinal = self.ordinals[row] as usize;
-        if ordinal > 0 {
-            put_part(&mut self.numbers, self.long, ordinal - 1, list);
+        let ordinal = self.ordinals[like];
+        if is_row(&self.cells, ordinal, row) {
+            self.ordinals[place] = ordinal;
             return;
         }
-        if are_zero(list) {
+        if is_row(&self.cells, 0, row) {
+            self.ordinals[place] = 0;
             return;
         }
         self.used += 1;
-        self.ordinals[row] = self.used as u32;
-        append(&mut self.numbers, list);
+        self.ordinals[place] = self.used as u32;
+        append(&mut self.cells, row);
     }
 
-    /// Leaves a row in a list that has room for it. Takes no memory.
-    pub fn take(&self, row: usize, into: &mut Powers)
-        requires row { row < length self.now.rows }
+    /// Leaves the row at a place in a list that has room for it. Takes no memory.
+    pub fn take(&self, place: usize, into: &mut ReservedList<T>)
+        requires place { place < length self.now.rows }
         requires room { self.now.long ≤ length into.old.items + into.old.spare }
-        ensures row { into.new.items ≡ slice_index_or self.now.rows row [] }
+        ensures row { into.new.items ≡ slice_index_or self.now.rows place [] }
         ensures long { length into.new.items ≡ self.now.long }
     {
-        let ordinal = self.ordinals[row] as usize;
-        if ordinal > 0 {
-            take_part(&self.numbers, self.long, ordinal - 1, into);
-        } else {
-            take_zeros(self.long, into);
-        }
+        let from = self.ordinals[place] as usize * self.long;
+        into.copy_from(&self.cells[from..from + self.long]);
     }
 }

@@ -167,6 +167,7 @@ invariant_of-self c =
         takers_room = omega (arith, takers_room, c.push_reserved.ensures.capacity);
         entries_are = entries_more (h d) (events_of (units d) (x d).kept c.push_reserved-2.new.self.items) (event d) s.lists.history.items c.push_reserved-2.new.self.items events (history ∙ ap (λ (e : Event Answer). s.lists.history.items ++ entry_of e ∷ []) (event_is d)) K.entries_are;
         store = K.store;
+        left = K.left;
         next = K.next;
       },
       c.self.invariant.2,

@@ -56,6 +56,7 @@ invariant_of-self c =
         takers_room = K.takers_room;
         entries_are = entries_more (h d) (events_of (unit_count (b d).market) (x d).kept c.push_reserved.new.self.items) (Stopped k) s.lists.history.items c.push_reserved.new.self.items events history K.entries_are;
         store = K.store;
+        left = K.left;
         next = K.next;
       },
       c.self.invariant.2,

@@ -59,6 +59,7 @@ invariant_of-result c =
         takers_room = omega (arith, tasks, E.takers_room);
         entries_are = ap entries_of e5 ∙ sym E.history;
         store = c.in_ok-store.ensures.periods;
+        left = omega (arith, u1, tasks, c.in_ok-store.ensures.left);
         next = c.open_ledger.ensures.horizon;
       },
       c.in_ok-room.ensures.own,

@@ -231,6 +231,18 @@ put-requires-clause-place c =
 pub put-requires-clause-horizon : goal.put-requires-clause-horizon
 put-requires-clause-horizon c = (ok (goal.at.put-requires-clause-horizon c).In_default).long ∙ sym c.self.invariant.1.store
 
+pub put-requires-clause-like : goal.put-requires-clause-like
+put-requires-clause-like c =
+    let e = kept_in (goal.at.put-requires-clause-like c).In_default in
+    let at_ = number_is (goal.at.put-requires-clause-like c).After-task_number-at in
+    is_inside c.self.inside.store c.number_before.result (omega (arith, e, at_, c.number_before.ensures))
+
+pub put-requires-clause-left : goal.put-requires-clause-left
+put-requires-clause-left c =
+    let e = less (goal.at.put-requires-clause-left c).In_default in
+    let l = c.self.invariant.1.left in
+    omega (arith, e, l)
+
 pub add-requires-clause-place : goal.add-requires-clause-place
 add-requires-clause-place c =
     let d = (goal.at.add-requires-clause-place c).In_default in
@@ -358,6 +370,7 @@ invariant_of-self-2 c =
         takers_room = K.takers_room;
         entries_are = entries_more (h d) (events_of (units d) (answers_kept c.put.new.self) c.push_reserved.new.self.items) (event d) s.lists.history.items c.push_reserved.new.self.items events (c.push_reserved.ensures.items ∙ ap (λ (y : Entry). s.lists.history.items ++ y ∷ []) entry_same) K.entries_are;
         store = c.put.ensures.periods ∙ K.store;
+        left = let l = K.left in omega (arith, l, fewer, unset_at, c.put.ensures.left);
         next = c.advance.ensures.horizon;
       },
       c.refusal-refused.ensures.room,
