@@ -1,5 +1,5 @@
 -- The names that the proofs of this crate take from its specs and from other crates, passed on from one place.
-pub use Rattle.std.proofs.Common.{◌≡◌, ℕ, zero, suc, ◌+◌, ◌<◌, Bool, true, false, ◌&&◌, cond, if◌then◌else◌, nat_lt, int_le, int_lt, ℤ, pos, ◌≤ℤ◌, ◌<ℤ◌, Some, None, Option, unwrap_or, List, [], ◌∷◌, map, length, get_or, refl, ap, sym, ◌∙◌, subst, arith, below_more, ◌*◌, negsuc, ◌-ℤ◌, ◌*ℤ◌, int_div, ◌-◌, ◌/◌, ◌^◌, ◌≤◌, min, ◌+ℤ◌, slice_get, rules, FitsSigned, add-one, neg_ℤ}
+pub use Rattle.std.proofs.Common.{◌≡◌, ℕ, zero, suc, ◌+◌, ◌<◌, Bool, true, false, ◌&&◌, cond, if◌then◌else◌, nat_lt, int_le, int_lt, ℤ, pos, ◌≤ℤ◌, ◌<ℤ◌, Some, None, Option, unwrap_or, List, [], ◌∷◌, map, length, get_or, refl, ap, sym, ◌∙◌, subst, arith, below_more, ◌*◌, negsuc, ◌-ℤ◌, ◌*ℤ◌, int_div, ◌-◌, ◌/◌, ◌^◌, ◌≤◌, min, ◌+ℤ◌, slice_get, rules, FitsSigned, to_z, of_z, lit<, add-one, neg_ℤ}
 pub use Rattle.std.proofs.Math.IntN.{*ℤ_comm, *ℤ-zero, pos-*ℤ-pos}
 pub use Rattle.std.proofs.Math.Nat.{div-le_self, pow-le-pow_right}
 pub use Rattle.std.proofs.lemmas.Int.{ints, by_lt_z, to_z-of_z, quot_fits}

@@ -1,5 +1,6 @@
 -- Sizes of squares and quotients.
-use Rattle.price_move.proofs.Common.{◌≡◌, ℕ, suc, ◌*◌, ℤ, pos, negsuc, ◌-ℤ◌, ◌*ℤ◌, ◌≤ℤ◌, ◌<ℤ◌, int_div, ap, ◌∙◌, arith, ints, *ℤ_comm, *ℤ-zero, pos-*ℤ-pos, div-le_self, IsFrom, mul-sub, mul-mono_of, IsWithin}
+use Rattle.price_move.proofs.Common.{◌≡◌, ℕ, suc, ◌*◌, ℤ, pos, negsuc, ◌-ℤ◌, ◌*ℤ◌, ◌≤ℤ◌, ◌<ℤ◌, int_div, FitsSigned, to_z, of_z, ap, ◌∙◌, arith, ints, lit<, to_z-of_z, w64, w128, *ℤ_comm, *ℤ-zero, pos-*ℤ-pos, div-le_self, IsFrom, mul-sub, mul-mono_of, fits_within, IsWithin}
+use Rattle.price_move.specs.Sizes.{IsEntry}
 
 -- the square of a number that isn't negative
 square_of : (n : ℕ) (z : ℤ) → pos 0 ≤ℤ z → z ≤ℤ pos n → IsFrom (pos 0) (pos (n * n)) (z *ℤ z)
@@ -44,3 +45,17 @@ quotient_within n (negsuc m) (pos b) h low =
     record { at_least = omega (arith, ints, least, part); at_most = omega (arith, ints) }
 quotient_within n (pos m) (negsuc b) h low = absurd (omega (arith, ints, low))
 quotient_within n (negsuc m) (negsuc b) h low = absurd (omega (arith, ints, low))
+
+-- an entry keeps its value in a register twice as wide
+pub entry_widened : (e z : ℤ) → IsEntry e → FitsSigned w64 e → z ≡ to_z w64 (of_z w64 e) → to_z w128 (of_z w128 z) ≡ e
+entry_widened e z entry fits is =
+    let same : z ≡ e = is ∙ to_z-of_z w64 e fits in
+    rw same (to_z-of_z w128 e (fits_within w128 20000000000000 e entry (lit< tt)))
+
+-- the square of an entry fits its register
+pub entry_squared : (e : ℤ) → IsEntry e → FitsSigned w128 (e *ℤ e)
+entry_squared e entry =
+    let square = square_within 20000000000000 e entry in
+    let low = square.at_least in
+    let high = square.at_most in
+    fits_within w128 400000000000000000000000000 (e *ℤ e) (record { at_least = omega (arith, ints, low); at_most = high }) (lit< tt)

@@ -1,5 +1,5 @@
-use Rattle.mixture_bound.proofs.Common.{rules, ◌≡◌, suc, ◌+◌, ◌*◌, pos, ◌+ℤ◌, List, map, take, ap, sym, subst, FitsSigned, arith, ints, to_z-of_z, w128, IsFrom, IsWithin, fits_within, total, zip_with, Thermal, NamedThermalUnit, supply_in, power_in, reserve_in, WeighedSchedule, weighed, market_of}
-use Rattle.std.proofs.lemmas.List.{length-map}
+use Rattle.mixture_bound.proofs.Common.{rules, ◌≡◌, ◌<◌, ◌≤◌, ℕ, ℤ, length, suc, ◌+◌, ◌*◌, pos, ◌+ℤ◌, List, map, take, ap, sym, subst, ◌∙◌, FitsSigned, arith, ints, to_z-of_z, w128, IsFrom, IsWithin, fits_within, total, zip_with, Thermal, NamedThermalUnit, supply_in, power_in, reserve_in, WeighedSchedule, weighed, market_of}
+use Rattle.std.proofs.lemmas.List.{length-map, take_all}
 use Rattle.plain_lists.proofs.ListLaws.{map_item, length_same}
 use Rattle.uc_model.specs.PlainUnits.{named_thermal_of}
 use Rattle.mixture_bound.specs.Mixtures.{entry_of, entries_of, mixture_of, AreEntries}
@@ -7,6 +7,20 @@ use Rattle.mixture_bound.specs.declared.mixtures.Entry.{Entry}
 use Rattle.mixture_bound.specs.Sizes.{AreWeights, AreBehind}
 use Rattle.mixture_bound.proofs.SumLaws.{pair_at, zip_more, weights_of, behind_of}
 use Rattle.mixture_bound.proofs.sums.given_at.Goals as goal
+
+-- what the first units give, with what one more does
+more : (i : ℕ) (x y : ℤ) → i < 4096 → IsFrom (pos 0) (pos (4294967296000000000000 * i)) x → IsFrom (pos 0) (pos 4294967296000000000000) y → IsFrom (pos 0) (pos (4294967296000000000000 * (i + 1))) (x +ℤ y)
+more i x y lt h g =
+    let a = h.at_least in let b = h.at_most in let d = g.at_least in let e = g.at_most in
+    record { at_least = omega (arith, ints, a, d); at_most = omega (arith, ints, b, e) }
+
+fits : (i : ℕ) (x : ℤ) → i ≤ 4096 → IsFrom (pos 0) (pos (4294967296000000000000 * i)) x → FitsSigned w128 x
+fits i x few h =
+    let a = h.at_least in let b = h.at_most in
+    fits_within w128 17600000000000000000000000 x (record { at_least = omega (arith, ints, a); at_most = omega (arith, ints, b, few) }) (omega arith)
+
+limited : (i : ℕ) (x : ℤ) → i ≤ 4096 → IsFrom (pos 0) (pos (4294967296000000000000 * i)) x → IsWithin 17600000000000000000000000 x
+limited i x few h = let a = h.at_least in let b = h.at_most in record { at_least = omega (arith, ints, a); at_most = omega (arith, ints, b, few) }
 
 pub get-requires : goal.get-requires
 get-requires c =
@@ -56,24 +70,73 @@ loop-unit-preserved c =
     let r = c.given_by-more.ensures.reserve in
     let powers_so_far = c.loop-unit.invariant.power in
     let reserves_so_far = c.loop-unit.invariant.reserve in
-    let a = c.loop-unit.invariant.power_limit.at_least in
-    let b = c.loop-unit.invariant.power_limit.at_most in
-    let d = c.loop-unit.invariant.reserve_limit.at_least in
-    let e = c.loop-unit.invariant.reserve_limit.at_most in
-    let t = c.given_by-more.ensures.power_limit.at_least in
-    let u = c.given_by-more.ensures.power_limit.at_most in
-    let v = c.given_by-more.ensures.reserve_limit.at_least in
-    let w = c.given_by-more.ensures.reserve_limit.at_most in
     let few = c.args.case.now.valid.thermal_count in
     let mapped = length-map c.args.case.now.thermal.items named_thermal_of in
     let test = c.loop-unit-test.true in
     let end = c.len-unit-end.ensures in
+    let lt : i < 4096 = omega (arith, few, mapped, test, end) in
+    let power_limit = more i c.loop-unit.given.power c.given_by-more.result.power lt c.loop-unit.invariant.power_limit c.given_by-more.ensures.power_limit in
+    let reserve_limit = more i c.loop-unit.given.reserve c.given_by-more.result.reserve lt c.loop-unit.invariant.reserve_limit c.given_by-more.ensures.reserve_limit in
+    let power_fits = fits (i + 1) (c.loop-unit.given.power +ℤ c.given_by-more.result.power) (omega (arith, lt)) power_limit in
+    let reserve_fits = fits (i + 1) (c.loop-unit.given.reserve +ℤ c.given_by-more.result.reserve) (omega (arith, lt)) reserve_limit in
     let power : c.loop-unit.given.power +ℤ c.given_by-more.result.power ≡ total (zip_with (λ (n : NamedThermalUnit) (l : List WeighedSchedule). weighed (λ s. supply_in (Thermal n.unit) s (suc k)) l) (take (i + 1) m.thermal) x.entries) = omega (arith, ints, powers, same_powers, p, powers_so_far) in
     let reserve : c.loop-unit.given.reserve +ℤ c.given_by-more.result.reserve ≡ total (zip_with (λ (n : NamedThermalUnit) (l : List WeighedSchedule). weighed (λ s. reserve_in s (suc k)) l) (take (i + 1) m.thermal) x.entries) = omega (arith, ints, reserves, same_reserves, r, reserves_so_far) in
-    let power_limit : IsFrom (pos 0) (pos (4294967296000000000000 * (i + 1))) (c.loop-unit.given.power +ℤ c.given_by-more.result.power) = record { at_least = omega (arith, ints, a, t); at_most = omega (arith, ints, b, u) } in
-    let reserve_limit : IsFrom (pos 0) (pos (4294967296000000000000 * (i + 1))) (c.loop-unit.given.reserve +ℤ c.given_by-more.result.reserve) = record { at_least = omega (arith, ints, d, v); at_most = omega (arith, ints, e, w) } in
-    let power_within : IsWithin 17600000000000000000000000 (c.loop-unit.given.power +ℤ c.given_by-more.result.power) = record { at_least = omega (arith, ints, a, t); at_most = omega (arith, ints, b, u, few, mapped, test, end) } in
-    let reserve_within : IsWithin 17600000000000000000000000 (c.loop-unit.given.reserve +ℤ c.given_by-more.result.reserve) = record { at_least = omega (arith, ints, d, v); at_most = omega (arith, ints, e, w, few, mapped, test, end) } in
-    let power_fits = fits_within w128 17600000000000000000000000 (c.loop-unit.given.power +ℤ c.given_by-more.result.power) power_within (omega arith) in
-    let reserve_fits = fits_within w128 17600000000000000000000000 (c.loop-unit.given.reserve +ℤ c.given_by-more.result.reserve) reserve_within (omega arith) in
     record { power = simp to_z-of_z power; reserve = simp to_z-of_z reserve; power_limit = simp to_z-of_z power_limit; reserve_limit = simp to_z-of_z reserve_limit }
+
+pub overflow_add-given : goal.overflow_add-given
+overflow_add-given c =
+    let i = c.loop-unit.unit in
+    let gp : FitsSigned w128 c.loop-unit.given.power = search rules in
+    let mp : FitsSigned w128 c.given_by-more.result.power = search rules in
+    let few = c.args.case.now.valid.thermal_count in
+    let mapped = length-map c.args.case.now.thermal.items named_thermal_of in
+    let test = c.loop-unit-test.true in
+    let end = c.len-unit-end.ensures in
+    let lt : i < 4096 = omega (arith, few, mapped, test, end) in
+    let power_limit = more i c.loop-unit.given.power c.given_by-more.result.power lt c.loop-unit.invariant.power_limit c.given_by-more.ensures.power_limit in
+    let power_fits = fits (i + 1) (c.loop-unit.given.power +ℤ c.given_by-more.result.power) (omega (arith, lt)) power_limit in
+    simp to_z-of_z power_fits
+
+pub overflow_add-given-in-loop-unit : goal.overflow_add-given-in-loop-unit
+overflow_add-given-in-loop-unit c =
+    let i = c.loop-unit.unit in
+    let gr : FitsSigned w128 c.loop-unit.given.reserve = search rules in
+    let mr : FitsSigned w128 c.given_by-more.result.reserve = search rules in
+    let few = c.args.case.now.valid.thermal_count in
+    let mapped = length-map c.args.case.now.thermal.items named_thermal_of in
+    let test = c.loop-unit-test.true in
+    let end = c.len-unit-end.ensures in
+    let lt : i < 4096 = omega (arith, few, mapped, test, end) in
+    let reserve_limit = more i c.loop-unit.given.reserve c.given_by-more.result.reserve lt c.loop-unit.invariant.reserve_limit c.given_by-more.ensures.reserve_limit in
+    let reserve_fits = fits (i + 1) (c.loop-unit.given.reserve +ℤ c.given_by-more.result.reserve) (omega (arith, lt)) reserve_limit in
+    simp to_z-of_z reserve_fits
+
+-- at the end the first units are all units
+all_units : (c : goal.After-loop-unit) → take c.loop-unit.unit (market_of c.args.case.now).thermal ≡ (market_of c.args.case.now).thermal
+all_units c =
+    let mapped = length-map c.args.case.now.thermal.items named_thermal_of in
+    let past = c.loop-unit-test.false in
+    let end = c.len-unit-end.ensures in
+    take_all c.loop-unit.unit (market_of c.args.case.now).thermal (omega (arith, mapped, past, end))
+
+few_units : (c : goal.After-loop-unit) → c.loop-unit.unit ≤ 4096
+few_units c =
+    let few = c.args.case.now.valid.thermal_count in
+    let mapped = length-map c.args.case.now.thermal.items named_thermal_of in
+    let within = c.loop-unit.auto.unit-end in
+    let end = c.len-unit-end.ensures in
+    omega (arith, few, mapped, within, end)
+
+pub returns-clause-power : goal.returns-clause-power
+returns-clause-power c =
+    c.loop-unit.invariant.power ∙ ap (λ (ns : List NamedThermalUnit). total (zip_with (λ (n : NamedThermalUnit) (l : List WeighedSchedule). weighed (λ s. supply_in (Thermal n.unit) s (suc c.args.place)) l) ns (mixture_of c.args.mixture.now).entries)) (all_units c)
+
+pub returns-clause-reserve : goal.returns-clause-reserve
+returns-clause-reserve c =
+    c.loop-unit.invariant.reserve ∙ ap (λ (ns : List NamedThermalUnit). total (zip_with (λ (n : NamedThermalUnit) (l : List WeighedSchedule). weighed (λ s. reserve_in s (suc c.args.place)) l) ns (mixture_of c.args.mixture.now).entries)) (all_units c)
+
+pub returns-clause-power_limit : goal.returns-clause-power_limit
+returns-clause-power_limit c = limited c.loop-unit.unit c.loop-unit.given.power (few_units c) c.loop-unit.invariant.power_limit
+
+pub returns-clause-reserve_limit : goal.returns-clause-reserve_limit
+returns-clause-reserve_limit c = limited c.loop-unit.unit c.loop-unit.given.reserve (few_units c) c.loop-unit.invariant.reserve_limit

@@ -1,6 +1,18 @@
 use Rattle.mixture_bound.proofs.Common.{rules, ℤ, ◌-ℤ◌, ◌*ℤ◌, ap, ◌∙◌, FitsSigned, arith, ints, to_z-of_z, w64, w128, IsWithin, signed_product_within, fits_within}
 use Rattle.mixture_bound.proofs.worst.added_at.Goals as goal
 
+pub overflow_mul-lacking : goal.overflow_mul-lacking
+overflow_mul-lacking c =
+    let q = c.ranges.price in
+    let fw : FitsSigned w64 c.args.lack.weight = search rules in
+    let fp : FitsSigned w128 c.args.lack.power = search rules in
+    let a : FitsSigned w128 c.from.result = search rules in
+    let e = simp to_z-of_z at c.from.ensures in
+    let lacking : IsWithin 177000000000000000000000000000000 (c.from.result *ℤ c.args.lack.power) =
+    rw e (signed_product_within 10000000 17700000000000000000000000 c.args.price c.args.lack.power c.requires.price c.requires.power) in
+    let fl = fits_within w128 177000000000000000000000000000000 (c.from.result *ℤ c.args.lack.power) lacking (omega arith) in
+    simp to_z-of_z fl
+
 pub overflow_mul-flat : goal.overflow_mul-flat
 overflow_mul-flat c =
     let q = c.ranges.price in

@@ -25,3 +25,12 @@ returns c =
     let e = simp to_z-of_z at c.added_at.ensures.value in
     let f = simp to_z-of_z at c.added_at-2.ensures.value in
     simp to_z-of_z (less_test c.added_at.result c.added_at-2.result _ _ e f)
+
+pub added_at-requires-clause-price : goal.added_at-requires-clause-price
+added_at-requires-clause-price c = search rules
+
+pub overflow_add-price : goal.overflow_add-price
+overflow_add-price c = search rules
+
+pub added_at-requires-2-clause-price : goal.added_at-requires-2-clause-price
+added_at-requires-2-clause-price c = search rules

@@ -1,12 +1,41 @@
-use Rattle.price_move.proofs.Common.{rules, ◌/◌, ◌^◌, min, ℕ, ℤ, pos, ◌*ℤ◌, FitsSigned, map, ap, ◌∙◌, arith, to_z-of_z, length-map, w128, market_of, proposal_of, squared_length}
+use Rattle.price_move.proofs.Common.{rules, ◌≡◌, ◌-◌, ◌/◌, ◌^◌, min, ℕ, ℤ, pos, ◌*ℤ◌, Some, List, FitsSigned, map, length, slice_get, ap, ◌∙◌, arith, to_z-of_z, length-map, w128, market_of, proposal_of, squared_length, All, Row, Proposal, IsFirstUpTo, values_of}
+use Rattle.uc_model.specs.Data.{Market}
+use Rattle.price_move.specs.Sizes.{IsRowBelow}
 use Rattle.price_move.proofs.Lemmas.{stepped_is, last_below}
 use Rattle.price_move.proofs.next.next_prices_from.Goals as goal
 
+-- the last row is one of the rows, so it is below the cost
+below : (m : Market) (rows : List Row) (best : ℕ) (r : Proposal) (cost : ℤ) → IsFirstUpTo (values_of (map proposal_of rows)) (length rows) best → All (IsRowBelow m cost) (map proposal_of rows) → slice_get (map proposal_of rows) (length (map proposal_of rows) - 1) ≡ Some r → IsRowBelow m cost r
+below m rows best r cost first rows_below at =
+    let lengths = length-map rows proposal_of in
+    let some = first.within in
+    last_below m (map proposal_of rows) r cost rows_below (omega (arith, lengths, some)) at
+
+pub gap_of-gap-requires-clause-row : goal.gap_of-gap-requires-clause-row
+gap_of-gap-requires-clause-row c =
+    let cost = c.ranges.cost in
+    simp to_z-of_z (below (market_of c.args.case.now) c.args.rows.now c.args.best (proposal_of c.last-row.result.now) c.args.cost c.requires.best c.requires.rows c.last-row.ensures)
+
+pub norm_of-norm-requires : goal.norm_of-norm-requires
+norm_of-norm-requires c =
+    (below (market_of c.args.case.now) c.args.rows.now c.args.best (proposal_of c.last-row.result.now) c.args.cost c.requires.best c.requires.rows c.last-row.ensures).row
+
+pub scale_of-scale-requires : goal.scale_of-scale-requires
+scale_of-scale-requires c = search rules
+
+pub returns-then-is_still-clause-settled : goal.returns-then-is_still-clause-settled
+returns-then-is_still-clause-settled c = search rules
+
+pub returns-clause-settled : goal.returns-clause-settled
+returns-clause-settled c = search rules
+
+pub take_step-requires-clause-row : goal.take_step-requires-clause-row
+take_step-requires-clause-row c =
+    (below (market_of c.args.case.now) c.args.rows.now c.args.best (proposal_of c.last-row.result.now) c.args.cost c.requires.best c.requires.rows c.last-row.ensures).row
+
 pub take_step-requires-2-clause-row : goal.take_step-requires-2-clause-row
 take_step-requires-2-clause-row c =
-    let lengths = length-map c.args.rows.now proposal_of in
-    let some = c.requires.best.within in
-    (last_below (market_of c.args.case.now) (map proposal_of c.args.rows.now) (proposal_of c.last-row.result.now) c.args.cost c.requires.rows (omega (arith, lengths, some)) c.last-row.ensures).row
+    (below (market_of c.args.case.now) c.args.rows.now c.args.best (proposal_of c.last-row.result.now) c.args.cost c.requires.best c.requires.rows c.last-row.ensures).row
 
 pub returns-clause-made : goal.returns-clause-made
 returns-clause-made c = λ _.
