@@ -3,7 +3,6 @@
 use plain_lists::lists::Name;
 
 /// The words of `hull price` and of `hull fixed`.
-#[derive(Drop)]
 pub struct PriceWords {
     /// The name of the file with the case.
     pub case_name: Name,
@@ -17,6 +16,19 @@ pub struct PriceWords {
     /// How many proposals may be open ahead of the last answered one, 1 to 16; [`DEFAULT_AHEAD`]
     /// where the words don't say.
     pub ahead: u32,
+}
+
+// Written out, so that a drop of it is a call, and not one for each name.
+impl Drop for PriceWords {
+    fn drop(self) {
+        let PriceWords {
+            case_name: _,
+            schedule_name: _,
+            proposals: _,
+            workers: _,
+            ahead: _,
+        } = self;
+    }
 }
 
 /// The words of `hull check`.
@@ -52,7 +64,6 @@ pub struct BoundWords {
 }
 
 /// The words of `hull audit`.
-#[derive(Drop)]
 pub struct AuditWords {
     /// The name of the file with the case.
     pub case_name: Name,
@@ -64,8 +75,19 @@ pub struct AuditWords {
     pub workers: u32,
 }
 
+// Written out, so that a drop of it is a call, and not one for each name.
+impl Drop for AuditWords {
+    fn drop(self) {
+        let AuditWords {
+            case_name: _,
+            schedule_name: _,
+            report_name: _,
+            workers: _,
+        } = self;
+    }
+}
+
 /// The words of `hull settle`.
-#[derive(Drop)]
 pub struct SettleWords {
     /// The name of the file with the case.
     pub case_name: Name,
@@ -75,8 +97,18 @@ pub struct SettleWords {
     pub prices_name: Name,
 }
 
+// Written out, so that a drop of it is a call, and not one for each name.
+impl Drop for SettleWords {
+    fn drop(self) {
+        let SettleWords {
+            case_name: _,
+            schedule_name: _,
+            prices_name: _,
+        } = self;
+    }
+}
+
 /// The words of `hull certify`.
-#[derive(Drop)]
 pub struct CertifyWords {
     /// The names of the case, the schedule and the prices, as for `hull settle`.
     pub names: SettleWords,
@@ -85,6 +117,17 @@ pub struct CertifyWords {
     /// How far each price may be from the given one, in thousandths of the currency per MW and
     /// period, 0 to 20,000,000; [`DEFAULT_RADIUS`] where the words don't say.
     pub radius: i64,
+}
+
+// Written out, so that a drop of it is a call, and not one for each name.
+impl Drop for CertifyWords {
+    fn drop(self) {
+        let CertifyWords {
+            names: _,
+            mixture_name: _,
+            radius: _,
+        } = self;
+    }
 }
 
 /// A command with its words.
