@@ -1,10 +1,10 @@
 //! The least best response of a thermal unit to prices, in memory that is taken once.
 //!
-//! It goes back over the table of `unit_program` from its least end.
+//! It goes back over the table of `unit_program` from its least end. It begins with the last answer
+//! of the unit, and leaves its own in place of that.
 #![tactic(auto)]
 
 ghost use Rattle.std.specs.Prelude.{◌≡◌, ℕ, length, IsTrue, IsFalse};
-ghost use Rattle.slope_list.specs.Slopes.{room_of};
 ghost use Rattle.uc_model.specs.Data.{Schedule, Thermal};
 ghost use Rattle.uc_model.specs.Earnings.{earnings, IsBest};
 ghost use Rattle.uc_model.specs.PlainUnits.{thermal_of, prices_of, schedule_of};
@@ -12,12 +12,8 @@ ghost use Rattle.uc_model.specs.Schedules.{IsThermalFeasible};
 ghost use Rattle.uc_model.specs.Ties.{IsLeast};
 ghost use Rattle.unit_program.specs.Benches.{IsBenchFor};
 
-use slope_list::Slopes;
 use uc_model::units::{Answered, Prices, Unit};
-use unit_program::Bench;
-use unit_program::bench::find_end;
-use unit_program::kept::keep_answer;
-use unit_program::way::write_noted;
+use unit_program::{Bench, LastAnswers};
 
 /// Leaves in `into` the least best response of a thermal unit to prices, in kilowatts, with what it
 /// earns in money, and answers true; or answers false exactly where no schedule of the unit is
@@ -26,15 +22,18 @@ use unit_program::way::write_noted;
 /// less first, each compared from the last period back.
 ///
 /// The bench suffices for the prices' periods and the unit's cost points, and afterwards for all
-/// that it sufficed for before. Takes no memory.
+/// that it sufficed for before. The answer is the same whatever the unit's number and the last
+/// answers are. Takes no memory.
 pub fn least_on_bench(
-    bench: &mut Bench<Slopes>,
+    bench: &mut Bench,
+    last: &LastAnswers,
+    number: u32,
     unit: &Unit,
     prices: &Prices,
     into: &mut Answered,
 ) -> bool
     requires horizon { length (thermal_of unit.now).window ≡ length (prices_of prices.now).energy }
-    requires bench { IsBenchFor room_of (length (prices_of prices.now).energy)
+    requires bench { IsBenchFor (length (prices_of prices.now).energy)
         (length (thermal_of unit.now).points) bench.old }
     requires into { length (schedule_of into.old.response).on
         ≡ length (prices_of prices.now).energy }
@@ -50,20 +49,14 @@ pub fn least_on_bench(
     ensures none { IsFalse result → (s : Schedule)
         → IsThermalFeasible (thermal_of unit.now) (length (prices_of prices.now).energy) s → ⊥ }
     ensures same { IsFalse result → into.new ≡ into.old }
-    ensures bench { (periods points : ℕ) → IsBenchFor room_of periods points bench.old
-        → IsBenchFor room_of periods points bench.new }
+    ensures bench { (periods points : ℕ) → IsBenchFor periods points bench.old
+        → IsBenchFor periods points bench.new }
 {
-    let Some(end) = find_end(bench, unit, prices) else {
+    bench.recall(last, number);
+    let Some(end) = bench.find_end(unit, prices) else {
         return false;
     };
-    write_noted(
-        unit,
-        prices,
-        bench.table.as_slice(),
-        bench.runners.as_slice(),
-        &end,
-        into,
-    );
-    keep_answer(bench.kept.as_mut_slice(), bench.number, prices, into);
+    bench.write_answer(unit, prices, &end, into);
+    bench.keep(last, number, prices, into);
     true
 }

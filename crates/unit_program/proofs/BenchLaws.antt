@@ -1,9 +1,11 @@
 -- What a bench is made for stays.
 use Rattle.unit_program.proofs.Common.{◌≡◌, ℕ, zero, suc, ◌+◌, ◌-◌, ◌*◌, ◌≤◌, ◌⊎◌, inl, inr, Some, List, [], ◌∷◌, ◌++◌}
 use Rattle.unit_program.proofs.Common.{length, sym, ap, ◌∙◌, subst, arith, slice_get, mul-le-mul_left, Runner}
-use Rattle.unit_program.proofs.Common.{places_of, HaveRoom}
+use Rattle.unit_program.proofs.Common.{places_of, HaveRoom, room_of}
 use Rattle.unit_program.specs.declared.bench.Bench.{Bench}
-use Rattle.unit_program.specs.Benches.{IsBenchFor}
+use Rattle.unit_program.proofs.Common.{◌<◌, Option, None, IfSome, ThermalUnit, PriceLists, Entry, IsEndWithin}
+use Rattle.unit_program.proofs.Common.{HaveWays, cost_at, first_at, left_at}
+use Rattle.unit_program.specs.Benches.{IsBenchFor, HasWayFrom}
 
 pub room_less : {R : Type 0} (room : R → ℕ) (most less periods : ℕ) (runners : List (Runner R)) → less ≤ most →
     HaveRoom room most periods runners → HaveRoom room less periods runners
@@ -15,16 +17,16 @@ pub charge_less : (periods points blocks : ℕ) → blocks ≤ 2 * (points - 1) 
     periods * (blocks + 3) ≤ periods * (2 * points + 3)
 charge_less periods points blocks few = mul-le-mul_left periods (omega (arith, few))
 
-pub bench_kept : {R : Type 0} (room : R → ℕ) (periods points : ℕ) (old new : Bench R) →
+pub bench_kept : (periods points : ℕ) (old new : Bench) →
     length old.curve.blocks.items + old.curve.blocks.spare ≡ length new.curve.blocks.items + new.curve.blocks.spare →
     length new.runners.items ≡ length old.runners.items →
-    ((most periods : ℕ) → HaveRoom room most periods old.runners.items → HaveRoom room most periods new.runners.items) →
+    ((most periods : ℕ) → HaveRoom room_of most periods old.runners.items →
+    HaveRoom room_of most periods new.runners.items) →
     length new.table.items ≡ length old.table.items →
     length new.origins.list.items ≡ length old.origins.list.items →
     length new.roster.firsts.items ≡ length old.roster.firsts.items →
-    length new.limits.items ≡ length old.limits.items → IsBenchFor room periods points old →
-    IsBenchFor room periods points new
-bench_kept room periods points old new curve count keeps rows list firsts each b =
+    length new.limits.items ≡ length old.limits.items → IsBenchFor periods points old → IsBenchFor periods points new
+bench_kept periods points old new curve count keeps rows list firsts each b =
     record {
       blocks = omega (arith, curve);
       count = omega (arith, count);
@@ -34,6 +36,17 @@ bench_kept room periods points old new curve count keeps rows list firsts each b
       roster = omega (arith, firsts);
       limits = omega (arith, each);
     }
+
+-- ---- the way back from an end that is found
+
+pub way_found : (u : ThermalUnit) (π : PriceLists) (b : Bench) (found : Option Entry) →
+    IfSome found (λ e. IsEndWithin u π b.table.items e.last e.cost) →
+    HaveWays u π (length π.energy) (cost_at b.table.items) (first_at b.table.items) (left_at b.runners.items) →
+    length π.energy < length b.table.items → length π.energy < length b.runners.items →
+    IfSome found (λ e. HasWayFrom u π e b)
+way_found u π b None least ways rows runners = tt
+way_found u π b (Some e) least ways rows runners =
+    record { least = least; ways = ways; rows = rows; runners = runners }
 
 -- ---- runners made one by one
 

@@ -1,13 +1,17 @@
--- What a bench is made for (this project's profile).
+-- What a bench is made for, and what it holds once a unit's least end is found (this project's
+-- profile).
 use Rattle.std.specs.Prelude.{ℕ, ◌+◌, ◌*◌, ◌<◌, ◌≤◌, length}
-use Rattle.slope_list.specs.declared.slopes.Slopes.{Slopes}
 use Rattle.slope_list.specs.Slopes.{room_of}
+use Rattle.uc_model.specs.Data.{ThermalUnit, PriceLists}
 use Rattle.unit_program.specs.declared.bench.Bench.{Bench}
-use Rattle.unit_table.specs.Live.{HaveRoom}
+use Rattle.unit_table.specs.Limits.{IsEndWithin}
+use Rattle.unit_table.specs.Live.{HaveRoom, left_at}
+use Rattle.unit_table.specs.Rows.{cost_at, first_at}
+use Rattle.unit_table.specs.Runners.{HaveWays}
+use Rattle.unit_table.specs.declared.table.Entry.{Entry}
 
 -- its parts suffice for the answers of a unit with so many cost points over so many periods
-pub record IsBenchFor {R : Type 0} (room_of : R → ℕ) (periods points : ℕ) (b : Bench R) : Type
-    0 where
+pub record IsBenchFor (periods points : ℕ) (b : Bench) : Type 0 where
   pub blocks : 2 * points ≤ length b.curve.blocks.items + b.curve.blocks.spare
   pub count : periods < length b.runners.items
   pub room : HaveRoom room_of (periods * (2 * points + 3)) periods b.runners.items
@@ -19,5 +23,14 @@ pub record IsBenchFor {R : Type 0} (room_of : R → ℕ) (periods points : ℕ) 
 -- a bench serves fewer periods and points too
 abbrev pub BenchesServeLess : Type 0
 BenchesServeLess =
-    (periods points fewer less : ℕ) (b : Bench Slopes) → fewer ≤ periods → less ≤ points →
-    IsBenchFor room_of periods points b → IsBenchFor room_of fewer less b
+    (periods points fewer less : ℕ) (b : Bench) → fewer ≤ periods → less ≤ points →
+    IsBenchFor periods points b → IsBenchFor fewer less b
+
+-- its table has this end as the least, and its runners have left what the way back needs
+pub record HasWayFrom (u : ThermalUnit) (π : PriceLists) (end : Entry) (b : Bench) : Type 0 where
+  pub least : IsEndWithin u π b.table.items end.last end.cost
+  pub ways :
+      HaveWays u π (length π.energy) (cost_at b.table.items) (first_at b.table.items)
+      (left_at b.runners.items)
+  pub rows : length π.energy < length b.table.items
+  pub runners : length π.energy < length b.runners.items

@@ -14,12 +14,12 @@ pub const NO_BOUND: i64 = 4_000_000_000_000_000_000;
 
 /// An answer of a unit, if it has one yet.
 pub struct Kept {
-    pub is_some: bool,
-    /// What it costs, without what the prices pay, in money.
-    pub cost: i64,
-    /// Its power and reserve of each period, in kilowatts.
-    pub power: Powers,
-    pub reserve: Powers,
+    is_some: bool,
+    // What it costs, without what the prices pay, in money.
+    cost: i64,
+    // Its power and reserve of each period, in kilowatts.
+    power: Powers,
+    reserve: Powers,
 }
 
 // Written out, so that a drop of it is a call, and not one for each list.
@@ -68,8 +68,13 @@ impl Kept {
         })
     }
 
-    // What it costs at prices, and an amount that nothing costs where nothing is kept.
-    fn guess(&self, prices: &Prices) -> i64
+    /// Keeps nothing any more.
+    pub fn forget(&mut self) {
+        self.is_some = false;
+    }
+
+    /// What it costs at prices, and an amount that nothing costs where nothing is kept.
+    pub fn guess(&self, prices: &Prices) -> i64
         ensures { IsFrom (neg_ℤ (pos 4000000000000000000)) (pos 4000000000000000000) result }
     {
         if !self.is_some {
@@ -79,32 +84,13 @@ impl Kept {
         self.cost.wrapping_sub(paid).clamp(-NO_BOUND, NO_BOUND)
     }
 
-    // Keeps an answer to prices.
-    fn keep(&mut self, prices: &Prices, answered: &Answered) {
+    /// Keeps an answer to prices.
+    pub fn keep(&mut self, prices: &Prices, answered: &Answered) {
         let response = &answered.response;
         copy_powers(response.power.as_slice(), &mut self.power);
         copy_powers(response.reserve.as_slice(), &mut self.reserve);
         let paid = paid_for(prices, self.power.as_slice(), self.reserve.as_slice());
         self.cost = paid.wrapping_sub(answered.earned);
         self.is_some = true;
-    }
-}
-
-/// What the answer of the unit of a number costs at prices, and an amount that nothing costs where
-/// none is kept.
-pub fn guess_of(kept: &[Kept], number: u32, prices: &Prices) -> i64
-    ensures { IsFrom (neg_ℤ (pos 4000000000000000000)) (pos 4000000000000000000) result }
-{
-    match kept.get(number as usize) {
-        Some(one) => one.guess(prices),
-        None => NO_BOUND,
-    }
-}
-
-/// Keeps the answer of the unit of a number to prices, if there is a place for it.
-pub fn keep_answer(kept: &mut [Kept], number: u32, prices: &Prices, answered: &Answered) {
-    let number = number as usize;
-    if number < kept.len() {
-        kept[number].keep(prices, answered);
     }
 }

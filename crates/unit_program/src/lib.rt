@@ -14,10 +14,10 @@
 
 pub mod answer;
 pub mod bench;
-pub mod kept;
+mod kept;
+mod last;
 pub mod laws;
 pub mod way;
 
 pub use bench::Bench;
-pub use kept::Kept;
-pub use unit_table::{Runner, fill_by_periods};
+pub use last::LastAnswers;

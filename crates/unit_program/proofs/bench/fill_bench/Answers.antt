@@ -23,7 +23,7 @@ returns-clause-bench c = λ periods points b.
     let lent = c.as_mut_slice.ensures in
     let same = with_items_is c.args.bench.now.runners c.fill_by_periods.new.runners
     (c.fill_by_periods.ensures.same.count_same ∙ lent.len) in
-    bench_kept room_of periods points c.args.bench.now
+    bench_kept periods points c.args.bench.now
     (record {
       curve = c.curve_into.new.into;
       runners = with_items c.args.bench.now.runners
@@ -33,7 +33,6 @@ returns-clause-bench c = λ periods points b.
       table = c.fill_by_periods.new.table;
       limits = c.fill_limits.new.limits;
       kept = c.args.bench.now.kept;
-      number = c.args.bench.now.number;
     })
     (sym c.curve_into.ensures.room) (ap length same ∙ c.fill_by_periods.ensures.same.count_same ∙ ap length lent.value)
     (λ most periods have.

@@ -1,7 +1,7 @@
 use Rattle.unit_program.proofs.Common.{pos, length, arith, ints, Schedule, thermal_of, prices_of, IsThermalFeasible}
 use Rattle.unit_program.proofs.Common.{EachCostsMore}
 use Rattle.unit_program.proofs.Lemmas.{if_none_more, none_feasible}
-use Rattle.unit_program.proofs.bench.find_end.Goals as goal
+use Rattle.unit_program.proofs.bench.Bench.find_end.Goals as goal
 
 pub find_within-requires-2-clause-bench : goal.find_within-requires-2-clause-bench
 find_within-requires-2-clause-bench c = c.find_within.ensures.bench (length c.args.prices.now.energy.items)

@@ -1,5 +1,5 @@
 use Rattle.unit_program.proofs.Common.{length, ap, arith, length-replicate}
-use Rattle.unit_program.proofs.bench.Bench+Slopes.make.Goals as goal
+use Rattle.unit_program.proofs.bench.Bench.make.Goals as goal
 
 pub returns : goal.returns
 returns c =

@@ -1,0 +1,27 @@
+use Rattle.slope_list.specs.declared.slopes.Slopes.{Slopes}
+use Rattle.unit_program.proofs.Common.{◌<◌, List, Option, length, sym, subst, thermal_of, prices_of, Runner, Ended}
+use Rattle.unit_program.proofs.Common.{IsEndWithin, left_at, cost_at, first_at, HaveWays}
+use Rattle.unit_program.proofs.bench.Bench.write_answer.Goals as goal
+
+pub write_noted-requires-clause-ways : goal.write_noted-requires-clause-ways
+write_noted-requires-clause-ways c =
+    let u = thermal_of c.args.unit.now in
+    let π = prices_of c.args.prices.now in
+    let T = length c.args.prices.now.energy.items in
+    subst (λ (xs : List (Runner Slopes)). HaveWays u π T (cost_at c.as_slice.result.now)
+    (first_at c.as_slice.result.now) (left_at xs)) (sym c.as_slice-2.ensures.value)
+    (subst (λ (rows : List (Option Ended)). HaveWays u π T (cost_at rows) (first_at rows)
+    (left_at c.args.self.now.runners.items)) (sym c.as_slice.ensures) c.requires.way.ways)
+
+pub write_noted-requires-clause-room : goal.write_noted-requires-clause-room
+write_noted-requires-clause-room c = subst (λ (rows : List (Option Ended)). length c.args.prices.now.energy.items <
+    length rows) (sym c.as_slice.ensures) c.requires.way.rows
+
+pub write_noted-requires-clause-runners : goal.write_noted-requires-clause-runners
+write_noted-requires-clause-runners c = subst (λ (xs : List (Runner Slopes)). length c.args.prices.now.energy.items <
+    length xs) (sym c.as_slice-2.ensures.value) c.requires.way.runners
+
+pub write_noted-requires-clause-end : goal.write_noted-requires-clause-end
+write_noted-requires-clause-end c = subst (λ (rows : List (Option Ended)). IsEndWithin (thermal_of c.args.unit.now)
+    (prices_of c.args.prices.now) rows c.args.end.now.last c.args.end.now.cost) (sym c.as_slice.ensures)
+    c.requires.way.least
