@@ -3,7 +3,6 @@ pub use Rattle.std.proofs.Common.{◌≡◌, ℕ, zero, suc, ◌+◌, ℤ, Some,
 pub use Rattle.std.specs.List.{AllZip, All}
 pub use Rattle.std.specs.Prelude.{slice_get, IsTrue, IsFalse, slice_index_or}
 pub use Rattle.case_answers.specs.Tops.{HasSchedules, CanAnswer, points_of, IsBenchOver}
-pub use Rattle.slope_list.specs.Slopes.{room_of}
 pub use Rattle.plain_lists.proofs.ListLaws.{item_of, map_item}
 pub use Rattle.uc_model.specs.Data.{AnyUnit, PriceLists, Schedule, Market, units, ThermalUnit, NamedThermalUnit, Thermal, Flat, Bid, NamedRenewableUnit, NamedBidUnit, horizon_of}
 pub use Rattle.uc_model.specs.Earnings.{IsTop, earnings}

@@ -1,9 +1,8 @@
 -- The unit of a number.
-use Rattle.case_answers.proofs.Common.{◌≡◌, ℕ, ◌++◌, Flat, Bid, NamedRenewableUnit, NamedBidUnit, Bool, true, false, Some, List, ◌≤◌, length, refl, sym, subst, arith, All, IsTrue, IsFalse, slice_get, slice_index_or, room_of, Answered, ThermalUnit, NamedThermalUnit, AnyUnit, Thermal, PriceLists, Schedule, Market, units, earnings, schedule_of, IsThermalFeasible, item_of, map_item, CanAnswer, points_of, IsBenchOver}
+use Rattle.case_answers.proofs.Common.{◌≡◌, ℕ, ◌++◌, Flat, Bid, NamedRenewableUnit, NamedBidUnit, Bool, true, false, Some, List, ◌≤◌, length, refl, sym, subst, arith, All, IsTrue, IsFalse, slice_get, slice_index_or, Answered, ThermalUnit, NamedThermalUnit, AnyUnit, Thermal, PriceLists, Schedule, Market, units, earnings, schedule_of, IsThermalFeasible, item_of, map_item, CanAnswer, points_of, IsBenchOver}
 use Rattle.std.specs.Prelude.{map, ⊤}
 use Rattle.std.proofs.lemmas.Option.{slice_get-get_or}
 use Rattle.std.proofs.lemmas.List.Elements.{All-map, All-append}
-use Rattle.slope_list.specs.declared.slopes.Slopes.{Slopes}
 use Rattle.uc_model.specs.declared.units.Point.{Point}
 use Rattle.uc_model.specs.Runs.{Fits}
 use Rattle.unit_program.specs.Benches.{IsBenchFor, BenchesServeLess}
@@ -25,12 +24,12 @@ pub some_at : (m : Market) (n k : ℕ) (g : ThermalUnit) → CanAnswer m → n �
 some_at m n k g can horizon is = subst (λ (p : ℕ). ((s : Schedule) → IsThermalFeasible g p s → ⊥) → ⊥) (sym horizon) (can k (Thermal g) is)
 
 -- and the bench suffices for it
-abbrev serves : Market → Bench Slopes → AnyUnit → Type 0
-serves m b (Thermal g) = IsBenchFor room_of m.periods (length g.points) b
+abbrev serves : Market → Bench → AnyUnit → Type 0
+serves m b (Thermal g) = IsBenchFor m.periods (length g.points) b
 serves m b (Flat r) = ⊤
 serves m b (Bid p) = ⊤
 
-serves_each : (m : Market) (b : Bench Slopes) → IsBenchOver m b → All (serves m b) (units m)
+serves_each : (m : Market) (b : Bench) → IsBenchOver m b → All (serves m b) (units m)
 serves_each m b over =
     let P = serves m b in
     let ts = map (λ (n : NamedThermalUnit). Thermal n.unit) m.thermal in
@@ -38,21 +37,21 @@ serves_each m b over =
     let bs = map (λ (n : NamedBidUnit). Bid n.unit) m.bids in
     All-append P (ts ++ fs) bs
     (All-append P ts fs (All-map P (λ (n : NamedThermalUnit). Thermal n.unit) m.thermal (λ k d inside. item_of
-    (λ (ps : List Point). IsBenchFor room_of m.periods (length ps) b) (points_of m) k (slice_index_or m.thermal k d).unit.points over
+    (λ (ps : List Point). IsBenchFor m.periods (length ps) b) (points_of m) k (slice_index_or m.thermal k d).unit.points over
     (map_item (λ (n : NamedThermalUnit). n.unit.points) m.thermal k (slice_index_or m.thermal k d) (slice_get-get_or m.thermal k d inside))))
     (All-map P (λ (n : NamedRenewableUnit). Flat n.unit) m.flat (λ k d inside. tt)))
     (All-map P (λ (n : NamedBidUnit). Bid n.unit) m.bids (λ k d inside. tt))
 
-pub bench_at : (m : Market) (n k : ℕ) (g : ThermalUnit) (b : Bench Slopes) → IsBenchOver m b → n ≡ m.periods →
-    slice_get (units m) k ≡ Some (Thermal g) → IsBenchFor room_of n (length g.points) b
+pub bench_at : (m : Market) (n k : ℕ) (g : ThermalUnit) (b : Bench) → IsBenchOver m b → n ≡ m.periods →
+    slice_get (units m) k ≡ Some (Thermal g) → IsBenchFor n (length g.points) b
 bench_at m n k g b over horizon is =
-    subst (λ (p : ℕ). IsBenchFor room_of p (length g.points) b) (sym horizon)
+    subst (λ (p : ℕ). IsBenchFor p (length g.points) b) (sym horizon)
     (item_of (serves m b) (units m) k (Thermal g) (serves_each m b over) is)
 
-pub bench_kept : (m : Market) (old new : Bench Slopes) → ((periods points : ℕ) → IsBenchFor room_of periods points old → IsBenchFor room_of periods points new) → IsBenchOver m old → IsBenchOver m new
+pub bench_kept : (m : Market) (old new : Bench) → ((periods points : ℕ) → IsBenchFor periods points old → IsBenchFor periods points new) → IsBenchOver m old → IsBenchOver m new
 bench_kept m old new keeps over k d inside = keeps m.periods _ (over k d inside)
 
-pub serves_all : BenchesServeLess → (m : Market) (points : ℕ) (b : Bench Slopes) → All (λ (n : NamedThermalUnit). length n.unit.points ≤ points) m.thermal → IsBenchFor room_of m.periods points b → IsBenchOver m b
+pub serves_all : BenchesServeLess → (m : Market) (points : ℕ) (b : Bench) → All (λ (n : NamedThermalUnit). length n.unit.points ≤ points) m.thermal → IsBenchFor m.periods points b → IsBenchOver m b
 serves_all less m points b few over =
-    All-map (λ (ps : List Point). IsBenchFor room_of m.periods (length ps) b) (λ (n : NamedThermalUnit). n.unit.points) m.thermal
+    All-map (λ (ps : List Point). IsBenchFor m.periods (length ps) b) (λ (n : NamedThermalUnit). n.unit.points) m.thermal
     (λ k d inside. less m.periods points m.periods (length (slice_index_or m.thermal k d).unit.points) b (omega arith) (few k d inside) over)

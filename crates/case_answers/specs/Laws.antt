@@ -1,8 +1,6 @@
 -- What answers rest on. Each law is the clause of a public function of its name.
 use Rattle.std.specs.Prelude.{ℕ, ◌≤◌, length}
 use Rattle.std.specs.List.{All}
-use Rattle.slope_list.specs.Slopes.{room_of}
-use Rattle.slope_list.specs.declared.slopes.Slopes.{Slopes}
 use Rattle.uc_model.specs.Data.{NamedThermalUnit, Market}
 use Rattle.unit_program.specs.Benches.{IsBenchFor}
 use Rattle.unit_program.specs.declared.bench.Bench.{Bench}
@@ -16,6 +14,6 @@ UnitsCanAnswer = (m : Market) → HasSchedules m → CanAnswer m
 -- each thermal unit
 abbrev pub BenchesServeAll : Type 0
 BenchesServeAll =
-    (m : Market) (points : ℕ) (b : Bench Slopes) →
+    (m : Market) (points : ℕ) (b : Bench) →
     All (λ (n : NamedThermalUnit). length n.unit.points ≤ points) m.thermal →
-    IsBenchFor room_of m.periods points b → IsBenchOver m b
+    IsBenchFor m.periods points b → IsBenchOver m b

@@ -2,8 +2,6 @@
 -- bench.
 use Rattle.std.specs.Prelude.{◌≡◌, ℕ, ℤ, List, map, length, Some, slice_get}
 use Rattle.std.specs.List.{All, AllZip}
-use Rattle.slope_list.specs.Slopes.{room_of}
-use Rattle.slope_list.specs.declared.slopes.Slopes.{Slopes}
 use Rattle.uc_model.specs.declared.units.Point.{Point}
 use Rattle.uc_model.specs.Data.{NamedThermalUnit, AnyUnit, PriceLists, Schedule, Market, units}
 use Rattle.uc_model.specs.Earnings.{IsTop}
@@ -28,9 +26,9 @@ abbrev pub points_of : Market → List (List Point)
 points_of m = map (λ (n : NamedThermalUnit). n.unit.points) m.thermal
 
 -- a bench that suffices for each thermal unit
-abbrev pub IsBenchOver : Market → Bench Slopes → Type 0
+abbrev pub IsBenchOver : Market → Bench → Type 0
 IsBenchOver m b =
-    All (λ (ps : List Point). IsBenchFor room_of m.periods (length ps) b) (points_of m)
+    All (λ (ps : List Point). IsBenchFor m.periods (length ps) b) (points_of m)
 
 -- what the best schedules of each unit and bid earn, in the order of the units' numbers
 abbrev pub AreTops : Market → PriceLists → List ℤ → Type 0

@@ -1,6 +1,5 @@
 //! The answer of the unit of a number.
 ghost use Rattle.std.specs.Prelude.{◌≡◌, ℕ, ◌<◌, length};
-ghost use Rattle.slope_list.specs.Slopes.{room_of};
 ghost use Rattle.uc_model.specs.Data.{Thermal, Schedule, unit_count};
 ghost use Rattle.uc_model.specs.Earnings.{earnings};
 ghost use Rattle.uc_model.specs.PlainCases.{market_of};
@@ -10,11 +9,10 @@ ghost use Rattle.uc_model.specs.Schedules.{IsThermalFeasible};
 ghost use Rattle.unit_program.specs.Benches.{IsBenchFor};
 
 use flat_answer::{best_bid, best_flat};
-use slope_list::Slopes;
 use uc_model::cases::{Case, UnitRef};
 use uc_model::units::{Answered, Prices, Unit};
 use unit_choice::least_on_bench;
-use unit_program::Bench;
+use unit_program::{Bench, LastAnswers};
 
 /// Which way a unit's powers count in the supply.
 #[derive(Clone, Copy)]
@@ -27,7 +25,8 @@ pub enum Flow {
 
 // Answers the thermal unit of a number, which isn't without a feasible schedule.
 fn answer_thermal(
-    bench: &mut Bench<Slopes>,
+    bench: &mut Bench,
+    last: &LastAnswers,
     number: u32,
     unit: &Unit,
     prices: &Prices,
@@ -36,7 +35,7 @@ fn answer_thermal(
     requires horizon { length (thermal_of unit.now).window ≡ length (prices_of prices.now).energy }
     requires some { ((s : Schedule) → IsThermalFeasible (thermal_of unit.now)
         (length (prices_of prices.now).energy) s → ⊥) → ⊥ }
-    requires bench { IsBenchFor room_of (length (prices_of prices.now).energy)
+    requires bench { IsBenchFor (length (prices_of prices.now).energy)
         (length (thermal_of unit.now).points) bench.old }
     requires into { length (schedule_of into.old.response).on
         ≡ length (prices_of prices.now).energy }
@@ -44,12 +43,11 @@ fn answer_thermal(
         (schedule_of into.new.response) }
     ensures earned { into.new.earned ≡ earnings (Thermal (thermal_of unit.now))
         (prices_of prices.now) (schedule_of into.new.response) }
-    ensures bench { (periods points : ℕ) → IsBenchFor room_of periods points bench.old
-        → IsBenchFor room_of periods points bench.new }
+    ensures bench { (periods points : ℕ) → IsBenchFor periods points bench.old
+        → IsBenchFor periods points bench.new }
 {
-    bench.ask_for(number);
     // It is found, since some schedule is feasible.
-    let _ = least_on_bench(bench, unit, prices, into);
+    let _ = least_on_bench(bench, last, number, unit, prices, into);
 }
 
 ghost use Rattle.case_answers.specs.Answers.{IsAnswerAt};
@@ -58,9 +56,10 @@ ghost use Rattle.case_answers.specs.Tops.{CanAnswer, IsBenchOver};
 /// Leaves in `into` the least best response of the unit of a number at the prices, and what it
 /// earns in money. Tells which way its powers count. No unit is without a feasible schedule; the
 /// bench suffices for each thermal unit, and does so afterwards. Prices and `into` are over the
-/// periods of the case. Takes no memory.
+/// periods of the case. The answer is the same whatever the last answers are. Takes no memory.
 pub fn answer_at(
-    bench: &mut Bench<Slopes>,
+    bench: &mut Bench,
+    last: &LastAnswers,
     case: &Case,
     prices: &Prices,
     number: usize,
@@ -78,7 +77,7 @@ pub fn answer_at(
 {
     match case.unit_at(number).unit {
         UnitRef::Thermal(unit) => {
-            answer_thermal(bench, number as u32, unit, prices, into);
+            answer_thermal(bench, last, number as u32, unit, prices, into);
             Flow::Gives
         }
         UnitRef::Renewable(flat) => {

@@ -8,10 +8,9 @@ ghost use Rattle.case_answers.specs.Tops.{HasSchedules, IsBenchOver, AreTops};
 use crate::answer::answer_at;
 use crate::laws::units_can_answer;
 use plain_lists::lists::Numbers;
-use slope_list::Slopes;
 use uc_model::cases::Case;
 use uc_model::units::{Answered, Prices};
-use unit_program::Bench;
+use unit_program::{Bench, LastAnswers};
 
 /// Leaves in `into` what the best schedules of each unit and bid earn at the prices, in money and
 /// in the order of the units' numbers. Each of them has a feasible schedule. The bench suffices for
@@ -19,7 +18,8 @@ use unit_program::Bench;
 /// and `into` has room for a number for each unit. The buffer is left with any answer over those
 /// periods. Takes no memory.
 pub fn earn_all(
-    bench: &mut Bench<Slopes>,
+    bench: &mut Bench,
+    last: &LastAnswers,
     case: &Case,
     prices: &Prices,
     buffer: &mut Answered,
@@ -37,7 +37,7 @@ pub fn earn_all(
     units_can_answer();
     into.clear();
     for number in 0..case.unit_count() as usize {
-        answer_at(bench, case, prices, number, buffer);
+        answer_at(bench, last, case, prices, number, buffer);
         into.push(buffer.earned);
     }
 }

@@ -1,4 +1,4 @@
-use Rattle.case_answers.proofs.Common.{length, room_of, thermal_of, prices_of}
+use Rattle.case_answers.proofs.Common.{thermal_of, prices_of}
 use Rattle.case_answers.proofs.Lemmas.{found}
 use Rattle.case_answers.proofs.answer.answer_thermal.Goals as goal
 
@@ -11,9 +11,3 @@ pub returns-clause-earned : goal.returns-clause-earned
 returns-clause-earned c =
     let e = c.least_on_bench.ensures in
     (found (thermal_of c.args.unit.now) (prices_of c.args.prices.now) c.least_on_bench.new.into c.least_on_bench.result c.requires.some e.least e.earned e.none).earned
-
-pub least_on_bench-requires-clause-bench : goal.least_on_bench-requires-clause-bench
-least_on_bench-requires-clause-bench c = c.ask_for.ensures.bench room_of (length c.args.prices.now.energy.items) (length c.args.unit.now.points.items) c.requires.bench
-
-pub returns-clause-bench : goal.returns-clause-bench
-returns-clause-bench c = λ periods points b. c.least_on_bench.ensures.bench periods points (c.ask_for.ensures.bench room_of periods points b)
