@@ -6,9 +6,9 @@ use Rattle.uc_model.specs.Data.{ThermalUnit, PriceLists}
 use Rattle.unit_program.specs.declared.bench.Bench.{Bench}
 use Rattle.unit_table.specs.Limits.{IsEndWithin}
 use Rattle.unit_table.specs.Live.{HaveRoom, left_at}
-use Rattle.unit_table.specs.Rows.{cost_at, first_at}
+use Rattle.unit_rows.specs.Rows.{cost_at, first_at}
 use Rattle.unit_table.specs.Runners.{HaveWays}
-use Rattle.unit_table.specs.declared.table.Entry.{Entry}
+use Rattle.unit_rows.specs.declared.table.Entry.{Entry}
 
 -- its parts suffice for the answers of a unit with so many cost points over so many periods
 pub record IsBenchFor (periods points : ℕ) (b : Bench) : Type 0 where
