@@ -7,9 +7,9 @@ use Rattle.unit_program.proofs.Common.{◌<◌, Option, None, IfSome, ThermalUni
 use Rattle.unit_program.proofs.Common.{HaveWays, cost_at, first_at, left_at}
 use Rattle.unit_program.specs.Benches.{IsBenchFor, HasWayFrom}
 
-pub room_less : {R : Type 0} (room : R → ℕ) (most less periods : ℕ) (runners : List (Runner R)) → less ≤ most →
-    HaveRoom room most periods runners → HaveRoom room less periods runners
-room_less room most less periods runners low have f r is =
+pub room_less : (most less periods : ℕ) (runners : List Runner) → less ≤ most →
+    HaveRoom most periods runners → HaveRoom less periods runners
+room_less most less periods runners low have f r is =
     (let there = (have f r is).0 in (omega (arith, low, there), (have f r is).1))
 
 -- a curve of so many points asks for no more
@@ -20,8 +20,8 @@ charge_less periods points blocks few = mul-le-mul_left periods (omega (arith, f
 pub bench_kept : (periods points : ℕ) (old new : Bench) →
     length old.curve.blocks.items + old.curve.blocks.spare ≡ length new.curve.blocks.items + new.curve.blocks.spare →
     length new.runners.items ≡ length old.runners.items →
-    ((most periods : ℕ) → HaveRoom room_of most periods old.runners.items →
-    HaveRoom room_of most periods new.runners.items) →
+    ((most periods : ℕ) → HaveRoom most periods old.runners.items →
+    HaveRoom most periods new.runners.items) →
     length new.table.items ≡ length old.table.items →
     length new.origins.list.items ≡ length old.origins.list.items →
     length new.roster.firsts.items ≡ length old.roster.firsts.items →
@@ -57,11 +57,11 @@ get_append [] r (suc i) x h = cc
 get_append (y ∷ ys) r zero x h = inl h
 get_append (y ∷ ys) r (suc i) x h = get_append ys r i x h
 
-pub room_more : {R : Type 0} (room : R → ℕ) (most periods : ℕ) (runners runners' : List (Runner R)) (r : Runner R) →
-    runners' ≡ runners ++ r ∷ [] → most ≤ room r.running → periods ≤ places_of r →
-    HaveRoom room most periods runners → HaveRoom room most periods runners'
-room_more room most periods runners runners' r is fits long have f x there =
+pub room_more : (most periods : ℕ) (runners runners' : List Runner) (r : Runner) →
+    runners' ≡ runners ++ r ∷ [] → most ≤ room_of r.running → periods ≤ places_of r →
+    HaveRoom most periods runners → HaveRoom most periods runners'
+room_more most periods runners runners' r is fits long have f x there =
     elim (get_append runners r f x (ap (λ xs. slice_get xs f) (sym is) ∙ there)) [
       | inl before ↦ have f x before
-      | inr same ↦ subst (λ x. (most ≤ room x.running) × (periods ≤ places_of x)) same (fits, long)
+      | inr same ↦ subst (λ x. (most ≤ room_of x.running) × (periods ≤ places_of x)) same (fits, long)
     ]

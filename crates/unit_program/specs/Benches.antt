@@ -14,7 +14,7 @@ use Rattle.unit_rows.specs.declared.table.Entry.{Entry}
 pub record IsBenchFor (periods points : ℕ) (b : Bench) : Type 0 where
   pub blocks : 2 * points ≤ length b.curve.blocks.items + b.curve.blocks.spare
   pub count : periods < length b.runners.items
-  pub room : HaveRoom room_of (periods * (2 * points + 3)) periods b.runners.items
+  pub room : HaveRoom (periods * (2 * points + 3)) periods b.runners.items
   pub rows : periods < length b.table.items
   pub origins : periods < length b.origins.list.items
   pub roster : periods < length b.roster.firsts.items

@@ -34,7 +34,7 @@ use unit_table::runner::Runner;
 pub struct Bench {
     curve: Curve,
     // The spells that go forward together.
-    runners: Vec<Runner<Slopes>>,
+    runners: Vec<Runner>,
     // The ends that the next start may follow.
     origins: Origins,
     // Which spells go forward.
@@ -62,9 +62,9 @@ impl Drop for Bench {
 }
 
 // So many runners, none of them on, each with room for so many pieces and as many periods.
-fn make_runners(alloc: Global, count: u32, pieces: usize) -> Result<Vec<Runner<Slopes>>, AllocError>
+fn make_runners(alloc: Global, count: u32, pieces: usize) -> Result<Vec<Runner>, AllocError>
     ensures count { IfOk result (λ v. length v.items ≡ count) }
-    ensures room { IfOk result (λ v. HaveRoom room_of pieces count v.items) }
+    ensures room { IfOk result (λ v. HaveRoom pieces count v.items) }
 {
     let mut runners = Vec::with_capacity(alloc, count as usize)?;
     for _ in 0..count {

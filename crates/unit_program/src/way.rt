@@ -13,7 +13,6 @@ ghost use Rattle.unit_rows.specs.Rows.{cost_at, first_at};
 ghost use Rattle.unit_table.specs.Runners.{HaveWays};
 
 use crate::answer::{clear, is_all_off, negated};
-use slope_list::Slopes;
 use spell_way::write_spell;
 use uc_model::laws::start_costs_are_within;
 use uc_model::units::{Answered, Prices, Unit};
@@ -26,7 +25,7 @@ use unit_table::runner::Runner;
 fn write_left(
     unit: &Unit,
     prices: &Prices,
-    runners: &[Runner<Slopes>],
+    runners: &[Runner],
     first: u32,
     last: u32,
     into: &mut Answered,
@@ -56,7 +55,7 @@ fn write_back(
     unit: &Unit,
     prices: &Prices,
     rows: &[Option<Ended>],
-    runners: &[Runner<Slopes>],
+    runners: &[Runner],
     last: u32,
     into: &mut Answered,
 )
@@ -98,7 +97,7 @@ pub fn write_noted(
     unit: &Unit,
     prices: &Prices,
     rows: &[Option<Ended>],
-    runners: &[Runner<Slopes>],
+    runners: &[Runner],
     end: &Entry,
     into: &mut Answered,
 )

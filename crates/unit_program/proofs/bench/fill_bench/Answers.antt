@@ -1,5 +1,3 @@
-use Rattle.slope_list.specs.declared.slopes.Slopes.{Slopes}
-use Rattle.slope_list.specs.Slopes.{room_of}
 use Rattle.unit_program.proofs.Common.{rules, ◌+◌, ◌-◌, ◌*◌, ◌<◌, ◌≤◌, List, length, sym, ap, ◌∙◌, subst, with_items_is}
 use Rattle.unit_program.proofs.Common.{to_z-of_z, FitsSigned, w64, thermal_of, prices_of, Runner, HaveRoom, left_at}
 use Rattle.unit_program.proofs.Common.{cost_at, first_at, HaveWays}
@@ -13,9 +11,9 @@ fill_by_periods-requires-clause-room c =
     let points = length c.args.unit.now.points.items in
     let blocks = length c.curve_into.new.into.blocks.items in
     let few : blocks ≤ 2 * (points - 1) = rw c.as_slice.ensures at c.curve_into.ensures.curve.count in
-    let have = room_less room_of (periods * (2 * points + 3)) (periods * (blocks + 3)) periods
+    let have = room_less (periods * (2 * points + 3)) (periods * (blocks + 3)) periods
     c.args.bench.now.runners.items (charge_less periods points blocks few) c.requires.bench.room in
-    subst (λ (xs : List (Runner Slopes)). HaveRoom room_of (periods * (blocks + 3)) periods xs)
+    subst (λ (xs : List Runner). HaveRoom (periods * (blocks + 3)) periods xs)
     (sym c.as_mut_slice.ensures.value) have
 
 pub returns-clause-bench : goal.returns-clause-bench
@@ -36,9 +34,9 @@ returns-clause-bench c = λ periods points b.
     })
     (sym c.curve_into.ensures.room) (ap length same ∙ c.fill_by_periods.ensures.same.count_same ∙ ap length lent.value)
     (λ most periods have.
-    subst (λ (xs : List (Runner Slopes)). HaveRoom room_of most periods xs) (sym same)
+    subst (λ (xs : List Runner). HaveRoom most periods xs) (sym same)
     (c.fill_by_periods.ensures.same.keeps most periods
-    (subst (λ (xs : List (Runner Slopes)). HaveRoom room_of most periods xs) (sym lent.value) have)))
+    (subst (λ (xs : List Runner). HaveRoom most periods xs) (sym lent.value) have)))
     c.fill_by_periods.ensures.same.rows_length c.fill_by_periods.ensures.list c.fill_by_periods.ensures.same.firsts_same
     c.fill_limits.ensures.length b
 
@@ -47,7 +45,7 @@ returns-clause-ways c =
     let lent = c.as_mut_slice.ensures in
     let same = with_items_is c.args.bench.now.runners c.fill_by_periods.new.runners
     (c.fill_by_periods.ensures.same.count_same ∙ lent.len) in
-    subst (λ (xs : List (Runner Slopes)). HaveWays (thermal_of c.args.unit.now) (prices_of c.args.prices.now)
+    subst (λ (xs : List Runner). HaveWays (thermal_of c.args.unit.now) (prices_of c.args.prices.now)
     (length c.args.prices.now.energy.items) (cost_at c.fill_by_periods.new.table.items)
     (first_at c.fill_by_periods.new.table.items) (left_at xs)) (sym same)
     c.fill_by_periods.ensures.ways
@@ -63,7 +61,7 @@ fill_by_periods-requires-clause-long c =
     let bench = c.requires.bench in
     record {
       rows_end = bench.rows;
-      runners_end = subst (λ (xs : List (Runner Slopes)). length c.args.prices.now.energy.items < length xs)
+      runners_end = subst (λ (xs : List Runner). length c.args.prices.now.energy.items < length xs)
           (sym c.as_mut_slice.ensures.value) bench.count;
       firsts_end = bench.roster;
       list_end = bench.origins;

@@ -1,4 +1,3 @@
-use Rattle.slope_list.specs.declared.slopes.Slopes.{Slopes}
 use Rattle.unit_program.proofs.Common.{◌<◌, List, Option, length, sym, subst, thermal_of, prices_of, Runner, Ended}
 use Rattle.unit_program.proofs.Common.{IsEndWithin, left_at, cost_at, first_at, HaveWays}
 use Rattle.unit_program.proofs.bench.Bench.write_answer.Goals as goal
@@ -8,7 +7,7 @@ write_noted-requires-clause-ways c =
     let u = thermal_of c.args.unit.now in
     let π = prices_of c.args.prices.now in
     let T = length c.args.prices.now.energy.items in
-    subst (λ (xs : List (Runner Slopes)). HaveWays u π T (cost_at c.as_slice.result.now)
+    subst (λ (xs : List Runner). HaveWays u π T (cost_at c.as_slice.result.now)
     (first_at c.as_slice.result.now) (left_at xs)) (sym c.as_slice-2.ensures.value)
     (subst (λ (rows : List (Option Ended)). HaveWays u π T (cost_at rows) (first_at rows)
     (left_at c.args.self.now.runners.items)) (sym c.as_slice.ensures) c.requires.way.ways)
@@ -18,7 +17,7 @@ write_noted-requires-clause-room c = subst (λ (rows : List (Option Ended)). len
     length rows) (sym c.as_slice.ensures) c.requires.way.rows
 
 pub write_noted-requires-clause-runners : goal.write_noted-requires-clause-runners
-write_noted-requires-clause-runners c = subst (λ (xs : List (Runner Slopes)). length c.args.prices.now.energy.items <
+write_noted-requires-clause-runners c = subst (λ (xs : List Runner). length c.args.prices.now.energy.items <
     length xs) (sym c.as_slice-2.ensures.value) c.requires.way.runners
 
 pub write_noted-requires-clause-end : goal.write_noted-requires-clause-end
