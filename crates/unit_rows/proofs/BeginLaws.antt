@@ -12,7 +12,7 @@ begun g cleared rows o is room none first = (
   subst (IsFirstRow g) (sym (ap (λ (xs : List (Option Ended)). row_at xs 0) is ∙ get_or-set_same cleared 0 o None room))
       first,
   λ l one. ap (λ (xs : List (Option Ended)). row_at xs l) is ∙
-      get_or-set_other cleared 0 l o None (λ z. omega (arith, z, one)) ∙ none l,
+      get_or-set_other cleared 0 l o None (λ z. omega arith) ∙ none l,
 )
 
 module _ (g : ThermalUnit) (rows : List (Option Ended)) (first : IsFirstRow g (row_at rows 0)) (rest : (l : ℕ) → 1 ≤ l →
@@ -38,5 +38,5 @@ module _ (g : ThermalUnit) (rows : List (Option Ended)) (first : IsFirstRow g (r
 
   pub within_first : AreWithin rows
   within_first = λ l v is.
-      (let h = only_first l v is in let z = h.1 in record
-      { at_least = omega (arith, ints, z); at_most = omega (arith, ints, z) })
+      (let h = only_first l v is in record
+      { at_least = omega (arith, ints); at_most = omega (arith, ints) })

@@ -3,9 +3,9 @@ use Rattle.unit_rows.proofs.Common.{◌≡◌, ◌≢◌, ℕ, zero, suc, ◌<�
 use Rattle.unit_rows.proofs.Common.{arith, IfSome, slice_get, slice_set}
 
 pub get_set_same : {X : Type 0} (xs : List X) (i : ℕ) (a : X) → i < length xs → slice_get (slice_set xs i a) i ≡ Some a
-get_set_same [] i a low = absurd (omega (arith, low))
+get_set_same [] i a low = absurd (omega arith)
 get_set_same (x ∷ xs) zero a low = refl
-get_set_same (x ∷ xs) (suc i) a low = get_set_same xs i a (omega (arith, low))
+get_set_same (x ∷ xs) (suc i) a low = get_set_same xs i a (omega arith)
 
 pub get_set_other : {X : Type 0} (xs : List X) (i j : ℕ) (a : X) → j ≢ i →
     slice_get (slice_set xs i a) j ≡ slice_get xs j

@@ -18,8 +18,8 @@ off_less g zero (suc b) k low end = elim (g.on0) as (λ x. (k - suc b) ≤ cond 
   | true ↦ omega arith
   | false ↦ omega arith
 ]
-off_less g (suc a) zero k low end = absurd (omega (arith, low))
-off_less g (suc a) (suc b) k low end = omega (arith, low)
+off_less g (suc a) zero k low end = absurd (omega arith)
+off_less g (suc a) (suc b) k low end = omega arith
 
 -- no time off has begun
 none_off : (g : ThermalUnit) (k : ℕ) → off_time g (suc k) (suc k) ≡ 0
@@ -30,15 +30,15 @@ whole g k = record {
   order = omega arith;
   must_run = λ must. omega arith;
   marks = λ t above until mark.
-      absurd (omega (arith, above, until));
+      absurd (omega arith);
 }
 
 -- ---- one of the list
 
 pub there : {X : Type 0} (xs : List X) (i : ℕ) → i < length xs → (x : X) × (slice_get xs i ≡ Some x)
-there [] i low = absurd (omega (arith, low))
+there [] i low = absurd (omega arith)
 there (x ∷ xs) zero low = (x, refl)
-there (x ∷ xs) (suc i) low = there xs i (omega (arith, low))
+there (x ∷ xs) (suc i) low = there xs i (omega arith)
 
 -- ---- before the first period
 
@@ -46,19 +46,19 @@ module _ (g : ThermalUnit) (ends : ℕ → Option ℤ) (os : Origins) (none : os
   pub begun_right : os.off_from ≡ 0 → (IsTrue os.is_rising → IsRising g.lags) → AreRight g ends 0 os
   begun_right from rising = record {
     rising = rising;
-    off = λ last low run. omega (arith, from);
+    off = λ last low run. omega arith;
     off_since = λ last at_least low.
-        (let z : 0 ≡ last = omega (arith, low) in subst (λ (l : ℕ). IsOffRun g l 0) z (whole g 0));
-    each = λ i o low is. absurd (omega (arith, low, none));
+        (let z : 0 ≡ last = omega arith in subst (λ (l : ℕ). IsOffRun g l 0) z (whole g 0));
+    each = λ i o low is. absurd (omega arith);
     order = record {
-      last = λ i j a b before low is is'. absurd (omega (arith, low, none));
-      cost = λ yes i j a b before low is is'. absurd (omega (arith, low, none));
+      last = λ i j a b before low is is'. absurd (omega arith);
+      cost = λ yes i j a b before low is is'. absurd (omega arith);
     };
   }
 
 pub begun_ripe : (g : ThermalUnit) (ends : ℕ → Option ℤ) (o : Origin) → IsOrigin g ends 0 o → IsRipe g 0 o.last
 begun_ripe g ends o is = record
-    { order = is.gap.off.order; long = is.gap.min_down; before = λ b next. absurd (omega (arith, next)) }
+    { order = is.gap.off.order; long = is.gap.min_down; before = λ b next. absurd (omega arith) }
 
 -- ---- a period more
 
@@ -68,24 +68,22 @@ module _ (g : ThermalUnit) (unit : IsThermalUnit g) (ends : ℕ →
   not_yet : (o : Origin) → IsOrigin g ends (suc k) o → o.last ≤ k
   not_yet o is = elim (cases_lt k (o.last)) [
     | inl above ↦
-        let order = is.gap.off.order in
-        let z : o.last ≡ suc k = omega (arith, above, order) in
+        let z : o.last ≡ suc k = omega arith in
         let long : g.min_down ≤ off_time g (suc k) (suc k) = subst (λ (l : ℕ). g.min_down ≤ off_time g l (suc k)) z
         is.gap.min_down in
         let none = none_off g k in
-        let one = unit.min_down_is_one_or_more in
-        absurd (omega (arith, long, none, one))
+        absurd (omega arith)
     | inr most ↦ most
   ]
 
   module _ (free : IsFalse g.must_run) (open_next : mark_in g.window (suc k) ≡ MustOn → ⊥) where
     run_more : (last : ℕ) → IsOffRun g last k → IsOffRun g last (suc k)
     run_more last off = record {
-      order = (let order = off.order in omega (arith, order));
+      order = (omega arith);
       must_run = λ must. cc;
       marks = λ t above until mark. elim (cases_lt t (suc k)) [
-        | inl less ↦ off.marks t above (omega (arith, less)) mark
-        | inr most ↦ let z : t ≡ suc k = omega (arith, most, until) in open_next
+        | inl less ↦ off.marks t above (omega arith) mark
+        | inr most ↦ let z : t ≡ suc k = omega arith in open_next
             (subst (λ (t : ℕ). mark_in g.window t ≡ MustOn) z mark)
       ];
     }
@@ -94,29 +92,28 @@ module _ (g : ThermalUnit) (unit : IsThermalUnit g) (ends : ℕ →
     run_less last low off = record {
       order = low;
       must_run = λ must. cc;
-      marks = λ t above until mark. off.marks t above (omega (arith, until)) mark;
+      marks = λ t above until mark. off.marks t above (omega arith) mark;
     }
 
     pub right_more : AreRight g ends (suc k) os
     right_more = record {
       rising = now.right.rising;
       off = λ last low run. elim (cases_lt k last) [
-        | inl above ↦ (let from = now.right.off k (omega arith) (whole g k) in omega (arith, from, above))
+        | inl above ↦ (let from = now.right.off k (omega arith) (whole g k) in omega arith)
         | inr most ↦ now.right.off last most (run_less last most run)
       ];
       off_since = λ last from low. elim (cases_lt k last) [
-        | inl above ↦ (let z : suc k ≡ last = omega (arith, above, low) in subst (λ (l : ℕ). IsOffRun g l (suc k)) z
+        | inl above ↦ (let z : suc k ≡ last = omega arith in subst (λ (l : ℕ). IsOffRun g l (suc k)) z
             (whole g (suc k)))
         | inr most ↦ run_more last (now.right.off_since last from most)
       ];
       each = λ i o low is.
           let old = now.right.each i o low is in
           let next = off_next g o.last k old.gap.off.order in
-          let long = old.gap.min_down in
           record {
             ended = old.ended;
             gap = record
-                { off = run_more o.last old.gap.off; min_down = omega (arith, next, long) };
+                { off = run_more o.last old.gap.off; min_down = omega arith };
           };
       order = now.right.order;
     }
@@ -129,9 +126,8 @@ module _ (g : ThermalUnit) (unit : IsThermalUnit g) (ends : ℕ →
       | inr most ↦
           let old = now.right.each i o low is in
           let longer = off_less g last o.last k most old.gap.off.order in
-          let long = old.gap.min_down in
           let short = ripe.before k refl in
-          absurd (omega (arith, longer, long, short))
+          absurd (omega arith)
     ]
 
     pub ripe_or_there : (o : Origin) → IsOrigin g ends (suc k) o → IsRipe g (suc k) o.last ⊎ HasOrigin os o
@@ -142,7 +138,7 @@ module _ (g : ThermalUnit) (unit : IsThermalUnit g) (ends : ℕ →
             order = is.gap.off.order;
             long = is.gap.min_down;
             before = λ b next.
-                (let z : k ≡ b = omega (arith, next) in subst (λ (b : ℕ). off_time g o.last b < g.min_down) z short);
+                (let z : k ≡ b = omega arith in subst (λ (b : ℕ). off_time g o.last b < g.min_down) z short);
           })
           | inr long ↦ inr (now.all o
               (record { ended = is.ended; gap = record { off = run_less o.last low is.gap.off; min_down = long } }))
@@ -162,20 +158,20 @@ module _ (g : ThermalUnit) (unit : IsThermalUnit g) (ends : ℕ →
 
     pub cleared : AreOrigins g ends (suc k) os'
     cleared = record {
-      few = omega (arith, none);
+      few = omega arith;
       right = record {
         rising = λ yes. now.right.rising (sym same ∙ yes);
-        off = λ last low run. (let on = on_since last run in omega (arith, from, on));
+        off = λ last low run. (let on = on_since last run in omega arith);
         off_since = λ last at_least low.
-            (let z : suc k ≡ last = omega (arith, at_least, from, low) in subst (λ (l : ℕ). IsOffRun g l (suc k)) z
+            (let z : suc k ≡ last = omega arith in subst (λ (l : ℕ). IsOffRun g l (suc k)) z
             (whole g (suc k)));
-        each = λ i o low is. absurd (omega (arith, low, none));
+        each = λ i o low is. absurd (omega arith);
         order = record {
-          last = λ i j a b before low is is'. absurd (omega (arith, low, none));
-          cost = λ yes i j a b before low is is'. absurd (omega (arith, low, none));
+          last = λ i j a b before low is is'. absurd (omega arith);
+          cost = λ yes i j a b before low is is'. absurd (omega arith);
         };
       };
-      all = λ o is. (let low = not_yet o is in let on = on_since o.last is.gap.off in absurd (omega (arith, low, on)));
+      all = λ o is. (let low = not_yet o is in let on = on_since o.last is.gap.off in absurd (omega arith));
     }
 
 -- ---- what is ripe
@@ -185,7 +181,7 @@ module _ (g : ThermalUnit) (ends : ℕ → Option ℤ) (k : ℕ) (os : Origins) 
     (others : (o : Origin) → IsOrigin g ends k o → IsRipe g k o.last ⊎ HasOrigin os o) where
   pub none_ripe : ((o : Origin) → IsOrigin g ends k o → IsRipe g k o.last → ⊥) → AreOrigins g ends k os
   none_ripe none = record {
-    few = omega (arith, few);
+    few = omega arith;
     right = right;
     all = λ o is. elim (others o is) [
       | inl ripe ↦ absurd (none o is ripe)
@@ -200,18 +196,16 @@ module _ (g : ThermalUnit) (ends : ℕ → Option ℤ) (k : ℕ) (os : Origins) 
     stands : (i : ℕ) (o : Origin) → i < os'.count → slice_get os'.list.items i ≡ Some o →
         ((i < put.place) × (slice_get os.list.items i ≡ Some o)) ⊎ ((i ≡ put.place) × (n ≡ o))
     stands i o low is =
-        let count = put.count in
         elim (cases_lt i (put.place)) [
           | inl less ↦ inl (less, sym (put.before i less) ∙ is)
           | inr most ↦
-              let z : i ≡ put.place = omega (arith, most, low, count) in
-              let here = put.here in
+              let z : i ≡ put.place = omega arith in
               let there' = ap (slice_get os'.list.items) z in
               inr (z, (cc))
         ]
 
     old_low : (i : ℕ) → i < put.place → i < os.count
-    old_low i low = (let within = put.within in omega (arith, low, within))
+    old_low i low = (omega arith)
 
     each' : (i : ℕ) (o : Origin) → i < os'.count → slice_get os'.list.items i ≡ Some o → IsOrigin g ends k o
     each' i o low is = elim (stands i o low is) [
@@ -222,19 +216,18 @@ module _ (g : ThermalUnit) (ends : ℕ → Option ℤ) (k : ℕ) (os : Origins) 
     last' : (i j : ℕ) (a b : Origin) → i < j → j < os'.count → slice_get os'.list.items i ≡ Some a →
         slice_get os'.list.items j ≡ Some b → a.last < b.last
     last' i j a b before low is is' =
-        let first = stands i a (omega (arith, before, low)) is in
+        let first = stands i a (omega arith) is in
         elim (stands j b low is') [
           | inl old ↦
               let below = old.0 in
               elim first [
                 | inl old' ↦ right.order.last i j a b before (old_low j below) old'.1 old.1
-                | inr new' ↦ let z = new'.0 in absurd (omega (arith, z, below, before))
+                | inr new' ↦ absurd (omega arith)
               ]
           | inr new ↦
-              let z = new.0 in
               elim first [
                 | inl old' ↦ subst (λ (b : Origin). a.last < b.last) new.1 (later i a (old_low i old'.0) old'.1)
-                | inr new' ↦ let z' = new'.0 in absurd (omega (arith, z, z', before))
+                | inr new' ↦ absurd (omega arith)
               ]
         ]
 
@@ -245,36 +238,34 @@ module _ (g : ThermalUnit) (ends : ℕ → Option ℤ) (k : ℕ) (os : Origins) 
       | inl z ↦ put.cheaper rising i a (sym z) is
       | inr other ↦
           let p = put.place - 1 in
-          let within = put.within in
-          let some : put.place ≡ suc p = omega (arith, low) in
-          let b = there os.list.items p (omega (arith, within, room, low)) in
+          let some : put.place ≡ suc p = omega arith in
+          let b = there os.list.items p (omega arith) in
           let near = put.cheaper rising p b.0 some b.1 in
-          let far = right.order.cost rising i p a b.0 (omega (arith, low, other)) (omega (arith, within, low)) is b.1 in
-          omega (arith, ints, near, far)
+          let far = right.order.cost rising i p a b.0 (omega arith) (omega arith) is b.1 in
+          omega (arith, ints)
     ]
 
     cost' : IsTrue os'.is_rising → (i j : ℕ) (a b : Origin) → i < j → j < os'.count →
         slice_get os'.list.items i ≡ Some a → slice_get os'.list.items j ≡ Some b → a.cost ≤ℤ b.cost
     cost' rising' i j a b before low is is' =
         let rising : IsTrue os.is_rising = sym put.is_rising ∙ rising' in
-        let first = stands i a (omega (arith, before, low)) is in
+        let first = stands i a (omega arith) is in
         elim (stands j b low is') [
           | inl old ↦
               let below = old.0 in
               elim first [
                 | inl old' ↦ right.order.cost rising i j a b before (old_low j below) old'.1 old.1
-                | inr new' ↦ let z = new'.0 in absurd (omega (arith, z, below, before))
+                | inr new' ↦ absurd (omega arith)
               ]
           | inr new ↦
-              let z = new.0 in
               elim first [
                 | inl old' ↦ subst (λ (b : Origin). a.cost ≤ℤ b.cost) new.1 (cheaper rising i a old'.0 old'.1)
-                | inr new' ↦ let z' = new'.0 in absurd (omega (arith, z, z', before))
+                | inr new' ↦ absurd (omega arith)
               ]
         ]
 
     new_low : put.place < os'.count
-    new_low = (let count = put.count in omega (arith, count))
+    new_low = (omega arith)
 
     all' : (o : Origin) → IsOrigin g ends k o → HasOrigin os' o
     all' o is = elim (others o is) [
@@ -289,7 +280,7 @@ module _ (g : ThermalUnit) (ends : ℕ → Option ℤ) (k : ℕ) (os : Origins) 
         | inl less ↦ record {
           place = has.place;
           origin = has.origin;
-          low = (let count = put.count in omega (arith, less, count));
+          low = (omega arith);
           is = put.before has.place less ∙ has.is;
           best = elim (has.best) [
             | inl same ↦ inl same
@@ -308,14 +299,11 @@ module _ (g : ThermalUnit) (ends : ℕ → Option ℤ) (k : ℕ) (os : Origins) 
               best = elim (has.best) [
                 | inl same ↦
                     let e = (right.each has.place has.origin has.low has.is).ended in
-                    let f = is.ended in
                     let g' = ap ends same in
                     let cost : has.origin.cost ≡ o.cost = (cc) in
-                    inr (put.is_rising ∙ dear.0, omega (arith, same, after), omega (arith, ints, cost, less))
+                    inr (put.is_rising ∙ dear.0, omega arith, omega (arith, ints))
                 | inr more ↦
-                    let before = more.1 in
-                    let cheap = more.2 in
-                    inr (put.is_rising ∙ dear.0, omega (arith, before, after), omega (arith, ints, cheap, less))
+                    inr (put.is_rising ∙ dear.0, omega arith, omega (arith, ints))
               ];
             }
       ]
@@ -323,12 +311,12 @@ module _ (g : ThermalUnit) (ends : ℕ → Option ℤ) (k : ℕ) (os : Origins) 
 
     pub put_ripe : AreOrigins g ends k os'
     put_ripe = record {
-      few = (let count = put.count in let within = put.within in omega (arith, few, count, within));
+      few = (omega arith);
       right = record {
         rising = λ yes. right.rising (sym put.is_rising ∙ yes);
         off = λ last low run.
-            (let from = right.off last low run in let same = put.off_from in omega (arith, from, same));
-        off_since = λ last from low. (let same = put.off_from in right.off_since last (omega (arith, from, same)) low);
+            (let from = right.off last low run in omega arith);
+        off_since = λ last from low. (right.off_since last (omega arith) low);
         each = each';
         order = record { last = last'; cost = cost' };
       };
@@ -352,8 +340,8 @@ module _ (g : ThermalUnit) (k : ℕ) (os : Origins) where
   pub none_yet : IsLeastUpTo 0 None
   none_yet = record {
     sound = λ r is. cc;
-    complete = λ j a low is. absurd (omega (arith, low));
-    earliest = λ r j a is low. absurd (omega (arith, low));
+    complete = λ j a low is. absurd (omega arith);
+    earliest = λ r j a is low. absurd (omega arith);
     bound = λ r is. cc;
   }
 
@@ -371,21 +359,18 @@ module _ (g : ThermalUnit) (k : ℕ) (os : Origins) where
     pub one_more : IsLeastUpTo (i + 1) least'
     one_more = record {
       sound = λ r is. elim (from r is) [
-        | inl before ↦ (let s = so_far.sound r before in let j = s.2 in (s.0, s.1, omega (arith, j), s.3, s.4, s.5))
+        | inl before ↦ (let s = so_far.sound r before in let j = s.2 in (s.0, s.1, omega arith, s.3, s.4, s.5))
         | inr new ↦ (let e = new.0 in (i, b, omega arith, here, new.1, sym e ∙ cost))
       ];
       complete = λ j a less is. elim (cases_lt j i) [
         | inl before ↦
             let r = so_far.complete j a before is in
             let s = old r.0 r.1 in
-            let p = r.2 in
-            let q = s.2 in
-            (s.0, s.1, omega (arith, ints, p, q))
+            (s.0, s.1, omega (arith, ints))
         | inr most ↦
-            let z : j ≡ i = omega (arith, most, less) in
+            let z : j ≡ i = omega arith in
             let e = ap entry_of (same_here j a z is) in
-            let q = added.2 in
-            (added.0, added.1, omega (arith, ints, q, e, cost))
+            (added.0, added.1, omega (arith, ints))
       ];
       earliest = λ r j a is less at equal. elim (cases_lt j i) [
         | inl before ↦ elim (from r is) [
@@ -398,21 +383,19 @@ module _ (g : ThermalUnit) (k : ℕ) (os : Origins) where
                     let t = so_far.sound s.0 s.1 in
                     let z = t.4 in
                     let later = order.last t.0 i t.1 b t.2 low t.3 here in
-                    let new_last = new.1 in
-                    absurd (omega (arith, z, later, new_last, same))
-                | inr more ↦ absurd (omega (arith, ints, more, most, equal))
+                    absurd (omega arith)
+                | inr more ↦ absurd (omega (arith, ints))
               ]
         ]
         | inr most ↦
-            let z : j ≡ i = omega (arith, most, less) in
+            let z : j ≡ i = omega arith in
             let e = ap (λ (o : Origin). o.last) (same_here j a z at) in
             elim (from r is) [
               | inl was ↦
                   let t = so_far.sound r was in
-                  let l = t.4 in
                   let later = order.last t.0 i t.1 b t.2 low t.3 here in
-                  omega (arith, e, later, l)
-              | inr new ↦ let new_last = new.1 in omega (arith, e, new_last)
+                  omega arith
+              | inr new ↦ omega arith
             ]
       ];
       bound = λ r is. elim (from r is) [
@@ -431,18 +414,14 @@ module _ (g : ThermalUnit) (k : ℕ) (os : Origins) where
         let a = now.right.each has.place has.origin has.low has.is in
         elim (has.best) [
           | inl same ↦
-              let e = a.ended in
-              let f = is.ended in
               let h = ap ends same in
               let cost : has.origin.cost ≡ o.cost = (cc) in
               let start = ap (λ (l : ℕ). start_cost_after g l k) same in
-              inl (same, omega (arith, ints, cost, start))
+              inl (same, omega (arith, ints))
           | inr more ↦
-              let later = more.1 in
-              let cheap = more.2 in
               let start = now.right.rising more.0 (off_time g has.origin.last k) (off_time g o.last k)
-              (off_less g o.last has.origin.last k (omega (arith, later)) a.gap.off.order) in
-              inr (omega (arith, ints, cheap, start))
+              (off_less g o.last has.origin.last k (omega arith) a.gap.off.order) in
+              inr (omega (arith, ints))
         ]
 
     pub least_of_origins : (r : Entry) → least ≡ Some r → IsLeastEntry g ends (suc k) r.last r.cost
@@ -455,61 +434,52 @@ module _ (g : ThermalUnit) (k : ℕ) (os : Origins) where
           entry = inr (subst (λ (l : ℕ). IsStarted g ends (suc k) l r.cost) (sym from_last)
               (record { before = k; first = refl; value = s.1.cost; ended = a.ended; gap = a.gap; cost = cost }));
           least = λ d entry. elim (entry.1) [
-            | inl none ↦ let z = none.0 in absurd (omega (arith, z))
+            | inl none ↦ let z = none.0 in absurd (omega arith)
             | inr h ↦
-                let first = h.first in
-                let z : h.before ≡ k = omega (arith, first) in
+                let z : h.before ≡ k = omega arith in
                 let o : Origin = record { last = entry.0; cost = h.value } in
                 let is_origin : IsOrigin g ends k o = record
                 { ended = h.ended; gap = subst (λ (b : ℕ). IsGap g entry.0 b) z h.gap } in
                 let has = now.all o is_origin in
                 let low = all.complete has.place has.origin has.low has.is in
-                let same : low.0 ≡ r = (let e = low.1 in cc) in
+                let same : low.0 ≡ r = (cc) in
                 let same_cost = ap (λ (r : Entry). r.cost) same in
-                let most = low.2 in
                 let start = ap (λ (b : ℕ). start_cost_after g entry.0 b) z in
-                let is_cost = h.cost in
                 elim (beside o is_origin has) [
-                  | inl equal ↦ let e = equal.1 in omega (arith, ints, same_cost, most, e, start, is_cost)
-                  | inr less ↦ omega (arith, ints, same_cost, most, less, start, is_cost)
+                  | inl equal ↦ omega (arith, ints)
+                  | inr less ↦ omega (arith, ints)
                 ]
           ];
           earliest = λ j entry. elim entry [
-            | inl none ↦ let z = none.0 in absurd (omega (arith, z))
+            | inl none ↦ let z = none.0 in absurd (omega arith)
             | inr h ↦
-                let first = h.first in
-                let z : h.before ≡ k = omega (arith, first) in
+                let z : h.before ≡ k = omega arith in
                 let o : Origin = record { last = j; cost = h.value } in
                 let is_origin : IsOrigin g ends k o = record
                 { ended = h.ended; gap = subst (λ (b : ℕ). IsGap g j b) z h.gap } in
                 let has = now.all o is_origin in
                 let low = all.complete has.place has.origin has.low has.is in
-                let same : low.0 ≡ r = (let e = low.1 in cc) in
+                let same : low.0 ≡ r = (cc) in
                 let same_cost = ap (λ (r : Entry). r.cost) same in
-                let most = low.2 in
                 let start = ap (λ (b : ℕ). start_cost_after g j b) z in
-                let is_cost = h.cost in
                 elim (beside o is_origin has) [
                   | inl equal ↦
-                      let e = equal.1 in
                       let l = equal.0 in
                       let early = all.earliest r has.place has.origin is has.low has.is
-                      (omega (arith, ints, e, start, is_cost)) in
-                      omega (arith, l, early)
-                  | inr less ↦ absurd (omega (arith, ints, same_cost, most, less, start, is_cost))
+                      (omega (arith, ints)) in
+                      omega arith
+                  | inr less ↦ absurd (omega (arith, ints))
                 ]
           ];
         }
 
     pub none_of_origins : least ≡ None → (e : ℤ) → IsEntry g ends (suc k) e → ⊥
     none_of_origins is e entry = elim (entry.1) [
-      | inl none ↦ let z = none.0 in absurd (omega (arith, z))
+      | inl none ↦ let z = none.0 in absurd (omega arith)
       | inr h ↦
-          let first = h.first in
-          let z : h.before ≡ k = omega (arith, first) in
+          let z : h.before ≡ k = omega arith in
           let o : Origin = record { last = entry.0; cost = h.value } in
           let has = now.all o (record { ended = h.ended; gap = subst (λ (b : ℕ). IsGap g entry.0 b) z h.gap }) in
           let low = all.complete has.place has.origin has.low has.is in
-          let some = low.1 in
           cc
     ]

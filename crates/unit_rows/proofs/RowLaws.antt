@@ -30,5 +30,4 @@ module _ (rows rows' : List (Option Ended)) (last : ℕ) (e : Ended) (room : las
   written_old low v is =
       let r = cost_from rows last v is in
       let below = low r.0 r.1 in
-      let same = r.2 in
-      (e.cost, cost-is rows' last e written, omega (arith, ints, below, same))
+      (e.cost, cost-is rows' last e written, omega (arith, ints))

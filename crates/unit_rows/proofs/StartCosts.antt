@@ -15,13 +15,13 @@ found_has P test [] h x is = cc
 found_has P test (y ∷ ys) h x is =
     elim (test y) as (λ b. cond b (Some y) (find test ys) ≡ Some x → P x) [
       | true ↦ λ e. let same : y ≡ x = cc in subst P same (h 0 y (omega arith))
-      | false ↦ λ e. found_has P test ys (λ k d low. h (suc k) d (omega (arith, low))) x e
+      | false ↦ λ e. found_has P test ys (λ k d low. h (suc k) d (omega arith)) x e
     ] is
 
 reversed_has : {X : Type 0} → (P : X → Type 0) (xs : List X) → All P xs → All P (reverse xs)
 reversed_has P xs h k d low =
     let n = length-reverse xs in
-    subst P (sym (get_or-reverse xs k d (omega (arith, low, n)))) (h (length xs - 1 - k) d (omega (arith, low, n)))
+    subst P (sym (get_or-reverse xs k d (omega arith))) (h (length xs - 1 - k) d (omega arith))
 
 first_has : {X : Type 0} → (P : X → Type 0) (xs : List X) → All P xs → (x : X) → slice_get xs 0 ≡ Some x → P x
 first_has P [] h x is = cc
@@ -68,14 +68,13 @@ first_least down x (y ∷ ys) rising z is =
     elim (last_of down ys) as (λ o. last_of down ys ≡ o →
     option_or o (cond (nat_le y.lag down) (Some y) None) ≡ Some z → x.cost ≤ℤ z.cost) [
       | Some w ↦ λ was e.
-          let low = first_least down y ys (λ k d within. rising (suc k) d (omega (arith, within))) w was in
+          let low = first_least down y ys (λ k d within. rising (suc k) d (omega arith)) w was in
           let same : w ≡ z = (cc) in
           let cost = ap (λ (l : Lag). l.cost) same in
-          omega (arith, ints, next, low, cost)
+          omega (arith, ints)
       | None ↦ λ was e.
           elim (nat_le y.lag down) as (λ b. cond b (Some y) None ≡ Some z → x.cost ≤ℤ z.cost) [
-            | true ↦ λ e. (let same : y ≡ z = (cc) in let cost = ap (λ (l : Lag). l.cost) same in omega
-                (arith, ints, next, cost))
+            | true ↦ λ e. (let same : y ≡ z = (cc) in let cost = ap (λ (l : Lag). l.cost) same in omega (arith, ints))
             | false ↦ λ e. cc
           ] e
     ] refl (sym (last_of-more down y ys) ∙ is)
@@ -85,17 +84,16 @@ last_rises : (a b : ℕ) → a ≤ b → (ls : List Lag) → AreRising ls → (y
     (z : Lag) × (last_of b ls ≡ Some z) × (y.cost ≤ℤ z.cost)
 last_rises a b low [] rising y is = cc
 last_rises a b low (x ∷ xs) rising y is =
-    let rest : AreRising xs = λ k d within. rising (suc k) d (omega (arith, within)) in
+    let rest : AreRising xs = λ k d within. rising (suc k) d (omega arith) in
     elim (last_of a xs) as (λ o. last_of a xs ≡ o → option_or o (cond (nat_le x.lag a) (Some x) None) ≡ Some y →
     (z : Lag) × (last_of b (x ∷ xs) ≡ Some z) × (y.cost ≤ℤ z.cost)) [
       | Some w ↦ λ was e.
           let r = last_rises a b low xs rest w was in
           let same : w ≡ y = (cc) in
-          let cost = ap (λ (l : Lag). l.cost) same in
-          let most = r.2 in (
+          let cost = ap (λ (l : Lag). l.cost) same in (
             r.0,
             last_of-more b x xs ∙ ap (λ (o : Option Lag). option_or o (cond (nat_le x.lag b) (Some x) None)) r.1,
-            omega (arith, ints, cost, most),
+            omega (arith, ints),
           )
       | None ↦ λ was e.
           elim (nat_le x.lag a) as (λ t. nat_le x.lag a ≡ t → cond t (Some x) None ≡ Some y →
@@ -113,14 +111,14 @@ last_rises a b low (x ∷ xs) rising y is =
                         z,
                         last_of-more b x xs ∙ ap
                             (λ (o : Option Lag). option_or o (cond (nat_le x.lag b) (Some x) None)) there,
-                        omega (arith, ints, most, cost),
+                        omega (arith, ints),
                       )
                   | None ↦ λ none. (
                     x,
                     last_of-more b x xs ∙ ap
                         (λ (o : Option Lag). option_or o (cond (nat_le x.lag b) (Some x) None)) none ∙
                         ap (λ (t : Bool). cond t (Some x) None) yes',
-                    omega (arith, ints, cost),
+                    omega (arith, ints),
                   )
                 ] refl
           ] refl e
@@ -134,9 +132,9 @@ none_less b (x ∷ xs) rising z is =
     elim (last_of b xs) as (λ o. last_of b xs ≡ o → option_or o (cond (nat_le x.lag b) (Some x) None) ≡ Some z →
     x.cost ≤ℤ z.cost) [
       | Some w ↦ λ was e. (let low = first_least b x xs rising w was in let same : w ≡ z = (cc) in let cost = ap
-          (λ (l : Lag). l.cost) same in omega (arith, ints, low, cost))
+          (λ (l : Lag). l.cost) same in omega (arith, ints))
       | None ↦ λ was e. elim (nat_le x.lag b) as (λ t. cond t (Some x) None ≡ Some z → x.cost ≤ℤ z.cost) [
-        | true ↦ λ e. (let same : x ≡ z = (cc) in let cost = ap (λ (l : Lag). l.cost) same in omega (arith, ints, cost))
+        | true ↦ λ e. (let same : x ≡ z = (cc) in let cost = ap (λ (l : Lag). l.cost) same in omega (arith, ints))
         | false ↦ λ e. cc
       ] e
     ] refl (sym (last_of-more b x xs) ∙ is)
@@ -151,8 +149,7 @@ start_cost-rises ls rising a b low =
           let r = last_rises a b low ls rising y is in
           let cost = ap (λ (o : Option Lag). option_map_or (λ (l : Lag). l.cost) o
           (option_map_or (λ (l : Lag). l.cost) (slice_get ls 0) (pos 0))) r.1 in
-          let most = r.2 in
-          omega (arith, ints, cost, most)
+          omega (arith, ints)
       | None ↦ λ is.
           elim (last_of b ls) as
           (λ o. last_of b ls ≡ o → option_map_or (λ (l : Lag). l.cost) (slice_get ls 0) (pos 0) ≤ℤ option_map_or

@@ -4,9 +4,8 @@ use Rattle.unit_rows.proofs.commitment.ripened.Goals as goal
 
 pub returns-then-period-unit-clause-only : goal.returns-then-period-unit-clause-only
 returns-then-period-unit-clause-only c = λ last ripe.
-    let above = c.if-period-unit.true in
     ap Some ((spell_ripe (thermal_of c.args.unit.now) c.args.unit.now.valid.min_down_is_one_or_more c.args.period
-    (c.args.period - c.args.unit.now.min_down) (omega (arith, above)) (omega (arith, above))).1 last ripe)
+    (c.args.period - c.args.unit.now.min_down) (omega arith) (omega arith)).1 last ripe)
 
 pub returns-then-down-from-2-clause-only : goal.returns-then-down-from-2-clause-only
 returns-then-down-from-2-clause-only c = λ last ripe.

@@ -19,8 +19,7 @@ returns-then-unit-clause-no c = λ is may.
     let fits_ramp : FitsSigned w64 u.ramp_down = search rules in
     let fits : FitsSigned w64 (u.min_power +ℤ u.ramp_down) = search rules in
     let above = is_above (u.min_power +ℤ u.ramp_down) u.power0 (simp to_z-of_z at c.if-unit.true) in
-    let down = may.down in
-    omega (arith, ints, above, down)
+    omega (arith, ints)
 
 pub returns-clause-yes : goal.returns-clause-yes
 returns-clause-yes c = λ is.
@@ -38,4 +37,4 @@ returns-clause-yes c = λ is.
     let cap = not_above c.min.result u.power0 (simp to_z-of_z at c.if-unit-min.false) in
     let fall = not_above (u.min_power +ℤ u.ramp_down) u.power0 (simp to_z-of_z at c.if-unit.false) in
     let rise = at_most u.min_power (u.power0 +ℤ u.ramp_up) (simp to_z-of_z at is) in
-    record { cap = rw (is_cap) at cap; down = omega (arith, ints, fall); up = omega (arith, ints, rise) }
+    record { cap = rw (is_cap) at cap; down = omega (arith, ints); up = omega (arith, ints) }

@@ -4,22 +4,16 @@ use Rattle.unit_rows.proofs.table.begin_table.Goals as goal
 
 pub returns-clause-first : goal.returns-clause-first
 returns-clause-first c =
-    let length_is = c.clear_rows.ensures.length in
-    let room = c.requires in
     (begun (thermal_of c.args.unit.now) c.clear_rows.new.table.items c.set.new.self.items c.first_row.result
-    c.set.ensures.items (omega (arith, length_is, room)) c.clear_rows.ensures.none c.first_row.ensures).0
+    c.set.ensures.items (omega arith) c.clear_rows.ensures.none c.first_row.ensures).0
 
 pub returns-clause-rest : goal.returns-clause-rest
 returns-clause-rest c =
-    let length_is = c.clear_rows.ensures.length in
-    let room = c.requires in
     (begun (thermal_of c.args.unit.now) c.clear_rows.new.table.items c.set.new.self.items c.first_row.result
-    c.set.ensures.items (omega (arith, length_is, room)) c.clear_rows.ensures.none c.first_row.ensures).1
+    c.set.ensures.items (omega arith) c.clear_rows.ensures.none c.first_row.ensures).1
 
 pub returns-clause-within : goal.returns-clause-within
 returns-clause-within c =
-    let length_is = c.clear_rows.ensures.length in
-    let room = c.requires in
     let b = begun (thermal_of c.args.unit.now) c.clear_rows.new.table.items c.set.new.self.items c.first_row.result
-    c.set.ensures.items (omega (arith, length_is, room)) c.clear_rows.ensures.none c.first_row.ensures in
+    c.set.ensures.items (omega arith) c.clear_rows.ensures.none c.first_row.ensures in
     within_first (thermal_of c.args.unit.now) c.set.new.self.items b.0 b.1

@@ -20,12 +20,10 @@ returns-then-is_taken-clause-added c =
 
 pub bounds-as_slice-last : goal.bounds-as_slice-last
 bounds-as_slice-last c =
-    let room = c.requires.room in
     let same = ap (λ (xs : List (Option Ended)). length xs) c.as_slice.ensures in
-    omega (arith, room, same)
+    omega arith
 
 pub offset_bounds-as_slice-last : goal.offset_bounds-as_slice-last
 offset_bounds-as_slice-last c =
-    let room = c.requires.room in
     let same = ap (λ (xs : List (Option Ended)). length xs) c.as_slice.ensures in
-    omega (arith, room, same)
+    omega arith

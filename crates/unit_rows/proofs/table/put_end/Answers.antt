@@ -7,18 +7,13 @@ pub put-requires-clause-bound : goal.put-requires-clause-bound
 put-requires-clause-bound c =
     let within = if_some (IsWithinTimes (suc c.args.last - c.args.first)) c.args.net c.in-Some.net c.in-Some.is
     c.requires.net_bound in
-    let order = c.requires.order in
     let fits : FitsSigned w64 c.sum_of.result = search rules in
     let fits_net : FitsSigned w64 c.in-Some.net = search rules in
     let fits_entry : FitsSigned w64 c.args.entry.now.cost = search rules in
     let sum : c.sum_of.result ≡ c.args.entry.now.cost +ℤ c.in-Some.net = simp to_z-of_z at c.sum_of.ensures in
-    let low = within.at_least in
-    let high = within.at_most in
-    let low' = c.requires.bound.at_least in
-    let high' = c.requires.bound.at_most in
     let r : IsWithinTimes (2 * c.args.last + 2) c.sum_of.result = record {
-      at_least = omega (arith, ints, low, low', sum, order);
-      at_most = omega (arith, ints, high, high', sum, order);
+      at_least = omega (arith, ints);
+      at_most = omega (arith, ints);
     } in
     simp to_z-of_z r
 

@@ -8,6 +8,4 @@ returns-clause-bound c =
     let is = c.start_cost.ensures.value in
     let within : IsFrom (pos 0) (pos 10000000000000) c.start_cost.result = subst (IsFrom (pos 0) (pos 10000000000000))
     (sym is) (start_cost-within c.args.unit.now.lags.items _ c.args.unit.now.valid.lags) in
-    let low = within.at_least in
-    let high = within.at_most in
-    simp to_z-of_z (record { at_least = omega (arith, ints, low); at_most = omega (arith, ints, high) })
+    simp to_z-of_z (record { at_least = omega (arith, ints); at_most = omega (arith, ints) })

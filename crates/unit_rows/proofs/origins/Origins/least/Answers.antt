@@ -11,11 +11,8 @@ sum_of-cost-requires-clause-a c =
     let fits : FitsSigned w64 o.cost = search rules in
     let within = c.requires.within.cost c.loop-place.place o c.loop-place-test.true c.get-origin.ensures.item in
     let last = c.requires.within.last c.loop-place.place o c.loop-place-test.true c.get-origin.ensures.item in
-    let small = c.requires.small in
-    let low = within.at_least in
-    let high = within.at_most in
     let r : IsWithinTimes 400 o.cost = record
-    { at_least = omega (arith, ints, low, last, small); at_most = omega (arith, ints, high, last, small) } in
+    { at_least = omega (arith, ints); at_most = omega (arith, ints) } in
     simp to_z-of_z r
 
 pub loop-place-preserved : goal.loop-place-preserved
@@ -32,10 +29,6 @@ loop-place-preserved c =
     let started : start ≡ start_cost_after u o.last c.args.period = c.start_after.ensures.value in
     let within = c.requires.within.cost c.loop-place.place o c.loop-place-test.true c.get-origin.ensures.item in
     let last = c.requires.within.last c.loop-place.place o c.loop-place-test.true c.get-origin.ensures.item in
-    let low = within.at_least in
-    let high = within.at_most in
-    let low' = c.start_after.ensures.bound.at_least in
-    let high' = c.start_after.ensures.bound.at_most in
     let from : IfSome least'
     (λ (r : Entry). (c.loop-place.least ≡ Some r) ⊎ ((Some x ≡ Some r.cost) × (r.last ≡ o.last))) = simp to_z-of_z
     at c.lesser-least.ensures.from in
@@ -43,14 +36,14 @@ loop-place-preserved c =
     one_more u c.args.period c.args.self.now c.requires.order c.loop-place.place c.loop-place-test.true o
     c.get-origin.ensures.item x (sum ∙ ap (λ (v : ℤ). o.cost +ℤ v) started)
     (record {
-      at_least = omega (arith, ints, low, low', last, sum);
-      at_most = omega (arith, ints, high, high', last, sum);
+      at_least = omega (arith, ints);
+      at_most = omega (arith, ints);
     })
     c.loop-place.least least' c.loop-place.invariant
     (λ r is. elim (if_some (λ (r : Entry). (c.loop-place.least ≡ Some r) ⊎ ((Some x ≡ Some r.cost) × (r.last ≡ o.last)))
     least' r is from) [
       | inl h ↦ inl h
-      | inr h ↦ inr ((let e = h.0 in cc), h.1)
+      | inr h ↦ inr ((cc), h.1)
     ])
     c.lesser-least.ensures.old (added x refl) c.lesser-least.ensures.kept
 

@@ -3,6 +3,4 @@ use Rattle.unit_rows.proofs.origins.Origins.place_for.Goals as goal
 
 pub get-requires : goal.get-requires
 get-requires c =
-    let low = c.loop-back-test.true in
-    let room = c.requires in
-    omega (arith, low, room)
+    omega arith

@@ -7,7 +7,6 @@ pub returns-clause-put : goal.returns-clause-put
 returns-clause-put c =
     let place = c.place_for-place.result in
     let within = c.place_for-place.ensures.within in
-    let room = c.requires.room in
     let items = c.set.ensures.items in
     let fits : FitsSigned w64 c.args.origin.cost = search rules in
     let dearer : (i : ℕ) (a : Origin) → place ≤ i → i < c.args.self.now.count →
@@ -21,9 +20,9 @@ returns-clause-put c =
       within = within;
       count = omega arith;
       here = ap (λ (xs : List Origin). slice_get xs place) items ∙
-          get_set_same c.args.self.now.list.items place c.args.origin (omega (arith, within, room));
+          get_set_same c.args.self.now.list.items place c.args.origin (omega arith);
       before = λ i low. ap (λ (xs : List Origin). slice_get xs i) items ∙
-          get_set_other c.args.self.now.list.items place i c.args.origin (λ z. omega (arith, z, low));
+          get_set_other c.args.self.now.list.items place i c.args.origin (λ z. omega arith);
       dearer = dearer;
       cheaper = cheaper;
       is_rising = refl;

@@ -15,16 +15,15 @@ returns-then-last-self-clause-origins c =
     c.requires.right c.requires.others
     (λ o is ripe.
     let from = c.requires.right.off o.last is.gap.off.order is.gap.off in
-    let before = c.if-last-self.true in
-    let same : c.in-Some.last ≡ o.last = (let e = c.ripened.ensures.only o.last ripe in let i = c.in-Some.is in cc) in
-    omega (arith, from, before, same))
+    let same : c.in-Some.last ≡ o.last = (let e = c.ripened.ensures.only o.last ripe in cc) in
+    omega arith)
 
 pub returns-in_default-rows-clause-origins : goal.returns-in_default-rows-clause-origins
 returns-in_default-rows-clause-origins c =
     none_ripe (thermal_of c.args.unit.now) (cost_at c.args.rows.now) c.args.period c.args.self.now c.requires.few
     c.requires.right c.requires.others
     (λ o is ripe.
-    let same : o.last ≡ c.in-Some.last = (let e = c.ripened.ensures.only o.last ripe in let i = c.in-Some.is in cc) in
+    let same : o.last ≡ c.in-Some.last = (let e = c.ripened.ensures.only o.last ripe in cc) in
     let row = cost_from c.args.rows.now c.in-Some.last o.cost (ap (cost_at c.args.rows.now) (sym same) ∙ is.ended) in
     c.in_default-rows.not-Some row.0 row.1)
 
@@ -44,10 +43,8 @@ returns-in-Some-rows-clause-origins c =
     } in
     let fits : FitsSigned w64 ended.cost = search rules in
     let put : IsOriginPut n c.args.self.now c.put.new.self = simp to_z-of_z at c.put.ensures.put in
-    let room = c.requires.room in
-    let few = c.requires.few in
     put_ripe u (cost_at c.args.rows.now) c.args.period c.args.self.now c.requires.few c.requires.right c.requires.others
     n origin
     (λ l ripe. (let e = c.ripened.ensures.only l ripe in let i = c.in-Some.is in cc))
     (λ i o low is. c.requires.earlier i last o low is ripe)
-    (omega (arith, room, few)) c.put.new.self put
+    (omega arith) c.put.new.self put
