@@ -5,7 +5,7 @@ use Rattle.unit_table.proofs.Common.{spell_cost, StopsAtOnce, HasAtMost, IsEntry
 use Rattle.unit_table.proofs.SumLaws.{sum_from_to-one}
 
 pub at_most_more : (o : Option ℤ) (u v : ℤ) → HasAtMost o u → u ≤ℤ v → HasAtMost o v
-at_most_more o u v h low = let b = h.2 in (h.0, h.1, omega (arith, ints, b, low))
+at_most_more o u v h low = (h.0, h.1, omega (arith, ints))
 
 module _ (g : ThermalUnit) where
   -- an entry looks at the table below its first period alone
@@ -13,13 +13,12 @@ module _ (g : ThermalUnit) where
       IsEntryAfter g a f last e → IsEntryAfter g b f last e
   entry_same a b f last e same (inl h) = inl h
   entry_same a b f last e same (inr h) =
-      let order = h.gap.off.order in
       let first = h.first in
       inr (record {
         before = h.before;
         first = first;
         value = h.value;
-        ended = sym (same last (omega (arith, order, first))) ∙ h.ended;
+        ended = sym (same last (omega arith)) ∙ h.ended;
         gap = h.gap;
         cost = h.cost;
       })
@@ -31,24 +30,22 @@ pub at_once_some : (g : ThermalUnit) (π : PriceLists) (periods : ℕ) → Stops
 at_once_some g π periods may =
     let d : Schedule = record { on = []; power = []; reserve = [] } in
     let zero_cost : (d : Schedule) → spell_cost g π 0 0 d ≡ pos 0 = λ d. sum_from_to-one (net_cost g π d) 0 in
-    let down = may.down in
-    let up = may.up in
     record {
       dispatch = d;
       keeps = record {
-        least = λ t one from until. absurd (omega (arith, one, until));
-        greatest = λ t one from until. absurd (omega (arith, one, until));
-        start = λ one. absurd (omega (arith, one));
-        enter = λ one. absurd (omega (arith, one));
-        ramp_up = λ k from until. absurd (omega (arith, until));
-        ramp_down = λ k from until. absurd (omega (arith, until));
-        stop = λ inside one. absurd (omega (arith, one));
+        least = λ t one from until. absurd (omega arith);
+        greatest = λ t one from until. absurd (omega arith);
+        start = λ one. absurd (omega arith);
+        enter = λ one. absurd (omega arith);
+        ramp_up = λ k from until. absurd (omega arith);
+        ramp_down = λ k from until. absurd (omega arith);
+        stop = λ inside one. absurd (omega arith);
         leave = λ inside. may.down;
         stop_at_once = λ inside none. may.cap;
         leave_at_once = λ inside none. may.up;
       };
       cost = zero_cost d;
-      least = λ d dispatch. (let z = zero_cost d in omega (arith, ints, z));
+      least = λ d dispatch. (let z = zero_cost d in omega (arith, ints));
     }
 
 pub at_once_none : (g : ThermalUnit) (π : PriceLists) (periods : ℕ) → 1 ≤ periods → (StopsAtOnce g → ⊥) →

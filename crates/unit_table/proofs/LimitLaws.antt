@@ -28,12 +28,12 @@ row_none limit o is = ap (cap_of_row limit) is
 row_low : (limit v : ℤ) → v ≤ℤ limit → cap_of_row limit (Some v) ≡ Some v
 row_low limit v low = elim (cases_Bool (int_le v limit)) [
   | inl h ↦ ap (λ (b : Bool). cond b (Some v) (Some (limit +ℤ pos 1))) h
-  | inr h ↦ let high = lt_from_test v limit h in absurd (omega (arith, ints, low, high))
+  | inr h ↦ let high = lt_from_test v limit h in absurd (omega (arith, ints))
 ]
 
 row_high : (limit v : ℤ) → (limit +ℤ pos 1) ≤ℤ v → cap_of_row limit (Some v) ≡ Some (limit +ℤ pos 1)
 row_high limit v high = elim (cases_Bool (int_le v limit)) [
-  | inl h ↦ let low = le_from_test v limit h in absurd (omega (arith, ints, low, high))
+  | inl h ↦ let low = le_from_test v limit h in absurd (omega (arith, ints))
   | inr h ↦ ap (λ (b : Bool). cond b (Some v) (Some (limit +ℤ pos 1))) h
 ]
 
@@ -42,7 +42,7 @@ row_from : (limit : ℤ) (o : Option ℤ) (v : ℤ) → cap_of_row limit o ≡ S
 row_from limit None v is = inr (cc)
 row_from limit (Some u) v is = elim (cases_le u limit) [
   | inl low ↦ let e = row_low limit u low in let same : u ≡ v = (cc) in inl
-      (ap Some same, omega (arith, ints, low, same))
+      (ap Some same, omega (arith, ints))
   | inr high ↦ let e = row_high limit u high in inr (cc)
 ]
 
@@ -58,37 +58,35 @@ row_most limit (Some u) c h = elim (cases_le u limit) [
     elim h [
       | inl above ↦ above
       | inr a ↦
-          (let same : u ≡ a.0 = (let is = a.1 in cc) in let low = a.2 in omega (arith, ints, high, same, low))
+          (let same : u ≡ a.0 = (let is = a.1 in cc) in let low = a.2 in omega (arith, ints))
     ],
   )
   | inl low ↦ elim h [
-    | inl above ↦ (u, row_low limit u low, omega (arith, ints, low, above))
-    | inr a ↦ (let same : u ≡ a.0 = (let is = a.1 in cc) in let under = a.2 in
-        (u, row_low limit u low, omega (arith, ints, same, under)))
+    | inl above ↦ (u, row_low limit u low, omega (arith, ints))
+    | inr a ↦ (let same : u ≡ a.0 = (let is = a.1 in cc) in (u, row_low limit u low, omega (arith, ints)))
   ]
 ]
 
 module _ (g : ThermalUnit) (π : PriceLists) (most : ℤ) (limits : ℕ → ℤ) (right : AreLimits g π most limits) where
   -- limits fall
   pub fall : (k n : ℕ) → k + n ≤ length π.energy → limits (k + n) ≤ℤ limits k
-  fall k zero low = (let z : k + 0 ≡ k = omega arith in let e = ap limits z in omega (arith, ints, e))
+  fall k zero low = (let z : k + 0 ≡ k = omega arith in let e = ap limits z in omega (arith, ints))
   fall k (suc n) low =
-      let before = fall k n (omega (arith, low)) in
-      let here = right.falls (k + n) (omega (arith, low)) in
+      let before = fall k n (omega arith) in
+      let here = right.falls (k + n) (omega arith) in
       let z : k + suc n ≡ suc (k + n) = omega arith in
       let e = ap limits z in
-      omega (arith, ints, before, here, e)
+      omega (arith, ints)
 
   pub falls : (k l : ℕ) → k ≤ l → l ≤ length π.energy → limits l ≤ℤ limits k
   falls k l order low =
-      let z : k + (l - k) ≡ l = omega (arith, order) in
-      let h = fall k (l - k) (omega (arith, order, low)) in
+      let z : k + (l - k) ≡ l = omega arith in
+      let h = fall k (l - k) (omega arith) in
       let e = ap limits z in
-      omega (arith, ints, h, e)
+      omega (arith, ints)
 
   pub above_most : (l : ℕ) → l ≤ length π.energy → most ≤ℤ limits l
-  above_most l low = (let h = falls l (length π.energy) low (omega arith) in let e = right.end in omega
-      (arith, ints, h, e))
+  above_most l low = (let h = falls l (length π.energy) low (omega arith) in omega (arith, ints))
 
   -- a spell that ends within its limit is entered within the limit there
   begun_low : (b last n : ℕ) (e : ℤ) (d : Schedule) → IsDispatch g (length π.energy) (suc b) last d →
@@ -99,15 +97,15 @@ module _ (g : ThermalUnit) (π : PriceLists) (most : ℤ) (limits : ℕ → ℤ)
       let none : spell_cost g π (suc b) b d ≡ pos 0 = sum_from_to-none (net_cost g π d) b in
       let here : (e +ℤ spell_cost g π (suc b) b d) ≤ℤ limits b = subst
       (λ (t : ℕ). (e +ℤ spell_cost g π (suc b) t d) ≤ℤ limits t) z under in
-      omega (arith, ints, none, here)
+      omega (arith, ints)
   begun_low b last (suc n) e d dispatch end low under =
       let z : b + suc n ≡ suc (b + n) = omega arith in
       let here : (e +ℤ spell_cost g π (suc b) (suc (b + n)) d) ≤ℤ limits (suc (b + n)) = subst
       (λ (t : ℕ). (e +ℤ spell_cost g π (suc b) t d) ≤ℤ limits t) z under in
       let more = one_more_cost g π (suc b) (b + n) d (omega arith) in
-      let step = right.step (b + n) d (omega (arith, low, end))
-      (dispatch_in_range g (length π.energy) (suc b) last d (b + n) dispatch (omega arith) (omega (arith, low))) in
-      begun_low b last n e d dispatch end (omega (arith, low))
+      let step = right.step (b + n) d (omega arith)
+      (dispatch_in_range g (length π.energy) (suc b) last d (b + n) dispatch (omega arith) (omega arith)) in
+      begun_low b last n e d dispatch end (omega arith)
       (before_low e (spell_cost g π (suc b) (b + n) d) (spell_cost g π (suc b) (suc (b + n)) d)
       (net_cost g π d (suc (b + n))) (limits (b + n)) (limits (suc (b + n))) more step here)
 
@@ -118,19 +116,17 @@ module _ (g : ThermalUnit) (π : PriceLists) (most : ℤ) (limits : ℕ → ℤ)
         (st.value ≤ℤ limits last)
     low_start f last l e d other st spell dispatch under =
         let first = st.first in
-        let order = spell.order in
         let end = spell.end in
-        let z : st.before + (l - st.before) ≡ l = omega (arith, first, order) in
+        let z : st.before + (l - st.before) ≡ l = omega arith in
         let here : (e +ℤ spell_cost g π (suc st.before) (st.before + (l - st.before)) d) ≤ℤ limits
         (st.before + (l - st.before)) =
         subst (λ (t : ℕ). (e +ℤ spell_cost g π (suc st.before) t d) ≤ℤ limits t) (sym z)
         (subst (λ (f : ℕ). (e +ℤ spell_cost g π f l d) ≤ℤ limits l) first under) in
         let low = begun_low st.before l (l - st.before) e d
-        (subst (λ (f : ℕ). IsDispatch g (length π.energy) f l d) first dispatch) end (omega (arith, z)) here in
-        let cost = st.cost in
+        (subst (λ (f : ℕ). IsDispatch g (length π.energy) f l d) first dispatch) end (omega arith) here in
         let start = (starts g.lags (off_time g last st.before) unit.lags).at_least in
-        let before = falls last st.before st.gap.off.order (omega (arith, first, order, end)) in
-        omega (arith, ints, low, cost, start, before)
+        let before = falls last st.before st.gap.off.order (omega arith) in
+        omega (arith, ints)
 
     module _ (f last l : ℕ) (e : ℤ) (d : Schedule) (spell : IsSpell g (length π.energy) f l)
         (dispatch : IsDispatch g (length π.energy) f l d) (under : (e +ℤ spell_cost g π f l d) ≤ℤ limits l) where
@@ -144,7 +140,7 @@ module _ (g : ThermalUnit) (π : PriceLists) (most : ℤ) (limits : ℕ → ℤ)
             value = st.value;
             ended = elim (row_from (limits last) (ends last) st.value st.ended) [
               | inl h ↦ h.0
-              | inr cap ↦ absurd (omega (arith, ints, low, cap))
+              | inr cap ↦ absurd (omega (arith, ints))
             ];
             gap = st.gap;
             cost = st.cost;
@@ -183,15 +179,13 @@ module _ (g : ThermalUnit) (π : PriceLists) (most : ℤ) (limits : ℕ → ℤ)
             let f = firsts l in
             let d = old.least.dispatch in
             let keeps = old.least.keeps in
-            let net = old.least.cost in
-            let cost = old.cost in
-            let here : (old.entry_cost +ℤ spell_cost g π f l d) ≤ℤ limits l = omega (arith, ints, net, cost, under) in
+            let here : (old.entry_cost +ℤ spell_cost g π f l d) ≤ℤ limits l = omega (arith, ints) in
             let entry : IsLeastEntry g (capped limits ends) f (lasts l) old.entry_cost = record {
               entry = entry_capped f (lasts l) l old.entry_cost d old.spell keeps here old.entry.entry;
               least = λ c entry. elim (cases_le old.entry_cost c) [
                 | inl low ↦ low
                 | inr less ↦ old.entry.least c
-                    (entry.0, entry_real f entry.0 l c d old.spell keeps (omega (arith, ints, less, here)) entry.1)
+                    (entry.0, entry_real f entry.0 l c d old.spell keeps (omega (arith, ints)) entry.1)
               ];
               earliest = λ k entry. old.entry.earliest k (entry_real f k l old.entry_cost d old.spell keeps here entry);
             } in
@@ -206,7 +200,7 @@ module _ (g : ThermalUnit) (π : PriceLists) (most : ℤ) (limits : ℕ → ℤ)
             let latest : IsLatest g π (length π.energy) (suc (length π.energy)) (capped limits ends) f l v = λ h k e
             other less spell entry dispatch same.
             from.2 h k e other less spell
-            (entry_real h k l e other spell dispatch (omega (arith, ints, same, under)) entry) dispatch same in
+            (entry_real h k l e other spell dispatch (omega (arith, ints)) entry) dispatch same in
             inr (from.0, ended, latest)
       ];
     }

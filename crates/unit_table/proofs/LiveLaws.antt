@@ -13,18 +13,12 @@ pub small_of : (g : ThermalUnit) (π : PriceLists) (limits : ℕ → ℤ) (ends 
     Option Going) (t n : ℕ) → t ≤ 168 → n ≤ 170 → AreRunners g π limits ends live t n → AreSmall live
 small_of g π limits ends live t n few low now f r is =
     let h = now.right f r is in
-    let below = h.0 in
-    let within = h.1.within in
-    let a = within.at_least in
-    let b = within.at_most in
     record {
-      cost = record { at_least = omega (arith, ints, a, below, low); at_most = omega (arith, ints, b, below, low) };
+      cost = record { at_least = omega (arith, ints); at_most = omega (arith, ints) };
       values = λ x v there.
           let w = h.1.frontier.values x v there in
-          let count : suc t - f ≤ 169 = omega (arith, few) in
-          let c = w.at_least in
-          let d = w.at_most in
-          record { at_least = omega (arith, ints, c, count); at_most = omega (arith, ints, d, count) };
+          let count : suc t - f ≤ 169 = omega arith in
+          record { at_least = omega (arith, ints); at_most = omega (arith, ints) };
     }
 
 -- a runner that is on is one of the list
@@ -72,22 +66,22 @@ going_off r off = ap
 pub below_of : (f f' : Table) (e e' shift : ℤ) → shift ≡ e -ℤ e' →
     ((x v : ℤ) → value_of f' x ≡ Some v → (u : ℤ) × (value_of f x ≡ Some u) × ((u +ℤ shift) ≤ℤ v)) → IsBelow f e f' e'
 below_of f f' e e' shift is below x v there =
-    (let u = below x v there in let low = u.2 in (u.0, u.1, omega (arith, ints, low, is)))
+    (let u = below x v there in (u.0, u.1, omega (arith, ints)))
 
 pub under_of : (f : Table) (e power cost v sum : ℤ) (before : ℕ) (left : ℕ → Passed) → value_of f power ≡ Some v →
     sum ≡ e +ℤ v → (sum +ℤ pos 1) ≤ℤ cost →
     IsUnder power cost (record { before = before; cost = e; function = f; left = left })
-under_of f e power cost v sum before left there is less = (v, there, omega (arith, ints, is, less))
+under_of f e power cost v sum before left there is less = (v, there, omega (arith, ints))
 
 pub beyond_of : (f : Table) (e limit : ℤ) → ((x v : ℤ) → value_of f x ≡ Some v → limit <ℤ (v +ℤ e)) → IsBeyond limit e f
-beyond_of f e limit above x v there = (let over = above x v there in omega (arith, ints, over))
+beyond_of f e limit above x v there = (let over = above x v there in omega (arith, ints))
 
 -- ---- one of the list written
 
 pub get_set_same : {X : Type 0} (xs : List X) (i : ℕ) (a : X) → i < length xs → slice_get (slice_set xs i a) i ≡ Some a
-get_set_same [] i a low = absurd (omega (arith, low))
+get_set_same [] i a low = absurd (omega arith)
 get_set_same (x ∷ xs) zero a low = refl
-get_set_same (x ∷ xs) (suc i) a low = get_set_same xs i a (omega (arith, low))
+get_set_same (x ∷ xs) (suc i) a low = get_set_same xs i a (omega arith)
 
 pub get_set_other : {X : Type 0} (xs : List X) (i j : ℕ) (a : X) → j ≢ i →
     slice_get (slice_set xs i a) j ≡ slice_get xs j
@@ -125,32 +119,32 @@ module _ (runners runners' : List Runner) (i : ℕ) (a : Runner)
 pub room_more : (count periods t charge room : ℕ) → t < periods → count + (periods - t) * charge ≤ room →
     count + charge ≤ room
 room_more count periods t charge room low fits =
-    let n : periods - t ≡ suc (periods - suc t) = omega (arith, low) in
+    let n : periods - t ≡ suc (periods - suc t) = omega arith in
     let e : (periods - t) * charge ≡ charge + (periods - suc t) * charge = ap (λ (n : ℕ). n * charge) n ∙
     (omega arith) in
-    omega (arith, e, fits)
+    omega arith
 
 pub room_next : (count count' periods t charge room : ℕ) → t < periods → count + (periods - t) * charge ≤ room →
     count' ≤ count + charge → count' + (periods - suc t) * charge ≤ room
 room_next count count' periods t charge room low fits more =
-    let n : periods - t ≡ suc (periods - suc t) = omega (arith, low) in
+    let n : periods - t ≡ suc (periods - suc t) = omega arith in
     let e : (periods - t) * charge ≡ charge + (periods - suc t) * charge = ap (λ (n : ℕ). n * charge) n ∙
     (omega arith) in
-    omega (arith, e, fits, more)
+    omega arith
 
 pub room_none : (periods t charge room : ℕ) → periods * charge ≤ room → (periods - t) * charge ≤ room
 room_none periods t charge room fits = let e : (periods - t) * charge ≤ periods * charge = mul-le-mul_right charge
-    (omega arith) in omega (arith, e, fits)
+    (omega arith) in omega arith
 
 slice_get_past : {X : Type 0} (xs : List X) (f : ℕ) → length xs ≤ f → slice_get xs f ≡ None
 slice_get_past [] f h = refl
-slice_get_past (x ∷ xs) zero h = absurd (omega (arith, h))
-slice_get_past (x ∷ xs) (suc f) h = slice_get_past xs f (omega (arith, h))
+slice_get_past (x ∷ xs) zero h = absurd (omega arith)
+slice_get_past (x ∷ xs) (suc f) h = slice_get_past xs f (omega arith)
 
 slice_get_none : {X : Type 0} (xs : List X) (f : ℕ) → slice_get xs f ≡ None → length xs ≤ f
 slice_get_none [] f h = omega arith
 slice_get_none (x ∷ xs) zero h = cc
-slice_get_none (x ∷ xs) (suc f) h = (let e = slice_get_none xs f h in omega (arith, e))
+slice_get_none (x ∷ xs) (suc f) h = (let e = slice_get_none xs f h in omega arith)
 
 -- ---- the same runners, of which some were stopped or begun
 
@@ -216,16 +210,13 @@ module _ (old new : List Runner) (kept : AreKept old new) where
       let k = kept.each f r is in
       let o = roomy f k.0 k.1 in
       let whole = o.whole in
-      let places = o.places in
-      let same = k.2.room_same in
       let length_same = ap (λ p. length p.items + p.spare) k.2.passed in
       record {
-        whole = omega (arith, whole, same);
-        places = omega (arith, places, length_same);
+        whole = omega arith;
+        places = omega arith;
         rest = λ on. elim (k.2.pieces on) [
-          | inl none ↦ (let rest = room_none periods t charge (room_of k.0.running) whole in omega
-              (arith, none, same, rest))
-          | inr h ↦ (let rest = o.rest h.0 in let pieces = h.1 in omega (arith, rest, pieces, same))
+          | inl none ↦ (let rest = room_none periods t charge (room_of k.0.running) whole in omega arith)
+          | inr h ↦ (let rest = o.rest h.0 in omega arith)
         ];
       }
 
@@ -234,16 +225,15 @@ module _ (old new : List Runner) (kept : AreKept old new) where
       let k = kept.each f r is in
       let there = (have f k.0 k.1).0 in
       let places = (have f k.0 k.1).1 in
-      let same = k.2.room_same in
       let length_same = ap (λ p. length p.items + p.spare) k.2.passed in
-      (omega (arith, there, same), omega (arith, places, length_same))
+      (omega arith, omega arith)
 
   pub kept_left : (f k : ℕ) → left_at new f k ≡ left_at old f k
   kept_left f k = elim (slice_get new f) as (λ o. slice_get new f ≡ o → left_of o k ≡ left_at old f k) [
     | None ↦ λ is. (
         let past = kept.count_same in
         let end = slice_get_none new f is in
-        sym (ap (λ o. left_of o k) (slice_get_past old f (omega (arith, past, end)))))
+        sym (ap (λ o. left_of o k) (slice_get_past old f (omega arith))))
     | Some r ↦ λ is. (let o = kept.each f r is in ap (λ p. passed_at p.items k) o.2.passed ∙
         sym (ap (λ o. left_of o k) o.1))
   ] refl
@@ -271,7 +261,7 @@ pub record IsStopped (old : List Runner) (n : ℕ) (new : List Runner) : Type 0 
 
 module _ (old : List Runner) where
   pub none_stopped : IsStopped old 0 old
-  none_stopped = record { off = λ f r low is. absurd (omega (arith, low)); kept = kept_none old }
+  none_stopped = record { off = λ f r low is. absurd (omega arith); kept = kept_none old }
 
   module _ (new : List Runner) (n : ℕ) (all : IsStopped old n new) where
     pub stopped_more : (new' : List Runner) (a b : Runner) → n < length new → slice_get new n ≡ Some b →
@@ -283,7 +273,7 @@ module _ (old : List Runner) where
             let here = written_here new new' n a low set in
             let e : r ≡ a = (let w = ap (λ (k : ℕ). slice_get new' k) z in cc) in
             ap (λ (r : Runner). r.is_on) e ∙ off
-        | inr other ↦ all.off f r (omega (arith, less, other))
+        | inr other ↦ all.off f r (omega arith)
             (sym (written_other new new' n a low set f other) ∙ is)
       ];
       kept = kept_then old new new' all.kept
@@ -295,7 +285,7 @@ module _ (old : List Runner) where
     stopped_off end f = elim (slice_get new f) as (λ o. slice_get new f ≡ o → going_of o ≡ None) [
       | None ↦ λ is. refl
       | Some r ↦ λ is. going_off r
-          (all.off f r (let low = slice_get_within new f r is in omega (arith, low, end)) is)
+          (all.off f r (let low = slice_get_within new f r is in omega arith) is)
     ] refl
 
 -- ---- fewer on

@@ -32,10 +32,9 @@ pub entry_beyond : (g : ThermalUnit) (ends : ℕ → Option ℤ) (k : ℕ) (os :
     ((i : ℕ) (o : Origin) → i < os.count → slice_get os.list.items i ≡ Some o → (limit +ℤ pos 1) ≤ℤ o.cost) → (e : ℤ) →
     IsEntry g ends (suc k) e → (limit +ℤ pos 1) ≤ℤ e
 entry_beyond g ends k os starts now lags limit beyond e entry = elim (entry.1) [
-  | inl none ↦ let z = none.0 in absurd (omega (arith, z))
+  | inl none ↦ let z = none.0 in absurd (omega arith)
   | inr h ↦
-      let first = h.first in
-      let z : h.before ≡ k = omega (arith, first) in
+      let z : h.before ≡ k = omega arith in
       let o : Origin = record { last = entry.0; cost = h.value } in
       let is_origin : IsOrigin g ends k o = record
       { ended = h.ended; gap = subst (λ (b : ℕ). IsGap g entry.0 b) z h.gap } in
@@ -43,15 +42,13 @@ entry_beyond g ends k os starts now lags limit beyond e entry = elim (entry.1) [
       let a = now.right.each has.place has.origin has.low has.is in
       let high = beyond has.place has.origin has.low has.is in
       let start = (starts g.lags (off_time g entry.0 h.before) lags).at_least in
-      let is_cost = h.cost in
       elim (has.best) [
         | inl same ↦
             let e = a.ended in
-            let f = is_origin.ended in
             let g = ap ends same in
             let cost : has.origin.cost ≡ o.cost = (cc) in
-            omega (arith, ints, high, cost, start, is_cost)
-        | inr more ↦ let cheap = more.2 in omega (arith, ints, high, cheap, start, is_cost)
+            omega (arith, ints)
+        | inr more ↦ omega (arith, ints)
       ]
 ]
 
@@ -60,7 +57,7 @@ entry_beyond g ends k os starts now lags limit beyond e entry = elim (entry.1) [
 pub origins_within : (g : ThermalUnit) (rows : List (Option Ended)) (k : ℕ) (os : Origins) →
     AreOrigins g (cost_at rows) k os → AreWithin rows → k < length os.list.items → AreOriginsWithin k os
 origins_within g rows k os now within room = record {
-  room = (let few = now.few in omega (arith, few, room));
+  room = (omega arith);
   last = λ i o low is. (now.right.each i o low is).gap.off.order;
   cost = λ i o low is. within o.last o.cost (now.right.each i o low is).ended;
 }

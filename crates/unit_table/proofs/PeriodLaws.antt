@@ -48,7 +48,7 @@ module _ (g : ThermalUnit) (π : PriceLists) (limits : ℕ →
           (λ l other. before-same rows' rows l l (others l other))
           most right go are_runs live₁ now row;
       runners = runners_to g π limits (cost_at rows) (cost_at rows') live₃ (suc t) (suc (suc t))
-          (λ l low. sym (cost-same rows' rows l l (others l (λ z. omega (arith, z, low))))) pruned;
+          (λ l low. sym (cost-same rows' rows l l (others l (λ z. omega arith)))) pruned;
       within = bound;
     }
 

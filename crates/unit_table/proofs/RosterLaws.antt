@@ -12,10 +12,10 @@ use Rattle.unit_table.proofs.RunAllLaws.{IsRunTo, run_more}
 pub none_listed : (live : ℕ → Option Going) (until : ℕ) (roster : Roster) → roster.count ≡ 0 →
     ((f : ℕ) → live f ≡ None) → IsRoster live until roster
 none_listed live until roster none off = record {
-  few = omega (arith, none);
-  room = omega (arith, none);
-  below = λ i f low is. absurd (omega (arith, low, none));
-  rising = λ i j f h before low is is'. absurd (omega (arith, low, none));
+  few = omega arith;
+  room = omega arith;
+  below = λ i f low is. absurd (omega arith);
+  rising = λ i j f h before low is is'. absurd (omega arith);
   all = λ f r is. (let o = off f in cc);
 }
 
@@ -23,9 +23,9 @@ none_listed live until roster none off = record {
 pub still_listed : (live live' : ℕ → Option Going) (until until' : ℕ) (roster : Roster) → until ≤ until' →
     ((f : ℕ) → live f ≡ None → live' f ≡ None) → IsRoster live until roster → IsRoster live' until' roster
 still_listed live live' until until' roster more off list = record {
-  few = (let few = list.few in omega (arith, few, more));
+  few = (omega arith);
   room = list.room;
-  below = λ i f low is. (let below = list.below i f low is in omega (arith, below, more));
+  below = λ i f low is. (let below = list.below i f low is in omega arith);
   rising = list.rising;
   all = λ f r is. elim (live f) as (λ o. live f ≡ o →
       (i : ℕ) × (i < roster.count) × (slice_get roster.firsts.items i ≡ Some f)) [
@@ -51,27 +51,25 @@ module _ (live live' : ℕ → Option Going) (until : ℕ) (roster roster' : Ros
 
   pub one_listed : IsRoster live' (suc until) roster'
   one_listed = record {
-    few = (let few = list.few in omega (arith, few, count));
-    room = omega (arith, count, room, same_length);
+    few = (omega arith);
+    room = omega arith;
     below = λ i f low is. elim (cases_eq i (roster.count)) [
-      | inl z ↦ (let e = is_last i f z is in omega (arith, e))
-      | inr other ↦ (let below = list.below i f (omega (arith, low, count, other)) (sym (kept i other) ∙ is) in omega
-          (arith, below))
+      | inl z ↦ (let e = is_last i f z is in omega arith)
+      | inr other ↦ (let below = list.below i f (omega arith) (sym (kept i other) ∙ is) in omega arith)
     ];
     rising = λ i j f h before low is is'.
-        (let first : slice_get roster.firsts.items i ≡ Some f = sym (kept i (λ z. omega (arith, z, before, low, count)))
+        (let first : slice_get roster.firsts.items i ≡ Some f = sym (kept i (λ z. omega arith))
         ∙ is in
         elim (cases_eq j (roster.count)) [
-          | inl z ↦ (let e = is_last j h z is' in let below = list.below i f (omega (arith, before, z)) first in omega
-              (arith, below, e))
-          | inr other ↦ list.rising i j f h before (omega (arith, low, count, other)) first (sym (kept j other) ∙ is')
+          | inl z ↦ (let e = is_last j h z is' in let below = list.below i f (omega arith) first in omega arith)
+          | inr other ↦ list.rising i j f h before (omega arith) first (sym (kept j other) ∙ is')
         ]);
     all = λ f r is. elim (cases_eq f until) [
-      | inl z ↦ (roster.count, omega (arith, count), here ∙ ap Some (sym z))
+      | inl z ↦ (roster.count, omega arith, here ∙ ap Some (sym z))
       | inr other ↦
           let old = list.all f r (sym (others f other) ∙ is) in
           let low = old.1 in
-          (old.0, omega (arith, low, count), kept old.0 (λ z. omega (arith, z, low)) ∙ old.2)
+          (old.0, omega arith, kept old.0 (λ z. omega arith) ∙ old.2)
     ];
   }
 
@@ -108,9 +106,9 @@ module _ (live : ℕ → Option Going) (until : ℕ) (old : Roster) (list : IsRo
   none_kept = record {
     low = omega arith;
     same_length = refl;
-    below = λ i f low. absurd (omega (arith, low));
-    rising = λ i j f h before low. absurd (omega (arith, low));
-    before = λ i j f h low. absurd (omega (arith, low));
+    below = λ i f low. absurd (omega arith);
+    rising = λ i j f h before low. absurd (omega arith);
+    before = λ i j f h low. absurd (omega arith);
     rest = λ i from. refl;
     all = λ f r is. (let h = list.all f r is in inr (h.0, omega arith, h.1, h.2));
   }
@@ -126,12 +124,12 @@ module _ (live : ℕ → Option Going) (until : ℕ) (old : Roster) (list : IsRo
     -- its runner is off
     pub one_off : live first ≡ None → IsKeptTo live until old (p + 1) q new
     one_off off = record {
-      low = (let low = so_far.low in omega (arith, low));
+      low = (let low = so_far.low in omega arith);
       same_length = so_far.same_length;
       below = so_far.below;
       rising = so_far.rising;
-      before = λ i j f h low from. so_far.before i j f h low (omega (arith, from));
-      rest = λ i from. so_far.rest i (omega (arith, from));
+      before = λ i j f h low from. so_far.before i j f h low (omega arith);
+      rest = λ i from. so_far.rest i (omega arith);
       all = λ f r is. elim (so_far.all f r is) [
         | inl kept ↦ inl kept
         | inr left ↦
@@ -144,7 +142,7 @@ module _ (live : ℕ → Option Going) (until : ℕ) (old : Roster) (list : IsRo
                   let same : first ≡ f = (cc) in
                   let none = subst (λ (f : ℕ). live f ≡ None) same off in
                   cc
-              | inr other ↦ inr (left.0, omega (arith, from, other), left.2, left.3)
+              | inr other ↦ inr (left.0, omega arith, left.2, left.3)
             ]
       ];
     }
@@ -152,8 +150,7 @@ module _ (live : ℕ → Option Going) (until : ℕ) (old : Roster) (list : IsRo
     -- it stays
     module _ (new' : List ℕ) (set : new' ≡ slice_set new q first) where
       room : q < length new
-      room = (let low = so_far.low in let same = so_far.same_length in let within = list.room in omega
-          (arith, low, same, within, inside))
+      room = (omega arith)
 
       here' : slice_get new' q ≡ Some first
       here' = ap (λ (xs : List ℕ). slice_get xs q) set ∙ get_set_same new q first room
@@ -166,32 +163,32 @@ module _ (live : ℕ → Option Going) (until : ℕ) (old : Roster) (list : IsRo
 
       pub one_kept : length new' ≡ length new → IsKeptTo live until old (p + 1) (q + 1) new'
       one_kept same = record {
-        low = (let low = so_far.low in omega (arith, low));
+        low = (let low = so_far.low in omega arith);
         same_length = same ∙ so_far.same_length;
         below = λ i f low is. elim (cases_eq i q) [
           | inl z ↦ subst (λ (f : ℕ). f < until) (is_here i f z is) (list.below p first inside was)
-          | inr other ↦ so_far.below i f (omega (arith, low, other)) (sym (kept' i other) ∙ is)
+          | inr other ↦ so_far.below i f (omega arith) (sym (kept' i other) ∙ is)
         ];
         rising = λ i j f h before low is is'.
-            (let less : i < q = omega (arith, before, low) in
-            let first_is : slice_get new i ≡ Some f = sym (kept' i (λ z. omega (arith, z, less))) ∙ is in
+            (let less : i < q = omega arith in
+            let first_is : slice_get new i ≡ Some f = sym (kept' i (λ z. omega arith)) ∙ is in
             elim (cases_eq j q) [
               | inl z ↦ subst (λ (h : ℕ). f < h) (is_here j h z is')
                   (so_far.before i p f first less (omega arith) inside first_is was)
-              | inr other ↦ so_far.rising i j f h before (omega (arith, low, other)) first_is
+              | inr other ↦ so_far.rising i j f h before (omega arith) first_is
                   (sym (kept' j other) ∙ is')
             ]);
         before = λ i j f h low from within is is'. elim (cases_eq i q) [
           | inl z ↦ subst (λ (f : ℕ). f < h) (is_here i f z is)
-              (list.rising p j first h (omega (arith, from)) within was is')
-          | inr other ↦ so_far.before i j f h (omega (arith, low, other)) (omega (arith, from)) within
+              (list.rising p j first h (omega arith) within was is')
+          | inr other ↦ so_far.before i j f h (omega arith) (omega arith) within
               (sym (kept' i other) ∙ is) is'
         ];
-        rest = λ i from. (let low = so_far.low in kept' i (λ z. omega (arith, z, from, low)) ∙
-            so_far.rest i (omega (arith, from)));
+        rest = λ i from. (let low = so_far.low in kept' i (λ z. omega arith) ∙
+            so_far.rest i (omega arith));
         all = λ f r is. elim (so_far.all f r is) [
           | inl left ↦ (let low = left.1 in inl
-              (left.0, omega (arith, low), kept' left.0 (λ z. omega (arith, z, low)) ∙ left.2))
+              (left.0, omega arith, kept' left.0 (λ z. omega arith) ∙ left.2))
           | inr left ↦
               let from = left.1 in
               elim (cases_eq (left.0) p) [
@@ -201,7 +198,7 @@ module _ (live : ℕ → Option Going) (until : ℕ) (old : Roster) (list : IsRo
                     let there = left.3 in
                     let same : first ≡ f = (cc) in
                     inl (q, omega arith, here' ∙ ap Some same)
-                | inr other ↦ inr (left.0, omega (arith, from, other), left.2, left.3)
+                | inr other ↦ inr (left.0, omega arith, left.2, left.3)
               ]
         ];
       }
@@ -209,14 +206,13 @@ module _ (live : ℕ → Option Going) (until : ℕ) (old : Roster) (list : IsRo
   pub all_kept : (p : ℕ) (new : Roster) → old.count ≤ p → p ≤ old.count →
       IsKeptTo live until old p new.count new.firsts.items → IsRoster live until new
   all_kept p new from to kept = record {
-    few = (let few = list.few in let low = kept.low in omega (arith, few, low, to));
-    room = (let room = list.room in let low = kept.low in let same = kept.same_length in omega
-        (arith, room, low, same, to));
+    few = (let low = kept.low in omega arith);
+    room = (let low = kept.low in let same = kept.same_length in omega arith);
     below = kept.below;
     rising = kept.rising;
     all = λ f r is. elim (kept.all f r is) [
       | inl here ↦ here
-      | inr left ↦ (let after = left.1 in let within = left.2 in absurd (omega (arith, after, within, from)))
+      | inr left ↦ (let after = left.1 in let within = left.2 in absurd (omega arith))
     ];
   }
 
@@ -235,7 +231,7 @@ row_further g π periods live n m l end first before more off row = record {
     | inl less ↦ row.latest f r d less on
     | inr from ↦ (let none = off f from low in absurd (cc))
   ];
-  sound = λ v is. (let h = row.sound v is in let low = h.2 in (h.0, h.1, omega (arith, low, more), h.3, h.4, h.5));
+  sound = λ v is. (let h = row.sound v is in let low = h.2 in (h.0, h.1, omega arith, h.3, h.4, h.5));
 }
 
 module _ (g : ThermalUnit) (π : PriceLists) (t charge : ℕ) (rows₀ : List (Option Ended)) (runners₀ : List Runner)
@@ -256,7 +252,7 @@ module _ (g : ThermalUnit) (π : PriceLists) (t charge : ℕ) (rows₀ : List (O
       until = 0;
       most = omega arith;
       run = run;
-      done = λ j f low. absurd (omega (arith, low));
+      done = λ j f low. absurd (omega arith);
       left = λ j f from low is. omega arith;
     }
 
@@ -278,7 +274,7 @@ module _ (g : ThermalUnit) (π : PriceLists) (t charge : ℕ) (rows₀ : List (O
           | inl less ↦ run.off f less is
           | inr from ↦ ap going_of (run.rest f from) ∙ is
         ];
-        rest = λ f from. run.rest f (omega (arith, from, more));
+        rest = λ f from. run.rest f (omega arith);
         roomy = λ f r low is. elim (cases_lt f n) [
           | inl less ↦ run.roomy f r less is
           | inr from ↦
@@ -307,14 +303,13 @@ module _ (g : ThermalUnit) (π : PriceLists) (t charge : ℕ) (rows₀ : List (O
                 | Some r ↦ λ on.
                     let h = list.all f r on in
                     let contradiction : ⊥ = elim (cases_lt (h.0) i) [
-                      | inl less ↦ (let done = so_far.done h.0 f less h.2 in omega (arith, done, from))
+                      | inl less ↦ (let done = so_far.done h.0 f less h.2 in omega arith)
                       | inr most ↦ elim (cases_eq (h.0) i) [
-                        | inl z ↦ (let e = ap (slice_get roster.firsts.items) z in let there = h.2 in let
+                        | inl z ↦ (let e = ap (slice_get roster.firsts.items) z in let
                             same : f ≡ first =
-                            (cc) in omega (arith, same, low))
-                        | inr other ↦ (let later = list.rising i h.0 first f (omega (arith, most, other))
-                            h.1 is h.2 in omega
-                            (arith, later, low))
+                            (cc) in omega arith)
+                        | inr other ↦ (let later = list.rising i h.0 first f (omega arith)
+                            h.1 is h.2 in omega arith)
                       ]
                     ] in
                     absurd contradiction
@@ -330,27 +325,25 @@ module _ (g : ThermalUnit) (π : PriceLists) (t charge : ℕ) (rows₀ : List (O
               IsListRun roster bound (i + 1) rows' runners'
           one_run rows' runners' one = record {
             until = first + 1;
-            most = (let below = list.below i first inside is in omega (arith, below));
+            most = (let below = list.below i first inside is in omega arith);
             run = run_more g π t charge rows₀ runners₀ first rows rows' runners runners' run_before
                 one;
             done = λ j f low there. elim (cases_eq j i) [
-              | inl z ↦ (let e = ap (slice_get roster.firsts.items) z in let same : f ≡ first = (cc) in omega
-                  (arith, same))
-              | inr other ↦ (let earlier = list.rising j i f first (omega (arith, low, other)) inside there is in omega
-                  (arith, earlier))
+              | inl z ↦ (let e = ap (slice_get roster.firsts.items) z in let same : f ≡ first = (cc) in omega arith)
+              | inr other ↦ (let earlier = list.rising j i f first (omega arith) inside there is in omega arith)
             ];
             left = λ j f from low there.
-                (let later = list.rising i j first f (omega (arith, from)) low is there in omega (arith, later));
+                (let later = list.rising i j first f (omega arith) low is there in omega arith);
           }
 
         module _ (i : ℕ) (rows : List (Option Ended)) (runners : List Runner)
             (all : IsListRun roster bound i rows runners) (end : roster.count ≤ i) where
           pub none_later : (f : ℕ) (r : Going) → live_at runners₀ f ≡ Some r → f < all.until
-          none_later f r on = (let h = list.all f r on in let low = h.1 in all.done h.0 f (omega (arith, low, end)) h.2)
+          none_later f r on = (let h = list.all f r on in all.done h.0 f (omega arith) h.2)
 
           pub run_whole : IsRunTo g π t charge rows₀ runners₀ bound rows runners
           run_whole = run_skip all.until bound rows runners all.most
               (λ f from low. elim (live_at runners₀ f) as (λ o. live_at runners₀ f ≡ o → o ≡ None) [
                 | None ↦ λ e. refl
-                | Some r ↦ λ on. (let before = none_later f r on in absurd (omega (arith, before, from)))
+                | Some r ↦ λ on. (let before = none_later f r on in absurd (omega arith))
               ] refl) all.run

@@ -39,7 +39,7 @@ runners_to g π limits a b live t n same now = record {
       let old = h.1 in (
         low,
         record {
-          entry = least_entry_to g a b f (λ l less. same l (omega (arith, less, low))) r.before r.cost old.entry;
+          entry = least_entry_to g a b f (λ l less. same l (omega arith)) r.before r.cost old.entry;
           frontier = old.frontier;
           may = old.may;
           order = old.order;
@@ -48,7 +48,7 @@ runners_to g π limits a b live t n same now = record {
         },
       );
   all = λ f e d low may entry run under. now.all f e d low may
-      (entry_to g b a f (λ l less. sym (same l (omega (arith, less, low)))) e entry) run under;
+      (entry_to g b a f (λ l less. sym (same l (omega arith))) e entry) run under;
 }
 
 -- ---- a period more
@@ -63,35 +63,34 @@ module _ (g : ThermalUnit) (π : PriceLists) (limits : ℕ → ℤ) (unit : IsTh
   T = length π.energy
 
   older : (f : ℕ) → f ≤ suc t → (l : ℕ) → l < f → ends' l ≡ ends l
-  older f low l less = ends_same l (λ z. omega (arith, z, less, low))
+  older f low l less = ends_same l (λ z. omega arith)
 
   newer : (f : ℕ) → f ≤ suc t → (l : ℕ) → l < f → ends l ≡ ends' l
   newer f low l less = sym (older f low l less)
 
   idle_more : IsFalse g.on0 → HasAtMost (ends' 0) (pos 0)
-  idle_more off = (let h = table.idle off in (h.0, ends_same 0 (λ z. omega (arith, z)) ∙ h.1, h.2))
+  idle_more off = (let h = table.idle off in (h.0, ends_same 0 (λ z. omega arith) ∙ h.1, h.2))
 
   spell_before : (f l : ℕ) (e : ℤ) (d : Schedule) → l ≤ t → IsSpell g T f l → IsEntry g ends' f e →
       IsDispatch g T f l d → (e +ℤ spell_cost g π f l d) ≤ℤ limits l → HasAtMost (ends' l) (e +ℤ spell_cost g π f l d)
   spell_before f l e d low spell entry dispatch under =
       let order = spell.order in
-      let h = table.spell f l e d low spell (entry_to g ends' ends f (older f (omega (arith, order, low))) e entry)
+      let h = table.spell f l e d low spell (entry_to g ends' ends f (older f (omega arith)) e entry)
       dispatch under in
-      (h.0, ends_same l (λ z. omega (arith, z, low)) ∙ h.1, h.2)
+      (h.0, ends_same l (λ z. omega arith) ∙ h.1, h.2)
 
   sound_before : (l : ℕ) (v : ℤ) → l ≤ t → ends' l ≡ Some v → v ≤ℤ limits l →
       IsFrom g π T (suc T) ends' firsts' lasts' l v
   sound_before l v low is under = elim
-      (table.sound l v low (sym (ends_same l (λ z. omega (arith, z, low))) ∙ is) under) [
+      (table.sound l v low (sym (ends_same l (λ z. omega arith)) ∙ is) under) [
         | inl idle ↦ inl idle
         | inr from ↦
-            let first = firsts_same l (λ z. omega (arith, z, low)) in
-            let last = lasts_same l (λ z. omega (arith, z, low)) in
+            let first = firsts_same l (λ z. omega arith) in
+            let last = lasts_same l (λ z. omega arith) in
             let old = from.1 in
-            let order = old.spell.order in
             let ended : IsEnded g π T ends' (firsts l) (lasts l) l v = record {
               entry_cost = old.entry_cost;
-              entry = least_entry_to g ends ends' (firsts l) (newer (firsts l) (omega (arith, order, low))) (lasts l)
+              entry = least_entry_to g ends ends' (firsts l) (newer (firsts l) (omega arith)) (lasts l)
                   old.entry_cost old.entry;
               spell = old.spell;
               net = old.net;
@@ -100,10 +99,9 @@ module _ (g : ThermalUnit) (π : PriceLists) (limits : ℕ → ℤ) (unit : IsTh
             } in
             let latest : IsLatest g π T (suc T) ends' (firsts l) l v = λ f k e d less spell entry dispatch cost.
             (let order = spell.order in from.2 f k e d less spell
-            (entry_same g ends' ends f k e (older f (omega (arith, order, low))) entry) dispatch cost) in
-            let below = from.0 in
+            (entry_same g ends' ends f k e (older f (omega arith)) entry) dispatch cost) in
             inr (
-              omega (arith, below, first),
+              omega arith,
               subst (λ (f : ℕ). IsEnded g π T ends' f (lasts' l) l v) (sym first)
                   (subst (λ (k : ℕ). IsEnded g π T ends' (firsts l) k l v) (sym last) ended),
               subst (λ (f : ℕ). IsLatest g π T (suc T) ends' f l v) (sym first) latest,
@@ -111,7 +109,7 @@ module _ (g : ThermalUnit) (π : PriceLists) (limits : ℕ → ℤ) (unit : IsTh
       ]
 
   none_more : (l : ℕ) → suc t < l → ends' l ≡ None
-  none_more l above = ends_same l (λ z. omega (arith, z, above)) ∙ table.none l (omega (arith, above))
+  none_more l above = ends_same l (λ z. omega arith) ∙ table.none l (omega arith)
 
   -- none may be on in the period
   pub table_off : (mark_in g.window (suc t) ≡ MustOff) → ends' (suc t) ≡ None →
@@ -119,14 +117,14 @@ module _ (g : ThermalUnit) (π : PriceLists) (limits : ℕ → ℤ) (unit : IsTh
   table_off mark none_here = record {
     idle = idle_more;
     spell = λ f l e d low spell entry dispatch under. elim (cases_lt l (suc t)) [
-      | inl less ↦ spell_before f l e d (omega (arith, less)) spell entry dispatch under
+      | inl less ↦ spell_before f l e d (omega arith) spell entry dispatch under
       | inr most ↦ let order = spell.order in absurd
-          (spell.marks (suc t) (omega arith) (let z : l ≡ suc t = omega (arith, most, low) in omega (arith, z, order))
-          (omega (arith, most)) mark)
+          (spell.marks (suc t) (omega arith) (let z : l ≡ suc t = omega arith in omega arith)
+          (omega arith) mark)
     ];
     sound = λ l v low is under. elim (cases_lt l (suc t)) [
-      | inl less ↦ sound_before l v (omega (arith, less)) is under
-      | inr most ↦ let z : l ≡ suc t = omega (arith, most, low) in let same = ap ends' z in cc
+      | inl less ↦ sound_before l v (omega arith) is under
+      | inr most ↦ let z : l ≡ suc t = omega arith in let same = ap ends' z in cc
     ];
     none = none_more;
   }
@@ -155,20 +153,19 @@ module _ (g : ThermalUnit) (π : PriceLists) (limits : ℕ → ℤ) (unit : IsTh
         let last = limits_right.step t d within (dispatch_in_range g T f (suc t) d t dispatch order (omega arith)) in
         let run = are_runs g T f t d unit order dispatch in
         let may : MayBeOn g f t = record
-        { goes_on = spell.goes_on; marks = λ k one from until. spell.marks k one from (omega (arith, until)) } in
-        let s = now.all f e d (omega (arith, order)) may entry (λ k from until. run k from (omega (arith, until)))
+        { goes_on = spell.goes_on; marks = λ k one from until. spell.marks k one from (omega arith) } in
+        let s = now.all f e d (omega arith) may entry (λ k from until. run k from (omega arith))
         (before_low e (spell_cost g π f t d) (spell_cost g π f (suc t) d) (net_cost g π d (suc t)) (limits t)
         (limits (suc t)) more last under) in
         let runner = now.right s.other s.going s.on in
         let low = runner.0 in
-        let cheap = s.cheap in
         let other_spell : s.other ≤ suc t → IsSpell g T s.other (suc t) = λ below. record {
           order = below;
           end = spell.end;
           goes_on = runner.1.may.goes_on;
           marks = λ k one from until mark. elim (cases_lt k (suc t)) [
-            | inl less ↦ runner.1.may.marks k one from (omega (arith, less)) mark
-            | inr most ↦ let z : k ≡ suc t = omega (arith, most, until) in spell.marks k one (omega (arith, z, order))
+            | inl less ↦ runner.1.may.marks k one from (omega arith) mark
+            | inr most ↦ let z : k ≡ suc t = omega arith in spell.marks k one (omega arith)
                 until mark
           ];
           min_up = λ inside. s.long (suc t) (omega arith) (spell.min_up inside);
@@ -177,7 +174,6 @@ module _ (g : ThermalUnit) (π : PriceLists) (limits : ℕ → ℤ) (unit : IsTh
           | inl begun ↦
               let j = go g π f s.other t s.going.function d s.value unit order begun within runner.1.frontier s.there
               dispatch in
-              let cost = j.cost in
               record {
                 other = s.other;
                 going = s.going;
@@ -185,11 +181,11 @@ module _ (g : ThermalUnit) (π : PriceLists) (limits : ℕ → ℤ) (unit : IsTh
                 low = low;
                 dispatch = j.dispatch;
                 keeps = j.keeps;
-                spell = other_spell (omega (arith, begun));
-                cheap = omega (arith, ints, cost, more, cheap);
+                spell = other_spell (omega arith);
+                cheap = omega (arith, ints);
                 later = elim (s.later) [
                   | inl from ↦ inl from
-                  | inr less ↦ inr (omega (arith, ints, cost, more, less))
+                  | inr less ↦ inr (omega (arith, ints))
                 ];
               }
           | inr same ↦
@@ -203,8 +199,8 @@ module _ (g : ThermalUnit) (π : PriceLists) (limits : ℕ → ℤ) (unit : IsTh
                 dispatch = d;
                 keeps = subst (λ (f : ℕ). IsDispatch g T f (suc t) d) (sym same) dispatch;
                 spell = subst (λ (f : ℕ). IsSpell g T f (suc t)) (sym same) spell;
-                cheap = omega (arith, ints, cost, bound);
-                later = inl (omega (arith, same));
+                cheap = omega (arith, ints);
+                later = inl (omega arith);
               }
         ]
 
@@ -220,18 +216,16 @@ module _ (g : ThermalUnit) (π : PriceLists) (limits : ℕ → ℤ) (unit : IsTh
         IsSpell g T f (suc t) → IsEntry g ends f e → IsDispatch g T f (suc t) d →
         (e +ℤ spell_cost g π f (suc t) d) ≡ v → f ≤ firsts' (suc t)
     latest_here v is under f e d spell entry dispatch cost =
-        let r = replaced f e d spell entry dispatch (omega (arith, ints, cost, under)) in
+        let r = replaced f e d spell entry dispatch (omega (arith, ints)) in
         let here = r.going.cost +ℤ spell_cost g π r.other (suc t) r.dispatch in
         let h = row.most r.other r.going r.dispatch r.low r.on r.spell r.keeps in
-        let value : h.0 ≡ v = (let a = h.1 in cc) in
-        let high = h.2 in
-        let cheap = r.cheap in
+        let value : h.0 ≡ v = (cc) in
         elim (r.later) [
-          | inr less ↦ absurd (omega (arith, ints, value, high, less, cost))
+          | inr less ↦ absurd (omega (arith, ints))
           | inl from ↦
-              let equal : v ≡ here = omega (arith, ints, value, high, cheap, cost) in
+              let equal : v ≡ here = omega (arith, ints) in
               let latest = row.latest r.other r.going r.dispatch r.low r.on r.spell r.keeps (is ∙ ap Some equal) in
-              omega (arith, from, latest)
+              omega arith
         ]
 
     sound_here : (v : ℤ) → ends' (suc t) ≡ Some v → v ≤ℤ limits (suc t) →
@@ -241,7 +235,6 @@ module _ (g : ThermalUnit) (π : PriceLists) (limits : ℕ → ℤ) (unit : IsTh
         let r = h.0 in
         let runner = (now.right (firsts' (suc t)) r h.1).1 in
         let order = h.4.order in
-        let end = h.4.end in
         let ended : IsEnded g π T ends' (firsts' (suc t)) r.before (suc t) v = record {
           entry_cost = r.cost;
           entry = least_entry_to g ends ends' (firsts' (suc t)) (newer (firsts' (suc t)) order) r.before r.cost
@@ -252,7 +245,7 @@ module _ (g : ThermalUnit) (π : PriceLists) (limits : ℕ → ℤ) (unit : IsTh
           cost = h.5.2;
         } in
         inr (
-          omega (arith, order, end),
+          omega arith,
           subst (λ (k : ℕ). IsEnded g π T ends' (firsts' (suc t)) k (suc t) v) h.3 ended,
           λ f k e d low spell entry dispatch cost.
               (let below = spell.order in latest_here v is under f e d spell
@@ -263,9 +256,9 @@ module _ (g : ThermalUnit) (π : PriceLists) (limits : ℕ → ℤ) (unit : IsTh
     table_on = record {
       idle = idle_more;
       spell = λ f l e d low spell entry dispatch under. elim (cases_lt l (suc t)) [
-        | inl less ↦ spell_before f l e d (omega (arith, less)) spell entry dispatch under
+        | inl less ↦ spell_before f l e d (omega arith) spell entry dispatch under
         | inr most ↦
-            let z : suc t ≡ l = omega (arith, most, low) in
+            let z : suc t ≡ l = omega arith in
             subst (λ (l : ℕ). IsSpell g T f l → IsDispatch g T f l d → (e +ℤ spell_cost g π f l d) ≤ℤ limits l →
             HasAtMost (ends' l) (e +ℤ spell_cost g π f l d)) z
             (λ spell dispatch under.
@@ -273,9 +266,9 @@ module _ (g : ThermalUnit) (π : PriceLists) (limits : ℕ → ℤ) (unit : IsTh
             dispatch under)) spell dispatch under
       ];
       sound = λ l v low is under. elim (cases_lt l (suc t)) [
-        | inl less ↦ sound_before l v (omega (arith, less)) is under
+        | inl less ↦ sound_before l v (omega arith) is under
         | inr most ↦
-            let z : suc t ≡ l = omega (arith, most, low) in
+            let z : suc t ≡ l = omega arith in
             subst (λ (l : ℕ). ends' l ≡ Some v → v ≤ℤ limits l →
             IsFrom g π T (suc T) ends' firsts' lasts' l v) z (sound_here v) is under
       ];
@@ -296,13 +289,13 @@ module _ (g : ThermalUnit) (π : PriceLists) (some : 1 ≤ length π.energy) (ro
   entry_zero : (ends : ℕ → Option ℤ) (e : ℤ) → IsEntry g ends 0 e → e ≡ pos 0
   entry_zero ends e entry = elim (entry.1) [
     | inl h ↦ h.1
-    | inr h ↦ let f = h.first in absurd (omega (arith, f))
+    | inr h ↦ absurd (omega arith)
   ]
 
   pub least_zero : (ends : ℕ → Option ℤ) → IsLeastEntry g ends 0 0 (pos 0)
   least_zero ends = record {
     entry = inl (refl, refl);
-    least = λ d entry. (let z = entry_zero ends d entry in omega (arith, ints, z));
+    least = λ d entry. (let z = entry_zero ends d entry in omega (arith, ints));
     earliest = λ k entry. omega arith;
   }
 
@@ -313,11 +306,11 @@ module _ (g : ThermalUnit) (π : PriceLists) (some : 1 ≤ length π.energy) (ro
       let z = entry_zero (cost_at rows) e entry in
       let cost : spell_cost g π 0 0 d ≡ pos 0 = sum_from_to-one (net_cost g π d) 0 in
       elim (row_at rows 0) as (λ o. row_at rows 0 ≡ o → HasAtMost (cost_at rows 0) (e +ℤ spell_cost g π 0 0 d)) [
-        | Some r ↦ λ is. (pos 0, zero_cost r is, omega (arith, ints, z, cost))
+        | Some r ↦ λ is. (pos 0, zero_cost r is, omega (arith, ints))
         | None ↦ λ is.
             let h : IsFirstRow g None = subst (IsFirstRow g) is first in
-            let up = spell.min_up (omega (arith, some)) in
-            absurd (at_once_none g π (length π.energy) some (λ stops. h.1 stops (omega (arith, up))) d dispatch)
+            let up = spell.min_up (omega arith) in
+            absurd (at_once_none g π (length π.energy) some (λ stops. h.1 stops (omega arith)) d dispatch)
       ] refl
 
   sound_zero : (v : ℤ) → cost_at rows 0 ≡ Some v → IsFrom g π (length π.energy) (suc (length π.energy)) (cost_at rows)
@@ -335,7 +328,6 @@ module _ (g : ThermalUnit) (π : PriceLists) (some : 1 ≤ length π.energy) (ro
         | false ↦ λ off. inl (off, refl, value)
         | true ↦ λ on.
             let may = h.1 on in
-            let up = may.1 in
             let ended : IsEnded g π (length π.energy) (cost_at rows) 0 0 0 v = record {
               entry_cost = pos 0;
               entry = least_zero (cost_at rows);
@@ -343,18 +335,18 @@ module _ (g : ThermalUnit) (π : PriceLists) (some : 1 ≤ length π.energy) (ro
                 order = omega arith;
                 end = omega arith;
                 goes_on = λ _. on;
-                marks = λ t one from until mark. absurd (omega (arith, one, until));
-                min_up = λ inside. omega (arith, up);
+                marks = λ t one from until mark. absurd (omega arith);
+                min_up = λ inside. omega arith;
               };
               net = pos 0;
               least = at_once_some g π (length π.energy) may.0;
-              cost = omega (arith, ints, value);
+              cost = omega (arith, ints);
             } in
             inr (
-              omega (arith, first_is),
+              omega arith,
               subst (λ (f : ℕ). IsEnded g π (length π.energy) (cost_at rows) f (before_at rows 0) 0 v) (sym first_is)
                   (subst (λ (k : ℕ). IsEnded g π (length π.energy) (cost_at rows) 0 k 0 v) (sym before_is) ended),
-              λ f k e d low spell entry dispatch cost. (let order = spell.order in omega (arith, order)),
+              λ f k e d low spell entry dispatch cost. (let order = spell.order in omega arith),
             )
       ] refl
 
@@ -363,12 +355,12 @@ module _ (g : ThermalUnit) (π : PriceLists) (some : 1 ≤ length π.energy) (ro
   table_begun limits = record {
     idle = λ off. elim (row_at rows 0) as (λ o. row_at rows 0 ≡ o → HasAtMost (cost_at rows 0) (pos 0)) [
       | Some r ↦ λ is. (pos 0, zero_cost r is, omega (arith, ints))
-      | None ↦ λ is. (let h : IsFirstRow g None = subst (IsFirstRow g) is first in let on = h.0 in cc)
+      | None ↦ λ is. (let h : IsFirstRow g None = subst (IsFirstRow g) is first in cc)
     ] refl;
     spell = λ f l e d low spell entry dispatch under.
         let order = spell.order in
-        let z : 0 ≡ l = omega (arith, low) in
-        let y : 0 ≡ f = omega (arith, low, order) in
+        let z : 0 ≡ l = omega arith in
+        let y : 0 ≡ f = omega arith in
         subst (λ (f : ℕ). IsSpell g (length π.energy) f l → IsEntry g (cost_at rows) f e →
         IsDispatch g (length π.energy) f l d → HasAtMost (cost_at rows l) (e +ℤ spell_cost g π f l d)) y
         (subst (λ (l : ℕ). IsSpell g (length π.energy) 0 l → IsEntry g (cost_at rows) 0 e →
@@ -376,7 +368,7 @@ module _ (g : ThermalUnit) (π : PriceLists) (some : 1 ≤ length π.energy) (ro
         (spell_zero e d))
         spell entry dispatch;
     sound = λ l v low is under.
-        let z : 0 ≡ l = omega (arith, low) in
+        let z : 0 ≡ l = omega arith in
         subst (λ (l : ℕ). cost_at rows l ≡ Some v → IsFrom g π (length π.energy) (suc (length π.energy)) (cost_at rows)
         (first_at rows) (before_at rows) l v) z (sound_zero v) is;
     none = λ l above. (let none = rest l above in ap (λ (o : Option Ended). option_map (λ (e : Ended). e.cost) o) none);

@@ -37,10 +37,10 @@ module _ (g : ThermalUnit) (π : PriceLists) (t charge : ℕ) where
       others = λ l other. refl;
       within = within;
       rows_length = refl;
-      goes = λ f r low is. absurd (omega (arith, low));
-      off = λ f low is. absurd (omega (arith, low));
+      goes = λ f r low is. absurd (omega arith);
+      off = λ f low is. absurd (omega arith);
       rest = λ f from. refl;
-      roomy = λ f r low is. absurd (omega (arith, low));
+      roomy = λ f r low is. absurd (omega arith);
       ends = λ v is. cc;
       left = λ f k other. refl;
       keeps = λ most periods have. have;
@@ -50,7 +50,7 @@ module _ (g : ThermalUnit) (π : PriceLists) (t charge : ℕ) where
     at_last : (P : ℕ → Type 0) (n f : ℕ) → f < suc n → (f < n → P f) → P n → P f
     at_last P n f low before here = elim (cases_lt f n) [
       | inl less ↦ before less
-      | inr most ↦ let z : n ≡ f = omega (arith, most, low) in subst P z here
+      | inr most ↦ let z : n ≡ f = omega arith in subst P z here
     ]
 
     pub run_more : (n : ℕ) (rows rows' : List (Option Ended)) (runners runners' : List Runner) →
@@ -60,7 +60,7 @@ module _ (g : ThermalUnit) (π : PriceLists) (t charge : ℕ) where
         let here : live_at runners n ≡ live_at runners₀ n = ap going_of
         (so_far.rest n (omega arith)) in
         let same : (f : ℕ) → f < n → slice_get runners' f ≡ slice_get runners f = λ f less.
-        one.rest f (λ z. omega (arith, z, less)) in
+        one.rest f (λ z. omega arith) in
         let next : suc n ≡ n + 1 = omega arith in
         subst (λ (m : ℕ). IsRunTo m rows' runners') next (record {
           row = one.more.row (live_at runners₀) (sym here) so_far.row;
@@ -76,7 +76,7 @@ module _ (g : ThermalUnit) (π : PriceLists) (t charge : ℕ) where
               live_at runners' f ≡ None) n f low
               (λ less is. ap going_of (same f less) ∙ so_far.off f less is)
               (λ is. one.off (here ∙ is));
-          rest = λ f from. one.rest f (λ z. omega (arith, z, from)) ∙ so_far.rest f (omega (arith, from));
+          rest = λ f from. one.rest f (λ z. omega arith) ∙ so_far.rest f (omega arith);
           roomy = λ f r low. at_last (λ (f : ℕ). slice_get runners' f ≡ Some r →
               IsRoomy (length π.energy) (suc t) charge r) n f low
               (λ less is. so_far.roomy f r less (sym (same f less) ∙ is))
@@ -115,7 +115,7 @@ module _ (g : ThermalUnit) (π : PriceLists) (t charge : ℕ) where
               places = (roomy₀ f r before).places;
               rest = λ on.
                   let low = none f _ (ap going_of before ∙ going_on r on) in
-                  absurd (omega (arith, low, from));
+                  absurd (omega arith);
             }
       ]
 
@@ -175,7 +175,7 @@ module _ (runners : List Runner) (i : ℕ) (low : i < length runners) where
   read_on x is r on =
       let s = on_some (slice_get runners i) r on in
       let at = read_at x is in
-      let same : x ≡ s.0 = (let a = s.1 in cc) in
+      let same : x ≡ s.0 = (cc) in
       ap (λ (r : Runner). r.is_on) same ∙ s.2
 
   module _ (g : ThermalUnit) (π : PriceLists) (t charge : ℕ) (rows rows' : List (Option Ended))
@@ -221,9 +221,7 @@ module _ (runners : List Runner) (i : ℕ) (low : i < length runners) where
                   (λ r. (most ≤ room_of r.running) × (periods ≤ places_of r))
                   (let there = (have i (get_or runners i d) at).0 in
                   let long = (have i (get_or runners i d) at).1 in
-                  let fits = same.0 in
-                  let places = same.1 in
-                  (omega (arith, there, fits), omega (arith, long, places))) have;
+                  (omega arith, omega arith)) have;
               count_same = length-set runners i b;
             }
 

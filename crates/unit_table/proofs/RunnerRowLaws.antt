@@ -10,8 +10,8 @@ use Rattle.unit_table.proofs.BeginLaws.{at_most_more}
 module _ (g : ThermalUnit) (π : PriceLists) (periods : ℕ) (live : ℕ → Option Going) (n l : ℕ) where
   pub row_none : (end : Option ℤ) (first before : ℕ) → end ≡ None → IsRowOf g π periods live 0 l end first before
   row_none end first before none = record {
-    most = λ f r d low on spell dispatch. absurd (omega (arith, low));
-    latest = λ f r d low on spell dispatch is. absurd (omega (arith, low));
+    most = λ f r d low on spell dispatch. absurd (omega arith);
+    latest = λ f r d low on spell dispatch is. absurd (omega arith);
     sound = λ v is. cc;
   }
 
@@ -19,7 +19,7 @@ module _ (g : ThermalUnit) (π : PriceLists) (periods : ℕ) (live : ℕ → Opt
   at_last : (P : ℕ → Type 0) (f : ℕ) → f < suc n → (f < n → P f) → P n → P f
   at_last P f low before here = elim (cases_lt f n) [
     | inl less ↦ before less
-    | inr most ↦ let z : n ≡ f = omega (arith, most, low) in subst P z here
+    | inr most ↦ let z : n ≡ f = omega arith in subst P z here
   ]
 
   -- the runner has no spell to this row
@@ -35,7 +35,7 @@ module _ (g : ThermalUnit) (π : PriceLists) (periods : ℕ) (live : ℕ → Opt
         end ≡ Some (r.cost +ℤ spell_cost g π f l d) → f ≤ first) f low
         (λ less on spell dispatch is. row.latest f r d less on spell dispatch is)
         (λ on spell dispatch is. absurd (none r d on spell dispatch));
-    sound = λ v is. (let h = row.sound v is in let low = h.2 in (h.0, h.1, omega (arith, low), h.3, h.4, h.5));
+    sound = λ v is. (let h = row.sound v is in let low = h.2 in (h.0, h.1, omega arith, h.3, h.4, h.5));
   }
 
   -- it has one, which is put into the row
@@ -59,34 +59,33 @@ module _ (g : ThermalUnit) (π : PriceLists) (periods : ℕ) (live : ℕ → Opt
         let low = least.least d dispatch in
         let same = same_cost x is in
         at_most_more (cost_at rows' l) ended.cost (x.cost +ℤ spell_cost g π n l d) added
-        (omega (arith, ints, low, same, cost))
+        (omega (arith, ints))
 
     -- the row stays, so it costs less than the spell; or the spell is named
     latest_here : (v : ℤ) → cost_at rows' l ≡ Some v → ended.cost ≤ℤ v → first_at rows' l ≡ n
     latest_here v is low =
-        let value : added.0 ≡ v = (let a = added.1 in cc) in
-        let high = added.2 in
-        let same : v ≡ ended.cost = omega (arith, ints, value, high, low) in
+        let value : added.0 ≡ v = (cc) in
+        let same : v ≡ ended.cost = omega (arith, ints) in
         first-is rows' l ended (latest (is ∙ ap Some same)) ∙ begins
 
     latest_at : (f : ℕ) (x : Going) (d : Schedule) → f < suc n → live f ≡ Some x → IsSpell g periods f l →
         IsDispatch g periods f l d → cost_at rows' l ≡ Some (x.cost +ℤ spell_cost g π f l d) → f ≤ first_at rows' l
     latest_at f x d low is spell' dispatch end = elim here [
-      | inr named ↦ (let first = first-is rows' l ended named in omega (arith, first, begins, low))
+      | inr named ↦ (let first = first-is rows' l ended named in omega arith)
       | inl same ↦
           let first = first-same rows' rows l l same in
           elim (cases_lt f n) [
             | inl less ↦ (let before = row.latest f x d less is spell' dispatch
-                (sym (cost-same rows' rows l l same) ∙ end) in omega (arith, before, first))
+                (sym (cost-same rows' rows l l same) ∙ end) in omega arith)
             | inr most ↦
-                let z : f ≡ n = omega (arith, most, low) in
+                let z : f ≡ n = omega arith in
                 let on' : live n ≡ Some x = subst (λ (f : ℕ). live f ≡ Some x) z is in
                 let under = least.least d (subst (λ (f : ℕ). IsDispatch g periods f l d) z dispatch) in
                 let equal = ap (λ (f : ℕ). spell_cost g π f l d) z in
                 let entry = same_cost x on' in
                 let named = latest_here (x.cost +ℤ spell_cost g π f l d) end
-                (omega (arith, ints, under, equal, entry, cost)) in
-                omega (arith, named, z)
+                (omega (arith, ints)) in
+                omega arith
           ]
     ]
 
@@ -105,7 +104,7 @@ module _ (g : ThermalUnit) (π : PriceLists) (periods : ℕ) (live : ℕ → Opt
             let low = h.2 in (
               h.0,
               ap live first ∙ h.1,
-              omega (arith, low, first),
+              omega arith,
               h.3 ∙ sym before,
               subst (λ (f : ℕ). IsSpell g periods f l) (sym first) h.4,
               subst (λ (f : ℕ). (c : ℤ) × IsLeastSpell g π periods f l c × (v ≡ h.0.cost +ℤ c)) (sym first) h.5,
@@ -116,7 +115,7 @@ module _ (g : ThermalUnit) (π : PriceLists) (periods : ℕ) (live : ℕ → Opt
             let value : ended.cost ≡ v = (let a = cost-is rows' l ended named in cc) in (
               r,
               ap live first ∙ on,
-              omega (arith, first),
+              omega arith,
               sym after ∙ sym before,
               subst (λ (f : ℕ). IsSpell g periods f l) (sym first) spell,
               subst (λ (f : ℕ). (c : ℤ) × IsLeastSpell g π periods f l c × (v ≡ r.cost +ℤ c)) (sym first)
@@ -134,7 +133,7 @@ module _ (g : ThermalUnit) (π : PriceLists) (live : ℕ →
 
   spell_of : May → IsSpell g (length π.energy) n (suc t)
   spell_of may = record
-      { order = order; end = omega (arith, within); goes_on = may_be.goes_on; marks = may_be.marks; min_up = may }
+      { order = order; end = omega arith; goes_on = may_be.goes_on; marks = may_be.marks; min_up = may }
 
   pub row_end : (net : Option ℤ) → (May → IsSpellAnswer g π (length π.energy) n (suc t) net) → IfSome net (λ _. May) →
       IfNone net (rows' ≡ rows) →

@@ -16,7 +16,7 @@ level_start g d t = rw (lt-ltb t (suc t) (omega arith))
 
 pub may_less : (g : ThermalUnit) (first t u : ℕ) → u ≤ t → MayBeOn g first t → MayBeOn g first u
 may_less g first t u low may = record
-    { goes_on = may.goes_on; marks = λ k one from until. may.marks k one from (omega (arith, until, low)) }
+    { goes_on = may.goes_on; marks = λ k one from until. may.marks k one from (omega arith) }
 
 -- a period more, which isn't marked `MustOff`
 pub may_next : (g : ThermalUnit) (first t : ℕ) → (mark_in g.window (suc t) ≡ MustOff → ⊥) → MayBeOn g first t →
@@ -24,8 +24,8 @@ pub may_next : (g : ThermalUnit) (first t : ℕ) → (mark_in g.window (suc t) �
 may_next g first t open_next may = record {
   goes_on = may.goes_on;
   marks = λ k one from until mark. elim (cases_lt k (suc t)) [
-    | inl less ↦ may.marks k one from (omega (arith, less)) mark
-    | inr most ↦ let z : k ≡ suc t = omega (arith, most, until) in open_next
+    | inl less ↦ may.marks k one from (omega arith) mark
+    | inr most ↦ let z : k ≡ suc t = omega arith in open_next
         (subst (λ (k : ℕ). mark_in g.window k ≡ MustOff) z mark)
   ];
 }
@@ -34,13 +34,13 @@ may_next g first t open_next may = record {
 pub longer_on : (g : ThermalUnit) (early late l : ℕ) → early ≤ late → late ≤ l → on_time g late l ≤ on_time g early l
 longer_on g zero zero l low until = omega arith
 longer_on g zero (suc b) l low until = omega arith
-longer_on g (suc a) zero l low until = absurd (omega (arith, low))
-longer_on g (suc a) (suc b) l low until = omega (arith, low)
+longer_on g (suc a) zero l low until = absurd (omega arith)
+longer_on g (suc a) (suc b) l low until = omega arith
 
 -- and it grows by the period
 pub on_time_rises : (g : ThermalUnit) (first l m : ℕ) → l ≤ m → on_time g first l ≤ on_time g first m
-on_time_rises g zero l m low = omega (arith, low)
-on_time_rises g (suc a) l m low = omega (arith, low)
+on_time_rises g zero l m low = omega arith
+on_time_rises g (suc a) l m low = omega arith
 
 -- where a spell has begun, another period of it is another cost
 pub one_more_cost : (g : ThermalUnit) (π : PriceLists) (first t : ℕ) (d : Schedule) → first ≤ suc t →
@@ -48,7 +48,7 @@ pub one_more_cost : (g : ThermalUnit) (π : PriceLists) (first t : ℕ) (d : Sch
 one_more_cost g π first t d from = sum_from_to-more (net_cost g π d) first t from
 
 run_less : (g : ThermalUnit) (first t : ℕ) (d : Schedule) → IsRun g first (suc t) d → IsRun g first t d
-run_less g first t d run k from until = run k from (omega (arith, until))
+run_less g first t d run k from until = run k from (omega arith)
 
 module _ (g : ThermalUnit) (π : PriceLists) (limits : ℕ → ℤ) (ends : ℕ → Option ℤ) (t : ℕ) (live live' : ℕ →
     Option Going) where
@@ -58,10 +58,10 @@ module _ (g : ThermalUnit) (π : PriceLists) (limits : ℕ → ℤ) (ends : ℕ 
     -- no spell may begin there
     pub none_starts : ((e : ℤ) → IsEntry g ends (suc t) e → ⊥) → AreRunners g π limits ends live t (suc (suc t))
     none_starts none = record {
-      right = λ f r is. (let h = now.right f r is in let low = h.0 in (omega (arith, low), h.1));
+      right = λ f r is. (let h = now.right f r is in let low = h.0 in (omega arith, h.1));
       all = λ f e d low may entry run under. elim (cases_lt f (suc t)) [
         | inl less ↦ now.all f e d less may entry run under
-        | inr most ↦ let z : f ≡ suc t = omega (arith, most, low) in absurd
+        | inr most ↦ let z : f ≡ suc t = omega arith in absurd
             (none e (subst (λ (f : ℕ). IsEntry g ends f e) z entry))
       ];
     }
@@ -71,11 +71,11 @@ module _ (g : ThermalUnit) (π : PriceLists) (limits : ℕ → ℤ) (ends : ℕ 
         live other ≡ Some r → value_of r.function g.min_power ≡ Some v →
         ((r.cost +ℤ v) +ℤ pos 1) ≤ℤ e → AreRunners g π limits ends live t (suc (suc t))
     start_undercut last e least other r v on there cheap = record {
-      right = λ f r is. (let h = now.right f r is in let low = h.0 in (omega (arith, low), h.1));
+      right = λ f r is. (let h = now.right f r is in let low = h.0 in (omega arith, h.1));
       all = λ f e' d low may entry run under. elim (cases_lt f (suc t)) [
         | inl less ↦ now.all f e' d less may entry run under
         | inr most ↦
-            let z : suc t ≡ f = omega (arith, most, low) in
+            let z : suc t ≡ f = omega arith in
             subst (λ (f : ℕ). IsEntry g ends f e' → HasStandIn g π live t f e' d) z
             (λ entry. (
             let bound = least.least e' entry in
@@ -87,12 +87,11 @@ module _ (g : ThermalUnit) (π : PriceLists) (limits : ℕ → ℤ) (ends : ℕ 
               value = v;
               on = on;
               there = ap (value_of r.function) (level_start g d t) ∙ there;
-              cheap = omega (arith, ints, cheap, bound, nothing);
-              later = inr (omega (arith, ints, cheap, bound, nothing));
+              cheap = omega (arith, ints);
+              later = inr (omega (arith, ints));
               long = λ l above up.
-                  (let longer = longer_on g other (suc t) l (omega (arith, begun)) (omega (arith, above)) in omega
-                  (arith, longer, up));
-              begun = inl (omega (arith, begun));
+                  (let longer = longer_on g other (suc t) l (omega arith) (omega arith) in omega arith);
+              begun = inl (omega arith);
             })) entry
       ];
     }
@@ -104,11 +103,11 @@ module _ (g : ThermalUnit) (π : PriceLists) (limits : ℕ → ℤ) (ends : ℕ 
       right = λ f x is. elim (cases_eq f (suc t)) [
         | inl z ↦
             let here : r ≡ x = (let a = ap live' z in cc) in (
-              omega (arith, z),
+              omega arith,
               subst (λ (x : Going). IsRunner g π ends t f x) here
                   (subst (λ (f : ℕ). IsRunner g π ends t f r) (sym z) runner),
             )
-        | inr other ↦ (let h = now.right f x (sym (same f other) ∙ is) in let low = h.0 in (omega (arith, low), h.1))
+        | inr other ↦ (let h = now.right f x (sym (same f other) ∙ is) in let low = h.0 in (omega arith, h.1))
       ];
       all = λ f e' d low may entry run under. elim (cases_lt f (suc t)) [
         | inl less ↦
@@ -118,7 +117,7 @@ module _ (g : ThermalUnit) (π : PriceLists) (limits : ℕ → ℤ) (ends : ℕ 
               other = s.other;
               going = s.going;
               value = s.value;
-              on = same s.other (λ z. omega (arith, z, begun)) ∙ s.on;
+              on = same s.other (λ z. omega arith) ∙ s.on;
               there = s.there;
               cheap = s.cheap;
               later = s.later;
@@ -126,19 +125,18 @@ module _ (g : ThermalUnit) (π : PriceLists) (limits : ℕ → ℤ) (ends : ℕ 
               begun = s.begun;
             }
         | inr most ↦
-            let z : suc t ≡ f = omega (arith, most, low) in
+            let z : suc t ≡ f = omega arith in
             subst (λ (f : ℕ). IsEntry g ends f e' → HasStandIn g π live' t f e' d) z
             (λ entry. (
             let bound = runner.entry.least e' entry in
-            let v = runner.frontier.complete d (λ k from until. absurd (omega (arith, from, until))) in
-            let high = v.2 in
+            let v = runner.frontier.complete d (λ k from until. absurd (omega arith)) in
             record {
               other = suc t;
               going = r;
               value = v.0;
               on = begins;
               there = v.1;
-              cheap = omega (arith, ints, high, bound);
+              cheap = omega (arith, ints);
               later = inl (omega arith);
               long = λ l above up. up;
               begun = inr refl;
@@ -150,17 +148,17 @@ module _ (g : ThermalUnit) (π : PriceLists) (limits : ℕ → ℤ) (ends : ℕ 
     pub starts_beyond : ((e : ℤ) → IsEntry g ends (suc t) e → (limits t +ℤ pos 1) ≤ℤ e) →
         AreRunners g π limits ends live t (suc (suc t))
     starts_beyond beyond = record {
-      right = λ f r is. (let h = now.right f r is in let low = h.0 in (omega (arith, low), h.1));
+      right = λ f r is. (let h = now.right f r is in let low = h.0 in (omega arith, h.1));
       all = λ f e d low may entry run under. elim (cases_lt f (suc t)) [
         | inl less ↦ now.all f e d less may entry run under
         | inr most ↦
-            let z : suc t ≡ f = omega (arith, most, low) in
+            let z : suc t ≡ f = omega arith in
             subst (λ (f : ℕ). IsEntry g ends f e → (e +ℤ spell_cost g π f t d) ≤ℤ limits t →
             HasStandIn g π live t f e d) z
             (λ entry under. (
             let above = beyond e entry in
             let nothing : spell_cost g π (suc t) t d ≡ pos 0 = sum_from_to-none (net_cost g π d) t in
-            absurd (omega (arith, ints, above, nothing, under)))) entry under
+            absurd (omega (arith, ints)))) entry under
       ];
     }
 
@@ -168,7 +166,7 @@ module _ (g : ThermalUnit) (π : PriceLists) (limits : ℕ → ℤ) (ends : ℕ 
     pub start_beyond : (last : ℕ) (e : ℤ) → IsLeastEntry g ends (suc t) last e → (limits t +ℤ pos 1) ≤ℤ e →
         AreRunners g π limits ends live t (suc (suc t))
     start_beyond last e least beyond = starts_beyond
-        (λ e' entry. (let bound = least.least e' entry in omega (arith, ints, beyond, bound)))
+        (λ e' entry. (let bound = least.least e' entry in omega (arith, ints)))
 
   -- ---- a runner goes
 
@@ -184,7 +182,6 @@ module _ (g : ThermalUnit) (π : PriceLists) (limits : ℕ → ℤ) (ends : ℕ 
       ];
       all = λ f e d low may entry run under.
           let s = now.all f e d low may entry run under in
-          let cheap = s.cheap in
           elim (cases_eq s.other gone_first) [
             | inr other ↦ record {
               other = s.other;
@@ -198,12 +195,12 @@ module _ (g : ThermalUnit) (π : PriceLists) (limits : ℕ → ℤ) (ends : ℕ 
               begun = s.begun;
             }
             | inl z ↦
-                let here : s.going ≡ a = (let i = s.on in let j = ap live z in cc) in
+                let here : s.going ≡ a = (let j = ap live z in cc) in
                 let cost : s.going.cost ≡ a.cost = ap (λ (r : Going). r.cost) here in
                 let there : value_of a.function (level g f d t) ≡ Some s.value = subst
                 (λ (r : Going). value_of r.function (level g f d t) ≡ Some s.value) here s.there in
                 let above = beyond (level g f d t) s.value there in
-                absurd (omega (arith, ints, above, cost, cheap, under))
+                absurd (omega (arith, ints))
           ];
     }
 
@@ -222,7 +219,6 @@ module _ (g : ThermalUnit) (π : PriceLists) (limits : ℕ → ℤ) (ends : ℕ 
       ];
       all = λ f e d low may entry run under.
           let s = now.all f e d low may entry run under in
-          let cheap = s.cheap in
           elim (cases_eq s.other early) [
             | inr other ↦ record {
               other = s.other;
@@ -236,25 +232,24 @@ module _ (g : ThermalUnit) (π : PriceLists) (limits : ℕ → ℤ) (ends : ℕ 
               begun = s.begun;
             }
             | inl z ↦
-                let here : s.going ≡ a = (let i = s.on in let j = ap live z in cc) in
+                let here : s.going ≡ a = (let j = ap live z in cc) in
                 let cost : s.going.cost ≡ a.cost = ap (λ (r : Going). r.cost) here in
                 let there : value_of a.function (level g f d t) ≡ Some s.value = subst
                 (λ (r : Going). value_of r.function (level g f d t) ≡ Some s.value) here s.there in
                 let u = below (level g f d t) s.value there in
-                let beneath = u.2 in
                 record {
                   other = late;
                   going = b;
                   value = u.0;
-                  on = same late (λ w. omega (arith, w, order)) ∙ on_late;
+                  on = same late (λ w. omega arith) ∙ on_late;
                   there = u.1;
-                  cheap = omega (arith, ints, beneath, cost, cheap);
+                  cheap = omega (arith, ints);
                   later = elim (s.later) [
-                    | inl from ↦ inl (omega (arith, from, z, order))
-                    | inr less ↦ inr (omega (arith, ints, beneath, cost, less))
+                    | inl from ↦ inl (omega arith)
+                    | inr less ↦ inr (omega (arith, ints))
                   ];
                   long = λ l above up.
-                      (let more = on_time_rises g late (suc t) l (omega (arith, above)) in omega (arith, more, long));
+                      (let more = on_time_rises g late (suc t) l (omega arith) in omega arith);
                   begun = inl begun;
                 }
           ];
@@ -274,7 +269,7 @@ module _ (g : ThermalUnit) (π : PriceLists) (limits : ℕ → ℤ) (ends : ℕ 
           let h = goes f r on in
           let low = old.0 in
           elim (h.next_is) [
-            | inr gone ↦ (let none = gone.0 in cc)
+            | inr gone ↦ (cc)
             | inl here ↦
                 let new : Going = record { before = r.before; cost = r.cost; function = h.function; left = h.left } in
                 let z : new ≡ x = (cc) in
@@ -282,7 +277,7 @@ module _ (g : ThermalUnit) (π : PriceLists) (limits : ℕ → ℤ) (ends : ℕ 
                   entry = old.1.entry;
                   frontier = h.frontier;
                   may = may_next g f t open_next old.1.may;
-                  order = omega (arith, low);
+                  order = omega arith;
                   within = old.1.within;
                   noted = noted_more g π f t r.function h.function r.left h.left old.1.frontier h.frontier h.kept
                       h.noted old.1.noted;
@@ -308,7 +303,7 @@ module _ (g : ThermalUnit) (π : PriceLists) (limits : ℕ → ℤ) (ends : ℕ 
             w.1,
             w.2,
           )
-          | inr gone ↦ (let none = gone.1 (level g f d (suc t)) in let some = w.1 in cc)
+          | inr gone ↦ (let none = gone.1 (level g f d (suc t)) in cc)
         ]
 
     -- what is within the limit a period later has a runner that stands for it before
@@ -317,42 +312,38 @@ module _ (g : ThermalUnit) (π : PriceLists) (limits : ℕ → ℤ) (ends : ℕ 
     all_before f e d low may entry run under =
         now.all f e d low (may_less g f (suc t) t (omega arith) may) entry (run_less g f t d run)
         (before_low e (spell_cost g π f t d) (spell_cost g π f (suc t) d) (net_cost g π d (suc t)) (limits t)
-        (limits (suc t)) (one_more_cost g π f t d (omega (arith, low)))
+        (limits (suc t)) (one_more_cost g π f t d (omega arith))
         (limits_right.step t d within
-        (move_in_range g (f == suc t) false (level g f d t) d t (run t (omega (arith, low)) (omega arith)))) under)
+        (move_in_range g (f == suc t) false (level g f d t) d t (run t (omega arith) (omega arith)))) under)
 
     all_more : (f : ℕ) (e : ℤ) (d : Schedule) → f < suc (suc t) → MayBeOn g f (suc t) → IsEntry g ends f e →
         IsRun g f (suc t) d → (e +ℤ spell_cost g π f (suc t) d) ≤ℤ limits (suc t) → HasStandIn g π live' (suc t) f e d
     all_more f e d low may entry run low_cost =
         let s = all_before f e d low may entry run low_cost in
-        let more = one_more_cost g π f t d (omega (arith, low)) in
-        let cheap = s.cheap in
+        let more = one_more_cost g π f t d (omega arith) in
         let order = (now.right s.other s.going s.on).0 in
         elim (s.begun) [
           | inl begun ↦
               let r = value_more f e d s.other s.going ((s.going.cost +ℤ s.value) +ℤ net_cost g π d (suc t)) s.on run
               (goes s.other s.going s.on)
               (λ h front. (
-              let j = go g π f s.other t s.going.function d s.value (omega (arith, low)) begun within
+              let j = go g π f s.other t s.going.function d s.value (omega arith) begun within
               (now.right s.other s.going s.on).1.frontier s.there run in
               let w = front.complete j.run j.keeps in
-              let high = w.2 in
-              let cost = j.cost in
-              (w.0, ap (value_of h) (sym j.ends) ∙ w.1, omega (arith, ints, high, cost)))) in
-              let under = r.4 in
+              (w.0, ap (value_of h) (sym j.ends) ∙ w.1, omega (arith, ints)))) in
               record {
                 other = s.other;
                 going = r.0;
                 value = r.1;
                 on = r.2;
                 there = r.3;
-                cheap = omega (arith, ints, under, more, cheap);
+                cheap = omega (arith, ints);
                 later = elim (s.later) [
                   | inl from ↦ inl from
-                  | inr less ↦ inr (omega (arith, ints, under, more, less))
+                  | inr less ↦ inr (omega (arith, ints))
                 ];
-                long = λ l above up. s.long l (omega (arith, above)) up;
-                begun = inl (omega (arith, begun));
+                long = λ l above up. s.long l (omega arith) up;
+                begun = inl (omega arith);
               }
           | inr same ↦
               let bound = (now.right s.other s.going s.on).1.entry.least e
@@ -361,8 +352,7 @@ module _ (g : ThermalUnit) (π : PriceLists) (limits : ℕ → ℤ) (ends : ℕ 
               (goes s.other s.going s.on)
               (λ h front. (
               let w = (subst (λ (f : ℕ). IsFrontier g π f (suc t) h) same front).complete d run in
-              let high = w.2 in
-              (w.0, w.1, omega (arith, ints, high, bound)))) in
+              (w.0, w.1, omega (arith, ints)))) in
               record {
                 other = s.other;
                 going = r.0;
@@ -370,8 +360,8 @@ module _ (g : ThermalUnit) (π : PriceLists) (limits : ℕ → ℤ) (ends : ℕ 
                 on = r.2;
                 there = r.3;
                 cheap = r.4;
-                later = inl (omega (arith, same));
-                long = λ l above up. s.long l (omega (arith, above)) up;
+                later = inl (omega arith);
+                long = λ l above up. s.long l (omega arith) up;
                 begun = inr same;
               }
         ]

@@ -27,22 +27,20 @@ module _ (g : ThermalUnit) (π : PriceLists) (limits : ℕ → ℤ) (ends : ℕ 
   begun_runner : IsRunner g π ends t (suc t) going
   unfolding going
   begun_runner =
-      let k : i - 1 ≡ t = omega (arith, z) in
-      let lo = within.at_least in
-      let hi = within.at_most in
+      let k : i - 1 ≡ t = omega arith in
       record {
         entry = subst (λ (x : ℤ). IsLeastEntry g ends (suc t) a.before x) (sym cost)
             (subst (λ (b : ℕ). IsLeastEntry g ends (suc t) b e) (sym before) least);
         frontier = subst (λ (f : ℕ). IsFrontier g π f t (shown a.running)) z
             (subst (λ (u : ℕ). IsFrontier g π i u (shown a.running)) k frontier);
         may = record {
-          goes_on = λ none. absurd (omega (arith, none));
+          goes_on = λ none. absurd (omega arith);
           marks = λ m one from until mark.
-              absurd (omega (arith, from, until));
+              absurd (omega arith);
         };
         order = omega arith;
-        within = record { at_least = omega (arith, ints, lo, cost); at_most = omega (arith, ints, hi, cost) };
-        noted = λ x v there k from until. absurd (omega (arith, from, until));
+        within = record { at_least = omega (arith, ints); at_most = omega (arith, ints) };
+        noted = λ x v there k from until. absurd (omega arith);
       }
 
   pub started : AreRunners g π limits ends (live_at runners) t (suc t) →
@@ -56,7 +54,7 @@ module _ (g : ThermalUnit) (π : PriceLists) (limits : ℕ → ℤ) (ends : ℕ 
 entry_zero : (g : ThermalUnit) (ends : ℕ → Option ℤ) (e : ℤ) → IsEntry g ends 0 e → e ≡ pos 0
 entry_zero g ends e entry = elim (entry.1) [
   | inl h ↦ h.1
-  | inr h ↦ let f = h.first in absurd (omega (arith, f))
+  | inr h ↦ absurd (omega arith)
 ]
 
 module _ (g : ThermalUnit) (π : PriceLists) (limits : ℕ → ℤ) (ends : ℕ →
@@ -64,7 +62,7 @@ module _ (g : ThermalUnit) (π : PriceLists) (limits : ℕ → ℤ) (ends : ℕ 
   pub none_goes_on : IsFalse g.on0 → AreRunners g π limits ends (live_at runners) 0 1
   none_goes_on off0 = record {
     right = λ f r is. (let none = off f in cc);
-    all = λ f e d low may entry run under. (let on = may.goes_on (omega (arith, low)) in cc);
+    all = λ f e d low may entry run under. (let on = may.goes_on (omega arith) in cc);
   }
 
   module _ (a : Runner) (low : 0 < length runners) (on0 : IsTrue g.on0) (on : a.is_on ≡ true) (cost : a.cost ≡ pos 0)
@@ -81,21 +79,20 @@ module _ (g : ThermalUnit) (π : PriceLists) (limits : ℕ → ℤ) (ends : ℕ 
     runner = record {
       entry = record {
         entry = inl (refl, cost);
-        least = λ d entry. (let z = entry_zero g ends d entry in omega (arith, ints, z, cost));
-        earliest = λ k entry. omega (arith, before);
+        least = λ d entry. (let z = entry_zero g ends d entry in omega (arith, ints));
+        earliest = λ k entry. omega arith;
       };
       frontier = front;
-      may = record { goes_on = λ none. on0; marks = λ m one from until mark. absurd (omega (arith, one, until)) };
+      may = record { goes_on = λ none. on0; marks = λ m one from until mark. absurd (omega arith) };
       order = omega arith;
-      within = record { at_least = omega (arith, ints, cost); at_most = omega (arith, ints, cost) };
-      noted = λ x v there k from until. absurd (omega (arith, until));
+      within = record { at_least = omega (arith, ints); at_most = omega (arith, ints) };
+      noted = λ x v there k from until. absurd (omega arith);
     }
 
     stand_in : (e : ℤ) (d : Schedule) → IsEntry g ends 0 e →
         HasStandIn g π (live_at (slice_set runners 0 a)) 0 0 e d
     stand_in e d entry =
-        let v = front.complete d (λ k from until. absurd (omega (arith, until))) in
-        let high = v.2 in
+        let v = front.complete d (λ k from until. absurd (omega arith)) in
         let z = entry_zero g ends e entry in
         record {
           other = 0;
@@ -108,7 +105,7 @@ module _ (g : ThermalUnit) (π : PriceLists) (limits : ℕ → ℤ) (ends : ℕ 
           value = v.0;
           on = here;
           there = v.1;
-          cheap = omega (arith, ints, high, z, cost);
+          cheap = omega (arith, ints);
           later = inl (omega arith);
           long = λ l above up. up;
           begun = inl (omega arith);
@@ -125,7 +122,7 @@ module _ (g : ThermalUnit) (π : PriceLists) (limits : ℕ → ℤ) (ends : ℕ 
               left = passed_at a.passed.items;
             } ≡ r =
             (let h = here in let k = ap (live_at (slice_set runners 0 a)) z in cc) in (
-              omega (arith, z),
+              omega arith,
               subst (λ (f : ℕ). IsRunner g π ends 0 f r) (sym z)
                   (subst (λ (r : Going). IsRunner g π ends 0 0 r) same runner),
             )
@@ -133,7 +130,7 @@ module _ (g : ThermalUnit) (π : PriceLists) (limits : ℕ → ℤ) (ends : ℕ 
             off f in cc)
       ];
       all = λ f e d low may entry run under.
-          let z : 0 ≡ f = omega (arith, low) in
+          let z : 0 ≡ f = omega arith in
           subst (λ (f : ℕ). IsEntry g ends f e → HasStandIn g π (live_at (slice_set runners 0 a)) 0 f e d) z
           (stand_in e d) entry;
     }
@@ -146,5 +143,5 @@ pub all_stop : (g : ThermalUnit) (π : PriceLists) (limits : ℕ → ℤ) (ends 
 all_stop g π limits ends live t off mark = record {
   right = λ f r is. (let none = off f in cc);
   all = λ f e d low may entry run under. absurd
-      (may.marks (suc t) (omega arith) (omega (arith, low)) (omega arith) mark);
+      (may.marks (suc t) (omega arith) (omega arith) (omega arith) mark);
 }

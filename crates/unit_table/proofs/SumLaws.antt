@@ -10,8 +10,8 @@ module _ (f : ℕ → ℤ) where
   pub sum_from_to-more : (first last : ℕ) → first ≤ suc last →
       sum_from_to f first (suc last) ≡ sum_from_to f first last +ℤ f (suc last)
   sum_from_to-more first last order =
-      let e : suc (suc last) - first ≡ suc (suc last - first) = omega (arith, order) in
-      let place : first + (suc last - first) ≡ suc last = omega (arith, order) in
+      let e : suc (suc last) - first ≡ suc (suc last - first) = omega arith in
+      let place : first + (suc last - first) ≡ suc last = omega arith in
       ap (λ n. sum_below n (λ k. f (first + k))) e ∙ ap (λ k. sum_below (suc last - first) (λ k. f (first + k)) +ℤ f k)
       place
 
@@ -21,4 +21,4 @@ module _ (f : ℕ → ℤ) where
       let place : first + 0 ≡ first = omega arith in
       let one = ap (λ n. sum_below n (λ k. f (first + k))) e in
       let there = ap f place in
-      omega (arith, ints, one, there)
+      omega (arith, ints)

@@ -14,7 +14,7 @@ before_some : (g : ThermalUnit) (π : PriceLists) (first t : ℕ) (f h : Table) 
     IsFrontier g π first (suc t) h → value_of h x ≡ Some v → (y w : ℤ) × (value_of f y ≡ Some w)
 before_some g π first t f h x v front next there =
     let r = next.sound x v there in
-    let c = front.complete r.run (λ k from until. r.keeps k from (omega (arith, until))) in
+    let c = front.complete r.run (λ k from until. r.keeps k from (omega arith)) in
     (_, c.0, c.1)
 
 pub noted_more : (g : ThermalUnit) (π : PriceLists) (first t : ℕ) (f h : Table) (left left' : ℕ → Passed) →
@@ -24,9 +24,9 @@ pub noted_more : (g : ThermalUnit) (π : PriceLists) (first t : ℕ) (f h : Tabl
 noted_more g π first t f h left left' front next kept noted old x v there k from until =
     let b = before_some g π first t f h x v front next there in
     elim (cases_lt k t) [
-      | inl less ↦ subst (λ (p : Passed). IsOnNoted g π first k p.note) (sym (kept k (λ z. omega (arith, z, less))))
+      | inl less ↦ subst (λ (p : Passed). IsOnNoted g π first k p.note) (sym (kept k (λ z. omega arith)))
           (old b.0 b.1 b.2 k from less)
-      | inr most ↦ let z : t ≡ k = omega (arith, most, until) in subst (λ (j : ℕ). IsOnNoted g π first j (left' j).note)
+      | inr most ↦ let z : t ≡ k = omega arith in subst (λ (j : ℕ). IsOnNoted g π first j (left' j).note)
           z (noted b.0 b.1 b.2)
     ]
 
@@ -80,9 +80,9 @@ always (Some x) P h = h
 spell_same : (g : ThermalUnit) (π : PriceLists) (first l : ℕ) (p q : ℕ → Passed) → 1 ≤ l →
     ((k : ℕ) → k < l → q k ≡ p k) → IsSpellNoted g π first l p → IsSpellNoted g π first l q
 spell_same g π first l p q one same h =
-    let e = same (l - 1) (omega (arith, one)) in
+    let e = same (l - 1) (omega arith) in
     record {
-      on = λ k from until. subst (λ (p : Passed). IsOnNoted g π first k p.note) (sym (same k (omega (arith, until))))
+      on = λ k from until. subst (λ (p : Passed). IsOnNoted g π first k p.note) (sym (same k (omega arith)))
           (h.on k from until);
       lowest = h.lowest;
       is_end = ap (λ (p : Passed). p.end) e ∙ h.is_end;
@@ -98,8 +98,8 @@ ways_same g π t ends firsts left left' same ways l v one until is = spell_same 
 pub ways_none : (g : ThermalUnit) (π : PriceLists) (t : ℕ) (ends : ℕ → Option ℤ) (firsts : ℕ → ℕ) (left : ℕ → ℕ →
     Passed) → ends (suc t) ≡ None → HaveWays g π t ends firsts left → HaveWays g π (suc t) ends firsts left
 ways_none g π t ends firsts left none ways l v one until is = elim (cases_lt l (suc t)) [
-  | inl less ↦ ways l v one (omega (arith, less)) is
-  | inr most ↦ let z : l ≡ suc t = omega (arith, most, until) in let e = ap ends z in cc
+  | inl less ↦ ways l v one (omega arith) is
+  | inr most ↦ let z : l ≡ suc t = omega arith in let e = ap ends z in cc
 ]
 
 module _ (g : ThermalUnit) (π : PriceLists) (t n : ℕ) (ends ends' : ℕ → Option ℤ) (firsts firsts' : ℕ →
@@ -123,9 +123,9 @@ module _ (g : ThermalUnit) (π : PriceLists) (t n : ℕ) (ends ends' : ℕ → O
       let z : suc t - 1 ≡ t = omega arith in
       record {
         on = λ k from until.
-            (let low : k < t = omega (arith, until) in
+            (let low : k < t = omega arith in
             subst (λ (p : Passed). IsOnNoted g π first k p.note)
-            (lefts first r k s.1 ∙ sym (kept first k (λ y. omega (arith, y, low))))
+            (lefts first r k s.1 ∙ sym (kept first k (λ y. omega arith)))
             (runner.noted _ c.0 c.1 k from low));
         lowest = e.0;
         is_end = ap (λ (k : ℕ). (left' first k).end) z ∙ e.1;
@@ -137,10 +137,10 @@ module _ (g : ThermalUnit) (π : PriceLists) (t n : ℕ) (ends ends' : ℕ → O
     | inl z ↦ subst (λ (l : ℕ). IsSpellNoted g π (firsts' l) l (left' (firsts' l))) (sym z)
         (here v (ap ends' (sym z) ∙ is))
     | inr other ↦
-        let low : l ≤ t = omega (arith, until, other) in
+        let low : l ≤ t = omega arith in
         let first = same_first l other in
         let old = ways l v one low (sym (same_end l other) ∙ is) in
         let moved = spell_same g π (firsts l) l (left (firsts l)) (left' (firsts l)) one
-        (λ k less. kept (firsts l) k (λ y. omega (arith, y, less, low))) old in
+        (λ k less. kept (firsts l) k (λ y. omega arith)) old in
         subst (λ (f : ℕ). IsSpellNoted g π f l (left' f)) (sym first) moved
   ]

@@ -4,8 +4,7 @@ use Rattle.unit_table.proofs.notes.leave_at.Goals as goal
 
 pub returns-clause-here : goal.returns-clause-here
 returns-clause-here c =
-    let long = c.lengthen.ensures.length in
-    let low : c.args.place < length c.lengthen.new.list.items = omega (arith, long) in
+    let low : c.args.place < length c.lengthen.new.list.items = omega arith in
     passed_here c.lengthen.new.list.items c.set.new.self.items c.args.place c.args.left c.set.ensures.items low
 
 pub returns-clause-others : goal.returns-clause-others

@@ -10,7 +10,7 @@ loop-place-init c = record {
   now = record {
     filled = c.begin_all.ensures.filled (prices_in c.args.question.now) (limits_in c.args.question.now)
         c.args.question.now.prices.now.valid.horizon.at_least;
-    ways = λ l v one until is. absurd (omega (arith, one, until));
+    ways = λ l v one until is. absurd (omega arith);
     roomy = c.begin_all.ensures.room (periods_in c.args.question.now) (charge_of c.args.question.now) c.requires.room;
     roster_is = c.begin_all.ensures.roster;
   };
@@ -45,20 +45,11 @@ loop-place-preserved c =
 
 pub take_period-requires-clause-long : goal.take_period-requires-clause-long
 take_period-requires-clause-long c =
-    let same = c.loop-place.invariant.same in
-    let rows = c.requires.long.rows_end in
-    let rows_same = same.rows_length in
-    let runners = c.requires.long.runners_end in
-    let count_same = same.count_same in
-    let firsts = c.requires.long.firsts_end in
-    let firsts_same = same.firsts_same in
-    let list = c.requires.long.list_end in
-    let list_same = c.loop-place.invariant.list_same in
     record {
-      rows_end = omega (arith, rows, rows_same);
-      runners_end = omega (arith, runners, count_same);
-      firsts_end = omega (arith, firsts, firsts_same);
-      list_end = omega (arith, list, list_same);
+      rows_end = omega arith;
+      runners_end = omega arith;
+      firsts_end = omega arith;
+      list_end = omega arith;
     }
 
 pub go_on-requires-clause-origins : goal.go_on-requires-clause-origins
@@ -68,15 +59,12 @@ go_on-requires-clause-origins c =
     subst (λ (rows : List (Option Ended)). AreOrigins (unit_of c.args.question.now) (cost_at rows) c.loop-place.place
     c.loop-place.origins) (sym c.as_slice-in-loop-place.ensures)
     (origins_to (unit_of c.args.question.now) (cost_at old) (cost_at new) c.loop-place.place c.loop-place.origins
-    (λ l low. cost-same new old l l (c.take_period.ensures.others l (λ z. omega (arith, z, low))))
+    (λ l low. cost-same new old l l (c.take_period.ensures.others l (λ z. omega arith)))
     c.loop-place.invariant.origins)
 
 pub returns-clause-filled : goal.returns-clause-filled
 returns-clause-filled c = λ most right.
-    let periods = c.len-periods.ensures in
-    let from = c.loop-place-test.false in
-    let until = c.loop-place.auto.place-end in
-    let end : c.loop-place.place ≡ periods_in c.args.question.now = omega (arith, periods, from, until) in
+    let end : c.loop-place.place ≡ periods_in c.args.question.now = omega arith in
     filled_whole (unit_of c.args.question.now) (prices_in c.args.question.now) c.args.question.now.unit.now.valid
     c.start_costs_are_within.ensures most (limits_in c.args.question.now) right c.loop-place.table.items
     (live_at c.loop-place.runners)
@@ -86,51 +74,37 @@ returns-clause-filled c = λ most right.
 
 pub returns-clause-ways : goal.returns-clause-ways
 returns-clause-ways c =
-    let periods = c.len-periods.ensures in
-    let from = c.loop-place-test.false in
-    let until = c.loop-place.auto.place-end in
-    let end : c.loop-place.place ≡ periods_in c.args.question.now = omega (arith, periods, from, until) in
+    let end : c.loop-place.place ≡ periods_in c.args.question.now = omega arith in
     subst (λ (t : ℕ). HaveWays (unit_of c.args.question.now) (prices_in c.args.question.now) t
     (cost_at c.loop-place.table.items) (first_at c.loop-place.table.items) (left_at c.loop-place.runners)) end
     c.loop-place.invariant.now.ways
 
 pub begin_all-requires-clause-runners : goal.begin_all-requires-clause-runners
 begin_all-requires-clause-runners c =
-    let end = c.requires.long.runners_end in
-    omega (arith, end)
+    omega arith
 
 pub begin_all-requires-clause-list : goal.begin_all-requires-clause-list
 begin_all-requires-clause-list c =
-    let end = c.requires.long.firsts_end in
-    omega (arith, end)
+    omega arith
 
 pub begin_all-requires-clause-rows : goal.begin_all-requires-clause-rows
 begin_all-requires-clause-rows c =
-    let end = c.requires.long.rows_end in
-    omega (arith, end)
+    omega arith
 
 pub begin-requires-clause-rows : goal.begin-requires-clause-rows
 begin-requires-clause-rows c =
-    let rows = c.requires.long.rows_end in
     let same = ap length c.as_slice.ensures ∙ c.begin_all.ensures.same.rows_length in
-    omega (arith, rows, same)
+    omega arith
 
 pub go_on-requires-clause-rows : goal.go_on-requires-clause-rows
 go_on-requires-clause-rows c =
-    let low = c.loop-place-test.true in
-    let periods = c.len-periods.ensures in
-    let rows = c.requires.long.rows_end in
     let same = ap length c.as_slice-in-loop-place.ensures ∙ c.take_period.ensures.same.rows_length ∙
     c.loop-place.invariant.same.rows_length in
-    omega (arith, low, periods, rows, same)
+    omega arith
 
 pub go_on-requires-clause-room : goal.go_on-requires-clause-room
 go_on-requires-clause-room c =
-    let low = c.loop-place-test.true in
-    let periods = c.len-periods.ensures in
-    let list = c.requires.long.list_end in
-    let same = c.loop-place.invariant.list_same in
-    omega (arith, low, periods, list, same)
+    omega arith
 
 pub returns-clause-same : goal.returns-clause-same
 returns-clause-same c = c.loop-place.invariant.same

@@ -17,11 +17,10 @@ returns-else-unit-clause-stands c = λ π limits ends.
 pub returns-then-unit-clause-roster : goal.returns-then-unit-clause-roster
 returns-then-unit-clause-roster c =
     let none = c.requires.none in
-    let room = c.requires.list in
     begun_listed c.args.runners.now _ 0 0 refl c.begin_runner.new.runner c.requires.some refl
     c.args.roster.now c.add.new.self
     (none_listed (live_at c.args.runners.now) 0 c.args.roster.now none c.requires.off)
-    (omega (arith, none, room)) c.add.ensures.count c.add.ensures.firsts
+    (omega arith) c.add.ensures.count c.add.ensures.firsts
 
 pub returns-then-unit-clause-list : goal.returns-then-unit-clause-list
 returns-then-unit-clause-list c = ap (λ (xs : List ℕ). length xs) c.add.ensures.firsts ∙

@@ -29,7 +29,7 @@ returns-then-not-is_within-clause-stands c = λ π limits ends here origins now.
     (live_at c.args.runners.now) now
     (λ e entry. (let above = entry_beyond (thermal_of c.args.unit.now) ends c.args.place c.args.origins.now
     c.start_costs_are_within.ensures origins
-    c.args.unit.now.valid.lags c.args.limit far e entry in omega (arith, ints, above, here)))
+    c.args.unit.now.valid.lags c.args.limit far e entry in omega (arith, ints)))
 
 pub returns-then-not-is_within-clause-roster : goal.returns-then-not-is_within-clause-roster
 returns-then-not-is_within-clause-roster c =

@@ -17,8 +17,7 @@ returns-then-is_undercut-clause-stands c = λ π limits ends here least now.
 
 pub returns-clause-stands : goal.returns-clause-stands
 returns-clause-stands c = λ π limits ends here least now.
-    let end = c.requires.runners in
-    let low : c.args.place + 1 < length c.args.runners.now = omega (arith, end) in
+    let low : c.args.place + 1 < length c.args.runners.now = omega arith in
     started (thermal_of c.args.unit.now) π limits ends c.args.place (c.args.place + 1) (omega arith)
     c.args.runners.now c.begin_runner.new.runner low
     c.args.entry.now.last c.args.entry.now.cost c.begin_runner.ensures.on c.begin_runner.ensures.cost
@@ -26,9 +25,8 @@ returns-clause-stands c = λ π limits ends here least now.
 
 pub is_undercut-requires-clause-roster : goal.is_undercut-requires-clause-roster
 is_undercut-requires-clause-roster c =
-    let end = c.requires.runners in
     still_listed (live_at c.args.runners.now) (live_at c.args.runners.now) (suc c.args.place)
-    (length c.args.runners.now) c.args.roster.now (omega (arith, end)) (λ f off. off) c.requires.roster
+    (length c.args.runners.now) c.args.roster.now (omega arith) (λ f off. off) c.requires.roster
 
 pub returns-then-is_undercut-clause-roster : goal.returns-then-is_undercut-clause-roster
 returns-then-is_undercut-clause-roster c =
@@ -37,13 +35,10 @@ returns-then-is_undercut-clause-roster c =
 
 pub returns-clause-roster : goal.returns-clause-roster
 returns-clause-roster c =
-    let end = c.requires.runners in
-    let low : c.args.place + 1 < length c.args.runners.now = omega (arith, end) in
-    let few = c.requires.roster.few in
-    let room = c.requires.list in
+    let low : c.args.place + 1 < length c.args.runners.now = omega arith in
     begun_listed c.args.runners.now _ (suc c.args.place) (c.args.place + 1) (omega arith)
     c.begin_runner.new.runner low refl
-    c.args.roster.now c.add.new.self c.requires.roster (omega (arith, few, room)) c.add.ensures.count
+    c.args.roster.now c.add.new.self c.requires.roster (omega arith) c.add.ensures.count
     c.add.ensures.firsts
 
 pub returns-clause-list : goal.returns-clause-list
@@ -58,7 +53,7 @@ returns-then-is_less-clause-stands c = λ π limits ends here least now.
     (c.is_less.ensures c.if-is_less.true) in
     start_beyond (thermal_of c.args.unit.now) π limits ends c.args.place (live_at c.args.runners.now)
     (live_at c.args.runners.now) now
-    c.args.entry.now.last c.args.entry.now.cost least (omega (arith, ints, less, here))
+    c.args.entry.now.last c.args.entry.now.cost least (omega (arith, ints))
 
 pub returns-then-is_less-clause-roster : goal.returns-then-is_less-clause-roster
 returns-then-is_less-clause-roster c =
@@ -67,13 +62,11 @@ returns-then-is_less-clause-roster c =
 
 pub offset_bounds-runners-place : goal.offset_bounds-runners-place
 offset_bounds-runners-place c =
-    let end = c.requires.runners in
-    scaled_Fits (c.args.place + 1) (length c.args.runners.now) _ (omega (arith, end)) (search rules)
+    scaled_Fits (c.args.place + 1) (length c.args.runners.now) _ (omega arith) (search rules)
 
 pub returns-clause-kept : goal.returns-clause-kept
 returns-clause-kept c =
-    let end = c.requires.runners in
-    let low : c.args.place + 1 < length c.args.runners.now = omega (arith, end) in
+    let low : c.args.place + 1 < length c.args.runners.now = omega arith in
     let begun = c.begin_runner.ensures in
     kept_written c.args.runners.now _ (c.args.place + 1) c.begin_runner.new.runner _ low refl
     (item_at c.args.runners.now (c.args.place + 1) low _)

@@ -53,10 +53,8 @@ limit_at limits k x fits is = get_or_from_slice_get limits k x (pos 0) is ∙ sy
 
 pub start-requires-clause-within : goal.start-requires-clause-within
 start-requires-clause-within c =
-    let place = c.requires.place in
-    let list = c.requires.long.list_end in
     origins_within (unit_of c.args.question.now) c.args.table.now.items c.args.place c.args.origins.now
-    c.requires.origins c.requires.now.filled.within (omega (arith, place, list))
+    c.requires.origins c.requires.now.filled.within (omega arith)
 
 pub start-requires-clause-order : goal.start-requires-clause-order
 start-requires-clause-order c = c.requires.origins.right.order
@@ -66,11 +64,9 @@ start-requires-clause-roster c = c.requires.now.roster_is
 
 pub start-requires-clause-small : goal.start-requires-clause-small
 start-requires-clause-small c =
-    let few = c.args.question.now.prices.now.valid.horizon.at_most in
-    let place = c.requires.place in
     small_of (unit_of c.args.question.now) (prices_in c.args.question.now) (limits_in c.args.question.now) _
     (live_at c.args.runners.now) c.args.place (suc c.args.place)
-    (omega (arith, few, place)) (omega (arith, few, place)) c.requires.now.filled.runners
+    (omega arith) (omega arith) c.requires.now.filled.runners
 
 pub run_all-requires-clause-room : goal.run_all-requires-clause-room
 run_all-requires-clause-room c =
@@ -114,10 +110,8 @@ drop_beyond-requires-clause-small c =
     c.requires.limits.0 c.requires.limits.1
     c.runs_go_on.ensures (c.is_must_off.ensures.no c.if-is_must_off.false) c.run_all.ensures.goes c.run_all.ensures.off
     in
-    let few = c.args.question.now.prices.now.valid.horizon.at_most in
-    let place = c.requires.place in
     small_of g π limits _ (live_at c.run_all.new.runners) (suc c.args.place) (suc (suc c.args.place))
-    (omega (arith, few, place)) (omega (arith, few, place)) ran
+    (omega arith) (omega arith) ran
 
 pub prune-requires-clause-small : goal.prune-requires-clause-small
 prune-requires-clause-small c =
@@ -135,11 +129,9 @@ prune-requires-clause-small c =
     c.requires.limits.0 c.requires.limits.1
     c.runs_go_on.ensures (c.is_must_off.ensures.no c.if-is_must_off.false) c.run_all.ensures.goes c.run_all.ensures.off
     in
-    let few = c.args.question.now.prices.now.valid.horizon.at_most in
-    let place = c.requires.place in
     fewer_small _ _ c.drop_beyond.ensures.fewer
     (small_of g π limits _ (live_at c.run_all.new.runners) (suc c.args.place) (suc (suc c.args.place))
-    (omega (arith, few, place)) (omega (arith, few, place)) ran)
+    (omega arith) (omega arith) ran)
 
 pub drop_beyond-requires-clause-roster : goal.drop_beyond-requires-clause-roster
 drop_beyond-requires-clause-roster c =
@@ -155,26 +147,17 @@ prune-requires-clause-roster c =
 
 pub keep-requires-clause-small : goal.keep-requires-clause-small
 keep-requires-clause-small c =
-    let few = c.start.ensures.roster.few in
-    let place = c.requires.place in
-    let periods = c.args.question.now.prices.now.valid.horizon.at_most in
-    omega (arith, few, place, periods)
+    omega arith
 
 pub keep-requires-clause-roster : goal.keep-requires-clause-roster
-keep-requires-clause-roster c =
-    let place = c.requires.place in
-    let runners = c.requires.long.runners_end in
-    let a = c.start.ensures.kept.count_same in
-    let b = c.run_all.ensures.count_same in
-    let d = c.prune.ensures.kept.count_same in
-    let e = c.drop_beyond.ensures.kept.count_same in (
-      suc (suc c.args.place),
-      omega (arith, place, runners, a, b, d, e),
-      still_listed (live_at c.start.new.runners) (live_at c.prune.new.runners) (suc (suc c.args.place))
-          (suc (suc c.args.place)) c.start.new.roster (omega arith)
-          (λ f off. fewer_off _ _ (fewer_then _ _ _ c.drop_beyond.ensures.fewer c.prune.ensures.fewer) f
-          (c.run_all.ensures.off f off)) c.start.ensures.roster,
-    )
+keep-requires-clause-roster c = (
+  suc (suc c.args.place),
+  omega arith,
+  still_listed (live_at c.start.new.runners) (live_at c.prune.new.runners) (suc (suc c.args.place))
+      (suc (suc c.args.place)) c.start.new.roster (omega arith)
+      (λ f off. fewer_off _ _ (fewer_then _ _ _ c.drop_beyond.ensures.fewer c.prune.ensures.fewer) f
+      (c.run_all.ensures.off f off)) c.start.ensures.roster,
+)
 
 -- ---- the period
 
@@ -252,59 +235,41 @@ returns-clause-same c =
 
 pub get-limit-requires : goal.get-limit-requires
 get-limit-requires c =
-    let low = c.requires.place in
-    let each = c.args.question.now.each in
-    omega (arith, low, each)
+    omega arith
 
 pub get-requires : goal.get-requires
 get-requires c =
-    let low = c.requires.place in
-    let each = c.args.question.now.each in
-    omega (arith, low, each)
+    omega arith
 
 pub start-requires-clause-list : goal.start-requires-clause-list
 start-requires-clause-list c =
-    let low = c.requires.place in
-    let firsts = c.requires.long.firsts_end in
-    omega (arith, low, firsts)
+    omega arith
 
 pub start-requires-clause-runners : goal.start-requires-clause-runners
 start-requires-clause-runners c =
-    let low = c.requires.place in
-    let end = c.requires.long.runners_end in
-    omega (arith, low, end)
+    omega arith
 
 pub start-requires-clause-small_place : goal.start-requires-clause-small_place
 start-requires-clause-small_place c =
-    let few = c.args.question.now.prices.now.valid.horizon.at_most in
-    let place = c.requires.place in
-    omega (arith, few, place)
+    omega arith
 
 pub run_all-requires-clause-runners : goal.run_all-requires-clause-runners
 run_all-requires-clause-runners c =
-    let end = c.requires.long.runners_end in
-    let same = c.start.ensures.kept.count_same in
-    omega (arith, end, same)
+    omega arith
 
 pub run_all-requires-clause-rows : goal.run_all-requires-clause-rows
 run_all-requires-clause-rows c = c.requires.long.rows_end
 
 pub drop_beyond-requires-clause-end : goal.drop_beyond-requires-clause-end
 drop_beyond-requires-clause-end c =
-    let low = c.requires.place in
-    let end = c.requires.long.runners_end in
     let same = c.run_all.ensures.count_same ∙ c.start.ensures.kept.count_same in
-    omega (arith, low, end, same)
+    omega arith
 
 pub prune-requires-clause-end : goal.prune-requires-clause-end
 prune-requires-clause-end c =
-    let low = c.requires.place in
-    let end = c.requires.long.runners_end in
     let same = c.drop_beyond.ensures.kept.count_same ∙ c.run_all.ensures.count_same ∙ c.start.ensures.kept.count_same in
-    omega (arith, low, end, same)
+    omega arith
 
 pub prune-requires-clause-periods : goal.prune-requires-clause-periods
 prune-requires-clause-periods c =
-    let few = c.args.question.now.prices.now.valid.horizon.at_most in
-    let place = c.requires.place in
-    omega (arith, few, place)
+    omega arith

@@ -30,7 +30,7 @@ returns-then-is_beyond-clause-stands c = λ u π limits ends t n here now.
     (OnTrue_at c.if-is_beyond.true c.is_beyond.ensures) in
     beyond_goes u π limits ends t (live_at c.args.runners.now) _ n c.args.first _ now
     (item_live c.args.runners.now c.args.first c.requires.end x on)
-    (λ y v there. (let above = beyond y v there in omega (arith, ints, above, here)))
+    (λ y v there. (let above = beyond y v there in omega (arith, ints)))
     (live_here c.args.runners.now _ c.args.first c.stop.new.runner c.requires.end refl ∙
     going_off c.stop.new.runner c.stop.ensures.off)
     (λ f other. live_other c.args.runners.now _ c.args.first c.stop.new.runner c.requires.end refl f other)

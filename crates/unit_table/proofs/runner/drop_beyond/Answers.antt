@@ -4,11 +4,8 @@ use Rattle.unit_table.proofs.runner.drop_beyond.Goals as goal
 
 pub drop_at-requires-clause-end : goal.drop_at-requires-clause-end
 drop_at-requires-clause-end c =
-    let low = c.loop-place-test.true in
-    let below = c.requires.roster.below c.loop-place.place c.get.result.now (omega (arith, low)) c.get.ensures.item in
-    let end = c.requires.end in
-    let same = c.loop-place.invariant.kept.count_same in
-    omega (arith, below, end, same)
+    let below = c.requires.roster.below c.loop-place.place c.get.result.now (omega arith) c.get.ensures.item in
+    omega arith
 
 pub loop-place-preserved : goal.loop-place-preserved
 loop-place-preserved c = record {
@@ -20,9 +17,7 @@ loop-place-preserved c = record {
 
 pub get-requires : goal.get-requires
 get-requires c =
-    let low = c.loop-place-test.true in
-    let room = c.requires.roster.room in
-    omega (arith, low, room)
+    omega arith
 
 pub loop-place-init : goal.loop-place-init
 loop-place-init c = record {

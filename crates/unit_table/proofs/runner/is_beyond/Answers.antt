@@ -7,7 +7,6 @@ use Rattle.unit_table.proofs.runner.is_beyond.Goals as goal
 pub is_above-requires : goal.is_above-requires
 is_above-requires c =
     let fits_entry : FitsSigned w64 c.args.runner.now.cost = search rules in
-    let b = c.requires.bound in
     rw (to_z-of_z w64 c.args.runner.now.cost fits_entry)
     (record { at_least = omega (arith, ints); at_most = omega (arith, ints) })
 

@@ -11,6 +11,4 @@ returns-then-undercuts_from c =
 
 pub get-requires : goal.get-requires
 get-requires c =
-    let low = c.loop-place-test.true in
-    let room = c.requires.roster.room in
-    omega (arith, low, room)
+    omega arith

@@ -4,7 +4,6 @@ use Rattle.unit_table.proofs.runner.prune.Goals as goal
 
 pub loop-back-preserved : goal.loop-back-preserved
 loop-back-preserved c =
-    let low = c.loop-back-test.true in
     let list = c.requires.roster in
     let roster = c.args.roster.now in
     let first = c.get-first.result.now in
@@ -16,9 +15,8 @@ loop-back-preserved c =
           (λ l. ((j h : ℕ) → j + (c.loop-back.back + 1) < roster.count → slice_get roster.firsts.items j ≡ Some h →
           h < l) × (l ≤ c.args.period) × ((r : Going) × (live_at c.prune_one-late.new.runners l ≡ Some r)))
           (λ l h. (
-            (λ j f before is. (let from = h.0 in let earlier = list.rising j (roster.count - c.loop-back.back - 1) f
-                first (omega (arith, before)) (omega (arith, low)) is c.get-first.ensures.item in omega
-                (arith, from, earlier))),
+            (λ j f before is. (let earlier = list.rising j (roster.count - c.loop-back.back - 1) f
+                first (omega arith) (omega arith) is c.get-first.ensures.item in omega arith)),
             h.1,
             h.2,
           )) c.prune_one-late.result c.prune_one-late.ensures.late;
@@ -28,9 +26,7 @@ loop-back-preserved c =
 
 pub get-first-requires : goal.get-first-requires
 get-first-requires c =
-    let low = c.loop-back-test.true in
-    let room = c.requires.roster.room in
-    omega (arith, low, room)
+    omega arith
 
 pub loop-back-init : goal.loop-back-init
 loop-back-init c = record {
@@ -42,26 +38,22 @@ loop-back-init c = record {
 
 pub prune_one-late-requires-clause-early : goal.prune_one-late-requires-clause-early
 prune_one-late-requires-clause-early c =
-    let low = c.loop-back-test.true in
     let below = c.requires.roster.below (c.args.roster.now.count - c.loop-back.back - 1) c.get-first.result.now
-    (omega (arith, low)) c.get-first.ensures.item in
-    omega (arith, below)
+    (omega arith) c.get-first.ensures.item in
+    omega arith
 
 pub prune_one-late-requires-clause-end : goal.prune_one-late-requires-clause-end
 prune_one-late-requires-clause-end c =
-    let end = c.requires.end in
-    let same = c.loop-back.invariant.kept.count_same in
-    omega (arith, end, same)
+    omega arith
 
 pub prune_one-late-requires-clause-late : goal.prune_one-late-requires-clause-late
 prune_one-late-requires-clause-late c =
-    let low = c.loop-back-test.true in
     let roster = c.args.roster.now in
     let first = c.get-first.result.now in
     if_some_more (λ l. ((j h : ℕ) → j + c.loop-back.back < roster.count → slice_get roster.firsts.items j ≡ Some h →
     h < l) × (l ≤ c.args.period) × ((r : Going) × (live_at c.loop-back.runners l ≡ Some r)))
     (λ l. (first < l) × (l ≤ c.args.period) × ((r : Going) × (live_at c.loop-back.runners l ≡ Some r)))
-    (λ l h. (h.0 (roster.count - c.loop-back.back - 1) first (omega (arith, low)) c.get-first.ensures.item, h.1, h.2))
+    (λ l h. (h.0 (roster.count - c.loop-back.back - 1) first (omega arith) c.get-first.ensures.item, h.1, h.2))
     c.loop-back.late c.loop-back.invariant.late
 
 pub prune_one-late-requires-clause-small : goal.prune_one-late-requires-clause-small

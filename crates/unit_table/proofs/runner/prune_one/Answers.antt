@@ -10,9 +10,7 @@ goes-requires-clause-late c =
     let h = if_some (λ l. (c.args.early < l) × (l ≤ c.args.period) ×
     ((r : Going) × (live_at c.args.runners.now l ≡ Some r))) c.args.late c.in-Some.first c.in-Some.is
     c.requires.late in
-    let until = h.1 in
-    let end = c.requires.end in
-    let low : c.in-Some.first < length c.args.runners.now = omega (arith, until, end) in
+    let low : c.in-Some.first < length c.args.runners.now = omega arith in
     let x = c.index-runners-first.result in
     let on = read_on c.args.runners.now c.in-Some.first low x c.index-runners-first.is h.2.0 h.2.1 in
     (c.requires.small c.in-Some.first _
@@ -20,9 +18,7 @@ goes-requires-clause-late c =
 
 pub goes-requires-clause-early : goal.goes-requires-clause-early
 goes-requires-clause-early c =
-    let end = c.requires.end in
-    let under = c.requires.early in
-    let low : c.args.early < length c.args.runners.now = omega (arith, under, end) in
+    let low : c.args.early < length c.args.runners.now = omega arith in
     let x = c.index-runners-early-in-Some.result in
     let on = on_of x _ c.index-runners-early-in-Some.is
     (item_same c.args.runners.now c.args.early low c.index-runners-early.result x true
@@ -35,16 +31,13 @@ returns-then-goes-clause-late c =
     let h = if_some (λ l. (c.args.early < l) × (l ≤ c.args.period) ×
     ((r : Going) × (live_at c.args.runners.now l ≡ Some r))) c.args.late c.in-Some.first c.in-Some.is
     c.requires.late in
-    let above = h.0 in
-    let end = c.requires.end in
-    let under = c.requires.early in
-    let low : c.args.early < length c.args.runners.now = omega (arith, under, end) in (
-      omega (arith, above),
+    let low : c.args.early < length c.args.runners.now = omega arith in (
+      omega arith,
       h.1,
       (
         h.2.0,
         live_other c.args.runners.now _ c.args.early c.stop.new.runner low refl c.in-Some.first
-            (λ z. omega (arith, z, above)) ∙ h.2.1,
+            (λ z. omega arith) ∙ h.2.1,
       ),
     )
 
@@ -55,10 +48,8 @@ returns-then-goes-clause-stands c = λ π limits ends n now.
     c.requires.late in
     let above = h.0 in
     let until = h.1 in
-    let end = c.requires.end in
-    let under = c.requires.early in
-    let low : c.args.early < length c.args.runners.now = omega (arith, under, end) in
-    let low_late : c.in-Some.first < length c.args.runners.now = omega (arith, until, end) in
+    let low : c.args.early < length c.args.runners.now = omega arith in
+    let low_late : c.in-Some.first < length c.args.runners.now = omega arith in
     let x = c.index-runners-early-in-Some.result in
     let y = c.index-runners-first.result in
     let on = on_of x _ c.index-runners-early-in-Some.is
@@ -76,9 +67,7 @@ returns-then-goes-clause-stands c = λ π limits ends n now.
 
 pub returns-else-goes-clause-late : goal.returns-else-goes-clause-late
 returns-else-goes-clause-late c =
-    let end = c.requires.end in
-    let under = c.requires.early in
-    let low : c.args.early < length c.args.runners.now = omega (arith, under, end) in (
+    let low : c.args.early < length c.args.runners.now = omega arith in (
       omega arith,
       c.requires.early,
       (
@@ -90,9 +79,7 @@ returns-else-goes-clause-late c =
 
 pub returns-in_default-clause-late : goal.returns-in_default-clause-late
 returns-in_default-clause-late c =
-    let end = c.requires.end in
-    let under = c.requires.early in
-    let low : c.args.early < length c.args.runners.now = omega (arith, under, end) in (
+    let low : c.args.early < length c.args.runners.now = omega arith in (
       omega arith,
       c.requires.early,
       (
@@ -104,43 +91,31 @@ returns-in_default-clause-late c =
 
 pub offset_bounds-runners-early : goal.offset_bounds-runners-early
 offset_bounds-runners-early c =
-    let end = c.requires.end in
-    let under = c.requires.early in
-    scaled_Fits c.args.early (length c.args.runners.now) _ (omega (arith, under, end)) (search rules)
+    scaled_Fits c.args.early (length c.args.runners.now) _ (omega arith) (search rules)
 
 pub offset_bounds-runners-first : goal.offset_bounds-runners-first
 offset_bounds-runners-first c =
     let h = if_some (λ l. (c.args.early < l) × (l ≤ c.args.period) ×
     ((r : Going) × (live_at c.args.runners.now l ≡ Some r))) c.args.late c.in-Some.first c.in-Some.is
     c.requires.late in
-    let until = h.1 in
-    let end = c.requires.end in
-    scaled_Fits c.in-Some.first (length c.args.runners.now) _ (omega (arith, until, end)) (search rules)
+    scaled_Fits c.in-Some.first (length c.args.runners.now) _ (omega arith) (search rules)
 
 pub offset_bounds-runners-early-in-Some : goal.offset_bounds-runners-early-in-Some
 offset_bounds-runners-early-in-Some c =
-    let end = c.requires.end in
-    let under = c.requires.early in
-    scaled_Fits c.args.early (length c.args.runners.now) _ (omega (arith, under, end)) (search rules)
+    scaled_Fits c.args.early (length c.args.runners.now) _ (omega arith) (search rules)
 
 pub offset_bounds-runners-early-then-goes : goal.offset_bounds-runners-early-then-goes
 offset_bounds-runners-early-then-goes c =
-    let end = c.requires.end in
-    let under = c.requires.early in
-    scaled_Fits c.args.early (length c.args.runners.now) _ (omega (arith, under, end)) (search rules)
+    scaled_Fits c.args.early (length c.args.runners.now) _ (omega arith) (search rules)
 
 pub returns-then-goes-clause-fewer : goal.returns-then-goes-clause-fewer
 returns-then-goes-clause-fewer c =
-    let end = c.requires.end in
-    let under = c.requires.early in
-    let low : c.args.early < length c.args.runners.now = omega (arith, under, end) in
+    let low : c.args.early < length c.args.runners.now = omega arith in
     fewer_stopped c.args.runners.now _ c.args.early c.stop.new.runner low refl c.stop.ensures.off
 
 pub returns-then-goes-clause-kept : goal.returns-then-goes-clause-kept
 returns-then-goes-clause-kept c =
-    let end = c.requires.end in
-    let under = c.requires.early in
-    let low : c.args.early < length c.args.runners.now = omega (arith, under, end) in
+    let low : c.args.early < length c.args.runners.now = omega arith in
     kept_written c.args.runners.now _ c.args.early c.stop.new.runner _ low refl
     (item_at c.args.runners.now c.args.early low _)
     (stopped_one _ _ c.stop.ensures.off c.stop.ensures.running c.stop.ensures.passed)

@@ -23,9 +23,8 @@ run_at-requires-clause-ready c = λ r is.
     c.get-first.ensures.item in
     let same = ap going_of (run.rest first (omega arith)) in
     let runner = c.requires.now.1.right first r (sym same ∙ is) in
-    let low = runner.0 in
     record {
-      order = omega (arith, low);
+      order = omega arith;
       frontier = runner.1.frontier;
       may = may_next (unit_of c.args.question.now) first c.args.place c.requires.open runner.1.may;
       within = runner.1.within;
@@ -67,22 +66,14 @@ returns c =
 
 pub get-first-requires : goal.get-first-requires
 get-first-requires c =
-    let low = c.loop-index-test.true in
-    let room = c.requires.roster.room in
-    omega (arith, low, room)
+    omega arith
 
 pub run_at-requires-clause-runners : goal.run_at-requires-clause-runners
 run_at-requires-clause-runners c =
-    let low = c.loop-index-test.true in
-    let below = c.requires.roster.below c.loop-index.index c.get-first.result.now (omega (arith, low))
+    let below = c.requires.roster.below c.loop-index.index c.get-first.result.now (omega arith)
     c.get-first.ensures.item in
-    let place = c.requires.place in
-    let end = c.requires.runners in
-    let same = c.loop-index.invariant.run.count_same in
-    omega (arith, below, place, end, same)
+    omega arith
 
 pub run_at-requires-clause-rows : goal.run_at-requires-clause-rows
 run_at-requires-clause-rows c =
-    let end = c.requires.rows in
-    let same = c.loop-index.invariant.run.rows_length in
-    omega (arith, end, same)
+    omega arith

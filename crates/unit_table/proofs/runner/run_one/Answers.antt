@@ -7,11 +7,10 @@ pub returns-then-may_end-clause-may : goal.returns-then-may_end-clause-may
 returns-then-may_end-clause-may c =
     let u = unit_of c.args.question.now in
     let next : c.args.place + 1 ≡ suc c.args.place = omega arith in
-    let periods = c.len.ensures in
     always c.end_and_run.result.end (suc c.args.place < periods_in c.args.question.now →
     u.min_up ≤ on_time u c.args.first (suc c.args.place))
     (λ low. subst (λ (t : ℕ). u.min_up ≤ on_time u c.args.first t) next
-    (c.may_end.ensures.yes c.if-may_end.true (omega (arith, low, periods))))
+    (c.may_end.ensures.yes c.if-may_end.true (omega arith)))
 
 pub returns-then-may_end-clause-noted : goal.returns-then-may_end-clause-noted
 returns-then-may_end-clause-noted c = λ x v there.

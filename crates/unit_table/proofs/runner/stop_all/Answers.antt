@@ -7,26 +7,20 @@ loop-place-init c = none_stopped c.args.runners.now
 
 pub loop-place-preserved : goal.loop-place-preserved
 loop-place-preserved c =
-    let low = c.loop-place-test.true in
-    let same = c.loop-place.invariant.kept.count_same in
     stopped_more c.args.runners.now c.loop-place.runners c.loop-place.place
     c.loop-place.invariant
-    _ c.stop.new.runner _ (omega (arith, low, same))
-    (item_at c.loop-place.runners c.loop-place.place (omega (arith, low, same)) c.index-runners-place.result)
+    _ c.stop.new.runner _ (omega arith)
+    (item_at c.loop-place.runners c.loop-place.place (omega arith) c.index-runners-place.result)
     c.stop.ensures.off c.stop.ensures.running c.stop.ensures.passed refl
 
 pub returns-clause-off : goal.returns-clause-off
 returns-clause-off c =
-    let end = c.loop-place-test.false in
-    let same = c.loop-place.invariant.kept.count_same in
     stopped_off c.args.runners.now c.loop-place.runners c.loop-place.place c.loop-place.invariant
-    (omega (arith, end, same))
+    (omega arith)
 
 pub offset_bounds-runners-place : goal.offset_bounds-runners-place
 offset_bounds-runners-place c =
-    let low = c.loop-place-test.true in
-    let same = c.loop-place.invariant.kept.count_same in
-    scaled_Fits c.loop-place.place (length c.loop-place.runners) _ (omega (arith, low, same)) (search rules)
+    scaled_Fits c.loop-place.place (length c.loop-place.runners) _ (omega arith) (search rules)
 
 pub returns-clause-kept : goal.returns-clause-kept
 returns-clause-kept c = c.loop-place.invariant.kept

@@ -117,20 +117,16 @@ run_one-passed-requires-clause-room c =
 
 pub leave_at-requires : goal.leave_at-requires
 leave_at-requires c =
-    let low = c.requires.place in
-    let places = c.requires.room.places in
-    omega (arith, low, places)
+    omega arith
 
 pub put_end-requires-clause-room : goal.put_end-requires-clause-room
 put_end-requires-clause-room c =
-    let low = c.requires.place in
-    let rows = c.requires.rows in
-    omega (arith, low, rows)
+    omega arith
 
 pub put_end-requires-clause-order : goal.put_end-requires-clause-order
 put_end-requires-clause-order c =
     let order = (c.requires.ready _ (going_on c.args.runner.now c.requires.on)).order in
-    omega (arith, order)
+    omega arith
 
 pub put_end-requires-clause-bound : goal.put_end-requires-clause-bound
 put_end-requires-clause-bound c =
@@ -159,13 +155,11 @@ returns-clause-room c =
     let same = ap room_of c.retire.ensures.running ∙ c.run_one-passed.ensures.room in
     let count_same = ap count_of c.retire.ensures.running in
     let count = c.run_one-passed.ensures.count in
-    let whole = c.requires.room.whole in
-    let places = c.requires.room.places in
     let places_same = ap (λ l. length l.items + l.spare) c.retire.ensures.passed ∙ c.leave_at.ensures.room in
     let rest = room_next (count_of old.running) (count_of c.run_one-passed.new.running) periods c.args.place charge
     (room_of old.running) c.requires.place (c.requires.room.rest c.requires.on) count in
     record {
-      whole = omega (arith, whole, same);
-      places = omega (arith, places, places_same);
-      rest = λ on. omega (arith, rest, same, count_same);
+      whole = omega arith;
+      places = omega arith;
+      rest = λ on. omega arith;
     }

@@ -13,56 +13,38 @@ loop-place-init c = record {
 
 pub get-first-requires : goal.get-first-requires
 get-first-requires c =
-    let low = c.loop-place-test.true in
-    let room = c.requires.roster.2.room in
-    let count_same = c.loop-place.invariant.count_same in
-    let same = c.loop-place.invariant.same_length in
-    omega (arith, low, room, count_same, same)
+    omega arith
 
 pub bounds-runners-first : goal.bounds-runners-first
 bounds-runners-first c =
     let list = c.requires.roster in
-    let low = c.loop-place-test.true in
-    let count_same = c.loop-place.invariant.count_same in
     let below = first_inside (live_at c.args.runners.now) list.0 c.args.self.now list.2 c.loop-place.place
     c.loop-place.kept c.loop-place.self.firsts.items
-    (c.loop-place.invariant.kept list.0 list.2) (omega (arith, low, count_same)) c.get-first.result.now
+    (c.loop-place.invariant.kept list.0 list.2) (omega arith) c.get-first.result.now
     c.get-first.ensures.item in
-    let most = list.1 in
-    omega (arith, below, most)
+    omega arith
 
 pub offset_bounds-runners-first : goal.offset_bounds-runners-first
 offset_bounds-runners-first c =
     let list = c.requires.roster in
-    let low = c.loop-place-test.true in
-    let count_same = c.loop-place.invariant.count_same in
     let below = first_inside (live_at c.args.runners.now) list.0 c.args.self.now list.2 c.loop-place.place
     c.loop-place.kept c.loop-place.self.firsts.items
-    (c.loop-place.invariant.kept list.0 list.2) (omega (arith, low, count_same)) c.get-first.result.now
+    (c.loop-place.invariant.kept list.0 list.2) (omega arith) c.get-first.result.now
     c.get-first.ensures.item in
-    let most = list.1 in
-    omega (arith, below, most)
+    omega arith
 
 pub bounds-runners-first-in-loop-place : goal.bounds-runners-first-in-loop-place
 bounds-runners-first-in-loop-place c =
     let list = c.requires.roster in
-    let low = c.loop-place-test.true in
-    let count_same = c.loop-place.invariant.count_same in
     let below = first_inside (live_at c.args.runners.now) list.0 c.args.self.now list.2 c.loop-place.place
     c.loop-place.kept c.loop-place.self.firsts.items
-    (c.loop-place.invariant.kept list.0 list.2) (omega (arith, low, count_same)) c.get-first.result.now
+    (c.loop-place.invariant.kept list.0 list.2) (omega arith) c.get-first.result.now
     c.get-first.ensures.item in
-    let most = list.1 in
-    omega (arith, below, most)
+    omega arith
 
 pub set-requires : goal.set-requires
 set-requires c =
-    let low = c.loop-place-test.true in
-    let room = c.requires.roster.2.room in
-    let count_same = c.loop-place.invariant.count_same in
-    let same = c.loop-place.invariant.same_length in
-    let kept = c.loop-place.invariant.low in
-    omega (arith, low, room, count_same, same, kept)
+    omega arith
 
 pub loop-place-preserved : goal.loop-place-preserved
 loop-place-preserved c =
@@ -72,17 +54,14 @@ loop-place-preserved c =
     let q = c.loop-place.kept in
     let items = c.loop-place.self.firsts.items in
     let first = c.get-first.result.now in
-    let low = c.loop-place-test.true in
     let count_same = c.loop-place.invariant.count_same in
-    let kept = c.loop-place.invariant.low in
     let same_length = c.loop-place.invariant.same_length in
-    let inside : p < old.count = omega (arith, low, count_same) in
+    let inside : p < old.count = omega arith in
     let here : first < length c.args.runners.now =
     (let list = c.requires.roster in
     let below = first_inside live list.0 old list.2 p q items (c.loop-place.invariant.kept list.0 list.2) inside first
     c.get-first.ensures.item in
-    let most = list.1 in
-    omega (arith, below, most)) in
+    omega arith) in
     elim c.if-runners-first.branch [
       | then-runners-first w ↦
           let set = w.set.ensures.items in
@@ -91,7 +70,7 @@ loop-place-preserved c =
           rw w.self-is (rw w.kept-is (record {
             kept = λ until list. one_kept live until old list p q items (c.loop-place.invariant.kept until list) inside
                 first c.get-first.ensures.item w.set.new.self.items set same;
-            low = omega (arith, kept);
+            low = omega arith;
             same_length = same ∙ same_length;
             count_same = count_same;
           }))
@@ -102,7 +81,7 @@ loop-place-preserved c =
                 (item_off c.args.runners.now first here c.index-runners-first.result
                 (item_same c.args.runners.now first here c.index-runners-first.result c.index-runners-first.result
                 false w.if-runners-first.false));
-            low = omega (arith, kept);
+            low = omega arith;
             same_length = same_length;
             count_same = count_same;
           }))
@@ -110,7 +89,5 @@ loop-place-preserved c =
 
 pub returns-clause-roster : goal.returns-clause-roster
 returns-clause-roster c = λ until list.
-    let same = c.loop-place.invariant.count_same in
-    let end = c.loop-place-test.false in
     all_kept (live_at c.args.runners.now) until c.args.self.now list c.loop-place.place _
-    (omega (arith, same, end)) (omega (arith, same)) (c.loop-place.invariant.kept until list)
+    (omega arith) (omega arith) (c.loop-place.invariant.kept until list)
