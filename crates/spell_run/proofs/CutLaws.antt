@@ -83,15 +83,14 @@ cut_curve c f g hi sum x =
     let P : Option ℤ → Option ℤ → Type 0 = λ o p. MatchOption o (p ≡ None)
     (λ v. (k : ℤ) × (curve_value c (x +ℤ pos 0) ≡ Some k) × (p ≡ Some (v +ℤ k))) in
     by_lt_z hi x
-    (λ (l : hi <ℤ x). subst (λ o. P o (value_of (cut g hi) x)) (sym (cut_past f hi x l)) (cut_past g hi x l))
-    (λ (l : x ≤ℤ hi). subst (λ o. P o (value_of (cut g hi) x)) (sym (cut_inside f hi x l))
-    (subst (λ p. P (value_of f x) p) (sym (cut_inside g hi x l)) (sum x)))
+    (λ (l : hi <ℤ x). rw (cut_past f hi x l) (cut_past g hi x l))
+    (λ (l : x ≤ℤ hi). rw (cut_inside f hi x l) (subst (λ p. P (value_of f x) p) (sym (cut_inside g hi x l)) (sum x)))
 
 -- ---- a step before a stop that has the same kink
 
 kink_same : (mu a b up x : ℤ) → (mu ≡ pos 0) ⊎ (a ≡ b) → reserve_term mu a up x ≡ reserve_term mu b up x
 kink_same mu a b up x (inl none) = ap (λ m. reserve_term m a up x) none ∙ free a ∙ sym (free b) ∙
-    sym (ap (λ m. reserve_term m b up x) none)
+    sym (cc)
   where
     free : (c : ℤ) → reserve_term (pos 0) c up x ≡ pos 0
     free c = omega (arith, ints)

@@ -79,8 +79,7 @@ module _ (g : ThermalUnit) (π : PriceLists) (first k : ℕ) (n : Note) (e : Low
       let stop : false ≡ ltb (suc k) (length π.energy) = sym
       (le-ltb (suc k) (length π.energy) (omega arith)) in (
         h,
-        subst (λ (b : Bool). IsNoted g π first k b (record { turn = e.turn; first = n.first; last = n.last }) h) stop
-            (turned g π first k false n e.turn h turn noted),
+        rw stop at (turned g π first k false n e.turn h turn noted),
         least,
       )
 
@@ -108,8 +107,7 @@ module _ (g : ThermalUnit) (π : PriceLists) (first k : ℕ) (n : Note) (e : Low
           ends = noted.ends;
         } in (
           cut h high,
-          subst (λ (b : Bool). IsNoted g π first k b (record { turn = e.turn; first = n.first; last = n.last })
-              (cut h high)) stop_is (turned g π first k true n e.turn (cut h high) turn here),
+          rw stop_is at (turned g π first k true n e.turn (cut h high) turn here),
           least_cut g π k starts alike noted.curve unit price noted.is_curve noted.before h e.value e.at noted.stepped
               least,
         )
@@ -145,8 +143,7 @@ end_noted_beside g π first k n e h f after c is_curve before front noted steppe
       };
     } in (
       after,
-      subst (λ (b : Bool). IsNoted g π first k b (record { turn = e.turn; first = n.first; last = n.last }) after)
-          stop here,
+      rw stop at here,
       least,
     )
 

@@ -121,8 +121,7 @@ pub most_chosen : (g : ThermalUnit) (cap result : ℤ) → IsThermalUnit g → F
 most_chosen g cap result unit fits fits' is =
     let low : stored g.min_power ≡ g.min_power = to_z-of_z w64 g.min_power (power_fits g.min_power unit.min_power) in
     let down : stored g.ramp_down ≡ g.ramp_down = to_z-of_z w64 g.ramp_down (power_fits g.ramp_down unit.ramp_down) in
-    let sum : stored g.min_power +ℤ stored g.ramp_down ≡ g.min_power +ℤ g.ramp_down = ap
-    (λ (x : ℤ). x +ℤ stored g.ramp_down) low ∙ ap (λ (y : ℤ). g.min_power +ℤ y) down in
+    let sum : stored g.min_power +ℤ stored g.ramp_down ≡ g.min_power +ℤ g.ramp_down = cc in
     let a = unit.min_power.at_least in
     let sum_fits = fits_within w64 2000000000 (g.min_power +ℤ g.ramp_down)
     (record { at_least = omega (arith, ints); at_most = omega (arith, ints) }) (omega arith) in
@@ -167,13 +166,13 @@ module _ (g : ThermalUnit) (π : PriceLists) (k : ℕ) (starts stops : Bool) (un
       ap (λ (r : ℤ). r -ℤ energy) reserve_is ∙ ap (λ (e : ℤ). int_at π.reserve k -ℤ e) energy_is
 
   cap_stored : stored cap ≡ cap_at g starts stops
-  cap_stored = to_z-of_z w64 cap (output_fits cap (subst IsOutput (sym cap_is) (cap_out g starts stops unit))) ∙ cap_is
+  cap_stored = to_z-of_z w64 cap (output_fits cap (rw cap_is (cap_out g starts stops unit))) ∙ cap_is
 
   most_at : most ≡ (step_at g π k starts stops).most
   most_at = most_is ∙ ap (λ (z : ℤ). cond stops (int_min z (g.min_power +ℤ g.ramp_down)) z) cap_stored
 
   most_stored : stored most ≡ (step_at g π k starts stops).most
-  most_stored = to_z-of_z w64 most (output_fits most (subst IsOutput (sym most_at) (most_out g π k starts stops unit)))
+  most_stored = to_z-of_z w64 most (output_fits most (rw most_at (most_out g π k starts stops unit)))
       ∙ most_at
 
   pub step_stored : IsStep (record {
@@ -224,13 +223,13 @@ module _ (g : ThermalUnit) (c : Curve) (unit : IsThermalUnit g) (curve : IsCostC
         record {
           blocks = curve.blocks;
           first_place = place_of c.at
-              (subst IsPower (sym (curve.starts origin)) (unit.points 0 origin (omega arith)).at);
+              (rw (curve.starts origin) (unit.points 0 origin (omega arith)).at);
           last_place = place_of (end_of c.at c.blocks.items)
-              (subst IsPower (sym (curve.ends n origin last)) (unit.points n origin (omega arith)).at);
+              (rw (curve.ends n origin last) (unit.points n origin (omega arith)).at);
           values = λ x v h.
               let spans = curve.inside x (some_is (curve_value c x) v h) in
               let e : v ≡ envelope g.points x = same_some (curve_value c x) h (curve.value x spans) in
-              amount_of v (subst IsCost (sym e) (law g.points x points spans));
+              amount_of v (rw e (law g.points x points spans));
         }
 
     pub cost_of_step : (π : PriceLists) (k : ℕ) (starts stops : Bool) → pos 0 ≤ℤ int_at π.reserve k →
@@ -257,8 +256,8 @@ pub step_moved : (g : ThermalUnit) (π : PriceLists) (k : ℕ) (starts starts' s
     (f h : Table) → IsStep s (step_at g π k starts stops) → starts ≡ starts' → IsStepped s c f h →
     IsStepped (step_at g π k starts' stops) c f h
 step_moved g π k starts starts' stops s c f h is same step =
-    let e : IsStep s (step_at g π k starts' stops) = is ∙ ap (λ (b : Bool). step_at g π k b stops) same in
-    subst (λ (s : Step). IsStepped s c f h) e step
+    let e : IsStep s (step_at g π k starts' stops) = cc in
+    rw e at step
 
 -- a step before a stop that differs in the range of the power alone
 module _ (g : ThermalUnit) (π : PriceLists) (k : ℕ) (starts starts' : Bool) (last : Step)
@@ -266,10 +265,9 @@ module _ (g : ThermalUnit) (π : PriceLists) (k : ℕ) (starts starts' : Bool) (
   pub alike_of : (on : Step) → IsStep on (step_at g π k starts false) →
       (on.reserve_price ≡ pos 0) ⊎ (last.cap ≡ on.cap) →
       (int_at π.reserve k ≡ pos 0) ⊎ (cap_at g starts' true ≡ cap_at g starts' false)
-  alike_of on on_is (inl free) = inl (sym (ap (λ (s : Step). s.reserve_price) on_is) ∙ free)
+  alike_of on on_is (inl free) = inl (cc)
   alike_of on on_is (inr alike) =
-      inr (subst (λ (b : Bool). cap_at g b true ≡ cap_at g b false) same
-      (sym (ap (λ (s : Step). s.cap) last_is) ∙ alike ∙ ap (λ (s : Step). s.cap) on_is))
+      inr (rw same at (sym (ap (λ (s : Step). s.cap) last_is) ∙ alike ∙ ap (λ (s : Step). s.cap) on_is))
 
   pub range_moved : IsFairStep last → (P : ℤ → ℤ → Type 0) → P (stored last.least) (stored last.most) →
       P g.min_power (step_at g π k starts' true).most
@@ -279,5 +277,4 @@ module _ (g : ThermalUnit) (π : PriceLists) (k : ℕ) (starts starts' : Bool) (
       let high : stored last.most ≡ (step_at g π k starts' true).most =
       to_z-of_z w64 last.most (output_fits last.most fair.most) ∙ ap (λ (s : Step). s.most) last_is ∙
       ap (λ (b : Bool). (step_at g π k b true).most) same in
-      subst (λ (x : ℤ). P x (step_at g π k starts' true).most) low
-      (subst (λ (y : ℤ). P (stored last.least) y) high here)
+      rw low at (subst (λ (y : ℤ). P (stored last.least) y) high here)

@@ -47,7 +47,7 @@ module _ (g : ThermalUnit) (π : PriceLists) (first t : ℕ) (x : ℤ) (f : Tabl
   begin_at = record {
     sound = λ y v h.
         let e = point.only y v h in
-        let z : v ≡ pos 0 = same_some (value_of f x) (ap (value_of f) (sym e) ∙ h) point.there in
+        let z : v ≡ pos 0 = same_some (value_of f x) (cc) point.there in
         record {
           run = blank (length π.energy);
           power_length = length-replicate (length π.energy) 0;
@@ -58,10 +58,10 @@ module _ (g : ThermalUnit) (π : PriceLists) (first t : ℕ) (x : ℤ) (f : Tabl
           idle = λ k is free. blank_reserve (length π.energy) k;
         };
     complete = λ d run. (pos 0, ap (value_of f) (here d) ∙ point.there, let e = cost d in omega (arith, ints));
-    powers = λ y v h. (let e = point.only y v h in subst IsOutput (sym e) out);
+    powers = λ y v h. (let e = point.only y v h in rw e out);
     values = λ y v h.
         let e = point.only y v h in
-        let z : v ≡ pos 0 = same_some (value_of f x) (ap (value_of f) (sym e) ∙ h) point.there in
+        let z : v ≡ pos 0 = same_some (value_of f x) (cc) point.there in
         zero_within ((suc t - first) * 1000000000000000) v z;
   }
 
@@ -98,9 +98,9 @@ pub frontier_from : (g : ThermalUnit) (π : PriceLists) (first : ℕ) (power : �
 frontier_from g π zero power f unit start goes_on point =
     let z : 0 ≡ 0 - 1 = omega arith in
     subst (λ (t : ℕ). IsFrontier g π 0 t f) z
-    (frontier_goes_on g π f unit (subst (λ (x : ℤ). IsPoint x (pos 0) f) (goes_on refl) point))
+    (frontier_goes_on g π f unit (rw (goes_on refl) at point))
 frontier_from g π (suc b) power f unit start goes_on point =
-    begin_started g π (suc b) f unit (omega arith) (subst (λ (x : ℤ). IsPoint x (pos 0) f) (start (omega arith)) point)
+    begin_started g π (suc b) f unit (omega arith) (rw (start (omega arith)) at point)
 
 -- ---- one more period
 
@@ -141,9 +141,7 @@ module _ (g : ThermalUnit) (π : PriceLists) (first k : ℕ) (c : Curve) (unit :
       let power : power_in run (suc k) ≡ x = written_power old k n.0 m.0 in_power ∙ sym n.1 in
       let reserve : reserve_in run (suc k) ≡ r = written_reserve old k n.0 m.0 in_reserve ∙ sym m.1 in
       let more = cost_more g π first k run from in
-      let net : net_cost g π run (suc k) ≡ net_cost_at g π k x r = ap
-      (λ (p : ℤ). net_cost_at g π k p (reserve_in run (suc k))) power ∙
-      ap (λ (r : ℤ). net_cost_at g π k x r) reserve in
+      let net : net_cost g π run (suc k) ≡ net_cost_at g π k x r = cc in
       let before = cost_alike g π first k old run same in
       record {
         run = run;
@@ -153,8 +151,7 @@ module _ (g : ThermalUnit) (π : PriceLists) (first k : ℕ) (c : Curve) (unit :
         before = level_same g first k old run same ∙ reached.ends;
         power = power;
         reserve = reserve;
-        cost = more ∙ ap (λ (z : ℤ). z +ℤ net_cost g π run (suc k)) (before ∙ reached.cost) ∙
-            ap (λ (z : ℤ). w +ℤ z) net;
+        cost = cc;
       }
 
   -- ---- without a stop
@@ -178,10 +175,10 @@ module _ (g : ThermalUnit) (π : PriceLists) (first k : ℕ) (c : Curve) (unit :
               (move_same g starts false m.before x m.reserve (level g first b.run k) (power_in b.run (suc k))
               (reserve_in b.run (suc k)) (sym b.before) (sym b.power) (sym b.reserve) m.move);
           ends = level_power g first b.run k from ∙ b.power;
-          cost = b.cost ∙ sym m.cost;
+          cost = cc;
           idle = λ j is free.
               let z : j ≡ k = omega arith in
-              let here : int_at π.reserve k ≡ pos 0 = ap (int_at π.reserve) (sym z) ∙ free in
+              let here : int_at π.reserve k ≡ pos 0 = cc in
               ap (λ (i : ℕ). reserve_in b.run (suc i)) z ∙ b.reserve ∙ m.idle here;
         }
 
@@ -233,8 +230,7 @@ module _ (g : ThermalUnit) (π : PriceLists) (first k : ℕ) (c : Curve) (unit :
         let b = front.complete d (run_less g first k d run) in
         let whole = move_whole g starts periods k (level g first d k) (power_in d (suc k)) (reserve_in d (suc k))
         (run k from (omega arith)) end in
-        let m = subst (λ (b : Bool). IsMove g starts b (level g first d k) (power_in d (suc k)) (reserve_in d (suc k)))
-        (sym is_stop) whole in
+        let m = rw (← is_stop) at whole in
         let s = step_complete g π k c unit reserve_price.at_least curve starts stops f h step (level g first d k) b.0
         (power_in d (suc k)) (reserve_in d (suc k)) b.1 m (reserve_not_negative d k) in
         let more = cost_more g π first k d from in
@@ -250,17 +246,15 @@ module _ (g : ThermalUnit) (π : PriceLists) (first k : ℕ) (c : Curve) (unit :
         let whole = move_same g starts stops m.before x m.reserve (level g first d k) (power_in d (suc k))
         (reserve_in d (suc k)) (sym b.before) (sym b.power) (sym b.reserve) m.move in
         let parts = move_parts g starts periods k (level g first d k) (power_in d (suc k)) (reserve_in d (suc k))
-        (subst (λ (b : Bool). IsMove g starts b (level g first d k) (power_in d (suc k)) (reserve_in d (suc k)))
-        is_stop whole) in
+        (rw (← is_stop) whole) in
         let dispatch = dispatch_from_run g periods first unit.ramp_down.at_least d k from
         (run_more g first k d b.keeps parts.0) parts.1 in
         let old = front.values m.before m.old m.there in
         let net = net_within g π k c unit reserve_price.at_least curve starts stops m.before x m.reserve law
         energy_price reserve_price.at_most m.move m.not_negative in
         let count : suc (suc k) - first ≡ suc (suc k - first) = omega arith in (
-          (d, dispatch, b.cost ∙ sym m.cost),
-          subst (λ (z : ℤ). IsSpellWithin first (suc k) z) (sym m.cost)
-              (within_more (suc k - first) (suc (suc k) - first) m.old (net_cost_at g π k x m.reserve) count old net),
+          (d, dispatch, cc),
+          rw m.cost (within_more (suc k - first) (suc (suc k) - first) m.old (net_cost_at g π k x m.reserve) count old net),
         )
 
     pub answer_of_step : (o : Option ℤ) → IsLeastCost h o → IsAnswer o
@@ -354,8 +348,7 @@ module _ (g : ThermalUnit) (π : PriceLists) (first k : ℕ) (c : Curve) (unit :
           let end = end_from_dispatch g periods first unit.ramp_down.at_least d k from dispatch in
           let whole = move_whole g starts periods k (level g first d k) (power_in d (suc k)) (reserve_in d (suc k))
           (run k from (omega arith)) end in
-          let m = subst (λ (b : Bool). IsMove g starts b (level g first d k) (power_in d (suc k))
-          (reserve_in d (suc k))) (lt-ltb (suc k) periods before) whole in
+          let m = rw (lt-ltb (suc k) periods before) at whole in
           let kept = reserve_not_negative d k in
           (m.least, most_over g π k starts true (power_in d (suc k)) (omega (arith, ints)) m.leave)
 

@@ -56,8 +56,7 @@ module _ (g : ThermalUnit) (π : PriceLists) (first other k : ℕ) (f : Table) (
       let reserve : reserve_in run (suc k) ≡ reserve_in d (suc k) = written_reserve old k n.0 m.0 in_reserve ∙
       sym m.1 in
       let net : net_cost g π run (suc k) ≡ net_cost g π d (suc k) =
-      ap (λ (p : ℤ). net_cost_at g π k p (reserve_in run (suc k))) power ∙
-      ap (λ (r : ℤ). net_cost_at g π k (power_in d (suc k)) r) reserve in
+      cc in
       let more = cost_more g π other k run (omega arith) in
       let before = cost_alike g π other k old run same in
       record {
@@ -66,8 +65,7 @@ module _ (g : ThermalUnit) (π : PriceLists) (first other k : ℕ) (f : Table) (
         before = level_same g other k old run same ∙ reached.ends;
         power = power;
         reserve = reserve;
-        cost = more ∙ ap (λ (z : ℤ). z +ℤ net_cost g π run (suc k)) (before ∙ reached.cost) ∙
-            ap (λ (z : ℤ). v +ℤ z) net;
+        cost = cc;
       }
 
   joined_run : (j : IsJoined) → IsRun g first (suc k) d → IsRun g other (suc k) j.run
@@ -78,8 +76,7 @@ module _ (g : ThermalUnit) (π : PriceLists) (first other k : ℕ) (f : Table) (
       (level g other j.run k) (power_in j.run (suc k)) (reserve_in j.run (suc k))
       (sym j.before) (sym j.power) (sym j.reserve) there in
       run_more g other k j.run j.keeps
-      (subst (λ (b : Bool). IsMove g b false (level g other j.run k) (power_in j.run (suc k))
-      (reserve_in j.run (suc k))) (no_start other k low) here)
+      (rw (← no_start other k low) here)
 
   run_on : IsRun g first (suc k) d → IsRunOn g π first other k d v
   run_on run =

@@ -32,15 +32,13 @@ pub best_may : (price cap up q p : ℤ) → p ≤ℤ cap → (p -ℤ q) ≤ℤ u
 best_may price cap up q p h i =
     by_lt_z (pos 0) price
     (λ paid.
-    subst (λ (r : ℤ). IsReserve cap up q p r) (sym (best_where_paid price cap up q p paid))
-    (record {
+    rw (best_where_paid price cap up q p paid) (record {
       least = omega (arith, ints, clamps);
       greatest = omega (arith, ints, clamps);
       ramp = omega (arith, ints, clamps);
     }))
     (λ unpaid.
-    subst (λ (r : ℤ). IsReserve cap up q p r) (sym (best_where_not_paid price cap up q p unpaid))
-    (record { least = omega (arith, ints); greatest = omega (arith, ints); ramp = omega (arith, ints) }))
+    rw (best_where_not_paid price cap up q p unpaid) (record { least = omega (arith, ints); greatest = omega (arith, ints); ramp = omega (arith, ints) }))
 
 -- it earns what the most reserve earns
 pub best_earns : (price cap up q p : ℤ) → pos 0 ≤ℤ price →
@@ -54,7 +52,7 @@ best_earns price cap up q p h =
     let most = zero-*ℤ (most_reserve cap up q p) in
     let a = ap (λ (x : ℤ). x *ℤ best_reserve price cap up q p) z in
     let b = ap (λ (x : ℤ). x *ℤ most_reserve cap up q p) z in
-    a ∙ none ∙ sym (b ∙ most))
+    cc)
 
 pub at_most_most : (cap up q p r : ℤ) → IsReserve cap up q p r → r ≤ℤ most_reserve cap up q p
 at_most_most cap up q p r h = omega (arith, ints, clamps)

@@ -34,7 +34,7 @@ pub move_same : (g : ThermalUnit) (starts stops : Bool) (q p r q' p' r' : ℤ) �
     IsMove g starts stops q p r → IsMove g starts stops q' p' r'
 move_same g starts stops q p r q' p' r' e f i m =
     subst (λ (z : ℤ). IsMove g starts stops q' p' z) i
-    (subst (λ (y : ℤ). IsMove g starts stops q' y r) f (subst (λ (x : ℤ). IsMove g starts stops x p r) e m))
+    (rw f at (subst (λ (x : ℤ). IsMove g starts stops x p r) e m))
 
 module _ (g : ThermalUnit) (first : ℕ) where
   level_alike : (t : ℕ) (d d' : Schedule) → IsAlike t d d' → (j : ℕ) → j ≤ t → level g first d' j ≡ level g first d j
@@ -244,8 +244,7 @@ module _ (g : ThermalUnit) (periods first : ℕ) (ramp_down : pos 0 ≤ℤ g.ram
             most = omega (arith, ints, clamps);
             start = λ e. (
                 let is = eqb-true first (suc j) e in
-                let b = subst (λ (t : ℕ). (over_min g d t +ℤ reserve_in d t) ≤ℤ cap_of g true false) is
-                (h.start (omega arith)) in
+                let b = rw is at (h.start (omega arith)) in
                 omega (arith, ints, clamps)
                 );
             stop = λ e. cc;
@@ -270,8 +269,7 @@ module _ (g : ThermalUnit) (periods first : ℕ) (ramp_down : pos 0 ≤ℤ g.ram
             | inl before ↦
                 let is : first ≡ suc j = omega arith in
                 let l = level_before g first d j before in
-                let up = subst (λ (t : ℕ). (over_min g d t +ℤ reserve_in d t) ≤ℤ g.ramp_up) is
-                (h.enter (omega arith)) in
+                let up = rw is at (h.enter (omega arith)) in
                 record {
                   least = omega (arith, ints);
                   greatest = cap_here j low until;

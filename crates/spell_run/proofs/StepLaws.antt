@@ -177,13 +177,11 @@ module _ (g : ThermalUnit) (π : PriceLists) (k : ℕ) (c : Curve) (unit : IsThe
         on_curve : (x v : ℤ) → value_of step.line x ≡ Some v → g.min_power ≤ℤ x → x ≤ℤ g.max_power →
             value_of h x ≡ Some (v +ℤ envelope g.points x)
         on_curve x v is low high =
-            let m = subst (λ o. MatchOption o (value_of h x ≡ None)
-            (λ v. (e : ℤ) × (curve_value c (x +ℤ pos 0) ≡ Some e) × (value_of h x ≡ Some (v +ℤ e)))) is
-            (step.is_curve x) in
+            let m = rw is at (step.is_curve x) in
             let at : x +ℤ pos 0 ≡ x = omega (arith, ints) in
             let e = same_some (curve_value c x) (subst (λ (y : ℤ). curve_value c y ≡ Some m.0) at m.1)
             (cost_on x low high) in
-            m.2 ∙ ap (λ (e : ℤ). Some (v +ℤ e)) e
+            cc
 
   -- what a move costs is far within the limits
   pub net_within : (starts stops : Bool) (q x r : ℤ) → EnvelopeIsCost →

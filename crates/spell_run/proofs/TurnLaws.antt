@@ -6,4 +6,4 @@ pub turn_moved : (g : ThermalUnit) (π : PriceLists) (k : ℕ) (starts starts' s
     → s ≡ step_at g π k starts stops → starts ≡ starts' → IsTurn s f x → IsTurn (step_at g π k starts' stops) f x
 turn_moved g π k starts starts' stops s f x is same turn =
     let e = is ∙ ap (λ (b : Bool). step_at g π k b stops) same in
-    subst (λ (s : Step). IsTurn s f x) e turn
+    rw e at turn

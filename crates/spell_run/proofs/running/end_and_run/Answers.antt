@@ -171,12 +171,11 @@ returns-clause-ended c =
     (omega arith)).at_least in
     let same = c.least_beside-end.ensures.shown in
     let is = c.step_of-last.ensures.step ∙ ap (λ b. step_at unit prices place b true) c.starts_in-starts.ensures in
-    let least = subst (λ (s : Step). MatchOption c.least_beside-end.result (IsEmpty found.0)
-    (λ r. IsLeast found.0 r.value r.at × IsTurn s f r.turn)) is found.2 in
+    let least = rw is at found.2 in
     let h = shown c.run_over-note-2.new.running in
     ended_beside unit prices first place c.run_over-note-2.result f h c.requires.frontier
     c.run_over-note-2.ensures.frontier
-    (λ x v there. c.run_over-note-2.ensures.noted x v (ap (λ (t : Table). value_of t x) same ∙ there)) before
+    (λ x v there. c.run_over-note-2.ensures.noted x v (cc)) before
     c.args.unit.now.valid price c.args.curve.now c.requires.curve found.0
     (step_moved unit prices place c.starts_in-starts.result _ true c.step_of-last.result c.args.curve.now f found.0
     c.step_of-last.ensures.step c.starts_in-starts.ensures found.1) c.least_beside-end.result least
@@ -184,4 +183,4 @@ returns-clause-ended c =
 pub returns-clause-noted : goal.returns-clause-noted
 returns-clause-noted c =
     λ x v there. c.run_over-note-2.ensures.noted x v
-    (ap (λ (t : Table). value_of t x) c.least_beside-end.ensures.shown ∙ there)
+    (cc)

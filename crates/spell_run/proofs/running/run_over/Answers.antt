@@ -50,8 +50,7 @@ returns-clause-noted c = λ x v there.
       before = before;
       frontier = c.requires.frontier;
       stepped = stepped;
-      turn = subst (λ (z : ℤ). IsTurn (step_at unit prices c.args.place (eqb c.args.first (suc c.args.place)) false)
-          before z) (sym c.turn.ensures) turn;
+      turn = rw c.turn.ensures turn;
       value = first.0;
       begins = first.1;
       ends = last;

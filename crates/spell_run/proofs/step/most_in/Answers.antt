@@ -7,4 +7,4 @@ returns-then-stops c =
     let unit = c.args.unit.now in
     most_chosen (thermal_of unit) c.args.cap c.min.result unit.valid c.ranges.cap (record { sfits = c.min.type_inv })
     c.min.ensures.value
-    ∙ sym (ap (λ (b : Bool). cond b (int_min c.args.cap (unit.min_power +ℤ unit.ramp_down)) c.args.cap) c.if-stops.true)
+    ∙ sym (cc)

@@ -26,6 +26,5 @@ returns-clause-step c =
 
 pub returns-clause-fair : goal.returns-clause-fair
 returns-clause-fair c =
-    subst IsFairStep (sym (returns-clause-step c))
-    (step_fair (thermal_of c.args.unit.now) (prices_of c.args.prices.now) c.args.place c.args.starts c.args.stops
+    rw (returns-clause-step c) (step_fair (thermal_of c.args.unit.now) (prices_of c.args.prices.now) c.args.place c.args.starts c.args.stops
     c.args.unit.now.valid c.args.prices.now.valid c.requires)
