@@ -86,7 +86,7 @@ pub written_cast : (k : ℕ) (p r b : ℤ) (d d' : Schedule) → IsOutput p → 
     IsWritten k (pos (nat_abs (stored p))) (pos (nat_abs (stored r))) d d' → IsWritten k p b d d'
 written_cast k p r b d d' p_out r_out is w =
     subst (λ (x : ℤ). IsWritten k x b d d') (cast_is p p_out)
-    (subst (λ (y : ℤ). IsWritten k (pos (nat_abs (stored p))) y d d') (cast_is r r_out ∙ is) w)
+    (rw (cast_is r r_out ∙ is) at w)
 
 pub best_stored : (s : Step) (q p : ℤ) → IsOutput q → IsOutput p →
     best_reserve s.reserve_price s.cap s.ramp_up (stored q) (stored p) ≡ best_reserve s.reserve_price s.cap s.ramp_up q

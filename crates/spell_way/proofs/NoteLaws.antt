@@ -93,7 +93,7 @@ cheapest_near s f m a b va x y w z turn first last there reach is =
       kinked = kinked;
       is_kinked = turn.1;
       value = value.0;
-      least = subst (λ (z : ℤ). IsLeastIn (x -ℤ s.ramp_up) (x +ℤ s.ramp_down) kinked value.0 z) (sym is) least;
+      least = rw is least;
     }
 
 -- ---- a way on from a frontier is one from any of the same periods
@@ -153,8 +153,8 @@ module _ (g : ThermalUnit) (π : PriceLists) (first k : ℕ) (unit : IsThermalUn
           let r = reached x v there in
           subst (λ (s : Step). IsCheapest s noted.before x y) step_is
           (near noted.before noted.value r.0 r.1
-          (subst (λ (s : Step). IsTurn s noted.before n.turn) (sym step_is) noted.turn) noted.begins noted.ends r.2
-          (subst (λ (s : Step). Reaches s.ramp_up s.ramp_down x r.0) (sym step_is) r.3))
+          (rw step_is noted.turn) noted.begins noted.ends r.2
+          (rw step_is r.3))
 
       pub before_out : IsOutput y
       before_out =
@@ -186,10 +186,8 @@ module _ (g : ThermalUnit) (π : PriceLists) (first k : ℕ) (unit : IsThermalUn
             kinked = c.kinked;
             is_kinked = c.is_kinked;
             value = c.value;
-            least = subst (λ (z : ℤ). IsLeastIn (x -ℤ g.ramp_up) (x +ℤ g.ramp_down) c.kinked c.value z) (sym e) c.least;
-            written = subst (λ (s : Step). IsWritten k x (best_reserve s.reserve_price s.cap s.ramp_up (stored y) x) d
-                d') step_is
-                (subst (λ (z : ℤ). IsWritten k z (best_reserve s.reserve_price s.cap s.ramp_up (stored y) z) d d') o
+            least = rw e c.least;
+            written = rw step_is at (subst (λ (z : ℤ). IsWritten k z (best_reserve s.reserve_price s.cap s.ramp_up (stored y) z) d d') o
                 written);
           }
 
@@ -200,9 +198,8 @@ module _ (g : ThermalUnit) (π : PriceLists) (first k : ℕ) (unit : IsThermalUn
         IsWayFrom g π first k (suc k) noted.before d' y cost
     way_end noted least chosen =
         let e = sym (stops_last (length π.energy) k) in
-        let step = subst (λ (b : Bool). IsStepped (step_at g π k starts b) noted.curve noted.before after) e
-        noted.stepped in
-        let choice = subst (λ (b : Bool). IsChosen (step_at g π k starts b) noted.before k x y d d') e chosen in
+        let step = rw e at noted.stepped in
+        let choice = rw e at chosen in
         let onward = onward_end g π first k noted.curve unit prices noted.is_curve within from noted.before after
         noted.frontier step d x cost least in
         way_of_choice g π first k noted.curve unit prices noted.is_curve within from (suc k) (omega arith) noted.before
@@ -260,8 +257,8 @@ module _ (g : ThermalUnit) (π : PriceLists) (last : ℕ) (f : Table) (d : Sched
       IsBestDispatch g π (length π.energy) first last d c × IsFirstDispatch g π (length π.energy) first last d c
   whole_way zero front way =
       let z : 0 - 1 ≡ 0 = omega arith in
-      let here = subst (λ (t : ℕ). IsFrontier g π 0 t f) z front in
-      let on = subst (λ (t : ℕ). IsWayFrom g π 0 t last f d y c) z way in
+      let here = rw z at front in
+      let on = rw z at way in
       let none : (k : ℕ) → 0 ≤ suc k → suc k ≤ 0 → ⊥ = λ k from until. absurd (omega arith) in
       let at : (d : Schedule) → level g 0 d 0 ≡ g.power0 = λ d.
       (let e = level_within g 0 d 0 (omega arith) in omega (arith, ints)) in
@@ -270,8 +267,8 @@ module _ (g : ThermalUnit) (π : PriceLists) (last : ℕ) (f : Table) (d : Sched
       of_way g π 0 0 last g.power0 f d y c unit prices point none starts (at d) (cost_zero g π d) end on
   whole_way (suc b) front way =
       let z : suc b - 1 ≡ b = omega arith in
-      let here = subst (λ (t : ℕ). IsFrontier g π (suc b) t f) z front in
-      let on = subst (λ (t : ℕ). IsWayFrom g π (suc b) t last f d y c) z way in
+      let here = rw z at front in
+      let on = rw z at way in
       let none : (k : ℕ) → suc b ≤ suc k → suc k ≤ b → ⊥ = λ k from until. absurd (omega arith) in
       let at : (d : Schedule) → level g (suc b) d b ≡ g.min_power = λ d. level_before g (suc b) d b (omega arith) in
       let free : (d : Schedule) → spell_cost g π (suc b) b d ≡ pos 0 = λ d. cost_none g π (suc b) b d (omega arith) in
@@ -293,9 +290,9 @@ pub record IsWrittenFrom (g : ThermalUnit) (π : PriceLists) (first k last : ℕ
 pub outside_more : (k last : ℕ) (old d d' : Schedule) → suc k ≤ last → IsSameOutside (suc k) (suc k) d d' →
     IsSameOutside (suc (suc k)) last old d → IsSameOutside (suc k) last old d'
 outside_more k last old d d' low here rest = record {
-  on_length = here.on_length ∙ rest.on_length;
-  power_length = here.power_length ∙ rest.power_length;
-  reserve_length = here.reserve_length ∙ rest.reserve_length;
+  on_length = cc;
+  power_length = cc;
+  reserve_length = cc;
   on = λ j out. here.on j (apart j out) ∙ rest.on j (far j out);
   power = λ j out. here.power j (apart j out) ∙ rest.power j (far j out);
   reserve = λ j out. here.reserve j (apart j out) ∙ rest.reserve j (far j out);
@@ -322,10 +319,9 @@ module _ (g : ThermalUnit) (π : PriceLists) (first k last : ℕ) (unit : IsTher
         before = noted.before;
         frontier = noted.frontier;
         cost = cost;
-        way = subst (λ (l : ℕ). IsWayFrom g π first k l noted.before d' y cost) is
-            (way_end g π first k unit prices within from (suc k) d d' x y cost n after noted least chosen);
+        way = rw is at (way_end g π first k unit prices within from (suc k) d d' x y cost n after noted least chosen);
         on = on_last k last x _ d d' is chosen.written;
-        outside = subst (λ (l : ℕ). IsSameOutside (suc k) l d d') is outside;
+        outside = rw (← is) outside;
       }
 
   -- an earlier one
@@ -354,16 +350,10 @@ pub end_of_noted : (g : ThermalUnit) (π : PriceLists) (first last : ℕ) (passe
     IsLeast after e.value e.at
 end_of_noted g π first last passed e one noted is =
     let same : noted.lowest ≡ e = (cc) in
-    let here = subst (IsEndNoted g π first (last - 1) (passed (last - 1)).note) same noted.end in
+    let here = rw same at noted.end in
     let z : suc (last - 1) ≡ last = omega arith in (
       here.0,
-      subst (λ (l : ℕ). IsNoted g π first (last - 1) (ltb l (length π.energy))
-          (record {
-            turn = e.turn;
-            first = (passed (last - 1)).note.first;
-            last = (passed (last - 1)).note.last;
-          }) here.0)
-          z here.1,
+      rw z at here.1,
       here.2,
     )
 
@@ -386,9 +376,7 @@ module _ (g : ThermalUnit) (π : PriceLists) (first k : ℕ) (stops : Bool) (n :
       let c = output_stored n.last (noted.frontier.powers n.last noted.ends.value noted.ends.there) in
       subst (λ (z : ℤ). IsNoted g π first k stops (record { turn = z; first = stored n.first; last = stored n.last })
       after) (sym a)
-      (subst (λ (z : ℤ). IsNoted g π first k stops (record { turn = n.turn; first = z; last = stored n.last }) after)
-      (sym b)
-      (subst (λ (z : ℤ). IsNoted g π first k stops (record { turn = n.turn; first = n.first; last = z }) after) (sym c)
+      (rw b (subst (λ (z : ℤ). IsNoted g π first k stops (record { turn = n.turn; first = n.first; last = z }) after) (sym c)
       noted))
 
 module _ (g : ThermalUnit) (π : PriceLists) (first last : ℕ) (unit : IsThermalUnit g) (prices : ArePrices π)
@@ -416,7 +404,7 @@ module _ (g : ThermalUnit) (π : PriceLists) (first last : ℕ) (unit : IsTherma
         noted_stored g π first (last - 1) (ltb last (length π.energy))
             (record { turn = e.turn; first = (passed (last - 1)).note.first; last = (passed (last - 1)).note.last })
             here.0 here.1,
-        subst (λ (z : ℤ). IsLeast here.0 e.value z) (sym (output_stored e.at out)) here.2,
+        rw (output_stored e.at out) here.2,
       )
 
   -- and the last period is written for it

@@ -14,4 +14,4 @@ pub on_last : (k last : ℕ) (p r : ℤ) (d d' : Schedule) → suc k ≡ last �
     IsOnFromTo (suc k) last d'
 on_last k last p r d d' is written j from until =
     let z : k ≡ j = omega arith in
-    subst (λ (i : ℕ). IsTrue (get_or d'.on i false)) z written.on
+    rw z at written.on

@@ -115,7 +115,7 @@ module _ (g : ThermalUnit) (π : PriceLists) (first b last : ℕ) (base : ℤ) (
       j < last → HasBestReserve g π first last d j)
   whole =
       let e = point.only y way.before way.there in
-      let z : way.before ≡ pos 0 = same_some (value_of f base) (ap (value_of f) (sym e) ∙ way.there) point.there in
+      let z : way.before ≡ pos 0 = same_some (value_of f base) (cc) point.there in
       let r = way.completes d (λ k from until. absurd (none k from until)) (at ∙ sym e)
       (record { power = λ j low high. refl; reserve = λ j low high. refl }) in
       (r.0, omega (arith, ints), r.2)

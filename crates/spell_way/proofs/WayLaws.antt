@@ -41,15 +41,13 @@ module _ (g : ThermalUnit) (periods first : ℕ) (ramp_down : pos 0 ≤ℤ g.ram
       elim (cases_lt (suc k) (suc m)) [
         | inl less ↦
             let e = stops_before (suc m) periods k less in
-            subst (λ (b : Bool). IsMove g (eqb first (suc k)) b (level g first d k) (power_in d (suc k))
-            (reserve_in d (suc k))) (sym e) (run k from until)
+            rw e (run k from until)
         | inr most ↦
             let z : m ≡ k = omega arith in
             let end = end_from_dispatch g periods first ramp_down d m start dispatch in
             let whole = move_whole g (eqb first (suc m)) periods m (level g first d m) (power_in d (suc m))
             (reserve_in d (suc m)) (run m start (omega arith)) end in
-            let stop = subst (λ (b : Bool). IsMove g (eqb first (suc m)) b (level g first d m) (power_in d (suc m))
-            (reserve_in d (suc m))) (sym (stops_last periods m)) whole in
+            let stop = rw (← (stops_last periods m)) at whole in
             subst (λ (j : ℕ). IsMove g (eqb first (suc j)) (stops_at (suc m) periods j) (level g first d j)
             (power_in d (suc j)) (reserve_in d (suc j))) z stop
       ]
@@ -125,8 +123,7 @@ module _ (g : ThermalUnit) (π : PriceLists) (first k : ℕ) (c : Curve) (unit :
       value = cost;
       there = is.there;
       completes = λ run keeps power move same.
-          let m = subst (λ (b : Bool). IsMove g (eqb first (suc k)) b (level g first run k) (power_in run (suc k))
-          (reserve_in run (suc k))) (stops_last T k) move in
+          let m = rw (stops_last T k) at move in
           let parts = move_parts g (eqb first (suc k)) T k (level g first run k) (power_in run (suc k))
           (reserve_in run (suc k)) m in (
             dispatch_from_run g T first unit.ramp_down.at_least run k from (run_more g first k run keeps parts.0)
@@ -143,7 +140,7 @@ module _ (g : ThermalUnit) (π : PriceLists) (first k : ℕ) (c : Curve) (unit :
           let a = is.least (power_in other (suc k)) l.0 l.1 in
           let b = l.2 in
           let e : l.0 ≡ cost = omega (arith, ints) in
-          is.first (power_in other (suc k)) (l.1 ∙ ap Some e);
+          is.first (power_in other (suc k)) (cc);
       first_after = λ other dispatch cost_is i low high same. absurd (omega arith);
     }
 
@@ -156,8 +153,7 @@ module _ (g : ThermalUnit) (π : PriceLists) (first k : ℕ) (c : Curve) (unit :
       value = way.before;
       there = way.there;
       completes = λ run keeps power move same.
-          let m = subst (λ (b : Bool). IsMove g (eqb first (suc k)) b (level g first run k) (power_in run (suc k))
-          (reserve_in run (suc k))) (stops_before last T k low) move in
+          let m = rw (stops_before last T k low) at move in
           way.completes run (run_more g first k run keeps m) (level_power g first run k from ∙ power) same;
       least = way.least;
       rest = λ other dispatch same power. way.rest other dispatch same (level_power g first other k from ∙ power);
@@ -258,13 +254,10 @@ module _ (g : ThermalUnit) (π : PriceLists) (first k : ℕ) (c : Curve) (unit :
         } in
         let o = onward.completes run keeps power m later in
         let more = cost_more g π first k run from in
-        let net : net_cost g π run (suc k) ≡ net_cost_at g π k x r = ap
-        (λ (p : ℤ). net_cost_at g π k p (reserve_in run (suc k))) power ∙
-        ap (λ (r : ℤ). net_cost_at g π k x r) reserve in
+        let net : net_cost g π run (suc k) ≡ net_cost_at g π k x r = cc in
         let is = value_is in
         let best : HasBestReserve g π first last run k =
-        reserve ∙ ap (λ (q : ℤ). best_reserve mu cap g.ramp_up q x) (sym at) ∙
-        ap (λ (p : ℤ). best_reserve mu cap g.ramp_up (level g first run k) p) (sym power) in (
+        cc in (
           o.0,
           omega (arith, ints),
           λ j above high. elim (cases_lt k j) [
@@ -334,7 +327,7 @@ module _ (g : ThermalUnit) (π : PriceLists) (first k : ℕ) (c : Curve) (unit :
             let net_y = net_of_best g π k price cap y x in
             let from_y = source.2 in
             let e : b.0 +ℤ term q ≡ chosen.value = omega (arith, ints) in
-            chosen.least.first q (kinked ∙ ap Some e) back ahead
+            chosen.least.first q (cc) back ahead
 
     way_after : (other : Schedule) → IsDispatch g T first last other → spell_cost g π first last other ≡ cost →
         (i : ℕ) → k ≤ i → i < last → HasSamePowersAfter (suc i) last d' other →
@@ -347,8 +340,7 @@ module _ (g : ThermalUnit) (π : PriceLists) (first k : ℕ) (c : Curve) (unit :
           omega (arith, ints)
       | inr most ↦
           let z : i ≡ k = omega arith in
-          let here : HasSamePowersAfter (suc k) last d' other = subst
-          (λ (t : ℕ). HasSamePowersAfter (suc t) last d' other) z same in
+          let here : HasSamePowersAfter (suc k) last d' other = rw z at same in
           let a = onward.first_here other dispatch cost_is (same_later other here) in
           let b : power_in d' (suc k) ≤ℤ power_in other (suc k) = omega (arith, ints) in
           subst (λ (t : ℕ). power_in d' (suc t) ≤ℤ power_in other (suc t)) (sym z) b

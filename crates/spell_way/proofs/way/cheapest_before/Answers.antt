@@ -31,5 +31,5 @@ returns c = λ f v y w turn first last there reach.
     let is : to_z w64 (of_z w64 c.max.result) ≡ int_max (int_max (x -ℤ s.ramp_up) n.first)
     (int_min (int_min (x +ℤ s.ramp_down) n.last) n.turn) =
     to_z-of_z w64 _ fits_d ∙ top ∙ ap (λ (z : ℤ). int_max z c.min.result) low ∙
-    ap (int_max (int_max (x -ℤ s.ramp_up) n.first)) (near ∙ ap (λ (z : ℤ). int_min z n.turn) high) in
+    ap (int_max (int_max (x -ℤ s.ramp_up) n.first)) (cc) in
     cheapest_near s f n.turn n.first n.last v x y w _ turn first last there reach is

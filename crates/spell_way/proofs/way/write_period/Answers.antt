@@ -16,7 +16,7 @@ range c =
     c.args.visit.note noted.0 noted.1 c.args.visit.power noted.2.0 noted.2.1
 
 stored_out : (c : Start) → IsOutput (to_z w64 (of_z w64 c.args.visit.power))
-stored_out c = subst IsOutput (sym (output_stored c.args.visit.power (range c).0)) (range c).0
+stored_out c = rw (output_stored c.args.visit.power (range c).0) (range c).0
 
 -- y is the cheapest power before x by what is noted
 abbrev IsNear : Step → Note → ℤ → ℤ → Type 0

@@ -37,9 +37,7 @@ pub write_period-power-requires-in-loop-back-clause-noted : goal.write_period-po
 write_period-power-requires-in-loop-back-clause-noted c =
     let k = (c.args.last - 1) - c.loop-back.back in
     let z : c.args.last - c.loop-back.back ≡ suc k = omega arith in
-    let from = subst (λ (t : ℕ). IsWrittenFrom (thermal_of c.args.unit.now) (prices_of c.args.prices.now) c.args.first t
-    c.args.last (schedule_of c.args.into.now.response) (schedule_of c.loop-back.into.response)
-    (to_z w64 c.loop-back.power-bits)) z c.loop-back.invariant.from in
+    let from = rw z at c.loop-back.invariant.from in
     let order : c.args.first ≤ suc k = omega arith in
     let low : suc k < c.args.last = (omega arith) in
     let n = c.requires.noted.on k order low in
@@ -55,9 +53,7 @@ loop-back-preserved c =
     let fits : FitsSigned w64 c.write_period-power-in-loop-back.result = search rules in
     let k = (c.args.last - 1) - c.loop-back.back in
     let z : c.args.last - c.loop-back.back ≡ suc k = omega arith in
-    let from = subst (λ (t : ℕ). IsWrittenFrom (thermal_of c.args.unit.now) (prices_of c.args.prices.now) c.args.first t
-    c.args.last (schedule_of c.args.into.now.response) (schedule_of c.loop-back.into.response)
-    (to_z w64 c.loop-back.power-bits)) z c.loop-back.invariant.from in
+    let from = rw z at c.loop-back.invariant.from in
     let order : c.args.first ≤ suc k = omega arith in
     let low : suc k < c.args.last = (omega arith) in
     let until = c.requires.end in
@@ -74,10 +70,7 @@ loop-back-preserved c =
     (to_z w64 c.loop-back.power-bits) c.write_period-power-in-loop-back.result (passed_at c.args.passed.now k).note
     n.0 n.1 c.envelope_is_cost.ensures low from chosen in
     let here : k ≡ c.args.last - (c.loop-back.back + 1) = omega arith in
-    let moved = subst (λ (t : ℕ). IsWrittenFrom (thermal_of c.args.unit.now) (prices_of c.args.prices.now) c.args.first
-    t c.args.last (schedule_of c.args.into.now.response)
-    (schedule_of c.write_period-power-in-loop-back.new.into.response) c.write_period-power-in-loop-back.result) here
-    next in
+    let moved = rw here at next in
     record {
       from = simp to_z-of_z moved;
       earned = c.write_period-power-in-loop-back.ensures.earned ∙

@@ -9,6 +9,5 @@ returns-clause-best c =
 
 pub returns-clause-bound : goal.returns-clause-bound
 returns-clause-bound c =
-    subst IsOutput (sym (returns-clause-best c))
-    (reserve_out c.args.step c.requires.step c.args.power c.requires.power c.args.before c.requires.before
+    rw (returns-clause-best c) (reserve_out c.args.step c.requires.step c.args.power c.requires.power c.args.before c.requires.before
     c.requires.under c.requires.rise)
