@@ -21,9 +21,10 @@ ghost use Rattle.board_core.specs.Stored.{answer_of};
 ghost use Rattle.board_core.specs.Tasks.{LeavesTask};
 
 use crate::advance::advance;
+use crate::history::{entry_of, post_entry};
 use crate::ledger::Ledger;
 use crate::opening::{EventLists, Room, no_events, open_ledger};
-use crate::posts::{closed_of, count_up, post_entry, refusal};
+use crate::posts::{closed_of, count_up, refusal};
 use crate::replies::{Claim, Posted};
 use crate::terms::{Terms, number_before, task_number};
 use board_history::entries::{Call, Entry, Reply};
@@ -176,13 +177,8 @@ impl Board {
         let prices = self.ledger.prices(before);
         copy_task(&self.terms.case, prices, proposal, unit, into);
         self.lists.takers.push_reserved(caller);
-        self.lists.history.push_reserved(Entry {
-            caller,
-            call: Call::Claim,
-            proposal,
-            unit,
-            reply: Reply::Given,
-        });
+        let entry = entry_of(caller, Call::Claim, proposal, unit, Reply::Given);
+        self.lists.history.push_reserved(entry);
         Claim::Given
     }
 
@@ -252,13 +248,8 @@ impl Board {
         }
         self.lists.halted[at] = true;
         self.any_halt = true;
-        self.lists.history.push_reserved(Entry {
-            caller,
-            call: Call::Halt,
-            proposal: 0,
-            unit: 0,
-            reply: Reply::Stopped,
-        });
+        let entry = entry_of(caller, Call::Halt, 0, 0, Reply::Stopped);
+        self.lists.history.push_reserved(entry);
     }
 
     /// The entries of its history, which is legal: each of its events may follow those before it,

@@ -10,6 +10,7 @@
 
 mod advance;
 mod board;
+mod history;
 mod ledger;
 mod opening;
 mod posts;

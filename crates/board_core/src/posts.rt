@@ -13,14 +13,12 @@ ghost use Rattle.uc_model.specs.TaskRoom.{IsTaskFor};
 ghost use Rattle.plain_lists.specs.declared.limits.TheConstants.{MOST_PROPOSALS, MOST_UNITS};
 ghost use Rattle.board_core.specs.Events.{task_number as number_of};
 ghost use Rattle.board_core.specs.Refusals.{held_refusal, differs_of, own_prices_in, refusal_of};
-ghost use Rattle.board_core.specs.Refusals.{reply_of};
 ghost use Rattle.board_core.specs.Replies.{closed_of as closed_if};
 ghost use Rattle.board_core.specs.Setups.{IsSetup, setup_of};
 
 use crate::ledger::Ledger;
 use crate::replies::{Differs, Posted};
 use crate::terms::{Terms, task_number};
-use board_history::entries::{Call, Entry, Reply};
 use board_history::laws::differences_mean;
 use board_task::same::{alike, is_unit_of, same_prices};
 use board_task::tasks::copy_task;
@@ -161,32 +159,6 @@ pub fn count_up(counts: &mut Vec<u32>, place: usize) -> u32
     let count = counts[place] + 1;
     counts[place] = count;
     count
-}
-
-fn reply_to(closes: bool) -> Reply
-    ensures { result ≡ reply_of closes }
-{
-    if closes { Reply::Closing } else { Reply::Taken }
-}
-
-/// The entry of a post that is taken.
-pub fn post_entry(caller: u32, task: &Task, closes: bool) -> Entry
-    ensures { result ≡ record {
-      caller = caller;
-      call = Call.Post;
-      proposal =
-          task.now.proposal;
-      unit = task.now.unit;
-      reply = reply_of closes;
-    } }
-{
-    Entry {
-        caller,
-        call: Call::Post,
-        proposal: task.proposal,
-        unit: task.unit,
-        reply: reply_to(closes),
-    }
 }
 
 /// The proposal, where it closes.

@@ -26,17 +26,18 @@ pub enum Reply {
 
 /// A call that changed the board: a claim that was given, a post that was taken, or a caller's
 /// first halt. Other calls make no entry. Callers and units count from 0, proposals from 1; a halt
-/// has proposal 0 and unit 0.
+/// has proposal 0 and unit 0. A board has two entries for each task, so they are kept small: the
+/// callers, proposals and units of a run are within 16 bits.
 #[derive(Clone, Copy, PartialEq, Eq, Debug)]
 pub struct Entry {
     /// Who called.
-    pub caller: u32,
+    pub caller: u16,
+    /// The proposal of the task.
+    pub proposal: u16,
+    /// The unit of the task.
+    pub unit: u16,
     /// What was asked for.
     pub call: Call,
-    /// The proposal of the task.
-    pub proposal: u32,
-    /// The unit of the task.
-    pub unit: u32,
     /// What came of it.
     pub reply: Reply,
 }

@@ -226,7 +226,7 @@ fn repeats(alloc: Global, board: &mut Board, task: &mut Task, entry: Entry) -> R
     requires { board.old.setup.market.periods ≡ 1 }
     ensures { board.new.setup ≡ board.old.setup }
 {
-    let caller = entry.caller;
+    let caller = u32::from(entry.caller);
     if board.callers() <= caller {
         return Ok(false);
     }
@@ -256,7 +256,7 @@ fn replays(alloc: Global, entries: &[Entry]) -> Result<bool, Fail> {
         Task::make(alloc, 1)?,
     ];
     for entry in entries {
-        let caller = entry.caller as usize;
+        let caller = usize::from(entry.caller);
         if tasks.len() <= caller || !repeats(alloc, &mut board, &mut tasks[caller], *entry)? {
             return Ok(false);
         }
