@@ -1,12 +1,12 @@
 -- A bench for the most cost points of a case suffices for each of its units.
-use Rattle.answer_workers.proofs.Common.{◌≡◌, ℕ, suc, ◌+◌, ◌*◌, ◌<◌, ◌≤◌, ◌⊎◌, inl, inr, Bool, true, false, cond, Some, List, [], ◌∷◌, ◌++◌, map, length, refl, sym, ap, ◌∙◌, subst, arith, append_assoc, Less, Equal, Greater, All, Contains, slice_get_within, room_of, Slopes, AnyUnit, Thermal, Flat, Bid, Market, NamedThermalUnit, NamedRenewableUnit, NamedBidUnit, PriceLists, Schedule, ThermalUnit, units, named_thermal_of, schedule_of, IsThermalFeasible, Answered, NamedUnit, IsBenchFor, Bench, HasSchedule, IsResponse, Suffices, IsBenchOf, All-nil, All-cons}
+use Rattle.answer_workers.proofs.Common.{◌≡◌, ℕ, suc, ◌+◌, ◌<◌, ◌≤◌, ◌⊎◌, inl, inr, Bool, true, false, cond, Some, List, [], ◌∷◌, ◌++◌, map, length, refl, sym, ap, ◌∙◌, subst, arith, append_assoc, Less, Equal, Greater, All, Contains, slice_get_within, AnyUnit, Thermal, Flat, Bid, Market, NamedThermalUnit, NamedRenewableUnit, NamedBidUnit, PriceLists, Schedule, ThermalUnit, units, named_thermal_of, schedule_of, IsThermalFeasible, Answered, NamedUnit, IsBenchFor, Bench, HasSchedule, IsResponse, Suffices, IsBenchOf, All-nil, All-cons}
 use Rattle.std.specs.Prelude.{IsTrue, IsFalse, slice_get}
 use Rattle.std.specs.Cmp.{nat_cmp_is}
 use Rattle.std.specs.Ordering.{nat_cmp, ord_max, is_lt}
 use Rattle.std.specs.declared.cmp.Ordering.{Ordering}
-use Rattle.std.proofs.Math.Nat.{mul-le-mul_left, le_trans}
 use Rattle.std.proofs.lemmas.Bool.{cases_lt, cases_order}
 use Rattle.uc_model.specs.Earnings.{earnings}
+use Rattle.unit_program.specs.Benches.{BenchesServeLess}
 use Rattle.uc_model.specs.Ties.{IsLeast}
 
 -- ---- the most points of the units before one
@@ -61,22 +61,7 @@ all_few us k most past have =
 
 -- ---- what a bench suffices for
 
--- a bench for more points is one for fewer
-smaller : (periods points less : ℕ) (b : Bench Slopes) → less ≤ points → IsBenchFor room_of periods points b → IsBenchFor room_of periods less b
-smaller periods points less b low h =
-    let blocks = h.blocks in
-    let pieces : periods * (2 * less + 3) ≤ periods * (2 * points + 3) = mul-le-mul_left periods (omega (arith, low)) in
-    record {
-      blocks = omega (arith, blocks, low);
-      count = h.count;
-      room = λ f r is. (le_trans pieces (h.room f r is).0, (h.room f r is).1);
-      rows = h.rows;
-      origins = h.origins;
-      roster = h.roster;
-      limits = h.limits;
-    }
-
-module _ (periods : ℕ) (b : Bench Slopes) where
+module _ (less : BenchesServeLess) (periods : ℕ) (b : Bench) where
   abbrev Serves : AnyUnit → Type 0
   Serves u = Suffices periods u b
 
@@ -88,34 +73,34 @@ module _ (periods : ℕ) (b : Bench Slopes) where
   flats [] rest h = h
   flats (f ∷ fs) rest h = All-cons Serves (Flat f.unit) (map (λ (n : NamedRenewableUnit). Flat n.unit) fs ++ rest) tt (flats fs rest h)
 
-  thermals : (points : ℕ) (ts : List NamedThermalUnit) (rest : List AnyUnit) → IsBenchFor room_of periods points b → All (λ (n : NamedThermalUnit). length n.unit.points ≤ points) ts → All Serves rest
+  thermals : (points : ℕ) (ts : List NamedThermalUnit) (rest : List AnyUnit) → IsBenchFor periods points b → All (λ (n : NamedThermalUnit). length n.unit.points ≤ points) ts → All Serves rest
       → All Serves (map (λ (n : NamedThermalUnit). Thermal n.unit) ts ++ rest)
   thermals points [] rest made few h = h
   thermals points (t ∷ ts) rest made few h =
-      All-cons Serves (Thermal t.unit) (map (λ (n : NamedThermalUnit). Thermal n.unit) ts ++ rest) (smaller periods points (length t.unit.points) b (few 0 t (omega arith)) made)
+      All-cons Serves (Thermal t.unit) (map (λ (n : NamedThermalUnit). Thermal n.unit) ts ++ rest) (less periods points periods (length t.unit.points) b (omega arith) (few 0 t (omega arith)) made)
       (thermals points ts rest made (λ k d inside. few (suc k) d (omega (arith, inside))) h)
 
 -- a bench for the most points of a case's thermal units is the case's
-pub bench_of_case : (m : Market) (points : ℕ) (b : Bench Slopes) → IsBenchFor room_of m.periods points b → All (λ (n : NamedThermalUnit). length n.unit.points ≤ points) m.thermal → IsBenchOf m b
-bench_of_case m points b made few =
+pub bench_of_case : BenchesServeLess → (m : Market) (points : ℕ) (b : Bench) → IsBenchFor m.periods points b → All (λ (n : NamedThermalUnit). length n.unit.points ≤ points) m.thermal → IsBenchOf m b
+bench_of_case less m points b made few =
     let ts = map (λ (n : NamedThermalUnit). Thermal n.unit) m.thermal in
     let fs = map (λ (n : NamedRenewableUnit). Flat n.unit) m.flat in
     let bs = map (λ (n : NamedBidUnit). Bid n.unit) m.bids in
     subst (λ (us : List AnyUnit). All (λ (u : AnyUnit). Suffices m.periods u b) us) (sym (append_assoc ts fs bs))
-    (thermals m.periods b points m.thermal (fs ++ bs) made few (flats m.periods b m.flat bs (bids m.periods b m.bids)))
+    (thermals less m.periods b points m.thermal (fs ++ bs) made few (flats less m.periods b m.flat bs (bids less m.periods b m.bids)))
 
 -- it suffices for each of them
-pub serves_in : (m : Market) (b : Bench Slopes) (u : AnyUnit) → IsBenchOf m b → Contains (units m) u → Suffices m.periods u b
+pub serves_in : (m : Market) (b : Bench) (u : AnyUnit) → IsBenchOf m b → Contains (units m) u → Suffices m.periods u b
 serves_in m b u served (i, inside, there) = subst (λ (x : AnyUnit). Suffices m.periods x b) there (served i u inside)
 
 -- ---- what an answer leaves
 
-pub kept : (old new : Bench Slopes) → ((periods points : ℕ) → IsBenchFor room_of periods points old → IsBenchFor room_of periods points new) → (periods : ℕ) (u : AnyUnit) → Suffices periods u old → Suffices periods u new
+pub kept : (old new : Bench) → ((periods points : ℕ) → IsBenchFor periods points old → IsBenchFor periods points new) → (periods : ℕ) (u : AnyUnit) → Suffices periods u old → Suffices periods u new
 kept old new keeps periods (Thermal g) h = keeps periods (length g.points) h
 kept old new keeps periods (Flat r) h = tt
 kept old new keeps periods (Bid d) h = tt
 
-pub all_kept : (m : Market) (old new : Bench Slopes) → ((periods : ℕ) (u : AnyUnit) → Suffices periods u old → Suffices periods u new) → IsBenchOf m old → IsBenchOf m new
+pub all_kept : (m : Market) (old new : Bench) → ((periods : ℕ) (u : AnyUnit) → Suffices periods u old → Suffices periods u new) → IsBenchOf m old → IsBenchOf m new
 all_kept m old new keeps served k d inside = keeps m.periods _ (served k d inside)
 
 -- an answer is found where some schedule is feasible

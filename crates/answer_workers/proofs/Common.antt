@@ -18,8 +18,6 @@ pub use Rattle.board_share.specs.Seats.{SeatValue, view_of, IsSameBoard}
 pub use Rattle.board_share.specs.Tells.{Called}
 pub use Rattle.board_share.specs.Views.{BoardEvent, View, caller_of, content}
 pub use Rattle.board_share.specs.declared.shared.SharedBoard.{SharedBoard}
-pub use Rattle.slope_list.specs.Slopes.{room_of}
-pub use Rattle.slope_list.specs.declared.slopes.Slopes.{Slopes}
 pub use Rattle.uc_model.specs.Data.{AnyUnit, Thermal, Flat, Bid, Market, NamedThermalUnit, NamedRenewableUnit, NamedBidUnit, PriceLists, Schedule, ThermalUnit, units}
 pub use Rattle.uc_model.specs.PlainCases.{task_unit}
 pub use Rattle.uc_model.specs.PlainUnits.{named_thermal_of, schedule_of, prices_of, thermal_of}

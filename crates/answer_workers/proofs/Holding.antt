@@ -1,5 +1,5 @@
 -- The tasks that a worker holds, of which one after another is given or answered.
-use Rattle.answer_workers.proofs.Common.{◌≡◌, ℕ, ◌+◌, ◌<◌, List, length, get_or, set, sym, ap, ◌∙◌, subst, arith, length-set, AllWithin, All-set, AllWithin-more_set, with_item, AnyUnit, Thermal, Flat, Bid, PriceLists, Market, Slopes, task_unit, prices_of, schedule_of, IsTaskFor, Task, Answered, Bench, HasSchedule, IsResponse, Suffices, HasParts, HasWorked, IsHeldFor, IsAnswerable, IsAnswered, AreGiven, AreAnswered, market_at, MOST_HELD, Held, Worker}
+use Rattle.answer_workers.proofs.Common.{◌≡◌, ℕ, ◌+◌, ◌<◌, List, length, get_or, set, sym, ap, ◌∙◌, subst, arith, length-set, AllWithin, All-set, AllWithin-more_set, with_item, AnyUnit, Thermal, Flat, Bid, PriceLists, Market, task_unit, prices_of, schedule_of, IsTaskFor, Task, Answered, Bench, HasSchedule, IsResponse, Suffices, HasParts, HasWorked, IsHeldFor, IsAnswerable, IsAnswered, AreGiven, AreAnswered, market_at, MOST_HELD, Held, Worker}
 use Rattle.answer_workers.proofs.BenchLaws.{all_kept, serves_in}
 use Rattle.answer_workers.proofs.Steady.{same_market}
 
@@ -39,7 +39,7 @@ module _ (m : Market) (w : Worker) (k : ℕ) (h : Held) (below : k < MOST_HELD) 
   }
 
   -- its answer and the one that was made change places
-  pub parts_answered : (bench : Bench Slopes) (x : Answered) (g : Held) → ((periods : ℕ) (u : AnyUnit) → Suffices periods u w.bench → Suffices periods u bench) → x ≡ h.answer → g.task ≡ h.task → IsAnswered g
+  pub parts_answered : (bench : Bench) (x : Answered) (g : Held) → ((periods : ℕ) (u : AnyUnit) → Suffices periods u w.bench → Suffices periods u bench) → x ≡ h.answer → g.task ≡ h.task → IsAnswered g
       → HasParts m (record w { bench = bench; answer = x; held = with_item w.held k g })
   parts_answered bench x g keeps is_x same response =
       let room : IsTaskFor m.periods g.task = subst (IsTaskFor m.periods) (sym same) fits_at.task in record {

@@ -1,8 +1,6 @@
 -- Answers to tasks, and benches that suffice for them (this project's profile).
 use Rattle.std.specs.Prelude.{◌≡◌, ℕ, ⊤, length}
 use Rattle.std.specs.List.{All}
-use Rattle.slope_list.specs.Slopes.{room_of}
-use Rattle.slope_list.specs.declared.slopes.Slopes.{Slopes}
 use Rattle.uc_model.specs.Data.{AnyUnit, Thermal, Flat, Bid, Market, PriceLists, Schedule, units}
 use Rattle.uc_model.specs.declared.units.Answered.{Answered}
 use Rattle.uc_model.specs.Earnings.{earnings}
@@ -22,11 +20,11 @@ pub record IsResponse (u : AnyUnit) (π : PriceLists) (a : Answered) : Type 0 wh
   pub earned : earnings u π (schedule_of a.response) ≡ a.earned
 
 -- the bench suffices for the answers of the unit over so many periods
-abbrev pub Suffices : ℕ → AnyUnit → Bench Slopes → Type 0
-Suffices periods (Thermal g) b = IsBenchFor room_of periods (length g.points) b
+abbrev pub Suffices : ℕ → AnyUnit → Bench → Type 0
+Suffices periods (Thermal g) b = IsBenchFor periods (length g.points) b
 Suffices periods (Flat r) b = ⊤
 Suffices periods (Bid d) b = ⊤
 
 -- and for those of each unit of a case
-abbrev pub IsBenchOf : Market → Bench Slopes → Type 0
+abbrev pub IsBenchOf : Market → Bench → Type 0
 IsBenchOf m b = All (λ (u : AnyUnit). Suffices m.periods u b) (units m)

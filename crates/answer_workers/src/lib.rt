@@ -7,7 +7,6 @@
 
 mod all;
 mod gate;
-mod last;
 mod pace;
 mod tasks;
 mod visit;
@@ -17,6 +16,5 @@ mod worker;
 
 pub use all::answer_all;
 pub use gate::{Gate, NoGate};
-pub use last::LastAnswers;
 pub use tasks::most_points;
 pub use worker::{Ended, Worker};

@@ -7,7 +7,7 @@ ghost use Rattle.answer_workers.specs.declared.worker.Worker.{Worker};
 
 use crate::gate::Gate;
 use crate::pace::Pace;
-use crate::tasks::answer_again;
+use crate::tasks::answer_task;
 use crate::visit::Crew;
 use crate::waiting::next_visit;
 use crate::worker::{Ended, Worker};
@@ -30,8 +30,12 @@ fn answer_each<G: Gate>(worker: &mut Worker, given: usize, gate: &G)
         held.proposal = held.task.proposal;
         held.unit = held.task.unit;
         gate.between(caller, held.proposal, held.unit);
-        let last = &worker.last;
-        answer_again(last, &mut worker.bench, &held.task, &mut worker.answer);
+        answer_task(
+            &mut worker.bench,
+            &worker.last,
+            &held.task,
+            &mut worker.answer,
+        );
         swap(&mut worker.answer, &mut held.answer);
     }
 }
@@ -62,7 +66,7 @@ pub fn work<R: Wait, G: Gate>(
 {
     let mut pace = Pace {
         workers: crew.workers,
-        last: worker.last.thermal_units(),
+        last: worker.last.unit_count(),
     };
     let mut answered = 0;
     for _ in rt.forever() {

@@ -5,19 +5,16 @@ ghost use Rattle.uc_model.specs.Data.{Market, NamedThermalUnit};
 ghost use Rattle.uc_model.specs.PlainUnits.{schedule_of};
 ghost use Rattle.uc_model.specs.TaskRoom.{IsTaskFor};
 ghost use Rattle.uc_model.specs.declared.limits.TheConstants.{MOST_PERIODS, MOST_POINTS};
-ghost use Rattle.slope_list.specs.Slopes.{room_of};
-ghost use Rattle.unit_program.specs.Benches.{IsBenchFor};
 ghost use Rattle.answer_workers.specs.Workers.{HasParts, IsHeldFor};
 ghost use Rattle.answer_workers.specs.declared.worker.TheConstants.{MOST_HELD};
 
-use crate::last::LastAnswers;
 use board_share::Seat;
-use slope_list::Slopes;
 use std::alloc::{AllocError, Global};
 use std::sync::Arc;
 use uc_model::cases::Task;
 use uc_model::units::Answered;
-use unit_program::Bench;
+use unit_program::laws::benches_serve_less;
+use unit_program::{Bench, LastAnswers};
 
 /// The most tasks that a worker holds at once.
 pub const MOST_HELD: usize = 8;
@@ -52,7 +49,7 @@ pub struct Worker {
     /// Its seat at the board.
     pub seat: Seat,
     /// Where it answers thermal units.
-    pub bench: Bench<Slopes>,
+    pub bench: Bench,
     /// Where it is given a task.
     pub task: Task,
     /// Where it answers one.
@@ -120,17 +117,6 @@ fn make_room(alloc: Global, periods: u32) -> Result<(Answered, Vec<Held>, Task),
     Ok((answer, held, task))
 }
 
-// A bench that keeps the last answer of the unit that it is asked about.
-fn make_bench(alloc: Global, periods: u32, points: u32) -> Result<Bench<Slopes>, AllocError>
-    requires periods { periods ≤ MOST_PERIODS }
-    requires points { points ≤ MOST_POINTS }
-    ensures { IfOk result (IsBenchFor room_of periods points) }
-{
-    let mut bench = Bench::make(alloc, periods, points)?;
-    bench.keep_for(alloc, 1, periods)?;
-    Ok(bench)
-}
-
 impl Worker {
     /// A worker for a case of so many periods, whose thermal units have at most so many cost
     /// points. `AllocError` is want of memory; the seat is then dropped.
@@ -149,7 +135,8 @@ impl Worker {
             → All (λ (n : NamedThermalUnit). length n.unit.points ≤ points) m.thermal
             → HasParts m w) }
     {
-        let bench = make_bench(alloc, periods, points)?;
+        benches_serve_less();
+        let bench = Bench::make(alloc, periods, points)?;
         let (answer, held, task) = make_room(alloc, periods)?;
         Ok(Worker {
             seat,

@@ -2,8 +2,8 @@ use Rattle.answer_workers.proofs.Common.{refl, sym, subst, arith, IsAnswered, Is
 use Rattle.answer_workers.proofs.Lemmas.{some_schedule, bench_serves, fits_at, parts_answered, Opens}
 use Rattle.answer_workers.proofs.work.answer_each.Goals as goal
 
-pub answer_again-requires-clause-some : goal.answer_again-requires-clause-some
-answer_again-requires-clause-some g c =
+pub answer_task-requires-clause-some : goal.answer_task-requires-clause-some
+answer_task-requires-clause-some g c =
     let l = c.loop-k in
     let m = market_at l.worker.seat in
     let h = c.index_mut-held.result.now in
@@ -12,8 +12,8 @@ answer_again-requires-clause-some g c =
     let most = l.invariant.given.0 in
     some_schedule m h.task (fits_at m l.worker l.k h (omega (arith, test, most)) at l.invariant.parts).task (subst (Opens m) (sym at) (l.invariant.given.1 l.k h (omega arith) (omega (arith, test))))
 
-pub answer_again-requires-clause-bench : goal.answer_again-requires-clause-bench
-answer_again-requires-clause-bench g c =
+pub answer_task-requires-clause-bench : goal.answer_task-requires-clause-bench
+answer_task-requires-clause-bench g c =
     let l = c.loop-k in
     let m = market_at l.worker.seat in
     let h = c.index_mut-held.result.now in
@@ -32,10 +32,10 @@ loop-k-preserved g c =
     let most = l.invariant.given.0 in
     let count = l.invariant.parts.count in
     let y : Held = record { task = h.task; answer = c.swap.new.y; proposal = h.task.proposal; unit = h.task.unit } in
-    let answered : IsAnswered y = subst (IsResponse (task_unit h.task) (prices_of h.task.prices)) (sym c.swap.ensures.y_after) c.answer_again.ensures.response in
+    let answered : IsAnswered y = subst (IsResponse (task_unit h.task) (prices_of h.task.prices)) (sym c.swap.ensures.y_after) c.answer_task.ensures.response in
     let opens : Opens m y = subst (Opens m) (sym at) (l.invariant.given.1 l.k h (omega arith) (omega (arith, test))) in record {
       seat = l.invariant.seat;
-      parts = parts_answered m l.worker l.k h (omega (arith, test, most)) at l.invariant.parts c.answer_again.new.bench c.swap.new.x y c.answer_again.ensures.bench c.swap.ensures.x_after refl answered;
+      parts = parts_answered m l.worker l.k h (omega (arith, test, most)) at l.invariant.parts c.answer_task.new.bench c.swap.new.x y c.answer_task.ensures.bench c.swap.ensures.x_after refl answered;
       given = (most, AllWithin-set (Opens m) l.worker.held.items 0 c.args.given l.k y (omega (arith, test, most, count)) opens l.invariant.given.1);
       answered = (omega (arith, test, most), AllWithin-more_set l.worker.held.items l.k y (omega (arith, test, most, count)) IsAnswered l.invariant.answered.1 answered);
     }
