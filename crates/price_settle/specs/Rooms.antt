@@ -13,7 +13,7 @@ pub record AreOver (periods count : ℕ) (answers : List Answered) : Type 0 wher
 
 -- room for each unit of a case, with nothing in it yet
 pub record HasRoom (m : Market) (r : Room) : Type 0 where
-  pub spare : AreOver m.periods (unit_count m) r.spare.items
+  pub spare : AreOver m.periods (unit_count m) r.spare.answers.items
   pub no_response : r.responses.items ≡ []
   pub responses : unit_count m ≤ r.responses.spare
   pub nothing_earned : r.earned.items ≡ []

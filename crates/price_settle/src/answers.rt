@@ -7,22 +7,22 @@ ghost use Rattle.case_answers.specs.Tops.{HasSchedules, IsBenchOver};
 ghost use Rattle.price_settle.specs.Answers.{AreAnswersTo};
 ghost use Rattle.price_settle.specs.Rooms.{AreOver};
 
+use crate::room::Spare;
 use case_answers::answer_at;
 use case_answers::laws::units_can_answer;
 use plain_lists::lists::Numbers;
-use slope_list::Slopes;
 use uc_model::cases::Case;
-use uc_model::units::{Answered, Prices, ResponseList};
+use uc_model::units::{Prices, ResponseList};
 use unit_program::Bench;
 
 /// Leaves the least best response of each unit and bid at the prices in `responses`, and what it
 /// earns in money in `earned`, in the order of the units' numbers. Both lists have room for them.
 /// Each answer is written over a spare one, of which there is one for each unit. Takes no memory.
 pub fn answer_all(
-    bench: &mut Bench<Slopes>,
+    bench: &mut Bench,
     case: &Case,
     prices: &Prices,
-    spare: Vec<Answered>,
+    spare: Spare,
     responses: &mut ResponseList,
     earned: &mut Numbers,
 )
@@ -30,7 +30,7 @@ pub fn answer_all(
     requires bench { IsBenchOver (market_of case.now) bench.old }
     requires horizon { length (prices_of prices.now).energy ≡ (market_of case.now).periods }
     requires spare { AreOver (market_of case.now).periods (unit_count (market_of case.now))
-        spare.items }
+        spare.answers.items }
     requires no_response { responses.old.items ≡ [] }
     requires response_room { unit_count (market_of case.now) ≤ responses.old.spare }
     requires nothing_earned { earned.old.items ≡ [] }
@@ -41,12 +41,12 @@ pub fn answer_all(
     ensures bench { IsBenchOver (market_of case.now) bench.new }
 {
     units_can_answer();
-    let mut spare = spare;
+    let Spare { mut answers, last } = spare;
     for number in 0..case.unit_count() as usize {
-        let Some(mut answer) = spare.pop() else {
+        let Some(mut answer) = answers.pop() else {
             return;
         };
-        answer_at(bench, case, prices, number, &mut answer);
+        answer_at(bench, &last, case, prices, number, &mut answer);
         earned.push(answer.earned);
         responses.push(answer.response);
     }

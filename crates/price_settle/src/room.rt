@@ -11,14 +11,22 @@ use plain_lists::lists::{Amounts, Numbers};
 use std::alloc::{AllocError, Global};
 use uc_model::cases::Case;
 use uc_model::units::{Answered, ResponseList};
+use unit_program::LastAnswers;
 use uplift_settle::Settlement;
+
+/// What answers are written over, one for each unit, and no last answers to begin with.
+#[derive(Drop)]
+pub struct Spare {
+    pub answers: Vec<Answered>,
+    pub last: LastAnswers,
+}
 
 /// Room for an answer of each unit, for what each earns, for totals over the periods, and for the
 /// settlement.
 #[derive(Drop)]
 pub struct Room {
     /// The answers, one for each unit, over the periods.
-    pub spare: Vec<Answered>,
+    pub spare: Spare,
     /// Room for a response of each unit.
     pub responses: ResponseList,
     /// Room for what each unit earns.
@@ -53,7 +61,10 @@ impl Room {
         let supply = Amounts::make(alloc, case.periods)?;
         let reserve = Amounts::make(alloc, case.periods)?;
         let settlement = Settlement::make(alloc, units)?;
-        let spare = spare_answers(alloc, units, case.periods)?;
+        let spare = Spare {
+            answers: spare_answers(alloc, units, case.periods)?,
+            last: LastAnswers::none(alloc),
+        };
         Ok(Room {
             spare,
             responses,

@@ -12,7 +12,6 @@ use crate::room::Room;
 use crate::totals::{earned_sum, total_all};
 use dual_value::dual_value;
 use plain_lists::lists::Numbers;
-use slope_list::Slopes;
 use std::alloc::{AllocError, Global};
 use uc_model::cases::{Case, Plan, Row};
 use uc_model::laws::{
@@ -51,13 +50,7 @@ impl Drop for Settled {
 }
 
 // The settlement in room that is there.
-fn settle_in(
-    case: &Case,
-    plan: &Plan,
-    prices: Prices,
-    bench: &mut Bench<Slopes>,
-    room: Room,
-) -> Settled
+fn settle_in(case: &Case, plan: &Plan, prices: Prices, bench: &mut Bench, room: Room) -> Settled
     requires feasible { IsFeasiblePlan (market_of case.now) (schedules_of plan.now) }
     requires bench { IsBenchOver (market_of case.now) bench.old }
     requires horizon { length (prices_of prices).energy ≡ (market_of case.now).periods }
@@ -110,7 +103,7 @@ pub fn settle_at(
     case: &Case,
     plan: &Plan,
     prices: Prices,
-    bench: &mut Bench<Slopes>,
+    bench: &mut Bench,
 ) -> Result<Settled, AllocError>
     requires feasible { IsFeasiblePlan (market_of case.now) (schedules_of plan.now) }
     requires bench { IsBenchOver (market_of case.now) bench.old }

@@ -5,8 +5,8 @@ abbrev pub invariant-loop-number : goal.invariant-loop-number
 invariant-loop-number l = record {
   answers : AreAnswersTo (market_of l.case) (prices_of l.prices) l.number (map schedule_of l.responses.items) l.earned.items;
   bench : IsBenchOver (market_of l.case) l.bench;
-  left : length l.spare.items + l.number ≡ unit_count (market_of l.case);
-  periods : All (λ (a : Answered). length (schedule_of a.response).on ≡ (market_of l.case).periods) l.spare.items;
+  left : length l.answers.items + l.number ≡ unit_count (market_of l.case);
+  periods : All (λ (a : Answered). length (schedule_of a.response).on ≡ (market_of l.case).periods) l.answers.items;
   response_room : unit_count (market_of l.case) ≤ l.number + l.responses.spare;
   earned_room : unit_count (market_of l.case) ≤ l.number + l.earned.spare;
 }
