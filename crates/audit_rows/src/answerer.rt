@@ -6,16 +6,16 @@ ghost use Rattle.uc_model.specs.PlainUnits.{prices_of, schedule_of};
 ghost use Rattle.audit_rows.specs.Benches.{CanAnswer, IsBenchOver};
 ghost use Rattle.audit_rows.specs.Sums.{AreSumsOf, AreWithin};
 
-use crate::count::count_at;
+use crate::count::{Means, count_at};
 use crate::sums::Sums;
 use case_answers::laws::units_can_answer;
 use plain_lists::lists::{ReservedList, copy_list};
-use slope_list::Slopes;
 use std::alloc::{AllocError, Global};
+use std::sync::Arc;
 use task_deal::Job;
 use uc_model::cases::Case;
 use uc_model::units::{Answered, Prices};
-use unit_program::Bench;
+use unit_program::{Bench, LastAnswers};
 
 /// Answers units of a case by their numbers, all at the same prices, on a bench of its own. It
 /// keeps the numbers that it answered since the proposal began, and the sums of their answers.
@@ -23,12 +23,10 @@ use unit_program::Bench;
 pub struct Answerer<'a> {
     /// The case.
     pub case: &'a Case,
-    /// Where thermal units are answered.
-    pub bench: Bench<Slopes>,
+    /// Where units are answered.
+    pub means: Means,
     /// The prices of the proposal.
     pub prices: Prices,
-    /// The last answer.
-    pub answer: Answered,
     /// The numbers that it answered at these prices.
     pub numbers: ReservedList<u32>,
     /// How many more numbers it may get at these prices.
@@ -36,9 +34,9 @@ pub struct Answerer<'a> {
     /// The sums of their answers.
     pub sums: Sums,
     ghost some: { CanAnswer (market_of case.now) },
-    ghost over: { IsBenchOver (market_of case.now) bench },
+    ghost over: { IsBenchOver (market_of case.now) means.bench },
     ghost horizon: { length (prices_of prices).energy ≡ (market_of case.now).periods },
-    ghost buffer: { length (schedule_of answer.response).on ≡ (market_of case.now).periods },
+    ghost buffer: { length (schedule_of means.answer.response).on ≡ (market_of case.now).periods },
     ghost count: { length numbers.items + left ≡ unit_count (market_of case.now) },
     ghost room: { unit_count (market_of case.now) ≤ length numbers.items + numbers.spare },
     ghost kept: { ∥ AreSumsOf (market_of case.now) (prices_of prices) numbers.items sums ∥₁ },
@@ -50,8 +48,8 @@ impl<'a> Answerer<'a> {
     ghost use Rattle.audit_rows.specs.Benches.{HasSchedules};
 
     /// A job for a case, each unit and bid of which has a feasible schedule. It takes the bench,
-    /// which suffices for each thermal unit and from now on keeps the last answers of these, and
-    /// room for as many numbers as there are units.
+    /// which suffices for each thermal unit, the last answers, which other jobs may share, and room
+    /// for as many numbers as there are units.
     ///
     /// # Errors
     ///
@@ -59,7 +57,8 @@ impl<'a> Answerer<'a> {
     pub fn make(
         alloc: Global,
         case: &'a Case,
-        mut bench: Bench<Slopes>,
+        bench: Bench,
+        last: Arc<LastAnswers, Global>,
     ) -> Result<Answerer<'a>, AllocError>
         requires schedules { HasSchedules (market_of case.now) }
         requires bench { IsBenchOver (market_of case.now) bench }
@@ -67,16 +66,18 @@ impl<'a> Answerer<'a> {
     {
         units_can_answer();
         let left = case.unit_count();
-        bench.keep_for(alloc, case.thermal.len() as u32, case.periods)?;
         let prices = Prices::make(alloc, case.periods)?;
         let answer = Answered::make(alloc, case.periods)?;
         let numbers = ReservedList::make(alloc, left)?;
         let sums = Sums::make(alloc, case.periods)?;
         Ok(Answerer {
             case,
-            bench,
+            means: Means {
+                bench,
+                last,
+                answer,
+            },
             prices,
-            answer,
             numbers,
             left,
             sums,
@@ -112,14 +113,8 @@ impl<'a> Job for Answerer<'a> {
     ghost spare = { λ job. job.left };
 
     fn run(&mut self, task: u32) {
-        count_at(
-            &mut self.bench,
-            self.case,
-            &self.prices,
-            task,
-            &mut self.answer,
-            &mut self.sums,
-        );
+        let sums = &mut self.sums;
+        count_at(&mut self.means, self.case, &self.prices, task, sums);
         self.numbers.push(task);
         self.left -= 1;
     }

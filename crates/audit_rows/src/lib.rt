@@ -1,7 +1,8 @@
 //! The rows of a run, worked out without a board: the units of each proposal are dealt to jobs,
 //! and what the jobs add up makes the row.
 //!
-//! A job answers each unit that it gets on its own bench, and keeps the sums of what the units
+//! A job answers each unit that it gets on its own bench, begun with the unit's last answer,
+//! whichever job found it, and keeps the sums of what the units
 //! earn, give and reserve. Whoever answered which unit, the jobs' sums together are those of one
 //! least best response of each unit, since each number is dealt once.
 #![tactic(auto)]
@@ -13,4 +14,5 @@ mod rows;
 mod sums;
 
 pub use answerer::Answerer;
+pub use count::Means;
 pub use rows::right_rows;

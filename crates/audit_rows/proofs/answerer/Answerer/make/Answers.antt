@@ -1,13 +1,9 @@
 use Rattle.audit_rows.proofs.Common.{refl, ap, ◌∙◌, length, length-replicate, market_of, prices_of}
-use Rattle.slope_list.specs.Slopes.{room_of}
 use Rattle.audit_rows.proofs.Lemmas.{starts, starts_within}
 use Rattle.audit_rows.proofs.answerer.Answerer.make.Goals as goal
 
 pub invariant_of-result-clause-some : goal.invariant_of-result-clause-some
 invariant_of-result-clause-some c = c.units_can_answer.ensures (market_of c.args.case.now) c.requires.schedules
-
-pub invariant_of-result-clause-over : goal.invariant_of-result-clause-over
-invariant_of-result-clause-over c = λ k d inside. c.keep_for.ensures.bench room_of _ _ (c.requires.bench k d inside)
 
 pub invariant_of-result-clause-kept : goal.invariant_of-result-clause-kept
 invariant_of-result-clause-kept c =
