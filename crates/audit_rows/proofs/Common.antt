@@ -12,19 +12,19 @@ pub use Rattle.std.specs.Int.{w128}
 pub use Rattle.std.specs.List.{All, AllZip, concat, range_with_len}
 pub use Rattle.std.specs.Option.{option_map_or}
 pub use Rattle.std.specs.Prelude.{Contains, IsPermutation, slice_get, slice_index_or, not, nat_le, IsTrue, IsFalse, slice_index}
-pub use Rattle.case_answers.specs.Answers.{IsAnswerAt, amount_of}
+pub use Rattle.case_answers.specs.Answers.{IsAnswerAt}
 pub use Rattle.audit_rows.specs.Jobs.{HasBegun, HaveBegun, AreFor}
 pub use Rattle.audit_rows.specs.Rows.{IsNextProposal, IsLast, IsCostOfPlan, IsRowAt, IsRunSoFar}
 pub use Rattle.audit_rows.specs.Sums.{part_of, sum_of, FitsAt, AreSumsOf, AreAdded, AreSumsOfAll, AreWithin, IsMore, IsSmall}
 pub use Rattle.audit_rows.specs.declared.answerer.Answerer.{Answerer}
 pub use Rattle.audit_rows.specs.declared.sums.Sums.{Sums}
-pub use Rattle.dual_value.specs.Totals.{IsRaised}
+pub use Rattle.dual_value.specs.Totals.{IsRaised, TakesPower}
 pub use Rattle.price_move.specs.Sizes.{IsRowBelow}
 pub use Rattle.task_deal.specs.Jobs.{below, added, all_added, HasRun}
 pub use Rattle.plain_lists.proofs.ListLaws.{head_of, tail_of, zip_item, length_same, all_nil, all_cons, length-zip_with, none_some, same_item, item_of, at_place, map-append, total-push}
 pub use Rattle.uc_model.specs.BoundLaws.{EarningsAreWithin, EarnedSumsAreWithin, UnitsAreWithin, GivesWithin, most_given, least_given, OutputsAreWithin, TotalsAreWithin, DualValuesAreWithin, PlanCostsAreWithin}
 pub use Rattle.uc_model.specs.Data.{AnyUnit, PriceLists, Schedule, Market, units, Thermal, Flat, Bid, unit_count}
-pub use Rattle.uc_model.specs.Earnings.{earnings, supply_in, IsTop}
+pub use Rattle.uc_model.specs.Earnings.{amount_of, earnings, supply_in, IsTop}
 pub use Rattle.uc_model.specs.Laws.{OneLeast, DualIsAtMostCost}
 pub use Rattle.uc_model.specs.Limits.{IsUnit, IsEarned, IsSum, IsMarket, ArePrices, IsTotal, IsWorth}
 pub use Rattle.uc_model.specs.PlainCases.{market_of, proposal_of}

@@ -2,7 +2,7 @@
 use Rattle.audit_rows.proofs.Common.{◌≡◌, ℕ, zero, suc, ◌+◌, ◌≤◌, ℤ, pos, neg_ℤ, ◌+ℤ◌, ◌≤ℤ◌, Option, None, Some, List, [], ◌∷◌, ◌++◌, length, replicate, refl, sym, ap, ◌∙◌, subst, arith, ∥∥₁_map, ints, length-replicate, All-replicate, All, option_map_or, slice_get, slice_index, IsRaised, GivesWithin, most_given, least_given, UnitsAreWithin, OutputsAreWithin, EarningsAreWithin, AnyUnit, Thermal, Flat, Bid, PriceLists, Schedule, Market, units, unit_count, earnings, supply_in, IsMarket, IsUnit, IsEarned, ArePrices, schedule_of, Fits, reserve_in, int_at, none_some, same_item, length_same, item_of, Sums, IsAnswerAt, amount_of, part_of, sum_of, FitsAt, AreSumsOf, AreWithin, IsMore, IsSmall}
 use Rattle.std.proofs.lemmas.Slice.Zip.{all_zipped_more}
 use Rattle.uc_model.specs.declared.units.Answered.{Answered}
-use Rattle.case_answers.specs.declared.answer.Flow.{Flow}
+use Rattle.uc_model.specs.declared.units.Flow.{Flow}
 use Rattle.audit_rows.proofs.Small.{nothing_small, zero_at, raised_within}
 
 -- ---- the beginning

@@ -4,47 +4,27 @@ ghost use Rattle.std.specs.List.{All};
 ghost use Rattle.dual_value.specs.Totals.{IsRaised};
 ghost use Rattle.task_deal.specs.declared.deal.TheConstants.{MOST_JOBS};
 ghost use Rattle.plain_lists.specs.declared.limits.TheConstants.{MOST_UNITS};
+ghost use Rattle.uc_model.specs.Earnings.{amount_of};
 ghost use Rattle.uc_model.specs.PlainUnits.{schedule_of};
 ghost use Rattle.uc_model.specs.Schedules.{reserve_in};
 ghost use Rattle.plain_lists.specs.Sums.{int_at};
-ghost use Rattle.case_answers.specs.Answers.{amount_of};
 ghost use Rattle.audit_rows.specs.Sums.{IsSmall, AreWithin};
 
-use case_answers::Flow;
+use dual_value::count_each;
 use plain_lists::lists::Amounts;
 use std::alloc::{AllocError, Global};
-use uc_model::units::{Answered, Powers};
+use uc_model::units::{Answered, Flow};
 
 /// What units earn in money, and in each period what they give to the system, less what bids take,
 /// and have in reserve, in kilowatts.
 #[derive(Drop)]
 pub struct Sums {
+    /// What they earn.
     pub earned: i128,
+    /// What they give in each period, less what bids take.
     pub supply: Amounts,
+    /// What they reserve in each period.
     pub reserve: Amounts,
-}
-
-// A total with one more power in it.
-fn total_with(total: i128, flow: Flow, power: u32) -> i128
-    requires { IsSmall MOST_UNITS total }
-    ensures { result ≡ total +ℤ amount_of flow power }
-{
-    match flow {
-        Flow::Gives => total + i128::from(power),
-        Flow::Takes => total - i128::from(power),
-    }
-}
-
-// Counts the power of each period into the total of that period.
-fn count_each(totals: &mut Amounts, flow: Flow, powers: &Powers)
-    requires lengths { length powers.now.items ≡ length totals.old.items }
-    requires small { All (IsSmall MOST_UNITS) totals.old.items }
-    ensures { IsRaised totals.old.items totals.new.items
-        (λ k. amount_of flow (slice_index powers.now.items k)) }
-{
-    for k in 0..totals.len() {
-        totals.set(k, total_with(*totals.get(k), flow, *powers.get(k)));
-    }
 }
 
 // Two totals in one.

@@ -2,7 +2,7 @@
 use Rattle.case_answers.proofs.Common.{◌≡◌, ℕ, zero, suc, ◌+◌, ℤ, Some, List, [], ◌∷◌, ◌++◌, take, sym, ap, ◌∙◌, subst, arith, slice_get, AllZip, Answered, AnyUnit, PriceLists, Schedule, Market, units, IsTop, schedule_of, IsFeasible, HasSchedules, CanAnswer}
 use Rattle.std.proofs.lemmas.Option.{none-some, same_Some}
 use Rattle.std.proofs.lemmas.Slice.Zip.{all_zipped_more}
-use Rattle.case_answers.specs.declared.answer.Flow.{Flow}
+use Rattle.uc_model.specs.declared.units.Flow.{Flow}
 use Rattle.case_answers.specs.Answers.{IsAnswerAt}
 
 one_of : {A B : Type 0} (Q : A → B → Type 0) (us : List A) (ys : List B) (k : ℕ) (u : A) → AllZip Q us ys → slice_get us k ≡ Some u → (y : B) × Q u y

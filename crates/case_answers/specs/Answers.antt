@@ -1,17 +1,11 @@
 -- The answer of the unit of a number (best responses are those of Gribik, Hogan and Pope 2007).
-use Rattle.std.specs.Prelude.{◌≡◌, ℕ, suc, ℤ, pos, neg_ℤ, Some, slice_get, slice_index}
+use Rattle.std.specs.Prelude.{◌≡◌, ℕ, suc, Some, slice_get, slice_index}
 use Rattle.uc_model.specs.declared.units.Answered.{Answered}
+use Rattle.uc_model.specs.declared.units.Flow.{Flow}
 use Rattle.uc_model.specs.Data.{AnyUnit, PriceLists, Market, units}
-use Rattle.uc_model.specs.Earnings.{earnings, supply_in}
+use Rattle.uc_model.specs.Earnings.{amount_of, earnings, supply_in}
 use Rattle.uc_model.specs.PlainUnits.{schedule_of}
 use Rattle.uc_model.specs.Runs.{Fits}
-use Rattle.case_answers.specs.declared.answer.Flow.{Flow}
-use Rattle.case_answers.specs.declared.answer.Flow.TheVariants.{Gives, Takes}
-
--- what a power counts for in the supply
-abbrev pub amount_of : Flow → ℕ → ℤ
-amount_of Gives power = pos power
-amount_of Takes power = neg_ℤ (pos power)
 
 -- a response of the unit that fits the prices, what it earns, and which way its powers count
 pub record IsAnswerAt (m : Market) (π : PriceLists) (number : ℕ) (flow : Flow) (a : Answered)

@@ -10,18 +10,9 @@ ghost use Rattle.unit_program.specs.Benches.{IsBenchFor};
 
 use flat_answer::{best_bid, best_flat};
 use uc_model::cases::{Case, UnitRef};
-use uc_model::units::{Answered, Prices, Unit};
+use uc_model::units::{Answered, Flow, Prices, Unit};
 use unit_choice::least_on_bench;
 use unit_program::{Bench, LastAnswers};
-
-/// Which way a unit's powers count in the supply.
-#[derive(Clone, Copy)]
-pub enum Flow {
-    /// A thermal or renewable unit gives them.
-    Gives,
-    /// A bid takes them.
-    Takes,
-}
 
 // Answers the thermal unit of a number, which isn't without a feasible schedule.
 fn answer_thermal(

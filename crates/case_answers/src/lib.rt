@@ -6,5 +6,5 @@ mod answer;
 mod earn;
 pub mod laws;
 
-pub use answer::{Flow, answer_at};
+pub use answer::answer_at;
 pub use earn::earn_all;

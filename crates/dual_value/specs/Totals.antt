@@ -2,15 +2,13 @@
 -- period's total once (this project's profile). Started from zeros, the totals are the net sums and
 -- reserve sums of all responses.
 use Rattle.std.specs.Prelude.{◌≡◌, ℕ, ◌<◌, ℤ, pos, neg_ℤ, ◌+ℤ◌, List, length}
-use Rattle.dual_value.specs.declared.totals.Flow.{Flow}
-use Rattle.dual_value.specs.declared.totals.Flow.TheVariants.{Gives, Takes}
-pub use Rattle.uc_model.specs.Limits.{IsTotal}
+use Rattle.plain_lists.specs.Ranges.{IsFrom}
 use Rattle.plain_lists.specs.Sums.{int_at}
 
--- what a power adds to a total
-abbrev pub amount_of : Flow → ℕ → ℤ
-amount_of Gives power = pos power
-amount_of Takes power = neg_ℤ (pos power)
+-- a total that has room in 128 bits for one more power
+abbrev pub TakesPower : ℤ → Type 0
+TakesPower x =
+    IsFrom (neg_ℤ (pos 1000000000000000000000000000000)) (pos 1000000000000000000000000000000) x
 
 -- the entry at each place k has risen by the amount for k, and no entry came or went
 pub record IsRaised (old new : List ℤ) (amount : ℕ → ℤ) : Type 0 where

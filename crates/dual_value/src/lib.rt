@@ -9,5 +9,5 @@
 mod totals;
 mod value;
 
-pub use totals::{add_response, take_bid};
+pub use totals::{add_response, count_each, take_bid};
 pub use value::dual_value;

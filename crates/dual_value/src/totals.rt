@@ -4,22 +4,17 @@ ghost use Rattle.std.specs.List.{All};
 ghost use Rattle.uc_model.specs.PlainCases.{proposal_of};
 ghost use Rattle.uc_model.specs.PlainUnits.{schedule_of};
 ghost use Rattle.uc_model.specs.Schedules.{power_in, reserve_in};
-ghost use Rattle.dual_value.specs.Totals.{IsTotal, IsRaised, amount_of};
+ghost use Rattle.uc_model.specs.Earnings.{amount_of};
+ghost use Rattle.uc_model.specs.Limits.{IsTotal};
+ghost use Rattle.dual_value.specs.Totals.{TakesPower, IsRaised};
 
 use plain_lists::lists::{Amounts, are_zero};
 use uc_model::cases::Row;
-use uc_model::units::{Powers, Response};
-
-// Whether a power counts as given to the system or as taken from it.
-#[derive(Clone, Copy)]
-enum Flow {
-    Gives,
-    Takes,
-}
+use uc_model::units::{Flow, Powers, Response};
 
 // A total with one more power in it.
 fn total_with(total: i128, flow: Flow, power: u32) -> i128
-    requires { IsTotal total }
+    requires { TakesPower total }
     ensures { result ≡ total +ℤ amount_of flow power }
 {
     match flow {
@@ -30,7 +25,7 @@ fn total_with(total: i128, flow: Flow, power: u32) -> i128
 
 fn add_each(totals: &mut Amounts, flow: Flow, powers: &[u32])
     requires lengths { length powers.now ≡ length totals.old.items }
-    requires bound { All IsTotal totals.old.items }
+    requires bound { All TakesPower totals.old.items }
     ensures raised { IsRaised totals.old.items totals.new.items
         (λ k. amount_of flow (slice_index powers.now k)) }
     ensures spare { totals.new.spare ≡ totals.old.spare }
@@ -40,10 +35,11 @@ fn add_each(totals: &mut Amounts, flow: Flow, powers: &[u32])
     }
 }
 
-// Counts the power of each period into the total of that period.
-fn count_each(totals: &mut Amounts, flow: Flow, powers: &Powers)
+/// Counts the power of each period into the total of that period, in kilowatts. The lists are over
+/// the same periods, and the totals before are at most 10^30 in magnitude. Takes no memory.
+pub fn count_each(totals: &mut Amounts, flow: Flow, powers: &Powers)
     requires lengths { length powers.now.items ≡ length totals.old.items }
-    requires bound { All IsTotal totals.old.items }
+    requires bound { All TakesPower totals.old.items }
     ensures raised { IsRaised totals.old.items totals.new.items
         (λ k. amount_of flow (slice_index powers.now.items k)) }
     ensures spare { totals.new.spare ≡ totals.old.spare }

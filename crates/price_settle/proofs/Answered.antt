@@ -1,7 +1,7 @@
 -- The answers of units, one after another.
 use Rattle.price_settle.proofs.Common.{◌≡◌, ℕ, zero, suc, ◌+◌, ℤ, Some, List, [], ◌∷◌, ◌++◌, take, refl, sym, ap, ◌∙◌, subst, arith, All, AllZip, slice_get, none_some, same_item, zip_with, AnyUnit, PriceLists, Schedule, Market, units, earnings, Fits, schedule_of, Answered, IsAnswerAt, AreAnswersTo, take_all, unit_count, UnitsAreNumbered, all_nil, all_cons, head_of, tail_of}
 use Rattle.std.proofs.lemmas.Slice.Zip.{all_zipped_more}
-use Rattle.case_answers.specs.declared.answer.Flow.{Flow}
+use Rattle.uc_model.specs.declared.units.Flow.{Flow}
 
 pub take_item : {A : Type 0} (us : List A) (k : ℕ) (u : A) → slice_get us k ≡ Some u → take (k + 1) us ≡ take k us ++ u ∷ []
 take_item [] k u e = absurd (none_some u e)

@@ -1,6 +1,6 @@
 use Rattle.std.proofs.Common.{◌≡◌, ℕ, ◌<◌, ◌≤◌, ◌+ℤ◌, length, slice_index}
 use Rattle.plain_lists.specs.Sums.{int_at}
-use Rattle.dual_value.specs.Totals.{amount_of}
+use Rattle.uc_model.specs.Earnings.{amount_of}
 use Rattle.dual_value.proofs.totals.add_each.Given as goal
 
 abbrev pub invariant-loop-k : goal.invariant-loop-k
