@@ -148,7 +148,7 @@ fn worth_in(blocks: &[Block], power: i64) -> i64
 }
 
 /// What a bid's schedule is worth.
-pub fn worth(bid: &Bid, response: &Response) -> i128
+pub fn worth_of_bid(bid: &Bid, response: &Response) -> i128
     requires horizon { length (schedule_of response.now).on ≤ MOST_PERIODS }
     requires blocks { length (bid_of bid.now).blocks ≡ length (schedule_of response.now).on }
     ensures value { result ≡ bid_worth (bid_of bid.now) (schedule_of response.now) }
@@ -192,7 +192,7 @@ fn worth_of_bids(case: &Case, plan: &Plan) -> i128
     let mut sum = 0;
     for place in 0..case.bids.len() {
         let bid = &case.bids.get(place).bid;
-        sum += worth(bid, plan.responses.get(first + place));
+        sum += worth_of_bid(bid, plan.responses.get(first + place));
     }
     sum
 }

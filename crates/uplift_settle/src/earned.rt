@@ -13,7 +13,7 @@ ghost use Rattle.uc_model.specs.Systems.{IsFeasiblePlan};
 ghost use Rattle.uplift_settle.specs.Earned.{paid_for, earned_in};
 
 use plain_lists::lists::Numbers;
-use plan_check::costs::{costs_of_starts, power_costs, worth};
+use plan_check::costs::{costs_of_starts, power_costs, worth_of_bid};
 use uc_model::cases::{Case, Plan, UnitRef};
 use uc_model::laws::{earnings_are_within, feasible_plans_have_shape, units_are_within};
 use uc_model::money;
@@ -71,7 +71,7 @@ fn bid_earnings(bid: &Bid, prices: &Prices, response: &Response) -> i128
 {
     let energy = paid(&prices.energy, &response.power);
     let reserve = paid(&prices.reserve, &response.reserve);
-    worth(bid, response) + reserve - energy
+    worth_of_bid(bid, response) + reserve - energy
 }
 
 // What the schedule of a unit of any kind earns.

@@ -14,14 +14,14 @@ module _ (c : After-get-in-loop-place) where
   lengths : HasLengths c.args.case.now.periods (schedule_of c.get-in-loop-place.result.now)
   lengths = item_of (HasLengths c.args.case.now.periods) (schedules_of c.args.plan.now) (c.producer_count-first.result + c.loop-place.place) _ c.requires.lengths whole_at
 
-pub worth-sum-requires-clause-horizon : goal.worth-sum-requires-clause-horizon
-worth-sum-requires-clause-horizon c =
-    let l = lengths (goal.at.worth-sum-requires-clause-horizon c).After-get-in-loop-place in
+pub worth_of_bid-sum-requires-clause-horizon : goal.worth_of_bid-sum-requires-clause-horizon
+worth_of_bid-sum-requires-clause-horizon c =
+    let l = lengths (goal.at.worth_of_bid-sum-requires-clause-horizon c).After-get-in-loop-place in
     omega arith
 
-pub worth-sum-requires-clause-blocks : goal.worth-sum-requires-clause-blocks
-worth-sum-requires-clause-blocks c =
-    let d = (goal.at.worth-sum-requires-clause-blocks c).After-get-in-loop-place in
+pub worth_of_bid-sum-requires-clause-blocks : goal.worth_of_bid-sum-requires-clause-blocks
+worth_of_bid-sum-requires-clause-blocks c =
+    let d = (goal.at.worth_of_bid-sum-requires-clause-blocks c).After-get-in-loop-place in
     let limits = item_of (λ (n : NamedBidUnit). IsBidUnit n.unit × (length n.unit.blocks ≡ c.args.case.now.periods)) (market_of c.args.case.now).bids c.loop-place.place _ c.args.case.now.valid.bids (unit_at d) in
     limits.1 ∙ sym (lengths d).0
 

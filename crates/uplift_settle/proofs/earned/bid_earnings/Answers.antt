@@ -11,7 +11,7 @@ returns c =
     let reserve = c.paid-reserve.ensures.value in
     let reserve_low = c.paid-reserve.ensures.limit.at_least in
     let reserve_high = c.paid-reserve.ensures.limit.at_most in
-    let worth = c.worth.ensures.value in
-    let worth_low = c.worth.ensures.limit.at_least in
-    let worth_high = c.worth.ensures.limit.at_most in
+    let worth = c.worth_of_bid.ensures.value in
+    let worth_low = c.worth_of_bid.ensures.limit.at_least in
+    let worth_high = c.worth_of_bid.ensures.limit.at_most in
     omega (arith, ints, paid, energy, energy_low, energy_high, reserve, reserve_low, reserve_high, worth, worth_low, worth_high)

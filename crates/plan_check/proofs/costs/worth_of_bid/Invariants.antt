@@ -1,5 +1,5 @@
 use Rattle.plan_check.proofs.Common.{◌≡◌, ◌*◌, pos, IsFrom, bid_of, schedule_of, sum_below, worth_at}
-use Rattle.plan_check.proofs.costs.worth.Given as goal
+use Rattle.plan_check.proofs.costs.worth_of_bid.Given as goal
 
 abbrev pub invariant-loop-place : goal.invariant-loop-place
 invariant-loop-place l = record {

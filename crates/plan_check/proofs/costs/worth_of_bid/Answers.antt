@@ -1,5 +1,5 @@
 use Rattle.plan_check.proofs.Common.{rules, suc, List, [], sym, ap, ◌∙◌, subst, w64, FitsSigned, arith, ints, to_z-of_z, get_or_from_slice_get, Block, worth_of, IsBlockList, bid_of, schedule_of, items_in, power_in, sum_more, item_of, map_item, worth_at}
-use Rattle.plan_check.proofs.costs.worth.Goals as goal
+use Rattle.plan_check.proofs.costs.worth_of_bid.Goals as goal
 
 pub worth_in-requires-clause-blocks : goal.worth_in-requires-clause-blocks
 worth_in-requires-clause-blocks c =
