@@ -8,6 +8,13 @@ use Rattle.uc_model.specs.Earnings.{worth_of}
 use Rattle.plain_lists.specs.Ranges.{IsFrom}
 use Rattle.uc_model.specs.Schedules.{width_of}
 
+-- the most that a renewable unit or a bid earns in a period, and the most that it loses
+abbrev pub most_earned : ℤ
+most_earned = pos 20000000000000000
+
+abbrev pub IsEarnedInOne : ℤ → Type 0
+IsEarnedInOne x = IsFrom (neg_ℤ most_earned) most_earned x
+
 -- no power that is allowed earns more, and each that earns as much is at least this one
 pub record IsLeastBest (IsAllowed : ℕ → Type 0) (earns : ℕ → ℤ) (power : ℕ) : Type 0 where
   pub allowed : IsAllowed power
@@ -19,7 +26,7 @@ pub record IsLeastChoice (IsAllowed : ℕ → Type 0) (earns : ℕ →
     ℤ) (power : ℕ) (earned : ℤ) : Type 0 where
   pub best : IsLeastBest IsAllowed earns power
   pub is : earned ≡ earns power
-  pub bound : IsFrom (neg_ℤ (pos 20000000000000000)) (pos 20000000000000000) earned
+  pub bound : IsEarnedInOne earned
 
 -- a renewable unit's power in a period is within its range, and earns the energy price (pglib-uc)
 abbrev pub IsBetween : ℤ → ℤ → ℕ → Type 0

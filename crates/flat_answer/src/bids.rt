@@ -10,17 +10,17 @@ ghost use Rattle.uc_model.specs.Schedules.{blocks_at};
 ghost use Rattle.plain_lists.specs.Sums.{int_at};
 ghost use Rattle.uc_model.specs.Ties.{IsLeast};
 ghost use Rattle.flat_answer.specs.Choices.{IsLeastChoice, IsWithinBlocks, bought_at, added_power};
-ghost use Rattle.flat_answer.specs.Choices.{added_gain};
+ghost use Rattle.flat_answer.specs.Choices.{added_gain, most_earned};
 
-use crate::choice::{Choice, earned_at, keep};
+use crate::choice::{PowerChoice, earned_at, keep};
 use uc_model::units::{Answered, Bid, Block, Prices};
 
 // The choice with a block more where it is worth more than it costs.
-fn choice_with(so_far: Choice, block: &Block, price: i64) -> Choice
+fn choice_with(so_far: PowerChoice, block: &Block, price: i64) -> PowerChoice
     requires block { IsBlock block.now }
     requires price { IsFrom (neg_ℤ price_limit) price_limit price }
     requires power { IsPower (pos so_far.power +ℤ added_power price block.now) }
-    requires earned { IsFrom (pos 0) (pos 20000000000000000)
+    requires earned { IsFrom (pos 0) most_earned
         (so_far.earned +ℤ added_gain price block.now) }
     ensures power { pos result.power ≡ pos so_far.power +ℤ added_power price block.now }
     ensures earned { result.earned ≡ so_far.earned +ℤ added_gain price block.now }
@@ -28,20 +28,20 @@ fn choice_with(so_far: Choice, block: &Block, price: i64) -> Choice
     if block.price <= price {
         return so_far;
     }
-    Choice {
+    PowerChoice {
         power: so_far.power + block.width as u32,
         earned: so_far.earned + earned_at(block.price - price, block.width),
     }
 }
 
 // All blocks whose price is above the energy price.
-fn choice_of(blocks: &[Block], price: i64) -> Choice
+fn choice_of(blocks: &[Block], price: i64) -> PowerChoice
     requires blocks { IsBlockList blocks.now }
     requires price { IsFrom (neg_ℤ price_limit) price_limit price }
     ensures { IsLeastChoice (IsWithinBlocks blocks.now) (bought_at blocks.now price) result.power
         result.earned }
 {
-    let mut choice = Choice {
+    let mut choice = PowerChoice {
         power: 0,
         earned: 0,
     };
@@ -52,7 +52,7 @@ fn choice_of(blocks: &[Block], price: i64) -> Choice
 }
 
 // The choice of a period, whose place counts from 0.
-fn choice_in(bid: &Bid, prices: &Prices, place: usize) -> Choice
+fn choice_in(bid: &Bid, prices: &Prices, place: usize) -> PowerChoice
     requires prices { length (prices_of prices.now).energy ≡ length (bid_of bid.now).blocks }
     requires place { place < length (bid_of bid.now).blocks }
     ensures { IsLeastChoice (IsWithinBlocks (blocks_at (bid_of bid.now) place))

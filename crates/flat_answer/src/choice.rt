@@ -4,13 +4,13 @@ ghost use Rattle.plain_lists.specs.Ranges.{IsFrom};
 ghost use Rattle.uc_model.specs.Limits.{IsPower, price_limit};
 ghost use Rattle.uc_model.specs.PlainUnits.{schedule_of};
 ghost use Rattle.uc_model.specs.declared.limits.TheConstants.{GAIN_LIMIT};
-ghost use Rattle.flat_answer.specs.Choices.{with_power};
+ghost use Rattle.flat_answer.specs.Choices.{IsEarnedInOne, with_power};
 
 use uc_model::units::Answered;
 
 /// A power in kilowatts, and what it earns in its period.
 #[derive(Clone, Copy)]
-pub struct Choice {
+pub struct PowerChoice {
     /// The power.
     pub power: u32,
     /// What it earns, in money.
@@ -22,20 +22,20 @@ pub fn earned_at(gain: i64, power: i64) -> i64
     requires gain { IsFrom (neg_ℤ GAIN_LIMIT) GAIN_LIMIT gain }
     requires power { IsPower power }
     ensures value { result ≡ gain *ℤ power }
-    ensures bound { IsFrom (neg_ℤ (pos 20000000000000000)) (pos 20000000000000000) result }
+    ensures bound { IsEarnedInOne result }
 {
     gain * power
 }
 
 /// A power at a price for each kilowatt.
-pub fn choice_at(price: i64, power: i64) -> Choice
+pub fn choice_at(price: i64, power: i64) -> PowerChoice
     requires price { IsFrom (neg_ℤ price_limit) price_limit price }
     requires power { IsPower power }
     ensures power { pos result.power ≡ power }
     ensures earned { result.earned ≡ price *ℤ power }
-    ensures bound { IsFrom (neg_ℤ (pos 20000000000000000)) (pos 20000000000000000) result.earned }
+    ensures bound { IsEarnedInOne result.earned }
 {
-    Choice {
+    PowerChoice {
         power: power as u32,
         earned: earned_at(price, power),
     }
@@ -43,11 +43,11 @@ pub fn choice_at(price: i64, power: i64) -> Choice
 
 /// Keeps the choice of a period: on with that power, no reserve, and what it earns added to what is
 /// earned so far.
-pub fn keep(into: &mut Answered, place: usize, choice: Choice)
+pub fn keep(into: &mut Answered, place: usize, choice: PowerChoice)
     requires place { place < length (schedule_of into.old.response).on }
     requires so_far { IsFrom (neg_ℤ (pos 4000000000000000000)) (pos 4000000000000000000)
         into.old.earned }
-    requires choice { IsFrom (neg_ℤ (pos 20000000000000000)) (pos 20000000000000000) choice.earned }
+    requires choice { IsEarnedInOne choice.earned }
     ensures schedule { schedule_of into.new.response
         ≡ with_power (schedule_of into.old.response) place choice.power }
     ensures earned { into.new.earned ≡ into.old.earned +ℤ choice.earned }

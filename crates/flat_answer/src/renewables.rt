@@ -9,11 +9,11 @@ ghost use Rattle.plain_lists.specs.Sums.{int_at};
 ghost use Rattle.uc_model.specs.Ties.{IsLeast};
 ghost use Rattle.flat_answer.specs.Choices.{IsLeastChoice, IsBetween, sold_at};
 
-use crate::choice::{Choice, choice_at, keep};
+use crate::choice::{PowerChoice, choice_at, keep};
 use uc_model::units::{Answered, Prices, Renewable};
 
 // The greatest power where it is paid for, and the least otherwise.
-fn choice_between(least: i64, most: i64, price: i64) -> Choice
+fn choice_between(least: i64, most: i64, price: i64) -> PowerChoice
     requires least { IsPower least }
     requires most { IsPower most }
     requires range { least ≤ℤ most }
@@ -27,7 +27,7 @@ fn choice_between(least: i64, most: i64, price: i64) -> Choice
 }
 
 // The choice of a period, whose place counts from 0.
-fn choice_in(flat: &Renewable, prices: &Prices, place: usize) -> Choice
+fn choice_in(flat: &Renewable, prices: &Prices, place: usize) -> PowerChoice
     requires prices { length (prices_of prices.now).energy ≡ length (renewable_of flat.now).least }
     requires place { place < length (renewable_of flat.now).least }
     ensures { IsLeastChoice
