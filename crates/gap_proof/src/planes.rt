@@ -2,7 +2,7 @@
 ghost use Rattle.std.specs.Prelude.{◌≡◌, ℕ, ◌<◌, ◌*◌, neg_ℤ, ◌+ℤ◌, ◌-ℤ◌, ◌*ℤ◌, length};
 ghost use Rattle.std.specs.List.{All};
 ghost use Rattle.plain_lists.specs.Ranges.{IsFrom};
-ghost use Rattle.uc_model.specs.Limits.{IsPower, IsTotal, price_limit};
+ghost use Rattle.uc_model.specs.Limits.{price_limit};
 ghost use Rattle.uc_model.specs.PlainCases.{market_of, proposal_of};
 ghost use Rattle.uc_model.specs.PlainUnits.{prices_of};
 ghost use Rattle.plain_lists.specs.Sums.{int_at};
@@ -11,18 +11,9 @@ ghost use Rattle.gap_proof.specs.CertifiedBound.{price_at, slope_at, height_of};
 ghost use Rattle.gap_proof.specs.Sums.{IsRowWithin, IsUpTo, IsWeight, IsHeight, IsSlopeSum};
 
 use plain_lists::lists::Amounts;
+use price_move::lacking;
 use uc_model::cases::{Case, Row};
 use uc_model::units::Prices;
-
-// What a total lacks of the power that is required.
-fn lacking(required: i64, total: i128) -> i64
-    requires required { IsPower required }
-    requires total { IsTotal total }
-    ensures value { result ≡ required -ℤ total }
-    ensures bound { IsEntry result }
-{
-    (i128::from(required) - total) as i64
-}
 
 // What the row's totals lack at a price place.
 fn slope(case: &Case, row: &Row, place: usize) -> i64

@@ -1,28 +1,28 @@
 -- The prices after a step are those of the price rule, and within their limits.
 use Rattle.price_move.proofs.Common.{◌≡◌, ℕ, ◌-◌, ◌/◌, ◌^◌, ◌≤◌, min, ℤ, pos, ◌+ℤ◌, ◌-ℤ◌, ◌*ℤ◌, ◌≤ℤ◌, int_div, false, Some, Option, List, map, length, slice_get, ap, sym, subst, ◌∙◌, arith, ints, All, range_with_len, option_map_or, IsFrom, price_limit, Proposal, squared_length, age, stepped_prices, next_prices, no_prices, is_settled, int_at, clamped_from, low_of, prices_on, direction_on, price_after, is_last_settled}
 use Rattle.std.proofs.lemmas.Option.{get_or_from_slice_get}
-use Rattle.price_move.specs.declared.entries.Side.{Side}
-use Rattle.price_move.specs.declared.entries.Side.TheVariants.{Energy, Reserve}
+use Rattle.price_move.specs.declared.entries.Product.{Product}
+use Rattle.price_move.specs.declared.entries.Product.TheVariants.{Energy, Reserve}
 use Rattle.uc_model.specs.Data.{Market, PriceLists}
 use Rattle.price_move.specs.Sizes.{IsRowBelow}
 
-low_is_low : (side : Side) → low_of side ≤ℤ price_limit
+low_is_low : (product : Product) → low_of product ≤ℤ price_limit
 low_is_low Energy = omega (arith, ints)
 low_is_low Reserve = omega (arith, ints)
 
-pub price_limits : (m : Market) (r : Proposal) (gap scale : ℤ) (side : Side) (k : ℕ) → IsFrom (low_of side) price_limit (price_after m r gap scale side k)
+pub price_limits : (m : Market) (r : Proposal) (gap scale : ℤ) (product : Product) (k : ℕ) → IsFrom (low_of product) price_limit (price_after m r gap scale product k)
 unfolding price_after
-price_limits m r gap scale side k = clamped_from (low_of side) price_limit (int_at (prices_on side r) k +ℤ int_div (gap *ℤ direction_on m r side k) scale) (low_is_low side)
+price_limits m r gap scale product k = clamped_from (low_of product) price_limit (int_at (prices_on product r) k +ℤ int_div (gap *ℤ direction_on m r product k) scale) (low_is_low product)
 
 -- the scale of the rule
 abbrev scale_by_rule : Market → Proposal → ℕ → ℤ
 scale_by_rule m r count = squared_length m r *ℤ pos (2 ^ min 20 (count / 10))
 
-side_is : (m : Market) (r : Proposal) (cost gap scale : ℤ) (count : ℕ) (side : Side) (prices : List ℤ) → gap ≡ cost -ℤ r.value → scale ≡ scale_by_rule m r count →
-    prices ≡ map (price_after m r gap scale side) (range_with_len 0 m.periods) → prices ≡ map (price_after m r (cost -ℤ r.value) (scale_by_rule m r count) side) (range_with_len 0 m.periods)
-side_is m r cost gap scale count side prices gap_is scale_is is =
-    is ∙ ap (λ (g : ℤ). map (price_after m r g scale side) (range_with_len 0 m.periods)) gap_is
-    ∙ ap (λ (s : ℤ). map (price_after m r (cost -ℤ r.value) s side) (range_with_len 0 m.periods)) scale_is
+side_is : (m : Market) (r : Proposal) (cost gap scale : ℤ) (count : ℕ) (product : Product) (prices : List ℤ) → gap ≡ cost -ℤ r.value → scale ≡ scale_by_rule m r count →
+    prices ≡ map (price_after m r gap scale product) (range_with_len 0 m.periods) → prices ≡ map (price_after m r (cost -ℤ r.value) (scale_by_rule m r count) product) (range_with_len 0 m.periods)
+side_is m r cost gap scale count product prices gap_is scale_is is =
+    is ∙ ap (λ (g : ℤ). map (price_after m r g scale product) (range_with_len 0 m.periods)) gap_is
+    ∙ ap (λ (s : ℤ). map (price_after m r (cost -ℤ r.value) s product) (range_with_len 0 m.periods)) scale_is
 
 rule_is : (m : Market) (r : Proposal) (cost : ℤ) (count : ℕ) (energy reserve : List ℤ) →
     energy ≡ map (price_after m r (cost -ℤ r.value) (scale_by_rule m r count) Energy) (range_with_len 0 m.periods) →

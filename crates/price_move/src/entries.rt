@@ -12,7 +12,7 @@ use uc_model::limits::PRICE_LIMIT;
 
 /// Energy prices may be negative, and reserve prices not.
 #[derive(Clone, Copy)]
-pub enum Side {
+pub enum Product {
     Energy,
     Reserve,
 }
@@ -30,8 +30,8 @@ fn projection(low: i64, high: i64, price: i64, entry: i64) -> i64
     }
 }
 
-// What a total lacks of the power that is required.
-fn lacking(required: i64, total: i128) -> i64
+/// What a total lacks of the power that is required, in kilowatts: at most 2 * 10^13 in magnitude.
+pub fn lacking(required: i64, total: i128) -> i64
     requires required { IsPower required }
     requires total { IsTotal total }
     ensures value { result ≡ required -ℤ total }
@@ -62,16 +62,16 @@ fn reserve_entry(case: &Case, row: &Row, k: usize) -> i64
     projection(0, PRICE_LIMIT, *row.prices.reserve.get(k), entry)
 }
 
-/// The entry of a side's price, whose place counts from 0.
-pub fn entry_on(case: &Case, row: &Row, side: Side, k: usize) -> i64
+/// The entry of a product's price, whose place counts from 0.
+pub fn entry_on(case: &Case, row: &Row, product: Product, k: usize) -> i64
     requires row { IsRowOver (market_of case.now) (proposal_of row.now) }
     requires place { k < (market_of case.now).periods }
-    ensures value { result ≡ direction_on (market_of case.now) (proposal_of row.now) side k }
+    ensures value { result ≡ direction_on (market_of case.now) (proposal_of row.now) product k }
     ensures bound { IsEntry result }
 {
-    match side {
-        Side::Energy => energy_entry(case, row, k),
-        Side::Reserve => reserve_entry(case, row, k),
+    match product {
+        Product::Energy => energy_entry(case, row, k),
+        Product::Reserve => reserve_entry(case, row, k),
     }
 }
 

@@ -13,5 +13,5 @@ mod next;
 mod step;
 
 pub use best_row::{greatest, greatest_with};
-pub use entries::direction;
+pub use entries::{direction, lacking};
 pub use next::{Moved, next_prices, next_prices_from};

@@ -13,7 +13,7 @@ ghost use Rattle.price_move.specs.Moves.{is_last_settled, values_of};
 ghost use Rattle.price_move.specs.Sizes.{IsRowBelow};
 
 use crate::best_row::greatest;
-use crate::entries::Side;
+use crate::entries::Product;
 use crate::step::{Step, norm_of, scale_of, take_step};
 use uc_model::cases::{Case, Row};
 use uc_model::units::Prices;
@@ -113,7 +113,7 @@ pub fn next_prices_from(
     }
     let scale = scale_of(norm, age_of(rows, best));
     let step = Step { gap, scale };
-    take_step(case, row, step, Side::Energy, &mut into.energy);
-    take_step(case, row, step, Side::Reserve, &mut into.reserve);
+    take_step(case, row, step, Product::Energy, &mut into.energy);
+    take_step(case, row, step, Product::Reserve, &mut into.reserve);
     Moved::Made
 }

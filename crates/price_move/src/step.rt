@@ -10,7 +10,7 @@ ghost use Rattle.plain_lists.specs.Sums.{int_at};
 ghost use Rattle.price_move.specs.Moves.{low_of, prices_on, price_after as price_after_step};
 ghost use Rattle.price_move.specs.Sizes.{IsEntry, IsRowOver};
 
-use crate::entries::{Side, direction, entry_on};
+use crate::entries::{Product, direction, entry_on};
 use plain_lists::lists::Numbers;
 use uc_model::cases::{Case, Row};
 use uc_model::limits::PRICE_LIMIT;
@@ -80,54 +80,57 @@ pub fn move_along(step: Step, entry: i64) -> i128
     step.gap * i128::from(entry) / step.scale
 }
 
-fn low_limit(side: Side) -> i64
-    ensures value { result ≡ low_of side }
+fn low_limit(product: Product) -> i64
+    ensures value { result ≡ low_of product }
     ensures bound { IsFrom (neg_ℤ price_limit) price_limit result }
 {
-    match side {
-        Side::Energy => -PRICE_LIMIT,
-        Side::Reserve => 0,
+    match product {
+        Product::Energy => -PRICE_LIMIT,
+        Product::Reserve => 0,
     }
 }
 
-fn price_on(row: &Row, side: Side, k: usize) -> i64
+fn price_on(row: &Row, product: Product, k: usize) -> i64
     requires { k < length (proposal_of row.now).prices.energy }
-    ensures value { result ≡ int_at (prices_on side (proposal_of row.now)) k }
+    ensures value { result ≡ int_at (prices_on product (proposal_of row.now)) k }
     ensures bound { IsFrom (neg_ℤ price_limit) price_limit result }
 {
-    match side {
-        Side::Energy => *row.prices.energy.get(k),
-        Side::Reserve => *row.prices.reserve.get(k),
+    match product {
+        Product::Energy => *row.prices.energy.get(k),
+        Product::Reserve => *row.prices.reserve.get(k),
     }
 }
 
 // A price after the step.
-fn price_after(case: &Case, row: &Row, step: Step, side: Side, k: usize) -> i64
+fn price_after(case: &Case, row: &Row, step: Step, product: Product, k: usize) -> i64
     requires row { IsRowOver (market_of case.now) (proposal_of row.now) }
     requires gap { IsFrom (pos 0) (pos 2000000000000000000000000) step.gap }
     requires scale { IsFrom (pos 1) (pos 1000000000000000000000000000000000000) step.scale }
     requires place { k < (market_of case.now).periods }
     ensures { result ≡ price_after_step (market_of case.now) (proposal_of row.now) step.gap
-        step.scale side k }
+        step.scale product k }
 {
-    let by = move_along(step, entry_on(case, row, side, k));
-    price_near(low_limit(side), i128::from(price_on(row, side, k)) + by)
+    let by = move_along(step, entry_on(case, row, product, k));
+    price_near(
+        low_limit(product),
+        i128::from(price_on(row, product, k)) + by,
+    )
 }
 
-/// Writes a side's prices after the step.
-pub fn take_step(case: &Case, row: &Row, step: Step, side: Side, into: &mut Numbers)
+/// Writes a product's prices after the step.
+pub fn take_step(case: &Case, row: &Row, step: Step, product: Product, into: &mut Numbers)
     requires row { IsRowOver (market_of case.now) (proposal_of row.now) }
     requires gap { IsFrom (pos 0) (pos 2000000000000000000000000) step.gap }
     requires scale { IsFrom (pos 1) (pos 1000000000000000000000000000000000000) step.scale }
     requires length { length into.old.items ≡ (market_of case.now).periods }
     ensures prices { into.new.items
-        ≡ map (price_after_step (market_of case.now) (proposal_of row.now) step.gap step.scale side)
+        ≡ map (price_after_step (market_of case.now) (proposal_of row.now) step.gap step.scale product)
         (range_with_len 0 (market_of case.now).periods) }
-    ensures limits { All (IsFrom (low_of side) price_limit) into.new.items }
+    ensures limits { All (IsFrom (low_of product) price_limit) into.new.items }
     ensures same_length { length into.new.items ≡ length into.old.items }
     ensures spare { into.new.spare ≡ into.old.spare }
 {
     for k in 0..case.periods as usize {
-        into.set(k, price_after(case, row, step, side, k));
+        into.set(k, price_after(case, row, step, product, k));
     }
 }

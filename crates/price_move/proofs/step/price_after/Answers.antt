@@ -24,8 +24,8 @@ returns c =
     let fits = fits_within w128 40000000000000000000000000000010000000 (c.from.result +ℤ c.move_along-by.result) within (omega arith) in
     let near : c.price_near.result ≡ clamped c.low_limit.result price_limit (c.from.result +ℤ c.move_along-by.result) = simp to_z-of_z at c.price_near.ensures.value in
     let entry = ap (λ (z : ℤ). int_div (c.args.step.gap *ℤ z) c.args.step.scale) c.entry_on.ensures.value in
-    let sum : c.from.result +ℤ c.move_along-by.result ≡ int_at (prices_on c.args.side r) c.args.k +ℤ int_div (c.args.step.gap *ℤ direction_on m r c.args.side c.args.k) c.args.step.scale =
-    ap (λ (z : ℤ). z +ℤ c.move_along-by.result) (from_is ∙ price) ∙ ap (λ (z : ℤ). int_at (prices_on c.args.side r) c.args.k +ℤ z) (by_is ∙ entry) in
+    let sum : c.from.result +ℤ c.move_along-by.result ≡ int_at (prices_on c.args.product r) c.args.k +ℤ int_div (c.args.step.gap *ℤ direction_on m r c.args.product c.args.k) c.args.step.scale =
+    ap (λ (z : ℤ). z +ℤ c.move_along-by.result) (from_is ∙ price) ∙ ap (λ (z : ℤ). int_at (prices_on c.args.product r) c.args.k +ℤ z) (by_is ∙ entry) in
     simp to_z-of_z (near
     ∙ ap (λ (l : ℤ). clamped l price_limit (c.from.result +ℤ c.move_along-by.result)) c.low_limit.ensures.value
-    ∙ ap (λ (z : ℤ). clamped (low_of c.args.side) price_limit z) sum)
+    ∙ ap (λ (z : ℤ). clamped (low_of c.args.product) price_limit z) sum)

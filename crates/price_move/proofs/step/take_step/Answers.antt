@@ -9,7 +9,7 @@ returns-clause-prices c =
     let end = c.loop-k.auto.k-end in
     let wide = c.requires.length in
     let same = c.loop-k.invariant.same_length in
-    fill_by_all (price_after (market_of c.args.case.now) (proposal_of c.args.row.now) c.args.step.gap c.args.step.scale c.args.side)
+    fill_by_all (price_after (market_of c.args.case.now) (proposal_of c.args.row.now) c.args.step.gap c.args.step.scale c.args.product)
     c.loop-k.into.items c.args.case.now.periods (pos 0) (omega (arith, same, wide))
     (λ j h. c.loop-k.invariant.stepped j (omega (arith, h, last)))
 
@@ -19,5 +19,5 @@ returns-clause-limits c = λ j d h.
     let wide = c.requires.length in
     let same = c.loop-k.invariant.same_length in
     let is = get_or_default c.loop-k.into.items j d (pos 0) h ∙ c.loop-k.invariant.stepped j (omega (arith, h, last, wide, same)) in
-    subst (λ (z : ℤ). IsFrom (low_of c.args.side) price_limit z) (sym is)
-    (price_limits (market_of c.args.case.now) (proposal_of c.args.row.now) c.args.step.gap c.args.step.scale c.args.side j)
+    subst (λ (z : ℤ). IsFrom (low_of c.args.product) price_limit z) (sym is)
+    (price_limits (market_of c.args.case.now) (proposal_of c.args.row.now) c.args.step.gap c.args.step.scale c.args.product j)
