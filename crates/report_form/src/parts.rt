@@ -58,7 +58,8 @@ fn hex_digit(k: u8) -> u8
     if k < 10 { b'0' + k } else { b'a' + (k - 10) }
 }
 
-fn is_plain(byte: u8) -> bool
+/// Whether a byte of a name stands as it is: it is no control character, no quote and no backslash.
+pub fn is_plain(byte: u8) -> bool
     ensures { result ≡ stands_as_is byte }
 {
     byte >= 32 && byte != b'"' && byte != b'\\'

@@ -8,6 +8,7 @@ pub use Rattle.std.proofs.lemmas.Int.{ints, to_z-of_z}
 pub use Rattle.std.proofs.lemmas.List.{append-nil, nil_from_length, drop_more, take_at, map_push}
 pub use Rattle.std.proofs.lemmas.List.Elements.{All-from_recursion}
 pub use Rattle.std.proofs.lemmas.Result.{err_from_is_err_and}
+pub use Rattle.std.specs.Char.{is_ascii_digit}
 pub use Rattle.std.specs.Int.{w128}
 pub use Rattle.std.specs.Int.Signed.{le_z_yes}
 pub use Rattle.std.specs.List.{AllByRecursion, flat_map}
@@ -26,7 +27,7 @@ unfoldable pub use Rattle.report_read.specs.LineForms.{ended, after, just, both,
 pub use Rattle.report_read.specs.Lines.{Read, or_left, line, then_lines, making, Fails, joined, count_line, amount_line, made_head, list_line, price_at, total_at, made_row, made_foot, power_at, made_response, always_on, response_at, made_unit, made_report, if_no_more}
 unfoldable pub use Rattle.report_read.specs.Lines.{row_at, rows_at, unit_at, units_at, head_at, foot_at, thermal_at, other_at, report_at, all_of}
 pub use Rattle.report_read.specs.Plain.{Told, rank, same_kind, lines_of, told_of, report_of}
-pub use Rattle.report_read.specs.Words.{Found, ◌>>=◌, is_digit, hex_value, two_digits, text_only, count_between, negative, integer_between, of_kind, or_else, behind as behind_spec, digits_from as digits_spec}
+pub use Rattle.report_read.specs.Words.{Found, ◌>>=◌, hex_value, two_digits, text_only, count_between, negative, integer_between, of_kind, or_else, behind as behind_spec, digits_from as digits_spec}
 unfoldable pub use Rattle.report_read.specs.Words.{behind, items_at, escaped_at, closed_within, control_at, backslashed_at, name_at, numeral_at, count_at, signed_at, integer_at, digits_from, spaced, flag_at, kind_at}
 pub use Rattle.report_read.specs.declared.head.Foot.{Foot}
 pub use Rattle.report_read.specs.declared.numbers.TheConstants.{MOST}

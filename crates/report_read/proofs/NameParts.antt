@@ -1,5 +1,5 @@
 -- Names: what is taken is the form in which a name is printed, and a name is read again from it.
-use Rattle.report_read.proofs.Common.{◌≡◌, ℕ, zero, suc, ◌+◌, ◌-◌, ◌*◌, ◌<◌, ◌≤◌, ◌/◌, ◌%◌, true, false, cond, nat_lt, nat_le, ◌==◌, ◌&&◌, ◌||◌, ◌⊎◌, List, [], ◌∷◌, ◌++◌, length, codes, Some, None, refl, sym, ap, ◌∙◌, subst, arith, append_assoc, length-append, inl, inr, IsUtf8, flat_map, cases_lt, false_from_ne_true, nat_tests, hex_of, stands_as_is, escaped, ◌>>=◌, behind, is_digit, hex_value, two_digits, control_at, backslashed_at, escaped_at, closed_within, text_only, name_at}
+use Rattle.report_read.proofs.Common.{◌≡◌, ℕ, zero, suc, ◌+◌, ◌-◌, ◌*◌, ◌<◌, ◌≤◌, ◌/◌, ◌%◌, true, false, cond, nat_lt, nat_le, ◌==◌, ◌&&◌, ◌||◌, ◌⊎◌, List, [], ◌∷◌, ◌++◌, length, codes, Some, None, refl, sym, ap, ◌∙◌, subst, arith, append_assoc, length-append, inl, inr, IsUtf8, flat_map, cases_lt, false_from_ne_true, nat_tests, hex_of, stands_as_is, escaped, ◌>>=◌, behind, is_ascii_digit, hex_value, two_digits, control_at, backslashed_at, escaped_at, closed_within, text_only, name_at}
 use Rattle.std.specs.Str.{is_utf8}
 use Rattle.std.proofs.lemmas.Str.{IsUtf8-from_is_utf8, is_utf8-from_IsUtf8}
 use Rattle.report_read.proofs.Parts.{bind_some, if_some, some_is, behind_takes, is_inline, inline_append, Part}
@@ -18,7 +18,7 @@ high_hex x h = grind (arith, nat_tests)
 
 hex_takes : (h x : ℕ) → hex_value h ≡ Some x → IsHex h x
 hex_takes h x e =
-    elim (is_digit h) as (λ t. is_digit h ≡ t → cond t (Some (h - 48)) (cond (nat_le 97 h && nat_le h 102) (Some (h - 87)) None) ≡ Some x → IsHex h x) [
+    elim (is_ascii_digit h) as (λ t. is_ascii_digit h ≡ t → cond t (Some (h - 48)) (cond (nat_le 97 h && nat_le h 102) (Some (h - 87)) None) ≡ Some x → IsHex h x) [
       | true ↦ λ t f.
           let same : h - 48 ≡ x = some_is (h - 48) x f in
           let low : 48 ≤ h = grind (arith, nat_tests) in
@@ -37,11 +37,11 @@ hex_again : (x : ℕ) → x < 16 → hex_value (hex_of x) ≡ Some x
 hex_again x h =
     elim (cases_lt x 10) [
       | inl low ↦
-          let t : is_digit (48 + x) ≡ true = grind (arith, nat_tests) in
+          let t : is_ascii_digit (48 + x) ≡ true = grind (arith, nat_tests) in
           let d : 48 + x - 48 ≡ x = omega arith in
           ap hex_value (low_hex x low) ∙ rw (t, d) refl
       | inr high ↦
-          let f : is_digit (97 + (x - 10)) ≡ false = grind (arith, nat_tests) in
+          let f : is_ascii_digit (97 + (x - 10)) ≡ false = grind (arith, nat_tests) in
           let t : (nat_le 97 (97 + (x - 10)) && nat_le (97 + (x - 10)) 102) ≡ true = grind (arith, nat_tests) in
           let d : 97 + (x - 10) - 87 ≡ x = omega arith in
           ap hex_value (high_hex x high) ∙ rw (f, t, d) refl

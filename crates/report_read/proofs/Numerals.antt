@@ -1,5 +1,5 @@
 -- Numbers in digits: what is taken is the numeral of a number, and the numeral of a number is read again.
-use Rattle.report_read.proofs.Common.{◌≡◌, ◌≢◌, ℕ, zero, suc, ◌+◌, ◌-◌, ◌*◌, ◌<◌, ◌≤◌, ◌/◌, ◌%◌, ℤ, pos, negsuc, Bool, true, false, cond, nat_lt, nat_le, ◌==◌, ◌&&◌, List, [], ◌∷◌, ◌++◌, Some, None, refl, sym, ap, ◌∙◌, subst, arith, append_assoc, inl, inr, int_le, ◌≤ℤ◌, le_z_yes, T_from_true, cases_lt, ne_eqb, ints, nat_tests, IsFrom, digits_up_to, numeral, signed_numeral, ◌>>=◌, is_digit, digits_from, numeral_at, count_between, count_at, negative, signed_at, integer_between, integer_at}
+use Rattle.report_read.proofs.Common.{◌≡◌, ◌≢◌, ℕ, zero, suc, ◌+◌, ◌-◌, ◌*◌, ◌<◌, ◌≤◌, ◌/◌, ◌%◌, ℤ, pos, negsuc, Bool, true, false, cond, nat_lt, nat_le, ◌==◌, ◌&&◌, List, [], ◌∷◌, ◌++◌, Some, None, refl, sym, ap, ◌∙◌, subst, arith, append_assoc, inl, inr, int_le, ◌≤ℤ◌, le_z_yes, T_from_true, cases_lt, ne_eqb, ints, nat_tests, IsFrom, digits_up_to, numeral, signed_numeral, ◌>>=◌, is_ascii_digit, digits_from, numeral_at, count_between, count_at, negative, signed_at, integer_between, integer_at}
 use Rattle.report_read.proofs.Parts.{bind_some, if_some, some_is, is_inline, inline_append, Stops, Part}
 
 small : (n : ℕ) → n < 10 → nat_lt n 10 ≡ true
@@ -24,10 +24,10 @@ enough (suc j) (suc k) n p q =
       | inr high ↦ more_digits j n high ∙ ap (λ (ds : List ℕ). ds ++ (48 + n % 10) ∷ []) (enough j k (n / 10) (omega arith) (omega arith)) ∙ sym (more_digits k n high)
     ]
 
-is_digit_true : (d : ℕ) → d < 10 → is_digit (48 + d) ≡ true
+is_digit_true : (d : ℕ) → d < 10 → is_ascii_digit (48 + d) ≡ true
 is_digit_true d h = grind (arith, nat_tests)
 
-digit_range : (b : ℕ) → is_digit b ≡ true → (48 ≤ b) × (b ≤ 57)
+digit_range : (b : ℕ) → is_ascii_digit b ≡ true → (48 ≤ b) × (b ≤ 57)
 digit_range b h = (grind (arith, nat_tests), grind (arith, nat_tests))
 
 -- a digit behind a number that isn't 0
@@ -51,7 +51,7 @@ digits_take : (n : ℕ) (bytes : List ℕ) → 0 < n → numeral n ++ bytes ≡ 
 unfolding digits_from
 digits_take n [] h = refl
 digits_take n (b ∷ bs) h =
-    elim (is_digit b) as (λ t. is_digit b ≡ t → numeral n ++ b ∷ bs ≡ numeral (cond t (digits_from (10 * n + (b - 48)) bs) (n, b ∷ bs)).0 ++ (cond t (digits_from (10 * n + (b - 48)) bs) (n, b ∷ bs)).1) [
+    elim (is_ascii_digit b) as (λ t. is_ascii_digit b ≡ t → numeral n ++ b ∷ bs ≡ numeral (cond t (digits_from (10 * n + (b - 48)) bs) (n, b ∷ bs)).0 ++ (cond t (digits_from (10 * n + (b - 48)) bs) (n, b ∷ bs)).1) [
       | true ↦ λ t.
           let range = digit_range b t in
           let d : 48 + (b - 48) ≡ b = omega arith in
@@ -71,12 +71,12 @@ pub numeral_takes : (bytes : List ℕ) (x : ℕ × List ℕ) → numeral_at byte
 unfolding numeral_at
 numeral_takes [] x e = absurd cc
 numeral_takes (b ∷ bs) x e =
-    elim (b == 48) as (λ t. (b == 48) ≡ t → cond t (Some (0, bs)) (cond (is_digit b) (Some (digits_from (b - 48) bs)) None) ≡ Some x → b ∷ bs ≡ numeral x.0 ++ x.1) [
+    elim (b == 48) as (λ t. (b == 48) ≡ t → cond t (Some (0, bs)) (cond (is_ascii_digit b) (Some (digits_from (b - 48) bs)) None) ≡ Some x → b ∷ bs ≡ numeral x.0 ++ x.1) [
       | true ↦ λ t f.
           let zero_is : b ≡ 48 = if_zero b t in
           subst (λ (w : ℕ × List ℕ). b ∷ bs ≡ numeral w.0 ++ w.1) (some_is (0, bs) x f) (ap (λ (k : ℕ). k ∷ bs) zero_is ∙ ap (λ (z : List ℕ). z ++ bs) (sym (numeral_one 0 (omega arith))))
       | false ↦ λ t f.
-          let g = if_some (is_digit b) (Some (digits_from (b - 48) bs)) x f in
+          let g = if_some (is_ascii_digit b) (Some (digits_from (b - 48) bs)) x f in
           let range = digit_range b g.0 in
           let other = not_zero b t in
           let d : 48 + (b - 48) ≡ b = omega arith in

@@ -1,5 +1,5 @@
 -- Parts of a line: what is taken is the text of a value, and the text of a value is read again.
-use Rattle.report_read.proofs.Common.{◌≡◌, ℕ, zero, suc, Bool, true, false, cond, nat_le, ◌==◌, ◌&&◌, List, [], ◌∷◌, ◌++◌, length, Option, Some, None, refl, sym, ap, ◌∙◌, subst, arith, append_assoc, flat_map, AllByRecursion, eqb-true, Found, ◌>>=◌, behind, is_digit, spaced, items_at, IsList, after, just, both, ended}
+use Rattle.report_read.proofs.Common.{◌≡◌, ℕ, zero, suc, Bool, true, false, cond, nat_le, ◌==◌, ◌&&◌, List, [], ◌∷◌, ◌++◌, length, Option, Some, None, refl, sym, ap, ◌∙◌, subst, arith, append_assoc, flat_map, AllByRecursion, eqb-true, Found, ◌>>=◌, behind, is_ascii_digit, spaced, items_at, IsList, after, just, both, ended}
 
 pub bind_some : {A B : Type 0} (r : Option A) (f : A → Option B) (y : B) → (r >>= f) ≡ Some y → (x : A) × (r ≡ Some x) × (f x ≡ Some y)
 bind_some (Some x) f y e = (x, refl, e)
@@ -51,7 +51,7 @@ inline_append (b ∷ bs) y p q =
 -- no digit comes next
 abbrev pub Stops : List ℕ → Type 0
 Stops [] = Unit {0}
-Stops (c ∷ cs) = is_digit c ≡ false
+Stops (c ∷ cs) = is_ascii_digit c ≡ false
 
 pub record Part {A : Type 0} (text : A → List ℕ) (Fits : A → Type 0) (read : List ℕ → Found A) : Type 0 where
   pub takes : (bytes : List ℕ) (x : A) (rest : List ℕ) → read bytes ≡ Some (x, rest) → (bytes ≡ text x ++ rest) × Fits x

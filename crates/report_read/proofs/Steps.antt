@@ -1,5 +1,5 @@
 -- What a loop over bytes has read so far: words and digits.
-use Rattle.report_read.proofs.Common.{◌≡◌, ℕ, ◌+◌, ◌-◌, ◌*◌, ◌<◌, ◌≤◌, true, false, cond, nat_le, ◌==◌, ◌&&◌, List, [], ◌∷◌, length, get_or, drop, Some, None, refl, ◌∙◌, arith, eq-eqb, drop_of_length-le, drop_more, ne_eqb, nat_tests, behind, is_digit, digits_from, count_between}
+use Rattle.report_read.proofs.Common.{◌≡◌, ℕ, ◌+◌, ◌-◌, ◌*◌, ◌<◌, ◌≤◌, true, false, cond, nat_le, ◌==◌, ◌&&◌, List, [], ◌∷◌, length, get_or, drop, Some, None, refl, ◌∙◌, arith, eq-eqb, drop_of_length-le, drop_more, ne_eqb, nat_tests, behind, is_ascii_digit, digits_from, count_between}
 
 -- ---- words
 
@@ -29,12 +29,12 @@ pub ruleset behind_loop = (behind_step, behind_short, behind_other, behind_done)
 
 -- ---- digits
 
-pub digits_step : (n : ℕ) (bytes : List ℕ) (i : ℕ) → i < length bytes → is_digit (get_or bytes i 0) ≡ true
+pub digits_step : (n : ℕ) (bytes : List ℕ) (i : ℕ) → i < length bytes → is_ascii_digit (get_or bytes i 0) ≡ true
     → digits_from n (drop i bytes) ≡ digits_from (10 * n + (get_or bytes i 0 - 48)) (drop (i + 1) bytes)
 unfolding digits_from
 digits_step n bytes i p t = rw (drop_more bytes i 0 p, t) refl
 
-pub digits_stop : (n : ℕ) (bytes : List ℕ) (i : ℕ) → i < length bytes → is_digit (get_or bytes i 0) ≡ false → digits_from n (drop i bytes) ≡ (n, drop i bytes)
+pub digits_stop : (n : ℕ) (bytes : List ℕ) (i : ℕ) → i < length bytes → is_ascii_digit (get_or bytes i 0) ≡ false → digits_from n (drop i bytes) ≡ (n, drop i bytes)
 unfolding digits_from
 digits_stop n bytes i p t = rw (drop_more bytes i 0 p, t) refl
 
@@ -47,7 +47,7 @@ pub digits_grow : (n : ℕ) (bytes : List ℕ) → n ≤ (digits_from n bytes).0
 unfolding digits_from
 digits_grow n [] = omega arith
 digits_grow n (b ∷ bs) =
-    elim (is_digit b) as (λ t. n ≤ (cond t (digits_from (10 * n + (b - 48)) bs) (n, b ∷ bs)).0) [
+    elim (is_ascii_digit b) as (λ t. n ≤ (cond t (digits_from (10 * n + (b - 48)) bs) (n, b ∷ bs)).0) [
       | true ↦ let more = digits_grow (10 * n + (b - 48)) bs in omega arith
       | false ↦ omega arith
     ]
@@ -58,7 +58,7 @@ between_above least most x h =
     rw t (elim (nat_le least x.0) as (λ b. cond (b && false) (Some x) None ≡ None) [ true ↦ refl | false ↦ refl ])
 
 -- no room is left for another digit
-pub digits_too_many : (first n most : ℕ) (bytes whole : List ℕ) (i : ℕ) → i < length bytes → is_digit (get_or bytes i 0) ≡ true → most < 10 * n
+pub digits_too_many : (first n most : ℕ) (bytes whole : List ℕ) (i : ℕ) → i < length bytes → is_ascii_digit (get_or bytes i 0) ≡ true → most < 10 * n
     → digits_from first whole ≡ digits_from n (drop i bytes) → count_between 0 most (digits_from first whole) ≡ None
 digits_too_many first n most bytes whole i p t large so_far =
     let step = digits_step n bytes i p t in

@@ -16,7 +16,8 @@ use Rattle.report_read.specs.declared.head.Foot.{Foot}
 use Rattle.report_read.specs.declared.stop.Stop.{Stop}
 use Rattle.report_read.specs.declared.stop.Stop.TheVariants as stops
 use Rattle.report_read.specs.Plain.{Told, rank, lines_of}
-use Rattle.report_read.specs.Words.{Found, count_at, integer_at, flag_at, spaced, items_at}
+use Rattle.report_read.specs.Words.{Found, most_count, count_at, integer_at, flag_at, spaced}
+use Rattle.report_read.specs.Words.{items_at}
 use Rattle.report_read.specs.LineForms.{amount_at, word_line, plain_line}
 use Rattle.report_read.specs.LineForms.{value_line, Title, title_line}
 
@@ -86,7 +87,7 @@ head_at =
     then_lines (count_line (codes "budget ") 1 MOST_PROPOSALS) (λ _.
     then_lines (count_line (codes "ahead ") 1 MOST_AHEAD) (λ _.
     then_lines (amount_line (codes "cost ")) (λ _.
-    count_line (codes "proposals ") 1 4294967295)))))))
+    count_line (codes "proposals ") 1 most_count)))))))
 
 -- ---- proposals
 
@@ -129,7 +130,7 @@ rows_at periods number (suc count) bytes =
 -- ---- units
 
 abbrev pub power_at : List ℕ → Found ℕ
-power_at = spaced (count_at 0 4294967295)
+power_at = spaced (count_at 0 most_count)
 
 abbrev pub made_response : List Bool × (List ℕ × List ℕ) → Schedule
 made_response x = record { on = x.0; power = x.1.0; reserve = x.1.1 }
@@ -213,7 +214,7 @@ unfoldable pub report_at : List ℕ → Read Report
 report_at =
     making made_report (then_lines head_at (λ h.
     then_lines (rows_at h.periods 1 h.proposals) (λ _.
-    then_lines (line (value_line (codes "chosen ") 0 4294967295)) (λ _.
+    then_lines (line (value_line (codes "chosen ") 0 most_count)) (λ _.
     then_lines (units_at h.periods 0 h.units) (λ _. foot_at)))))
 
 -- nothing stands behind the last line

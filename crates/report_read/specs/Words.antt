@@ -3,6 +3,7 @@
 use Rattle.std.specs.Prelude.{◌≡◌, ℕ, zero, suc, ◌+◌, ◌-◌, ◌*◌, ◌==◌, ◌&&◌, ◌||◌, nat_lt}
 use Rattle.std.specs.Prelude.{nat_le, int_le, Bool, true, false, if◌then◌else◌, ℤ, pos, neg_ℤ}
 use Rattle.std.specs.Prelude.{List, [], ◌∷◌, length, codes, Option, Some, None, Result, Ok, Err}
+use Rattle.std.specs.Char.{is_ascii_digit}
 use Rattle.std.specs.Str.{is_utf8}
 use Rattle.uc_model.specs.declared.kinds.Kind.{Kind}
 use Rattle.uc_model.specs.declared.kinds.Kind.TheVariants as kinds
@@ -39,19 +40,20 @@ behind (c ∷ cs) (b ∷ bs) = if b == c then behind cs bs else None
 
 -- ---- numbers
 
-abbrev pub is_digit : ℕ → Bool
-is_digit b = nat_le 48 b && nat_le b 57
-
 -- digits go on: the number with them, and the bytes behind the last digit
 unfoldable pub digits_from : ℕ → List ℕ → ℕ × List ℕ
 digits_from n [] = (n, [])
-digits_from n (b ∷ bs) = if is_digit b then digits_from (10 * n + (b - 48)) bs else (n, b ∷ bs)
+digits_from n (b ∷ bs) = if is_ascii_digit b then digits_from (10 * n + (b - 48)) bs else (n, b ∷ bs)
 
 -- 0, or digits of which the first isn't 0
 unfoldable pub numeral_at : List ℕ → Found ℕ
 numeral_at [] = None
 numeral_at (b ∷ bs) =
-    if b == 48 then Some (0, bs) else if is_digit b then Some (digits_from (b - 48) bs) else None
+    if b == 48 then Some (0, bs) else if is_ascii_digit b then Some (digits_from (b - 48) bs) else None
+
+-- the greatest number of 32 bits, the most that a count in a line can be
+abbrev pub most_count : ℕ
+most_count = 4294967295
 
 abbrev pub count_between : ℕ → ℕ → ℕ × List ℕ → Found ℕ
 count_between least most x = if nat_le least x.0 && nat_le x.0 most then Some x else None
@@ -101,7 +103,7 @@ items_at item (suc n) bytes = do
 
 abbrev pub hex_value : ℕ → Option ℕ
 hex_value b =
-    if is_digit b then Some (b - 48)
+    if is_ascii_digit b then Some (b - 48)
     else if nat_le 97 b && nat_le b 102 then Some (b - 87) else None
 
 abbrev pub two_digits : List ℕ → Found ℕ

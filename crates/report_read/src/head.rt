@@ -3,6 +3,7 @@ ghost use Rattle.std.specs.Prelude.{codes};
 ghost use Rattle.plain_lists.specs.declared.limits.TheConstants.{MOST_AHEAD, MOST_PROPOSALS};
 ghost use Rattle.report_read.specs.Lines.{Gives, head_at, foot_at, then_lines};
 ghost use Rattle.report_read.specs.Lines.{count_line as count_spec, amount_line as amount_spec};
+ghost use Rattle.report_read.specs.Words.{most_count};
 
 use crate::lines::{amount_line, count_line, word_line};
 use crate::stop::Stop;
@@ -37,7 +38,7 @@ fn read_run(bytes: &[u8]) -> Result<(RunLines, &[u8]), Stop>
         (then_lines (count_spec (codes "budget ") 1 MOST_PROPOSALS) (λ _.
         then_lines (count_spec (codes "ahead ") 1 MOST_AHEAD) (λ _.
         then_lines (amount_spec (codes "cost ")) (λ _.
-        count_spec (codes "proposals ") 1 4294967295))) bytes.now) }
+        count_spec (codes "proposals ") 1 most_count))) bytes.now) }
 {
     let (budget, rest) = count_line(b"budget ", 1, MOST_PROPOSALS, bytes)?;
     let (ahead, rest) = count_line(b"ahead ", 1, MOST_AHEAD, rest)?;

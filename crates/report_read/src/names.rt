@@ -5,10 +5,10 @@ ghost use Rattle.report_read.specs.Words.{control_at as control_spec};
 ghost use Rattle.report_read.specs.Words.{backslashed_at as backslashed_spec};
 ghost use Rattle.report_read.specs.Words.{escaped_at as escaped_spec, closed_within};
 ghost use Rattle.report_read.specs.Words.{name_at as name_spec, FindsIfOk};
-ghost use Rattle.report_form.specs.Parts.{stands_as_is};
 
 use crate::words::behind;
 use plain_lists::lists::Name;
+use report_form::parts::is_plain;
 use std::alloc::{AllocError, Global};
 
 /// The value of a hexadecimal digit in lower case.
@@ -56,12 +56,6 @@ fn backslashed_at(bytes: &[u8]) -> Option<(u8, &[u8])>
         [b'u', rest @ ..] => control_at(rest),
         _ => None,
     }
-}
-
-fn is_plain(byte: u8) -> bool
-    ensures { result ≡ stands_as_is byte }
-{
-    byte >= 32 && byte != b'"' && byte != b'\\'
 }
 
 /// A byte of a name, in the one form in which it is printed.

@@ -5,7 +5,7 @@ ghost use Rattle.report_read.specs.Words.{count_at as count_spec, integer_at};
 ghost use Rattle.report_read.specs.LineForms.{amount_at as amount_spec};
 ghost use Rattle.report_read.specs.declared.numbers.TheConstants.{MOST};
 
-use crate::words::{is_digit, rest_from};
+use crate::words::rest_from;
 
 /// The greatest magnitude of a number of 128 bits.
 pub const MOST: u128 = 170_141_183_460_469_231_731_687_303_715_884_105_728;
@@ -30,7 +30,7 @@ fn digits_from(first: u128, bytes: &[u8]) -> Option<(u128, &[u8])>
 {
     let mut number = first;
     for (offset, byte) in bytes.iter().enumerate() {
-        if !is_digit(*byte) {
+        if !byte.is_ascii_digit() {
             return within(number, rest_from(bytes, offset));
         }
         if number > MOST_BEFORE_LAST {
@@ -48,7 +48,7 @@ fn numeral_at(bytes: &[u8]) -> Option<(u128, &[u8])>
 {
     match bytes {
         [b'0', rest @ ..] => Some((0, rest)),
-        [first, rest @ ..] if is_digit(*first) => digits_from((*first - b'0') as u128, rest),
+        [first, rest @ ..] if first.is_ascii_digit() => digits_from((*first - b'0') as u128, rest),
         _ => None,
     }
 }

@@ -8,6 +8,7 @@ ghost use Rattle.report_read.specs.Faults.{IsFault, IfFault, line_feeds, Gives a
 ghost use Rattle.report_read.specs.LineForms.{value_line as value_form};
 ghost use Rattle.report_read.specs.Lines.{Gives, line, then_lines, units_at, foot_at, report_at};
 ghost use Rattle.report_read.specs.Lines.{all_of};
+ghost use Rattle.report_read.specs.Words.{most_count};
 
 use crate::head::{Foot, read_foot, read_head};
 use crate::lines::{Valued, value_line};
@@ -39,7 +40,7 @@ fn read_ending(
       ),
       x.1.now,
     )) result
-        (then_lines (line (value_form (codes "chosen ") 0 4294967295)) (λ _.
+        (then_lines (line (value_form (codes "chosen ") 0 most_count)) (λ _.
         then_lines (units_at periods 0 units) (λ _. foot_at)) bytes.now) }
     ensures order { IfOk result (λ x. AreInOrder 0 (map told_of x.0.lines.items)) }
 {

@@ -1,6 +1,6 @@
 //! Words and single bytes.
 ghost use Rattle.std.specs.Prelude.{◌≡◌, ◌≤◌, length, drop};
-ghost use Rattle.report_read.specs.Words.{Finds, behind as behind_spec, is_digit as digit};
+ghost use Rattle.report_read.specs.Words.{Finds, behind as behind_spec};
 
 /// The bytes from an offset on.
 pub fn rest_from(bytes: &[u8], offset: usize) -> &[u8]
@@ -21,11 +21,4 @@ pub fn behind<'a>(word: &[u8], bytes: &'a [u8]) -> Option<&'a [u8]>
         }
     }
     Some(rest_from(bytes, word.len()))
-}
-
-/// Whether a byte is one of `0` to `9`.
-pub fn is_digit(byte: u8) -> bool
-    ensures { result ≡ digit byte }
-{
-    b'0' <= byte && byte <= b'9'
 }
