@@ -1,5 +1,5 @@
 -- The tokens from an offset on, and those from the next offset.
-use Rattle.text_tokens.proofs.Common.{◌≡◌, ℕ, zero, suc, ◌+◌, ◌-◌, ◌<◌, ◌≤◌, Bool, true, false, cond, List, [], ◌∷◌, length, get_or, drop, drop-cons, refl, sym, ap, ap₂, ◌∙◌, arith, drop-drop, length-drop, drop_all, get_or-drop, nat_tests, Token, end, comma, is_digit, Lexed, lexed, is_blank, token_at, tokens_from, Read, number_at, rest_at, Takes}
+use Rattle.text_tokens.proofs.Common.{◌≡◌, ℕ, zero, suc, ◌+◌, ◌-◌, ◌<◌, ◌≤◌, Bool, true, false, cond, List, [], ◌∷◌, length, get_or, drop, drop-cons, refl, sym, ap, ap₂, ◌∙◌, arith, drop-drop, length-drop, drop_all, get_or-drop, nat_tests, Token, end, comma, is_ascii_digit, Lexed, lexed, is_blank, token_at, tokens_from, Read, number_at, rest_at, Takes}
 use Rattle.text_tokens.proofs.Digits.{digit_range}
 use Rattle.text_tokens.proofs.ShortNumbers.{no_such}
 
@@ -47,7 +47,7 @@ next_token bytes s at t len lt h whole is some within =
 
 -- ---- a number and a comma
 
-no_blank_digit : (b : ℕ) → is_digit b ≡ true → is_blank b ≡ false
+no_blank_digit : (b : ℕ) → is_ascii_digit b ≡ true → is_blank b ≡ false
 no_blank_digit b e = let r = digit_range b e in grind (arith, nat_tests, r)
 
 no_blank_comma : (b : ℕ) → b ≡ 44 → is_blank b ≡ false
@@ -57,7 +57,7 @@ comma_read : (b : ℕ) (s : List ℕ) → b ≡ 44 → (comma, 1) ≡ token_at b
 unfolding token_at
 comma_read b s e = rw e refl
 
-number_read : (b : ℕ) (s : List ℕ) → is_digit b ≡ true → token_at b s ≡ number_at s
+number_read : (b : ℕ) (s : List ℕ) → is_ascii_digit b ≡ true → token_at b s ≡ number_at s
 unfolding token_at
 number_read b s e =
     let r = digit_range b e in
@@ -73,13 +73,13 @@ mark_step bytes at t lt shown is =
 pub comma_step : (bytes : List ℕ) (at : ℕ) → at < length bytes → get_or bytes at 0 ≡ 44 → rest_at bytes at ≡ lexed comma at ∷ rest_at bytes (at + 1)
 comma_step bytes at lt is = mark_step bytes at comma lt (no_blank_comma (get_or bytes at 0) is) (λ s. comma_read (get_or bytes at 0) s is)
 
-pub number_step : (bytes s : List ℕ) (at : ℕ) (t : Token) (len : ℕ) → at < length bytes → s ≡ drop at bytes → ◌≡◌ {A = Read} (t, len) (number_at s) → is_digit (get_or s 0 0) ≡ true → 0 < len → len ≤ length s
+pub number_step : (bytes s : List ℕ) (at : ℕ) (t : Token) (len : ℕ) → at < length bytes → s ≡ drop at bytes → ◌≡◌ {A = Read} (t, len) (number_at s) → is_ascii_digit (get_or s 0 0) ≡ true → 0 < len → len ≤ length s
     → rest_at bytes at ≡ lexed t at ∷ rest_at bytes (at + len)
 number_step bytes s at t len lt whole is digit some within =
     let here : get_or s 0 0 ≡ get_or bytes at 0 = ap (λ (r : List ℕ). get_or r 0 0) whole ∙ get_or-drop at bytes 0 0 ∙ ap (λ (n : ℕ). get_or bytes n 0) (omega arith) in
-    next_token bytes s at t len lt (no_blank_digit (get_or bytes at 0) (ap is_digit (sym here) ∙ digit)) whole (is ∙ sym (number_read (get_or s 0 0) s digit)) some within
+    next_token bytes s at t len lt (no_blank_digit (get_or bytes at 0) (ap is_ascii_digit (sym here) ∙ digit)) whole (is ∙ sym (number_read (get_or s 0 0) s digit)) some within
 
-pub number_and_comma_step : (bytes s : List ℕ) (at : ℕ) (t : Token) (len : ℕ) → s ≡ drop at bytes → ◌≡◌ {A = Read} (t, len) (number_at s) → is_digit (get_or s 0 0) ≡ true → 0 < len → len < length s → get_or s len 0 ≡ 44
+pub number_and_comma_step : (bytes s : List ℕ) (at : ℕ) (t : Token) (len : ℕ) → s ≡ drop at bytes → ◌≡◌ {A = Read} (t, len) (number_at s) → is_ascii_digit (get_or s 0 0) ≡ true → 0 < len → len < length s → get_or s len 0 ≡ 44
     → Takes (rest_at bytes at) (t ∷ comma ∷ []) (rest_at bytes (at + (len + 1)))
 number_and_comma_step bytes s at t len whole is digit some within ends =
     let l : length s ≡ length bytes - at = ap length whole ∙ length-drop at bytes in

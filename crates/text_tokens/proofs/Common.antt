@@ -5,11 +5,11 @@ pub use Rattle.std.proofs.lemmas.Bool.Decides.{nat_tests, eqb_tells}
 pub use Rattle.std.proofs.lemmas.List.{drop-drop, length-drop, drop_all, get_or-drop, take_all, take-append-le, get_or-append_right, get_or-take, length-take, append-nil, take_more}
 pub use Rattle.std.proofs.lemmas.List.Sums.{prefix_len_is, prefix_len_passes}
 pub use Rattle.std.proofs.lemmas.Str.{IsUtf8-encode, IsUtf8-append, IsUtf8-take, IsUtf8-drop, IsCharBoundary-before_ascii, IsCharBoundary-after_ascii, encode_ascii, length-encode, len_utf8_bounds, IsUtf8-from_is_utf8, is_utf8-from_IsUtf8}
-pub use Rattle.std.specs.Char.{encode_utf8, IsScalar}
+pub use Rattle.std.specs.Char.{encode_utf8, is_ascii_digit, IsScalar}
 pub use Rattle.std.specs.List.{prefix_len}
 pub use Rattle.std.specs.Prelude.{IsUtf8, option_map, is_some, nat_eq, nat_lt, option_and_then, IfOk}
 pub use Rattle.text_tokens.specs.Grammar.{Token, end, comma, word}
-pub use Rattle.text_tokens.specs.Numbers.{is_digit, AreDigits, value_from, value, significant, begins_with, is_whole_part, is_number_byte}
+pub use Rattle.text_tokens.specs.Numbers.{AreDigits, value_from, value, significant, begins_with, is_whole_part, is_number_byte}
 unfoldable pub use Rattle.text_tokens.specs.Numbers.{exponent_of, number_token, front, behind, behind_fraction, behind_whole, unsigned, number_of}
 pub use Rattle.text_tokens.specs.Pieces.{seen_piece, piece_of}
 pub use Rattle.text_tokens.specs.Offsets.{rest_at, Takes}

@@ -1,8 +1,8 @@
 -- How the value of digits grows.
-use Rattle.text_tokens.proofs.Common.{◌≡◌, ◌≢◌, ℕ, zero, suc, ◌+◌, ◌-◌, ◌*◌, ◌^◌, ◌<◌, ◌≤◌, true, List, [], ◌∷◌, length, get_or, drop, drop-cons, refl, ap, subst, ◌∙◌, arith, inl, inr, lit<, cases_lt, nat_tests, eqb_tells, length-drop, drop_all, is_digit, AreDigits, value_from, value, significant}
+use Rattle.text_tokens.proofs.Common.{◌≡◌, ◌≢◌, ℕ, zero, suc, ◌+◌, ◌-◌, ◌*◌, ◌^◌, ◌<◌, ◌≤◌, true, List, [], ◌∷◌, length, get_or, drop, drop-cons, refl, ap, subst, ◌∙◌, arith, inl, inr, lit<, cases_lt, nat_tests, eqb_tells, length-drop, drop_all, is_ascii_digit, AreDigits, value_from, value, significant}
 use Rattle.std.proofs.Math.Nat.{pow-suc, mul-le-mul_right, mul-le-mul_left, pow-le-pow_right, one-le-pow}
 
-pub digit_range : (b : ℕ) → is_digit b ≡ true → (48 ≤ b) × (b ≤ 57)
+pub digit_range : (b : ℕ) → is_ascii_digit b ≡ true → (48 ≤ b) × (b ≤ 57)
 digit_range b h = grind (arith, nat_tests)
 
 -- a value is at least what stands before
@@ -33,7 +33,7 @@ one_times n = omega arith
 at_least_once : (d p : ℕ) → 1 ≤ d → p ≤ (10 * 0 + d) * p
 at_least_once d p some = let h : 1 * p ≤ d * p = mul-le-mul_right p some in let e : (10 * 0 + d) * p ≡ d * p = ap (λ (k : ℕ). k * p) (zero_times d) in omega arith
 
-long_value : (b : ℕ) (bs : List ℕ) → is_digit b ≡ true → b ≢ 48 → 10 ^ length bs ≤ value (b ∷ bs)
+long_value : (b : ℕ) (bs : List ℕ) → is_ascii_digit b ≡ true → b ≢ 48 → 10 ^ length bs ≤ value (b ∷ bs)
 long_value b bs h no_zero = let r = digit_range b h in let v = value_grows (10 * 0 + (b - 48)) bs in let p : 10 ^ length bs ≤ (10 * 0 + (b - 48)) * 10 ^ length bs = at_least_once (b - 48) (10 ^ length bs) (omega arith) in omega arith
 
 le_trans : (a b c : ℕ) → a ≤ b → b ≤ c → a ≤ c

@@ -1,20 +1,20 @@
 -- The parts of a number.
-use Rattle.text_tokens.proofs.Common.{◌≡◌, ℕ, suc, ◌+◌, ◌-◌, ◌*◌, ◌^◌, ◌<◌, ◌≤◌, true, false, Bool, List, [], ◌∷◌, ◌++◌, length, take, refl, sym, ap, subst, ◌∙◌, arith, nat_le, ap₂, ◌&&◌, if◌then◌else◌, ℤ, pos, neg_ℤ, ◌-ℤ◌, nat_tests, take_all, number, long_number, Token, word, prefix_len, is_digit, AreDigits, value_from, value, significant, exponent_of, number_token, begins_with, front, behind, is_whole_part, behind_fraction, behind_whole, unsigned, number_of}
+use Rattle.text_tokens.proofs.Common.{◌≡◌, ℕ, suc, ◌+◌, ◌-◌, ◌*◌, ◌^◌, ◌<◌, ◌≤◌, true, false, Bool, List, [], ◌∷◌, ◌++◌, length, take, refl, sym, ap, subst, ◌∙◌, arith, nat_le, ap₂, ◌&&◌, if◌then◌else◌, ℤ, pos, neg_ℤ, ◌-ℤ◌, nat_tests, take_all, number, long_number, Token, word, prefix_len, is_ascii_digit, AreDigits, value_from, value, significant, exponent_of, number_token, begins_with, front, behind, is_whole_part, behind_fraction, behind_whole, unsigned, number_of}
 use Rattle.text_tokens.proofs.Digits.{large_has_many, is_short, grows}
 
-one_more_digit : (b : ℕ) (bs : List ℕ) (t : Bool) → is_digit b ≡ t → AreDigits (take (prefix_len is_digit bs) bs) → AreDigits (take (prefix_len is_digit (b ∷ bs)) (b ∷ bs))
+one_more_digit : (b : ℕ) (bs : List ℕ) (t : Bool) → is_ascii_digit b ≡ t → AreDigits (take (prefix_len is_ascii_digit bs) bs) → AreDigits (take (prefix_len is_ascii_digit (b ∷ bs)) (b ∷ bs))
 one_more_digit b bs true e h =
-    let n = prefix_len is_digit bs in
+    let n = prefix_len is_ascii_digit bs in
     let both : AreDigits (take (suc n) (b ∷ bs)) = (e, h) in
     let one : suc n ≡ 1 + n = omega arith in
     rw e (subst (λ (k : ℕ). AreDigits (take k (b ∷ bs))) one both)
 one_more_digit b bs false e h = rw e tt
 
-pub digits_in_front : (bs : List ℕ) → AreDigits (take (prefix_len is_digit bs) bs)
+pub digits_in_front : (bs : List ℕ) → AreDigits (take (prefix_len is_ascii_digit bs) bs)
 digits_in_front [] = tt
-digits_in_front (b ∷ bs) = one_more_digit b bs (is_digit b) refl (digits_in_front bs)
+digits_in_front (b ∷ bs) = one_more_digit b bs (is_ascii_digit b) refl (digits_in_front bs)
 
-pub all_digits : (bs : List ℕ) → prefix_len is_digit bs ≡ length bs → AreDigits bs
+pub all_digits : (bs : List ℕ) → prefix_len is_ascii_digit bs ≡ length bs → AreDigits bs
 all_digits bs e = subst AreDigits (ap (λ (n : ℕ). take n bs) e ∙ take_all (length bs) bs (omega arith)) (digits_in_front bs)
 
 AreDigits-append : (xs ys : List ℕ) → AreDigits xs → AreDigits ys → AreDigits (xs ++ ys)

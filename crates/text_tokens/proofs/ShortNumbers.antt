@@ -1,5 +1,5 @@
 -- Numbers of few digits, which are read in one pass.
-use Rattle.text_tokens.proofs.Common.{◌≡◌, ℕ, suc, ◌+◌, ◌-◌, ◌*◌, ◌^◌, ◌<◌, Bool, true, false, true≢false, cond, ◌&&◌, List, [], ◌∷◌, ◌++◌, length, get_or, take, drop, refl, sym, ap, ap₂, subst, ◌∙◌, arith, inl, inr, ℤ, pos, ◌-ℤ◌, nat_lt, nat_eq, nat_tests, eqb_tells, take_more, append-nil, prefix_len_passes, prefix_len, number, word, is_digit, is_number_byte, AreDigits, value_from, value, exponent_of, number_token, begins_with, front, behind, is_whole_part, behind_fraction, behind_whole, unsigned, number_of, Read, number_at}
+use Rattle.text_tokens.proofs.Common.{◌≡◌, ℕ, suc, ◌+◌, ◌-◌, ◌*◌, ◌^◌, ◌<◌, Bool, true, false, true≢false, cond, ◌&&◌, List, [], ◌∷◌, ◌++◌, length, get_or, take, drop, refl, sym, ap, ap₂, subst, ◌∙◌, arith, inl, inr, ℤ, pos, ◌-ℤ◌, nat_lt, nat_eq, nat_tests, eqb_tells, take_more, append-nil, prefix_len_passes, prefix_len, number, word, is_ascii_digit, is_number_byte, AreDigits, value_from, value, exponent_of, number_token, begins_with, front, behind, is_whole_part, behind_fraction, behind_whole, unsigned, number_of, Read, number_at}
 use Rattle.std.proofs.Math.Seq.{take-add, take-append_seam, drop-append_seam}
 use Rattle.std.proofs.lemmas.List.Folds.{length-prefix_len}
 use Rattle.text_tokens.proofs.Digits.{digit_range}
@@ -10,34 +10,34 @@ value_takes n bs i lt = ap (value_from n) (take_more bs i 0 lt) ∙ value-append
 
 -- ---- how many bytes a number has
 
-one_digit : (b : ℕ) (bs : List ℕ) (t : Bool) → is_digit b ≡ t
-    → prefix_len is_number_byte bs ≡ prefix_len is_digit bs + prefix_len is_number_byte (drop (prefix_len is_digit bs) bs)
-    → prefix_len is_number_byte (b ∷ bs) ≡ prefix_len is_digit (b ∷ bs) + prefix_len is_number_byte (drop (prefix_len is_digit (b ∷ bs)) (b ∷ bs))
+one_digit : (b : ℕ) (bs : List ℕ) (t : Bool) → is_ascii_digit b ≡ t
+    → prefix_len is_number_byte bs ≡ prefix_len is_ascii_digit bs + prefix_len is_number_byte (drop (prefix_len is_ascii_digit bs) bs)
+    → prefix_len is_number_byte (b ∷ bs) ≡ prefix_len is_ascii_digit (b ∷ bs) + prefix_len is_number_byte (drop (prefix_len is_ascii_digit (b ∷ bs)) (b ∷ bs))
 one_digit b bs true e h =
-    let p = prefix_len is_digit bs in
+    let p = prefix_len is_ascii_digit bs in
     let q = prefix_len is_number_byte bs in
     let one : suc p ≡ 1 + p = omega arith in
     let next : 1 + q ≡ suc p + prefix_len is_number_byte (drop p bs) = omega (arith, h) in
     rw e (subst (λ (k : ℕ). 1 + q ≡ k + prefix_len is_number_byte (drop k (b ∷ bs))) one next)
 one_digit b bs false e h =
-    let none : prefix_len is_digit (b ∷ bs) ≡ 0 = ap (λ (t : Bool). cond t (1 + prefix_len is_digit bs) 0) e in
+    let none : prefix_len is_ascii_digit (b ∷ bs) ≡ 0 = ap (λ (t : Bool). cond t (1 + prefix_len is_ascii_digit bs) 0) e in
     subst (λ (k : ℕ). prefix_len is_number_byte (b ∷ bs) ≡ k + prefix_len is_number_byte (drop k (b ∷ bs))) (sym none) (omega arith)
 
-pub digits_then : (bs : List ℕ) → prefix_len is_number_byte bs ≡ prefix_len is_digit bs + prefix_len is_number_byte (drop (prefix_len is_digit bs) bs)
+pub digits_then : (bs : List ℕ) → prefix_len is_number_byte bs ≡ prefix_len is_ascii_digit bs + prefix_len is_number_byte (drop (prefix_len is_ascii_digit bs) bs)
 digits_then [] = refl
-digits_then (b ∷ bs) = one_digit b bs (is_digit b) refl (digits_then bs)
+digits_then (b ∷ bs) = one_digit b bs (is_ascii_digit b) refl (digits_then bs)
 
 -- ---- digits, and what is no digit behind them
 
-digits_len : (ds rest : List ℕ) → AreDigits ds → prefix_len is_digit rest ≡ 0 → prefix_len is_digit (ds ++ rest) ≡ length ds
+digits_len : (ds rest : List ℕ) → AreDigits ds → prefix_len is_ascii_digit rest ≡ 0 → prefix_len is_ascii_digit (ds ++ rest) ≡ length ds
 digits_len [] rest h e = e
 digits_len (d ∷ ds) rest h e = let r = digits_len ds rest h.1 e in rw h.0 (omega (arith, r))
 
-front_is : (ds rest : List ℕ) → AreDigits ds → prefix_len is_digit rest ≡ 0 → ds ≡ front (ds ++ rest)
+front_is : (ds rest : List ℕ) → AreDigits ds → prefix_len is_ascii_digit rest ≡ 0 → ds ≡ front (ds ++ rest)
 unfolding front
 front_is ds rest h e = sym (ap (λ (n : ℕ). take n (ds ++ rest)) (digits_len ds rest h e) ∙ take-append_seam ds rest)
 
-behind_is : (ds rest : List ℕ) → AreDigits ds → prefix_len is_digit rest ≡ 0 → rest ≡ behind (ds ++ rest)
+behind_is : (ds rest : List ℕ) → AreDigits ds → prefix_len is_ascii_digit rest ≡ 0 → rest ≡ behind (ds ++ rest)
 unfolding behind
 behind_is ds rest h e = sym (ap (λ (n : ℕ). drop n (ds ++ rest)) (digits_len ds rest h e) ∙ drop-append_seam ds rest)
 
@@ -74,7 +74,7 @@ begins_is c (x ∷ xs) tail h t =
 
 -- ---- a whole number
 
-run_is_front : (bs : List ℕ) → prefix_len is_number_byte bs ≡ prefix_len is_digit bs → take (prefix_len is_number_byte bs) bs ≡ front bs
+run_is_front : (bs : List ℕ) → prefix_len is_number_byte bs ≡ prefix_len is_ascii_digit bs → take (prefix_len is_number_byte bs) bs ≡ front bs
 unfolding front
 run_is_front bs e = ap (λ (n : ℕ). take n bs) e
 
@@ -83,10 +83,10 @@ whole_is ds n h w is few =
     no_minus ds (ap (begins_with 45) (sym (append-nil ds)) ∙ no_sign ds [] h (some_digits ds w)) ∙ nothing_behind ds ds (front_alone ds h) (behind_alone ds h) w
     ∙ sym (short_enough false ds [] false [] n (pos 0) h tt is (omega (arith, few)) (omega arith) plain_exponent)
 
-pub whole_number : (bs : List ℕ) (n : ℕ) → is_whole_part (front bs) ≡ true → prefix_len is_number_byte (drop (prefix_len is_digit bs) bs) ≡ 0 → n ≡ value (front bs) → n < 10 ^ 9
-    → ◌≡◌ {A = Read} (word (number (record { negative = false; digits = n; exponent = pos 0 })), prefix_len is_digit bs) (number_at bs)
+pub whole_number : (bs : List ℕ) (n : ℕ) → is_whole_part (front bs) ≡ true → prefix_len is_number_byte (drop (prefix_len is_ascii_digit bs) bs) ≡ 0 → n ≡ value (front bs) → n < 10 ^ 9
+    → ◌≡◌ {A = Read} (word (number (record { negative = false; digits = n; exponent = pos 0 })), prefix_len is_ascii_digit bs) (number_at bs)
 whole_number bs n w ends is few =
-    let len : prefix_len is_number_byte bs ≡ prefix_len is_digit bs = omega (arith, digits_then bs, ends) in
+    let len : prefix_len is_number_byte bs ≡ prefix_len is_ascii_digit bs = omega (arith, digits_then bs, ends) in
     ap₂ (λ t k. (t, k)) (sym (ap number_of (run_is_front bs len) ∙ whole_is (front bs) n (front_digits bs) w is few)) (sym len)
 
 -- ---- a fraction behind it
@@ -117,29 +117,29 @@ parts_are ds fs n q e h k w some len is few exponent_is =
     ∙ fraction_is ds (46 ∷ fs) fs (point_is fs) (front_alone fs k) (behind_alone fs k) (some_is fs (omega (arith, some, len)))
     ∙ sym (short_enough false ds fs false [] n e h k is (omega (arith, few)) (omega arith) (fraction_exponent fs q e len exponent_is))
 
-run_is_parts : (bs tail : List ℕ) → drop (prefix_len is_digit bs) bs ≡ 46 ∷ tail → take (prefix_len is_digit bs + suc (prefix_len is_digit tail)) bs ≡ front bs ++ 46 ∷ front tail
+run_is_parts : (bs tail : List ℕ) → drop (prefix_len is_ascii_digit bs) bs ≡ 46 ∷ tail → take (prefix_len is_ascii_digit bs + suc (prefix_len is_ascii_digit tail)) bs ≡ front bs ++ 46 ∷ front tail
 unfolding front
 run_is_parts bs tail e =
-    take-add (prefix_len is_digit bs) (suc (prefix_len is_digit tail)) bs ∙ ap (λ (xs : List ℕ). take (prefix_len is_digit bs) bs ++ take (suc (prefix_len is_digit tail)) xs) e
+    take-add (prefix_len is_ascii_digit bs) (suc (prefix_len is_ascii_digit tail)) bs ∙ ap (λ (xs : List ℕ). take (prefix_len is_ascii_digit bs) bs ++ take (suc (prefix_len is_ascii_digit tail)) xs) e
 
-front_len : (bs : List ℕ) → length (front bs) ≡ prefix_len is_digit bs
+front_len : (bs : List ℕ) → length (front bs) ≡ prefix_len is_ascii_digit bs
 unfolding front
-front_len bs = length-prefix_len is_digit bs
+front_len bs = length-prefix_len is_ascii_digit bs
 
-pub fraction_number : (bs tail : List ℕ) (n p q : ℕ) (e : ℤ) → p ≡ prefix_len is_digit bs → is_whole_part (front bs) ≡ true → begins_with 46 (drop p bs) ≡ true → tail ≡ drop 1 (drop p bs)
-    → 0 < q → q ≡ prefix_len is_digit tail → prefix_len is_number_byte (drop q tail) ≡ 0 → n ≡ value_from (value (front bs)) (front tail) → n < 10 ^ 9 → e ≡ pos 0 -ℤ pos q
+pub fraction_number : (bs tail : List ℕ) (n p q : ℕ) (e : ℤ) → p ≡ prefix_len is_ascii_digit bs → is_whole_part (front bs) ≡ true → begins_with 46 (drop p bs) ≡ true → tail ≡ drop 1 (drop p bs)
+    → 0 < q → q ≡ prefix_len is_ascii_digit tail → prefix_len is_number_byte (drop q tail) ≡ 0 → n ≡ value_from (value (front bs)) (front tail) → n < 10 ^ 9 → e ≡ pos 0 -ℤ pos q
     → ◌≡◌ {A = Read} (word (number (record { negative = false; digits = n; exponent = e })), p + 1 + q) (number_at bs)
 fraction_number bs tail n p q e p_is w b tail_is some q_is ends is few exponent_is =
     let split : drop p bs ≡ 46 ∷ tail = begins_is 46 (drop p bs) tail b tail_is in
-    let split' : drop (prefix_len is_digit bs) bs ≡ 46 ∷ tail = ap (λ (k : ℕ). drop k bs) (sym p_is) ∙ split in
-    let behind_digits : prefix_len is_number_byte (drop (prefix_len is_digit bs) bs) ≡ 1 + prefix_len is_number_byte tail = ap (prefix_len is_number_byte) split' in
-    let ends' : prefix_len is_number_byte (drop (prefix_len is_digit tail) tail) ≡ 0 = ap (λ (k : ℕ). prefix_len is_number_byte (drop k tail)) (sym q_is) ∙ ends in
-    let len : prefix_len is_number_byte bs ≡ prefix_len is_digit bs + suc (prefix_len is_digit tail) = omega (arith, digits_then bs, behind_digits, digits_then tail, ends') in
+    let split' : drop (prefix_len is_ascii_digit bs) bs ≡ 46 ∷ tail = ap (λ (k : ℕ). drop k bs) (sym p_is) ∙ split in
+    let behind_digits : prefix_len is_number_byte (drop (prefix_len is_ascii_digit bs) bs) ≡ 1 + prefix_len is_number_byte tail = ap (prefix_len is_number_byte) split' in
+    let ends' : prefix_len is_number_byte (drop (prefix_len is_ascii_digit tail) tail) ≡ 0 = ap (λ (k : ℕ). prefix_len is_number_byte (drop k tail)) (sym q_is) ∙ ends in
+    let len : prefix_len is_number_byte bs ≡ prefix_len is_ascii_digit bs + suc (prefix_len is_ascii_digit tail) = omega (arith, digits_then bs, behind_digits, digits_then tail, ends') in
     let run : take (prefix_len is_number_byte bs) bs ≡ front bs ++ 46 ∷ front tail = ap (λ (k : ℕ). take k bs) len ∙ run_is_parts bs tail split' in
     ap₂ (λ t k. (t, k)) (sym (ap number_of run ∙ parts_are (front bs) (front tail) n q e (front_digits bs) (front_digits tail) w some (front_len tail ∙ sym q_is) is few exponent_is)) (omega (arith, p_is, q_is, len))
 
-pub first_digit : (bs : List ℕ) (n : ℕ) → n ≡ prefix_len is_digit bs → is_whole_part (front bs) ≡ true → (is_digit (get_or bs 0 0) ≡ true) × (0 < n)
+pub first_digit : (bs : List ℕ) (n : ℕ) → n ≡ prefix_len is_ascii_digit bs → is_whole_part (front bs) ≡ true → (is_ascii_digit (get_or bs 0 0) ≡ true) × (0 < n)
 first_digit bs n e w =
     let some = some_digits (front bs) w in
-    let lt : 0 < prefix_len is_digit bs = omega (arith, some, front_len bs) in
-    (prefix_len_passes is_digit bs 0 0 lt, omega (arith, e, lt))
+    let lt : 0 < prefix_len is_ascii_digit bs = omega (arith, some, front_len bs) in
+    (prefix_len_passes is_ascii_digit bs 0 0 lt, omega (arith, e, lt))

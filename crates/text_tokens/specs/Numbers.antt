@@ -2,30 +2,28 @@
 use Rattle.std.specs.Prelude.{ℕ, ◌+◌, ◌-◌, ◌*◌, ◌==◌, ◌&&◌, ◌||◌, Bool, true, false, not, nat_lt}
 use Rattle.std.specs.Prelude.{nat_le, if◌then◌else◌, List, [], ◌∷◌, ◌++◌, length, slice_index, take}
 use Rattle.std.specs.Prelude.{drop, ℤ, pos, neg_ℤ, ◌-ℤ◌, ◌≡◌}
+use Rattle.std.specs.Char.{is_ascii_digit}
 use Rattle.std.specs.List.{prefix_len}
 use Rattle.text_tokens.specs.Scalars.{number, long_number}
 use Rattle.text_tokens.specs.Grammar.{Token, word, bad}
 
-abbrev pub is_digit : ℕ → Bool
-is_digit b = nat_le 48 b && nat_le b 57
-
 -- a number's token is the longest run of these
 abbrev pub is_number_byte : ℕ → Bool
-is_number_byte b = is_digit b || b == 45 || b == 43 || b == 46 || b == 101 || b == 69
+is_number_byte b = is_ascii_digit b || b == 45 || b == 43 || b == 46 || b == 101 || b == 69
 
 abbrev pub begins_with : ℕ → List ℕ → Bool
 begins_with c bs = nat_lt 0 (length bs) && (slice_index bs 0 == c)
 
 -- the digits in front, and what stands behind them
 unfoldable pub front : List ℕ → List ℕ
-front bs = take (prefix_len is_digit bs) bs
+front bs = take (prefix_len is_ascii_digit bs) bs
 
 unfoldable pub behind : List ℕ → List ℕ
-behind bs = drop (prefix_len is_digit bs) bs
+behind bs = drop (prefix_len is_ascii_digit bs) bs
 
 abbrev pub AreDigits : List ℕ → Type 0
 AreDigits [] = Unit {0}
-AreDigits (b ∷ bs) = (is_digit b ≡ true) × AreDigits bs
+AreDigits (b ∷ bs) = (is_ascii_digit b ≡ true) × AreDigits bs
 
 -- the value of digits
 abbrev pub value_from : ℕ → List ℕ → ℕ
@@ -45,7 +43,7 @@ abbrev pub is_whole_part : List ℕ → Bool
 is_whole_part ds = nat_lt 0 (length ds) && (length ds == 1 || not (begins_with 48 ds))
 
 abbrev pub are_digits : List ℕ → Bool
-are_digits ds = nat_lt 0 (length ds) && (prefix_len is_digit ds == length ds)
+are_digits ds = nat_lt 0 (length ds) && (prefix_len is_ascii_digit ds == length ds)
 
 -- the written exponent less the count of fraction digits
 unfoldable pub exponent_of : Bool → List ℕ → List ℕ → ℤ

@@ -1,11 +1,12 @@
 -- The tokens of a list of bytes, each with the offset of its first byte.
 use Rattle.std.specs.Prelude.{ℕ, zero, suc, ◌-◌, ◌==◌, ◌&&◌, ◌||◌, Bool, true, false, nat_le}
 use Rattle.std.specs.Prelude.{if◌then◌else◌, List, [], ◌∷◌, take, drop, codes, bytes_eq}
+use Rattle.std.specs.Char.{is_ascii_digit}
 use Rattle.std.specs.List.{prefix_len}
 use Rattle.text_tokens.specs.Scalars.{null, flag}
 use Rattle.text_tokens.specs.Grammar.{Token, open_list, close_list, open_object, close_object}
 use Rattle.text_tokens.specs.Grammar.{comma, colon, word, bad, end}
-use Rattle.text_tokens.specs.Numbers.{is_digit, is_number_byte, number_of}
+use Rattle.text_tokens.specs.Numbers.{is_number_byte, number_of}
 use Rattle.text_tokens.specs.Strings.{string_at}
 
 abbrev pub is_blank : ℕ → Bool
@@ -47,7 +48,7 @@ token_at b bytes =
     else if b == 44 then (comma, 1)
     else if b == 58 then (colon, 1)
     else if b == 34 then string_at (drop 1 bytes)
-    else if b == 45 || is_digit b then number_at bytes
+    else if b == 45 || is_ascii_digit b then number_at bytes
     else if is_letter b then word_at bytes
     else (bad, 1)
 

@@ -1,7 +1,8 @@
 //! Parts of a list of bytes.
 ghost use Rattle.std.specs.Prelude.{◌≡◌, ◌≤◌, ◌<◌, length, drop, slice_index};
 ghost use Rattle.std.specs.List.{prefix_len};
-ghost use Rattle.text_tokens.specs.Numbers.{is_digit as digit, is_number_byte as number_byte};
+ghost use Rattle.std.specs.Char.{is_ascii_digit as digit};
+ghost use Rattle.text_tokens.specs.Numbers.{is_number_byte as number_byte};
 ghost use Rattle.text_tokens.specs.Numbers.{begins_with as begins};
 ghost use Rattle.text_tokens.specs.Tokens.{is_letter as letter};
 ghost use Rattle.text_tokens.specs.Plain.{is_plain as plain};
@@ -28,18 +29,11 @@ pub fn begins_with(byte: u8, bytes: &[u8]) -> bool
     !bytes.is_empty() && bytes[0] == byte
 }
 
-/// Whether a byte is one of `0` to `9`.
-pub fn is_digit(b: u8) -> bool
-    ensures { result ≡ digit b }
-{
-    b'0' <= b && b <= b'9'
-}
-
 /// Whether a byte may stand in a number: a digit, a sign, a point, or the letter of an exponent.
 pub fn is_number_byte(b: u8) -> bool
     ensures { result ≡ number_byte b }
 {
-    is_digit(b) || b == b'-' || b == b'+' || b == b'.' || b == b'e' || b == b'E'
+    b.is_ascii_digit() || b == b'-' || b == b'+' || b == b'.' || b == b'e' || b == b'E'
 }
 
 /// Whether a byte is one of `a` to `z`.
@@ -54,7 +48,7 @@ pub fn digits_len(bytes: &[u8]) -> usize
     ensures { result ≡ prefix_len digit bytes.now }
 {
     for (i, b) in bytes.iter().enumerate() {
-        if !is_digit(*b) {
+        if !b.is_ascii_digit() {
             return i;
         }
     }

@@ -13,6 +13,6 @@ mod token;
 
 pub use quoted::Quoted;
 pub use reader::Reader;
-pub use run::{Run, decimal_at};
+pub use run::{NumberRun, decimal_at};
 pub use strings::{quoted_or_empty, text_of};
 pub use token::{Lexeme, Token, Word};

@@ -3,7 +3,8 @@ ghost use Rattle.std.specs.Prelude.{◌≡◌, ◌<◌, ◌≤◌, ◌^◌, ◌+
 ghost use Rattle.std.specs.Prelude.{slice_index};
 ghost use Rattle.std.specs.Prelude.{true, false, if◌then◌else◌, pos, neg_ℤ, ◌-ℤ◌};
 ghost use Rattle.std.specs.List.{prefix_len};
-ghost use Rattle.text_tokens.specs.Numbers.{is_digit as digit, is_number_byte as number_byte};
+ghost use Rattle.std.specs.Char.{is_ascii_digit as digit};
+ghost use Rattle.text_tokens.specs.Numbers.{is_number_byte as number_byte};
 ghost use Rattle.text_tokens.specs.Numbers.{AreDigits, value, value_from, front, behind};
 ghost use Rattle.text_tokens.specs.Numbers.{is_whole_part as whole_part, are_digits as digits_only};
 ghost use Rattle.text_tokens.specs.Numbers.{number_token as number_spec};
@@ -17,7 +18,7 @@ ghost use Rattle.text_tokens.specs.Small.{decimal_of};
 ghost use Rattle.text_tokens.specs.Tokens.{number_at};
 ghost use Rattle.text_tokens.specs.Scalars.{number};
 
-use crate::bytes::{begins_with, digits_len, is_digit, is_number_byte, rest_from};
+use crate::bytes::{begins_with, digits_len, is_number_byte, rest_from};
 use crate::small::SmallNumber;
 use uc_num::Decimal;
 
@@ -240,7 +241,7 @@ fn digits_ahead(before: u32, bytes: &[u8]) -> Option<(u32, usize)>
 {
     let mut n = before;
     for (i, b) in bytes.iter().enumerate() {
-        if !is_digit(*b) {
+        if !b.is_ascii_digit() {
             return Some((n, i));
         }
         if 100_000_000 <= n {

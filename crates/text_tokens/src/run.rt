@@ -10,14 +10,14 @@ use uc_num::Decimal;
 
 /// The bytes of a number.
 #[derive(Clone, Copy)]
-pub struct Run<'a> {
+pub struct NumberRun<'a> {
     /// All bytes of it, and no others.
     pub bytes: &'a [u8],
     ghost few: { length bytes.now < 2 ^ 30 },
     ghost number: { is_number (number_of bytes.now) ≡ true },
 }
 
-impl<'a> Run<'a> {
+impl<'a> NumberRun<'a> {
     /// The number that they are.
     pub fn decimal(self) -> Decimal
         ensures { result ≡ decimal_in (number_of self.entry.bytes.now) }

@@ -2,7 +2,8 @@
 ghost use Rattle.std.specs.Prelude.{◌≡◌, ◌<◌, ◌≤◌, ◌^◌, ◌+◌, ◌||◌, ◌==◌, true, length, slice_index};
 ghost use Rattle.std.specs.Prelude.{ℕ, List, drop, IfSome, IfNone, false};
 ghost use Rattle.std.specs.List.{prefix_len};
-ghost use Rattle.text_tokens.specs.Numbers.{is_digit as digit, is_number_byte as number_byte};
+ghost use Rattle.std.specs.Char.{is_ascii_digit as digit};
+ghost use Rattle.text_tokens.specs.Numbers.{is_number_byte as number_byte};
 ghost use Rattle.text_tokens.specs.Numbers.{number_of};
 ghost use Rattle.text_tokens.specs.Strings.{string_at as string_spec};
 ghost use Rattle.text_tokens.specs.Tokens.{is_blank as blank, is_letter as letter, is_mark};
@@ -15,7 +16,7 @@ ghost use Rattle.text_tokens.specs.Stands.{RefersTo, number_run};
 use crate::bytes::{letters_len, number_len, rest_from};
 use crate::number::{Numeral, numeral_in, short_number};
 use crate::quoted::Quoted;
-use crate::run::Run;
+use crate::run::NumberRun;
 use crate::small::SmallNumber;
 use crate::strings::quoted_at;
 
@@ -25,7 +26,7 @@ pub enum Word<'a> {
     Null,
     Flag(bool),
     Number(SmallNumber),
-    LargeNumber(Run<'a>),
+    LargeNumber(NumberRun<'a>),
     /// Too many digits, or too large an exponent.
     LongNumber,
 }
@@ -71,7 +72,7 @@ fn number_in(run: &[u8]) -> Token<'_>
     match numeral_in(run) {
         Numeral::Number(number) => match SmallNumber::of(number) {
             Some(small) => Token::Word(Word::Number(small)),
-            None => Token::Word(Word::LargeNumber(Run { bytes: run })),
+            None => Token::Word(Word::LargeNumber(NumberRun { bytes: run })),
         },
         Numeral::TooLong => Token::Word(Word::LongNumber),
         Numeral::Bad => Token::Bad,

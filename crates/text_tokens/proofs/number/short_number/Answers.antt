@@ -1,8 +1,8 @@
-use Rattle.text_tokens.proofs.Common.{◌≡◌, ◌+◌, ℕ, List, Bool, false, true, take, drop, sym, ap, subst, ◌∙◌, arith, pos, ℤ, prefix_len, number, word, Read, is_digit, is_number_byte, value_from, front, begins_with, is_whole_part}
+use Rattle.text_tokens.proofs.Common.{◌≡◌, ◌+◌, ℕ, List, Bool, false, true, take, drop, sym, ap, subst, ◌∙◌, arith, pos, ℤ, prefix_len, number, word, Read, is_ascii_digit, is_number_byte, value_from, front, begins_with, is_whole_part}
 use Rattle.text_tokens.proofs.Lemmas.{whole_number, fraction_number, first_digit}
 use Rattle.text_tokens.proofs.number.short_number.Goals as goal
 
-front_at : (bs : List ℕ) (n : ℕ) → n ≡ prefix_len is_digit bs → is_whole_part (take n bs) ≡ true → is_whole_part (front bs) ≡ true
+front_at : (bs : List ℕ) (n : ℕ) → n ≡ prefix_len is_ascii_digit bs → is_whole_part (take n bs) ≡ true → is_whole_part (front bs) ≡ true
 unfolding front
 front_at bs n e w = subst (λ (k : ℕ). is_whole_part (take k bs) ≡ true) e w
 

@@ -1,9 +1,9 @@
-use Rattle.text_tokens.proofs.Common.{ℕ, take, drop, ap, sym, subst, ◌∙◌, arith, AreDigits, is_digit, front, behind}
+use Rattle.text_tokens.proofs.Common.{ℕ, take, drop, ap, sym, subst, ◌∙◌, arith, AreDigits, is_ascii_digit, front, behind}
 use Rattle.text_tokens.proofs.Lemmas.{digits_in_front, run_within}
 use Rattle.text_tokens.proofs.number.split_digits.Goals as goal
 
 pub rest_from-requires : goal.rest_from-requires
-rest_from-requires c = let le = run_within is_digit c.args.bytes.now in omega arith
+rest_from-requires c = let le = run_within is_ascii_digit c.args.bytes.now in omega arith
 
 pub returns-clause-front : goal.returns-clause-front
 unfolding front
