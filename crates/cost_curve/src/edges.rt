@@ -13,7 +13,7 @@ use uc_model::units::Point;
 pub struct Slope {
     /// The price, in money for a kilowatt.
     pub price: i64,
-    /// How much cheaper, in money.
+    /// How much cheaper, in money: so many kilowatts cost one less each.
     pub width: i64,
     ghost price_limit: { IsFrom (neg_ℤ (pos 20000000000001)) (pos 20000000000001) price },
     ghost width_limit: { IsPower width },
