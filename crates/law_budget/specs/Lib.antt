@@ -1,0 +1,2 @@
+-- two runs of a case
+pub mod Laws
