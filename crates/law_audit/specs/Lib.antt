@@ -1,0 +1,2 @@
+-- what an audit accepts
+pub mod Laws

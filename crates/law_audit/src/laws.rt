@@ -1,0 +1,27 @@
+//! Laws over right reports: each is the contract of a function that does nothing.
+ghost use Rattle.law_audit.specs.Laws.{RightReportsAreInForm};
+
+use gap_proof::laws::run_prices_are_within;
+use right_report::laws::{report_payments_make_up_the_gap, right_report_has_form};
+use uc_model::laws::{
+    dual_values_are_within, earnings_are_within, nothing_is_paid_back, outputs_are_within,
+    plan_costs_are_within, totals_are_within, units_are_within,
+};
+
+/// A right report of a case within its limits is within the bounds of reading, for each budget and
+/// each number of proposals ahead that the words may give. So a printed report is never refused as
+/// out of form.
+pub fn right_reports_are_in_form()
+    ensures { RightReportsAreInForm }
+{
+    run_prices_are_within();
+    right_report_has_form();
+    report_payments_make_up_the_gap();
+    units_are_within();
+    outputs_are_within();
+    earnings_are_within();
+    totals_are_within();
+    plan_costs_are_within();
+    dual_values_are_within();
+    nothing_is_paid_back();
+}
