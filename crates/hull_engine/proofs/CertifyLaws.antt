@@ -5,7 +5,7 @@ use Rattle.hull_words.specs.declared.command.CertifyWords.{CertifyWords}
 use Rattle.hull_report.specs.CertifiedText.{certificate_of}
 use Rattle.report_form.specs.CertificateText.{certificate_text}
 use Rattle.hull_engine.specs.declared.input.Input.{Input}
-use Rattle.price_settle.specs.Settled.{IsSettledAt, settled_of}
+use Rattle.uplift_settle.specs.Settled.{IsSettledAt, settled_of}
 use Rattle.hull_engine.specs.declared.answer.Answer.TheVariants.{Certify}
 use Rattle.hull_engine.specs.declared.answer.CertifiedInput.{CertifiedInput}
 

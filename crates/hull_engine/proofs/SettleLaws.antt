@@ -5,7 +5,7 @@ use Rattle.hull_words.specs.declared.command.SettleWords.{SettleWords}
 use Rattle.hull_report.specs.SettledText.{settlement_of}
 use Rattle.report_form.specs.SettlementText.{settlement_text}
 use Rattle.hull_engine.specs.declared.input.Input.{Input}
-use Rattle.price_settle.specs.Settled.{IsSettledAt, settled_of}
+use Rattle.uplift_settle.specs.Settled.{IsSettledAt, settled_of}
 use Rattle.hull_engine.specs.declared.answer.Answer.TheVariants.{Settle}
 use Rattle.hull_engine.specs.declared.answer.SettledInput.{SettledInput}
 

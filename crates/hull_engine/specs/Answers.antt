@@ -38,8 +38,8 @@ use Rattle.hull_engine.specs.Outcome.{Command, IsReportText, IsBoundText, IsRead
 use Rattle.board_run.specs.Rounds.{IsEnded}
 use Rattle.board_run.specs.Bounded.{IsBounded}
 use Rattle.board_run.specs.Compared.{ArePaid}
-use Rattle.price_settle.specs.Laws.{HasEachUnit}
-use Rattle.price_settle.specs.Settled.{settled_of, IsSettledAt}
+use Rattle.uplift_settle.specs.Settled.{HasEachUnit}
+use Rattle.uplift_settle.specs.Settled.{settled_of, IsSettledAt}
 
 -- ---- a step
 

@@ -22,7 +22,7 @@
 -- its schedule's commitments held in fixed_price's FixedCase; which reports are read, and the
 -- first line in fault, in report_read's Bounds and Faults; the first line at which a report
 -- differs from the right one in audit_check's Right; the bound round a row in gap_proof's
--- Candidates; a settlement at any prices in price_settle's Settled; the bound by a mixture in
+-- Candidates; a settlement at any prices in uplift_settle's Settled; the bound by a mixture in
 -- mixture_bound's MixtureBound.
 use Rattle.std.specs.Prelude.{◌≡◌, ◌⊎◌, ℕ, ℤ, List, length, unsigned_abs, Option, None, Some}
 use Rattle.std.specs.Prelude.{Result, Ok, Err, IfSome}
@@ -56,7 +56,7 @@ use Rattle.hull_engine.specs.declared.end.End.{End}
 use Rattle.hull_engine.specs.declared.end.End.TheVariants.{Done, Cut, Refused}
 use Rattle.hull_engine.specs.Steps.{Then, Reads, IsInput, IsMade, IsWithinWork}
 use Rattle.hull_engine.specs.Planned.{PlannedCase}
-use Rattle.price_settle.specs.Settled.{Settled, IsSettledAt}
+use Rattle.uplift_settle.specs.Settled.{Settled, IsSettledAt}
 use Rattle.hull_engine.specs.Steps.{IsAudit, IsPricesFile, IsPriced, IsMixtureFile, IsCertifiable}
 use Rattle.mixture_bound.specs.Mixtures.{MixtureLists}
 use Rattle.mixture_bound.specs.MixtureBound.{mixture_bound}

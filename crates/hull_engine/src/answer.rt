@@ -3,8 +3,8 @@
 use crate::input::Input;
 use board_run::{Bounded, Done, Sides};
 use hull_report::BoundWithin;
-use price_settle::Settled;
 use uc_model::units::Prices;
+use uplift_settle::Settled;
 
 /// A case with its schedule, and prices over its periods.
 #[derive(Drop)]

@@ -3,7 +3,7 @@ ghost use Rattle.std.specs.Prelude.{◌≡◌, IfOk};
 ghost use Rattle.uc_model.specs.PlainCases.{market_of, schedules_of};
 ghost use Rattle.uc_model.specs.PlainUnits.{prices_of};
 ghost use Rattle.case_answers.specs.Tops.{IsBenchOver};
-ghost use Rattle.price_settle.specs.Settled.{IsSettledAt, settled_of};
+ghost use Rattle.uplift_settle.specs.Settled.{IsSettledAt, settled_of};
 ghost use Rattle.hull_engine.specs.Answers.{HasSettled, IsFitPriced};
 
 use crate::answer::{PricedInput, SettledInput};

@@ -29,7 +29,7 @@ pub use Rattle.uc_model.specs.PlainCases.{market_of, proposal_of, unit_of}
 pub use Rattle.uc_model.specs.PlainUnits.{named_thermal_of, named_renewable_of, named_bid_of, schedule_of}
 pub use Rattle.plain_lists.specs.Sums.{int_at}
 pub use Rattle.uplift_settle.specs.declared.settlement.Settlement.{Settlement}
-pub use Rattle.price_settle.specs.Settled.{Settled, settled_of}
+pub use Rattle.uplift_settle.specs.Settled.{Settled, settled_of}
 pub use Rattle.hull_report.specs.SettledText.{settled_line}
 unfoldable pub use Rattle.hull_report.specs.SettledText.{settlement_of}
 unfoldable pub use Rattle.hull_report.specs.CertifiedText.{certificate_of}

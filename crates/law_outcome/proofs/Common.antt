@@ -32,7 +32,7 @@ pub use Rattle.report_form.specs.ReportText.{UnitLine, Report, report_text}
 pub use Rattle.law_outcome.specs.Laws.{OverReads, IsAuditPromised, IsWrongAt, IsAuditRefused, IsBoundPromised, IsFixedPromised, is_refusal, IsWritten, IsUnread, HasCause, IsQuiet, IsDecided, word_fault, FollowsFromWords, IsPromised, IsSettlePromised, HasNoPrices, IsCertifyPromised, HasNoMixture, AskForPrices, AreAlike, with_workers, TellTheSame}
 pub use Rattle.uc_model.specs.Data.{Market, PriceLists, Schedule, unit_count}
 pub use Rattle.price_settle.specs.Laws.{OneSettlement, SettlementsAddUp}
-pub use Rattle.price_settle.specs.Settled.{Settled, IsSettledAt}
+pub use Rattle.uplift_settle.specs.Settled.{Settled, IsSettledAt}
 pub use Rattle.uc_model.specs.Laws.{NothingIsPaidBack}
 pub use Rattle.uc_model.specs.PriceRule.{Proposal, chosen_number}
 pub use Rattle.plain_lists.specs.Sums.{int_at}

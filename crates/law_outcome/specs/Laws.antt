@@ -24,7 +24,7 @@ use Rattle.mixture_bound.specs.MixtureBound.{mixture_bound}
 use Rattle.mixture_bound.specs.Refused.{mixture_refusals, entry_refusal_of}
 use Rattle.mixture_bound.specs.declared.check.EntryFault.{EntryFault}
 use Rattle.price_settle.specs.Laws.{AddsUp}
-use Rattle.price_settle.specs.Settled.{Settled, IsSettledAt}
+use Rattle.uplift_settle.specs.Settled.{Settled, IsSettledAt}
 use Rattle.hull_io.specs.Edge.{Rose, Gains, FallsShort}
 use Rattle.plain_lists.specs.declared.limits.TheConstants.{MOST_BYTES}
 use Rattle.hull_words.specs.Asked.{Asked, CheckAsked, PriceAsked, TryAsked, BoundAsked, AuditAsked}

@@ -26,6 +26,6 @@ pub use Rattle.uc_model.specs.declared.units.Response.{Response}
 pub use Rattle.case_answers.specs.Answers.{IsAnswerAt}
 pub use Rattle.case_answers.specs.Tops.{IsBenchOver}
 pub use Rattle.price_settle.specs.Answers.{AreAnswersTo}
-pub use Rattle.price_settle.specs.Laws.{OneSettlement, SettlementsAddUp, HasEachUnit, SettlementsHaveEachUnit}
+pub use Rattle.price_settle.specs.Laws.{OneSettlement, SettlementsAddUp, SettlementsHaveEachUnit}
 pub use Rattle.price_settle.specs.Rooms.{AreOver, HasRoom}
-pub use Rattle.price_settle.specs.Settled.{Settled, IsSettledAt, settled_of}
+pub use Rattle.uplift_settle.specs.Settled.{Settled, IsSettledAt, HasEachUnit, settled_of}

@@ -2,10 +2,10 @@
 -- name.
 use Rattle.std.specs.Prelude.{◌≡◌, ℤ, pos, ◌+ℤ◌, ◌-ℤ◌, ◌≤ℤ◌, List, length}
 use Rattle.std.specs.List.{All}
-use Rattle.uc_model.specs.Data.{PriceLists, Schedule, Market, unit_count}
-use Rattle.uc_model.specs.Laws.{ReserveFrom0, HasPlanShape}
+use Rattle.uc_model.specs.Data.{PriceLists, Schedule, Market}
+use Rattle.uc_model.specs.Laws.{ReserveFrom0}
 use Rattle.uc_model.specs.Systems.{IsFeasiblePlan, plan_cost}
-use Rattle.price_settle.specs.Settled.{Settled, IsSettledAt}
+use Rattle.uplift_settle.specs.Settled.{Settled, IsSettledAt, HasEachUnit}
 
 -- at most one is the settlement of a plan at given prices
 abbrev pub OneSettlement : Type 0
@@ -26,13 +26,6 @@ abbrev pub SettlementsAddUp : Type 0
 SettlementsAddUp =
     (m : Market) (plan : List Schedule) (π : PriceLists) (s : Settled) →
     IsFeasiblePlan m plan → ReserveFrom0 m π → IsSettledAt m plan π s → AddsUp m plan s
-
--- a number for each unit
-pub record HasEachUnit (m : Market) (s : Settled) : Type 0 where
-  pub responses : HasPlanShape m s.responses
-  pub earned : length s.earned ≡ unit_count m
-  pub scheduled : length s.scheduled ≡ unit_count m
-  pub payments : length s.payments ≡ unit_count m
 
 -- the settlement of a feasible plan at prices over the horizon has one of each for each unit
 abbrev pub SettlementsHaveEachUnit : Type 0

@@ -1,4 +1,3 @@
-pub mod Settled
 pub mod Rooms
 pub mod Answers
 pub mod Laws

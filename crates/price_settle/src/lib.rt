@@ -8,4 +8,4 @@ mod room;
 mod settle;
 mod totals;
 
-pub use settle::{Settled, settle_at};
+pub use settle::settle_at;

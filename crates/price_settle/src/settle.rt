@@ -4,14 +4,13 @@ ghost use Rattle.uc_model.specs.PlainCases.{market_of, schedules_of};
 ghost use Rattle.uc_model.specs.PlainUnits.{prices_of};
 ghost use Rattle.uc_model.specs.Systems.{IsFeasiblePlan};
 ghost use Rattle.case_answers.specs.Tops.{IsBenchOver};
-ghost use Rattle.price_settle.specs.Settled.{IsSettledAt, settled_of};
+ghost use Rattle.uplift_settle.specs.Settled.{IsSettledAt, settled_of};
 ghost use Rattle.price_settle.specs.Rooms.{HasRoom};
 
 use crate::answers::answer_all;
 use crate::room::Room;
 use crate::totals::{earned_sum, total_all};
 use dual_value::dual_value;
-use plain_lists::lists::Numbers;
 use std::alloc::{AllocError, Global};
 use uc_model::cases::{Case, Plan, Row};
 use uc_model::laws::{
@@ -20,34 +19,7 @@ use uc_model::laws::{
 };
 use uc_model::units::Prices;
 use unit_program::Bench;
-use uplift_settle::{Settlement, settle};
-
-/// What a plan is settled at, at its prices: the row of the prices, with their dual value in money
-/// and the totals of the responses in kilowatts; for each unit and bid, in the order of the units'
-/// numbers, the least of its best responses and what that earns in money; and what the plan earns
-/// and is paid.
-pub struct Settled {
-    /// The row of the prices.
-    pub row: Row,
-    /// The least best response of each unit.
-    pub responses: Plan,
-    /// What each unit earns at best.
-    pub earned: Numbers,
-    /// What each unit earns in the plan and is paid.
-    pub settlement: Settlement,
-}
-
-// Written out, so that a drop of it is a call, and not one for each list.
-impl Drop for Settled {
-    fn drop(self) {
-        let Settled {
-            row: _,
-            responses: _,
-            earned: _,
-            settlement: _,
-        } = self;
-    }
-}
+use uplift_settle::{Settled, settle};
 
 // The settlement in room that is there.
 fn settle_in(case: &Case, plan: &Plan, prices: Prices, bench: &mut Bench, room: Room) -> Settled

@@ -1,1 +1,2 @@
 pub mod Earned
+pub mod Settled

@@ -8,6 +8,8 @@
 #![tactic(auto)]
 
 mod earned;
+mod settled;
 mod settlement;
 
+pub use settled::Settled;
 pub use settlement::{Settlement, settle};

@@ -3,7 +3,7 @@ use Rattle.hull_report.specs.CertifiedText.{certificate_of}
 use Rattle.report_form.specs.CertificateText.{certificate_text}
 use Rattle.hull_report.specs.SettledText.{settlement_of}
 use Rattle.report_form.specs.SettlementText.{settlement_text}
-use Rattle.price_settle.specs.Settled.{settled_of}
+use Rattle.uplift_settle.specs.Settled.{settled_of}
 use Rattle.right_report.specs.RecordReport.{report_of}
 use Rattle.hull_engine.proofs.Lemmas.{run_text, written_bound, bound_written}
 use Rattle.hull_engine.proofs.end.write_answer.Goals as goal
