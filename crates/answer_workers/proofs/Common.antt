@@ -1,8 +1,8 @@
 -- The names that the proofs of this crate take from its specs and from other crates, passed on from one place.
-pub use Rattle.std.proofs.Common.{◌≡◌, ℕ, suc, ◌+◌, ◌*◌, ◌<◌, ◌≤◌, ◌⊎◌, inl, inr, Bool, true, false, cond, Some, List, [], ◌∷◌, ◌++◌, map, length, refl, sym, ap, ◌∙◌, subst, arith, append_assoc, Less, Equal, Greater, ◌≢◌, append-nil, get_or, set}
+pub use Rattle.std.proofs.Common.{◌≡◌, ℕ, suc, ◌+◌, ◌*◌, ◌<◌, ◌≤◌, inl, inr, Bool, true, false, cond, List, [], ◌∷◌, ◌++◌, map, length, refl, sym, ap, ◌∙◌, subst, arith, append_assoc, ◌≢◌, append-nil, get_or, set}
 pub use Rattle.std.proofs.lemmas.List.{get_or-set_same, get_or-set_other, get_or_default, length-set, length-replicate, length-append}
 pub use Rattle.std.proofs.lemmas.List.Elements.{All-nil, All-cons, All-append, All-weaker, All-head, All-tail, All-set, All-push, AllWithin-set, AllWithin-more_set}
-pub use Rattle.std.proofs.lemmas.Option.{slice_get_within, get_or_from_slice_get, slice_get_read}
+pub use Rattle.std.proofs.lemmas.Option.{slice_get_within, get_or_from_slice_get}
 pub use Rattle.std.specs.List.{All, AllWithin, Contains}
 pub use Rattle.std.specs.Prelude.{vec_capacity}
 pub use Rattle.std.specs.Vec.{with_item}
@@ -20,11 +20,10 @@ pub use Rattle.board_share.specs.Views.{BoardEvent, View, caller_of, content}
 pub use Rattle.board_share.specs.declared.shared.SharedBoard.{SharedBoard}
 pub use Rattle.uc_model.specs.Data.{AnyUnit, Thermal, Flat, Bid, Market, NamedThermalUnit, NamedRenewableUnit, NamedBidUnit, PriceLists, Schedule, ThermalUnit, units}
 pub use Rattle.uc_model.specs.PlainCases.{task_unit}
-pub use Rattle.uc_model.specs.PlainUnits.{named_thermal_of, schedule_of, prices_of, thermal_of}
+pub use Rattle.uc_model.specs.PlainUnits.{schedule_of, prices_of, thermal_of}
 pub use Rattle.uc_model.specs.Schedules.{IsThermalFeasible, IsFeasible}
 pub use Rattle.uc_model.specs.TaskRoom.{IsTaskFor}
 pub use Rattle.uc_model.specs.declared.cases.Task.{Task}
 pub use Rattle.uc_model.specs.declared.units.Answered.{Answered}
-pub use Rattle.uc_model.specs.declared.units.NamedUnit.{NamedUnit}
 pub use Rattle.unit_program.specs.Benches.{IsBenchFor}
 pub use Rattle.unit_program.specs.declared.bench.Bench.{Bench}

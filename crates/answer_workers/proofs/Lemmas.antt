@@ -1,5 +1,5 @@
 -- The lemmas that answers cite, passed on from one place.
-pub use Rattle.answer_workers.proofs.BenchLaws.{greater, greater_within, few_more, all_few, HaveFew, found, kept, bench_of_case}
+pub use Rattle.answer_workers.proofs.BenchLaws.{found, kept, bench_of_case}
 pub use Rattle.answer_workers.proofs.Going.{claim_goes, post_goes}
 pub use Rattle.answer_workers.proofs.Rows.{zip_worked, then_worked, one_works, one_there, one_finishes, all_still, still_all_of, EachWorked, EachFinished}
 pub use Rattle.answer_workers.proofs.Steady.{rests, seat_stays, works_on, still_of, parts_after, parts_posted}

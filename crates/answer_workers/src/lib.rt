@@ -16,5 +16,4 @@ mod worker;
 
 pub use all::answer_all;
 pub use gate::{Gate, NoGate};
-pub use tasks::most_points;
 pub use worker::{Ended, Worker};

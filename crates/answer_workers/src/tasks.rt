@@ -1,31 +1,16 @@
 //! The answer to a task: the least best response of its unit at its prices, and what that earns.
-ghost use Rattle.std.specs.Prelude.{◌≡◌, ◌≤◌, ℕ, length};
-ghost use Rattle.uc_model.specs.Data.{AnyUnit, NamedThermalUnit, Thermal};
-ghost use Rattle.uc_model.specs.PlainCases.{market_of, task_unit};
+ghost use Rattle.std.specs.Prelude.{◌≡◌, ℕ, length};
+ghost use Rattle.uc_model.specs.Data.{AnyUnit, Thermal};
+ghost use Rattle.uc_model.specs.PlainCases.{task_unit};
 ghost use Rattle.uc_model.specs.PlainUnits.{thermal_of, prices_of, schedule_of};
-ghost use Rattle.uc_model.specs.declared.limits.TheConstants.{MOST_POINTS};
-ghost use Rattle.std.specs.List.{All};
 ghost use Rattle.unit_program.specs.Benches.{IsBenchFor};
 ghost use Rattle.answer_workers.specs.Answers.{HasSchedule, IsResponse, Suffices};
 
 use flat_answer::{best_bid, best_flat};
-use uc_model::cases::{Case, Task};
+use uc_model::cases::Task;
 use uc_model::units::{Answered, Prices, Unit, UnitKind};
 use unit_choice::least_on_bench;
 use unit_program::{Bench, LastAnswers};
-
-/// The most cost points of a thermal unit of the case; 1 where it has none.
-pub fn most_points(case: &Case) -> u32
-    ensures limit { result ≤ MOST_POINTS }
-    ensures each { All (λ (n : NamedThermalUnit). length n.unit.points ≤ result)
-        (market_of case.now).thermal }
-{
-    let mut most = 1;
-    for named in case.thermal.as_slice() {
-        most = most.max(named.unit.points.len() as u32);
-    }
-    most
-}
 
 // Answers the thermal unit of a number, which has a schedule.
 fn answer_thermal(

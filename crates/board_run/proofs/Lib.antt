@@ -4,11 +4,9 @@ pub mod Common
 pub mod Outs
 -- crew.rt: nobody halts, so the board has finished
 pub mod CrewLaws
--- run.rt: the settlement at the prices of the chosen row
-pub mod SettleLaws
--- bound.rt: the best bound round the chosen prices of a run
-pub mod BoundLaws
--- fixed.rt: the two runs of `hull fixed`
+-- run.rt: the bench that the owner leaves
+pub mod BenchLaws
+-- fixed.rt: the second run of `hull fixed`
 pub mod FixedLaws
 -- The lemmas that answers cite.
 pub mod Lemmas

@@ -1,53 +1,17 @@
-//! The best bound round the prices that a run chose.
-ghost use Rattle.std.specs.Prelude.{◌≡◌, ◌*◌, true, length, IfOk};
-ghost use Rattle.board_history.specs.Calls.{own_rows, has_finished};
-ghost use Rattle.gap_proof.specs.Candidates.{IsFirstLeast};
+//! A run with the best bound round the prices that it chose.
+ghost use Rattle.std.specs.Prelude.{IfOk};
 ghost use Rattle.gap_proof.specs.Sums.{IsRadius};
-ghost use Rattle.right_report.specs.Told.{IsTold};
-ghost use Rattle.right_report.specs.RecordReport.{chosen_of};
-ghost use Rattle.board_run.specs.Bounded.{IsBounded};
+ghost use Rattle.run_settle.specs.Bounded.{IsBounded};
 ghost use Rattle.board_core.specs.Setups.{IsSetup, setup_of};
 
-use crate::run::{Done, open_run, run_board};
+use crate::run::{open_run, run_board};
 use answer_workers::Gate;
-use board_core::{Closed, Terms};
-use board_history::laws::{finished_has_row, finished_is_run, rows_are_within};
-use gap_proof::laws::run_bounds_hold;
-use gap_proof::{Certified, best_range};
+use board_core::Terms;
 use plain_lists::lists::Amounts;
-use right_report::laws::one_row_is_chosen;
+use run_settle::{Bounded, certify};
 use std::alloc::{AllocError, Global};
 use std::sync::Wait;
 use std::thread::Threads;
-
-/// A run that has ended, and the best bound round its chosen prices.
-#[derive(Drop)]
-pub struct Bounded {
-    /// The run.
-    pub done: Done,
-    /// How far each price may be from the chosen one, in money for a kilowatt and period.
-    pub radius: i64,
-    /// The best bound on the dual values of all such prices, with the rows that it is of.
-    pub certified: Certified,
-}
-
-/// The best bound round the chosen row of a finished record. `work` has two numbers for each
-/// period, and is left with any numbers. Takes no memory.
-fn certify(closed: &Closed, radius: i64, work: &mut Amounts) -> Certified
-    requires finished { has_finished closed.now ≡ true }
-    requires radius { IsRadius radius }
-    requires work { length work.old.items ≡ 2 * closed.now.setup.market.periods }
-    ensures best { IsFirstLeast closed.now.setup.market (own_rows closed.now) (chosen_of closed.now)
-        radius (record { first = result.first; last = result.last }) result.bound }
-    ensures told { IsTold result.bound }
-{
-    finished_has_row();
-    finished_is_run();
-    rows_are_within();
-    one_row_is_chosen();
-    run_bounds_hold();
-    best_range(closed.case(), closed.rows(), closed.chosen(), radius, work)
-}
 
 /// The run on these terms to its end, and the best bound round its chosen prices. All memory for
 /// both is taken before the run, the room for the bound first. `AllocError` is want of it; the

@@ -1,66 +1,23 @@
 //! The two runs of `hull fixed`: of a case, and of the case with each thermal unit held to its
 //! commitment in the schedule.
-ghost use Rattle.std.specs.Prelude.{◌≡◌, ◌+◌, ◌≤◌, length, IfOk};
-ghost use Rattle.uc_model.specs.Data.{unit_count as units_in};
+ghost use Rattle.std.specs.Prelude.{◌≡◌, IfOk};
 ghost use Rattle.uc_model.specs.PlainCases.{market_of};
-ghost use Rattle.uc_model.specs.PlainUnits.{prices_of};
 ghost use Rattle.uc_model.specs.Systems.{IsFeasiblePlan};
 ghost use Rattle.fixed_price.specs.FixedCase.{fixed_market};
 ghost use Rattle.board_core.specs.Setups.{IsSetup, setup_of};
-ghost use Rattle.board_run.specs.Compared.{IsPaidSide, IsOwnSide, held_setup, AreSides};
-ghost use Rattle.board_run.specs.Rounds.{IsEnded};
+ghost use Rattle.run_settle.specs.Compared.{IsPaidSide, IsOwnSide, AreSides};
 
-use crate::run::{Done, open_run, run_board};
+use crate::run::{open_run, run_board};
 use answer_workers::Gate;
 use board_core::Terms;
-use case_answers::earn_all;
-use fixed_price::fix_case;
 use fixed_price::laws::commitments_are_fixed;
-use plain_lists::lists::Numbers;
-use right_report::laws::{settled_sides_are_right, settlements_are_of_all_units};
-use right_report::{Side, chosen_side};
+use right_report::Side;
+use run_settle::{Sides, hold, own_side, settled_side, side_room};
 use std::alloc::{AllocError, Global};
-use std::mem;
 use std::sync::Wait;
 use std::thread::Threads;
 use uc_model::cases::Case;
 use uc_model::units::Prices;
-use uplift_settle::settle;
-
-/// A case with what its schedule costs, and a side for each run. Both sides settle the case as
-/// given.
-#[derive(Drop)]
-pub struct Sides {
-    /// The case as given.
-    pub case: Case,
-    /// What its schedule costs, in money.
-    pub cost: i128,
-    /// The side of the case's run.
-    pub hull: Side,
-    /// The side of the run with the schedule's commitments held.
-    pub fixed: Side,
-}
-
-/// The side of a run that has ended, with its terms: its chosen prices are copied into the room.
-/// Lets all else of the run go, and takes no memory.
-fn own_side(done: Done, room: Prices) -> (Side, Terms)
-    requires ended { IsEnded done.closed.setup done }
-    requires horizon { length (prices_of room).energy ≡ done.closed.setup.market.periods }
-    ensures side { IsOwnSide done.closed.setup result.0 }
-    ensures terms { setup_of result.1 ≡ done.closed.setup }
-    ensures setup { IsSetup done.closed.setup }
-{
-    let Done {
-        closed,
-        settlement,
-        buffer: _buffer,
-        bench: _bench,
-    } = done;
-    settled_sides_are_right();
-    settlements_are_of_all_units();
-    let side = chosen_side(&closed, room, settlement);
-    (side, closed.into_terms())
-}
 
 /// Runs the board of these terms. Gives them back, and lets all else of the run go but its side.
 /// The memory that is needed after the opening of the run is taken before it.
@@ -77,64 +34,6 @@ fn hull_side<R: Threads + Wait + Sync, G: Gate>(
     let room = Prices::make(alloc, terms.case.periods)?;
     let opened = open_run(alloc, terms)?;
     Ok(own_side(run_board(rt, opened, gate), room))
-}
-
-/// The side of a run with commitments held that has ended: its chosen prices are copied into the
-/// room, and the schedule is settled at them for the case as given. Takes no memory.
-fn settled_side(given: &Case, done: Done, room: Prices, earned: Numbers) -> Side
-    requires ended { IsEnded done.closed.setup done }
-    requires feasible { IsFeasiblePlan (market_of given.now) done.closed.setup.plan }
-    requires held { done.closed.setup.market
-        ≡ fixed_market (market_of given.now) done.closed.setup.plan }
-    requires horizon { length (prices_of room).energy ≡ (market_of given.now).periods }
-    requires count { units_in (market_of given.now) ≤ length earned.items + earned.spare }
-    ensures { IsPaidSide (market_of given.now) done.closed.setup result }
-{
-    let Done {
-        closed,
-        settlement,
-        mut buffer,
-        mut bench,
-    } = done;
-    let mut earned = earned;
-    settled_sides_are_right();
-    settlements_are_of_all_units();
-    commitments_are_fixed();
-    let mut side = chosen_side(&closed, room, settlement);
-    earn_all(&mut bench, given, &side.prices, &mut buffer, &mut earned);
-    settle(
-        given,
-        closed.plan(),
-        &side.prices,
-        earned.as_slice(),
-        &mut side.settlement,
-    );
-    side
-}
-
-/// Room for the prices of a side of the case, and for what its units earn.
-fn side_room(alloc: Global, given: &Case) -> Result<(Prices, Numbers), AllocError>
-    ensures horizon { IfOk result (λ r. length (prices_of r.0).energy
-        ≡ (market_of given.now).periods) }
-    ensures count { IfOk result (λ r. units_in (market_of given.now)
-        ≤ length r.1.items + r.1.spare) }
-{
-    let room = Prices::make(alloc, given.periods)?;
-    let earned = Numbers::make(alloc, given.unit_count())?;
-    Ok((room, earned))
-}
-
-/// The case as given, and the terms with the commitments of their schedule held. `AllocError` is
-/// want of memory for the case that is held; the terms are then dropped.
-fn hold(alloc: Global, terms: Terms) -> Result<(Case, Terms), AllocError>
-    requires { IsSetup (setup_of terms) }
-    ensures given { IfOk result (λ r. market_of r.0 ≡ (setup_of terms).market) }
-    ensures held { IfOk result (λ r. setup_of r.1 ≡ held_setup (setup_of terms)) }
-{
-    let mut terms = terms;
-    let held = fix_case(alloc, &terms.case, &terms.plan)?;
-    let given = mem::replace(&mut terms.case, held);
-    Ok((given, terms))
 }
 
 /// Runs the board of the case with the commitments of its schedule held. The memory that is needed

@@ -10,6 +10,6 @@ mod crew;
 mod fixed;
 mod run;
 
-pub use bound::{Bounded, bounded_run};
-pub use fixed::{Sides, compared_runs};
-pub use run::{Done, Run, open_run, run_board};
+pub use bound::bounded_run;
+pub use fixed::compared_runs;
+pub use run::{Run, open_run, run_board};

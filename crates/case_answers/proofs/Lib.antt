@@ -4,5 +4,7 @@ pub mod Common
 pub mod Units
 -- earn.rt, laws.rt: what all units of a case earn at best
 pub mod TopLaws
+-- bench.rt: the most cost points of its units
+pub mod MostPoints
 -- The lemmas that answers cite.
 pub mod Lemmas

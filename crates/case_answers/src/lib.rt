@@ -3,8 +3,10 @@
 #![tactic(auto)]
 
 mod answer;
+mod bench;
 mod earn;
 pub mod laws;
 
 pub use answer::answer_at;
+pub use bench::{bench_for, most_points};
 pub use earn::earn_all;

@@ -1,8 +1,8 @@
 -- What the run of a command answers.
 use Rattle.hull_engine.proofs.Common.{◌≡◌, ℕ, ℤ, List, subst, sym, ap, ◌∙◌, unit_count, market_of, Report, told_of, fixed_text, Terms, IsReportText, IsBoundText, IsFixedText, planned_in, planned_run, IsRunText, setup_of}
 use Rattle.board_history.specs.Board.{Setup}
-use Rattle.board_run.specs.Compared.{AreSides, ArePaid}
-use Rattle.board_run.specs.declared.fixed.Sides.{Sides}
+use Rattle.run_settle.specs.Compared.{AreSides, ArePaid}
+use Rattle.run_settle.specs.declared.sides.Sides.{Sides}
 
 -- the texts of a run are those of its input, with the numbers of the words
 pub run_texts : (text_of : Report → List ℕ) (terms : Terms) (b : Setup) (budget ahead : ℕ) → b ≡ setup_of terms → terms.budget ≡ budget → terms.ahead ≡ ahead

@@ -9,7 +9,7 @@ pub use Rattle.std.specs.Int.{w64, w128}
 pub use Rattle.std.specs.List.{All, AllZip}
 pub use Rattle.std.specs.Prelude.{IsTrue, IfSome, nat_lt, if◌then◌else◌, option_and_then, OnOk, OnErr}
 pub use Rattle.hull_engine.specs.Planned.{planned_in, planned_of, planned_run, PlannedCase}
-pub use Rattle.board_run.specs.Rounds.{IsEnded}
+pub use Rattle.run_settle.specs.Rounds.{IsEnded}
 pub use Rattle.board_core.specs.Setups.{setup_of, IsSetup}
 pub use Rattle.board_core.specs.declared.terms.Terms.{Terms}
 pub use Rattle.audit_rows.specs.Benches.{IsBenchOver}

@@ -3,9 +3,9 @@ use Rattle.hull_engine.proofs.Common.{◌≡◌, ℕ, inl, inr, List, Result, Ok
 use Rattle.board_history.specs.Calls.{own_rows}
 use Rattle.hull_report.specs.BoundText.{bound_text}
 use Rattle.right_report.specs.RecordReport.{chosen_of, value_of, report_of, RecordReportIsRight, SettlementsAreOfAllUnits}
-use Rattle.board_run.specs.declared.run.Done.{Done}
-use Rattle.board_run.specs.declared.bound.Bounded.{Bounded}
-use Rattle.board_run.specs.Bounded.{IsBounded}
+use Rattle.run_settle.specs.declared.done.Done.{Done}
+use Rattle.run_settle.specs.declared.bound.Bounded.{Bounded}
+use Rattle.run_settle.specs.Bounded.{IsBounded}
 
 -- the settlement has one number for each unit
 pub ended_lengths : SettlementsAreOfAllUnits → (d : Done) → IsEnded d.closed.setup d

@@ -35,9 +35,9 @@ use Rattle.hull_engine.specs.declared.end.End.TheVariants.{Done, Cut, Refused}
 use Rattle.hull_engine.specs.Steps.{Reads, Then, IsInput, IsPricesFile, IsPriced}
 use Rattle.hull_engine.specs.Planned.{PlannedCase, planned_in, planned_of, IsPlanned}
 use Rattle.hull_engine.specs.Outcome.{Command, IsReportText, IsBoundText, IsReadOf, AreReads}
-use Rattle.board_run.specs.Rounds.{IsEnded}
-use Rattle.board_run.specs.Bounded.{IsBounded}
-use Rattle.board_run.specs.Compared.{ArePaid}
+use Rattle.run_settle.specs.Rounds.{IsEnded}
+use Rattle.run_settle.specs.Bounded.{IsBounded}
+use Rattle.run_settle.specs.Compared.{ArePaid}
 use Rattle.uplift_settle.specs.Settled.{HasEachUnit}
 use Rattle.uplift_settle.specs.Settled.{settled_of, IsSettledAt}
 

@@ -1,8 +1,8 @@
 //! What is to be printed.
 
 use crate::input::Input;
-use board_run::{Bounded, Done, Sides};
 use hull_report::BoundWithin;
+use run_settle::{Bounded, Done, Sides};
 use uc_model::units::Prices;
 use uplift_settle::Settled;
 

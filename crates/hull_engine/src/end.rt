@@ -10,7 +10,7 @@ ghost use Rattle.hull_engine.specs.Outcome.{status_at};
 ghost use Rattle.hull_engine.specs.Answers.{HasStatus, IsTextOf, IsAnswered, IsEndOf};
 ghost use Rattle.board_core.specs.Setups.{IsSetup, setup_of};
 ghost use Rattle.hull_engine.specs.Planned.{planned_run};
-ghost use Rattle.board_run.specs.Rounds.{IsEnded};
+ghost use Rattle.run_settle.specs.Rounds.{IsEnded};
 ghost use Rattle.hull_engine.specs.Sizes.{IsWorkers};
 ghost use Rattle.hull_engine.specs.Outcome.{Ends};
 ghost use Rattle.hull_engine.specs.Rest.{rest_of, rest_with, nothing_read, IsReady, IsFit};
@@ -22,13 +22,14 @@ use crate::answers::{answer_audit, answer_bound, answer_fixed, answer_try};
 use crate::ready::{Before, Prepared, Ready, Task, manned};
 use answer_workers::Gate;
 use board_core::{Closed, Terms};
-use board_run::{Bounded, Done, Run, open_run, run_board};
+use board_run::{Run, open_run, run_board};
 use hull_io::{Sink, WriteFailed};
 use hull_report::{
     TopFault, write_audit, write_bound, write_certificate, write_check, write_fault, write_fixed,
     write_report, write_settlement, write_try,
 };
 use right_report::laws::{record_report_is_right, settlements_are_of_all_units};
+use run_settle::{Bounded, Done};
 use std::alloc::{AllocError, Global};
 use std::sync::Wait;
 use std::thread::Threads;

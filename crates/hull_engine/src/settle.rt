@@ -2,30 +2,15 @@
 ghost use Rattle.std.specs.Prelude.{◌≡◌, IfOk};
 ghost use Rattle.uc_model.specs.PlainCases.{market_of, schedules_of};
 ghost use Rattle.uc_model.specs.PlainUnits.{prices_of};
-ghost use Rattle.case_answers.specs.Tops.{IsBenchOver};
 ghost use Rattle.uplift_settle.specs.Settled.{IsSettledAt, settled_of};
 ghost use Rattle.hull_engine.specs.Answers.{HasSettled, IsFitPriced};
 
 use crate::answer::{PricedInput, SettledInput};
-use answer_workers::most_points;
-use case_answers::laws::benches_serve_all;
+use case_answers::bench_for;
 use price_settle::laws::settlements_have_each_unit;
 use price_settle::settle_at;
-use slope_list::Slopes;
 use std::alloc::{AllocError, Global};
-use uc_model::cases::Case;
 use uc_model::laws::{dual_values_are_within, plan_costs_are_within};
-use unit_program::Bench;
-
-/// A bench that suffices for every thermal unit of the case.
-pub fn bench_for(alloc: Global, case: &Case) -> Result<Bench<Slopes>, AllocError>
-    ensures { IfOk result (λ bench. IsBenchOver (market_of case.now) bench) }
-{
-    benches_serve_all();
-    let points = most_points(case);
-    let bench = Bench::make(alloc, case.periods, points)?;
-    Ok(bench)
-}
 
 /// What the schedule of an input is settled at, at its prices.
 pub fn settled_input(alloc: Global, priced: PricedInput) -> Result<SettledInput, AllocError>

@@ -1,5 +1,5 @@
 use Rattle.board_run.proofs.Common.{◌+◌, sym, length, subst, Setup, IsCrew, setup_of}
-use Rattle.board_run.specs.Rooms.{HasRoom}
+use Rattle.run_settle.specs.Rooms.{HasRoom}
 use Rattle.board_run.proofs.Lemmas.{crew_names}
 use Rattle.board_run.proofs.run.open_run.Goals as goal
 

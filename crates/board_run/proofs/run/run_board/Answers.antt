@@ -1,4 +1,5 @@
-use Rattle.board_run.proofs.Common.{◌≡◌, ◌∙◌, length, subst, Setup, schedule_of, IsBenchOf}
+use Rattle.board_run.proofs.Common.{◌≡◌, ◌∙◌, length, subst, Setup, named_by, schedule_of, IsBenchOver}
+use Rattle.board_run.proofs.Lemmas.{bench_over}
 use Rattle.board_run.proofs.run.run_board.Goals as goal
 
 pub returns : goal.returns
@@ -9,5 +10,5 @@ returns g c =
       row = c.settle_chosen.ensures.0;
       settled = c.settle_chosen.ensures.1;
       buffer = subst (λ (b : Setup). length (schedule_of c.run.inside.buffer.response).on ≡ b.market.periods) named c.run.invariant.1.horizon;
-      bench = subst (λ (b : Setup). IsBenchOf b.market c.answer_board-closed.result.1) named e.bench;
+      bench = subst (λ (b : Setup). IsBenchOver b.market c.answer_board-closed.result.1) named (bench_over (named_by c.run.inside.workers.items).market c.answer_board-closed.result.1 e.bench);
     }

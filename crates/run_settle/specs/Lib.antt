@@ -1,0 +1,4 @@
+pub mod Rounds
+pub mod Rooms
+pub mod Bounded
+pub mod Compared
