@@ -1,49 +1,30 @@
 //! The audit of a report, from its case and plan alone.
-ghost use Rattle.std.specs.Prelude.{◌≡◌, ℕ, ◌+◌, ◌≤◌, ◌↔◌, min, length, map, IfOk, IfErr};
+ghost use Rattle.std.specs.Prelude.{◌≡◌, ◌+◌, ◌≤◌, ◌↔◌, min, length, map, IfOk};
 ghost use Rattle.std.specs.List.{All};
 ghost use Rattle.task_deal.specs.declared.deal.TheConstants.{MOST_JOBS};
 ghost use Rattle.uc_model.specs.Data.{Market};
-ghost use Rattle.uc_model.specs.PlainCases.{market_of, schedules_of, proposal_of};
-ghost use Rattle.uc_model.specs.Runs.{IsRun, Fits};
+ghost use Rattle.uc_model.specs.PlainCases.{market_of, schedules_of};
 ghost use Rattle.uc_model.specs.Systems.{IsFeasiblePlan, plan_cost};
 ghost use Rattle.audit_rows.specs.Jobs.{AreFor};
 ghost use Rattle.case_answers.specs.Tops.{HasSchedules, IsBenchOver};
 ghost use Rattle.right_report.specs.RightReport.{IsRightReport};
 ghost use Rattle.report_read.specs.Bounds.{IsReport, AreInOrder};
 ghost use Rattle.report_read.specs.Plain.{report_of, told_of};
-ghost use Rattle.audit_check.specs.Audits.{IfWrong};
-ghost use Rattle.audit_check.specs.Desks.{IsDeskFor};
-ghost use Rattle.audit_check.specs.Heads.{right_opening};
-ghost use Rattle.audit_check.specs.ReportLines.{opening_lines};
-ghost use Rattle.audit_check.specs.Right.{DiffersFromRight, IsWrongFrom};
-ghost use Rattle.audit_check.specs.declared.audit.Audit.TheVariants.{Right};
+ghost use Rattle.report_compare.specs.Audits.{IfWrong};
+ghost use Rattle.report_compare.specs.Heads.{right_opening};
+ghost use Rattle.report_compare.specs.ReportLines.{opening_lines};
+ghost use Rattle.report_compare.specs.Right.{DiffersFromRight};
+ghost use Rattle.report_compare.specs.declared.verdict.Audit.TheVariants.{Right};
 
-use crate::desk::Desk;
-use crate::parts::opening_same;
-use crate::report::first_difference;
-use crate::wrong::WrongLine;
 use audit_rows::{Answerer, right_rows};
-use report_form::laws::text_determines_the_report;
+use report_compare::{Audit, Desk, judged, opening_right};
 use report_read::Report;
-use right_report::laws::{one_list_is_the_run, one_report_is_right, right_reports_exist};
 use slope_list::Slopes;
 use std::alloc::{AllocError, Global};
 use std::sync::Wait;
 use std::thread::Threads;
-use uc_model::cases::{Case, Plan, Row};
+use uc_model::cases::{Case, Plan};
 use unit_program::Bench;
-
-/// The line that says how many proposals there are.
-const NUMBER_LINE: u32 = 7;
-
-/// What an audit comes to.
-#[derive(Clone, Copy, Debug, Drop)]
-pub enum Audit {
-    /// The report is the right one.
-    Right,
-    /// It isn't: this is the first line, from 1, at which its text differs from the right one's.
-    Wrong { line: u32 },
-}
 
 // A job on each bench.
 fn jobs_for<'a>(
@@ -84,22 +65,6 @@ fn last_bench(mut jobs: Vec<Answerer>) -> Bench<Slopes>
     bench
 }
 
-// The first of the lines before the number of proposals that isn't right.
-fn opening_right(case: &Case, plan: &Plan, cost: i128, report: &Report) -> Result<u32, WrongLine>
-    requires feasible { IsFeasiblePlan (market_of case.now) (schedules_of plan.now) }
-    requires cost { cost ≡ plan_cost (market_of case.now) (schedules_of plan.now) }
-    requires bounds { IsReport (report_of report.now) }
-    ensures right { IfOk result (λ next. opening_lines (report_of report.now)
-        ≡ right_opening (market_of case.now) cost (report_of report.now)) }
-    ensures wrong { IfErr result (λ wrong. IsWrongFrom (market_of case.now)
-        (schedules_of plan.now) (report_of report.now) wrong.line) }
-{
-    text_determines_the_report();
-    one_report_is_right();
-    right_reports_exist();
-    opening_same(case, cost, report)
-}
-
 // As many proposals as tell whether the report has all of them and no other: one more than it has,
 // within its budget.
 fn enough_rows(report: &Report) -> u32
@@ -110,45 +75,6 @@ fn enough_rows(report: &Report) -> u32
         count as u32 + 1
     } else {
         report.budget
-    }
-}
-
-// What the rows tell of a report whose first six lines are right. They are the run, up to one row
-// more than the report has.
-fn judged(
-    case: &Case,
-    plan: &Plan,
-    cost: i128,
-    rows: &[Row],
-    report: &Report,
-    desk: &mut Desk,
-) -> Audit
-    requires feasible { IsFeasiblePlan (market_of case.now) (schedules_of plan.now) }
-    requires cost { cost ≡ plan_cost (market_of case.now) (schedules_of plan.now) }
-    requires opening { opening_lines (report_of report.now)
-        ≡ right_opening (market_of case.now) cost (report_of report.now) }
-    requires run { let r = report_of report.now in IsRun Fits (market_of case.now) cost
-        (min r.budget (length r.rows + 1)) r.ahead (map proposal_of rows.now) }
-    requires bounds { IsReport (report_of report.now) }
-    requires order { AreInOrder 0 (map told_of report.now.lines.items) }
-    requires desk { IsDeskFor (market_of case.now) desk.old }
-    ensures right { (result ≡ Right) ↔ IsRightReport (market_of case.now) (schedules_of plan.now)
-        (report_of report.now).budget (report_of report.now).ahead (report_of report.now) }
-    ensures wrong { IfWrong result (λ line. DiffersFromRight (market_of case.now)
-        (schedules_of plan.now) (report_of report.now) line) }
-{
-    text_determines_the_report();
-    one_report_is_right();
-    one_list_is_the_run();
-    right_reports_exist();
-    let right = rows.len();
-    let told = report.rows.len();
-    if right != told {
-        return Audit::Wrong { line: NUMBER_LINE };
-    }
-    match first_difference(case, plan, cost, rows, report, desk) {
-        None => Audit::Right,
-        Some(line) => Audit::Wrong { line },
     }
 }
 

@@ -1,15 +1,7 @@
-//! Where a report first differs from the right one of its case and plan, and whether it does.
+//! The audit of a report: its right rows are worked out by jobs on many threads, and it is compared
+//! with what is then due.
 #![tactic(auto)]
 
 mod audit;
-mod desk;
-mod due;
-pub mod laws;
-mod lines;
-mod parts;
-mod report;
-mod rows;
-mod units;
-mod wrong;
 
 pub use audit::{Audit, check_report};

@@ -21,7 +21,7 @@
 -- FaultLines, and what `settle` and `certify` tell in SettledText and CertifiedText; a case with
 -- its schedule's commitments held in fixed_price's FixedCase; which reports are read, and the
 -- first line in fault, in report_read's Bounds and Faults; the first line at which a report
--- differs from the right one in audit_check's Right; the bound round a row in gap_proof's
+-- differs from the right one in report_compare's Right; the bound round a row in gap_proof's
 -- Candidates; a settlement at any prices in uplift_settle's Settled; the bound by a mixture in
 -- mixture_bound's MixtureBound.
 use Rattle.std.specs.Prelude.{◌≡◌, ◌⊎◌, ℕ, ℤ, List, length, unsigned_abs, Option, None, Some}

@@ -40,7 +40,7 @@ use Rattle.report_form.specs.ReportText.{Report, report_text}
 use Rattle.right_report.specs.RightReport.{IsRightReport}
 use Rattle.report_read.specs.Bounds.{IsReport}
 use Rattle.report_read.specs.Faults.{IsFault}
-use Rattle.audit_check.specs.Right.{DiffersFromRight}
+use Rattle.report_compare.specs.Right.{DiffersFromRight}
 
 -- ---- one step after another
 

@@ -11,10 +11,11 @@ ghost use Rattle.hull_engine.specs.Planned.{planned_run};
 ghost use Rattle.hull_engine.specs.Sizes.{IsWorkers};
 ghost use Rattle.hull_engine.specs.Steps.{IsJudged};
 
-use audit_check::{Audit, check_report};
+use audit_check::check_report;
 use board_core::Terms;
 use case_answers::bench_for;
 use hull_report::{ReportCode, TopFault};
+use report_compare::Audit;
 use report_read::Report;
 use slope_list::Slopes;
 use std::alloc::{AllocError, Global};

@@ -5,7 +5,7 @@ use Rattle.std.proofs.lemmas.List.Elements.{All-from_recursion}
 use Rattle.right_report.specs.RightReport.{IsRightReport}
 use Rattle.report_read.specs.Bounds.{IsOtherLine, IsReport}
 use Rattle.report_read.specs.Faults.{IsFault}
-use Rattle.audit_check.specs.Right.{DiffersFromRight}
+use Rattle.report_compare.specs.Right.{DiffersFromRight}
 use Rattle.law_outcome.proofs.OutcomeLaws.{pays_none_back, status_within, same_fault, bytes_fault, input_fault, work_fault, same_input, InputParts, input_parts}
 
 -- ---- a report within the bounds of reading

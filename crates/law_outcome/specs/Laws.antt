@@ -56,7 +56,7 @@ use Rattle.hull_report.specs.declared.fault.ReportCode.TheVariants.{OutOfForm, W
 use Rattle.hull_report.specs.declared.fault.TopFault.TheVariants.{Report as Unfit, MixtureRule}
 use Rattle.report_read.specs.Bounds.{IsReport}
 use Rattle.report_read.specs.Faults.{IsFault}
-use Rattle.audit_check.specs.Right.{DiffersFromRight}
+use Rattle.report_compare.specs.Right.{DiffersFromRight}
 use Rattle.hull_engine.specs.Steps.{Reads, IsInput, IsCaseFile, prices_fault, mixture_fault}
 use Rattle.hull_engine.specs.Planned.{PlannedCase}
 use Rattle.hull_engine.specs.Outcome.{Command, command_for, AreReads, HasText, IsOutcome}

@@ -1,6 +1,6 @@
 use Rattle.hull_engine.proofs.Common.{◌≡◌, ℕ, arith, inl, refl, sym, subst, ◌∙◌, length-map, proposal_of, report_of}
-use Rattle.audit_check.specs.declared.audit.Audit.{Audit}
-use Rattle.audit_check.specs.declared.audit.Audit.TheVariants.{Right, Wrong}
+use Rattle.report_compare.specs.declared.verdict.Audit.{Audit}
+use Rattle.report_compare.specs.declared.verdict.Audit.TheVariants.{Right, Wrong}
 use Rattle.hull_engine.proofs.audit.right_proposals.Goals as goal
 
 abbrev IsWrong : Audit → Type 0

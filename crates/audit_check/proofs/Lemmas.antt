@@ -1,8 +1,0 @@
--- The lemmas that answers cite, passed on from one place.
-pub use Rattle.audit_check.proofs.Comparing.{behind, stops, here_differ, judged_compare}
-pub use Rattle.audit_check.proofs.Early.{number_wrong, beyond, no_more, opening_told, opening_fails}
-pub use Rattle.audit_check.proofs.Judging.{amount_judged, amounts_judged, count_judged, choice_judged}
-pub use Rattle.audit_check.proofs.UnitCompared.{titles_differ, unit_compared, units_step, units_stop, units_end, due_lines, thermal_response, other_response, rows_step, rows_stop, rows_end}
-pub use Rattle.audit_check.proofs.UnitLaws.{read_item, zip_at, titles_length, titled}
-pub use Rattle.audit_check.proofs.SomeLine.{some_difference}
-pub use Rattle.audit_check.proofs.Verdicts.{first_wrong, not_right, row_made, row_long, mine_whole, right_whole, compared_as, number_behind, sum_is_worth, all_right, IsMade, wrong_right}

@@ -1,0 +1,15 @@
+//! A law over wrong reports: the contract of a function that does nothing.
+ghost use Rattle.report_compare.specs.Right.{SomeDifference};
+
+use report_form::laws::text_determines_the_report;
+use right_report::laws::{right_report_has_form, right_reports_exist};
+
+/// A report within the bounds of reading that isn't right for a feasible plan has a first line that
+/// differs from the right report, and by `report_read::laws::one_line_differs` just one.
+pub fn wrong_reports_differ()
+    ensures { SomeDifference }
+{
+    text_determines_the_report();
+    right_report_has_form();
+    right_reports_exist();
+}
