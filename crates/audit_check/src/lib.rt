@@ -4,4 +4,4 @@
 
 mod audit;
 
-pub use audit::{Audit, check_report};
+pub use audit::check_report;

@@ -7,7 +7,6 @@ ghost use Rattle.uc_model.specs.declared.limits.TheConstants.{MOST_POINTS};
 ghost use Rattle.case_answers.specs.Tops.{IsBenchOver};
 
 use crate::laws::benches_serve_all;
-use slope_list::Slopes;
 use std::alloc::{AllocError, Global};
 use uc_model::cases::Case;
 use unit_program::Bench;
@@ -26,7 +25,7 @@ pub fn most_points(case: &Case) -> u32
 }
 
 /// A bench that suffices for every thermal unit of the case.
-pub fn bench_for(alloc: Global, case: &Case) -> Result<Bench<Slopes>, AllocError>
+pub fn bench_for(alloc: Global, case: &Case) -> Result<Bench, AllocError>
     ensures { IfOk result (λ bench. IsBenchOver (market_of case.now) bench) }
 {
     benches_serve_all();
