@@ -2,7 +2,7 @@
 ghost use Rattle.std.specs.Prelude.{◌≡◌, ℕ, suc, pos, neg_ℤ, ◌+ℤ◌, ◌+◌, ◌<◌, ◌≤◌, length, map};
 ghost use Rattle.std.specs.Prelude.{take, replicate, IfOk, slice_index_or, slice_set};
 ghost use Rattle.std.specs.List.{All};
-ghost use Rattle.dual_value.specs.Totals.{IsTotal};
+ghost use Rattle.uc_model.specs.Limits.{IsTotal};
 ghost use Rattle.price_move.specs.Firsts.{IsFirstUpTo};
 ghost use Rattle.price_move.specs.Moves.{values_of};
 ghost use Rattle.plain_lists.specs.Ranges.{IsFrom};
