@@ -66,3 +66,19 @@ returns-in-None-clause-value c =
     let b = q.cost.at_most in
     let stays = to_z-of_z w64 (point_at ps i).cost (fits64 (point_at ps i).cost (omega (arith, ints, a)) (omega (arith, ints, b))) in
     stays ∙ sym value ∙ ap (envelope ps) here
+
+-- (found at once by this search alone, and slowly by all that is tried without an answer)
+pub bounds-points-leg : goal.bounds-points-leg
+bounds-points-leg c = search rules
+
+pub edge_cost-requires-clause-limits : goal.edge_cost-requires-clause-limits
+edge_cost-requires-clause-limits c = search rules
+
+pub edge_cost-requires-clause-above : goal.edge_cost-requires-clause-above
+edge_cost-requires-clause-above c = search rules
+
+pub bounds-points-leg-in-None : goal.bounds-points-leg-in-None
+bounds-points-leg-in-None c = search rules
+
+pub returns-in-None-clause-limit : goal.returns-in-None-clause-limit
+returns-in-None-clause-limit c = search rules

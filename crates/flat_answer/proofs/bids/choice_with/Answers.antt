@@ -43,3 +43,25 @@ returns-clause-earned c =
     let b : FitsSigned w64 c.earned_at.result = search rules in
     let f = sum_fits c in
     simp to_z-of_z (ap (λ z. c.args.so_far.earned +ℤ z) (gained c))
+
+-- (found at once by this search alone, and slowly by all that is tried without an answer)
+pub returns-then-block-price-clause-power : goal.returns-then-block-price-clause-power
+returns-then-block-price-clause-power c = search rules
+
+pub returns-then-block-price-clause-earned : goal.returns-then-block-price-clause-earned
+returns-then-block-price-clause-earned c = search rules
+
+pub overflow_cast-result : goal.overflow_cast-result
+overflow_cast-result c = search rules
+
+pub overflow_add-result : goal.overflow_add-result
+overflow_add-result c = search rules
+
+pub overflow_sub-block : goal.overflow_sub-block
+overflow_sub-block c = search rules
+
+pub earned_at-requires-clause-gain : goal.earned_at-requires-clause-gain
+earned_at-requires-clause-gain c = search rules
+
+pub returns-clause-power : goal.returns-clause-power
+returns-clause-power c = search rules

@@ -74,3 +74,25 @@ returns-clause-limit c =
     let within : IsWithin 500000000000000000000000000000000 (c.most_energy.result +ℤ c.most_reserve.result) = record { at_least = omega (arith, ints, a, x); at_most = omega (arith, ints, b, y) } in
     let fits = fits_within w128 500000000000000000000000000000000 (c.most_energy.result +ℤ c.most_reserve.result) within (omega arith) in
     simp to_z-of_z within
+
+-- (found at once by this search alone, and slowly by all that is tried without an answer)
+pub overflow_add-case : goal.overflow_add-case
+overflow_add-case c = search rules
+
+pub most_energy-requires-clause-low : goal.most_energy-requires-clause-low
+most_energy-requires-clause-low c = search rules
+
+pub most_energy-requires-clause-ordered : goal.most_energy-requires-clause-ordered
+most_energy-requires-clause-ordered c = search rules
+
+pub most_energy-requires-clause-high : goal.most_energy-requires-clause-high
+most_energy-requires-clause-high c = search rules
+
+pub most_reserve-requires-clause-low : goal.most_reserve-requires-clause-low
+most_reserve-requires-clause-low c = search rules
+
+pub most_reserve-requires-clause-high : goal.most_reserve-requires-clause-high
+most_reserve-requires-clause-high c = search rules
+
+pub overflow_add-result : goal.overflow_add-result
+overflow_add-result c = search rules

@@ -26,6 +26,7 @@ returns c =
     let f = simp to_z-of_z at c.added_at-2.ensures.value in
     simp to_z-of_z (less_test c.added_at.result c.added_at-2.result _ _ e f)
 
+-- (found at once by this search alone, and slowly by all that is tried without an answer)
 pub added_at-requires-clause-price : goal.added_at-requires-clause-price
 added_at-requires-clause-price c = search rules
 

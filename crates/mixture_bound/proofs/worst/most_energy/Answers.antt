@@ -63,3 +63,31 @@ returns-clause-value c =
     let value = simp to_z-of_z at c.added_at.ensures.value in
     let sum : c.added_at.result ≡ greatest n f = value ∙ ap g price ∙ between_one f n c.loop-first.first c.loop-first.last c.loop-first.invariant test in
     simp to_z-of_z sum
+
+-- (found at once by this search alone, and slowly by all that is tried without an answer)
+pub overflow_sub-middle : goal.overflow_sub-middle
+overflow_sub-middle c = search rules
+
+pub overflow_add-middle : goal.overflow_add-middle
+overflow_add-middle c = search rules
+
+pub price_above-requires-clause-more : goal.price_above-requires-clause-more
+price_above-requires-clause-more c = search rules
+
+pub overflow_add-first : goal.overflow_add-first
+overflow_add-first c = search rules
+
+pub loop-first-smaller-then-is_rising : goal.loop-first-smaller-then-is_rising
+loop-first-smaller-then-is_rising c = search rules
+
+pub loop-first-smaller : goal.loop-first-smaller
+loop-first-smaller c = search rules
+
+pub price_above-requires-2-clause-more : goal.price_above-requires-2-clause-more
+price_above-requires-2-clause-more c = search rules
+
+pub added_at-requires-clause-price : goal.added_at-requires-clause-price
+added_at-requires-clause-price c = search rules
+
+pub returns-clause-limit : goal.returns-clause-limit
+returns-clause-limit c = search rules

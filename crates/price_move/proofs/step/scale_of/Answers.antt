@@ -19,3 +19,10 @@ returns-clause-bound c =
     let bound : IsFrom (pos 1) (pos 1000000000000000000000000000000000000) (c.args.norm *ℤ c.from.result) =
     record { at_least = omega (arith, ints, rise, low); at_most = omega (arith, ints, most) } in
     simp to_z-of_z bound
+
+-- (found at once by this search alone, and slowly by all that is tried without an answer)
+pub overflow_mul-result : goal.overflow_mul-result
+overflow_mul-result c = search rules
+
+pub returns-clause-value : goal.returns-clause-value
+returns-clause-value c = search rules
