@@ -12,3 +12,19 @@ envelope_near-requires-clause-within c =
     let f : FitsSigned w64 c.power_at.result = search rules in
     let x_is = to_z-of_z w64 c.power_at.result f ∙ c.power_at.ensures.value in
     subst (λ (x : ℤ). Spans c.as_slice.result.now x x) (sym x_is) (subst (λ (ps : List Point). Spans ps (power_in s (suc c.args.place)) (power_in s (suc c.args.place))) (sym c.as_slice.ensures) spans)
+
+-- (found at once by this search alone, and slowly by all that is tried without an answer)
+pub returns-clause-value : goal.returns-clause-value
+returns-clause-value c = search rules
+
+pub returns-clause-limit : goal.returns-clause-limit
+returns-clause-limit c = search rules
+
+pub returns-clause-near : goal.returns-clause-near
+returns-clause-near c = search rules
+
+pub envelope_near-requires-clause-points : goal.envelope_near-requires-clause-points
+envelope_near-requires-clause-points c = search rules
+
+pub envelope_near-requires-clause-near : goal.envelope_near-requires-clause-near
+envelope_near-requires-clause-near c = search rules
