@@ -156,14 +156,23 @@ groups count v = do
   bids ← need (fault whole 0 PlanShape) (bids_in count (value_of (codes "bids") ms))
   Ok (record { thermal = thermal; renewable = renewable; bids = bids })
 
--- the schedules in the order of the units' numbers
-unfoldable pub plan_of : Market → Value → Read (List Schedule)
-plan_of m v = do
-  g ← groups (length m.bids) v
+-- each member of the three objects has the name of a unit of its kind
+unfoldable pub all_named : Market → Groups → Read (Unit {0})
+all_named m g = do
   all_known Thermal (thermal_names m) g.thermal
   all_known Renewable (renewable_names m) g.renewable
   all_known Bid (bid_names m) g.bids
+
+-- the schedules in the order of the units' numbers
+unfoldable pub all_schedules : Market → Groups → Read (List Schedule)
+all_schedules m g = do
   thermal ← schedules m.periods Thermal g.thermal (thermal_names m)
   renewable ← schedules m.periods Renewable g.renewable (renewable_names m)
   bids ← schedules m.periods Bid g.bids (bid_names m)
   Ok (thermal ++ (renewable ++ bids))
+
+unfoldable pub plan_of : Market → Value → Read (List Schedule)
+plan_of m v = do
+  g ← groups (length m.bids) v
+  all_named m g
+  all_schedules m g

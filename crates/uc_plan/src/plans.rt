@@ -1,5 +1,5 @@
 //! The schedules of all units of a case.
-ghost use Rattle.std.specs.Prelude.{◌≡◌, ◌≤◌, ◌+◌, ℕ, List, IfOk, OnOk, length, map};
+ghost use Rattle.std.specs.Prelude.{◌≡◌, ◌≤◌, ◌+◌, ℕ, List, [], IfOk, OnOk, length, map};
 ghost use Rattle.std.specs.Option.{option_map};
 ghost use Rattle.indexmap.specs.IndexMap.{get_by_text};
 ghost use Rattle.uc_model.specs.Laws.{HasPlanShape};
@@ -11,12 +11,14 @@ ghost use Rattle.text_tree.specs.View.{view, members_in};
 ghost use Rattle.uc_case.specs.Given.{Gives};
 ghost use Rattle.uc_case.specs.Inside.{value_of};
 ghost use Rattle.uc_plan.specs.Added.{Adds, IsShaped};
-ghost use Rattle.uc_plan.specs.Plans.{named, schedules, all_known, plan_of};
+ghost use Rattle.uc_plan.specs.Plans.{named, schedules, all_known, all_named};
+ghost use Rattle.uc_plan.specs.Plans.{all_schedules, plan_of};
+ghost use Rattle.uc_plan.specs.Views.{groups_of};
 
 use crate::fault::{Seat, ShapeCode, ShapeStop};
 use crate::lookup::{stranger_in, values_of};
 use crate::named::Named;
-use crate::shapes::read_groups;
+use crate::shapes::{Groups, read_groups};
 use crate::units::read_schedule;
 use indexmap::IndexMap;
 use std::alloc::Global;
@@ -96,44 +98,60 @@ fn read_schedules<N: Named>(
     Ok(())
 }
 
+/// Refuses the first member of any object whose name isn't that of a unit of its kind.
+#[tactic(auto, unfolding(crate::specs::Plans::all_named))]
+fn check_all_names(alloc: Global, case: &Case, groups: Groups<'_>) -> Result<(), ShapeStop>
+    ensures { Gives (λ _. tt) result (all_named (market_of case.now) (groups_of groups.entry)) }
+{
+    let thermal = case.thermal.as_slice();
+    let flat = case.flat.as_slice();
+    let bids = case.bids.as_slice();
+    check_names(alloc, Kind::Thermal, groups.thermal, thermal)?;
+    check_names(alloc, Kind::Renewable, groups.renewable, flat)?;
+    check_names(alloc, Kind::Bid, groups.bids, bids)
+}
+
+/// Adds the schedules of all units to an empty plan that has room for them.
+fn read_all_schedules(
+    alloc: Global,
+    case: &Case,
+    groups: Groups<'_>,
+    plan: &mut ResponseList,
+) -> Result<(), ShapeStop>
+    requires empty { plan.old.items ≡ [] }
+    requires room { length (market_of case.now).thermal + length (market_of case.now).flat
+        + length (market_of case.now).bids ≤ plan.old.spare }
+    ensures shape { IfOk result (λ _. HasPlanShape (market_of case.now)
+        (map schedule_of plan.new.items)) }
+    ensures value { Gives (λ _. map schedule_of plan.new.items) result
+        (all_schedules (market_of case.now) (groups_of groups.entry)) }
+{
+    let thermal = case.thermal.as_slice();
+    let flat = case.flat.as_slice();
+    let bids = case.bids.as_slice();
+    let periods = case.periods;
+    read_schedules(alloc, Kind::Thermal, groups.thermal, thermal, periods, plan)?;
+    read_schedules(
+        alloc,
+        Kind::Renewable,
+        groups.renewable,
+        flat,
+        periods,
+        plan,
+    )?;
+    read_schedules(alloc, Kind::Bid, groups.bids, bids, periods, plan)
+}
+
 /// The plan of a tree's root, or the fault of the first test that fails.
 #[tactic(auto, unfolding(crate::specs::Plans::plan_of))]
 pub fn plan_of_tree(alloc: Global, case: &Case, root: Branch<'_>) -> Result<Plan, ShapeStop>
     ensures shape { IfOk result (λ p. HasPlanShape (market_of case.now) (schedules_of p)) }
     ensures value { Gives schedules_of result (plan_of (market_of case.now) (view root.entry)) }
 {
-    let thermal = case.thermal.as_slice();
-    let flat = case.flat.as_slice();
-    let bids = case.bids.as_slice();
-    let groups = read_groups(alloc, root, bids.len())?;
-    check_names(alloc, Kind::Thermal, groups.thermal, thermal)?;
-    check_names(alloc, Kind::Renewable, groups.renewable, flat)?;
-    check_names(alloc, Kind::Bid, groups.bids, bids)?;
-    let count = thermal.len() + flat.len() + bids.len();
+    let groups = read_groups(alloc, root, case.bids.len())?;
+    check_all_names(alloc, case, groups)?;
+    let count = case.thermal.len() + case.flat.len() + case.bids.len();
     let mut responses = ResponseList::make(alloc, count as u32)?;
-    read_schedules(
-        alloc,
-        Kind::Thermal,
-        groups.thermal,
-        thermal,
-        case.periods,
-        &mut responses,
-    )?;
-    read_schedules(
-        alloc,
-        Kind::Renewable,
-        groups.renewable,
-        flat,
-        case.periods,
-        &mut responses,
-    )?;
-    read_schedules(
-        alloc,
-        Kind::Bid,
-        groups.bids,
-        bids,
-        case.periods,
-        &mut responses,
-    )?;
+    read_all_schedules(alloc, case, groups, &mut responses)?;
     Ok(Plan { responses })
 }
