@@ -16,21 +16,21 @@ ghost use Rattle.report_compare.specs.ReportLines.{opening_lines};
 ghost use Rattle.report_compare.specs.Right.{DiffersFromRight};
 ghost use Rattle.report_compare.specs.declared.verdict.Audit.TheVariants.{Right};
 
-use audit_rows::{Answerer, right_rows};
+use audit_rows::{Answerer, Means, right_rows};
 use report_compare::{Audit, Desk, judged, opening_right};
 use report_read::Report;
-use slope_list::Slopes;
 use std::alloc::{AllocError, Global};
-use std::sync::Wait;
+use std::sync::{Arc, Wait};
 use std::thread::Threads;
 use uc_model::cases::{Case, Plan};
-use unit_program::Bench;
+use unit_program::{Bench, LastAnswers};
 
-// A job on each bench.
+// A job on each bench, all with the same last answers.
 fn jobs_for<'a>(
     alloc: Global,
     case: &'a Case,
-    mut benches: Vec<Bench<Slopes>>,
+    mut benches: Vec<Bench>,
+    last: &Arc<LastAnswers, Global>,
 ) -> Result<Vec<Answerer<'a>>, AllocError>
     requires schedules { HasSchedules (market_of case.now) }
     requires benches { All (IsBenchOver (market_of case.now)) benches.items }
@@ -39,14 +39,14 @@ fn jobs_for<'a>(
 {
     let mut jobs = Vec::new(alloc);
     while let Some(bench) = benches.pop() {
-        let job = Answerer::make(alloc, case, bench)?;
+        let job = Answerer::make(alloc, case, bench, Arc::try_clone(last)?)?;
         jobs.push(job)?;
     }
     Ok(jobs)
 }
 
 // The bench of the last job.
-fn last_bench(mut jobs: Vec<Answerer>) -> Bench<Slopes>
+fn last_bench(mut jobs: Vec<Answerer>) -> Bench
     requires { 1 ≤ length jobs.items }
     ensures { (m : Market) → AreFor m jobs.entry.items → IsBenchOver m result }
 {
@@ -55,13 +55,17 @@ fn last_bench(mut jobs: Vec<Answerer>) -> Bench<Slopes>
     };
     let Answerer {
         case: _,
-        bench,
+        means,
         prices: _,
-        answer: _,
         numbers: _,
         left: _,
         sums: _,
     } = job;
+    let Means {
+        bench,
+        last: _,
+        answer: _,
+    } = means;
     bench
 }
 
@@ -86,7 +90,7 @@ fn rows_right<R: Threads + Wait + Sync>(
     plan: &Plan,
     cost: i128,
     report: &Report,
-    benches: Vec<Bench<Slopes>>,
+    benches: Vec<Bench>,
 ) -> Result<Audit, AllocError>
     requires feasible { IsFeasiblePlan (market_of case.now) (schedules_of plan.now) }
     requires cost { cost ≡ plan_cost (market_of case.now) (schedules_of plan.now) }
@@ -103,10 +107,12 @@ fn rows_right<R: Threads + Wait + Sync>(
         DiffersFromRight (market_of case.now) (schedules_of plan.now)
         (report_of report.now) line)) }
 {
-    let mut jobs = jobs_for(alloc, case, benches)?;
+    let last = LastAnswers::make(alloc, case.thermal.len() as u32, case.periods)?;
+    let last = Arc::new(alloc, last)?;
+    let mut jobs = jobs_for(alloc, case, benches, &last)?;
     let most = enough_rows(report);
     let rows = right_rows(rt, alloc, case, cost, most, report.ahead, &mut jobs)?;
-    let mut desk = Desk::make(alloc, case, last_bench(jobs))?;
+    let mut desk = Desk::make(alloc, case, last_bench(jobs), last)?;
     let audit = judged(case, plan, cost, rows.as_slice(), report, &mut desk);
     Ok(audit)
 }
@@ -132,7 +138,7 @@ pub fn check_report<R: Threads + Wait + Sync>(
     plan: &Plan,
     cost: i128,
     report: &Report,
-    benches: Vec<Bench<Slopes>>,
+    benches: Vec<Bench>,
 ) -> Result<Audit, AllocError>
     requires feasible { IsFeasiblePlan (market_of case.now) (schedules_of plan.now) }
     requires cost { cost ≡ plan_cost (market_of case.now) (schedules_of plan.now) }

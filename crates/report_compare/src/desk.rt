@@ -1,18 +1,20 @@
 //! The memory of a comparison.
 
 use plain_lists::lists::Numbers;
-use slope_list::Slopes;
 use std::alloc::{AllocError, Global};
+use std::sync::Arc;
 use uc_model::cases::Case;
 use uc_model::units::Answered;
-use unit_program::Bench;
+use unit_program::{Bench, LastAnswers};
 use uplift_settle::Settlement;
 
-/// What a comparison writes to: a bench on which units are answered, their answers one after
-/// another, and the money of all units at the chosen prices.
+/// What a comparison writes to: a bench on which units are answered, begun with their last answers,
+/// their answers one after another, and the money of all units at the chosen prices.
 pub struct Desk {
     /// Where thermal units are answered.
-    pub bench: Bench<Slopes>,
+    pub bench: Bench,
+    /// What they answered last.
+    pub last: Arc<LastAnswers, Global>,
     /// The answer of one unit.
     pub answer: Answered,
     /// What each unit earns at best, in money.
@@ -26,6 +28,7 @@ impl Drop for Desk {
     fn drop(self) {
         let Desk {
             bench: _,
+            last: _,
             answer: _,
             earned: _,
             settlement: _,
@@ -40,7 +43,12 @@ impl Desk {
     ghost use Rattle.report_compare.specs.Desks.{IsDeskFor};
 
     /// A desk for the case, with a bench that suffices for each of its thermal units.
-    pub fn make(alloc: Global, case: &Case, bench: Bench<Slopes>) -> Result<Desk, AllocError>
+    pub fn make(
+        alloc: Global,
+        case: &Case,
+        bench: Bench,
+        last: Arc<LastAnswers, Global>,
+    ) -> Result<Desk, AllocError>
         requires { IsBenchOver (market_of case.now) bench }
         ensures { IfOk result (λ desk. IsDeskFor (market_of case.now) desk) }
     {
@@ -50,6 +58,7 @@ impl Desk {
         let settlement = Settlement::make(alloc, units)?;
         Ok(Desk {
             bench,
+            last,
             answer,
             earned,
             settlement,

@@ -76,6 +76,7 @@ fn report_same(
     let line = units_same(
         line,
         &mut desk.bench,
+        &desk.last,
         case,
         &row.prices,
         desk.earned.as_slice(),
@@ -120,6 +121,7 @@ pub fn first_difference(
     let row = &rows[chosen];
     earn_all(
         &mut desk.bench,
+        &desk.last,
         case,
         &row.prices,
         &mut desk.answer,

@@ -21,12 +21,11 @@ use case_answers::answer_at;
 use case_answers::laws::units_can_answer;
 use report_form::report::Owed;
 use report_read::UnitLine;
-use slope_list::Slopes;
 use uc_model::cases::Case;
 use uc_model::kinds::Kind;
 use uc_model::laws::one_schedule_is_least;
 use uc_model::units::{Answered, Prices, Response};
-use unit_program::Bench;
+use unit_program::{Bench, LastAnswers};
 use uplift_settle::Settlement;
 
 // Whether the money is what a unit earns and is owed.
@@ -109,7 +108,8 @@ fn owed_at(earned: &[i64], settlement: &Settlement, number: usize) -> Owed
 /// suffices for each thermal unit, and prices and `answer` are over the periods of the case.
 pub fn units_same(
     first: u32,
-    bench: &mut Bench<Slopes>,
+    bench: &mut Bench,
+    last: &LastAnswers,
     case: &Case,
     prices: &Prices,
     earned: &[i64],
@@ -137,7 +137,7 @@ pub fn units_same(
     units_can_answer();
     let mut line = first;
     for number in 0..lines.len() {
-        answer_at(bench, case, prices, number, answer);
+        answer_at(bench, last, case, prices, number, answer);
         let owed = owed_at(earned, settlement, number);
         let title = title_at(case, number);
         line = unit_same(line, &lines[number], &title, &owed, &answer.response)?;

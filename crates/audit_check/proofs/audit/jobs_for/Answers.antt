@@ -1,5 +1,4 @@
 use Rattle.audit_check.proofs.Common.{◌≡◌, List, [], ◌∷◌, ◌++◌, length, length-append, sym, ap, ◌∙◌, subst, arith, Some, All-push, All-pop, market_of, Answerer, IsBenchOver, AreFor}
-use Rattle.slope_list.specs.declared.slopes.Slopes.{Slopes}
 use Rattle.unit_program.specs.declared.bench.Bench.{Bench}
 use Rattle.audit_check.proofs.audit.jobs_for.Goals as goal
 
@@ -14,7 +13,7 @@ loop-bench-preserved c =
     let known = c.loop-bench.invariant in
     let pushed : c.push.new.self.items ≡ c.loop-bench.jobs.items ++ job ∷ [] = c.in_ok-push.ensures.items in
     let longer = ap (length {A = Answerer}) pushed ∙ length-append c.loop-bench.jobs.items (job ∷ []) in
-    let shorter = ap (length {A = Bench Slopes}) c.in-Some.ensures.items ∙ length-append c.pop.new.self.items (c.in-Some.bench ∷ []) in
+    let shorter = ap (length {A = Bench}) c.in-Some.ensures.items ∙ length-append c.pop.new.self.items (c.in-Some.bench ∷ []) in
     let was = known.count in
     record {
       count = omega (arith, longer, shorter, was);

@@ -19,8 +19,8 @@ pub right_rows-requires-clause-ahead : goal.right_rows-requires-clause-ahead
 unfolding report_of
 right_rows-requires-clause-ahead g c = λ κs out. (c.requires.bounds.ahead_at_least, c.requires.bounds.ahead_at_most)
 
-pub make-requires : goal.make-requires
-make-requires g c = c.last_bench.ensures (market_of c.args.case.now) c.right_rows.ensures.jobs
+pub make-requires-2 : goal.make-requires-2
+make-requires-2 g c = c.last_bench.ensures (market_of c.args.case.now) c.right_rows.ensures.jobs
 
 pub judged-audit-requires-clause-run : goal.judged-audit-requires-clause-run
 unfolding report_of
