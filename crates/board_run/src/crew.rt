@@ -11,15 +11,14 @@ ghost use Rattle.uc_model.specs.declared.limits.TheConstants.{MOST_PERIODS, MOST
 ghost use Rattle.answer_workers.specs.Answers.{IsBenchOf};
 ghost use Rattle.board_run.specs.Crews.{named_by, IsCrew, AreOut};
 
-use answer_workers::{Gate, LastAnswers, Worker, answer_all};
+use answer_workers::{Gate, Worker, answer_all};
 use board_core::Closed;
 use board_history::laws::finished_stays_finished;
 use board_share::{Seat, SharedBoard};
-use slope_list::Slopes;
 use std::alloc::{AllocError, Global};
 use std::sync::{Arc, Wait};
 use std::thread::Threads;
-use unit_program::Bench;
+use unit_program::{Bench, LastAnswers};
 
 /// Splits a new board's seats, and gives each a worker for so many thermal units, periods and cost
 /// points.
@@ -44,7 +43,8 @@ pub fn hire(
         (view_of owner).setup.market.thermal }
     ensures crew { IfOk result (λ ws. IsCrew (view_of owner).setup board.now ws.items) }
 {
-    let last = LastAnswers::shared(alloc, units, periods)?;
+    let last = LastAnswers::make(alloc, units, periods)?;
+    let last = Arc::new(alloc, last)?;
     let mut workers = Vec::with_capacity(alloc, count as usize)?;
     for _ in 1..count {
         let Some(seat) = board.split(&mut owner) else {
@@ -92,7 +92,7 @@ pub fn answer_board<R: Threads + Wait + Sync, G: Gate>(
     board: SharedBoard,
     mut workers: Vec<Worker>,
     gate: &G,
-) -> (Closed, Bench<Slopes>)
+) -> (Closed, Bench)
     requires { IsCrew (named_by workers.items) board workers.items }
     ensures setup { result.0.setup ≡ named_by workers.items }
     ensures finished { has_finished result.0 ≡ true }

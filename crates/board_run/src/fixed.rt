@@ -53,7 +53,7 @@ fn fixed_side<R: Threads + Wait + Sync, G: Gate>(
 {
     let (room, earned) = side_room(alloc, given)?;
     let opened = open_run(alloc, held)?;
-    Ok(settled_side(given, run_board(rt, opened, gate), room, earned))
+    Ok(settled_side(alloc, given, run_board(rt, opened, gate), room, earned))
 }
 
 /// Both runs on these terms to their ends: of the case, and of the case with the commitments of its

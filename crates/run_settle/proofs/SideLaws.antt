@@ -1,7 +1,5 @@
 -- The sides of `hull fixed`.
 use Rattle.run_settle.proofs.Common.{◌≡◌, List, length, sym, ap, ◌∙◌, subst, same_Some, All, IsSetup, Content, Market, PriceLists, Schedule, unit_count, IsMarket, prices_of, Proposal, IsFeasiblePlan, IsSettled, Settlement, IsBenchOver, SettlementsAreOfAllUnits, IsEnded}
-use Rattle.slope_list.specs.Slopes.{room_of}
-use Rattle.slope_list.specs.declared.slopes.Slopes.{Slopes}
 use Rattle.uc_model.specs.declared.units.Point.{Point}
 use Rattle.unit_program.specs.Benches.{IsBenchFor}
 use Rattle.unit_program.specs.declared.bench.Bench.{Bench}
@@ -14,9 +12,9 @@ use Rattle.run_settle.specs.declared.done.Done.{Done}
 -- ---- the bench of a run
 
 -- a bench for the case that a run was of suffices for the case whose commitments it holds
-pub bench_over_given : CommitmentsAreFixed → (given held : Market) (plan : List Schedule) (b : Bench Slopes) → IsMarket given → IsFeasiblePlan given plan → held ≡ fixed_market given plan → IsBenchOver held b → IsBenchOver given b
+pub bench_over_given : CommitmentsAreFixed → (given held : Market) (plan : List Schedule) (b : Bench) → IsMarket given → IsFeasiblePlan given plan → held ≡ fixed_market given plan → IsBenchOver held b → IsBenchOver given b
 bench_over_given law given held plan b limits feasible same h =
-    subst (λ (pss : List (List Point)). All (λ (ps : List Point). IsBenchFor room_of given.periods (length ps) b) pss) (law given plan limits feasible).points
+    subst (λ (pss : List (List Point)). All (λ (ps : List Point). IsBenchFor given.periods (length ps) b) pss) (law given plan limits feasible).points
     (subst (λ (m : Market). IsBenchOver m b) same h)
 
 -- ---- the side of a run

@@ -1,7 +1,6 @@
 //! What a run leaves when it has ended.
 
 use board_core::Closed;
-use slope_list::Slopes;
 use uc_model::units::Answered;
 use unit_program::Bench;
 use uplift_settle::Settlement;
@@ -16,5 +15,5 @@ pub struct Done {
     /// Room for an answer over the horizon of the case.
     pub buffer: Answered,
     /// Room for the work on an answer of any of its units.
-    pub bench: Bench<Slopes>,
+    pub bench: Bench,
 }

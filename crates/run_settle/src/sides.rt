@@ -22,6 +22,7 @@ use std::alloc::{AllocError, Global};
 use std::mem;
 use uc_model::cases::Case;
 use uc_model::units::Prices;
+use unit_program::LastAnswers;
 use uplift_settle::settle;
 
 /// A case with what its schedule costs, and a side for each run. Both sides settle the case as
@@ -73,7 +74,7 @@ pub fn side_room(alloc: Global, given: &Case) -> Result<(Prices, Numbers), Alloc
 
 /// The side of a run with commitments held that has ended: its chosen prices are copied into the
 /// room, and the schedule is settled at them for the case as given. Takes no memory.
-pub fn settled_side(given: &Case, done: Done, room: Prices, earned: Numbers) -> Side
+pub fn settled_side(alloc: Global, given: &Case, done: Done, room: Prices, earned: Numbers) -> Side
     requires ended { IsEnded done.closed.setup done }
     requires feasible { IsFeasiblePlan (market_of given.now) done.closed.setup.plan }
     requires held { done.closed.setup.market
@@ -93,7 +94,9 @@ pub fn settled_side(given: &Case, done: Done, room: Prices, earned: Numbers) -> 
     settlements_are_of_all_units();
     commitments_are_fixed();
     let mut side = chosen_side(&closed, room, settlement);
-    earn_all(&mut bench, given, &side.prices, &mut buffer, &mut earned);
+    let last = LastAnswers::none(alloc);
+    let prices = &side.prices;
+    earn_all(&mut bench, &last, given, prices, &mut buffer, &mut earned);
     settle(
         given,
         closed.plan(),
