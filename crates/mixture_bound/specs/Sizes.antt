@@ -1,13 +1,9 @@
 -- Sizes of the sums (this project's profile): all are within 10^35.
-use Rattle.std.specs.Prelude.{◌<◌, ℕ, ℤ, pos, neg_ℤ, ◌≤ℤ◌, List, length, map}
+use Rattle.std.specs.Prelude.{◌<◌, ℕ, ℤ, pos, ◌≤ℤ◌, List, length, map}
 use Rattle.std.specs.List.{All}
-use Rattle.plain_lists.specs.Ranges.{IsFrom}
 use Rattle.plain_lists.specs.Sums.{total}
+use Rattle.gap_proof.specs.Sums.{IsUpTo}
 use Rattle.mixture_bound.specs.Mixtures.{WeighedSchedule, most_whole}
-
--- x is at most n in magnitude
-abbrev pub IsUpTo : ℕ → ℤ → Type 0
-IsUpTo n x = IsFrom (neg_ℤ (pos n)) (pos n) x
 
 -- weights of one unit: none is below 0, and their sum isn't above the greatest whole
 pub record AreWeights (entries : List WeighedSchedule) : Type 0 where

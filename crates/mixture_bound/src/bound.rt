@@ -11,7 +11,8 @@ ghost use Rattle.mixture_bound.specs.Mixtures.{mixture_of, IsMixture, HasMixture
 ghost use Rattle.mixture_bound.specs.MixtureBound.{most_energy as most_energy_of};
 ghost use Rattle.mixture_bound.specs.MixtureBound.{most_reserve as most_reserve_of};
 ghost use Rattle.mixture_bound.specs.MixtureBound.{mixture_bound};
-ghost use Rattle.mixture_bound.specs.Sizes.{IsUpTo, IsBound};
+ghost use Rattle.gap_proof.specs.Sums.{IsUpTo};
+ghost use Rattle.mixture_bound.specs.Sizes.{IsBound};
 
 use crate::mixtures::Mixture;
 use crate::sums::{cost_of_mixture, lacks_at};

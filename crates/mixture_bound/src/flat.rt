@@ -9,7 +9,9 @@ ghost use Rattle.uc_model.specs.PlainUnits.{renewable_of};
 ghost use Rattle.uc_model.specs.Schedules.{blocks_at};
 ghost use Rattle.plain_lists.specs.Sums.{total};
 ghost use Rattle.mixture_bound.specs.MixtureBound.{best_sold, best_bought, flat as flat_of};
-ghost use Rattle.mixture_bound.specs.Sizes.{IsUpTo, IsFlat};
+ghost use Rattle.flat_answer.specs.Choices.{most_earned};
+ghost use Rattle.gap_proof.specs.Sums.{IsUpTo};
+ghost use Rattle.mixture_bound.specs.Sizes.{IsFlat};
 
 use uc_model::cases::Case;
 use uc_model::units::{Block, Renewable};
@@ -47,7 +49,7 @@ fn gain(block: &Block, price: i64) -> i64
     requires price { IsFrom (neg_ℤ price_limit) price_limit price }
     ensures value { result
         ≡ block.now.width *ℤ int_max (pos 0) (block.now.price -ℤ price) }
-    ensures limit { IsFrom (pos 0) (pos 20000000000000000) result }
+    ensures limit { IsFrom (pos 0) most_earned result }
 {
     block.width * (block.price - price).max(0)
 }
@@ -57,7 +59,7 @@ fn bought(blocks: &[Block], price: i64) -> i64
     requires blocks { IsBlockList blocks.now }
     requires price { IsFrom (neg_ℤ price_limit) price_limit price }
     ensures value { result ≡ best_bought blocks.now price }
-    ensures limit { IsFrom (pos 0) (pos 20000000000000000) result }
+    ensures limit { IsFrom (pos 0) most_earned result }
 {
     let mut sum = 0;
     for block in blocks {
