@@ -6,6 +6,8 @@ pub mod Steps
 pub mod Loops
 -- rows.rt, units.rt: what a loop over proposals, or over units, has read so far
 pub mod LineLoops
+-- lines.rt: a line that is found or isn't
+pub mod FoundLines
 -- numbers.rt: narrower limits, and numbers with a sign
 pub mod Narrow
 -- rows.rt, units.rt, read.rt: words and lists are read from their text alone

@@ -11,7 +11,7 @@ ghost use Rattle.report_read.specs.Lines.{total_at, power_at};
 
 use crate::items::{flags_at, powers_at, prices_at, totals_at};
 use crate::numbers::{amount_at, count_at};
-use crate::stop::Stop;
+use crate::stop::{Stop, line_or_fault};
 use crate::words::behind;
 use plain_lists::lists::{Amounts, Flags, Numbers};
 use std::alloc::Global;
@@ -26,13 +26,11 @@ fn word_in<'a>(word: &[u8], bytes: &'a [u8]) -> Option<&'a [u8]>
 }
 
 /// The bytes behind a line that is a word.
+#[tactic(auto, using(crate::proofs::FoundLines::line_told))]
 pub fn word_line<'a>(word: &[u8], bytes: &'a [u8]) -> Result<&'a [u8], Stop>
     ensures { Gives (λ rest. (tt, rest.now)) result (line (plain_form word.now) bytes.now) }
 {
-    match word_in(word, bytes) {
-        Some(rest) => Ok(rest),
-        None => Err(Stop::Fault { left: bytes.len() }),
-    }
+    line_or_fault(word_in(word, bytes), bytes)
 }
 
 #[tactic(auto, unfolding(crate::specs::LineForms::ended, crate::specs::LineForms::after))]
@@ -47,6 +45,7 @@ fn count_in<'a>(word: &[u8], least: u32, most: u32, bytes: &'a [u8]) -> Option<(
 }
 
 /// A word and a number from `least` to `most`.
+#[tactic(auto, using(crate::proofs::FoundLines::line_told))]
 pub fn count_line<'a>(
     word: &[u8],
     least: u32,
@@ -55,10 +54,7 @@ pub fn count_line<'a>(
 ) -> Result<(u32, &'a [u8]), Stop>
     ensures { Gives (λ x. (x.0, x.1.now)) result (count_spec word.now least most bytes.now) }
 {
-    match count_in(word, least, most, bytes) {
-        Some(found) => Ok(found),
-        None => Err(Stop::Fault { left: bytes.len() }),
-    }
+    line_or_fault(count_in(word, least, most, bytes), bytes)
 }
 
 #[tactic(auto, unfolding(crate::specs::LineForms::ended, crate::specs::LineForms::after))]
@@ -72,13 +68,11 @@ fn amount_in<'a>(word: &[u8], bytes: &'a [u8]) -> Option<(i128, &'a [u8])>
 }
 
 /// A word and an amount of money.
+#[tactic(auto, using(crate::proofs::FoundLines::line_told))]
 pub fn amount_line<'a>(word: &[u8], bytes: &'a [u8]) -> Result<(i128, &'a [u8]), Stop>
     ensures { Gives (λ x. (x.0, x.1.now)) result (amount_spec word.now bytes.now) }
 {
-    match amount_in(word, bytes) {
-        Some(found) => Ok(found),
-        None => Err(Stop::Fault { left: bytes.len() }),
-    }
+    line_or_fault(amount_in(word, bytes), bytes)
 }
 
 /// The number of a proposal, and its value in money.
@@ -114,6 +108,7 @@ fn value_in<'a>(word: &[u8], least: u32, most: u32, bytes: &'a [u8]) -> Option<(
 }
 
 /// A word, the number of a proposal from `least` to `most`, and its value in money.
+#[tactic(auto, using(crate::proofs::FoundLines::line_told))]
 pub fn value_line<'a>(
     word: &[u8],
     least: u32,
@@ -123,10 +118,7 @@ pub fn value_line<'a>(
     ensures { Gives (λ x. ((x.0.number, x.0.value), x.1.now)) result
         (line (value_form word.now least most) bytes.now) }
 {
-    match value_in(word, least, most, bytes) {
-        Some(found) => Ok(found),
-        None => Err(Stop::Fault { left: bytes.len() }),
-    }
+    line_or_fault(value_in(word, least, most, bytes), bytes)
 }
 
 #[tactic(auto, unfolding(crate::specs::LineForms::ended, crate::specs::LineForms::after))]
@@ -150,6 +142,7 @@ fn prices_in<'a>(
 }
 
 /// A word and the prices of all periods, from `least` to `most`.
+#[tactic(auto, using(crate::proofs::FoundLines::line_told))]
 pub fn prices_line<'a>(
     alloc: Global,
     word: &[u8],
@@ -162,10 +155,7 @@ pub fn prices_line<'a>(
         (list_line word.now (price_at least most) periods bytes.now) }
 {
     let list = Numbers::make(alloc, periods)?;
-    match prices_in(list, word, periods, least, most, bytes) {
-        Some(found) => Ok(found),
-        None => Err(Stop::Fault { left: bytes.len() }),
-    }
+    line_or_fault(prices_in(list, word, periods, least, most, bytes), bytes)
 }
 
 #[tactic(auto, unfolding(crate::specs::LineForms::ended, crate::specs::LineForms::after))]
@@ -187,6 +177,7 @@ fn totals_in<'a>(
 }
 
 /// A word and the totals of all periods.
+#[tactic(auto, using(crate::proofs::FoundLines::line_told))]
 pub fn totals_line<'a>(
     alloc: Global,
     word: &[u8],
@@ -197,10 +188,7 @@ pub fn totals_line<'a>(
         (list_line word.now total_at periods bytes.now) }
 {
     let list = Amounts::make(alloc, periods)?;
-    match totals_in(list, word, periods, bytes) {
-        Some(found) => Ok(found),
-        None => Err(Stop::Fault { left: bytes.len() }),
-    }
+    line_or_fault(totals_in(list, word, periods, bytes), bytes)
 }
 
 #[tactic(auto, unfolding(crate::specs::LineForms::ended, crate::specs::LineForms::after))]
@@ -222,6 +210,7 @@ fn powers_in<'a>(
 }
 
 /// A word and the powers or reserves of all periods.
+#[tactic(auto, using(crate::proofs::FoundLines::line_told))]
 pub fn powers_line<'a>(
     alloc: Global,
     word: &[u8],
@@ -232,10 +221,7 @@ pub fn powers_line<'a>(
         (list_line word.now power_at periods bytes.now) }
 {
     let list = Powers::make(alloc, periods)?;
-    match powers_in(list, word, periods, bytes) {
-        Some(found) => Ok(found),
-        None => Err(Stop::Fault { left: bytes.len() }),
-    }
+    line_or_fault(powers_in(list, word, periods, bytes), bytes)
 }
 
 #[tactic(auto, unfolding(crate::specs::LineForms::ended, crate::specs::LineForms::after))]
@@ -257,6 +243,7 @@ fn flags_in<'a>(
 }
 
 /// A word and the on flags of all periods.
+#[tactic(auto, using(crate::proofs::FoundLines::line_told))]
 pub fn flags_line<'a>(
     alloc: Global,
     word: &[u8],
@@ -267,8 +254,5 @@ pub fn flags_line<'a>(
         (list_line word.now (spaced flag_at) periods bytes.now) }
 {
     let list = Flags::make(alloc, periods)?;
-    match flags_in(list, word, periods, bytes) {
-        Some(found) => Ok(found),
-        None => Err(Stop::Fault { left: bytes.len() }),
-    }
+    line_or_fault(flags_in(list, word, periods, bytes), bytes)
 }

@@ -13,7 +13,7 @@ use crate::lines::{flags_line, powers_line};
 use crate::names::name_at;
 use crate::numbers::number_at;
 use crate::report::{UnitLine, UnitLines};
-use crate::stop::Stop;
+use crate::stop::{Stop, line_or_fault};
 use crate::words::behind;
 use plain_lists::lists::{Flags, Name};
 use report_form::report::Owed;
@@ -116,14 +116,12 @@ fn title_in(alloc: Global, least: u32, bytes: &[u8]) -> Result<Option<(Title, &[
     Ok(Some((Title { kind, name, owed }, rest)))
 }
 
+#[tactic(auto, using(crate::proofs::FoundLines::line_told))]
 fn title_line(alloc: Global, least: u32, bytes: &[u8]) -> Result<(Title, &[u8]), Stop>
     ensures { Gives (λ x. (titled x.0, x.1.now)) result
         (line (title_spec least) bytes.now) }
 {
-    match title_in(alloc, least, bytes)? {
-        Some(found) => Ok(found),
-        None => Err(Stop::Fault { left: bytes.len() }),
-    }
+    line_or_fault(title_in(alloc, least, bytes)?, bytes)
 }
 
 #[tactic(auto, unfolding(crate::specs::Lines::thermal_at))]
