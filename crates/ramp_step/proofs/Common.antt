@@ -3,6 +3,7 @@ pub use Rattle.std.proofs.Common.{◌≡◌, ℕ, zero, suc, ◌+◌, ◌-◌, �
 pub use Rattle.std.proofs.Math.IntN.{*ℤ-zero, *ℤ_comm, zero-*ℤ, *ℤ-one}
 unfoldable pub use Rattle.std.proofs.Math.IntN.{one}
 pub use Rattle.std.proofs.lemmas.Bool.{cases_lt}
+pub use Rattle.std.proofs.lemmas.List.FromFn.{length-map-range_with_len, get_or-map-range_with_len}
 pub use Rattle.std.proofs.lemmas.Int.{ints, by_lt_z, clamps, quot-rem, rem_below, to_z-of_z, quot_is, quot_fits}
 pub use Rattle.std.specs.Int.{w64, int_min, int_max}
 pub use Rattle.std.specs.Option.{option_map}
@@ -15,12 +16,13 @@ pub use Rattle.ramp_step.specs.Raise.{line_from, CanRaise, AreRaisedUpto, AreRai
 pub use Rattle.ramp_step.specs.Read.{IsLowest, HasNoPower, IsInsideWithin, IsValueAt}
 pub use Rattle.ramp_step.specs.Spaced.{spaced, AreMovedBack, IsMovedOn}
 pub use Rattle.ramp_step.specs.Tables.{table_of, AreWithinLimits, AreBreaks}
-pub use Rattle.ramp_step.specs.Values.{line_at, value_upto, values_of, values_from}
-pub use Rattle.ramp_step.specs.Window.{nearest, IsLeastInReach, IsTurn, IsWindow, AreSpread, AreWindow}
+pub use Rattle.ramp_step.specs.Values.{line_at, value_upto, values_of}
+pub use Rattle.ramp_step.specs.Window.{IsLeastInReach, IsTurn, IsWindow, AreSpread, AreWindow}
 pub use Rattle.ramp_step.specs.declared.breakpoint.Knot.{Knot}
 pub use Rattle.shape_law.specs.Curve.{rise_at, curve_value, end_of, reserve_term, IsLimitedCurve}
 pub use Rattle.shape_law.specs.Effect.{CanAddCurve, IsSame, IsPoint, IsSum, IsCurveSum, IsLeast, IsLeastIn}
 pub use Rattle.shape_law.specs.Table.{IsAmount, IsWithinLimits, value_of, Table, IsConvexList, IsEmpty, HasNone, IsPlace}
 pub use Rattle.plain_lists.proofs.IntLaws.{mul-add, mul-mono_of, mul-sub}
+pub use Rattle.plain_lists.specs.Sums.{clamped}
 pub use Rattle.uc_model.specs.declared.units.Block.{Block}
 pub use Rattle.uc_model.specs.declared.units.Curve.{Curve}

@@ -1,5 +1,5 @@
 -- Where a convex function is least.
-use Rattle.ramp_step.proofs.Common.{◌≡◌, ℕ, ◌-◌, List, sym, ap, subst, arith, ℤ, pos, ◌+ℤ◌, ◌-ℤ◌, ◌≤ℤ◌, ◌<ℤ◌, int_min, int_max, ints, clamps, by_lt_z, Knot, knot, power, IsConvex, StandFor, IsInside, nearest, IsLeastInReach, IsTurn, IsLowest, HasNoPower, IsInsideWithin, MovesParts}
+use Rattle.ramp_step.proofs.Common.{◌≡◌, ℕ, ◌-◌, List, sym, ap, subst, arith, ℤ, pos, ◌+ℤ◌, ◌-ℤ◌, ◌≤ℤ◌, ◌<ℤ◌, int_min, int_max, ints, clamps, by_lt_z, Knot, knot, power, IsConvex, StandFor, IsInside, clamped, IsLeastInReach, IsTurn, IsLowest, HasNoPower, IsInsideWithin, MovesParts}
 use Rattle.ramp_step.proofs.WindowLaws.{slopes, falls_to, rises_to, window_law}
 use Rattle.ramp_step.proofs.SpreadLaws.{turn_falls_strictly, turn_falls, turn_rises, turn_from_first, turn_to_last}
 
@@ -81,7 +81,7 @@ module _ (f : ℤ → ℤ) (a b m : ℤ) (convex : IsConvex a b f) (first : a �
       let l = least (m +ℤ pos 1) (omega (arith, ints)) (omega (arith, ints)) in
       omega (arith, ints)
 
-  at : (up down x y : ℤ) → pos 0 ≤ℤ up → pos 0 ≤ℤ down → nearest up down m x ≡ y → a ≤ℤ (x +ℤ down) → (x -ℤ up) ≤ℤ b → IsLeastInReach f a b up down x (f y)
+  at : (up down x y : ℤ) → pos 0 ≤ℤ up → pos 0 ≤ℤ down → clamped (x -ℤ up) (x +ℤ down) m ≡ y → a ≤ℤ (x +ℤ down) → (x -ℤ up) ≤ℤ b → IsLeastInReach f a b up down x (f y)
   at up down x y is_up is_down e low high =
       let P : ℤ → Type 0 = λ z. IsLeastInReach f a b up down x (f z) in
       subst P e (window_law f a b m falls_before rises_from up down x first last is_up is_down low high)
@@ -89,10 +89,10 @@ module _ (f : ℤ → ℤ) (a b m : ℤ) (convex : IsConvex a b f) (first : a �
   pub MovesParts-convex : (up down : ℤ) → pos 0 ≤ℤ up → pos 0 ≤ℤ down → MovesParts f a b m up down
   MovesParts-convex up down is_up is_down = record {
     falling = λ x low high.
-        let e : nearest up down m x ≡ x +ℤ down = omega (arith, ints, clamps) in
+        let e : clamped (x -ℤ up) (x +ℤ down) m ≡ x +ℤ down = omega (arith, ints, clamps) in
         at up down x (x +ℤ down) is_up is_down e (omega (arith, ints)) (omega (arith, ints));
-    flat = λ x low high. let e : nearest up down m x ≡ m = omega (arith, ints, clamps) in at up down x m is_up is_down e (omega (arith, ints)) (omega (arith, ints));
+    flat = λ x low high. let e : clamped (x -ℤ up) (x +ℤ down) m ≡ m = omega (arith, ints, clamps) in at up down x m is_up is_down e (omega (arith, ints)) (omega (arith, ints));
     rising = λ x low high.
-        let e : nearest up down m x ≡ x -ℤ up = omega (arith, ints, clamps) in
+        let e : clamped (x -ℤ up) (x +ℤ down) m ≡ x -ℤ up = omega (arith, ints, clamps) in
         at up down x (x -ℤ up) is_up is_down e (omega (arith, ints)) (omega (arith, ints));
   }

@@ -1,5 +1,5 @@
 -- Knots whose falling part is moved by -down, and whose rising part by up, stand for the window.
-use Rattle.ramp_step.proofs.Common.{◌≡◌, ℕ, zero, suc, ◌+◌, ◌-◌, ◌<◌, List, refl, sym, ap, ◌∙◌, subst, arith, inl, inr, ℤ, pos, ◌+ℤ◌, ◌-ℤ◌, ◌≤ℤ◌, ◌<ℤ◌, ints, clamps, by_lt_z, cases_lt, Knot, power, height, IsStraight, IsConvex, StandFor, IsPlace, IsAmount, nearest, IsLeastInReach, IsTurn, AreSpread, AreWindow, IsWindow, IsLimited, IsCut}
+use Rattle.ramp_step.proofs.Common.{◌≡◌, ℕ, zero, suc, ◌+◌, ◌-◌, ◌<◌, List, refl, sym, ap, ◌∙◌, subst, arith, inl, inr, ℤ, pos, ◌+ℤ◌, ◌-ℤ◌, ◌≤ℤ◌, ◌<ℤ◌, ints, clamps, by_lt_z, cases_lt, Knot, power, height, IsStraight, IsConvex, StandFor, IsPlace, IsAmount, clamped, IsLeastInReach, IsTurn, AreSpread, AreWindow, IsWindow, IsLimited, IsCut}
 use Rattle.ramp_step.proofs.KnotLaws.{rises}
 use Rattle.ramp_step.proofs.WindowLaws.{slopes, straight_slope, strict_slope, rising_slope, falls_to, rises_to, window_law}
 
@@ -61,7 +61,7 @@ module _ (ks : List Knot) (n j : ℕ) (f : ℤ → ℤ) (s : StandFor ks n f) (t
 
 module _ (ks : List Knot) (n j : ℕ) (f : ℤ → ℤ) (up down : ℤ) (s : StandFor ks n f) (t : IsTurn ks n j) (is_up : pos 0 ≤ℤ up) (is_down : pos 0 ≤ℤ down) where
   pub window_of_knots : (x : ℤ) → (power ks 0 -ℤ down) ≤ℤ x → x ≤ℤ (power ks (n - 1) +ℤ up)
-      → IsLeastInReach f (power ks 0) (power ks (n - 1)) up down x (f (nearest up down (power ks j) x))
+      → IsLeastInReach f (power ks 0) (power ks (n - 1)) up down x (f (clamped (x -ℤ up) (x +ℤ down) (power ks j)))
   window_of_knots x low high =
       window_law f (power ks 0) (power ks (n - 1)) (power ks j) (turn_falls ks n j f s t) (turn_rises ks n j f s t)
       up down x (turn_from_first ks n j f s t) (turn_to_last ks n j f s t) is_up is_down (omega (arith, ints)) (omega (arith, ints))
@@ -72,17 +72,17 @@ module _ (ks : List Knot) (n j : ℕ) (f : ℤ → ℤ) (up down : ℤ) (s : Sta
       (λ after. rises_to f (power ks 0) (power ks (n - 1)) (power ks j) (turn_falls ks n j f s t) (turn_rises ks n j f s t) (power ks j) y (omega (arith, ints)) after high)
 
   -- where the nearest power is
-  near_left : (x y : ℤ) → (x +ℤ down) ≤ℤ power ks j → y ≡ x +ℤ down → f (nearest up down (power ks j) x) ≡ f y
-  near_left x y h is = let e : nearest up down (power ks j) x ≡ y = omega (arith, ints, clamps) in ap f e
+  near_left : (x y : ℤ) → (x +ℤ down) ≤ℤ power ks j → y ≡ x +ℤ down → f (clamped (x -ℤ up) (x +ℤ down) (power ks j)) ≡ f y
+  near_left x y h is = let e : clamped (x -ℤ up) (x +ℤ down) (power ks j) ≡ y = omega (arith, ints, clamps) in ap f e
 
-  near_right : (x y : ℤ) → power ks j ≤ℤ (x -ℤ up) → y ≡ x -ℤ up → f (nearest up down (power ks j) x) ≡ f y
-  near_right x y h is = let e : nearest up down (power ks j) x ≡ y = omega (arith, ints, clamps) in ap f e
+  near_right : (x y : ℤ) → power ks j ≤ℤ (x -ℤ up) → y ≡ x -ℤ up → f (clamped (x -ℤ up) (x +ℤ down) (power ks j)) ≡ f y
+  near_right x y h is = let e : clamped (x -ℤ up) (x +ℤ down) (power ks j) ≡ y = omega (arith, ints, clamps) in ap f e
 
-  near_flat : (x : ℤ) → power ks j ≤ℤ (x +ℤ down) → (x -ℤ up) ≤ℤ power ks j → f (nearest up down (power ks j) x) ≡ f (power ks j)
-  near_flat x h i = let e : nearest up down (power ks j) x ≡ power ks j = omega (arith, ints, clamps) in ap f e
+  near_flat : (x : ℤ) → power ks j ≤ℤ (x +ℤ down) → (x -ℤ up) ≤ℤ power ks j → f (clamped (x -ℤ up) (x +ℤ down) (power ks j)) ≡ f (power ks j)
+  near_flat x h i = let e : clamped (x -ℤ up) (x +ℤ down) (power ks j) ≡ power ks j = omega (arith, ints, clamps) in ap f e
 
   -- the window is convex
-  window_convex : IsConvex (power ks 0 -ℤ down) (power ks (n - 1) +ℤ up) (λ x. f (nearest up down (power ks j) x))
+  window_convex : IsConvex (power ks 0 -ℤ down) (power ks (n - 1) +ℤ up) (λ x. f (clamped (x -ℤ up) (x +ℤ down) (power ks j)))
   window_convex x low high =
       let a = turn_from_first ks n j f s t in
       let b = turn_to_last ks n j f s t in
@@ -102,8 +102,8 @@ module _ (ks : List Knot) (n j : ℕ) (f : ℤ → ℤ) (up down : ℤ) (s : Sta
       omega (arith, ints))
       (λ flat.
       let e = near_flat x past flat in
-      let l0 = least_at (nearest up down (power ks j) (x -ℤ pos 1)) (omega (arith, ints, clamps)) (omega (arith, ints, clamps)) in
-      let l1 = least_at (nearest up down (power ks j) (x +ℤ pos 1)) (omega (arith, ints, clamps)) (omega (arith, ints, clamps)) in
+      let l0 = least_at (clamped ((x -ℤ pos 1) -ℤ up) ((x -ℤ pos 1) +ℤ down) (power ks j)) (omega (arith, ints, clamps)) (omega (arith, ints, clamps)) in
+      let l1 = least_at (clamped ((x +ℤ pos 1) -ℤ up) ((x +ℤ pos 1) +ℤ down) (power ks j)) (omega (arith, ints, clamps)) (omega (arith, ints, clamps)) in
       omega (arith, ints)))
 
   module _ (ks' : List Knot) (r : AreSpread up down n j ks ks') (some : pos 0 <ℤ (up +ℤ down)) where
@@ -130,7 +130,7 @@ module _ (ks : List Knot) (n j : ℕ) (f : ℤ → ℤ) (up down : ℤ) (s : Sta
           ]
         ]
 
-    spread_meet : (k : ℕ) → k < n + 1 → height ks' k ≡ f (nearest up down (power ks j) (power ks' k))
+    spread_meet : (k : ℕ) → k < n + 1 → height ks' k ≡ f (clamped (power ks' k -ℤ up) (power ks' k +ℤ down) (power ks j))
     spread_meet k h =
         elim (cases_lt j k) [
           | inl after ↦
@@ -152,7 +152,7 @@ module _ (ks : List Knot) (n j : ℕ) (f : ℤ → ℤ) (up down : ℤ) (s : Sta
               a1 ∙ m ∙ sym near
         ]
 
-    spread_straight : (k : ℕ) → k + 1 < n + 1 → IsStraight (power ks' k) (power ks' (k + 1)) (λ x. f (nearest up down (power ks j) x))
+    spread_straight : (k : ℕ) → k + 1 < n + 1 → IsStraight (power ks' k) (power ks' (k + 1)) (λ x. f (clamped (x -ℤ up) (x +ℤ down) (power ks j)))
     spread_straight k h x low high =
         let inside = t.inside in
         elim (cases_lt k j) [
@@ -188,7 +188,7 @@ module _ (ks : List Knot) (n j : ℕ) (f : ℤ → ℤ) (up down : ℤ) (s : Sta
           ]
         ]
 
-    pub StandFor-spread : StandFor ks' (n + 1) (λ x. f (nearest up down (power ks j) x))
+    pub StandFor-spread : StandFor ks' (n + 1) (λ x. f (clamped (x -ℤ up) (x +ℤ down) (power ks j)))
     StandFor-spread = record {
       rise = spread_rise;
       meet = spread_meet;
@@ -227,7 +227,7 @@ AreWindow-spread ks ks' n j up down is_up is_down some t r = record {
       let e : power ks' ((n + 1) - 1) ≡ power ks' ((n - 1) + 1) = ap (power ks') (omega arith) in
       e ∙ (r.rising (n - 1) (omega arith) (omega arith)).0;
   function = λ f s. (
-    λ x. f (nearest up down (power ks j) x),
+    λ x. f (clamped (x -ℤ up) (x +ℤ down) (power ks j)),
     StandFor-spread ks n j f up down s t is_up is_down ks' r some,
     λ x low high. window_of_knots ks n j f up down s t is_up is_down x low high,
   );

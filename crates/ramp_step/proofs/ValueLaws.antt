@@ -1,17 +1,8 @@
 -- The list of values over all powers is the list of the function's values.
-use Rattle.ramp_step.proofs.Common.{◌≡◌, ℕ, zero, suc, ◌+◌, ◌-◌, ◌<◌, List, length, get_or, refl, ap, ◌∙◌, arith, inl, inr, cond, ℤ, pos, negsuc, ◌+ℤ◌, ◌-ℤ◌, ◌*ℤ◌, ◌≤ℤ◌, ◌<ℤ◌, ◌⊎◌, int_lt, int_div, unsigned_abs, ints, by_lt_z, Knot, knot, power, height, StandFor, IsInside, line_at, value_upto, values_from, values_of}
+use Rattle.ramp_step.proofs.Common.{◌≡◌, ℕ, zero, suc, ◌+◌, ◌-◌, ◌<◌, List, length, get_or, refl, ap, ◌∙◌, arith, inl, inr, cond, ℤ, pos, negsuc, ◌+ℤ◌, ◌-ℤ◌, ◌*ℤ◌, ◌≤ℤ◌, ◌<ℤ◌, ◌⊎◌, int_lt, int_div, unsigned_abs, ints, by_lt_z, length-map-range_with_len, get_or-map-range_with_len, Knot, knot, power, height, StandFor, IsInside, line_at, value_upto, values_of}
 use Rattle.ramp_step.proofs.KnotLaws.{rises}
 use Rattle.ramp_step.proofs.WindowLaws.{straight_line, steps}
 use Rattle.ramp_step.proofs.DivLaws.{exact_div}
-
-pub length_values_from : (f : ℤ → ℤ) (x : ℤ) (n : ℕ) → length (values_from f x n) ≡ n
-length_values_from f x zero = refl
-length_values_from f x (suc n) = ap suc (length_values_from f (x +ℤ pos 1) n)
-
-pub get_values_from : (f : ℤ → ℤ) (x : ℤ) (n i : ℕ) (d : ℤ) → i < n → get_or (values_from f x n) i d ≡ f (x +ℤ pos i)
-get_values_from f x zero i d h = absurd (omega arith)
-get_values_from f x (suc n) zero d h = ap f (omega (arith, ints))
-get_values_from f x (suc n) (suc i) d h = get_values_from f (x +ℤ pos 1) n i d (omega arith) ∙ ap f (omega (arith, ints))
 
 pub chosen : (a b : ℤ) (v w : ℤ) → ((a <ℤ b) × (cond (int_lt a b) v w ≡ v)) ⊎ ((b ≤ℤ a) × (cond (int_lt a b) v w ≡ w))
 chosen a b v w = by_lt_z a b (λ l. inl (l, grind (arith, ints))) (λ l. inr (l, grind (arith, ints)))
@@ -60,10 +51,11 @@ values_of_is ks (suc m) f s =
     let order = rises (suc m) p s.rise m 0 m (omega arith) (omega arith) in
     let count = unsigned_abs (p m -ℤ p 0) in
     let is = abs_of (p m -ℤ p 0) (omega (arith, ints)) in
-    let len = length_values_from (value_upto ks m) (p 0) (count + 1) in
+    let at : ℕ → ℤ = λ i. value_upto ks m (p 0 +ℤ pos i) in
+    let len = length-map-range_with_len at 0 (count + 1) in
     let last : p (suc m - 1) ≡ p m = ap p (omega arith) in
     record {
-      each = λ i h. get_values_from (value_upto ks m) (p 0) (count + 1) i (pos 0) (omega arith) ∙ value_upto_is ks (suc m) f s m (omega arith) (p 0 +ℤ pos i) (omega (arith, ints)) (omega (arith, ints));
+      each = λ i h. get_or-map-range_with_len at 0 (count + 1) i i (pos 0) (omega arith) (omega arith) ∙ value_upto_is ks (suc m) f s m (omega arith) (p 0 +ℤ pos i) (omega (arith, ints)) (omega (arith, ints));
       inside = λ i h. record { some = omega arith; from_first = omega (arith, ints); to_last = omega (arith, ints) };
       back = λ x h.
           let from = h.from_first in

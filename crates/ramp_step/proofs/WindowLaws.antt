@@ -1,5 +1,5 @@
 -- The window of a convex function: the falling part moves by -down, the rising part by up, the flat part is between.
-use Rattle.ramp_step.proofs.Common.{◌≡◌, ℕ, zero, suc, refl, ap, ◌∙◌, arith, inl, inr, ℤ, pos, negsuc, ◌+ℤ◌, ◌-ℤ◌, ◌*ℤ◌, ◌≤ℤ◌, ◌<ℤ◌, ◌⊎◌, ints, clamps, by_lt_z, IsStraight, IsConvex, nearest, IsLeastInReach, *ℤ-zero, *ℤ_comm, mul-mono_of}
+use Rattle.ramp_step.proofs.Common.{◌≡◌, ℕ, zero, suc, refl, ap, ◌∙◌, arith, inl, inr, ℤ, pos, negsuc, ◌+ℤ◌, ◌-ℤ◌, ◌*ℤ◌, ◌≤ℤ◌, ◌<ℤ◌, ◌⊎◌, ints, clamps, by_lt_z, IsStraight, IsConvex, clamped, IsLeastInReach, *ℤ-zero, *ℤ_comm, mul-mono_of}
 use Rattle.ramp_step.proofs.TimesLaws.{times_next, times_minus}
 
 -- ---- slopes
@@ -146,20 +146,20 @@ module _ (f : ℤ → ℤ) (a b m : ℤ)
 
   -- with a power in reach and m inside, the least value in reach is at the power that is nearest to m
   pub window_law : (up down x : ℤ) → a ≤ℤ m → m ≤ℤ b → pos 0 ≤ℤ up → pos 0 ≤ℤ down → a ≤ℤ (x +ℤ down) → (x -ℤ up) ≤ℤ b
-      → IsLeastInReach f a b up down x (f (nearest up down m x))
+      → IsLeastInReach f a b up down x (f (clamped (x -ℤ up) (x +ℤ down) m))
   window_law up down x first last is_up is_down low high = record {
-    at = nearest up down m x;
+    at = clamped (x -ℤ up) (x +ℤ down) m;
     inside = (omega (arith, ints, clamps), omega (arith, ints, clamps));
     reached = (omega (arith, ints, clamps), omega (arith, ints, clamps));
     there = refl;
     least = λ y inside_low inside_high reach_low reach_high.
         by_lt_z m y
-        (λ after. nearer (nearest up down m x) y inside_low inside_high
-        (by_lt_z (nearest up down m x) m
+        (λ after. nearer (clamped (x -ℤ up) (x +ℤ down) m) y inside_low inside_high
+        (by_lt_z (clamped (x -ℤ up) (x +ℤ down) m) m
         (λ left. inl (omega (arith, ints, clamps), omega (arith, ints, clamps)))
         (λ right. inr (right, omega (arith, ints, clamps)))))
-        (λ before. nearer (nearest up down m x) y inside_low inside_high
-        (by_lt_z m (nearest up down m x)
+        (λ before. nearer (clamped (x -ℤ up) (x +ℤ down) m) y inside_low inside_high
+        (by_lt_z m (clamped (x -ℤ up) (x +ℤ down) m)
         (λ right. inr (omega (arith, ints, clamps), omega (arith, ints, clamps)))
         (λ left. inl (omega (arith, ints, clamps), left))));
   }

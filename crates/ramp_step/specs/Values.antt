@@ -1,6 +1,7 @@
 -- The list of values over all powers, which the first n knots stand for (this project's profile).
 use Rattle.std.specs.Prelude.{ℕ, zero, suc, ◌+◌, ℤ, pos, ◌+ℤ◌, ◌-ℤ◌, ◌*ℤ◌, if◌then◌else◌, int_lt}
-use Rattle.std.specs.Prelude.{int_div, unsigned_abs, List, [], ◌∷◌}
+use Rattle.std.specs.Prelude.{int_div, unsigned_abs, List, [], map}
+use Rattle.std.specs.List.{range_with_len}
 use Rattle.ramp_step.specs.declared.breakpoint.Knot.{Knot}
 use Rattle.ramp_step.specs.Knots.{knot, power, height}
 
@@ -14,13 +15,9 @@ value_upto ks zero x = height ks 0
 value_upto ks (suc k) x =
     if int_lt (power ks k) x then line_at (knot ks k) (knot ks (k + 1)) x else value_upto ks k x
 
--- the values of f at n powers from x on
-abbrev pub values_from : (ℤ → ℤ) → ℤ → ℕ → List ℤ
-values_from f x zero = []
-values_from f x (suc n) = f x ∷ values_from f (x +ℤ pos 1) n
-
 -- the values at all powers from the first knot to the last
 abbrev pub values_of : List Knot → ℕ → List ℤ
 values_of ks zero = []
 values_of ks (suc m) =
-    values_from (value_upto ks m) (power ks 0) (unsigned_abs (power ks m -ℤ power ks 0) + 1)
+    map (λ i. value_upto ks m (power ks 0 +ℤ pos i))
+    (range_with_len 0 (unsigned_abs (power ks m -ℤ power ks 0) + 1))

@@ -1,12 +1,7 @@
 -- The least value in reach (this project's profile).
 use Rattle.std.specs.Prelude.{◌≡◌, ℕ, ◌+◌, ◌-◌, ◌<◌, ◌≤◌, ℤ, ◌+ℤ◌, ◌-ℤ◌, ◌≤ℤ◌, ◌<ℤ◌, List}
-use Rattle.std.specs.Int.{int_min, int_max}
 use Rattle.ramp_step.specs.declared.breakpoint.Knot.{Knot}
 use Rattle.ramp_step.specs.Knots.{power, height, StandFor, IsInside}
-
--- the power from x - up to x + down that is nearest to m
-abbrev pub nearest : ℤ → ℤ → ℤ → ℤ → ℤ
-nearest up down m x = int_max (x -ℤ up) (int_min (x +ℤ down) m)
 
 -- v is the least value of f at the powers from x - up to x + down that are in the interval from a
 -- to b
