@@ -1,5 +1,5 @@
 -- A bench for the most cost points of a case suffices for each of its units.
-use Rattle.answer_workers.proofs.Common.{◌≡◌, ℕ, ◌≤◌, Bool, true, false, List, [], ◌∷◌, ◌++◌, map, refl, sym, subst, append_assoc, arith, All, Contains, AnyUnit, Thermal, Flat, Bid, Market, NamedThermalUnit, NamedRenewableUnit, NamedBidUnit, PriceLists, Schedule, ThermalUnit, units, schedule_of, IsThermalFeasible, Answered, IsBenchFor, Bench, HasSchedule, IsResponse, Suffices, IsBenchOf, length, All-nil, All-cons}
+use Rattle.answer_workers.proofs.Common.{◌≡◌, ℕ, suc, ◌≤◌, Bool, true, false, List, [], ◌∷◌, ◌++◌, map, refl, sym, subst, append_assoc, arith, All, Contains, AnyUnit, Thermal, Flat, Bid, Market, NamedThermalUnit, NamedRenewableUnit, NamedBidUnit, PriceLists, Schedule, ThermalUnit, units, schedule_of, IsThermalFeasible, Answered, IsBenchFor, Bench, HasSchedule, IsResponse, Suffices, IsBenchOf, length, All-nil, All-cons}
 use Rattle.std.specs.Prelude.{IsTrue, IsFalse}
 use Rattle.uc_model.specs.Earnings.{earnings}
 use Rattle.unit_program.specs.Benches.{BenchesServeLess}
