@@ -112,12 +112,12 @@ module _ (g : ThermalUnit) (π : PriceLists) (k : ℕ) (starts : Bool)
 
   high_is : (x : ℤ) → x ≤ℤ high → x ≤ℤ (step_at g π k starts false).most
   high_is x h =
-      let u = under_cap g starts true x (under_most g π k starts true x h).0 in
-      cap_over g starts false x (record { most = u.most; start = u.start; stop = λ e. cc })
+      let u = under_cap g starts true (under_most g π k starts true h).0 in
+      cap_over g starts false (record { most = u.most; start = u.start; stop = λ e. cc })
 
-  pub stepped_cut : (c : Curve) (f h : Table) → IsStepped (step_at g π k starts false) c f h →
+  pub stepped_cut : {c : Curve} {f h : Table} → IsStepped (step_at g π k starts false) c f h →
       IsStepped (step_at g π k starts true) c f (cut h high)
-  stepped_cut c f h step = record {
+  stepped_cut {c = c} {f = f} {h = h} step = record {
     kinked = step.kinked;
     window = cut step.window high;
     line = cut step.line high;
@@ -135,12 +135,12 @@ module _ (g : ThermalUnit) (π : PriceLists) (k : ℕ) (starts : Bool)
     is_curve = cut_curve c step.line h high step.is_curve;
   }
 
-  pub least_cut : (c : Curve) (unit : IsThermalUnit g) (price : pos 0 ≤ℤ int_at π.reserve k)
-      (curve : IsCostCurve g.points c) (f h : Table) (v x : ℤ) → IsStepped (step_at g π k starts false) c f h →
+  pub least_cut : {c : Curve} (unit : IsThermalUnit g) (price : pos 0 ≤ℤ int_at π.reserve k)
+      (curve : IsCostCurve g.points c) {f h : Table} {v x : ℤ} → IsStepped (step_at g π k starts false) c f h →
       IsLeastIn g.min_power high h v x → IsLeast (cut h high) v x
-  least_cut c unit price curve f h v x step least =
+  least_cut unit price curve {h = h} {v = v} {x = x} step least =
       let low : (y w : ℤ) → value_of h y ≡ Some w → g.min_power ≤ℤ y = λ y w there.
-      (step_sound g π k c unit price curve starts false f h step y w there).move.least in
+      (step_sound π k unit price curve starts false step y there).move.least in
       record {
         there = cut_inside h high x least.inside.1 ∙ least.there;
         least = λ y w there. (let i = cut_value h high y w there in least.least y w i.1 (low y w i.1) i.0);

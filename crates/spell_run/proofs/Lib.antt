@@ -20,7 +20,5 @@ pub mod RunLaws
 pub mod StepLaws
 -- what a value was before something was added to it
 pub mod SumLaws
--- the turn of a step: where the kinked function before it is least
-pub mod TurnLaws
 -- The lemmas that answers cite.
 pub mod Lemmas

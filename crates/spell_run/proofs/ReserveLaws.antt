@@ -1,5 +1,5 @@
 -- The best reserve for given powers.
-use Rattle.spell_run.proofs.Common.{◌≡◌, ℤ, pos, ◌+ℤ◌, ◌-ℤ◌, ◌*ℤ◌, ◌≤ℤ◌, Bool, true, false, cond, sym, ap, ◌∙◌, subst}
+use Rattle.spell_run.proofs.Common.{◌≡◌, ℤ, pos, ◌+ℤ◌, ◌-ℤ◌, ◌*ℤ◌, ◌≤ℤ◌, Bool, true, false, cond, ap}
 use Rattle.spell_run.proofs.Common.{arith, ◌<ℤ◌, int_lt, int_min, ints, clamps, by_lt_z, zero-*ℤ, *ℤ-one, mul-sub}
 use Rattle.spell_run.proofs.Common.{mul-mono_of, most_reserve, best_reserve, IsReserve, ReserveIsAKink, ReserveIsBest}
 

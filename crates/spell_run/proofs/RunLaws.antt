@@ -5,8 +5,9 @@ use Rattle.spell_run.proofs.Common.{refl, sym, ap, ◌∙◌, subst, arith, get_
 use Rattle.spell_run.proofs.Common.{cases_lt, lt-ltb, le-ltb, ltb-true, eqb-true, eq-eqb, get_or-replicate, get_or_past}
 use Rattle.spell_run.proofs.Common.{length-replicate, ThermalUnit, PriceLists, Schedule, power_in, reserve_in, cap_of}
 use Rattle.spell_run.proofs.Common.{sum_below, sum_below-same, over_min, IsDispatch, net_cost_at, net_cost, spell_cost}
-use Rattle.spell_run.proofs.Common.{cap_at, IsMove, level, IsRun}
-use Rattle.spell_run.proofs.StepLaws.{under_cap, cap_over}
+use Rattle.spell_run.proofs.Common.{cap_at, IsMove, level, IsRun, IsThermalUnit, IsFrontier, Table}
+use Rattle.spell_run.proofs.Common.{value_of, Some, length-set}
+use Rattle.spell_run.proofs.StepLaws.{IsUnder, under_cap, cap_over}
 
 -- ---- the power before a period
 
@@ -30,58 +31,54 @@ pub record IsAlike (t : ℕ) (d d' : Schedule) : Type 0 where
   pub power : (j : ℕ) → j < t → power_in d' (suc j) ≡ power_in d (suc j)
   pub reserve : (j : ℕ) → j < t → reserve_in d' (suc j) ≡ reserve_in d (suc j)
 
-pub move_same : (g : ThermalUnit) (starts stops : Bool) (q p r q' p' r' : ℤ) → q ≡ q' → p ≡ p' → r ≡ r' →
+pub move_same : {g : ThermalUnit} {starts stops : Bool} {q p r q' p' r' : ℤ} → q ≡ q' → p ≡ p' → r ≡ r' →
     IsMove g starts stops q p r → IsMove g starts stops q' p' r'
-move_same g starts stops q p r q' p' r' e f i m =
-    subst (λ (z : ℤ). IsMove g starts stops q' p' z) i
-    (rw f at (subst (λ (x : ℤ). IsMove g starts stops x p r) e m))
+move_same {q' = q'} {p' = p'} e f i m = rw i at (rw f at (rw e at m))
+
+-- what d does in period suc k is a move
+abbrev pub MovesIn : ThermalUnit → ℕ → ℕ → Bool → Schedule → Type 0
+MovesIn g first k stops d =
+    IsMove g (eqb first (suc k)) stops (level g first d k) (power_in d (suc k)) (reserve_in d (suc k))
 
 module _ (g : ThermalUnit) (first : ℕ) where
-  level_alike : (t : ℕ) (d d' : Schedule) → IsAlike t d d' → (j : ℕ) → j ≤ t → level g first d' j ≡ level g first d j
+  level_alike : {t : ℕ} {d d' : Schedule} → IsAlike t d d' → (j : ℕ) → j ≤ t → level g first d' j ≡ level g first d j
   unfolding level
-  level_alike t d d' same zero low = refl
-  level_alike t d d' same (suc j) low =
+  level_alike same zero low = refl
+  level_alike same (suc j) low =
       ap (λ (p : ℤ). cond (ltb (suc j) first) g.min_power ((p -ℤ g.min_power) +ℤ g.min_power))
       (same.power j (omega arith))
 
-  pub level_same : (t : ℕ) (d d' : Schedule) → IsAlike t d d' → level g first d' t ≡ level g first d t
-  level_same t d d' same = level_alike t d d' same t (omega arith)
+  pub level_same : {t : ℕ} {d d' : Schedule} → IsAlike t d d' → level g first d' t ≡ level g first d t
+  level_same {t = t} same = level_alike same t (omega arith)
 
-  pub run_alike : (t : ℕ) (d d' : Schedule) → IsAlike t d d' → IsRun g first t d → IsRun g first t d'
-  run_alike t d d' same run k from until =
-      move_same g (eqb first (suc k)) false (level g first d k) (power_in d (suc k)) (reserve_in d (suc k))
-      (level g first d' k) (power_in d' (suc k)) (reserve_in d' (suc k))
-      (sym (level_alike t d d' same k (omega arith))) (sym (same.power k (omega arith)))
+module _ {g : ThermalUnit} {first : ℕ} where
+  pub run_alike : {t : ℕ} {d d' : Schedule} → IsAlike t d d' → IsRun g first t d → IsRun g first t d'
+  run_alike same run k from until =
+      move_same (sym (level_alike g first same k (omega arith))) (sym (same.power k (omega arith)))
       (sym (same.reserve k (omega arith))) (run k from until)
 
   -- one more period
-  pub run_more : (k : ℕ) (d : Schedule) → IsRun g first k d →
-      IsMove g (eqb first (suc k)) false (level g first d k) (power_in d (suc k)) (reserve_in d (suc k)) →
-      IsRun g first (suc k) d
-  run_more k d run move j from until = elim (cases_lt j k) [
+  pub run_more : {k : ℕ} (d : Schedule) → IsRun g first k d → MovesIn g first k false d → IsRun g first (suc k) d
+  run_more {k = k} d run move j from until = elim (cases_lt j k) [
     | inl less ↦ run j from (omega arith)
-    | inr most ↦
-        let z : k ≡ j = omega arith in
-        subst (λ (i : ℕ). IsMove g (eqb first (suc i)) false (level g first d i) (power_in d (suc i))
-        (reserve_in d (suc i))) z move
+    | inr most ↦ let z : k ≡ j = omega arith in subst (λ (i : ℕ). MovesIn g first i false d) z move
   ]
 
-  pub run_less : (k : ℕ) (d : Schedule) → IsRun g first (suc k) d → IsRun g first k d
-  run_less k d run j from until = run j from (omega arith)
+  pub run_less : {k : ℕ} (d : Schedule) → IsRun g first (suc k) d → IsRun g first k d
+  run_less d run j from until = run j from (omega arith)
 
 -- ---- costs
 
 module _ (g : ThermalUnit) (π : PriceLists) (first : ℕ) where
-  net_alike : (t : ℕ) (d d' : Schedule) → IsAlike t d d' → (j : ℕ) → j ≤ t → net_cost g π d' j ≡ net_cost g π d j
-  net_alike t d d' same zero low = refl
-  net_alike t d d' same (suc j) low =
+  net_alike : {t : ℕ} {d d' : Schedule} → IsAlike t d d' → (j : ℕ) → j ≤ t → net_cost g π d' j ≡ net_cost g π d j
+  net_alike same zero low = refl
+  net_alike {d = d} {d' = d'} same (suc j) low =
       ap (λ (p : ℤ). net_cost_at g π j p (reserve_in d' (suc j))) (same.power j (omega arith))
       ∙ ap (λ (r : ℤ). net_cost_at g π j (power_in d (suc j)) r) (same.reserve j (omega arith))
 
-  pub cost_alike : (t : ℕ) (d d' : Schedule) → IsAlike t d d' → spell_cost g π first t d' ≡ spell_cost g π first t d
-  cost_alike t d d' same =
-      sum_below-same (suc t - first) (λ k. net_cost g π d' (first + k)) (λ k. net_cost g π d (first + k))
-      (λ k low. net_alike t d d' same (first + k) (omega arith))
+  pub cost_alike : {t : ℕ} {d d' : Schedule} → IsAlike t d d' → spell_cost g π first t d' ≡ spell_cost g π first t d
+  cost_alike {t = t} same =
+      sum_below-same (suc t - first) _ _ (λ k low. net_alike same (first + k) (omega arith))
 
   pub cost_more : (k : ℕ) (d : Schedule) → first ≤ suc k →
       spell_cost g π first (suc k) d ≡ spell_cost g π first k d +ℤ net_cost g π d (suc k)
@@ -141,149 +138,180 @@ natural (negsuc n) h = absurd (omega (arith, ints))
 pub reserve_not_negative : (d : Schedule) (k : ℕ) → pos 0 ≤ℤ reserve_in d (suc k)
 reserve_not_negative d k = omega (arith, ints)
 
+-- a run up to k, and the period suc k after it
+pub record IsBuilt (g : ThermalUnit) (π : PriceLists) (first k : ℕ) (y w x r : ℤ) : Type 0 where
+  pub run : Schedule
+  pub power_length : length run.power ≡ length π.energy
+  pub reserve_length : length run.reserve ≡ length π.energy
+  pub keeps : IsRun g first k run
+  pub before : level g first run k ≡ y
+  pub power : power_in run (suc k) ≡ x
+  pub reserve : reserve_in run (suc k) ≡ r
+  pub cost : spell_cost g π first (suc k) run ≡ w +ℤ net_cost_at g π k x r
+
+pub build : {g : ThermalUnit} {π : PriceLists} {first k : ℕ} {f : Table} {w r : ℤ} → k < length π.energy →
+    first ≤ suc k → IsFrontier g π first k f → (y x : ℤ) → value_of f y ≡ Some w → pos 0 ≤ℤ x → pos 0 ≤ℤ r →
+    IsBuilt g π first k y w x r
+build {g = g} {π = π} {first = first} {k = k} {w = w} {r = r} within from front y x there least kept =
+    let reached = front.sound y w there in
+    let n = natural x least in
+    let m = natural r kept in
+    let old = reached.run in
+    let run = with_period old k n.0 m.0 in
+    let same = written_alike old k n.0 m.0 in
+    let in_power : k < length old.power = omega arith in
+    let in_reserve : k < length old.reserve = omega arith in
+    let power : power_in run (suc k) ≡ x = written_power old k n.0 m.0 in_power ∙ sym n.1 in
+    let reserve : reserve_in run (suc k) ≡ r = written_reserve old k n.0 m.0 in_reserve ∙ sym m.1 in
+    let more = cost_more g π first k run from in
+    let net : net_cost g π run (suc k) ≡ net_cost_at g π k x r = cc in
+    let before = cost_alike g π first same in
+    record {
+      run = run;
+      power_length = length-set old.power k n.0 ∙ reached.power_length;
+      reserve_length = length-set old.reserve k m.0 ∙ reached.reserve_length;
+      keeps = run_alike same reached.keeps;
+      before = level_same g first same ∙ reached.ends;
+      power = power;
+      reserve = reserve;
+      cost = cc;
+    }
+
 -- ---- dispatches
 
--- the last period suc k may be before a stop, where one follows
-pub record MayEnd (g : ThermalUnit) (periods k : ℕ) (p r : ℤ) : Type 0 where
-  pub stop : suc k < periods → (p +ℤ r) ≤ℤ g.stop_limit
-  pub leave : suc k < periods → (p -ℤ g.min_power) ≤ℤ g.ramp_down
+-- the last period suc k of d may be before a stop, where one follows
+pub record MayEnd (g : ThermalUnit) (periods k : ℕ) (d : Schedule) : Type 0 where
+  pub stop : suc k < periods → (power_in d (suc k) +ℤ reserve_in d (suc k)) ≤ℤ g.stop_limit
+  pub leave : suc k < periods → (power_in d (suc k) -ℤ g.min_power) ≤ℤ g.ramp_down
 
 -- a move with its stop is one without and a right end
-pub move_parts : (g : ThermalUnit) (starts : Bool) (periods k : ℕ) (q p r : ℤ) →
-    IsMove g starts (ltb (suc k) periods) q p r → IsMove g starts false q p r × MayEnd g periods k p r
-move_parts g starts periods k q p r move =
-    let stops = ltb (suc k) periods in
-    let u = under_cap g starts stops (p +ℤ r) move.greatest in (
+pub move_parts : {g : ThermalUnit} (first k periods : ℕ) (d : Schedule) → MovesIn g first k (ltb (suc k) periods) d →
+    MovesIn g first k false d × MayEnd g periods k d
+move_parts {g = g} first k periods d move =
+    let u = under_cap g (eqb first (suc k)) (ltb (suc k) periods) move.greatest in (
       record {
         least = move.least;
-        greatest = cap_over g starts false (p +ℤ r) (record { most = u.most; start = u.start; stop = λ e. cc });
+        greatest = cap_over g (eqb first (suc k)) false (record { most = u.most; start = u.start; stop = λ e. cc });
         ramp_up = move.ramp_up;
         ramp_down = move.ramp_down;
         leave = λ e. cc;
       },
       record {
         stop = λ low. u.stop (lt-ltb (suc k) periods low);
-        leave = λ low.
-            move.leave (lt-ltb (suc k) periods low);
+        leave = λ low. move.leave (lt-ltb (suc k) periods low);
       },
     )
 
-pub move_whole : (g : ThermalUnit) (starts : Bool) (periods k : ℕ) (q p r : ℤ) → IsMove g starts false q p r →
-    MayEnd g periods k p r → IsMove g starts (ltb (suc k) periods) q p r
-move_whole g starts periods k q p r move end =
-    let stops = ltb (suc k) periods in
-    let u = under_cap g starts false (p +ℤ r) move.greatest in
+pub move_whole : {g : ThermalUnit} {k periods : ℕ} {d : Schedule} (first : ℕ) → MovesIn g first k false d →
+    MayEnd g periods k d → MovesIn g first k (ltb (suc k) periods) d
+move_whole {g = g} {k = k} {periods = periods} first move end =
+    let u = under_cap g (eqb first (suc k)) false move.greatest in
     record {
       least = move.least;
-      greatest = cap_over g starts stops (p +ℤ r)
+      greatest = cap_over g (eqb first (suc k)) (ltb (suc k) periods)
           (record { most = u.most; start = u.start; stop = λ e. end.stop (ltb-true (suc k) periods e) });
       ramp_up = move.ramp_up;
       ramp_down = move.ramp_down;
       leave = λ e. end.leave (ltb-true (suc k) periods e);
     }
 
-module _ (g : ThermalUnit) (periods first : ℕ) (ramp_down : pos 0 ≤ℤ g.ramp_down) (d : Schedule) where
-  module _ (k : ℕ) (from : first ≤ suc k) where
-    module _ (run : IsRun g first (suc k) d) (end : MayEnd g periods k (power_in d (suc k)) (reserve_in d (suc k)))
-      where
-        least_at : (t : ℕ) → 1 ≤ t → first ≤ t → t ≤ suc k → pos 0 ≤ℤ over_min g d t
-        least_at zero one low until = absurd (omega arith)
-        least_at (suc j) one low until = let m = (run j low until).least in omega (arith, ints)
+module _ {g : ThermalUnit} {periods first k : ℕ} (d : Schedule) (from : first ≤ suc k) (run : IsRun g first (suc k) d)
+    (end : MayEnd g periods k d) where
+  abbrev under : (j : ℕ) → first ≤ suc j → suc j ≤ suc k →
+      IsUnder g (eqb first (suc j)) false (power_in d (suc j) +ℤ reserve_in d (suc j))
+  under j low until = under_cap g (eqb first (suc j)) false (run j low until).greatest
 
-        greatest_at : (t : ℕ) → 1 ≤ t → first ≤ t → t ≤ suc k →
-            (over_min g d t +ℤ reserve_in d t) ≤ℤ cap_of g false false
-        greatest_at zero one low until = absurd (omega arith)
-        greatest_at (suc j) one low until =
-            let m = (run j low until).greatest in
-            let u = (under_cap g (eqb first (suc j)) false (power_in d (suc j) +ℤ reserve_in d (suc j)) m).most in
-            omega (arith, ints, clamps)
+  least_at : (t : ℕ) → 1 ≤ t → first ≤ t → t ≤ suc k → pos 0 ≤ℤ over_min g d t
+  least_at zero one low until = absurd (omega arith)
+  least_at (suc j) one low until = let m = (run j low until).least in omega (arith, ints)
 
-        start_at : (t : ℕ) → t ≡ first → 1 ≤ t → (over_min g d t +ℤ reserve_in d t) ≤ℤ cap_of g true false
-        start_at zero is one = absurd (omega arith)
-        start_at (suc j) is one =
-            let m = (run j (omega arith) (omega arith)).greatest in
-            let u = under_cap g (eqb first (suc j)) false (power_in d (suc j) +ℤ reserve_in d (suc j)) m in
-            let b = u.start (eq-eqb first (suc j) (sym is)) in
-            omega (arith, ints, clamps)
+  greatest_at : (t : ℕ) → 1 ≤ t → first ≤ t → t ≤ suc k → (over_min g d t +ℤ reserve_in d t) ≤ℤ cap_of g false false
+  greatest_at zero one low until = absurd (omega arith)
+  greatest_at (suc j) one low until = let u = (under j low until).most in omega (arith, ints, clamps)
 
-        enter_at : (t : ℕ) → t ≡ first → 1 ≤ t → (over_min g d t +ℤ reserve_in d t) ≤ℤ g.ramp_up
-        enter_at zero is one = absurd (omega arith)
-        enter_at (suc j) is one =
-            let m = (run j (omega arith) (omega arith)).ramp_up in
-            let l = level_before g first d j (omega arith) in
-            omega (arith, ints)
+  start_at : (t : ℕ) → t ≡ first → 1 ≤ t → (over_min g d t +ℤ reserve_in d t) ≤ℤ cap_of g true false
+  start_at zero is one = absurd (omega arith)
+  start_at (suc j) is one =
+      let u = under j (omega arith) (omega arith) in
+      let b = u.start (eq-eqb first (suc j) (sym is)) in
+      omega (arith, ints, clamps)
 
-        pub dispatch_from_run : IsDispatch g periods first (suc k) d
-        dispatch_from_run = record {
-          least = least_at;
-          greatest = greatest_at;
-          start = start_at first refl;
-          enter = enter_at first refl;
-          ramp_up = λ j low until.
-              (let m = (run j (omega arith) until).ramp_up in let l = level_within g first d j low in omega (arith, ints));
-          ramp_down = λ j low until.
-              (let m = (run j (omega arith) until).ramp_down in let l = level_within g first d j low in omega (arith, ints));
-          stop = λ inside one. (
-              let m = (run k from (omega arith)).greatest in
-              let a = (under_cap g (eqb first (suc k)) false (power_in d (suc k) +ℤ reserve_in d (suc k)) m).most in
-              let b = end.stop inside in
-              omega (arith, ints, clamps)
-              );
-          leave = λ inside. end.leave inside;
-          stop_at_once = λ inside none. absurd (omega arith);
-          leave_at_once = λ inside none. absurd (omega arith);
-        }
+  enter_at : (t : ℕ) → t ≡ first → 1 ≤ t → (over_min g d t +ℤ reserve_in d t) ≤ℤ g.ramp_up
+  enter_at zero is one = absurd (omega arith)
+  enter_at (suc j) is one =
+      let m = (run j (omega arith) (omega arith)).ramp_up in
+      let l = level_before g first d j (omega arith) in
+      omega (arith, ints)
 
-    module _ (h : IsDispatch g periods first (suc k) d) where
-      cap_here : (j : ℕ) → first ≤ suc j → suc j ≤ suc k →
-          (power_in d (suc j) +ℤ reserve_in d (suc j)) ≤ℤ cap_at g (eqb first (suc j)) false
-      cap_here j low until =
-          let a = h.greatest (suc j) (omega arith) low until in
-          cap_over g (eqb first (suc j)) false (power_in d (suc j) +ℤ reserve_in d (suc j))
-          (record {
-            most = omega (arith, ints, clamps);
-            start = λ e. (
-                let is = eqb-true first (suc j) e in
-                let b = rw is at (h.start (omega arith)) in
-                omega (arith, ints, clamps)
-                );
-            stop = λ e. cc;
-          })
+  pub dispatch_from_run : IsDispatch g periods first (suc k) d
+  dispatch_from_run = record {
+    least = least_at;
+    greatest = greatest_at;
+    start = start_at first refl;
+    enter = enter_at first refl;
+    ramp_up = λ j low until.
+        let m = (run j (omega arith) until).ramp_up in
+        let l = level_within g first d j low in
+        omega (arith, ints);
+    ramp_down = λ j low until.
+        let m = (run j (omega arith) until).ramp_down in
+        let l = level_within g first d j low in
+        omega (arith, ints);
+    stop = λ inside one.
+        let u = (under k from (omega arith)).most in
+        let b = end.stop inside in
+        omega (arith, ints, clamps);
+    leave = end.leave;
+    stop_at_once = λ inside none. absurd (omega arith);
+    leave_at_once = λ inside none. absurd (omega arith);
+  }
 
-      move_here : (j : ℕ) → first ≤ suc j → suc j ≤ suc k →
-          IsMove g (eqb first (suc j)) false (level g first d j) (power_in d (suc j)) (reserve_in d (suc j))
-      move_here j low until =
-          let least = h.least (suc j) (omega arith) low until in
-          elim (cases_lt j first) [
-            | inr inside ↦
-                let l = level_within g first d j inside in
-                let up = h.ramp_up j inside until in
-                let down = h.ramp_down j inside until in
-                record {
-                  least = omega (arith, ints);
-                  greatest = cap_here j low until;
-                  ramp_up = omega (arith, ints);
-                  ramp_down = omega (arith, ints);
-                  leave = λ e. cc;
-                }
-            | inl before ↦
-                let is : first ≡ suc j = omega arith in
-                let l = level_before g first d j before in
-                let up = rw is at (h.enter (omega arith)) in
-                record {
-                  least = omega (arith, ints);
-                  greatest = cap_here j low until;
-                  ramp_up = omega (arith, ints);
-                  ramp_down = omega (arith, ints);
-                  leave = λ e. cc;
-                }
-          ]
+module _ {g : ThermalUnit} {periods first k : ℕ} {d : Schedule} (unit : IsThermalUnit g) (from : first ≤ suc k)
+    (h : IsDispatch g periods first (suc k) d) where
+  cap_here : (j : ℕ) → first ≤ suc j → suc j ≤ suc k →
+      (power_in d (suc j) +ℤ reserve_in d (suc j)) ≤ℤ cap_at g (eqb first (suc j)) false
+  cap_here j low until =
+      let a = h.greatest (suc j) (omega arith) low until in
+      cap_over g (eqb first (suc j)) false (record {
+        most = omega (arith, ints, clamps);
+        start = λ e.
+            let is = eqb-true first (suc j) e in
+            let b = rw is at (h.start (omega arith)) in
+            omega (arith, ints, clamps);
+        stop = λ e. cc;
+      })
 
-      pub run_from_dispatch : IsRun g first (suc k) d
-      run_from_dispatch j low until = move_here j low until
+  pub run_from_dispatch : IsRun g first (suc k) d
+  run_from_dispatch j low until =
+      let least = h.least (suc j) (omega arith) low until in
+      let fall = unit.ramp_down.at_least in
+      elim (cases_lt j first) [
+        | inr inside ↦
+            let l = level_within g first d j inside in
+            let up = h.ramp_up j inside until in
+            let down = h.ramp_down j inside until in
+            record {
+              least = omega (arith, ints);
+              greatest = cap_here j low until;
+              ramp_up = omega (arith, ints);
+              ramp_down = omega (arith, ints);
+              leave = λ e. cc;
+            }
+        | inl before ↦
+            let is : first ≡ suc j = omega arith in
+            let l = level_before g first d j before in
+            let up = rw is at (h.enter (omega arith)) in
+            record {
+              least = omega (arith, ints);
+              greatest = cap_here j low until;
+              ramp_up = omega (arith, ints);
+              ramp_down = omega (arith, ints);
+              leave = λ e. cc;
+            }
+      ]
 
-      pub end_from_dispatch : MayEnd g periods k (power_in d (suc k)) (reserve_in d (suc k))
-      end_from_dispatch = record {
-        stop = λ inside. (let s = h.stop inside (omega arith) in omega (arith, ints, clamps));
-        leave = λ inside. h.leave inside;
-      }
+  pub end_from_dispatch : MayEnd g periods k d
+  end_from_dispatch = record {
+    stop = λ inside. let s = h.stop inside (omega arith) in omega (arith, ints, clamps);
+    leave = h.leave;
+  }

@@ -2,16 +2,13 @@
 use Rattle.spell_way.proofs.Common.{◌∙◌, ◌≡◌, ℕ, suc, inl, inr, ℤ, false, get_or, subst, arith, IsTrue, cases_lt}
 use Rattle.spell_way.proofs.Common.{Schedule, IsOnFromTo, IsWritten}
 
-pub on_more : (k last : ℕ) (p r : ℤ) (d d' : Schedule) → IsWritten k p r d d' → IsOnFromTo (suc (suc k)) last d →
+pub on_more : {k last : ℕ} {p r : ℤ} {d d' : Schedule} → IsWritten k p r d d' → IsOnFromTo (suc (suc k)) last d →
     IsOnFromTo (suc k) last d'
-on_more k last p r d d' written on j from until = elim (cases_lt k j) [
+on_more {k = k} {d' = d'} written on j from until = elim (cases_lt k j) [
   | inl after ↦ written.outside.on j (inr (omega arith)) ∙ on j (omega arith) until
-  | inr most ↦ let z : k ≡ j = omega arith in subst (λ (i : ℕ). IsTrue (get_or d'.on i false)) z
-      written.on
+  | inr most ↦ let z : k ≡ j = omega arith in subst (λ (i : ℕ). IsTrue (get_or d'.on i false)) z written.on
 ]
 
-pub on_last : (k last : ℕ) (p r : ℤ) (d d' : Schedule) → suc k ≡ last → IsWritten k p r d d' →
+pub on_last : {k last : ℕ} {p r : ℤ} {d d' : Schedule} → suc k ≡ last → IsWritten k p r d d' →
     IsOnFromTo (suc k) last d'
-on_last k last p r d d' is written j from until =
-    let z : k ≡ j = omega arith in
-    rw z at written.on
+on_last {k = k} is written j from until = let z : k ≡ j = omega arith in rw z at written.on

@@ -2,9 +2,10 @@
 use Rattle.spell_way.proofs.Common.{◌≡◌, ℕ, zero, suc, ◌+◌, ◌-◌, ◌<◌, ◌≤◌, inl, inr, ℤ, pos, ◌+ℤ◌, ◌*ℤ◌, ◌≤ℤ◌, eqb}
 use Rattle.spell_way.proofs.Common.{length, refl, sym, ap, ◌∙◌, subst, arith, ints, cases_lt, IsPoint, same_some, Table}
 use Rattle.spell_way.proofs.Common.{value_of, ThermalUnit, PriceLists, Schedule, IsThermalUnit, ArePrices, power_in}
-use Rattle.spell_way.proofs.Common.{reserve_in, int_at, sum_below, stops_at, HasBestReserve, IsWayFrom, best_reserve}
-use Rattle.spell_way.proofs.Common.{IsReserve, IsDispatch, net_cost_at, net_cost, spell_cost, IsBestDispatch}
+use Rattle.spell_way.proofs.Common.{reserve_in, int_at, sum_below, stops_at, HasBestReserve, IsWayFrom}
+use Rattle.spell_way.proofs.Common.{IsDispatch, net_cost_at, net_cost, spell_cost, IsBestDispatch}
 use Rattle.spell_way.proofs.Common.{IsFirstDispatch, cap_at, level}
+use Rattle.spell_run.specs.Laws.{IsBestReserve}
 use Rattle.spell_run.proofs.ReserveLaws.{reserve_is_best}
 use Rattle.spell_run.proofs.RunLaws.{level_before, level_within, move_same, reserve_not_negative}
 use Rattle.spell_way.proofs.WayLaws.{move_of}
@@ -27,54 +28,36 @@ same_terms (suc n) f g le same i low =
     sums_le (suc n) f g le = let a = sums_le n f g (λ j h. le j (omega arith)) in let b = le n (omega arith) in
         omega (arith, ints)
 
-module _ (g : ThermalUnit) (π : PriceLists) (first last : ℕ) (unit : IsThermalUnit g) (prices : ArePrices π)
-    (end : last ≤ length π.energy) (d other : Schedule)
-    (dispatch : IsDispatch g (length π.energy) first last d)
-    (other_dispatch : IsDispatch g (length π.energy) first last other)
+module _ {g : ThermalUnit} {π : PriceLists} {first last : ℕ} (unit : IsThermalUnit g) (prices : ArePrices π)
+    (end : last ≤ length π.energy) (d : Schedule) {other : Schedule}
+    (dispatch : IsDispatch g (length π.energy) first last other)
     (best : (j : ℕ) → first ≤ suc j → j < last → HasBestReserve g π first last d j)
     (same : (j : ℕ) → first ≤ suc j → j < last → power_in other (suc j) ≡ power_in d (suc j)) where
-  level_shared : (j : ℕ) → j < last → first ≤ suc j → level g first other j ≡ level g first d j
-  level_shared zero low from = elim (cases_lt 0 first) [
-    | inl before ↦ level_before g first other 0 before ∙ sym (level_before g first d 0 before)
-    | inr inside ↦ level_within g first other 0 inside ∙ sym (level_within g first d 0 inside)
+  level_shared : (j : ℕ) → j < last → level g first other j ≡ level g first d j
+  level_shared j low = elim (cases_lt j first) [
+    | inl before ↦ level_before g first other j before ∙ sym (level_before g first d j before)
+    | inr inside ↦ level_inside j low inside
   ]
-  level_shared (suc i) low from = elim (cases_lt (suc i) first) [
-    | inl before ↦ level_before g first other (suc i) before ∙ sym (level_before g first d (suc i) before)
-    | inr inside ↦
-        let e = same i inside (omega arith) in
-        let a = level_within g first other (suc i) inside in
-        let b = level_within g first d (suc i) inside in
-        omega (arith, ints)
-  ]
-
-  price_at : (j : ℕ) → j < last → pos 0 ≤ℤ int_at π.reserve j
-  price_at j low = (prices.reserve j (pos 0) (omega arith)).at_least
+    where
+      level_inside : (j : ℕ) → j < last → first ≤ j → level g first other j ≡ level g first d j
+      level_inside zero low inside = level_within g first other 0 inside ∙ sym (level_within g first d 0 inside)
+      level_inside (suc i) low inside =
+          let e = same i inside (omega arith) in
+          let a = level_within g first other (suc i) inside in
+          let b = level_within g first d (suc i) inside in
+          omega (arith, ints)
 
   abbrev cap_here : ℕ → ℤ
   cap_here j = cap_at g (eqb first (suc j)) (stops_at last (length π.energy) j)
 
-  -- the other reserve may be kept at the powers of d
-  kept_here : (j : ℕ) → first ≤ suc j → j < last → IsReserve (cap_here j) g.ramp_up (level g first d j)
-      (power_in d (suc j)) (reserve_in other (suc j))
-  kept_here j from low =
-      let m = move_of g (length π.energy) first unit.ramp_down.at_least other last j from (omega arith)
-      other_dispatch in
-      let n = move_same g (eqb first (suc j)) (stops_at last (length π.energy) j) (level g first other j)
-      (power_in other (suc j)) (reserve_in other (suc j)) (level g first d j) (power_in d (suc j))
-      (reserve_in other (suc j)) (level_shared j low from)
-      (same j from low) refl m in
-      record { least = reserve_not_negative other j; greatest = n.greatest; ramp = n.ramp_up }
-
-  abbrev best_here : ℕ → ℤ
-  best_here j = best_reserve (int_at π.reserve j) (cap_here j) g.ramp_up (level g first d j) (power_in d (suc j))
-
-  worth_le : (j : ℕ) → first ≤ suc j → j < last → (int_at π.reserve j *ℤ reserve_in other (suc j)) ≤ℤ
-      (int_at π.reserve j *ℤ reserve_in d (suc j))
-  worth_le j from low =
-      let b = (reserve_is_best (int_at π.reserve j) (cap_here j) g.ramp_up (level g first d j) (power_in d (suc j))
-      (reserve_in other (suc j)) (price_at j low) (kept_here j from low)).best in
-      let e = ap (λ (r : ℤ). int_at π.reserve j *ℤ r) (best j from low) in
-      omega (arith, ints)
+  -- the reserve of d is the best at its powers, where the other one may be kept too
+  best_law : (j : ℕ) → first ≤ suc j → j < last → IsBestReserve (int_at π.reserve j) (cap_here j) g.ramp_up
+      (level g first d j) (power_in d (suc j)) (reserve_in other (suc j))
+  best_law j from low =
+      let n = move_same (level_shared j low) (same j from low) refl (move_of unit last from (omega arith) dispatch) in
+      reserve_is_best (int_at π.reserve j) (cap_here j) g.ramp_up (level g first d j) (power_in d (suc j))
+      (reserve_in other (suc j)) (prices.reserve j (pos 0) (omega arith)).at_least
+      (record { least = reserve_not_negative other j; greatest = n.greatest; ramp = n.ramp_up })
 
   net_parts : (j : ℕ) → first ≤ suc j → j < last → net_cost g π other (suc j) ≡ net_cost_at g π j (power_in d (suc j))
       (reserve_in other (suc j))
@@ -84,7 +67,8 @@ module _ (g : ThermalUnit) (π : PriceLists) (first last : ℕ) (unit : IsTherma
   net_le zero from low = omega (arith, ints)
   net_le (suc j) from low =
       let e = net_parts j from (omega arith) in
-      let b = worth_le j from (omega arith) in
+      let b = (best_law j from (omega arith)).best in
+      let worth = ap (λ (r : ℤ). int_at π.reserve j *ℤ r) (best j from (omega arith)) in
       omega (arith, ints)
 
   pub reserve_first : spell_cost g π first last other ≡ spell_cost g π first last d → (k : ℕ) → first ≤ suc k →
@@ -99,14 +83,12 @@ module _ (g : ThermalUnit) (π : PriceLists) (first last : ℕ) (unit : IsTherma
       let e = net_parts k from low in
       let is = best k from low in
       let worth = ap (λ (r : ℤ). int_at π.reserve k *ℤ r) is in
-      let law = reserve_is_best (int_at π.reserve k) (cap_here k) g.ramp_up (level g first d k) (power_in d (suc k))
-      (reserve_in other (suc k)) (price_at k low) (kept_here k from low) in
-      let least = law.least (omega (arith, ints)) in
+      let least = (best_law k from low).least (omega (arith, ints)) in
       omega (arith, ints)
 
 -- ---- a whole spell
 
-module _ (g : ThermalUnit) (π : PriceLists) (first b last : ℕ) (base : ℤ) (f : Table) (d : Schedule) (y c : ℤ)
+module _ {g : ThermalUnit} {π : PriceLists} {first b last : ℕ} {base : ℤ} {f : Table} {d : Schedule} {y c : ℤ}
     (unit : IsThermalUnit g) (prices : ArePrices π) (point : IsPoint base (pos 0) f)
     (none : (k : ℕ) → first ≤ suc k → suc k ≤ b → ⊥) (start : (k : ℕ) → first ≤ suc k →
     b ≤ k) (at : level g first d b ≡ base) (cost_none : spell_cost g π first b d ≡ pos 0)
@@ -127,7 +109,7 @@ module _ (g : ThermalUnit) (π : PriceLists) (first b last : ℕ) (base : ℤ) (
     record {
       power = λ other dispatch cost k from low same. way.first_after other dispatch cost k (start k from) low same;
       reserve = λ other dispatch cost same.
-          reserve_first g π first last unit prices end d other whole.0 dispatch
-          (λ j from low. whole.2 j (start j from) low) same (cost ∙ sym whole.1);
+          reserve_first unit prices end d dispatch (λ j from low. whole.2 j (start j from) low) same
+          (cost ∙ sym whole.1);
     },
   )

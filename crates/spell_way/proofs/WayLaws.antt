@@ -5,10 +5,10 @@ use Rattle.spell_way.proofs.Common.{◌&&◌, eqb, ltb, length, Some, refl, sym,
 use Rattle.spell_way.proofs.Common.{cases_lt, eq-eqb, ne_eqb, and_right, IsCostCurve, reserve_term, IsLeast, same_some}
 use Rattle.spell_way.proofs.Common.{Table, value_of, Curve, ThermalUnit, PriceLists, Schedule, IsThermalUnit, ArePrices}
 use Rattle.spell_way.proofs.Common.{power_in, reserve_in, int_at, IsFrontier, IsChosen, stops_at, HasSamePowersAfter}
-use Rattle.spell_way.proofs.Common.{IsSameAfter, HasBestReserve, IsWayFrom, best_reserve, IsReserve, IsDispatch}
+use Rattle.spell_way.proofs.Common.{IsSameAfter, HasBestReserve, IsWayFrom, best_reserve, IsDispatch}
 use Rattle.spell_way.proofs.Common.{net_cost_at, net_cost, spell_cost, cap_at, step_at, IsMove, level, IsRun, IsStepped}
 use Rattle.spell_run.proofs.ReserveLaws.{best_may}
-use Rattle.spell_run.proofs.RunLaws.{level_power, move_same, run_more, cost_more, reserve_not_negative, move_parts}
+use Rattle.spell_run.proofs.RunLaws.{level_power, MovesIn, move_same, run_more, cost_more, reserve_not_negative, move_parts}
 use Rattle.spell_run.proofs.RunLaws.{move_whole, dispatch_from_run, run_from_dispatch, end_from_dispatch}
 use Rattle.spell_run.proofs.StepLaws.{step_sound, step_complete, net_of_best, net_at_least}
 use Rattle.spell_run.proofs.SumLaws.{added}
@@ -29,68 +29,70 @@ stops_last periods k = ap (λ (b : Bool). ltb (suc k) periods && b) (eq-eqb (suc
 
 -- ---- dispatches period by period
 
-module _ (g : ThermalUnit) (periods first : ℕ) (ramp_down : pos 0 ≤ℤ g.ramp_down) (d : Schedule) where
+module _ {g : ThermalUnit} {periods first : ℕ} {d : Schedule} (unit : IsThermalUnit g) where
   -- what a dispatch does in period suc k, with the stop that follows
-  pub move_of : (last k : ℕ) → first ≤ suc k → suc k ≤ last → IsDispatch g periods first last d →
-      IsMove g (eqb first (suc k)) (stops_at last periods k) (level g first d k) (power_in d (suc k))
-      (reserve_in d (suc k))
-  move_of zero k from until dispatch = absurd (omega arith)
-  move_of (suc m) k from until dispatch =
+  pub move_of : (last : ℕ) {k : ℕ} → first ≤ suc k → suc k ≤ last → IsDispatch g periods first last d →
+      MovesIn g first k (stops_at last periods k) d
+  move_of zero from until dispatch = absurd (omega arith)
+  move_of (suc m) {k = k} from until dispatch =
       let start : first ≤ suc m = omega arith in
-      let run = run_from_dispatch g periods first ramp_down d m start dispatch in
+      let run = run_from_dispatch unit start dispatch in
       elim (cases_lt (suc k) (suc m)) [
-        | inl less ↦
-            let e = stops_before (suc m) periods k less in
-            rw e (run k from until)
+        | inl less ↦ rw (stops_before (suc m) periods k less) (run k from until)
         | inr most ↦
             let z : m ≡ k = omega arith in
-            let end = end_from_dispatch g periods first ramp_down d m start dispatch in
-            let whole = move_whole g (eqb first (suc m)) periods m (level g first d m) (power_in d (suc m))
-            (reserve_in d (suc m)) (run m start (omega arith)) end in
-            let stop = rw (← (stops_last periods m)) at whole in
-            subst (λ (j : ℕ). IsMove g (eqb first (suc j)) (stops_at (suc m) periods j) (level g first d j)
-            (power_in d (suc j)) (reserve_in d (suc j))) z stop
+            let whole = move_whole first (run m start (omega arith)) (end_from_dispatch unit start dispatch) in
+            let stop = rw (← stops_last periods m) at whole in
+            subst (λ (j : ℕ). MovesIn g first j (stops_at (suc m) periods j) d) z stop
       ]
 
-  pub run_of : (last k : ℕ) → first ≤ suc k → suc k ≤ last → IsDispatch g periods first last d → IsRun g first k d
-  run_of zero k from until dispatch = absurd (omega arith)
-  run_of (suc m) k from until dispatch = λ j low high.
-      run_from_dispatch g periods first ramp_down d m (omega arith) dispatch j low
-      (omega arith)
+  pub run_of : (last : ℕ) {k : ℕ} → first ≤ suc k → suc k ≤ last → IsDispatch g periods first last d → IsRun g first k d
+  run_of zero from until dispatch = absurd (omega arith)
+  run_of (suc m) from until dispatch = λ j low high.
+      run_from_dispatch unit (omega arith) dispatch j low (omega arith)
 
 -- ---- a period whose own power is found
 
-module _ (g : ThermalUnit) (π : PriceLists) (first k last : ℕ) where
-  abbrev periods : ℕ
-  periods = length π.energy
-
-  abbrev starts : Bool
-  starts = eqb first (suc k)
-
-  abbrev stops : Bool
-  stops = stops_at last periods k
-
-  -- with a move to power x in period suc k the later periods of d make a dispatch, and with the cheapest one of cost c
-  pub record IsOnward (h : Table) (d : Schedule) (x c : ℤ) : Type 0 where
+-- with a move to power x in period suc k the later periods of d make a dispatch, and with the cheapest one of cost c
+pub record IsOnward (g : ThermalUnit) (π : PriceLists) (first k last : ℕ) (h : Table) (d : Schedule) (x c : ℤ) : Type 0
+  where
     pub value : ℤ
     pub there : value_of h x ≡ Some value
     pub completes : (run : Schedule) → IsRun g first k run → power_in run (suc k) ≡ x →
-        IsMove g starts stops (level g first run k) (power_in run (suc k)) (reserve_in run (suc k)) →
-        IsSameAfter (suc k) last d run →
-        IsDispatch g periods first last run ×
+        MovesIn g first k (stops_at last (length π.energy) k) run → IsSameAfter (suc k) last d run →
+        IsDispatch g (length π.energy) first last run ×
         (spell_cost g π first last run ≡ spell_cost g π first (suc k) run +ℤ (c -ℤ value)) × ((j : ℕ) → suc k ≤ j →
         j < last → HasBestReserve g π first last run j)
-    pub least : (other : Schedule) → IsDispatch g periods first last other → c ≤ℤ spell_cost g π first last other
-    pub rest : (other : Schedule) → IsDispatch g periods first last other → HasSamePowersAfter (suc k) last d other →
-        power_in other (suc k) ≡ x →
+    pub least : (other : Schedule) → IsDispatch g (length π.energy) first last other →
+        c ≤ℤ spell_cost g π first last other
+    pub rest : (other : Schedule) → IsDispatch g (length π.energy) first last other →
+        HasSamePowersAfter (suc k) last d other → power_in other (suc k) ≡ x →
         (spell_cost g π first (suc k) other +ℤ (c -ℤ value)) ≤ℤ spell_cost g π first last other
-    pub first_here : (other : Schedule) → IsDispatch g periods first last other → spell_cost g π first last other ≡ c →
-        HasSamePowersAfter (suc k) last d other → x ≤ℤ power_in other (suc k)
-    pub first_after : (other : Schedule) → IsDispatch g periods first last other → spell_cost g π first last other ≡ c →
-        (i : ℕ) → suc k ≤ i → i < last → HasSamePowersAfter (suc i) last d other →
-        power_in d (suc i) ≤ℤ power_in other (suc i)
+    pub first_here : (other : Schedule) → IsDispatch g (length π.energy) first last other →
+        spell_cost g π first last other ≡ c → HasSamePowersAfter (suc k) last d other → x ≤ℤ power_in other (suc k)
+    pub first_after : (other : Schedule) → IsDispatch g (length π.energy) first last other →
+        spell_cost g π first last other ≡ c → (i : ℕ) → suc k ≤ i → i < last →
+        HasSamePowersAfter (suc i) last d other → power_in d (suc i) ≤ℤ power_in other (suc i)
 
-module _ (g : ThermalUnit) (π : PriceLists) (first k : ℕ) (c : Curve) (unit : IsThermalUnit g) (prices : ArePrices π)
+-- a period before the last one
+pub onward_more : {g : ThermalUnit} {π : PriceLists} {first k last : ℕ} {h : Table} {d : Schedule} {x c : ℤ} →
+    first ≤ suc k → suc k < last → IsWayFrom g π first (suc k) last h d x c → IsOnward g π first k last h d x c
+onward_more {g = g} {π = π} {first = first} {k = k} {last = last} from low way = record {
+  value = way.before;
+  there = way.there;
+  completes = λ run keeps power move same.
+      let m = rw (stops_before last (length π.energy) k low) at move in
+      way.completes run (run_more run keeps m) (level_power g first run k from ∙ power) same;
+  least = way.least;
+  rest = λ other dispatch same power. way.rest other dispatch same (level_power g first other k from ∙ power);
+  first_here = λ other dispatch cost_is same.
+      let a = way.first_before other dispatch cost_is same in
+      let e = level_power g first other k from in
+      omega (arith, ints);
+  first_after = way.first_after;
+}
+
+module _ {g : ThermalUnit} {π : PriceLists} {first k : ℕ} {c : Curve} (unit : IsThermalUnit g) (prices : ArePrices π)
     (curve : IsCostCurve g.points c) (within : k < length π.energy) (from : first ≤ suc k) where
   abbrev T : ℕ
   T = length π.energy
@@ -103,18 +105,15 @@ module _ (g : ThermalUnit) (π : PriceLists) (first k : ℕ) (c : Curve) (unit :
 
   -- ---- the last period
 
-  module _ (f h : Table) (front : IsFrontier g π first k f)
-      (step : IsStepped (step_at g π k (eqb first (suc k)) (stops_at (suc k) T k)) c f h) (d : Schedule) (x cost : ℤ)
+  module _ {f h : Table} (front : IsFrontier g π first k f)
+      (step : IsStepped (step_at g π k (eqb first (suc k)) (stops_at (suc k) T k)) c f h) (d : Schedule) {x cost : ℤ}
       (is : IsLeast h cost x) where
     last_value : (other : Schedule) → IsDispatch g T first (suc k) other →
         (v : ℤ) × (value_of h (power_in other (suc k)) ≡ Some v) × (v ≤ℤ spell_cost g π first (suc k) other)
     last_value other dispatch =
-        let b = front.complete other
-        (run_of g T first unit.ramp_down.at_least other (suc k) k from (omega arith) dispatch) in
-        let m = move_of g T first unit.ramp_down.at_least other (suc k) k from (omega arith) dispatch in
-        let s = step_complete g π k c unit price curve (eqb first (suc k)) (stops_at (suc k) T k) f h step
-        (level g first other k) b.0 (power_in other (suc k)) (reserve_in other (suc k)) b.1 m
-        (reserve_not_negative other k) in
+        let b = front.complete other (run_of unit (suc k) from (omega arith) dispatch) in
+        let s = step_complete π k unit price curve (eqb first (suc k)) (stops_at (suc k) T k) step b.1
+        (move_of unit (suc k) from (omega arith) dispatch) (reserve_not_negative other k) in
         let more = cost_more g π first k other from in
         (s.0, s.1, omega (arith, ints))
 
@@ -123,49 +122,28 @@ module _ (g : ThermalUnit) (π : PriceLists) (first k : ℕ) (c : Curve) (unit :
       value = cost;
       there = is.there;
       completes = λ run keeps power move same.
-          let m = rw (stops_last T k) at move in
-          let parts = move_parts g (eqb first (suc k)) T k (level g first run k) (power_in run (suc k))
-          (reserve_in run (suc k)) m in (
-            dispatch_from_run g T first unit.ramp_down.at_least run k from (run_more g first k run keeps parts.0)
-                parts.1,
+          let parts = move_parts first k T run (rw (stops_last T k) at move) in (
+            dispatch_from_run run from (run_more run keeps parts.0) parts.1,
             omega (arith, ints),
             λ j low high. absurd (omega arith),
           );
       least = λ other dispatch.
-          (let l = last_value other dispatch in let a = is.least (power_in other (suc k)) l.0 l.1 in let b = l.2 in
-          omega (arith, ints));
+          let l = last_value other dispatch in
+          let a = is.least (power_in other (suc k)) l.0 l.1 in
+          omega (arith, ints);
       rest = λ other dispatch same power. omega (arith, ints);
       first_here = λ other dispatch cost_is same.
           let l = last_value other dispatch in
           let a = is.least (power_in other (suc k)) l.0 l.1 in
-          let b = l.2 in
           let e : l.0 ≡ cost = omega (arith, ints) in
           is.first (power_in other (suc k)) (cc);
       first_after = λ other dispatch cost_is i low high same. absurd (omega arith);
     }
 
-  -- ---- a period before the last one
-
-  module _ (last : ℕ) (low : suc k < last) (f h : Table) (front : IsFrontier g π first k f) (d : Schedule) (x cost : ℤ)
-      (way : IsWayFrom g π first (suc k) last h d x cost) where
-    pub onward_more : IsOnward g π first k last h d x cost
-    onward_more = record {
-      value = way.before;
-      there = way.there;
-      completes = λ run keeps power move same.
-          let m = rw (stops_before last T k low) at move in
-          way.completes run (run_more g first k run keeps m) (level_power g first run k from ∙ power) same;
-      least = way.least;
-      rest = λ other dispatch same power. way.rest other dispatch same (level_power g first other k from ∙ power);
-      first_here = λ other dispatch cost_is same.
-          (let a = way.first_before other dispatch cost_is same in let e = level_power g first other k from in omega (arith, ints));
-      first_after = way.first_after;
-    }
-
   -- ---- the power before it
 
-  module _ (last : ℕ) (low : suc k ≤ last) (f h : Table) (front : IsFrontier g π first k f)
-      (step : IsStepped (step_at g π k (eqb first (suc k)) (stops_at last T k)) c f h) (d d' : Schedule) (x y cost : ℤ)
+  module _ {last : ℕ} (low : suc k ≤ last) {f h : Table} (front : IsFrontier g π first k f)
+      (step : IsStepped (step_at g π k (eqb first (suc k)) (stops_at last T k)) c f h) {d d' : Schedule} {x y cost : ℤ}
       (onward : IsOnward g π first k last h d x cost)
       (chosen : IsChosen (step_at g π k (eqb first (suc k)) (stops_at last T k)) f k x y d d') where
     abbrev begins : Bool
@@ -180,18 +158,22 @@ module _ (g : ThermalUnit) (π : PriceLists) (first k : ℕ) (c : Curve) (unit :
     abbrev term : ℤ → ℤ
     term q = reserve_term mu cap g.ramp_up q
 
-    abbrev r : ℤ
-    r = best_reserve mu cap g.ramp_up y x
+    abbrev best_at : ℤ → ℤ
+    best_at q = best_reserve mu cap g.ramp_up q x
 
     source : (w : ℤ) × (value_of f y ≡ Some w) × (chosen.value ≡ w +ℤ term y)
     source = added term y chosen.value (value_of f y) (value_of chosen.kinked y) (chosen.is_kinked y) chosen.least.there
 
+    -- a value before the kink is one after it
+    kinked : (q v : ℤ) → value_of f q ≡ Some v → value_of chosen.kinked q ≡ Some (v +ℤ term q)
+    kinked q v there = chosen.is_kinked q ∙ ap (option_map (λ v. v +ℤ term q)) there
+
     abbrev w : ℤ
     w = source.0
 
-    move : IsMove g begins ends y x r
+    move : IsMove g begins ends y x (best_at y)
     move =
-        let m = step_sound g π k c unit price curve begins ends f h step x onward.value onward.there in
+        let m = step_sound π k unit price curve begins ends step x onward.there in
         let may = best_may mu cap g.ramp_up y x (omega (arith, ints)) (omega (arith, ints)) in
         record {
           least = m.move.least;
@@ -202,27 +184,19 @@ module _ (g : ThermalUnit) (π : PriceLists) (first k : ℕ) (c : Curve) (unit :
         }
 
     -- it is the value that the step has at x
-    value_is : onward.value ≡ w +ℤ net_cost_at g π k x r
+    value_is : onward.value ≡ w +ℤ net_cost_at g π k x (best_at y)
     value_is =
-        let m = step_sound g π k c unit price curve begins ends f h step x onward.value onward.there in
+        let m = step_sound π k unit price curve begins ends step x onward.there in
         let q = m.before in
-        let kept = m.not_negative in
-        let greatest = m.move.greatest in
-        let up = m.move.ramp_up in
-        let may_x = move.greatest in
-        let may = best_may mu cap g.ramp_up y x (omega (arith, ints))
+        let may = best_may mu cap g.ramp_up y x (omega (arith, ints)) (omega (arith, ints)) in
+        let s = step_complete π k unit price curve begins ends step source.1 move may.least in
+        let same = same_some {a = s.0} (value_of h x) s.1 onward.there in
+        let least = chosen.least.least q (m.old +ℤ term q) (kinked q m.old m.there) (omega (arith, ints))
         (omega (arith, ints)) in
-        let s = step_complete g π k c unit price curve begins ends f h step y w x r source.1 move may.least in
-        let same = same_some (value_of h x) s.1 onward.there in
-        let kinked : value_of chosen.kinked q ≡ Some (m.old +ℤ term q) = chosen.is_kinked q ∙
-        ap (option_map (λ v. v +ℤ term q)) m.there in
-        let least = chosen.least.least q (m.old +ℤ term q) kinked (omega (arith, ints))
-        (omega (arith, ints)) in
-        let below = net_at_least g π k price cap q x m.reserve (record { least = kept; greatest = greatest; ramp = up })
-        in
+        let below = net_at_least g π k price cap q x
+        (record { least = m.not_negative; greatest = m.move.greatest; ramp = m.move.ramp_up }) in
         let net_q = net_of_best g π k price cap q x in
         let net_y = net_of_best g π k price cap y x in
-        let is = m.cost in
         let from_y = source.2 in
         omega (arith, ints)
 
@@ -231,9 +205,6 @@ module _ (g : ThermalUnit) (π : PriceLists) (first k : ℕ) (c : Curve) (unit :
 
     reserve_after : (j : ℕ) → suc k ≤ j → reserve_in d' (suc j) ≡ reserve_in d (suc j)
     reserve_after j later = ap pos (chosen.written.outside.reserve j (inr (omega arith)))
-
-    same_later : (other : Schedule) → HasSamePowersAfter (suc k) last d' other → HasSamePowersAfter (suc k) last d other
-    same_later other same j later high = same j later high ∙ power_after j later
 
     later_of : (i : ℕ) (other : Schedule) → k ≤ i → HasSamePowersAfter (suc i) last d' other →
         HasSamePowersAfter (suc i) last d other
@@ -244,26 +215,21 @@ module _ (g : ThermalUnit) (π : PriceLists) (first k : ℕ) (c : Curve) (unit :
         ((j : ℕ) → k ≤ j → j < last → HasBestReserve g π first last run j)
     way_completes run keeps at same =
         let power : power_in run (suc k) ≡ x = same.power k (omega arith) (omega arith) ∙ chosen.written.power in
-        let reserve : reserve_in run (suc k) ≡ r = same.reserve k (omega arith) (omega arith) ∙
+        let reserve : reserve_in run (suc k) ≡ best_at y = same.reserve k (omega arith) (omega arith) ∙
         chosen.written.reserve in
-        let m = move_same g begins ends y x r (level g first run k) (power_in run (suc k)) (reserve_in run (suc k))
-        (sym at) (sym power) (sym reserve) move in
-        let later : IsSameAfter (suc k) last d run = record {
+        let o = onward.completes run keeps power (move_same (sym at) (sym power) (sym reserve) move) (record {
           power = λ j above high. same.power j (omega arith) high ∙ power_after j above;
           reserve = λ j above high. same.reserve j (omega arith) high ∙ reserve_after j above;
-        } in
-        let o = onward.completes run keeps power m later in
+        }) in
         let more = cost_more g π first k run from in
-        let net : net_cost g π run (suc k) ≡ net_cost_at g π k x r = cc in
+        let net : net_cost g π run (suc k) ≡ net_cost_at g π k x (best_at y) = cc in
         let is = value_is in
-        let best : HasBestReserve g π first last run k =
-        cc in (
+        let best : HasBestReserve g π first last run k = cc in (
           o.0,
           omega (arith, ints),
           λ j above high. elim (cases_lt k j) [
             | inl after ↦ o.2 j (omega arith) high
-            | inr most ↦ let z : k ≡ j = omega arith in subst
-                (λ (i : ℕ). HasBestReserve g π first last run i) z best
+            | inr most ↦ let z : k ≡ j = omega arith in subst (λ (i : ℕ). HasBestReserve g π first last run i) z best
           ],
         )
 
@@ -277,16 +243,12 @@ module _ (g : ThermalUnit) (π : PriceLists) (first k : ℕ) (c : Curve) (unit :
         other_power = same k (omega arith) (omega arith) ∙ chosen.written.power
 
         other_move : IsMove g begins ends q x (reserve_in other (suc k))
-        other_move =
-            move_same g begins ends q (power_in other (suc k)) (reserve_in other (suc k)) q x (reserve_in other (suc k))
-            refl other_power refl
-            (move_of g T first unit.ramp_down.at_least other last k from low dispatch)
+        other_move = move_same refl other_power refl (move_of unit last from low dispatch)
 
-        other_net : net_cost_at g π k x (best_reserve mu cap g.ramp_up q x) ≤ℤ net_cost g π other (suc k)
+        other_net : net_cost_at g π k x (best_at q) ≤ℤ net_cost g π other (suc k)
         other_net =
-            let may : IsReserve cap g.ramp_up q x (reserve_in other (suc k)) = record
-            { least = reserve_not_negative other k; greatest = other_move.greatest; ramp = other_move.ramp_up } in
-            let least = net_at_least g π k price cap q x (reserve_in other (suc k)) may in
+            let least = net_at_least g π k price cap q x (record
+            { least = reserve_not_negative other k; greatest = other_move.greatest; ramp = other_move.ramp_up }) in
             let same_net : net_cost g π other (suc k) ≡ net_cost_at g π k x (reserve_in other (suc k)) = ap
             (λ (p : ℤ). net_cost_at g π k p (reserve_in other (suc k))) other_power in
             omega (arith, ints)
@@ -295,8 +257,7 @@ module _ (g : ThermalUnit) (π : PriceLists) (first k : ℕ) (c : Curve) (unit :
             spell_cost g π first last other
         other_rest =
             let o = onward.rest other dispatch
-            (λ j later high. same j (omega arith) high ∙ power_after j later)
-            other_power in
+            (λ j later high. same j (omega arith) high ∙ power_after j later) other_power in
             let more = cost_more g π first k other from in
             omega (arith, ints)
 
@@ -305,8 +266,8 @@ module _ (g : ThermalUnit) (π : PriceLists) (first k : ℕ) (c : Curve) (unit :
             let o = other_rest in
             let n = other_net in
             let is = value_is in
-            let e : net_cost_at g π k x (best_reserve mu cap g.ramp_up q x) ≡ net_cost_at g π k x r = ap
-            (λ (z : ℤ). net_cost_at g π k x (best_reserve mu cap g.ramp_up z x)) at in
+            let e : net_cost_at g π k x (best_at q) ≡ net_cost_at g π k x (best_at y) = ap
+            (λ (z : ℤ). net_cost_at g π k x (best_at z)) at in
             omega (arith, ints)
 
         way_first : spell_cost g π first last other ≡ cost → y ≤ℤ q
@@ -314,15 +275,13 @@ module _ (g : ThermalUnit) (π : PriceLists) (first k : ℕ) (c : Curve) (unit :
             let o = other_rest in
             let n = other_net in
             let is = value_is in
-            let b = front.complete other (run_of g T first unit.ramp_down.at_least other last k from low dispatch) in
-            let kinked : value_of chosen.kinked q ≡ Some (b.0 +ℤ term q) = chosen.is_kinked q ∙
-            ap (option_map (λ v. v +ℤ term q)) b.1 in
+            let m = other_move in
+            let b = front.complete other (run_of unit last from low dispatch) in
+            let there = kinked q b.0 b.1 in
             let kept = reserve_not_negative other k in
-            let up = other_move.ramp_up in
-            let down = other_move.ramp_down in
             let back : (x -ℤ g.ramp_up) ≤ℤ q = omega (arith, ints) in
             let ahead : q ≤ℤ (x +ℤ g.ramp_down) = omega (arith, ints) in
-            let least = chosen.least.least q (b.0 +ℤ term q) kinked back ahead in
+            let least = chosen.least.least q (b.0 +ℤ term q) there back ahead in
             let net_q = net_of_best g π k price cap q x in
             let net_y = net_of_best g π k price cap y x in
             let from_y = source.2 in
@@ -334,14 +293,13 @@ module _ (g : ThermalUnit) (π : PriceLists) (first k : ℕ) (c : Curve) (unit :
         power_in d' (suc i) ≤ℤ power_in other (suc i)
     way_after other dispatch cost_is i above high same = elim (cases_lt k i) [
       | inl after ↦
-          let a = onward.first_after other dispatch cost_is i (omega arith) high (later_of i other above same)
-          in
+          let a = onward.first_after other dispatch cost_is i (omega arith) high (later_of i other above same) in
           let e = power_after i (omega arith) in
           omega (arith, ints)
       | inr most ↦
           let z : i ≡ k = omega arith in
           let here : HasSamePowersAfter (suc k) last d' other = rw z at same in
-          let a = onward.first_here other dispatch cost_is (same_later other here) in
+          let a = onward.first_here other dispatch cost_is (later_of k other (omega arith) here) in
           let b : power_in d' (suc k) ≤ℤ power_in other (suc k) = omega (arith, ints) in
           subst (λ (t : ℕ). power_in d' (suc t) ≤ℤ power_in other (suc t)) (sym z) b
     ]

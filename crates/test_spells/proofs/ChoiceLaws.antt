@@ -1,19 +1,20 @@
 -- The powers that one is chosen from as they are stored, and what is chosen.
 use Rattle.test_spells.proofs.Common.{◌≡◌, ℕ, ℤ, ◌+ℤ◌, ◌-ℤ◌, sym, ap, ◌∙◌, subst, arith, ints, reserve_term, IsLeastIn, Table, value_of, HasNone, Some, Schedule, IsFrom, IsOutput, Step, IsWritten, IsChosen, best_reserve, IsFairStep, IsKinked, IsSmall}
-use Rattle.spell_way.proofs.ChoiceLaws.{stored, stored_within, output_stored}
+use Rattle.plain_lists.proofs.SignedLaws.{stored, stored_is}
+use Rattle.spell_run.proofs.FairLaws.{output_stored}
 use Rattle.spell_run.proofs.SumLaws.{added}
 
 module _ (s : Step) (fair : IsFairStep s) (p : ℤ) (p_out : IsOutput p) where
   up_stored : stored s.ramp_up ≡ s.ramp_up
-  up_stored = stored_within s.ramp_up (let a = fair.ramp_up.at_least in let b = fair.ramp_up.at_most in record { at_least = omega (arith, ints, a); at_most = omega (arith, ints, b) })
+  up_stored = stored_is s.ramp_up (let a = fair.ramp_up.at_least in let b = fair.ramp_up.at_most in record { at_least = omega (arith, ints, a); at_most = omega (arith, ints, b) })
 
   down_stored : stored s.ramp_down ≡ s.ramp_down
-  down_stored = stored_within s.ramp_down (let a = fair.ramp_down.at_least in let b = fair.ramp_down.at_most in record { at_least = omega (arith, ints, a); at_most = omega (arith, ints, b) })
+  down_stored = stored_is s.ramp_down (let a = fair.ramp_down.at_least in let b = fair.ramp_down.at_most in record { at_least = omega (arith, ints, a); at_most = omega (arith, ints, b) })
 
   low_stored : stored (stored p -ℤ stored s.ramp_up) ≡ p -ℤ s.ramp_up
   low_stored =
-      ap (λ (x : ℤ). stored (x -ℤ stored s.ramp_up)) (output_stored p p_out) ∙ ap (λ (x : ℤ). stored (p -ℤ x)) up_stored
-      ∙ stored_within (p -ℤ s.ramp_up) (
+      ap (λ (x : ℤ). stored (x -ℤ stored s.ramp_up)) (output_stored p_out) ∙ ap (λ (x : ℤ). stored (p -ℤ x)) up_stored
+      ∙ stored_is (p -ℤ s.ramp_up) (
       let a = fair.ramp_up.at_least in
       let b = fair.ramp_up.at_most in
       let c = p_out.at_least in
@@ -23,8 +24,8 @@ module _ (s : Step) (fair : IsFairStep s) (p : ℤ) (p_out : IsOutput p) where
 
   high_stored : stored (stored p +ℤ stored s.ramp_down) ≡ p +ℤ s.ramp_down
   high_stored =
-      ap (λ (x : ℤ). stored (x +ℤ stored s.ramp_down)) (output_stored p p_out) ∙ ap (λ (x : ℤ). stored (p +ℤ x)) down_stored
-      ∙ stored_within (p +ℤ s.ramp_down) (
+      ap (λ (x : ℤ). stored (x +ℤ stored s.ramp_down)) (output_stored p_out) ∙ ap (λ (x : ℤ). stored (p +ℤ x)) down_stored
+      ∙ stored_is (p +ℤ s.ramp_down) (
       let a = fair.ramp_down.at_least in
       let b = fair.ramp_down.at_most in
       let c = p_out.at_least in
@@ -62,11 +63,11 @@ pub chosen_stored : (s : Step) (f g : Table) (k : ℕ) (x y v : ℤ) (d d' : Sch
 chosen_stored s f g k x y v d d' fair small found kinked least written =
     let out = found_out s x fair found in
     let before = kinked_out s f g y v small kinked least.there in
-    let e = output_stored y before in
+    let e = output_stored before in
     record {
       kinked = g;
       is_kinked = kinked;
       value = v;
       least = subst (λ (z : ℤ). IsLeastIn (x -ℤ s.ramp_up) (x +ℤ s.ramp_down) g v z) (sym e) (least_stored s fair x out g v y least);
-      written = subst (λ (z : ℤ). IsWritten k z (best_reserve s.reserve_price s.cap s.ramp_up (stored y) z) d d') (output_stored x out) written;
+      written = subst (λ (z : ℤ). IsWritten k z (best_reserve s.reserve_price s.cap s.ramp_up (stored y) z) d d') (output_stored out) written;
     }

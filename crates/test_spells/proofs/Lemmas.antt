@@ -1,6 +1,6 @@
 -- The lemmas that answers cite, passed on from one place.
-pub use Rattle.spell_way.proofs.ChoiceLaws.{output_stored}
-pub use Rattle.spell_run.proofs.FairLaws.{cost_is, alike_of, step_moved}
+pub use Rattle.spell_run.proofs.FairLaws.{output_stored}
+pub use Rattle.spell_run.proofs.FairLaws.{cost_is, alike_of}
 pub use Rattle.spell_run.proofs.FrontierLaws.{frontier_more, small_frontier, answer_of_step, answer_at_end, answer_alike}
 pub use Rattle.spell_way.proofs.NoteLaws.{outside_more}
 pub use Rattle.spell_way.proofs.OnLaws.{on_last, on_more}

@@ -46,7 +46,7 @@ module _ {g : ThermalUnit} {π : PriceLists} {first k last : ℕ} {c : Curve} {s
   taken = subst (λ (s : Step). IsStepped s c f h) p.step_is p.step
 
   moved : (x v : ℤ) → value_of h x ≡ Some v → IsFromMove g π k starts stops f x v
-  moved = step_sound g π k c p.unit price p.curve starts stops f h taken
+  moved x v is = step_sound π k p.unit price p.curve starts stops taken x is
 
   pub found_range : (x v : ℤ) → value_of h x ≡ Some v → IsFrom s.least s.cap x
   found_range x v is =
@@ -60,7 +60,7 @@ module _ {g : ThermalUnit} {π : PriceLists} {first k last : ℕ} {c : Curve} {s
   small_period =
       let horizon = p.prices.horizon.at_most in
       let within = p.within in
-      small_frontier g π first k f (omega (arith, horizon, within)) p.frontier
+      small_frontier (omega (arith, horizon, within)) p.frontier
 
   -- ---- the last period
 
@@ -68,13 +68,13 @@ module _ {g : ThermalUnit} {π : PriceLists} {first k last : ℕ} {c : Curve} {s
     pub onward_last : (d : Schedule) (x cost : ℤ) → IsLeast h cost x → IsOnward g π first k last h d x cost
     onward_last d x cost least =
         let P : ℕ → Type 0 = λ l. IsStepped (step_at g π k starts (stops_at l (length π.energy) k)) c f h → IsOnward g π first k l h d x cost in
-        subst P is (λ step. onward_end g π first k c p.unit p.prices p.curve p.within p.from f h p.frontier step d x cost least) taken
+        subst P is (λ step. onward_end p.unit p.prices p.curve p.within p.from p.frontier step d least) taken
 
     answer_last : (o : Option ℤ) → IsLeastCost h o → IsSpellAnswer g π (length π.energy) first last o × IfSome o (IsSpellWithin first last)
     answer_last o least =
         let stop = subst (λ (l : ℕ). stops_at l (length π.energy) k ≡ ltb (suc k) (length π.energy)) is (stops_last (length π.energy) k) in
         subst (λ (l : ℕ). IsSpellAnswer g π (length π.energy) first l o × IfSome o (IsSpellWithin first l)) is
-        (answer_of_step g π first k c p.unit p.prices p.curve p.law p.within p.from f h p.frontier stops stop taken o least)
+        (answer_of_step p.unit p.prices p.curve p.law p.within p.from p.frontier stop taken o least)
 
     pub none_last : IsEmpty h → HasNoDispatch g (length π.energy) first last
     none_last empty = (answer_last None empty).0
@@ -87,10 +87,10 @@ module _ {g : ThermalUnit} {π : PriceLists} {first k last : ℕ} {c : Curve} {s
   pub frontier_next : suc k < last → IsFrontier g π first (suc k) h
   frontier_next low =
       let e = stops_before last (length π.energy) k low in
-      frontier_more g π first k c p.unit p.prices p.curve p.law p.within p.from f h p.frontier (subst (λ (b : Bool). IsStepped (step_at g π k starts b) c f h) e taken)
+      frontier_more p.unit p.prices p.curve p.law p.within p.from p.frontier (subst (λ (b : Bool). IsStepped (step_at g π k starts b) c f h) e taken)
 
   pub onward_next : suc k < last → (d : Schedule) (x cost : ℤ) → IsWayFrom g π first (suc k) last h d x cost → IsOnward g π first k last h d x cost
-  onward_next low = onward_more g π first k c p.unit p.prices p.curve p.within p.from last low f h p.frontier
+  onward_next low d x cost way = onward_more p.from low way
 
   -- ---- the choice, from a shape that is as it was
 
@@ -118,5 +118,5 @@ module _ {g : ThermalUnit} {π : PriceLists} {first k last : ℕ} {c : Curve} {s
     way_chosen (Ok None) unreached is P within on = absurd (is_reached unreached)
     way_chosen (Ok (Some found)) chosen is P within on =
         let there = subst (λ (s : Step). IsChosen s f k x found.power d d') p.step_is (subst (λ (f : Table). IsChosen s f k x found.power d d') same chosen) in
-        let way = way_of_choice g π first k c p.unit p.prices p.curve p.within p.from last low f h p.frontier taken d d' x found.power cost onward there in
+        let way = way_of_choice p.unit p.prices p.curve p.within p.from low p.frontier taken onward there in
         (subst (λ (z : ℤ). IsWayFrom g π first k last f d' found.power z) (sym is) way, subst (λ (z : ℤ). IsSpellWithin first last z) (sym is) within, on _ chosen.written)

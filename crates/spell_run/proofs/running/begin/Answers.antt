@@ -1,5 +1,5 @@
 use Rattle.slope_list.specs.Slopes.{shown}
-use Rattle.spell_run.proofs.Common.{rules, pos, to_z-of_z, FitsSigned, IsPoint, thermal_of}
+use Rattle.spell_run.proofs.Common.{rules, pos, to_z-of_z, FitsSigned, IsPoint}
 use Rattle.std.specs.Int.{w64}
 use Rattle.spell_run.proofs.Lemmas.{frontier_from}
 use Rattle.spell_run.proofs.running.begin.Goals as goal
@@ -9,5 +9,4 @@ returns-clause-frontier c = λ π.
     let fits : FitsSigned w64 c.power_before.result = search rules in
     let point : IsPoint c.power_before.result (pos 0) (shown c.restart.new.self) = simp to_z-of_z at
     c.restart.ensures.point in
-    frontier_from (thermal_of c.args.unit.now) π c.args.first c.power_before.result (shown c.restart.new.self)
-    c.args.unit.now.valid c.power_before.ensures.start c.power_before.ensures.goes_on point
+    frontier_from π c.args.first c.args.unit.now.valid c.power_before.ensures.start c.power_before.ensures.goes_on point

@@ -1,27 +1,22 @@
 use Rattle.slope_list.specs.Slopes.{shown}
-use Rattle.spell_run.proofs.Common.{rules, ◌≡◌, ◌⊎◌, pos, false, IfSome, suc, true, eqb, ◌<◌, length, sym, ap, ◌∙◌}
-use Rattle.spell_run.proofs.Common.{subst, arith, w64, FitsSigned, MatchOption, lt-ltb, to_z-of_z, IsLeast, IsLeastIn}
-use Rattle.spell_run.proofs.Common.{Table, value_of, IsEmpty, HasNone, Step, IsTurn, thermal_of, prices_of, int_at}
-use Rattle.spell_run.proofs.Common.{IsFrontier, end_cost, IsSpellAnswer, IsSpellWithin, cap_at, step_at}
+use Rattle.spell_run.proofs.Common.{rules, ◌≡◌, ◌⊎◌, pos, false, suc, true, eqb, ◌<◌, length, sym}
+use Rattle.spell_run.proofs.Common.{arith, w64, FitsSigned, MatchOption, lt-ltb, to_z-of_z, IsLeastIn}
+use Rattle.spell_run.proofs.Common.{HasNone, IsTurn, thermal_of, prices_of, int_at}
+use Rattle.spell_run.proofs.Common.{end_cost, cap_at, step_at}
 use Rattle.spell_run.proofs.EndLaws.{end_least, end_least_in, end_least_after, end_within, ended_last, ended_alike}
 use Rattle.spell_run.proofs.EndLaws.{ended_beside}
-use Rattle.spell_run.proofs.Lemmas.{alike_of, range_moved, cost_is, step_moved, small_frontier, answer_at_end}
-use Rattle.spell_run.proofs.Lemmas.{answer_alike, answer_of_step}
+use Rattle.spell_run.proofs.Lemmas.{alike_of, range_moved, cost_is, small_frontier, answer_at_end}
+use Rattle.spell_run.proofs.Lemmas.{answer_alike, answer_of_step, IsAnswer}
 use Rattle.spell_run.proofs.running.end_and_run.Goals as goal
 use Rattle.spell_run.proofs.running.end_and_run.Goals.{After-lowest_at-end, After-lowest_at-end-then-is_alike}
 use Rattle.spell_run.proofs.running.end_and_run.Goals.{After-run_over-note-2}
 
-at_end : (c : After-lowest_at-end) →
-    IsSpellAnswer (thermal_of c.args.unit.now) (prices_of c.args.prices.now) (length c.args.prices.now.energy.items)
-    c.args.first (suc c.args.place) (end_cost c.lowest_at-end.result) × IfSome (end_cost c.lowest_at-end.result)
-    (IsSpellWithin c.args.first (suc c.args.place))
+at_end : (c : After-lowest_at-end) → IsAnswer (thermal_of c.args.unit.now) (prices_of c.args.prices.now) c.args.first
+    c.args.place (end_cost c.lowest_at-end.result)
 at_end c =
-    let h = shown c.run_over-note.new.running in
-    answer_at_end (thermal_of c.args.unit.now) (prices_of c.args.prices.now) c.args.first c.args.place c.args.curve.now
-    c.args.unit.now.valid c.args.prices.now.valid c.requires.curve c.envelope_is_cost.ensures c.requires.place
-    c.requires.order
-    h c.run_over-note.ensures.frontier (omega arith) (end_cost c.lowest_at-end.result)
-    (end_least h c.least.result _ c.lowest_at-end.result c.least.ensures
+    answer_at_end c.args.unit.now.valid c.args.prices.now.valid c.requires.curve c.envelope_is_cost.ensures
+    c.requires.place c.requires.order c.run_over-note.ensures.frontier (omega arith) (end_cost c.lowest_at-end.result)
+    (end_least (shown c.run_over-note.new.running) c.least.result _ c.lowest_at-end.result c.least.ensures
     (c.lowest_at-end.ensures.none, c.lowest_at-end.ensures.some))
 
 pub returns-then-place-len-clause-answer : goal.returns-then-place-len-clause-answer
@@ -33,17 +28,9 @@ returns-then-place-len-clause-within c = end_within c.args.first (suc c.args.pla
 
 pub returns-then-place-len-clause-ended : goal.returns-then-place-len-clause-ended
 returns-then-place-len-clause-ended c =
-    let unit = thermal_of c.args.unit.now in
-    let prices = prices_of c.args.prices.now in
-    let first = c.args.first in
-    let place = c.args.place in
-    let f = shown c.args.running.now in
-    let h = shown c.run_over-note.new.running in
-    let end : suc c.args.place ≡ length c.args.prices.now.energy.items = omega arith in
     let fits : FitsSigned w64 c.run_over-note.result.turn = search rules in
-    ended_last unit prices first place c.run_over-note.result f h
-    c.requires.frontier c.run_over-note.ensures.frontier c.run_over-note.ensures.noted end c.least.result _
-    (to_z-of_z w64 c.run_over-note.result.turn fits) c.least.ensures c.lowest_at-end.result
+    ended_last c.requires.frontier c.run_over-note.ensures.frontier c.run_over-note.ensures.noted (omega arith)
+    c.least.result _ (to_z-of_z w64 c.run_over-note.result.turn fits) c.least.ensures c.lowest_at-end.result
     (c.lowest_at-end.ensures.none, c.lowest_at-end.ensures.some)
 
 -- a stop changes nothing but the range of the power
@@ -52,10 +39,8 @@ alike : (c : After-lowest_at-end-then-is_alike) →
     ⊎ (cap_at (thermal_of c.args.unit.now) (eqb c.args.first (suc c.args.place)) true ≡ cap_at
     (thermal_of c.args.unit.now) (eqb c.args.first (suc c.args.place)) false)
 alike c =
-    alike_of (thermal_of c.args.unit.now) (prices_of c.args.prices.now) c.args.place c.starts_in-starts.result
-    (eqb c.args.first (suc c.args.place)) c.step_of-last.result c.step_of-last.ensures.step
-    c.starts_in-starts.ensures
-    c.step_of-on.result c.step_of-on.ensures.step c.if-is_alike.ensures
+    alike_of (thermal_of c.args.unit.now) (prices_of c.args.prices.now) c.args.place c.step_of-last.ensures.step
+    c.starts_in-starts.ensures c.step_of-on.ensures.step c.if-is_alike.ensures
 
 least : (c : After-lowest_at-end-then-is_alike) → let h = shown c.run_over-note-then-is_alike.new.running in
     let low = (thermal_of c.args.unit.now).min_power in
@@ -64,27 +49,17 @@ least : (c : After-lowest_at-end-then-is_alike) → let h = shown c.run_over-not
     MatchOption c.least_in.result (HasNone low high h) (λ r. IsLeastIn low high h r.value r.at)
 least c =
     let h = shown c.run_over-note-then-is_alike.new.running in
-    range_moved (thermal_of c.args.unit.now) (prices_of c.args.prices.now) c.args.place c.starts_in-starts.result
-    (eqb c.args.first (suc c.args.place)) c.step_of-last.result c.step_of-last.ensures.step
+    range_moved (thermal_of c.args.unit.now) (prices_of c.args.prices.now) c.args.place c.step_of-last.ensures.step
     c.starts_in-starts.ensures c.step_of-last.ensures.fair
     (λ lo hi. MatchOption c.least_in.result (HasNone lo hi h) (λ r. IsLeastIn lo hi h r.value r.at)) c.least_in.ensures
 
-at_range : (c : After-lowest_at-end-then-is_alike) →
-    IsSpellAnswer (thermal_of c.args.unit.now) (prices_of c.args.prices.now) (length c.args.prices.now.energy.items)
-    c.args.first (suc c.args.place) (end_cost c.lowest_at-end-then-is_alike.result) × IfSome
-    (end_cost c.lowest_at-end-then-is_alike.result) (IsSpellWithin c.args.first (suc c.args.place))
+at_range : (c : After-lowest_at-end-then-is_alike) → IsAnswer (thermal_of c.args.unit.now)
+    (prices_of c.args.prices.now) c.args.first c.args.place (end_cost c.lowest_at-end-then-is_alike.result)
 at_range c =
-    let unit = thermal_of c.args.unit.now in
-    let prices = prices_of c.args.prices.now in
-    let first = c.args.first in
-    let place = c.args.place in
-    let h = shown c.run_over-note-then-is_alike.new.running in
-    let before : suc place < length c.args.prices.now.energy.items = omega arith in
-    answer_alike unit prices first place c.args.curve.now c.args.unit.now.valid c.args.prices.now.valid c.requires.curve
-    c.envelope_is_cost.ensures c.requires.place c.requires.order h c.run_over-note-then-is_alike.ensures.frontier
-    before (alike c)
+    answer_alike c.args.unit.now.valid c.args.prices.now.valid c.requires.curve c.envelope_is_cost.ensures
+    c.requires.place c.requires.order c.run_over-note-then-is_alike.ensures.frontier (omega arith) (alike c)
     (end_cost c.lowest_at-end-then-is_alike.result)
-    (end_least_in unit.min_power (step_at unit prices place (eqb first (suc place)) true).most h c.least_in.result _
+    (end_least_in _ _ (shown c.run_over-note-then-is_alike.new.running) c.least_in.result _
     c.lowest_at-end-then-is_alike.result (least c)
     (c.lowest_at-end-then-is_alike.ensures.none, c.lowest_at-end-then-is_alike.ensures.some))
 
@@ -99,56 +74,35 @@ returns-then-is_alike-clause-within c = end_within c.args.first (suc c.args.plac
 pub returns-then-is_alike-clause-ended : goal.returns-then-is_alike-clause-ended
 returns-then-is_alike-clause-ended c =
     let at = (goal.at.returns-then-is_alike-clause-ended c).After-lowest_at-end-then-is_alike in
-    let place = c.args.place in
-    let before : suc place < length c.args.prices.now.energy.items = omega arith in
-    let price = (c.args.prices.now.valid.reserve place (pos 0)
-    (omega arith)).at_least in
+    let price = (c.args.prices.now.valid.reserve c.args.place (pos 0) (omega arith)).at_least in
     let fits : FitsSigned w64 c.run_over-note-then-is_alike.result.turn = search rules in
-    ended_alike (thermal_of c.args.unit.now) (prices_of c.args.prices.now) c.args.first place
-    c.run_over-note-then-is_alike.result (shown c.args.running.now)
-    (shown c.run_over-note-then-is_alike.new.running)
-    c.requires.frontier c.run_over-note-then-is_alike.ensures.frontier c.run_over-note-then-is_alike.ensures.noted
-    before c.args.unit.now.valid price (alike at) c.least_in.result _
-    (to_z-of_z w64 c.run_over-note-then-is_alike.result.turn fits) (least at)
-    c.lowest_at-end-then-is_alike.result
+    ended_alike c.requires.frontier c.run_over-note-then-is_alike.ensures.frontier
+    c.run_over-note-then-is_alike.ensures.noted (omega arith) c.args.unit.now.valid price (alike at) c.least_in.result _
+    (to_z-of_z w64 c.run_over-note-then-is_alike.result.turn fits) (least at) c.lowest_at-end-then-is_alike.result
     (c.lowest_at-end-then-is_alike.ensures.none, c.lowest_at-end-then-is_alike.ensures.some)
 
 pub least_beside-end-requires-clause-curve : goal.least_beside-end-requires-clause-curve
 least_beside-end-requires-clause-curve c =
-    cost_is (thermal_of c.args.unit.now) (prices_of c.args.prices.now) c.args.place c.starts_in-starts.result true
-    c.step_of-last.result c.step_of-last.ensures.step c.args.unit.now.valid c.args.prices.now.valid c.requires.place
-    c.args.curve.now c.requires.curve c.envelope_is_cost.ensures
+    cost_is c.starts_in-starts.result true c.step_of-last.ensures.step c.args.unit.now.valid c.args.prices.now.valid
+    c.requires.place c.requires.curve c.envelope_is_cost.ensures
 
 pub least_beside-end-requires-clause-small : goal.least_beside-end-requires-clause-small
-least_beside-end-requires-clause-small c =
-    small_frontier (thermal_of c.args.unit.now) (prices_of c.args.prices.now) c.args.first c.args.place _
-    (omega arith) c.requires.frontier
+least_beside-end-requires-clause-small c = small_frontier (omega arith) c.requires.frontier
 
 pub run_over-note-requires-2-clause-frontier : goal.run_over-note-requires-2-clause-frontier
-run_over-note-requires-2-clause-frontier c =
-    subst (λ (f : Table). IsFrontier (thermal_of c.args.unit.now) (prices_of c.args.prices.now) c.args.first
-    c.args.place f) (sym c.least_beside-end.ensures.shown) c.requires.frontier
+run_over-note-requires-2-clause-frontier c = rw c.least_beside-end.ensures.shown c.requires.frontier
 
-by_step : (c : After-run_over-note-2) →
-    IsSpellAnswer (thermal_of c.args.unit.now) (prices_of c.args.prices.now) (length c.args.prices.now.energy.items)
-    c.args.first (suc c.args.place) (end_cost c.least_beside-end.result) × IfSome
-    (end_cost c.least_beside-end.result) (IsSpellWithin c.args.first (suc c.args.place))
+by_step : (c : After-run_over-note-2) → IsAnswer (thermal_of c.args.unit.now) (prices_of c.args.prices.now) c.args.first
+    c.args.place (end_cost c.least_beside-end.result)
 by_step c =
-    let unit = thermal_of c.args.unit.now in
-    let prices = prices_of c.args.prices.now in
-    let first = c.args.first in
-    let place = c.args.place in
-    let f = shown c.args.running.now in
-    let before : suc place < length c.args.prices.now.energy.items = (omega arith)
-    in
+    let before : suc c.args.place < length c.args.prices.now.energy.items = omega arith in
     let found = c.least_beside-end.ensures.least in
-    answer_of_step unit prices first place c.args.curve.now c.args.unit.now.valid c.args.prices.now.valid
-    c.requires.curve c.envelope_is_cost.ensures c.requires.place c.requires.order f found.0 c.requires.frontier true
-    (sym (lt-ltb (suc place) (length prices.energy) before))
-    (step_moved unit prices place c.starts_in-starts.result _ true c.step_of-last.result c.args.curve.now f found.0
-    c.step_of-last.ensures.step c.starts_in-starts.ensures found.1)
-    (end_cost c.least_beside-end.result)
-    (end_least_after found.0 (λ r. IsTurn c.step_of-last.result f r.turn) c.least_beside-end.result found.2)
+    answer_of_step c.args.unit.now.valid c.args.prices.now.valid c.requires.curve c.envelope_is_cost.ensures
+    c.requires.place c.requires.order c.requires.frontier
+    (sym (lt-ltb (suc c.args.place) (length c.args.prices.now.energy.items) before))
+    (rw (c.step_of-last.ensures.step, c.starts_in-starts.ensures) at found.1) (end_cost c.least_beside-end.result)
+    (end_least_after found.0 (λ r. IsTurn c.step_of-last.result (shown c.args.running.now) r.turn)
+    c.least_beside-end.result found.2)
 
 pub returns-clause-answer : goal.returns-clause-answer
 returns-clause-answer c = (by_step (goal.at.returns-clause-answer c).After-run_over-note-2).0
@@ -159,28 +113,13 @@ returns-clause-within c = end_within c.args.first (suc c.args.place) c.least_bes
 
 pub returns-clause-ended : goal.returns-clause-ended
 returns-clause-ended c =
-    let unit = thermal_of c.args.unit.now in
-    let prices = prices_of c.args.prices.now in
-    let first = c.args.first in
-    let place = c.args.place in
-    let f = shown c.args.running.now in
-    let before : suc place < length c.args.prices.now.energy.items = (omega arith)
-    in
     let found = c.least_beside-end.ensures.least in
-    let price = (c.args.prices.now.valid.reserve place (pos 0)
-    (omega arith)).at_least in
+    let price = (c.args.prices.now.valid.reserve c.args.place (pos 0) (omega arith)).at_least in
     let same = c.least_beside-end.ensures.shown in
-    let is = c.step_of-last.ensures.step ∙ ap (λ b. step_at unit prices place b true) c.starts_in-starts.ensures in
-    let least = rw is at found.2 in
-    let h = shown c.run_over-note-2.new.running in
-    ended_beside unit prices first place c.run_over-note-2.result f h c.requires.frontier
-    c.run_over-note-2.ensures.frontier
-    (λ x v there. c.run_over-note-2.ensures.noted x v (cc)) before
-    c.args.unit.now.valid price c.args.curve.now c.requires.curve found.0
-    (step_moved unit prices place c.starts_in-starts.result _ true c.step_of-last.result c.args.curve.now f found.0
-    c.step_of-last.ensures.step c.starts_in-starts.ensures found.1) c.least_beside-end.result least
+    ended_beside c.requires.frontier c.run_over-note-2.ensures.frontier
+    (λ x v there. c.run_over-note-2.ensures.noted x v (cc)) (omega arith) c.args.unit.now.valid price
+    c.requires.curve (rw (c.step_of-last.ensures.step, c.starts_in-starts.ensures) at found.1)
+    c.least_beside-end.result (rw (c.step_of-last.ensures.step, c.starts_in-starts.ensures) at found.2)
 
 pub returns-clause-noted : goal.returns-clause-noted
-returns-clause-noted c =
-    λ x v there. c.run_over-note-2.ensures.noted x v
-    (cc)
+returns-clause-noted c = λ x v there. c.run_over-note-2.ensures.noted x v (cc)

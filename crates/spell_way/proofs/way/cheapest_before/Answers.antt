@@ -9,11 +9,9 @@ returns c = λ f v y w turn first last there reach.
     let n = c.args.note in
     let x = c.args.power in
     let fits_low : FitsSigned w64 (x -ℤ s.ramp_up) = fits_within w64 3000000000 (x -ℤ s.ramp_up)
-    (record { at_least = omega (arith, ints); at_most = omega (arith, ints) })
-    (omega arith) in
+    (record { at_least = omega (arith, ints); at_most = omega (arith, ints) }) (omega arith) in
     let fits_high : FitsSigned w64 (x +ℤ s.ramp_down) = fits_within w64 3000000000 (x +ℤ s.ramp_down)
-    (record { at_least = omega (arith, ints); at_most = omega (arith, ints) })
-    (omega arith) in
+    (record { at_least = omega (arith, ints); at_most = omega (arith, ints) }) (omega arith) in
     let fits_x : FitsSigned w64 x = search rules in
     let fits_up : FitsSigned w64 s.ramp_up = search rules in
     let fits_down : FitsSigned w64 s.ramp_down = search rules in
@@ -32,4 +30,4 @@ returns c = λ f v y w turn first last there reach.
     (int_min (int_min (x +ℤ s.ramp_down) n.last) n.turn) =
     to_z-of_z w64 _ fits_d ∙ top ∙ ap (λ (z : ℤ). int_max z c.min.result) low ∙
     ap (int_max (int_max (x -ℤ s.ramp_up) n.first)) (cc) in
-    cheapest_near s f n.turn n.first n.last v x y w _ turn first last there reach is
+    cheapest_near turn first last there reach is

@@ -1,9 +1,9 @@
-use Rattle.spell_way.proofs.Common.{rules, ◌≡◌, ℤ, ◌≤ℤ◌, suc, eqb, to_z, of_z, Some, sym, subst, arith, w64, FitsSigned}
+use Rattle.spell_way.proofs.Common.{rules, ◌≡◌, ℤ, ◌≤ℤ◌, suc, eqb, to_z, of_z, Some, arith, w64, FitsSigned}
 use Rattle.spell_way.proofs.Common.{ints, to_z-of_z, Reaches, Table, value_of, IsTurn, IsFirst, IsLast, Step, IsOutput}
-use Rattle.spell_way.proofs.Common.{thermal_of, prices_of, schedule_of, Note, IsCheapest, cap_at}
+use Rattle.spell_way.proofs.Common.{thermal_of, Note, IsCheapest, cap_at}
 use Rattle.spell_way.proofs.Lemmas.{output_stored, power_range, before_out, before_rise, before_under, chosen_noted}
 use Rattle.spell_way.proofs.way.write_period.Goals as goal
-use Rattle.spell_way.proofs.way.write_period.Goals.{Start}
+use Rattle.spell_way.proofs.way.write_period.Goals.{Start, After-cheapest_before-before}
 
 -- the power is one of the step
 range : (c : Start) → IsOutput c.args.visit.power ×
@@ -11,12 +11,11 @@ range : (c : Start) → IsOutput c.args.visit.power ×
     c.args.visit.stops)
 range c =
     let noted = c.requires.noted in
-    power_range (thermal_of c.args.unit.now) (prices_of c.args.prices.now) c.args.first c.args.visit.place
-    c.args.unit.now.valid c.args.prices.now.valid c.requires.place c.requires.order c.args.visit.stops
-    c.args.visit.note noted.0 noted.1 c.args.visit.power noted.2.0 noted.2.1
+    power_range c.args.unit.now.valid c.args.prices.now.valid c.requires.place c.requires.order noted.1
+    c.args.visit.power noted.2.1
 
 stored_out : (c : Start) → IsOutput (to_z w64 (of_z w64 c.args.visit.power))
-stored_out c = rw (output_stored c.args.visit.power (range c).0) (range c).0
+stored_out c = rw (output_stored (range c).0) (range c).0
 
 -- y is the cheapest power before x by what is noted
 abbrev IsNear : Step → Note → ℤ → ℤ → Type 0
@@ -25,6 +24,18 @@ IsNear s n x y = (f : Table) (va p w : ℤ) → IsTurn s f n.turn → IsFirst f 
 
 near : (s : Step) (n : Note) (x y : ℤ) → FitsSigned w64 x → IsNear s n (to_z w64 (of_z w64 x)) y → IsNear s n x y
 near s n x y fits h = simp to_z-of_z at h
+
+near_before : (c : After-cheapest_before-before) → IsNear c.step_of-step.result c.args.visit.note c.args.visit.power
+    c.cheapest_before-before.result
+near_before c = near c.step_of-step.result c.args.visit.note c.args.visit.power c.cheapest_before-before.result
+    (search rules) c.cheapest_before-before.ensures
+
+-- the power before is within limits
+out : (c : After-cheapest_before-before) → IsOutput c.cheapest_before-before.result
+out c =
+    let noted = c.requires.noted in
+    before_out c.args.unit.now.valid c.args.prices.now.valid c.requires.place c.requires.order noted.1
+    c.args.visit.power noted.2.1 c.step_of-step.ensures.step c.starts_in.ensures (near_before c)
 
 pub cheapest_before-before-requires-clause-power : goal.cheapest_before-before-requires-clause-power
 cheapest_before-before-requires-clause-power c = stored_out
@@ -35,53 +46,32 @@ write_best-requires-clause-power c = stored_out (goal.at.write_best-requires-cla
 
 pub write_best-requires-clause-before : goal.write_best-requires-clause-before
 write_best-requires-clause-before c =
-    let noted = c.requires.noted in
-    let out = before_out (thermal_of c.args.unit.now) (prices_of c.args.prices.now) c.args.first c.args.visit.place
-    c.args.unit.now.valid c.args.prices.now.valid c.requires.place c.requires.order c.args.visit.stops
-    c.args.visit.note noted.0 noted.1 c.step_of-step.result c.starts_in.result c.step_of-step.ensures.step
-    c.starts_in.ensures c.args.visit.power noted.2.0 noted.2.1 c.cheapest_before-before.result
-    (near c.step_of-step.result c.args.visit.note c.args.visit.power c.cheapest_before-before.result (search rules)
-    c.cheapest_before-before.ensures) in
-    subst IsOutput (sym (output_stored c.cheapest_before-before.result out)) out
+    let before = out (goal.at.write_best-requires-clause-before c).After-cheapest_before-before in
+    rw (output_stored before) before
 
 pub write_best-requires-clause-under : goal.write_best-requires-clause-under
 write_best-requires-clause-under c =
+    let at = goal.at.write_best-requires-clause-under c in
     let noted = c.requires.noted in
-    let under = before_under (thermal_of c.args.unit.now) (prices_of c.args.prices.now) c.args.first c.args.visit.place
-    c.args.unit.now.valid c.args.prices.now.valid c.requires.place c.requires.order c.args.visit.stops
-    c.args.visit.note noted.0 noted.1 c.step_of-step.result c.starts_in.result c.step_of-step.ensures.step
-    c.starts_in.ensures c.args.visit.power noted.2.0 noted.2.1 c.cheapest_before-before.result
-    (near c.step_of-step.result c.args.visit.note c.args.visit.power c.cheapest_before-before.result (search rules)
-    c.cheapest_before-before.ensures) in
-    let e = output_stored c.args.visit.power (range (goal.at.write_best-requires-clause-under c).Start).0 in
+    let under = before_under c.args.unit.now.valid c.args.prices.now.valid c.requires.place c.requires.order noted.1
+    c.args.visit.power noted.2.1 c.step_of-step.ensures.step c.starts_in.ensures
+    (near_before at.After-cheapest_before-before) in
+    let e = output_stored (range at.Start).0 in
     omega (arith, ints)
 
 pub write_best-requires-clause-rise : goal.write_best-requires-clause-rise
 write_best-requires-clause-rise c =
     let at = goal.at.write_best-requires-clause-rise c in
     let noted = c.requires.noted in
-    let rise = before_rise (thermal_of c.args.unit.now) (prices_of c.args.prices.now) c.args.first c.args.visit.place
-    c.args.unit.now.valid c.args.prices.now.valid c.requires.place c.requires.order c.args.visit.stops
-    c.args.visit.note noted.0 noted.1 c.step_of-step.result c.starts_in.result c.step_of-step.ensures.step
-    c.starts_in.ensures c.args.visit.power noted.2.0 noted.2.1 c.cheapest_before-before.result
-    (near c.step_of-step.result c.args.visit.note c.args.visit.power c.cheapest_before-before.result (search rules)
-    c.cheapest_before-before.ensures) in
-    let e = output_stored c.args.visit.power (range at.Start).0 in
-    let h = output_stored c.cheapest_before-before.result
-    (before_out (thermal_of c.args.unit.now) (prices_of c.args.prices.now) c.args.first c.args.visit.place
-    c.args.unit.now.valid c.args.prices.now.valid c.requires.place c.requires.order c.args.visit.stops
-    c.args.visit.note noted.0 noted.1 c.step_of-step.result c.starts_in.result c.step_of-step.ensures.step
-    c.starts_in.ensures c.args.visit.power noted.2.0 noted.2.1 c.cheapest_before-before.result
-    (near c.step_of-step.result c.args.visit.note c.args.visit.power c.cheapest_before-before.result (search rules)
-    c.cheapest_before-before.ensures)) in
+    let rise = before_rise c.args.unit.now.valid c.args.prices.now.valid c.requires.place c.requires.order noted.1
+    c.args.visit.power noted.2.1 c.step_of-step.ensures.step c.starts_in.ensures
+    (near_before at.After-cheapest_before-before) in
+    let e = output_stored (range at.Start).0 in
+    let h = output_stored (out at.After-cheapest_before-before) in
     omega (arith, ints)
 
 pub returns-clause-chosen : goal.returns-clause-chosen
 returns-clause-chosen c = λ after v noted there.
-    chosen_noted (thermal_of c.args.unit.now) (prices_of c.args.prices.now) c.args.first c.args.visit.place
-    c.args.unit.now.valid c.args.prices.now.valid c.requires.place c.requires.order c.args.visit.stops
-    c.args.visit.note after noted c.step_of-step.result c.starts_in.result c.step_of-step.ensures.step
-    c.starts_in.ensures c.args.visit.power v there c.cheapest_before-before.result
-    (near c.step_of-step.result c.args.visit.note c.args.visit.power c.cheapest_before-before.result (search rules)
-    c.cheapest_before-before.ensures) (schedule_of c.args.into.now.response)
-    (schedule_of c.write_best.new.into.response) c.write_best.ensures.written
+    chosen_noted c.args.unit.now.valid c.args.prices.now.valid c.requires.place c.requires.order noted
+    c.args.visit.power there c.step_of-step.ensures.step c.starts_in.ensures
+    (near_before (goal.at.returns-clause-chosen c).After-cheapest_before-before) c.write_best.ensures.written

@@ -57,14 +57,14 @@ pub stepped-requires-clause-curve : goal.stepped-requires-clause-curve
 stepped-requires-clause-curve g t c =
     let until = c.requires.until in
     let end = c.requires.spell.end in
-    cost_is (thermal_of c.args.unit.now) (prices_of c.args.prices.now) c.args.place _ _ c.step_in-step.result c.step_in-step.ensures.step c.args.unit.now.valid c.args.prices.now.valid (omega (arith, until, end)) c.args.curve.now c.requires.curve c.envelope_is_cost.ensures
+    cost_is _ _ c.step_in-step.ensures.step c.args.unit.now.valid c.args.prices.now.valid (omega (arith, until, end)) c.requires.curve c.envelope_is_cost.ensures
 
 pub stepped-requires-clause-small : goal.stepped-requires-clause-small
 stepped-requires-clause-small g t c =
     let horizon = c.args.prices.now.valid.horizon.at_most in
     let until = c.requires.until in
     let end = c.requires.spell.end in
-    small_frontier (thermal_of c.args.unit.now) (prices_of c.args.prices.now) (spell_first c.args.spell.now.started c.args.spell.now.first) c.args.place _ (omega (arith, horizon, until, end)) c.requires.frontier
+    small_frontier (omega (arith, horizon, until, end)) c.requires.frontier
 
 pub returns-in_err-after-clause-frame : goal.returns-in_err-after-clause-frame
 returns-in_err-after-clause-frame g t c =
@@ -115,11 +115,11 @@ returns-in-Some-clause-way g t c =
     let way = later g t at.In-Some in
     let onward = onward_next p below d c.in-Some.found.power c.in-Some.found.cost way.0 in
     way_chosen p c.requires.until d' onward (same g t at.After-give_back).function_same c.choose.result c.choose.ensures.chosen c.choose.ensures.cost (d' ≡ schedule_of c.args.into.now.response) way.1
-    (λ q written. on_more c.args.place c.args.spell.now.last c.in-Some.found.power q d d' written way.2)
+    (λ q written. on_more written way.2)
 
 pub returns-in-Some-clause-outside : goal.returns-in-Some-clause-outside
 returns-in-Some-clause-outside g t c =
-    outside_more c.args.place c.args.spell.now.last _ _ _ c.requires.until c.choose.ensures.outside (outside g t (goal.at.returns-in-Some-clause-outside g t c).After-give_back)
+    outside_more c.requires.until c.choose.ensures.outside (outside g t (goal.at.returns-in-Some-clause-outside g t c).After-give_back)
 
 pub returns-in-Some-clause-frame : goal.returns-in-Some-clause-frame
 returns-in-Some-clause-frame g t c =

@@ -6,20 +6,20 @@ pub write_best-requires-clause-before : goal.write_best-requires-clause-before
 write_best-requires-clause-before g c =
     let kinked = g.S.Shape.function c.add_kink.new.home c.add_kink.new.shape in
     let out = kinked_out c.args.step (g.S.Shape.function c.args.home.now c.args.before.now) kinked c.in-Some.power c.in-Some.field-0-0 c.requires.small c.in_ok-add_kink.ensures.ok c.in-Some.ensures.there in
-    subst IsOutput (sym (output_stored c.in-Some.power out)) out
+    subst IsOutput (sym (output_stored out)) out
 
 pub write_best-requires-clause-power : goal.write_best-requires-clause-power
 write_best-requires-clause-power g c =
     let out = found_out c.args.step c.args.found.power c.requires.step c.requires.found in
-    subst IsOutput (sym (output_stored c.args.found.power out)) out
+    subst IsOutput (sym (output_stored out)) out
 
 pub write_best-requires-clause-rise : goal.write_best-requires-clause-rise
 write_best-requires-clause-rise g c =
     let kinked = g.S.Shape.function c.add_kink.new.home c.add_kink.new.shape in
     let before = kinked_out c.args.step (g.S.Shape.function c.args.home.now c.args.before.now) kinked c.in-Some.power c.in-Some.field-0-0 c.requires.small c.in_ok-add_kink.ensures.ok c.in-Some.ensures.there in
     let out = found_out c.args.step c.args.found.power c.requires.step c.requires.found in
-    let e = output_stored c.in-Some.power before in
-    let f = output_stored c.args.found.power out in
+    let e = output_stored before in
+    let f = output_stored out in
     let least = least_stored c.args.step c.requires.step c.args.found.power out kinked c.in-Some.field-0-0 c.in-Some.power c.in-Some.ensures in
     let inside = least.inside.0 in
     omega (arith, ints, e, f, inside)

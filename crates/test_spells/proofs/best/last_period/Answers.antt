@@ -33,14 +33,14 @@ pub stepped-requires-clause-curve : goal.stepped-requires-clause-curve
 stepped-requires-clause-curve g c =
     let until = c.requires.until in
     let end = c.requires.spell.end in
-    cost_is (thermal_of c.args.unit.now) (prices_of c.args.prices.now) c.args.place _ _ c.step_in-step.result c.step_in-step.ensures.step c.args.unit.now.valid c.args.prices.now.valid (omega (arith, until, end)) c.args.curve.now c.requires.curve c.envelope_is_cost.ensures
+    cost_is _ _ c.step_in-step.ensures.step c.args.unit.now.valid c.args.prices.now.valid (omega (arith, until, end)) c.requires.curve c.envelope_is_cost.ensures
 
 pub stepped-requires-clause-small : goal.stepped-requires-clause-small
 stepped-requires-clause-small g c =
     let horizon = c.args.prices.now.valid.horizon.at_most in
     let until = c.requires.until in
     let end = c.requires.spell.end in
-    small_frontier (thermal_of c.args.unit.now) (prices_of c.args.prices.now) (spell_first c.args.spell.now.started c.args.spell.now.first) c.args.place _ (omega (arith, horizon, until, end)) c.requires.frontier
+    small_frontier (omega (arith, horizon, until, end)) c.requires.frontier
 
 pub returns-in_err-after-clause-frame : goal.returns-in_err-after-clause-frame
 returns-in_err-after-clause-frame g c =
@@ -68,7 +68,7 @@ returns-in-Some-clause-way g c =
     let onward = onward_last p until d c.in-Some.found.power c.in-Some.found.cost c.in-Some.ensures in
     way_chosen p (omega (arith, until)) d' onward (same g at.In-Some).function_same c.choose.result c.choose.ensures.chosen c.choose.ensures.cost (d' ≡ d)
     (within_last p until c.in-Some.found.power c.in-Some.found.cost c.in-Some.ensures)
-    (λ q written. on_last c.args.place c.args.spell.now.last c.in-Some.found.power q d d' until written)
+    (λ q written. on_last until written)
 
 pub returns-in-Some-clause-frame : goal.returns-in-Some-clause-frame
 returns-in-Some-clause-frame g c =

@@ -1,17 +1,17 @@
 use Rattle.test_spells.proofs.Common.{true, suc, Option, ℤ, length, sym, arith, IfSome, ◌<◌, lt-ltb, IfOk-weaker, Table, thermal_of, prices_of, spell_first, IsSpellAnswer, IsSpellWithin, IsStepped, IsLeastCost}
-use Rattle.test_spells.proofs.Lemmas.{cost_is, step_moved, small_frontier, answer_of_step}
+use Rattle.test_spells.proofs.Lemmas.{cost_is, small_frontier, answer_of_step}
 use Rattle.test_spells.proofs.costs.cost_to_stop.Goals as goal
 
 pub cost_after-requires-clause-curve : goal.cost_after-requires-clause-curve
 cost_after-requires-clause-curve g c =
     let place = c.requires.place in
-    cost_is (thermal_of c.args.unit.now) (prices_of c.args.prices.now) c.args.place c.starts_at-starts.result true c.step_of.result c.step_of.ensures.step c.args.unit.now.valid c.args.prices.now.valid (omega (arith, place)) c.args.curve.now c.requires.curve c.envelope_is_cost.ensures
+    cost_is c.starts_at-starts.result true c.step_of.ensures.step c.args.unit.now.valid c.args.prices.now.valid (omega (arith, place)) c.requires.curve c.envelope_is_cost.ensures
 
 pub cost_after-requires-clause-small : goal.cost_after-requires-clause-small
 cost_after-requires-clause-small g c =
     let horizon = c.args.prices.now.valid.horizon.at_most in
     let place = c.requires.place in
-    small_frontier (thermal_of c.args.unit.now) (prices_of c.args.prices.now) (spell_first c.args.started c.args.first) c.args.place _ (omega (arith, horizon, place)) c.requires.frontier
+    small_frontier (omega (arith, horizon, place)) c.requires.frontier
 
 pub returns-clause-answer : goal.returns-clause-answer
 returns-clause-answer g c =
@@ -24,9 +24,9 @@ returns-clause-answer g c =
     IfOk-weaker c.cost_after.result (λ (cost : Option ℤ). (after : Table) × IsStepped c.step_of.result c.args.curve.now before after × IsLeastCost after cost)
     (IsSpellAnswer unit prices (length prices.energy) first (suc c.args.place))
     (λ cost found.
-    (answer_of_step unit prices first c.args.place c.args.curve.now c.args.unit.now.valid c.args.prices.now.valid c.requires.curve c.envelope_is_cost.ensures within c.requires.order before found.0 c.requires.frontier true
+    (answer_of_step c.args.unit.now.valid c.args.prices.now.valid c.requires.curve c.envelope_is_cost.ensures within c.requires.order c.requires.frontier
     (sym (lt-ltb (suc c.args.place) (length prices.energy) place))
-    (step_moved unit prices c.args.place c.starts_at-starts.result _ true c.step_of.result c.args.curve.now before found.0 c.step_of.ensures.step c.starts_at-starts.ensures found.1) cost found.2).0)
+    (rw (c.step_of.ensures.step, c.starts_at-starts.ensures) at found.1) cost found.2).0)
     c.cost_after.ensures.ok
 
 pub returns-clause-within : goal.returns-clause-within
@@ -40,7 +40,7 @@ returns-clause-within g c =
     IfOk-weaker c.cost_after.result (λ (cost : Option ℤ). (after : Table) × IsStepped c.step_of.result c.args.curve.now before after × IsLeastCost after cost)
     (λ (cost : Option ℤ). IfSome cost (IsSpellWithin first (suc c.args.place)))
     (λ cost found.
-    (answer_of_step unit prices first c.args.place c.args.curve.now c.args.unit.now.valid c.args.prices.now.valid c.requires.curve c.envelope_is_cost.ensures within c.requires.order before found.0 c.requires.frontier true
+    (answer_of_step c.args.unit.now.valid c.args.prices.now.valid c.requires.curve c.envelope_is_cost.ensures within c.requires.order c.requires.frontier
     (sym (lt-ltb (suc c.args.place) (length prices.energy) place))
-    (step_moved unit prices c.args.place c.starts_at-starts.result _ true c.step_of.result c.args.curve.now before found.0 c.step_of.ensures.step c.starts_at-starts.ensures found.1) cost found.2).1)
+    (rw (c.step_of.ensures.step, c.starts_at-starts.ensures) at found.1) cost found.2).1)
     c.cost_after.ensures.ok

@@ -8,8 +8,7 @@ at_end : (g : Over) (c : After-least_cost g) →
     IsSpellAnswer (thermal_of c.args.unit.now) (prices_of c.args.prices.now) (length c.args.prices.now.energy.items) (spell_first c.args.started c.args.first) (suc c.args.place) c.least_cost.result × IfSome c.least_cost.result (IsSpellWithin (spell_first c.args.started c.args.first) (suc c.args.place))
 at_end g c =
     let end : suc c.args.place ≡ length c.args.prices.now.energy.items = omega arith in
-    answer_at_end (thermal_of c.args.unit.now) (prices_of c.args.prices.now) (spell_first c.args.started c.args.first) c.args.place c.args.curve.now c.args.unit.now.valid c.args.prices.now.valid c.requires.curve c.envelope_is_cost.ensures c.requires.place c.requires.order
-    (g.S.Shape.function c.run_on.new.home c.run_on.new.running) c.in_ok-run_on.ensures.ok end c.least_cost.result c.least_cost.ensures
+    answer_at_end c.args.unit.now.valid c.args.prices.now.valid c.requires.curve c.envelope_is_cost.ensures c.requires.place c.requires.order c.in_ok-run_on.ensures.ok end c.least_cost.result c.least_cost.ensures
 
 at_range : (g : Over) (c : After-least_cost_in g) →
     IsSpellAnswer (thermal_of c.args.unit.now) (prices_of c.args.prices.now) (length c.args.prices.now.energy.items) (spell_first c.args.started c.args.first) (suc c.args.place) c.least_cost_in.result × IfSome c.least_cost_in.result (IsSpellWithin (spell_first c.args.started c.args.first) (suc c.args.place))
@@ -21,9 +20,9 @@ at_range g c =
     let before : suc place < length c.args.prices.now.energy.items = omega arith in
     let after = g.S.Shape.function c.run_on-then-is_alike.new.home c.run_on-then-is_alike.new.running in
     let starts = c.starts_at-starts.result in
-    let alike = alike_of unit prices place starts (eqb first (suc place)) c.step_of-last.result c.step_of-last.ensures.step c.starts_at-starts.ensures c.step_of-on.result c.step_of-on.ensures.step c.if-is_alike.ensures in
+    let alike = alike_of unit prices place c.step_of-last.ensures.step c.starts_at-starts.ensures c.step_of-on.ensures.step c.if-is_alike.ensures in
     let least = range_of unit prices place starts (eqb first (suc place)) c.step_of-last.result c.step_of-last.ensures.step c.starts_at-starts.ensures c.step_of-last.ensures.fair after c.least_cost_in.result c.least_cost_in.ensures in
-    answer_alike unit prices first place c.args.curve.now c.args.unit.now.valid c.args.prices.now.valid c.requires.curve c.envelope_is_cost.ensures c.requires.place c.requires.order after c.in_ok-run_on-2.ensures.ok before alike c.least_cost_in.result least
+    answer_alike c.args.unit.now.valid c.args.prices.now.valid c.requires.curve c.envelope_is_cost.ensures c.requires.place c.requires.order c.in_ok-run_on-2.ensures.ok before alike c.least_cost_in.result least
 
 pub returns-then-place-len-clause-answer : goal.returns-then-place-len-clause-answer
 returns-then-place-len-clause-answer g c = (at_end g (goal.at.returns-then-place-len-clause-answer g c).After-least_cost).0
