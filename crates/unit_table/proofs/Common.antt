@@ -3,7 +3,7 @@ pub use borrow.Author.Rules.{scaled_Fits}
 pub use Rattle.std.proofs.Common.{◌≡◌, ℕ, zero, suc, ◌<◌, ◌≤◌, inl, inr, Option, Some, None, ℤ, pos, ◌≤ℤ◌, List, []}
 pub use Rattle.std.proofs.Common.{length, refl, sym, ap, ◌∙◌, subst, get_or-set_same, get_or-set_other, arith, ◌+◌, ◌-◌}
 pub use Rattle.std.proofs.Common.{◌⊎◌, Bool, true, false, cond, ◌+ℤ◌, ◌≢◌, ◌*◌, ◌-ℤ◌, ◌<ℤ◌, ◌∷◌, ◌++◌, set, length-set}
-pub use Rattle.std.proofs.Common.{get_or, ◌==◌, rules, to_z, of_z, length-append}
+pub use Rattle.std.proofs.Common.{add-one, get_or, ◌==◌, rules, to_z, of_z, length-append}
 pub use Rattle.std.proofs.lemmas.Bool.{cases_Bool, cases_eq, cases_lt, lt-ltb, OnTrue_at, OnTrue_from}
 pub use Rattle.std.proofs.lemmas.Int.{ints, clamps, to_z-of_z}
 pub use Rattle.std.proofs.lemmas.Option.{slice_get_within, slice_get-get_or, get_or_from_slice_get}
@@ -13,14 +13,14 @@ pub use Rattle.std.specs.Prelude.{IsTrue, slice_set, int_le, IfSome, slice_get, 
 pub use Rattle.std.specs.Prelude.{FitsSigned}
 pub use Rattle.unit_rows.specs.Limits.{AreLimits, capped, cap_of_row, IsInRange}
 pub use Rattle.unit_table.specs.Limits.{IsTableWithin, IsFilledWithin}
-pub use Rattle.unit_table.specs.Live.{going_of, live_at, left_of, left_at, places_of, IsRoomy, AreRoomy, AreSmall}
+pub use Rattle.unit_table.specs.Live.{state_of, going_of, live_at, left_of, left_at, places_of, IsRoomy, AreRoomy, AreSmall}
 pub use Rattle.unit_table.specs.Live.{IsUnder, IsBeyond, IsBelow, HaveRoom, IsFilledTo}
 pub use Rattle.unit_rows.specs.Origins.{IsOrigin, AreOrigins, AreOriginsWithin}
 pub use Rattle.unit_table.specs.Questions.{unit_of, prices_in, periods_in, charge_of, limits_in}
 pub use Rattle.unit_table.specs.Rosters.{IsRoster}
 pub use Rattle.unit_rows.specs.Rows.{row_at, cost_at, AreWithin, IsFirstRow, IsWithinTimes, first_at, before_at, IsPut}
 pub use Rattle.unit_table.specs.Runners.{IsTableTo, Going, AreRunners, IsRowOf, IsGoneOn, MayBeOn, IsEndLeft, IsRunner}
-pub use Rattle.unit_table.specs.Runners.{HasStandIn, AreNoted, HaveWays}
+pub use Rattle.unit_table.specs.Runners.{HasStandIn, AreNoted, HaveWays, IsBegun}
 pub use Rattle.unit_rows.specs.Spells.{StopsAtOnce, IsSpell, off_time, IsGap, on_time}
 pub use Rattle.unit_table.specs.Taken.{AreFewer, IsKeptFrom, AreKept, IsRowTo, IsRowMore, IsOneRun, IsRunOver}
 pub use Rattle.unit_table.specs.Taken.{IsSweptTo, AreAsLong}

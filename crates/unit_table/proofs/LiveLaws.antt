@@ -1,8 +1,9 @@
 -- A list of runners, and one of them written.
-use Rattle.unit_table.proofs.Common.{shown, count_of, room_of}
+use Rattle.unit_table.proofs.Common.{state_of, cases_lt}
+use Rattle.unit_table.proofs.Common.{count_of, room_of}
 use Rattle.unit_table.proofs.Common.{◌≡◌, ◌≢◌, ℕ, zero, suc, ◌+◌, ◌-◌, ◌*◌, ◌<◌, ◌≤◌, inl, inr, Bool, true, false, cond}
 use Rattle.unit_table.proofs.Common.{Option, Some, None, ℤ, pos, ◌+ℤ◌, ◌-ℤ◌, ◌≤ℤ◌, ◌<ℤ◌, List, [], ◌∷◌, length, refl}
-use Rattle.unit_table.proofs.Common.{sym, ap, ◌∙◌, subst, arith, IfSome, slice_get, slice_set, ints, slice_get_within}
+use Rattle.unit_table.proofs.Common.{sym, ap, ◌∙◌, subst, arith, IfSome, slice_get, slice_set, ints}
 use Rattle.unit_table.proofs.Common.{cases_eq, Table, value_of, ThermalUnit, PriceLists, passed_at, Runner, Passed}
 use Rattle.unit_table.proofs.Common.{going_of, live_at, left_of, left_at, AreRoomy, AreSmall, IsUnder, IsBeyond}
 use Rattle.unit_table.proofs.Common.{IsBelow, HaveRoom, Going, AreRunners, AreFewer, IsKeptFrom, AreKept, length-set}
@@ -21,45 +22,37 @@ small_of g π limits ends live t n few low now f r is =
           record { at_least = omega (arith, ints); at_most = omega (arith, ints) };
     }
 
+when_some : {X : Type 0} (b : Bool) (a x : X) → cond b (Some a) None ≡ Some x → (b ≡ true) × (a ≡ x)
+when_some true a x is = (refl, (cc))
+when_some false a x is = absurd (cc)
+
 -- a runner that is on is one of the list
 pub on_some : (o : Option Runner) (x : Going) → going_of o ≡ Some x →
-    (r : Runner) × (o ≡ Some r) × (r.is_on ≡ true) ×
-    (x ≡ record { before = r.before; cost = r.cost; function = shown r.running; left = passed_at r.passed.items })
-on_some None x is = cc
-on_some (Some r) x is = elim (r.is_on) as (λ b. r.is_on ≡ b →
-    cond b (Some (record
-    { before = r.before; cost = r.cost; function = shown r.running; left = passed_at r.passed.items })) None ≡ Some
-    x →
-    (s : Runner) × (Some r ≡ Some s) × (s.is_on ≡ true) ×
-    (x ≡ record {
-      before = s.before;
-      cost = s.cost;
-      function = shown s.running;
-      left = passed_at s.passed.items;
-    })) [
-      | true ↦ λ on is. (r, refl, on, (cc))
-      | false ↦ λ off is. cc
-    ] refl is
+    (r : Runner) × (o ≡ Some r) × (r.is_on ≡ true) × (x ≡ state_of r)
+on_some None x is = absurd (cc)
+on_some (Some r) x is = (let h = when_some (r.is_on) (state_of r) x is in (r, refl, h.0, sym h.1))
 
-pub going_on : (r : Runner) → r.is_on ≡ true → going_of (Some r) ≡ Some
-    (record { before = r.before; cost = r.cost; function = shown r.running; left = passed_at r.passed.items })
-going_on r on = ap (λ (b : Bool). cond b
-    (Some (record {
-      before = r.before;
-      cost = r.cost;
-      function = shown r.running;
-      left = passed_at r.passed.items;
-    })) None) on
+pub going_on : (r : Runner) → r.is_on ≡ true → going_of (Some r) ≡ Some (state_of r)
+going_on r on = ap (λ (b : Bool). cond b (Some (state_of r)) None) on
 
 pub going_off : (r : Runner) → r.is_on ≡ false → going_of (Some r) ≡ None
-going_off r off = ap
-    (λ (b : Bool). cond b
-    (Some (record {
-      before = r.before;
-      cost = r.cost;
-      function = shown r.running;
-      left = passed_at r.passed.items;
-    })) None) off
+going_off r off = ap (λ (b : Bool). cond b (Some (state_of r)) None) off
+
+-- ---- one of the list read
+
+pub on_same : (o : Option Runner) (r s : Runner) → o ≡ Some r → o ≡ Some s → r.is_on ≡ true → s.is_on ≡ true
+on_same o r s a b on = (let same : r ≡ s = (cc) in subst (λ (r : Runner). r.is_on ≡ true) same on)
+
+module _ (runners : List Runner) (i : ℕ) (r : Runner) (is : slice_get runners i ≡ Some r) where
+  pub live_from : r.is_on ≡ true → live_at runners i ≡ Some (state_of r)
+  live_from on = ap going_of is ∙ going_on r on
+
+  pub off_from : r.is_on ≡ false → live_at runners i ≡ None
+  off_from off = ap going_of is ∙ going_off r off
+
+  -- where it is known to be on
+  pub on_from : (x : Going) → live_at runners i ≡ Some x → r.is_on ≡ true
+  on_from x on = (let s = on_some (slice_get runners i) x on in on_same _ s.0 r s.1 is s.2)
 
 -- ---- one above another
 
@@ -252,42 +245,6 @@ pub have_room : (periods t charge : ℕ) (runners : List Runner) →
     AreRoomy periods t charge runners → HaveRoom (periods * charge) periods runners
 have_room periods t charge runners roomy f r is = ((roomy f r is).whole, (roomy f r is).places)
 
--- ---- all stopped
-
--- those before n are stopped
-pub record IsStopped (old : List Runner) (n : ℕ) (new : List Runner) : Type 0 where
-  pub off : (f : ℕ) (r : Runner) → f < n → slice_get new f ≡ Some r → r.is_on ≡ false
-  pub kept : AreKept old new
-
-module _ (old : List Runner) where
-  pub none_stopped : IsStopped old 0 old
-  none_stopped = record { off = λ f r low is. absurd (omega arith); kept = kept_none old }
-
-  module _ (new : List Runner) (n : ℕ) (all : IsStopped old n new) where
-    pub stopped_more : (new' : List Runner) (a b : Runner) → n < length new → slice_get new n ≡ Some b →
-        a.is_on ≡ false → a.running ≡ b.running → a.passed ≡ b.passed → new' ≡ slice_set new n a →
-        IsStopped old (n + 1) new'
-    stopped_more new' a b low was off same passed set = record {
-      off = λ f r less is. elim (cases_eq f n) [
-        | inl z ↦
-            let here = written_here new new' n a low set in
-            let e : r ≡ a = (let w = ap (λ (k : ℕ). slice_get new' k) z in cc) in
-            ap (λ (r : Runner). r.is_on) e ∙ off
-        | inr other ↦ all.off f r (omega arith)
-            (sym (written_other new new' n a low set f other) ∙ is)
-      ];
-      kept = kept_then old new new' all.kept
-          (kept_written new new' n a b low set was
-          (stopped_one b a off same passed));
-    }
-
-    pub stopped_off : length new ≤ n → (f : ℕ) → live_at new f ≡ None
-    stopped_off end f = elim (slice_get new f) as (λ o. slice_get new f ≡ o → going_of o ≡ None) [
-      | None ↦ λ is. refl
-      | Some r ↦ λ is. going_off r
-          (all.off f r (let low = slice_get_within new f r is in omega arith) is)
-    ] refl
-
 -- ---- fewer on
 
 pub fewer_none : (live : ℕ → Option Going) → AreFewer live live
@@ -314,14 +271,20 @@ fewer_small a b fewer small f r is = elim (fewer f) [
   | inr none ↦ absurd (cc)
 ]
 
-module _ (runners runners' : List Runner) (i : ℕ) (a : Runner)
-    (room : i < length runners) (set : runners' ≡ slice_set runners i a) where
-  pub fewer_stopped : a.is_on ≡ false → AreFewer (live_at runners) (live_at runners')
-  fewer_stopped off f = elim (cases_eq f i) [
-    | inl z ↦ inr (ap (live_at runners') z ∙ live_here runners runners' i a room set ∙
-        going_off a off)
-    | inr other ↦ inl (live_other runners runners' i a room set f other)
-  ]
+pub fewer_but : (live live' : ℕ → Option Going) (i : ℕ) → live' i ≡ None →
+    ((f : ℕ) → f ≢ i → live' f ≡ live f) → AreFewer live live'
+fewer_but live live' i off others f = elim (cases_eq f i) [
+  | inl z ↦ inr (ap live' z ∙ off)
+  | inr other ↦ inl (others f other)
+]
+
+-- those before n are off, and the list ends there
+pub all_off : (runners : List Runner) (n : ℕ) → ((f : ℕ) → f < n → live_at runners f ≡ None) →
+    length runners ≤ n → (f : ℕ) → live_at runners f ≡ None
+all_off runners n off end f = elim (cases_lt f n) [
+  | inl less ↦ off f less
+  | inr from ↦ ap going_of (slice_get_past runners f (omega arith))
+]
 
 pub if_some_more : {X : Type 0} (P Q : X → Type 0) → ((x : X) → P x → Q x) → (o : Option X) → IfSome o P → IfSome o Q
 if_some_more P Q more None h = tt

@@ -1,10 +1,10 @@
 -- The list of the runners that are on: one more, some fewer, and a loop over it.
 use Rattle.unit_table.proofs.Common.{◌≡◌, ◌≢◌, ℕ, suc, ◌+◌, ◌<◌, ◌≤◌, ◌⊎◌, inl, inr, Option, Some, None, ℤ, List}
-use Rattle.unit_table.proofs.Common.{length, refl, sym, ap, ◌∙◌, subst, arith, length-set, slice_get, slice_set}
+use Rattle.unit_table.proofs.Common.{length, refl, sym, ap, ◌∙◌, subst, arith, slice_get, slice_set}
 use Rattle.unit_table.proofs.Common.{cases_lt, cases_eq, ThermalUnit, PriceLists, Runner, Ended, going_of}
 use Rattle.unit_table.proofs.Common.{live_at, AreRoomy, IsRoster, Going, IsRowOf, IsOneRun}
 use Rattle.unit_table.specs.declared.roster.Roster.{Roster}
-use Rattle.unit_table.proofs.LiveLaws.{get_set_same, get_set_other, going_on, live_other}
+use Rattle.unit_table.proofs.LiveLaws.{get_set_same, get_set_other, going_on}
 use Rattle.unit_table.proofs.RunAllLaws.{IsRunTo, run_more}
 
 -- ---- none, one more, fewer on
@@ -72,19 +72,6 @@ module _ (live live' : ℕ → Option Going) (until : ℕ) (roster roster' : Ros
           (old.0, omega arith, kept old.0 (λ z. omega arith) ∙ old.2)
     ];
   }
-
--- a runner begun, and put into the list
-module _ (runners runners' : List Runner) (until i : ℕ) (z : i ≡ until)
-    (a : Runner) (within : i < length runners) (written : runners' ≡ slice_set runners i a)
-    (roster roster' : Roster) (list : IsRoster (live_at runners) until roster)
-    (room : roster.count < length roster.firsts.items)
-    (count : roster'.count ≡ suc roster.count)
-    (set : roster'.firsts.items ≡ slice_set roster.firsts.items roster.count i) where
-  pub begun_listed : IsRoster (live_at runners') (suc until) roster'
-  begun_listed = one_listed (live_at runners) (live_at runners') until roster roster' list room count
-      (set ∙ ap (slice_set roster.firsts.items roster.count) z)
-      (ap (λ (xs : List ℕ). length xs) set ∙ length-set roster.firsts.items roster.count i)
-      (λ f other. live_other runners runners' i a within written f (λ y. other (y ∙ z)))
 
 -- ---- those kept whose runners are on
 

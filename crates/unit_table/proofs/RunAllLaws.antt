@@ -1,12 +1,12 @@
 -- All runners over a period, one after the other.
-use Rattle.unit_table.proofs.Common.{shown, room_of}
-use Rattle.unit_table.proofs.Common.{◌≡◌, ◌≢◌, ℕ, suc, ◌+◌, ◌<◌, ◌≤◌, ◌⊎◌, ℤ, inl, inr, Bool, true, false, get_or}
+use Rattle.unit_table.proofs.Common.{room_of}
+use Rattle.unit_table.proofs.Common.{◌≡◌, ◌≢◌, ℕ, suc, ◌+◌, ◌<◌, ◌≤◌, ◌⊎◌, ℤ, inl, inr, true, get_or}
 use Rattle.unit_table.proofs.Common.{Option, Some, None, List, length, refl, sym, ap, ◌∙◌, subst, arith, slice_get}
-use Rattle.unit_table.proofs.Common.{slice_set, slice_get-get_or, cases_lt, cases_eq, ThermalUnit, PriceLists}
+use Rattle.unit_table.proofs.Common.{slice_set, slice_get-get_or, slice_get_within, cases_lt, cases_eq, ThermalUnit, PriceLists}
 use Rattle.unit_table.proofs.Common.{passed_at, Runner, Ended, going_of, live_at, left_of, left_at, IsRoomy, AreRoomy}
 use Rattle.unit_table.proofs.Common.{HaveRoom, row_at, cost_at, first_at, before_at, AreWithin, Going, IsGoneOn}
 use Rattle.unit_table.proofs.Common.{IsEndLeft, IsRowTo, IsRowMore, IsOneRun, IsRunOver, places_of, length-set}
-use Rattle.unit_table.proofs.LiveLaws.{going_on, going_off, on_some, get_set_same, get_set_other, each_written}
+use Rattle.unit_table.proofs.LiveLaws.{going_on, live_from, get_set_same, get_set_other, each_written}
 use Rattle.unit_table.proofs.RowLaws.{cost-same, first-same}
 use Rattle.unit_table.proofs.RunnerRowLaws.{row_none, row_skip}
 
@@ -137,121 +137,78 @@ module _ (g : ThermalUnit) (π : PriceLists) (t charge : ℕ) where
         count_same = all.count_same;
       }
 
--- ---- one of a list of runners, read or written
+-- ---- one runner over the period, or none
 
-module _ (runners : List Runner) (i : ℕ) (low : i < length runners) where
-  pub item_at : (d : Runner) → slice_get runners i ≡ Some (get_or runners i d)
-  item_at d = slice_get-get_or runners i d low
+pub item_at : (runners : List Runner) (i : ℕ) → i < length runners → (d : Runner) →
+    slice_get runners i ≡ Some (get_or runners i d)
+item_at runners i low d = slice_get-get_or runners i d low
 
-  pub item_same : (d d' : Runner) (b : Bool) → (get_or runners i d).is_on ≡ b → (get_or runners i d').is_on ≡ b
-  item_same d d' b is =
-      (let x = item_at d in let y = item_at d' in let e : get_or runners i d' ≡ get_or runners i d = (cc) in ap
-      (λ (r : Runner). r.is_on) e ∙ is)
+module _ (g : ThermalUnit) (π : PriceLists) (t charge : ℕ) (rows rows' : List (Option Ended)) (runners : List Runner)
+    (i : ℕ) where
+  -- the runner at i is on, and goes to b
+  module _ (old b : Runner) (at : slice_get runners i ≡ Some old) (on : old.is_on ≡ true) where
+    here : slice_get (slice_set runners i b) i ≡ Some b
+    here = get_set_same runners i b (slice_get_within runners i old at)
 
-  pub item_live : (d : Runner) → (get_or runners i d).is_on ≡ true →
-      live_at runners i ≡ Some
-      (record {
-        before = (get_or runners i d).before;
-        cost = (get_or runners i d).cost;
-        function = shown (get_or runners i d).running;
-        left = passed_at (get_or runners i d).passed.items;
-      })
-  item_live d on = ap going_of (item_at d) ∙ going_on (get_or runners i d) on
+    same_left : (k : ℕ) → left_at (slice_set runners i b) i k ≡ passed_at b.passed.items k
+    same_left k = ap (λ o. left_of o k) here
 
-  pub item_off : (d : Runner) → (get_or runners i d).is_on ≡ false → live_at runners i ≡ None
-  item_off d off = ap going_of (item_at d) ∙ going_off (get_or runners i d) off
+    pub run_written : IsRowMore g π t i (going_of (Some old)) rows rows' →
+        ((r : Going) → going_of (Some old) ≡ Some r → IsGoneOn g π t i r (going_of (Some b))) →
+        (row_at rows' (suc t) ≡ row_at rows (suc t)) ⊎
+        ((first_at rows' (suc t) ≡ i) × IsEndLeft g π i t (passed_at b.passed.items t)) →
+        ((k : ℕ) → k ≢ t → passed_at b.passed.items k ≡ passed_at old.passed.items k) →
+        IsRoomy (length π.energy) (suc t) charge b →
+        (room_of b.running ≡ room_of old.running) × (places_of b ≡ places_of old) →
+        IsOneRun g π t charge i rows rows' runners (slice_set runners i b)
+    run_written more goes ends left roomy same =
+        let live = ap going_of at in
+        record {
+          more = subst (λ o. IsRowMore g π t i o rows rows') (sym live) more;
+          goes = λ r is. subst (λ (o : Option Going). IsGoneOn g π t i r o) (sym (ap going_of here))
+              (goes r (sym live ∙ is));
+          off = λ off. (let is = live_from runners i old at on in absurd (cc));
+          rest = λ f other. get_set_other runners i f b other;
+          roomy = λ r is. (let same : b ≡ r = (let h = here in cc) in subst
+              (IsRoomy (length π.energy) (suc t) charge) same roomy);
+          ends = elim ends [
+            | inl kept ↦ inl kept
+            | inr named ↦ inr (named.0, subst (IsEndLeft g π i t) (sym (same_left t)) named.1)
+          ];
+          left = λ k other. same_left k ∙ left k other ∙ sym (ap (λ o. left_of o k) at);
+          keeps = λ most periods have.
+              each_written runners (slice_set runners i b) i b (slice_get_within runners i old at) refl
+              (λ r. (most ≤ room_of r.running) × (periods ≤ places_of r))
+              (let there = (have i old at).0 in
+              let long = (have i old at).1 in
+              (omega arith, omega arith)) have;
+          count_same = length-set runners i b;
+        }
 
-  pub read_at : (x : Runner) → x ≡ get_or runners i x → slice_get runners i ≡ Some x
-  read_at x is = item_at x ∙ ap Some (sym is)
-
-  pub read_live : (x : Runner) → x ≡ get_or runners i x → x.is_on ≡ true →
-      live_at runners i ≡ Some
-      (record { before = x.before; cost = x.cost; function = shown x.running; left = passed_at x.passed.items })
-  read_live x is on = ap going_of (read_at x is) ∙ going_on x on
-
-  -- where it is known to be on
-  pub read_on : (x : Runner) → x ≡ get_or runners i x → (r : Going) → live_at runners i ≡ Some r →
-      x.is_on ≡ true
-  read_on x is r on =
-      let s = on_some (slice_get runners i) r on in
-      let at = read_at x is in
-      let same : x ≡ s.0 = (cc) in
-      ap (λ (r : Runner). r.is_on) same ∙ s.2
-
-  module _ (g : ThermalUnit) (π : PriceLists) (t charge : ℕ) (rows rows' : List (Option Ended))
-    where
-      -- the runner at i is on, and goes to b
-      module _ (d b : Runner) (on : (get_or runners i d).is_on ≡ true) where
-        was : Runner
-        was = get_or runners i d
-
-        here : slice_get (slice_set runners i b) i ≡ Some b
-        here = get_set_same runners i b low
-
-        same_left : (k : ℕ) → left_at (slice_set runners i b) i k ≡ passed_at b.passed.items k
-        same_left k = ap (λ o. left_of o k) here
-
-        pub run_written : IsRowMore g π t i (going_of (Some (get_or runners i d))) rows rows' →
-            ((r : Going) → going_of (Some (get_or runners i d)) ≡ Some r →
-            IsGoneOn g π t i r (going_of (Some b))) →
-            (row_at rows' (suc t) ≡ row_at rows (suc t)) ⊎
-            ((first_at rows' (suc t) ≡ i) × IsEndLeft g π i t (passed_at b.passed.items t)) →
-            ((k : ℕ) → k ≢ t → passed_at b.passed.items k ≡ passed_at (get_or runners i d).passed.items k) →
-            IsRoomy (length π.energy) (suc t) charge b →
-            (room_of b.running ≡ room_of (get_or runners i d).running) × (places_of b ≡ places_of (get_or runners i d)) →
-            IsOneRun g π t charge i rows rows' runners (slice_set runners i b)
-        run_written more goes ends left roomy same =
-            let at = item_at d in
-            let live = ap going_of at in
-            record {
-              more = subst (λ o. IsRowMore g π t i o rows rows') (sym live) more;
-              goes = λ r is. subst (λ (o : Option Going). IsGoneOn g π t i r o) (sym (ap going_of here))
-                  (goes r (sym live ∙ is));
-              off = λ off. (let is = item_live d on in absurd (cc));
-              rest = λ f other. get_set_other runners i f b other;
-              roomy = λ r is. (let same : b ≡ r = (let h = here in cc) in subst
-                  (IsRoomy (length π.energy) (suc t) charge) same roomy);
-              ends = elim ends [
-                | inl kept ↦ inl kept
-                | inr named ↦ inr (named.0, subst (IsEndLeft g π i t) (sym (same_left t)) named.1)
-              ];
-              left = λ k other. same_left k ∙ left k other ∙ sym (ap (λ o. left_of o k) at);
-              keeps = λ most periods have.
-                  each_written runners (slice_set runners i b) i b low refl
-                  (λ r. (most ≤ room_of r.running) × (periods ≤ places_of r))
-                  (let there = (have i (get_or runners i d) at).0 in
-                  let long = (have i (get_or runners i d) at).1 in
-                  (omega arith, omega arith)) have;
-              count_same = length-set runners i b;
-            }
-
-      -- it is off
-      pub run_skipped : live_at runners i ≡ None → AreWithin rows →
-          ((r : Runner) → slice_get runners i ≡ Some r → IsRoomy (length π.energy) t charge r) →
-          IsOneRun g π t charge i rows rows runners runners
-      run_skipped off within roomy = record {
-        more = record {
-          row = λ live is row. row_skip g π (length π.energy) live i (suc t) _ _ _ row
-              (λ r d on spell dispatch. (let none = is ∙ off in cc));
-          others = λ l other. refl;
-          within = within;
-          rows_length = refl;
-        };
-        goes = λ r is. absurd (cc);
-        off = λ off. off;
-        rest = λ f other. refl;
-        roomy = λ r is. (
-            let old = roomy r is in
-            record {
-              whole = old.whole;
-              places = old.places;
-              rest = λ on. (let live = ap going_of is ∙ going_on r on in absurd (cc));
-            });
-        ends = inl refl;
-        left = λ k other. refl;
-        keeps = λ most periods have. have;
-        count_same = refl;
-      }
-
-pub on_of : (r x : Runner) {b : Bool} → r ≡ x → x.is_on ≡ b → r.is_on ≡ b
-on_of r x same is = ap (λ r. r.is_on) same ∙ is
+  -- it is off
+  pub run_skipped : live_at runners i ≡ None → AreWithin rows →
+      ((r : Runner) → slice_get runners i ≡ Some r → IsRoomy (length π.energy) t charge r) →
+      IsOneRun g π t charge i rows rows runners runners
+  run_skipped off within roomy = record {
+    more = record {
+      row = λ live is row. row_skip g π (length π.energy) live i (suc t) _ _ _ row
+          (λ r d on spell dispatch. (let none = is ∙ off in cc));
+      others = λ l other. refl;
+      within = within;
+      rows_length = refl;
+    };
+    goes = λ r is. absurd (cc);
+    off = λ off. off;
+    rest = λ f other. refl;
+    roomy = λ r is. (
+        let old = roomy r is in
+        record {
+          whole = old.whole;
+          places = old.places;
+          rest = λ on. (let live = live_from runners i r is on in absurd (cc));
+        });
+    ends = inl refl;
+    left = λ k other. refl;
+    keeps = λ most periods have. have;
+    count_same = refl;
+  }

@@ -12,15 +12,17 @@ use Rattle.unit_rows.specs.declared.table.Ended.{Ended}
 use Rattle.unit_rows.specs.Rows.{cost_at, first_at, before_at, IsWithinTimes, AreWithin}
 use Rattle.unit_table.specs.Runners.{Going, IsTableTo, AreRunners}
 
+abbrev pub state_of : Runner → Going
+state_of r = record {
+  before = r.before;
+  cost = r.cost;
+  function = shown r.running;
+  left = passed_at r.passed.items;
+}
+
 abbrev pub going_of : Option Runner → Option Going
 going_of None = None
-going_of (Some r) =
-    if r.is_on then Some (record {
-      before = r.before;
-      cost = r.cost;
-      function = shown r.running;
-      left = passed_at r.passed.items;
-    }) else None
+going_of (Some r) = if r.is_on then Some (state_of r) else None
 
 -- the runner that begins with `first`, if it is on
 abbrev pub live_at : List Runner → ℕ → Option Going

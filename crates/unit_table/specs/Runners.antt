@@ -2,7 +2,7 @@
 -- costs of its runs by the power at their end (Bellman's principle), until another runner stands
 -- for all that it may become (dominance between the labels of a shortest path; this project's
 -- profile).
-use Rattle.std.specs.Prelude.{◌≡◌, ◌≢◌, ℕ, suc, ◌+◌, ◌*◌, ◌<◌, ◌≤◌, ℤ, pos, ◌+ℤ◌, ◌≤ℤ◌, ◌⊎◌, IsTrue}
+use Rattle.std.specs.Prelude.{◌≡◌, ◌≢◌, ℕ, suc, ◌+◌, ◌-◌, ◌*◌, ◌<◌, ◌≤◌, ℤ, pos, ◌+ℤ◌, ◌≤ℤ◌, ◌⊎◌, IsTrue}
 use Rattle.std.specs.Prelude.{IsFalse, Option, Some, None}
 use Rattle.shape_law.specs.Table.{Table, value_of, IsEmpty}
 use Rattle.uc_model.specs.declared.units.Mark.TheVariants.{MustOff}
@@ -48,6 +48,12 @@ pub record IsRunner (g : ThermalUnit) (π : PriceLists) (ends : ℕ →
   pub order : first ≤ suc t
   pub within : IsWithinTimes (2 * first + 1) r.cost
   pub noted : AreNoted g π first t r.function r.left
+
+-- a runner was just begun after an entry
+pub record IsBegun (g : ThermalUnit) (first last : ℕ) (e : ℤ) (r : Going) : Type 0 where
+  pub before : r.before ≡ last
+  pub cost : r.cost ≡ e
+  pub frontier : (π : PriceLists) → IsFrontier g π first (first - 1) r.function
 
 -- a runner stands for the run d that begins with `first`, entered at cost e: it ends where d does,
 -- costs no more, and less if it begins earlier, and may stop after any later period after which d

@@ -25,7 +25,7 @@ ghost use Rattle.unit_rows.specs.Ends.{IsLeastEntry};
 use crate::question::Question;
 use crate::roster::Roster;
 use crate::runner::{
-    Runner, begin_runner, drop_beyond, is_less, is_undercut, prune, run_all, stop_all,
+    Runner, begin_at, drop_beyond, is_less, is_undercut, prune, run_all, stop_all,
 };
 use spell_run::laws::{dispatches_are_runs, dispatches_go_on, runs_go_on};
 use uc_model::laws::start_costs_are_within;
@@ -67,8 +67,7 @@ fn start_after(
     if is_undercut(runners, roster, unit.min_power, entry.cost) {
         return;
     }
-    begin_runner(unit, place + 1, entry, &mut runners[place as usize + 1]);
-    roster.add(place + 1);
+    begin_at(unit, place + 1, entry, roster, runners);
 }
 
 // Begins the runner of the period after the one at a place, if a spell may begin there within the
@@ -171,8 +170,7 @@ fn go_on(unit: &Unit, roster: &mut Roster, runners: &mut [Runner])
 {
     if unit.on0 {
         let entry = Entry { cost: 0, last: 0 };
-        begin_runner(unit, 0, &entry, &mut runners[0]);
-        roster.add(0);
+        begin_at(unit, 0, &entry, roster, runners);
     }
 }
 

@@ -4,7 +4,7 @@ ghost use Rattle.uc_model.specs.declared.limits.TheConstants.{MOST_PERIODS};
 ghost use Rattle.unit_table.specs.Live.{live_at};
 ghost use Rattle.unit_table.specs.Rosters.{IsRoster};
 
-use crate::runner::Runner;
+use crate::runner::{Runner, runner_at};
 use plain_lists::lists::ReservedList;
 use std::alloc::{AllocError, Global};
 
@@ -68,7 +68,7 @@ impl Roster {
         let mut kept = 0;
         for place in 0..self.count {
             let first = *self.firsts.get(place as usize);
-            if runners[first as usize].is_on {
+            if runner_at(runners, first).is_on {
                 self.firsts.set(kept as usize, first);
                 kept += 1;
             }

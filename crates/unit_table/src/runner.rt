@@ -14,14 +14,14 @@ ghost use Rattle.uc_model.specs.Data.{ThermalUnit, PriceLists};
 ghost use Rattle.uc_model.specs.PlainUnits.{thermal_of, prices_of};
 ghost use Rattle.uc_model.specs.Schedules.{mark_in};
 ghost use Rattle.uc_model.specs.declared.limits.TheConstants.{MOST_PERIODS};
-ghost use Rattle.unit_table.specs.Live.{going_of, live_at, left_at, places_of, IsRoomy, AreRoomy};
+ghost use Rattle.unit_table.specs.Live.{state_of, going_of, live_at, left_at, places_of, IsRoomy, AreRoomy};
 ghost use Rattle.unit_table.specs.Live.{AreSmall, IsUnder, IsBeyond, IsBelow, HaveRoom};
 ghost use Rattle.unit_table.specs.Questions.{unit_of, prices_in, periods_in, charge_of};
 ghost use Rattle.unit_table.specs.Rosters.{IsRoster};
 ghost use Rattle.unit_rows.specs.Rows.{row_at, cost_at, first_at, before_at, IsWithinTimes};
 ghost use Rattle.unit_rows.specs.Rows.{AreWithin};
 ghost use Rattle.unit_table.specs.Runners.{Going, MayBeOn, AreRunners, IsRowOf, IsGoneOn};
-ghost use Rattle.unit_table.specs.Runners.{IsEndLeft};
+ghost use Rattle.unit_table.specs.Runners.{IsEndLeft, IsBegun};
 ghost use Rattle.unit_rows.specs.Spells.{on_time};
 ghost use Rattle.unit_table.specs.Taken.{AreFewer, AreKept, IsReady, IsRowMore, IsOneRun};
 ghost use Rattle.unit_table.specs.Taken.{IsRunOver};
@@ -63,8 +63,8 @@ impl Drop for Runner {
     }
 }
 
-/// Begins a runner after an entry.
-pub fn begin_runner(unit: &Unit, first: u32, entry: &Entry, runner: &mut Runner)
+// Begins a runner after an entry.
+fn begin_runner(unit: &Unit, first: u32, entry: &Entry, runner: &mut Runner)
     ensures on { runner.new.is_on ≡ true }
     ensures cost { runner.new.cost ≡ entry.now.cost }
     ensures before { runner.new.before ≡ entry.now.last }
@@ -89,13 +89,67 @@ fn stop(runner: &mut Runner)
     runner.is_on = false;
 }
 
+/// The runner that begins with a period.
+pub(crate) fn runner_at(runners: &[Runner], first: u32) -> &Runner
+    requires { first < length runners.now }
+    ensures { slice_get runners.now first ≡ Some result.now }
+{
+    &runners[first as usize]
+}
+
+// Begins the runner at a place after an entry.
+fn begin_in(unit: &Unit, first: u32, entry: &Entry, runners: &mut [Runner])
+    requires end { first < length runners.old }
+    ensures begun { (r : Going) × (live_at runners.new first ≡ Some r)
+        × IsBegun (thermal_of unit.now) first entry.now.last entry.now.cost r }
+    ensures others { (f : ℕ) → f ≢ first → live_at runners.new f ≡ live_at runners.old f }
+    ensures kept { AreKept runners.old runners.new }
+{
+    begin_runner(unit, first, entry, &mut runners[first as usize]);
+}
+
+/// Begins the runner of a period after an entry, and puts the period into the roster, which has
+/// earlier ones.
+pub(crate) fn begin_at(
+    unit: &Unit,
+    first: u32,
+    entry: &Entry,
+    roster: &mut Roster,
+    runners: &mut [Runner],
+)
+    requires small { first ≤ MOST_PERIODS }
+    requires end { first < length runners.old }
+    requires list { first < length roster.old.firsts.items }
+    requires roster { IsRoster (live_at runners.old) first roster.old }
+    ensures begun { (r : Going) × (live_at runners.new first ≡ Some r)
+        × IsBegun (thermal_of unit.now) first entry.now.last entry.now.cost r }
+    ensures others { (f : ℕ) → f ≢ first → live_at runners.new f ≡ live_at runners.old f }
+    ensures kept { AreKept runners.old runners.new }
+    ensures roster { IsRoster (live_at runners.new) (suc first) roster.new }
+    ensures list { length roster.new.firsts.items ≡ length roster.old.firsts.items }
+{
+    begin_in(unit, first, entry, runners);
+    roster.add(first);
+}
+
+// Stops the runner at a place.
+fn stop_at(runners: &mut [Runner], place: usize)
+    requires { place < length runners.old }
+    ensures off { live_at runners.new place ≡ None }
+    ensures others { (f : ℕ) → f ≢ place → live_at runners.new f ≡ live_at runners.old f }
+    ensures fewer { AreFewer (live_at runners.old) (live_at runners.new) }
+    ensures kept { AreKept runners.old runners.new }
+{
+    stop(&mut runners[place]);
+}
+
 /// Stops all runners.
 pub fn stop_all(runners: &mut [Runner])
     ensures off { (first : ℕ) → live_at runners.new first ≡ None }
     ensures kept { AreKept runners.old runners.new }
 {
     for place in 0..runners.len() {
-        stop(&mut runners[place]);
+        stop_at(runners, place);
     }
 }
 
@@ -127,13 +181,7 @@ fn undercuts(runner: &Runner, power: i64, cost: i64) -> bool
     requires values { (x v : ℤ) → value_of (shown runner.now.running) x ≡ Some v
         → IsWithinTimes 400 v }
     ensures { OnTrue result
-        (IsUnder power cost (record {
-          before = runner.now.before;
-          cost = runner.now.cost;
-          function =
-              shown runner.now.running;
-          left = passed_at runner.now.passed.items;
-        })) }
+        (IsUnder power cost (state_of runner.now)) }
 {
     match value_at_first(&runner.running, power) {
         Some(value) => is_less(sum_of(runner.cost, value), cost),
@@ -148,10 +196,11 @@ fn undercuts_from(runners: &[Runner], first: u32, power: i64, cost: i64) -> bool
     ensures { OnTrue result ((r : Going) × (live_at runners.now first ≡ Some r)
         × IsUnder power cost r) }
 {
-    if !runners[first as usize].is_on {
+    let runner = runner_at(runners, first);
+    if !runner.is_on {
         return false;
     }
-    undercuts(&runners[first as usize], power, cost)
+    undercuts(runner, power, cost)
 }
 
 /// Whether one of the runners of a roster is at a power, its first, for less than a cost.
@@ -281,7 +330,7 @@ fn run_at(question: &Question, place: u32, first: u32, runners: &mut [Runner], t
     ensures { IsOneRun (unit_of question.now) (prices_in question.now) place
         (charge_of question.now) first table.old.items table.new.items runners.old runners.new }
 {
-    if runners[first as usize].is_on {
+    if runner_at(runners, first).is_on {
         take_runner(question, first, place, &mut runners[first as usize], table);
     }
 }
@@ -369,18 +418,13 @@ fn prune_one(
     ensures fewer { AreFewer (live_at runners.old) (live_at runners.new) }
     ensures kept { AreKept runners.old runners.new }
 {
-    if !runners[early as usize].is_on {
+    let runner = runner_at(runners, early);
+    if !runner.is_on {
         return late;
     }
     if let Some(first) = late {
-        if goes(
-            unit,
-            period,
-            first,
-            &runners[first as usize],
-            &runners[early as usize],
-        ) {
-            stop(&mut runners[early as usize]);
+        if goes(unit, period, first, runner_at(runners, first), runner) {
+            stop_at(runners, early as usize);
             return Some(first);
         }
     }
@@ -428,11 +472,12 @@ fn drop_at(limit: i64, first: u32, runners: &mut [Runner])
     ensures fewer { AreFewer (live_at runners.old) (live_at runners.new) }
     ensures kept { AreKept runners.old runners.new }
 {
-    if !runners[first as usize].is_on {
+    let runner = runner_at(runners, first);
+    if !runner.is_on {
         return;
     }
-    if is_beyond(&runners[first as usize], limit) {
-        stop(&mut runners[first as usize]);
+    if is_beyond(runner, limit) {
+        stop_at(runners, first as usize);
     }
 }
 

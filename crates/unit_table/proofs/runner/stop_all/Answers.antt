@@ -1,26 +1,23 @@
-use Rattle.unit_table.proofs.Common.{refl, arith, scaled_Fits, rules, length}
-use Rattle.unit_table.proofs.Lemmas.{none_stopped, stopped_more, stopped_off, item_at}
+use Rattle.unit_table.proofs.Common.{arith, inl, inr, cases_eq, ap, ◌∙◌, live_at}
+use Rattle.unit_table.proofs.Lemmas.{kept_none, kept_then, fewer_off, all_off}
 use Rattle.unit_table.proofs.runner.stop_all.Goals as goal
 
 pub loop-place-init : goal.loop-place-init
-loop-place-init c = none_stopped c.args.runners.now
+loop-place-init c = record { off = λ f low. absurd (omega arith); kept = kept_none c.args.runners.now }
 
 pub loop-place-preserved : goal.loop-place-preserved
-loop-place-preserved c =
-    stopped_more c.args.runners.now c.loop-place.runners c.loop-place.place
-    c.loop-place.invariant
-    _ c.stop.new.runner _ (omega arith)
-    (item_at c.loop-place.runners c.loop-place.place (omega arith) c.index-runners-place.result)
-    c.stop.ensures.off c.stop.ensures.running c.stop.ensures.passed refl
+loop-place-preserved c = record {
+  off = λ f low. elim (cases_eq f (c.loop-place.place)) [
+    | inl z ↦ ap (live_at c.stop_at.new.runners) z ∙ c.stop_at.ensures.off
+    | inr other ↦ fewer_off _ _ c.stop_at.ensures.fewer f (c.loop-place.invariant.off f (omega arith))
+  ];
+  kept = kept_then _ _ _ c.loop-place.invariant.kept c.stop_at.ensures.kept;
+}
 
 pub returns-clause-off : goal.returns-clause-off
-returns-clause-off c =
-    stopped_off c.args.runners.now c.loop-place.runners c.loop-place.place c.loop-place.invariant
-    (omega arith)
+returns-clause-off c = all_off c.loop-place.runners c.loop-place.place c.loop-place.invariant.off (omega arith)
 
-pub offset_bounds-runners-place : goal.offset_bounds-runners-place
-offset_bounds-runners-place c =
-    scaled_Fits c.loop-place.place (length c.loop-place.runners) _ (omega arith) (search rules)
-
-pub returns-clause-kept : goal.returns-clause-kept
-returns-clause-kept c = c.loop-place.invariant.kept
+pub stop_at-requires : goal.stop_at-requires
+stop_at-requires c =
+    let same = c.loop-place.invariant.kept.count_same in
+    omega arith

@@ -1,3 +1,4 @@
+use Rattle.unit_table.proofs.Common.{state_of}
 use Rattle.unit_table.proofs.Common.{shown, count_of, room_of}
 use Rattle.unit_table.proofs.Common.{rules, ◌≡◌, ℕ, suc, ◌+◌, ◌-◌, ◌*◌, ◌<◌, ◌≤◌, ◌+ℤ◌, ℤ, inl, inr, Some, length, sym}
 use Rattle.unit_table.proofs.Common.{ap, ◌∙◌, subst, arith, to_z, of_z, FitsSigned, IfSome, w64, to_z-of_z, unit_of}
@@ -18,18 +19,12 @@ returns-clause-more c =
     c.put_end.new.table.items)) cost c.put_end.ensures.some in
     let put_next = subst
     (λ (l : ℕ). IfSome c.cost_of.result
-    (λ (x : ℤ). IsPut l (record
-    { cost = c.args.runner.now.cost +ℤ x; first = c.args.first; before = c.args.runner.now.before })
+    (λ (x : ℤ). IsPut l (record { cost = c.args.runner.now.cost +ℤ x; first = c.args.first; before = c.args.runner.now.before })
     c.args.table.now.items c.put_end.new.table.items)) next put in
     record {
       row = λ live is. row_end (unit_of c.args.question.now) (prices_in c.args.question.now) live c.args.first
           c.args.place c.args.table.now.items c.put_end.new.table.items
-          (record {
-            before = c.args.runner.now.before;
-            cost = c.args.runner.now.cost;
-            function = shown c.args.runner.now.running;
-            left = passed_at c.args.runner.now.passed.items;
-          })
+          (state_of c.args.runner.now)
           (is ∙ going_on c.args.runner.now c.requires.on)
           c.requires.place ready.order ready.may c.cost_of.result (rw c.cost_of.ensures c.run_one-passed.ensures.answer)
           (end_some c.run_one-passed.result.end c.cost_of.result
@@ -89,12 +84,7 @@ returns-clause-goes c = λ r is.
       left = passed_at l.items;
     })) c.retire.ensures.passed in
     let at = going_on c.args.runner.now c.requires.on in
-    let here : record {
-      before = c.args.runner.now.before;
-      cost = c.args.runner.now.cost;
-      function = shown c.args.runner.now.running;
-      left = passed_at c.args.runner.now.passed.items;
-    } ≡ r = (cc) in
+    let here : state_of c.args.runner.now ≡ r = (cc) in
     subst (λ (r : Going). IsGoneOn unit prices c.args.place c.args.first r (going_of (Some c.retire.new.runner)))
     here (record {
       function = shown c.run_one-passed.new.running;

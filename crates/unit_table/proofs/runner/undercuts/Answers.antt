@@ -1,3 +1,4 @@
+use Rattle.unit_table.proofs.Common.{state_of}
 use Rattle.unit_table.proofs.Common.{shown}
 use Rattle.unit_table.proofs.Common.{rules, ◌≡◌, pos, ◌+ℤ◌, ◌≤ℤ◌, Some, to_z, of_z, FitsSigned, w64, OnTrue_from}
 use Rattle.unit_table.proofs.Common.{to_z-of_z, value_of, passed_at, IsUnder, IsWithinTimes}
@@ -23,12 +24,7 @@ returns-in-Some c =
     c.in-Some.ensures in
     OnTrue_from c.is_less.result
     (IsUnder c.args.power c.args.cost
-    (record {
-      before = c.args.runner.now.before;
-      cost = c.args.runner.now.cost;
-      function = shown c.args.runner.now.running;
-      left = passed_at c.args.runner.now.passed.items;
-    }))
+    (state_of c.args.runner.now))
     (λ t.
     let less : (c.sum_of.result +ℤ pos 1) ≤ℤ c.args.cost = simp to_z-of_z at (c.is_less.ensures t) in
     under_of (shown c.args.runner.now.running) c.args.runner.now.cost c.args.power c.args.cost c.in-Some.value

@@ -1,7 +1,7 @@
-use Rattle.unit_table.proofs.Common.{◌≡◌, ℕ, ◌<◌, false, List, length, refl, ap, ◌∙◌, arith, length-set, live_at}
-use Rattle.unit_table.proofs.Lemmas.{none_kept, one_kept, one_off, all_kept, first_inside, item_same, item_off}
+use Rattle.unit_table.proofs.Common.{◌≡◌, ℕ, ◌<◌, List, length, refl, ap, ◌∙◌, arith, length-set, live_at}
+use Rattle.unit_table.proofs.Lemmas.{none_kept, one_kept, one_off, all_kept, first_inside, off_from}
 use Rattle.unit_table.proofs.roster.Roster.keep.Goals as goal
-use Rattle.unit_table.proofs.roster.Roster.keep.Goals.{then-runners-first, else-runners-first}
+use Rattle.unit_table.proofs.roster.Roster.keep.Goals.{then-runner_at, else-runner_at}
 
 pub loop-place-init : goal.loop-place-init
 loop-place-init c = record {
@@ -15,26 +15,8 @@ pub get-first-requires : goal.get-first-requires
 get-first-requires c =
     omega arith
 
-pub bounds-runners-first : goal.bounds-runners-first
-bounds-runners-first c =
-    let list = c.requires.roster in
-    let below = first_inside (live_at c.args.runners.now) list.0 c.args.self.now list.2 c.loop-place.place
-    c.loop-place.kept c.loop-place.self.firsts.items
-    (c.loop-place.invariant.kept list.0 list.2) (omega arith) c.get-first.result.now
-    c.get-first.ensures.item in
-    omega arith
-
-pub offset_bounds-runners-first : goal.offset_bounds-runners-first
-offset_bounds-runners-first c =
-    let list = c.requires.roster in
-    let below = first_inside (live_at c.args.runners.now) list.0 c.args.self.now list.2 c.loop-place.place
-    c.loop-place.kept c.loop-place.self.firsts.items
-    (c.loop-place.invariant.kept list.0 list.2) (omega arith) c.get-first.result.now
-    c.get-first.ensures.item in
-    omega arith
-
-pub bounds-runners-first-in-loop-place : goal.bounds-runners-first-in-loop-place
-bounds-runners-first-in-loop-place c =
+pub runner_at-requires : goal.runner_at-requires
+runner_at-requires c =
     let list = c.requires.roster in
     let below = first_inside (live_at c.args.runners.now) list.0 c.args.self.now list.2 c.loop-place.place
     c.loop-place.kept c.loop-place.self.firsts.items
@@ -57,13 +39,8 @@ loop-place-preserved c =
     let count_same = c.loop-place.invariant.count_same in
     let same_length = c.loop-place.invariant.same_length in
     let inside : p < old.count = omega arith in
-    let here : first < length c.args.runners.now =
-    (let list = c.requires.roster in
-    let below = first_inside live list.0 old list.2 p q items (c.loop-place.invariant.kept list.0 list.2) inside first
-    c.get-first.ensures.item in
-    omega arith) in
-    elim c.if-runners-first.branch [
-      | then-runners-first w ↦
+    elim c.if-runner_at.branch [
+      | then-runner_at w ↦
           let set = w.set.ensures.items in
           let same : length w.set.new.self.items ≡ length items = ap (λ (xs : List ℕ). length xs) set ∙
           length-set items q first in
@@ -74,13 +51,11 @@ loop-place-preserved c =
             same_length = same ∙ same_length;
             count_same = count_same;
           }))
-      | else-runners-first w ↦
+      | else-runner_at w ↦
           rw w.self-is (rw w.kept-is (record {
             kept = λ until list. one_off live until old list p q items (c.loop-place.invariant.kept until list) inside
                 first c.get-first.ensures.item
-                (item_off c.args.runners.now first here c.index-runners-first.result
-                (item_same c.args.runners.now first here c.index-runners-first.result c.index-runners-first.result
-                false w.if-runners-first.false));
+                (off_from c.args.runners.now first c.runner_at.result.now c.runner_at.ensures w.if-runner_at.false);
             low = omega arith;
             same_length = same_length;
             count_same = count_same;
