@@ -1,6 +1,6 @@
 -- The table before the first period.
-use Rattle.unit_rows.proofs.Common.{◌≡◌, ℕ, zero, suc, ◌<◌, ◌≤◌, Option, Some, None, ℤ, pos, List, length, refl, sym}
-use Rattle.unit_rows.proofs.Common.{ap, ◌∙◌, subst, get_or-set_same, get_or-set_other, arith, IsTrue, slice_set, ints}
+use Rattle.unit_rows.proofs.Common.{◌≡◌, ℕ, zero, suc, ◌<◌, ◌≤◌, Option, Some, None, ℤ, pos, List, length, refl}
+use Rattle.unit_rows.proofs.Common.{ap, ◌∙◌, get_or-set_same, get_or-set_other, arith, IsTrue, slice_set, ints}
 use Rattle.unit_rows.proofs.Common.{ThermalUnit, Ended, row_at, cost_at, AreWithin, IsFirstRow, StopsAtOnce}
 use Rattle.unit_rows.proofs.RowLaws.{cost_from}
 
@@ -9,8 +9,7 @@ pub begun : (g : ThermalUnit) (cleared rows : List (Option Ended)) (o : Option E
     0 < length cleared → ((l : ℕ) → row_at cleared l ≡ None) → IsFirstRow g o
     → IsFirstRow g (row_at rows 0) × ((l : ℕ) → 1 ≤ l → row_at rows l ≡ None)
 begun g cleared rows o is room none first = (
-  subst (IsFirstRow g) (sym (ap (λ (xs : List (Option Ended)). row_at xs 0) is ∙ get_or-set_same cleared 0 o None room))
-      first,
+  rw (ap (λ (xs : List (Option Ended)). row_at xs 0) is ∙ get_or-set_same cleared 0 o None room) first,
   λ l one. ap (λ (xs : List (Option Ended)). row_at xs l) is ∙
       get_or-set_other cleared 0 l o None (λ z. omega arith) ∙ none l,
 )
@@ -19,7 +18,7 @@ module _ (g : ThermalUnit) (rows : List (Option Ended)) (first : IsFirstRow g (r
     row_at rows l ≡ None) where
   row_of : (e : Ended) → row_at rows 0 ≡ Some e → (e ≡ record { cost = pos 0; first = 0; before = 0 }) × (IsTrue g.on0 →
       StopsAtOnce g × (g.min_up ≤ g.up0))
-  row_of e is = subst (IsFirstRow g) is first
+  row_of e is = rw is at first
 
   -- each cost is that of row 0, which is 0
   only_first : (l : ℕ) (v : ℤ) → cost_at rows l ≡ Some v →
@@ -29,7 +28,7 @@ module _ (g : ThermalUnit) (rows : List (Option Ended)) (first : IsFirstRow g (r
       let r = cost_from rows 0 v is in
       let h = row_of r.0 r.1 in
       let cost = ap (λ (e : Ended). e.cost) h.0 in
-      (refl, sym r.2 ∙ cost, r.1 ∙ ap Some h.0, h.1)
+      (refl, cc, cc, h.1)
   only_first (suc k) v is =
       let r = cost_from rows (suc k) v is in
       let none = rest (suc k) (omega arith) in

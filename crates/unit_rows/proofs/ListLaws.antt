@@ -1,5 +1,5 @@
 -- An item of a list that is written, and what holds of an option that is there.
-use Rattle.unit_rows.proofs.Common.{◌≡◌, ◌≢◌, ℕ, zero, suc, ◌<◌, Option, Some, List, [], ◌∷◌, length, refl, ap, subst}
+use Rattle.unit_rows.proofs.Common.{◌≡◌, ◌≢◌, ℕ, zero, suc, ◌<◌, Option, Some, List, [], ◌∷◌, length, refl, ap}
 use Rattle.unit_rows.proofs.Common.{arith, IfSome, slice_get, slice_set}
 
 pub get_set_same : {X : Type 0} (xs : List X) (i : ℕ) (a : X) → i < length xs → slice_get (slice_set xs i a) i ≡ Some a
@@ -16,4 +16,4 @@ get_set_other (x ∷ xs) (suc i) zero a other = refl
 get_set_other (x ∷ xs) (suc i) (suc j) a other = get_set_other xs i j a (λ z. other (ap suc z))
 
 pub if_some : {X : Type 0} → (P : X → Type 0) (o : Option X) (x : X) → o ≡ Some x → IfSome o P → P x
-if_some P o x is h = subst (λ o. IfSome o P) is h
+if_some P o x is h = rw is at h

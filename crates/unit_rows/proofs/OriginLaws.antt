@@ -4,7 +4,7 @@ use Rattle.unit_rows.proofs.Common.{Option, Some, None, ℤ, pos, ◌+ℤ◌, �
 use Rattle.unit_rows.proofs.Common.{subst, arith, IsTrue, IsFalse, slice_get, ints, cases_lt, cases_eq, MustOn}
 use Rattle.unit_rows.proofs.Common.{ThermalUnit, IsThermalUnit, mark_in, Origin, Entry, IsRising, IsRipe, IsOrigin}
 use Rattle.unit_rows.proofs.Common.{HasOrigin, AreInOrder, AreRight, AreOrigins, IsOriginPut, HasEntryAtMost}
-use Rattle.unit_rows.proofs.Common.{IsWithinTimes, IsOffRun, IsGap, off_time, start_cost_after, IsStarted, IsEntry}
+use Rattle.unit_rows.proofs.Common.{IsWithinTimes, IsOffRun, off_time, start_cost_after, IsEntry}
 use Rattle.unit_rows.proofs.Common.{IsLeastEntry}
 use Rattle.unit_rows.proofs.RipeLaws.{off_next}
 use Rattle.unit_rows.specs.declared.origins.Origins.{Origins}
@@ -48,7 +48,7 @@ module _ (g : ThermalUnit) (ends : ℕ → Option ℤ) (os : Origins) (none : os
     rising = rising;
     off = λ last low run. omega arith;
     off_since = λ last at_least low.
-        (let z : 0 ≡ last = omega arith in subst (λ (l : ℕ). IsOffRun g l 0) z (whole g 0));
+        (let z : 0 ≡ last = omega arith in rw (← z) (whole g 0));
     each = λ i o low is. absurd (omega arith);
     order = record {
       last = λ i j a b before low is is'. absurd (omega arith);
@@ -69,8 +69,7 @@ module _ (g : ThermalUnit) (unit : IsThermalUnit g) (ends : ℕ →
   not_yet o is = elim (cases_lt k (o.last)) [
     | inl above ↦
         let z : o.last ≡ suc k = omega arith in
-        let long : g.min_down ≤ off_time g (suc k) (suc k) = subst (λ (l : ℕ). g.min_down ≤ off_time g l (suc k)) z
-        is.gap.min_down in
+        let long : g.min_down ≤ off_time g (suc k) (suc k) = rw z at is.gap.min_down in
         let none = none_off g k in
         absurd (omega arith)
     | inr most ↦ most
@@ -84,7 +83,7 @@ module _ (g : ThermalUnit) (unit : IsThermalUnit g) (ends : ℕ →
       marks = λ t above until mark. elim (cases_lt t (suc k)) [
         | inl less ↦ off.marks t above (omega arith) mark
         | inr most ↦ let z : t ≡ suc k = omega arith in open_next
-            (subst (λ (t : ℕ). mark_in g.window t ≡ MustOn) z mark)
+            (rw z at mark)
       ];
     }
 
@@ -103,8 +102,7 @@ module _ (g : ThermalUnit) (unit : IsThermalUnit g) (ends : ℕ →
         | inr most ↦ now.right.off last most (run_less last most run)
       ];
       off_since = λ last from low. elim (cases_lt k last) [
-        | inl above ↦ (let z : suc k ≡ last = omega arith in subst (λ (l : ℕ). IsOffRun g l (suc k)) z
-            (whole g (suc k)))
+        | inl above ↦ (let z : suc k ≡ last = omega arith in rw (← z) (whole g (suc k)))
         | inr most ↦ run_more last (now.right.off_since last from most)
       ];
       each = λ i o low is.
@@ -138,7 +136,7 @@ module _ (g : ThermalUnit) (unit : IsThermalUnit g) (ends : ℕ →
             order = is.gap.off.order;
             long = is.gap.min_down;
             before = λ b next.
-                (let z : k ≡ b = omega arith in subst (λ (b : ℕ). off_time g o.last b < g.min_down) z short);
+                (let z : k ≡ b = omega arith in rw z at short);
           })
           | inr long ↦ inr (now.all o
               (record { ended = is.ended; gap = record { off = run_less o.last low is.gap.off; min_down = long } }))
@@ -160,11 +158,10 @@ module _ (g : ThermalUnit) (unit : IsThermalUnit g) (ends : ℕ →
     cleared = record {
       few = omega arith;
       right = record {
-        rising = λ yes. now.right.rising (sym same ∙ yes);
+        rising = λ yes. now.right.rising (cc);
         off = λ last low run. (let on = on_since last run in omega arith);
         off_since = λ last at_least low.
-            (let z : suc k ≡ last = omega arith in subst (λ (l : ℕ). IsOffRun g l (suc k)) z
-            (whole g (suc k)));
+            (let z : suc k ≡ last = omega arith in rw (← z) (whole g (suc k)));
         each = λ i o low is. absurd (omega arith);
         order = record {
           last = λ i j a b before low is is'. absurd (omega arith);
@@ -226,7 +223,7 @@ module _ (g : ThermalUnit) (ends : ℕ → Option ℤ) (k : ℕ) (os : Origins) 
               ]
           | inr new ↦
               elim first [
-                | inl old' ↦ subst (λ (b : Origin). a.last < b.last) new.1 (later i a (old_low i old'.0) old'.1)
+                | inl old' ↦ rw new.1 at (later i a (old_low i old'.0) old'.1)
                 | inr new' ↦ absurd (omega arith)
               ]
         ]
@@ -248,7 +245,7 @@ module _ (g : ThermalUnit) (ends : ℕ → Option ℤ) (k : ℕ) (os : Origins) 
     cost' : IsTrue os'.is_rising → (i j : ℕ) (a b : Origin) → i < j → j < os'.count →
         slice_get os'.list.items i ≡ Some a → slice_get os'.list.items j ≡ Some b → a.cost ≤ℤ b.cost
     cost' rising' i j a b before low is is' =
-        let rising : IsTrue os.is_rising = sym put.is_rising ∙ rising' in
+        let rising : IsTrue os.is_rising = cc in
         let first = stands i a (omega arith) is in
         elim (stands j b low is') [
           | inl old ↦
@@ -259,7 +256,7 @@ module _ (g : ThermalUnit) (ends : ℕ → Option ℤ) (k : ℕ) (os : Origins) 
               ]
           | inr new ↦
               elim first [
-                | inl old' ↦ subst (λ (b : Origin). a.cost ≤ℤ b.cost) new.1 (cheaper rising i a old'.0 old'.1)
+                | inl old' ↦ rw new.1 at (cheaper rising i a old'.0 old'.1)
                 | inr new' ↦ absurd (omega arith)
               ]
         ]
@@ -284,7 +281,7 @@ module _ (g : ThermalUnit) (ends : ℕ → Option ℤ) (k : ℕ) (os : Origins) 
           is = put.before has.place less ∙ has.is;
           best = elim (has.best) [
             | inl same ↦ inl same
-            | inr more ↦ inr (put.is_rising ∙ more.0, more.1, more.2)
+            | inr more ↦ inr (cc, more.1, more.2)
           ];
         }
         | inr most ↦
@@ -301,9 +298,9 @@ module _ (g : ThermalUnit) (ends : ℕ → Option ℤ) (k : ℕ) (os : Origins) 
                     let e = (right.each has.place has.origin has.low has.is).ended in
                     let g' = ap ends same in
                     let cost : has.origin.cost ≡ o.cost = (cc) in
-                    inr (put.is_rising ∙ dear.0, omega arith, omega (arith, ints))
+                    inr (cc, omega arith, omega (arith, ints))
                 | inr more ↦
-                    inr (put.is_rising ∙ dear.0, omega arith, omega (arith, ints))
+                    inr (cc, omega arith, omega (arith, ints))
               ];
             }
       ]
@@ -313,7 +310,7 @@ module _ (g : ThermalUnit) (ends : ℕ → Option ℤ) (k : ℕ) (os : Origins) 
     put_ripe = record {
       few = (omega arith);
       right = record {
-        rising = λ yes. right.rising (sym put.is_rising ∙ yes);
+        rising = λ yes. right.rising (cc);
         off = λ last low run.
             (let from = right.off last low run in omega arith);
         off_since = λ last from low. (right.off_since last (omega arith) low);
@@ -431,15 +428,14 @@ module _ (g : ThermalUnit) (k : ℕ) (os : Origins) where
         let from_last = s.4 in
         let cost = s.5 in
         record {
-          entry = inr (subst (λ (l : ℕ). IsStarted g ends (suc k) l r.cost) (sym from_last)
-              (record { before = k; first = refl; value = s.1.cost; ended = a.ended; gap = a.gap; cost = cost }));
+          entry = inr (rw from_last (record { before = k; first = refl; value = s.1.cost; ended = a.ended; gap = a.gap; cost = cost }));
           least = λ d entry. elim (entry.1) [
             | inl none ↦ let z = none.0 in absurd (omega arith)
             | inr h ↦
                 let z : h.before ≡ k = omega arith in
                 let o : Origin = record { last = entry.0; cost = h.value } in
                 let is_origin : IsOrigin g ends k o = record
-                { ended = h.ended; gap = subst (λ (b : ℕ). IsGap g entry.0 b) z h.gap } in
+                { ended = h.ended; gap = rw z at h.gap } in
                 let has = now.all o is_origin in
                 let low = all.complete has.place has.origin has.low has.is in
                 let same : low.0 ≡ r = (cc) in
@@ -456,7 +452,7 @@ module _ (g : ThermalUnit) (k : ℕ) (os : Origins) where
                 let z : h.before ≡ k = omega arith in
                 let o : Origin = record { last = j; cost = h.value } in
                 let is_origin : IsOrigin g ends k o = record
-                { ended = h.ended; gap = subst (λ (b : ℕ). IsGap g j b) z h.gap } in
+                { ended = h.ended; gap = rw z at h.gap } in
                 let has = now.all o is_origin in
                 let low = all.complete has.place has.origin has.low has.is in
                 let same : low.0 ≡ r = (cc) in
@@ -479,7 +475,7 @@ module _ (g : ThermalUnit) (k : ℕ) (os : Origins) where
       | inr h ↦
           let z : h.before ≡ k = omega arith in
           let o : Origin = record { last = entry.0; cost = h.value } in
-          let has = now.all o (record { ended = h.ended; gap = subst (λ (b : ℕ). IsGap g entry.0 b) z h.gap }) in
+          let has = now.all o (record { ended = h.ended; gap = rw z at h.gap }) in
           let low = all.complete has.place has.origin has.low has.is in
           cc
     ]

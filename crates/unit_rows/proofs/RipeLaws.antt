@@ -1,5 +1,5 @@
 -- When the unit has been off for long enough.
-use Rattle.unit_rows.proofs.Common.{◌≡◌, ℕ, zero, suc, ◌+◌, ◌-◌, ◌<◌, ◌≤◌, true, false, cond, refl, subst, arith}
+use Rattle.unit_rows.proofs.Common.{◌≡◌, ℕ, zero, suc, ◌+◌, ◌-◌, ◌<◌, ◌≤◌, true, false, cond, refl, arith}
 use Rattle.unit_rows.proofs.Common.{ThermalUnit, IsRipe, off_time}
 
 -- since before the horizon it has been off for all the periods at least
@@ -52,7 +52,7 @@ module _ (g : ThermalUnit) (one : 1 ≤ g.min_down) (k : ℕ) where
         let is : k ≡ suc (k - 1) = omega arith in
         let short = ripe.before (k - 1) is in
         let e : off_time g 0 (suc (k - 1)) ≡ suc (off_time g 0 (k - 1)) = off_next g 0 (k - 1) (omega arith) in
-        let more : g.min_down < off_time g 0 (suc (k - 1)) = subst (λ (k : ℕ). g.min_down < off_time g 0 k) is long in
+        let more : g.min_down < off_time g 0 (suc (k - 1)) = rw is at long in
         omega arith
     | suc l ↦ λ ripe. none_after l few ripe
   ] ripe

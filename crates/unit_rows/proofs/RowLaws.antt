@@ -5,7 +5,7 @@ use Rattle.unit_rows.proofs.Common.{cost_at}
 
 module _ (rows : List (Option Ended)) (l : ℕ) (e : Ended) (is : row_at rows l ≡ Some e) where
   pub cost-is : cost_at rows l ≡ Some e.cost
-  cost-is = ap (option_map (λ (e : Ended). e.cost)) is
+  cost-is = cc
 
 -- the row that a cost is of
 pub cost_from : (rows : List (Option Ended)) (l : ℕ) (v : ℤ) → cost_at rows l ≡ Some v →

@@ -1,4 +1,4 @@
-use Rattle.unit_rows.proofs.Common.{rules, ◌≡◌, ◌≤ℤ◌, Some, List, Option, ap, ◌∙◌, to_z, of_z, FitsSigned, w64}
+use Rattle.unit_rows.proofs.Common.{rules, ◌≡◌, ◌≤ℤ◌, Some, List, Option, ap, to_z, of_z, FitsSigned, w64}
 use Rattle.unit_rows.proofs.Common.{to_z-of_z, Ended, row_at, arith, length}
 use Rattle.unit_rows.proofs.Lemmas.{written_added, written_old}
 use Rattle.unit_rows.proofs.table.put.Goals as goal
@@ -9,7 +9,7 @@ returns-then-is_taken-clause-old c =
     let cost : to_z w64 (of_z w64 c.args.ended.cost) ≡ c.args.ended.cost = to_z-of_z w64 _ fits in
     let low : (r : Ended) → row_at c.args.table.now.items c.args.last ≡ Some r → c.args.ended.cost ≤ℤ r.cost =
     λ r row. rw cost at (c.is_taken.ensures.yes c.if-is_taken.true r
-    (ap (λ (xs : List (Option Ended)). row_at xs c.args.last) c.as_slice.ensures ∙ row)) in
+    (cc)) in
     written_old c.args.table.now.items c.set.new.self.items c.args.last c.args.ended c.requires.room c.set.ensures.items
     low
 

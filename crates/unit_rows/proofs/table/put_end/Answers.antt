@@ -1,5 +1,5 @@
-use Rattle.unit_rows.proofs.Common.{rules, ◌≡◌, suc, ◌+◌, ◌-◌, ◌*◌, ◌+ℤ◌, Option, ℤ, sym, ◌∙◌, subst, arith, to_z}
-use Rattle.unit_rows.proofs.Common.{of_z, FitsSigned, IfSome, w64, ints, to_z-of_z, IsWithinTimes, IsPut}
+use Rattle.unit_rows.proofs.Common.{rules, ◌≡◌, suc, ◌+◌, ◌-◌, ◌*◌, ◌+ℤ◌, ℤ, ◌∙◌, subst, arith, to_z}
+use Rattle.unit_rows.proofs.Common.{of_z, FitsSigned, w64, ints, to_z-of_z, IsWithinTimes, IsPut}
 use Rattle.unit_rows.proofs.Lemmas.{if_some}
 use Rattle.unit_rows.proofs.table.put_end.Goals as goal
 
@@ -34,9 +34,5 @@ returns-in-Some-clause-some c =
       added = c.put.ensures.added;
       latest = c.put.ensures.latest;
     } in
-    subst (λ (o : Option ℤ). IfSome o
-    (λ (x : ℤ). IsPut c.args.last
-    (record { cost = c.args.entry.now.cost +ℤ x; first = c.args.first; before = c.args.entry.now.last })
-    c.args.table.now.items c.put.new.table.items)) (sym c.in-Some.is)
-    (subst (λ (x : ℤ). IsPut c.args.last (record { cost = x; first = c.args.first; before = c.args.entry.now.last })
+    rw c.in-Some.is (subst (λ (x : ℤ). IsPut c.args.last (record { cost = x; first = c.args.first; before = c.args.entry.now.last })
     c.args.table.now.items c.put.new.table.items) cost put)

@@ -1,5 +1,5 @@
-use Rattle.unit_rows.proofs.Common.{◌≡◌, ◌+◌, ◌<◌, ◌⊎◌, ℕ, suc, Some, refl, subst, arith, slice_get, thermal_of}
-use Rattle.unit_rows.proofs.Common.{Origin, IsRipe, IsOrigin, HasOrigin, AreRight, cost_at}
+use Rattle.unit_rows.proofs.Common.{◌≡◌, ◌+◌, ◌<◌, ℕ, suc, Some, refl, subst, arith, slice_get, thermal_of}
+use Rattle.unit_rows.proofs.Common.{Origin, IsRipe, AreRight, cost_at}
 use Rattle.unit_rows.proofs.Lemmas.{right_more, ripe_later, ripe_or_there, cleared}
 use Rattle.unit_rows.proofs.origins.Origins.go_on.Goals as goal
 
@@ -33,5 +33,4 @@ take_ripe-requires-clause-others c =
     let ends = cost_at c.args.rows.now in
     let free = c.must_be_on.ensures.no c.if-must_be_on.false in
     let next : suc c.args.place ≡ c.args.place + 1 = omega arith in
-    subst (λ (k : ℕ). (o : Origin) → IsOrigin u ends k o → IsRipe u k o.last ⊎ HasOrigin c.args.self.now o) next
-    (ripe_or_there u c.args.unit.now.valid ends c.args.place c.args.self.now c.requires.origins free.0 free.1)
+    rw next at (ripe_or_there u c.args.unit.now.valid ends c.args.place c.args.self.now c.requires.origins free.0 free.1)

@@ -1,8 +1,8 @@
-use Rattle.unit_rows.proofs.Common.{rules, ◌≡◌, ◌⊎◌, inl, inr, ℕ, suc, ◌+◌, ◌*◌, ◌+ℤ◌, Option, Some, None, ℤ, refl, ap}
-use Rattle.unit_rows.proofs.Common.{◌∙◌, subst, arith, FitsSigned, IfSome, IfNone, w64, ints, to_z-of_z, thermal_of}
+use Rattle.unit_rows.proofs.Common.{rules, ◌≡◌, ◌⊎◌, inl, inr, ℕ, suc, ◌+◌, ◌*◌, ◌+ℤ◌, Option, Some, None, ℤ, refl}
+use Rattle.unit_rows.proofs.Common.{arith, FitsSigned, IfSome, IfNone, w64, ints, to_z-of_z, thermal_of}
 use Rattle.unit_rows.proofs.Common.{Entry, AreOrigins, HasEntryAtMost, IsWithinTimes, start_cost_after, IsEntry}
 use Rattle.unit_rows.proofs.Common.{IsLeastEntry}
-use Rattle.unit_rows.proofs.Lemmas.{if_some, IsLeastUpTo, one_more, least_of_origins, none_of_origins}
+use Rattle.unit_rows.proofs.Lemmas.{if_some, one_more, least_of_origins, none_of_origins}
 use Rattle.unit_rows.proofs.origins.Origins.least.Goals as goal
 
 pub sum_of-cost-requires-clause-a : goal.sum_of-cost-requires-clause-a
@@ -34,7 +34,7 @@ loop-place-preserved c =
     at c.lesser-least.ensures.from in
     let added : (v : ℤ) → Some x ≡ Some v → HasEntryAtMost least' v = simp to_z-of_z at c.lesser-least.ensures.added in
     one_more u c.args.period c.args.self.now c.requires.order c.loop-place.place c.loop-place-test.true o
-    c.get-origin.ensures.item x (sum ∙ ap (λ (v : ℤ). o.cost +ℤ v) started)
+    c.get-origin.ensures.item x (cc)
     (record {
       at_least = omega (arith, ints);
       at_most = omega (arith, ints);
@@ -51,8 +51,7 @@ pub returns-clause-some : goal.returns-clause-some
 returns-clause-some c =
     let u = thermal_of c.args.unit.now in
     let end : c.loop-place.place ≡ c.args.self.now.count = omega arith in
-    let all = subst (λ (i : ℕ). IsLeastUpTo u c.args.period c.args.self.now i c.loop-place.least) end
-    c.loop-place.invariant in
+    let all = rw end at c.loop-place.invariant in
     elim (c.loop-place.least) as (λ o. c.loop-place.least ≡ o →
     IfSome o (λ e. (ends : ℕ → Option ℤ) → AreOrigins u ends c.args.period c.args.self.now →
     IsLeastEntry u ends (suc c.args.period) e.last e.cost)) [
@@ -65,8 +64,7 @@ pub returns-clause-none : goal.returns-clause-none
 returns-clause-none c =
     let u = thermal_of c.args.unit.now in
     let end : c.loop-place.place ≡ c.args.self.now.count = omega arith in
-    let all = subst (λ (i : ℕ). IsLeastUpTo u c.args.period c.args.self.now i c.loop-place.least) end
-    c.loop-place.invariant in
+    let all = rw end at c.loop-place.invariant in
     elim (c.loop-place.least) as (λ o. c.loop-place.least ≡ o →
     IfNone o ((ends : ℕ → Option ℤ) (e : ℤ) → AreOrigins u ends c.args.period c.args.self.now →
     IsEntry u ends (suc c.args.period) e → ⊥)) [

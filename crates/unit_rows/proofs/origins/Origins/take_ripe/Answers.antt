@@ -1,4 +1,4 @@
-use Rattle.unit_rows.proofs.Common.{rules, ◌≡◌, sym, ap, ◌∙◌, arith, FitsSigned, w64, to_z-of_z, thermal_of, Origin}
+use Rattle.unit_rows.proofs.Common.{rules, ◌≡◌, arith, FitsSigned, w64, to_z-of_z, thermal_of, Origin}
 use Rattle.unit_rows.proofs.Common.{IsRipe, IsOrigin, IsOriginPut, cost_at}
 use Rattle.unit_rows.proofs.Lemmas.{if_some, none_ripe, put_ripe, cost-is, cost_from}
 use Rattle.unit_rows.proofs.origins.Origins.take_ripe.Goals as goal
@@ -24,7 +24,7 @@ returns-in_default-rows-clause-origins c =
     c.requires.right c.requires.others
     (λ o is ripe.
     let same : o.last ≡ c.in-Some.last = (let e = c.ripened.ensures.only o.last ripe in cc) in
-    let row = cost_from c.args.rows.now c.in-Some.last o.cost (ap (cost_at c.args.rows.now) (sym same) ∙ is.ended) in
+    let row = cost_from c.args.rows.now c.in-Some.last o.cost (cc) in
     c.in_default-rows.not-Some row.0 row.1)
 
 pub returns-in-Some-rows-clause-origins : goal.returns-in-Some-rows-clause-origins
