@@ -4,6 +4,8 @@
 #![tactic(auto)]
 
 #[cfg(test)]
+mod board_store_tests;
+#[cfg(test)]
 mod cost_curve_tests;
 #[cfg(test)]
 mod dual_value_tests;
