@@ -17,7 +17,6 @@ use case_answers::bench_for;
 use hull_report::{ReportCode, TopFault};
 use report_compare::Audit;
 use report_read::Report;
-use slope_list::Slopes;
 use std::alloc::{AllocError, Global};
 use std::sync::Wait;
 use std::thread::Threads;
@@ -39,7 +38,7 @@ fn job_count(case: &Case, workers: u32) -> u32
 }
 
 /// So many benches, each of which suffices for every thermal unit of the case.
-fn benches_for(alloc: Global, case: &Case, count: u32) -> Result<Vec<Bench<Slopes>>, AllocError>
+fn benches_for(alloc: Global, case: &Case, count: u32) -> Result<Vec<Bench>, AllocError>
     ensures count { IfOk result (λ benches. length benches.items ≡ count) }
     ensures benches { IfOk result (λ benches.
         All (IsBenchOver (market_of case.now)) benches.items) }

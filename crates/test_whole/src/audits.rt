@@ -13,7 +13,6 @@ use case_answers::laws::benches_serve_all;
 use plan_check::check_plan;
 use report_compare::Audit;
 use report_read::read_report;
-use slope_list::Slopes;
 use std::alloc::Global;
 use std::process::Abort;
 use std::string::String;
@@ -37,7 +36,7 @@ pub(crate) const RIGHT: &str = "hull-report 1\n\
     surplus 0\npayments 1000\ngap 1000\nend\n";
 
 // A bench for any unit.
-fn bench_for(alloc: Global, case: &Case) -> Result<Bench<Slopes>, Fail>
+fn bench_for(alloc: Global, case: &Case) -> Result<Bench, Fail>
     ensures { IfOk result (IsBenchOver (market_of case.now)) }
 {
     benches_serve_all();
@@ -45,7 +44,7 @@ fn bench_for(alloc: Global, case: &Case) -> Result<Bench<Slopes>, Fail>
     Ok(bench)
 }
 
-fn benches_for(alloc: Global, case: &Case, count: u32) -> Result<Vec<Bench<Slopes>>, Fail>
+fn benches_for(alloc: Global, case: &Case, count: u32) -> Result<Vec<Bench>, Fail>
     ensures count { IfOk result (λ benches. length benches.items ≡ count) }
     ensures benches { IfOk result (λ benches.
         All (IsBenchOver (market_of case.now)) benches.items) }

@@ -14,23 +14,27 @@ use case_answers::laws::benches_serve_all;
 use plain_lists::lists::ReservedList;
 use plan_check::check_plan;
 use std::alloc::Global;
-use std::sync::Wait;
+use std::sync::{Arc, Wait};
 use std::test::Fail;
 use std::thread::Threads;
 use uc_case::read_case;
 use uc_model::cases::{Case, Row};
 use uc_model::limits::MOST_POINTS;
 use uc_plan::read_plan;
-use unit_program::Bench;
+use unit_program::{Bench, LastAnswers};
 
 // A job with a bench for any unit.
-fn job_for<'a>(alloc: Global, case: &'a Case) -> Result<Answerer<'a>, Fail>
+fn job_for<'a>(
+    alloc: Global,
+    case: &'a Case,
+    last: Arc<LastAnswers, Global>,
+) -> Result<Answerer<'a>, Fail>
     requires { HasSchedules (market_of case.now) }
     ensures { IfOk result (λ job. job.case.now ≡ case.now) }
 {
     benches_serve_all();
     let bench = Bench::make(alloc, case.periods, MOST_POINTS)?;
-    Ok(Answerer::make(alloc, case, bench)?)
+    Ok(Answerer::make(alloc, case, bench, last)?)
 }
 
 fn jobs_for<'a>(alloc: Global, case: &'a Case, count: u32) -> Result<Vec<Answerer<'a>>, Fail>
@@ -38,9 +42,11 @@ fn jobs_for<'a>(alloc: Global, case: &'a Case, count: u32) -> Result<Vec<Answere
     ensures count { IfOk result (λ jobs. length jobs.items ≡ count) }
     ensures jobs { IfOk result (λ jobs. AreFor (market_of case.now) jobs.items) }
 {
+    let last = LastAnswers::make(alloc, case.thermal.len() as u32, case.periods)?;
+    let last = Arc::new(alloc, last)?;
     let mut jobs = Vec::new(alloc);
     for _ in 0..count {
-        let job = job_for(alloc, case)?;
+        let job = job_for(alloc, case, Arc::try_clone(&last)?)?;
         jobs.push(job)?;
     }
     Ok(jobs)

@@ -21,7 +21,7 @@ use test_tiny::trying::least_by_trying;
 use test_units::best_response;
 use uc_model::units::{Answered, Mark};
 use unit_choice::least_on_bench;
-use unit_program::Bench;
+use unit_program::{Bench, LastAnswers};
 
 // What a response does in each period, and what it earns.
 #[derive(Clone, Copy)]
@@ -82,7 +82,7 @@ fn answer_of<S: Shape>(
     Ok(best_response::<S>(alloc, home, &unit, &prices)?)
 }
 
-// The least best response on a bench.
+// The least best response on a bench, that of a second call, which begins with the first one's.
 fn on_bench(alloc: Global, row: Row) -> Result<Option<Answered>, Fail> {
     let periods = row.energy.len();
     if periods == 0 || periods > 168 {
@@ -94,8 +94,11 @@ fn on_bench(alloc: Global, row: Row) -> Result<Option<Answered>, Fail> {
     let unit = unit(alloc, row.unit, row.window)?;
     let prices = small_prices(alloc, row.energy, row.reserve)?;
     let mut bench = Bench::make(alloc, periods as u32, unit.points.len() as u32)?;
+    let last = LastAnswers::make(alloc, 1, periods as u32)?;
+    let mut first = Answered::make(alloc, periods as u32)?;
     let mut into = Answered::make(alloc, periods as u32)?;
-    if least_on_bench(&mut bench, &unit, &prices, &mut into) {
+    let _ = least_on_bench(&mut bench, &last, 0, &unit, &prices, &mut first);
+    if least_on_bench(&mut bench, &last, 0, &unit, &prices, &mut into) {
         return Ok(Some(into));
     }
     Ok(None)

@@ -1,5 +1,4 @@
 use Rattle.test_whole.proofs.Common.{◌≡◌, List, [], ◌∷◌, ◌++◌, length, length-append, sym, ap, ◌∙◌, subst, arith, All, All-push, market_of, IsBenchOver}
-use Rattle.slope_list.specs.declared.slopes.Slopes.{Slopes}
 use Rattle.unit_program.specs.declared.bench.Bench.{Bench}
 use Rattle.test_whole.proofs.audits.benches_for.Goals as goal
 
@@ -9,11 +8,11 @@ loop-preserved c =
     let bench = c.in_ok-bench.bench in
     let known = c.loop.invariant in
     let pushed : c.push.new.self.items ≡ c.loop.benches.items ++ bench ∷ [] = c.in_ok-push.ensures.items in
-    let long = ap (length {A = Bench Slopes}) pushed ∙ length-append c.loop.benches.items (bench ∷ []) in
+    let long = ap (length {A = Bench}) pushed ∙ length-append c.loop.benches.items (bench ∷ []) in
     let was = known.count in
     let test = c.loop-test.true in
     record {
       count = omega (arith, long, was);
       within = omega (arith, test);
-      benches = subst (λ (xs : List (Bench Slopes)). All (IsBenchOver m) xs) (sym pushed) (All-push (IsBenchOver m) c.loop.benches.items bench known.benches c.in_ok-bench.ensures);
+      benches = subst (λ (xs : List Bench). All (IsBenchOver m) xs) (sym pushed) (All-push (IsBenchOver m) c.loop.benches.items bench known.benches c.in_ok-bench.ensures);
     }
