@@ -1,6 +1,6 @@
 -- The table as far as it is within the limits: what is above them can't become the answer.
 use Rattle.unit_table.proofs.Common.{◌≡◌, ℕ, zero, suc, ◌+◌, ◌-◌, ◌≤◌, ◌⊎◌, inl, inr, Bool, true, false, cond, Option}
-use Rattle.unit_table.proofs.Common.{Some, None, ℤ, pos, ◌+ℤ◌, ◌≤ℤ◌, length, refl, sym, ap, ◌∙◌, subst, arith, int_le}
+use Rattle.unit_table.proofs.Common.{Some, None, ℤ, pos, ◌+ℤ◌, ◌≤ℤ◌, length, refl, ap, ◌∙◌, subst, arith, int_le}
 use Rattle.unit_table.proofs.Common.{ints, cases_Bool, StartCostsAreWithin, ThermalUnit, PriceLists, Schedule}
 use Rattle.unit_table.proofs.Common.{IsThermalUnit, IsDispatch, net_cost, spell_cost, AreLimits, capped, cap_of_row}
 use Rattle.unit_table.proofs.Common.{IsTableWithin, IsTableTo, IsSpell, off_time, HasAtMost, IsStarted, IsEntryAfter}
@@ -27,7 +27,7 @@ row_none limit o is = ap (cap_of_row limit) is
 
 row_low : (limit v : ℤ) → v ≤ℤ limit → cap_of_row limit (Some v) ≡ Some v
 row_low limit v low = elim (cases_Bool (int_le v limit)) [
-  | inl h ↦ ap (λ (b : Bool). cond b (Some v) (Some (limit +ℤ pos 1))) h
+  | inl h ↦ cc
   | inr h ↦ let high = lt_from_test v limit h in absurd (omega (arith, ints))
 ]
 
@@ -95,13 +95,11 @@ module _ (g : ThermalUnit) (π : PriceLists) (most : ℤ) (limits : ℕ → ℤ)
   begun_low b last zero e d dispatch end low under =
       let z : b + 0 ≡ b = omega arith in
       let none : spell_cost g π (suc b) b d ≡ pos 0 = sum_from_to-none (net_cost g π d) b in
-      let here : (e +ℤ spell_cost g π (suc b) b d) ≤ℤ limits b = subst
-      (λ (t : ℕ). (e +ℤ spell_cost g π (suc b) t d) ≤ℤ limits t) z under in
+      let here : (e +ℤ spell_cost g π (suc b) b d) ≤ℤ limits b = rw z at under in
       omega (arith, ints)
   begun_low b last (suc n) e d dispatch end low under =
       let z : b + suc n ≡ suc (b + n) = omega arith in
-      let here : (e +ℤ spell_cost g π (suc b) (suc (b + n)) d) ≤ℤ limits (suc (b + n)) = subst
-      (λ (t : ℕ). (e +ℤ spell_cost g π (suc b) t d) ≤ℤ limits t) z under in
+      let here : (e +ℤ spell_cost g π (suc b) (suc (b + n)) d) ≤ℤ limits (suc (b + n)) = rw z at under in
       let more = one_more_cost g π (suc b) (b + n) d (omega arith) in
       let step = right.step (b + n) d (omega arith)
       (dispatch_in_range g (length π.energy) (suc b) last d (b + n) dispatch (omega arith) (omega arith)) in
@@ -120,10 +118,9 @@ module _ (g : ThermalUnit) (π : PriceLists) (most : ℤ) (limits : ℕ → ℤ)
         let z : st.before + (l - st.before) ≡ l = omega arith in
         let here : (e +ℤ spell_cost g π (suc st.before) (st.before + (l - st.before)) d) ≤ℤ limits
         (st.before + (l - st.before)) =
-        subst (λ (t : ℕ). (e +ℤ spell_cost g π (suc st.before) t d) ≤ℤ limits t) (sym z)
-        (subst (λ (f : ℕ). (e +ℤ spell_cost g π f l d) ≤ℤ limits l) first under) in
+        rw z (subst (λ (f : ℕ). (e +ℤ spell_cost g π f l d) ≤ℤ limits l) first under) in
         let low = begun_low st.before l (l - st.before) e d
-        (subst (λ (f : ℕ). IsDispatch g (length π.energy) f l d) first dispatch) end (omega arith) here in
+        (rw first at dispatch) end (omega arith) here in
         let start = (starts g.lags (off_time g last st.before) unit.lags).at_least in
         let before = falls last st.before st.gap.off.order (omega arith) in
         omega (arith, ints)

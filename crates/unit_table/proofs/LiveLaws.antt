@@ -36,19 +36,19 @@ pub going_on : (r : Runner) → r.is_on ≡ true → going_of (Some r) ≡ Some 
 going_on r on = ap (λ (b : Bool). cond b (Some (state_of r)) None) on
 
 pub going_off : (r : Runner) → r.is_on ≡ false → going_of (Some r) ≡ None
-going_off r off = ap (λ (b : Bool). cond b (Some (state_of r)) None) off
+going_off r off = cc
 
 -- ---- one of the list read
 
 pub on_same : (o : Option Runner) (r s : Runner) → o ≡ Some r → o ≡ Some s → r.is_on ≡ true → s.is_on ≡ true
-on_same o r s a b on = (let same : r ≡ s = (cc) in subst (λ (r : Runner). r.is_on ≡ true) same on)
+on_same o r s a b on = (let same : r ≡ s = (cc) in rw same at on)
 
 module _ (runners : List Runner) (i : ℕ) (r : Runner) (is : slice_get runners i ≡ Some r) where
   pub live_from : r.is_on ≡ true → live_at runners i ≡ Some (state_of r)
   live_from on = ap going_of is ∙ going_on r on
 
   pub off_from : r.is_on ≡ false → live_at runners i ≡ None
-  off_from off = ap going_of is ∙ going_off r off
+  off_from off = cc
 
   -- where it is known to be on
   pub on_from : (x : Going) → live_at runners i ≡ Some x → r.is_on ≡ true
@@ -157,15 +157,15 @@ kept_none runners = record { count_same = refl; each = λ f r is. (r, is, kept_o
 
 pub kept_then : (a b d : List Runner) → AreKept a b → AreKept b d → AreKept a d
 kept_then a b d early late = record {
-  count_same = late.count_same ∙ early.count_same;
+  count_same = cc;
   each = λ f r is.
       let n = late.each f r is in
       let o = early.each f n.0 n.1 in (
         o.0,
         o.1,
         record {
-          room_same = n.2.room_same ∙ o.2.room_same;
-          passed = n.2.passed ∙ o.2.passed;
+          room_same = cc;
+          passed = cc;
           pieces = λ on. elim (n.2.pieces on) [
             | inl none ↦ inl none
             | inr h ↦ elim (o.2.pieces h.0) [
@@ -188,9 +188,8 @@ kept_written runners runners' i a old low set was kept = record {
         let w = written_here runners runners' i a low set in
         let same : a ≡ r = (cc) in (
           old,
-          ap (λ (k : ℕ). slice_get runners k) z ∙ was,
-          subst (λ (r : Runner). IsKeptFrom old r) same
-              kept,
+          cc,
+          rw same at kept,
         )
     | inr other ↦ (r, sym (written_other runners runners' i a low set f other) ∙ is, kept_one r)
   ];
@@ -274,7 +273,7 @@ fewer_small a b fewer small f r is = elim (fewer f) [
 pub fewer_but : (live live' : ℕ → Option Going) (i : ℕ) → live' i ≡ None →
     ((f : ℕ) → f ≢ i → live' f ≡ live f) → AreFewer live live'
 fewer_but live live' i off others f = elim (cases_eq f i) [
-  | inl z ↦ inr (ap live' z ∙ off)
+  | inl z ↦ inr (cc)
   | inr other ↦ inl (others f other)
 ]
 
@@ -291,4 +290,4 @@ if_some_more P Q more None h = tt
 if_some_more P Q more (Some x) h = more x h
 
 pub if_some : {X : Type 0} → (P : X → Type 0) (o : Option X) (x : X) → o ≡ Some x → IfSome o P → P x
-if_some P o x is h = subst (λ o. IfSome o P) is h
+if_some P o x is h = rw is at h

@@ -1,7 +1,7 @@
 -- The ends that the next start may follow, as a period of the table asks for them.
 use Rattle.unit_table.proofs.Common.{◌≡◌, ℕ, suc, ◌<◌, ◌≤◌, inl, inr, Option, Some, ℤ, pos, ◌+ℤ◌, ◌≤ℤ◌, List, length}
-use Rattle.unit_table.proofs.Common.{sym, ap, ◌∙◌, subst, arith, slice_get, ints, StartCostsAreWithin, ThermalUnit}
-use Rattle.unit_table.proofs.Common.{Origin, Ended, IsOrigin, AreOrigins, AreOriginsWithin, cost_at, AreWithin, IsGap}
+use Rattle.unit_table.proofs.Common.{sym, ap, ◌∙◌, arith, slice_get, ints, StartCostsAreWithin, ThermalUnit}
+use Rattle.unit_table.proofs.Common.{Origin, Ended, IsOrigin, AreOrigins, AreOriginsWithin, cost_at, AreWithin}
 use Rattle.unit_table.proofs.Common.{off_time, IsEntry, IsLag}
 use Rattle.std.specs.List.{All}
 use Rattle.unit_rows.specs.declared.origins.Origins.{Origins}
@@ -37,7 +37,7 @@ entry_beyond g ends k os starts now lags limit beyond e entry = elim (entry.1) [
       let z : h.before ≡ k = omega arith in
       let o : Origin = record { last = entry.0; cost = h.value } in
       let is_origin : IsOrigin g ends k o = record
-      { ended = h.ended; gap = subst (λ (b : ℕ). IsGap g entry.0 b) z h.gap } in
+      { ended = h.ended; gap = rw z at h.gap } in
       let has = now.all o is_origin in
       let a = now.right.each has.place has.origin has.low has.is in
       let high = beyond has.place has.origin has.low has.is in

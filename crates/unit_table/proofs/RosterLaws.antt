@@ -127,7 +127,7 @@ module _ (live : ℕ → Option Going) (until : ℕ) (old : Roster) (list : IsRo
                   let w = was in
                   let there = left.3 in
                   let same : first ≡ f = (cc) in
-                  let none = subst (λ (f : ℕ). live f ≡ None) same off in
+                  let none = rw same at off in
                   cc
               | inr other ↦ inr (left.0, omega arith, left.2, left.3)
             ]
@@ -151,7 +151,7 @@ module _ (live : ℕ → Option Going) (until : ℕ) (old : Roster) (list : IsRo
       pub one_kept : length new' ≡ length new → IsKeptTo live until old (p + 1) (q + 1) new'
       one_kept same = record {
         low = (let low = so_far.low in omega arith);
-        same_length = same ∙ so_far.same_length;
+        same_length = cc;
         below = λ i f low is. elim (cases_eq i q) [
           | inl z ↦ subst (λ (f : ℕ). f < until) (is_here i f z is) (list.below p first inside was)
           | inr other ↦ so_far.below i f (omega arith) (sym (kept' i other) ∙ is)
@@ -160,14 +160,12 @@ module _ (live : ℕ → Option Going) (until : ℕ) (old : Roster) (list : IsRo
             (let less : i < q = omega arith in
             let first_is : slice_get new i ≡ Some f = sym (kept' i (λ z. omega arith)) ∙ is in
             elim (cases_eq j q) [
-              | inl z ↦ subst (λ (h : ℕ). f < h) (is_here j h z is')
-                  (so_far.before i p f first less (omega arith) inside first_is was)
+              | inl z ↦ rw (is_here j h z is') at (so_far.before i p f first less (omega arith) inside first_is was)
               | inr other ↦ so_far.rising i j f h before (omega arith) first_is
                   (sym (kept' j other) ∙ is')
             ]);
         before = λ i j f h low from within is is'. elim (cases_eq i q) [
-          | inl z ↦ subst (λ (f : ℕ). f < h) (is_here i f z is)
-              (list.rising p j first h (omega arith) within was is')
+          | inl z ↦ rw (is_here i f z is) at (list.rising p j first h (omega arith) within was is')
           | inr other ↦ so_far.before i j f h (omega arith) (omega arith) within
               (sym (kept' i other) ∙ is) is'
         ];

@@ -1,7 +1,7 @@
 -- The table row by row: a period more, and all periods.
 use Rattle.unit_table.proofs.Common.{◌≡◌, ◌≢◌, ℕ, suc, ◌<◌, ◌≤◌, ◌⊎◌, inl, inr, true, false, Option, Some, None, ℤ, pos}
 use Rattle.unit_table.proofs.Common.{◌+ℤ◌, ◌≤ℤ◌, List, length, refl, sym, ap, ◌∙◌, subst, arith, IsTrue, IsFalse}
-use Rattle.unit_table.proofs.Common.{option_map, ints, cases_lt, MustOff, ThermalUnit, PriceLists, Schedule}
+use Rattle.unit_table.proofs.Common.{ints, cases_lt, MustOff, ThermalUnit, PriceLists, Schedule}
 use Rattle.unit_table.proofs.Common.{IsThermalUnit, mark_in, DispatchesGoOn, DispatchesAreRuns, IsDispatch, net_cost}
 use Rattle.unit_table.proofs.Common.{spell_cost, Ended, row_at, cost_at, first_at, before_at, IsFirstRow, AreLimits}
 use Rattle.unit_table.proofs.Common.{IsSpell, StopsAtOnce, HasAtMost, IsEntry, IsLeastEntry, IsEnded, IsLatest, Going}
@@ -102,9 +102,8 @@ module _ (g : ThermalUnit) (π : PriceLists) (limits : ℕ → ℤ) (unit : IsTh
             (entry_same g ends' ends f k e (older f (omega arith)) entry) dispatch cost) in
             inr (
               omega arith,
-              subst (λ (f : ℕ). IsEnded g π T ends' f (lasts' l) l v) (sym first)
-                  (subst (λ (k : ℕ). IsEnded g π T ends' (firsts l) k l v) (sym last) ended),
-              subst (λ (f : ℕ). IsLatest g π T (suc T) ends' f l v) (sym first) latest,
+              rw first (subst (λ (k : ℕ). IsEnded g π T ends' (firsts l) k l v) (sym last) ended),
+              rw first latest,
             )
       ]
 
@@ -189,7 +188,7 @@ module _ (g : ThermalUnit) (π : PriceLists) (limits : ℕ → ℤ) (unit : IsTh
                 ];
               }
           | inr same ↦
-              let bound = runner.1.entry.least e (subst (λ (f : ℕ). IsEntry g ends f e) (sym same) entry) in
+              let bound = runner.1.entry.least e (rw same entry) in
               let cost = ap (λ (f : ℕ). spell_cost g π f (suc t) d) same in
               record {
                 other = s.other;
@@ -197,8 +196,8 @@ module _ (g : ThermalUnit) (π : PriceLists) (limits : ℕ → ℤ) (unit : IsTh
                 on = s.on;
                 low = low;
                 dispatch = d;
-                keeps = subst (λ (f : ℕ). IsDispatch g T f (suc t) d) (sym same) dispatch;
-                spell = subst (λ (f : ℕ). IsSpell g T f (suc t)) (sym same) spell;
+                keeps = rw same dispatch;
+                spell = rw same spell;
                 cheap = omega (arith, ints);
                 later = inl (omega arith);
               }
@@ -224,7 +223,7 @@ module _ (g : ThermalUnit) (π : PriceLists) (limits : ℕ → ℤ) (unit : IsTh
           | inr less ↦ absurd (omega (arith, ints))
           | inl from ↦
               let equal : v ≡ here = omega (arith, ints) in
-              let latest = row.latest r.other r.going r.dispatch r.low r.on r.spell r.keeps (is ∙ ap Some equal) in
+              let latest = row.latest r.other r.going r.dispatch r.low r.on r.spell r.keeps (cc) in
               omega arith
         ]
 
@@ -246,7 +245,7 @@ module _ (g : ThermalUnit) (π : PriceLists) (limits : ℕ → ℤ) (unit : IsTh
         } in
         inr (
           omega arith,
-          subst (λ (k : ℕ). IsEnded g π T ends' (firsts' (suc t)) k (suc t) v) h.3 ended,
+          rw h.3 at ended,
           λ f k e d low spell entry dispatch cost.
               (let below = spell.order in latest_here v is under f e d spell
               (k, entry_same g ends' ends f k e (older f below) entry) dispatch cost),
@@ -308,7 +307,7 @@ module _ (g : ThermalUnit) (π : PriceLists) (some : 1 ≤ length π.energy) (ro
       elim (row_at rows 0) as (λ o. row_at rows 0 ≡ o → HasAtMost (cost_at rows 0) (e +ℤ spell_cost g π 0 0 d)) [
         | Some r ↦ λ is. (pos 0, zero_cost r is, omega (arith, ints))
         | None ↦ λ is.
-            let h : IsFirstRow g None = subst (IsFirstRow g) is first in
+            let h : IsFirstRow g None = rw is at first in
             let up = spell.min_up (omega arith) in
             absurd (at_once_none g π (length π.energy) some (λ stops. h.1 stops (omega arith)) d dispatch)
       ] refl
@@ -318,9 +317,9 @@ module _ (g : ThermalUnit) (π : PriceLists) (some : 1 ≤ length π.energy) (ro
   sound_zero v is =
       let r = cost_from rows 0 v is in
       let h = zero_row r.0 r.1 in
-      let cost : r.0.cost ≡ pos 0 = ap (λ (e : Ended). e.cost) h.0 in
-      let value : v ≡ pos 0 = sym r.2 ∙ cost in
-      let row : row_at rows 0 ≡ Some (record { cost = pos 0; first = 0; before = 0 }) = r.1 ∙ ap Some h.0 in
+      let cost : r.0.cost ≡ pos 0 = cc in
+      let value : v ≡ pos 0 = cc in
+      let row : row_at rows 0 ≡ Some (record { cost = pos 0; first = 0; before = 0 }) = cc in
       let first_is = first-is rows 0 (record { cost = pos 0; first = 0; before = 0 }) row in
       let before_is = before-is rows 0 (record { cost = pos 0; first = 0; before = 0 }) row in
       elim (g.on0) as (λ b. g.on0 ≡ b → IsFrom g π (length π.energy) (suc (length π.energy)) (cost_at rows)
@@ -344,8 +343,7 @@ module _ (g : ThermalUnit) (π : PriceLists) (some : 1 ≤ length π.energy) (ro
             } in
             inr (
               omega arith,
-              subst (λ (f : ℕ). IsEnded g π (length π.energy) (cost_at rows) f (before_at rows 0) 0 v) (sym first_is)
-                  (subst (λ (k : ℕ). IsEnded g π (length π.energy) (cost_at rows) 0 k 0 v) (sym before_is) ended),
+              rw first_is (subst (λ (k : ℕ). IsEnded g π (length π.energy) (cost_at rows) 0 k 0 v) (sym before_is) ended),
               λ f k e d low spell entry dispatch cost. (let order = spell.order in omega arith),
             )
       ] refl
@@ -355,7 +353,7 @@ module _ (g : ThermalUnit) (π : PriceLists) (some : 1 ≤ length π.energy) (ro
   table_begun limits = record {
     idle = λ off. elim (row_at rows 0) as (λ o. row_at rows 0 ≡ o → HasAtMost (cost_at rows 0) (pos 0)) [
       | Some r ↦ λ is. (pos 0, zero_cost r is, omega (arith, ints))
-      | None ↦ λ is. (let h : IsFirstRow g None = subst (IsFirstRow g) is first in cc)
+      | None ↦ λ is. (let h : IsFirstRow g None = rw is at first in cc)
     ] refl;
     spell = λ f l e d low spell entry dispatch under.
         let order = spell.order in
@@ -371,5 +369,5 @@ module _ (g : ThermalUnit) (π : PriceLists) (some : 1 ≤ length π.energy) (ro
         let z : 0 ≡ l = omega arith in
         subst (λ (l : ℕ). cost_at rows l ≡ Some v → IsFrom g π (length π.energy) (suc (length π.energy)) (cost_at rows)
         (first_at rows) (before_at rows) l v) z (sound_zero v) is;
-    none = λ l above. (let none = rest l above in ap (λ (o : Option Ended). option_map (λ (e : Ended). e.cost) o) none);
+    none = λ l above. (let none = rest l above in cc);
   }

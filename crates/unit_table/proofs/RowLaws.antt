@@ -20,7 +20,7 @@ module _ (rows : List (Option Ended)) (l : ℕ) (e : Ended) (is : row_at rows l 
   first-is = ap (λ (o : Option Ended). option_map_or (λ (e : Ended). e.first) o 0) is
 
   pub before-is : before_at rows l ≡ e.before
-  before-is = ap (λ (o : Option Ended). option_map_or (λ (e : Ended). e.before) o 0) is
+  before-is = cc
 
 -- the row that a cost is of
 pub cost_from : (rows : List (Option Ended)) (l : ℕ) (v : ℤ) → cost_at rows l ≡ Some v →

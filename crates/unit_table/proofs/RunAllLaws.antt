@@ -164,16 +164,14 @@ module _ (g : ThermalUnit) (π : PriceLists) (t charge : ℕ) (rows rows' : List
     run_written more goes ends left roomy same =
         let live = ap going_of at in
         record {
-          more = subst (λ o. IsRowMore g π t i o rows rows') (sym live) more;
-          goes = λ r is. subst (λ (o : Option Going). IsGoneOn g π t i r o) (sym (ap going_of here))
-              (goes r (sym live ∙ is));
+          more = rw live more;
+          goes = λ r is. rw (ap going_of here) (goes r (sym live ∙ is));
           off = λ off. (let is = live_from runners i old at on in absurd (cc));
           rest = λ f other. get_set_other runners i f b other;
-          roomy = λ r is. (let same : b ≡ r = (let h = here in cc) in subst
-              (IsRoomy (length π.energy) (suc t) charge) same roomy);
+          roomy = λ r is. (let same : b ≡ r = (let h = here in cc) in rw same at roomy);
           ends = elim ends [
             | inl kept ↦ inl kept
-            | inr named ↦ inr (named.0, subst (IsEndLeft g π i t) (sym (same_left t)) named.1)
+            | inr named ↦ inr (named.0, rw (same_left t) named.1)
           ];
           left = λ k other. same_left k ∙ left k other ∙ sym (ap (λ o. left_of o k) at);
           keeps = λ most periods have.

@@ -4,7 +4,7 @@ use Rattle.unit_table.proofs.Common.{length, refl, sym, ap, ◌∙◌, subst, ar
 use Rattle.unit_table.proofs.Common.{ThermalUnit, PriceLists, Schedule, IsDispatch, IsLeastSpell, IsSpellAnswer}
 use Rattle.unit_table.proofs.Common.{spell_cost, Ended, row_at, cost_at, first_at, before_at, IsPut, IsSpell, on_time}
 use Rattle.unit_table.proofs.Common.{HasAtMost, Going, MayBeOn, IsRowOf}
-use Rattle.unit_table.proofs.RowLaws.{cost-same, first-same, before-same, cost-is, first-is, before-is}
+use Rattle.unit_table.proofs.RowLaws.{first-same, before-same, cost-is, first-is, before-is}
 use Rattle.unit_table.proofs.BeginLaws.{at_most_more}
 
 module _ (g : ThermalUnit) (π : PriceLists) (periods : ℕ) (live : ℕ → Option Going) (n l : ℕ) where
@@ -48,7 +48,7 @@ module _ (g : ThermalUnit) (π : PriceLists) (periods : ℕ) (live : ℕ → Opt
       (added : HasAtMost (cost_at rows' l) ended.cost)
       (latest : cost_at rows' l ≡ Some ended.cost → row_at rows' l ≡ Some ended) where
     same_cost : (x : Going) → live n ≡ Some x → x.cost ≡ r.cost
-    same_cost x is = (let z : x ≡ r = (cc) in ap (λ (r : Going). r.cost) z)
+    same_cost x is = (let z : x ≡ r = (cc) in cc)
 
     kept : (v : ℤ) → HasAtMost (cost_at rows l) v → HasAtMost (cost_at rows' l) v
     kept v h = at_most_more (cost_at rows' l) h.0 v (old h.0 h.1) h.2
@@ -66,7 +66,7 @@ module _ (g : ThermalUnit) (π : PriceLists) (periods : ℕ) (live : ℕ → Opt
     latest_here v is low =
         let value : added.0 ≡ v = (cc) in
         let same : v ≡ ended.cost = omega (arith, ints) in
-        first-is rows' l ended (latest (is ∙ ap Some same)) ∙ begins
+        first-is rows' l ended (latest (cc)) ∙ begins
 
     latest_at : (f : ℕ) (x : Going) (d : Schedule) → f < suc n → live f ≡ Some x → IsSpell g periods f l →
         IsDispatch g periods f l d → cost_at rows' l ≡ Some (x.cost +ℤ spell_cost g π f l d) → f ≤ first_at rows' l
@@ -76,11 +76,11 @@ module _ (g : ThermalUnit) (π : PriceLists) (periods : ℕ) (live : ℕ → Opt
           let first = first-same rows' rows l l same in
           elim (cases_lt f n) [
             | inl less ↦ (let before = row.latest f x d less is spell' dispatch
-                (sym (cost-same rows' rows l l same) ∙ end) in omega arith)
+                (cc) in omega arith)
             | inr most ↦
                 let z : f ≡ n = omega arith in
-                let on' : live n ≡ Some x = subst (λ (f : ℕ). live f ≡ Some x) z is in
-                let under = least.least d (subst (λ (f : ℕ). IsDispatch g periods f l d) z dispatch) in
+                let on' : live n ≡ Some x = rw z at is in
+                let under = least.least d (rw z at dispatch) in
                 let equal = ap (λ (f : ℕ). spell_cost g π f l d) z in
                 let entry = same_cost x on' in
                 let named = latest_here (x.cost +ℤ spell_cost g π f l d) end
@@ -98,28 +98,27 @@ module _ (g : ThermalUnit) (π : PriceLists) (periods : ℕ) (live : ℕ → Opt
       latest = latest_at;
       sound = λ v is. elim here [
         | inl same ↦
-            let h = row.sound v (sym (cost-same rows' rows l l same) ∙ is) in
+            let h = row.sound v (cc) in
             let first = first-same rows' rows l l same in
             let before = before-same rows' rows l l same in
             let low = h.2 in (
               h.0,
-              ap live first ∙ h.1,
+              cc,
               omega arith,
-              h.3 ∙ sym before,
-              subst (λ (f : ℕ). IsSpell g periods f l) (sym first) h.4,
-              subst (λ (f : ℕ). (c : ℤ) × IsLeastSpell g π periods f l c × (v ≡ h.0.cost +ℤ c)) (sym first) h.5,
+              cc,
+              rw first h.4,
+              rw first h.5,
             )
         | inr named ↦
-            let first : first_at rows' l ≡ n = first-is rows' l ended named ∙ begins in
+            let first : first_at rows' l ≡ n = cc in
             let before = before-is rows' l ended named in
             let value : ended.cost ≡ v = (let a = cost-is rows' l ended named in cc) in (
               r,
-              ap live first ∙ on,
+              cc,
               omega arith,
-              sym after ∙ sym before,
-              subst (λ (f : ℕ). IsSpell g periods f l) (sym first) spell,
-              subst (λ (f : ℕ). (c : ℤ) × IsLeastSpell g π periods f l c × (v ≡ r.cost +ℤ c)) (sym first)
-                  (c, least, sym value ∙ cost),
+              cc,
+              rw first spell,
+              rw first (c, least, sym value ∙ cost),
             )
       ];
     }

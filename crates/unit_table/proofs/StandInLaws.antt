@@ -26,7 +26,7 @@ may_next g first t open_next may = record {
   marks = λ k one from until mark. elim (cases_lt k (suc t)) [
     | inl less ↦ may.marks k one from (omega arith) mark
     | inr most ↦ let z : k ≡ suc t = omega arith in open_next
-        (subst (λ (k : ℕ). mark_in g.window k ≡ MustOff) z mark)
+        (rw z at mark)
   ];
 }
 
@@ -62,7 +62,7 @@ module _ (g : ThermalUnit) (π : PriceLists) (limits : ℕ → ℤ) (ends : ℕ 
       all = λ f e d low may entry run under. elim (cases_lt f (suc t)) [
         | inl less ↦ now.all f e d less may entry run under
         | inr most ↦ let z : f ≡ suc t = omega arith in absurd
-            (none e (subst (λ (f : ℕ). IsEntry g ends f e) z entry))
+            (none e (rw z at entry))
       ];
     }
 
@@ -104,8 +104,7 @@ module _ (g : ThermalUnit) (π : PriceLists) (limits : ℕ → ℤ) (ends : ℕ 
         | inl z ↦
             let here : r ≡ x = (let a = ap live' z in cc) in (
               omega arith,
-              subst (λ (x : Going). IsRunner g π ends t f x) here
-                  (subst (λ (f : ℕ). IsRunner g π ends t f r) (sym z) runner),
+              rw here at (subst (λ (f : ℕ). IsRunner g π ends t f r) (sym z) runner),
             )
         | inr other ↦ (let h = now.right f x (sym (same f other) ∙ is) in let low = h.0 in (omega arith, h.1))
       ];
@@ -196,9 +195,8 @@ module _ (g : ThermalUnit) (π : PriceLists) (limits : ℕ → ℤ) (ends : ℕ 
             }
             | inl z ↦
                 let here : s.going ≡ a = (let j = ap live z in cc) in
-                let cost : s.going.cost ≡ a.cost = ap (λ (r : Going). r.cost) here in
-                let there : value_of a.function (level g f d t) ≡ Some s.value = subst
-                (λ (r : Going). value_of r.function (level g f d t) ≡ Some s.value) here s.there in
+                let cost : s.going.cost ≡ a.cost = cc in
+                let there : value_of a.function (level g f d t) ≡ Some s.value = rw here at s.there in
                 let above = beyond (level g f d t) s.value there in
                 absurd (omega (arith, ints))
           ];
@@ -233,9 +231,8 @@ module _ (g : ThermalUnit) (π : PriceLists) (limits : ℕ → ℤ) (ends : ℕ 
             }
             | inl z ↦
                 let here : s.going ≡ a = (let j = ap live z in cc) in
-                let cost : s.going.cost ≡ a.cost = ap (λ (r : Going). r.cost) here in
-                let there : value_of a.function (level g f d t) ≡ Some s.value = subst
-                (λ (r : Going). value_of r.function (level g f d t) ≡ Some s.value) here s.there in
+                let cost : s.going.cost ≡ a.cost = cc in
+                let there : value_of a.function (level g f d t) ≡ Some s.value = rw here at s.there in
                 let u = below (level g f d t) s.value there in
                 record {
                   other = late;
@@ -282,7 +279,7 @@ module _ (g : ThermalUnit) (π : PriceLists) (limits : ℕ → ℤ) (ends : ℕ 
                   noted = noted_more g π f t r.function h.function r.left h.left old.1.frontier h.frontier h.kept
                       h.noted old.1.noted;
                 } in
-                (low, subst (λ (x : Going). IsRunner g π ends (suc t) f x) z runner)
+                (low, rw z at runner)
           ]
     ] refl
 
@@ -330,7 +327,7 @@ module _ (g : ThermalUnit) (π : PriceLists) (limits : ℕ → ℤ) (ends : ℕ 
               let j = go g π f s.other t s.going.function d s.value (omega arith) begun within
               (now.right s.other s.going s.on).1.frontier s.there run in
               let w = front.complete j.run j.keeps in
-              (w.0, ap (value_of h) (sym j.ends) ∙ w.1, omega (arith, ints)))) in
+              (w.0, cc, omega (arith, ints)))) in
               record {
                 other = s.other;
                 going = r.0;
@@ -347,11 +344,11 @@ module _ (g : ThermalUnit) (π : PriceLists) (limits : ℕ → ℤ) (ends : ℕ 
               }
           | inr same ↦
               let bound = (now.right s.other s.going s.on).1.entry.least e
-              (subst (λ (f : ℕ). IsEntry g ends f e) (sym same) entry) in
+              (rw same entry) in
               let r = value_more f e d s.other s.going (e +ℤ spell_cost g π f (suc t) d) s.on run
               (goes s.other s.going s.on)
               (λ h front. (
-              let w = (subst (λ (f : ℕ). IsFrontier g π f (suc t) h) same front).complete d run in
+              let w = (rw same at front).complete d run in
               (w.0, w.1, omega (arith, ints)))) in
               record {
                 other = s.other;

@@ -17,10 +17,8 @@ module _ (g : ThermalUnit) (π : PriceLists) (limits : ℕ → ℤ) (ends : ℕ 
   begun_runner =
       let k : i - 1 ≡ t = omega arith in
       record {
-        entry = subst (λ (x : ℤ). IsLeastEntry g ends (suc t) r.before x) (sym begun.cost)
-            (subst (λ (b : ℕ). IsLeastEntry g ends (suc t) b e) (sym begun.before) least);
-        frontier = subst (λ (f : ℕ). IsFrontier g π f t r.function) z
-            (subst (λ (u : ℕ). IsFrontier g π i u r.function) k (begun.frontier π));
+        entry = rw begun.cost (subst (λ (b : ℕ). IsLeastEntry g ends (suc t) b e) (sym begun.before) least);
+        frontier = rw z at (subst (λ (u : ℕ). IsFrontier g π i u r.function) k (begun.frontier π));
         may = record { goes_on = λ none. absurd (omega arith); marks = λ m one from until mark. absurd (omega arith) };
         order = omega arith;
         within = record { at_least = omega (arith, ints); at_most = omega (arith, ints) };
@@ -28,7 +26,7 @@ module _ (g : ThermalUnit) (π : PriceLists) (limits : ℕ → ℤ) (ends : ℕ 
       }
 
   pub started : AreRunners g π limits ends live t (suc t) → AreRunners g π limits ends live' t (suc (suc t))
-  started now = start_begun g π limits ends t live live' now r (ap live' (sym z) ∙ here)
+  started now = start_begun g π limits ends t live live' now r (cc)
       (λ f other. others f (λ y. other (y ∙ z))) begun_runner
 
 -- ---- before the horizon
@@ -88,8 +86,7 @@ module _ (g : ThermalUnit) (π : PriceLists) (limits : ℕ → ℤ) (ends : ℕ 
         | inl z ↦
             let same : r ≡ x = (let k = ap live' z in cc) in (
               omega arith,
-              subst (λ (f : ℕ). IsRunner g π ends 0 f x) (sym z)
-                  (subst (λ (x : Going). IsRunner g π ends 0 0 x) same runner),
+              rw z (subst (λ (x : Going). IsRunner g π ends 0 0 x) same runner),
             )
         | inr other ↦ (let none = others f other ∙ off f in cc)
       ];

@@ -24,8 +24,7 @@ pub noted_more : (g : ThermalUnit) (π : PriceLists) (first t : ℕ) (f h : Tabl
 noted_more g π first t f h left left' front next kept noted old x v there k from until =
     let b = before_some g π first t f h x v front next there in
     elim (cases_lt k t) [
-      | inl less ↦ subst (λ (p : Passed). IsOnNoted g π first k p.note) (sym (kept k (λ z. omega arith)))
-          (old b.0 b.1 b.2 k from less)
+      | inl less ↦ rw (kept k (λ z. omega arith)) (old b.0 b.1 b.2 k from less)
       | inr most ↦ let z : t ≡ k = omega arith in subst (λ (j : ℕ). IsOnNoted g π first j (left' j).note)
           z (noted b.0 b.1 b.2)
     ]
@@ -46,22 +45,21 @@ pub end_left : (g : ThermalUnit) (π : PriceLists) (first t before : ℕ) (cost 
     IfSome p.end (IsEndNoted g π first t p.note) →
     (row_at rows' (suc t) ≡ row_at rows (suc t)) ⊎ ((first_at rows' (suc t) ≡ first) × IsEndLeft g π first t q)
 end_left g π first t before cost rows rows' p q net same is none some ended =
-    by_end p.end (subst (λ o. IfNone o (rows' ≡ rows)) is none)
-    (subst (λ o. IfSome o
-    (λ c. IsPut (suc t) (record { cost = cost +ℤ c; first = first; before = before }) rows rows')) is some) ended
-    (ap (λ (p : Passed). p.end) same)
+    by_end p.end (rw is at none)
+    (rw is at some) ended
+    (cc)
   where
     by_end : (end : Option Lowest) → IfNone (end_cost end) (rows' ≡ rows) →
         IfSome (end_cost end)
         (λ c. IsPut (suc t) (record { cost = cost +ℤ c; first = first; before = before }) rows rows') →
         IfSome end (IsEndNoted g π first t p.note) → q.end ≡ end →
         (row_at rows' (suc t) ≡ row_at rows (suc t)) ⊎ ((first_at rows' (suc t) ≡ first) × IsEndLeft g π first t q)
-    by_end None none some ended at = inl (ap (λ rs. row_at rs (suc t)) none)
+    by_end None none some ended at = inl (cc)
     by_end (Some e) none some ended at = elim (some.here) [
       | inl old ↦ inl old
       | inr new ↦ inr (
         first-is rows' (suc t) (record { cost = cost +ℤ e.value; first = first; before = before }) new,
-        (e, at, subst (λ (p : Passed). IsEndNoted g π first t p.note e) (sym same) ended),
+        (e, at, rw same ended),
       )
     ]
 
@@ -82,11 +80,10 @@ spell_same : (g : ThermalUnit) (π : PriceLists) (first l : ℕ) (p q : ℕ → 
 spell_same g π first l p q one same h =
     let e = same (l - 1) (omega arith) in
     record {
-      on = λ k from until. subst (λ (p : Passed). IsOnNoted g π first k p.note) (sym (same k (omega arith)))
-          (h.on k from until);
+      on = λ k from until. rw (same k (omega arith)) (h.on k from until);
       lowest = h.lowest;
-      is_end = ap (λ (p : Passed). p.end) e ∙ h.is_end;
-      end = subst (λ (p : Passed). IsEndNoted g π first (l - 1) p.note h.lowest) (sym e) h.end;
+      is_end = cc;
+      end = rw e h.end;
     }
 
 pub ways_same : (g : ThermalUnit) (π : PriceLists) (t : ℕ) (ends : ℕ → Option ℤ) (firsts : ℕ → ℕ) (left left' : ℕ → ℕ →
@@ -124,18 +121,15 @@ module _ (g : ThermalUnit) (π : PriceLists) (t n : ℕ) (ends ends' : ℕ → O
       record {
         on = λ k from until.
             (let low : k < t = omega arith in
-            subst (λ (p : Passed). IsOnNoted g π first k p.note)
-            (lefts first r k s.1 ∙ sym (kept first k (λ y. omega arith)))
-            (runner.noted _ c.0 c.1 k from low));
+            rw (lefts first r k s.1 ∙ sym (kept first k (λ y. omega arith))) at (runner.noted _ c.0 c.1 k from low));
         lowest = e.0;
-        is_end = ap (λ (k : ℕ). (left' first k).end) z ∙ e.1;
-        end = subst (λ (k : ℕ). IsEndNoted g π first k (left' first k).note e.0) (sym z) e.2;
+        is_end = cc;
+        end = rw z e.2;
       }
 
   pub ways_more : HaveWays g π t ends firsts left → HaveWays g π (suc t) ends' firsts' left'
   ways_more ways l v one until is = elim (cases_eq l (suc t)) [
-    | inl z ↦ subst (λ (l : ℕ). IsSpellNoted g π (firsts' l) l (left' (firsts' l))) (sym z)
-        (here v (ap ends' (sym z) ∙ is))
+    | inl z ↦ rw z (here v (ap ends' (sym z) ∙ is))
     | inr other ↦
         let low : l ≤ t = omega arith in
         let first = same_first l other in

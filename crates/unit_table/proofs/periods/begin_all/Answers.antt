@@ -1,4 +1,4 @@
-use Rattle.unit_table.proofs.Common.{◌*◌, ◌∙◌, ap, length, thermal_of, cost_at}
+use Rattle.unit_table.proofs.Common.{◌*◌, thermal_of, cost_at}
 use Rattle.unit_table.proofs.Lemmas.{kept_then, kept_room, kept_roomy, off_roomy}
 use Rattle.unit_table.proofs.RowByRowLaws.{table_begun}
 use Rattle.unit_table.proofs.periods.begin_all.Goals as goal
@@ -25,6 +25,6 @@ returns-clause-same c =
     record {
       rows_length = c.begin_table.ensures.length;
       count_same = kept.count_same;
-      firsts_same = c.go_on.ensures.list ∙ ap (λ l. length l.items) c.clear.ensures.firsts;
+      firsts_same = cc;
       keeps = kept_room _ _ kept;
     }

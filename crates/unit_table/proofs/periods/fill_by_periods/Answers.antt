@@ -1,5 +1,5 @@
 use Rattle.unit_table.proofs.Common.{◌≡◌, ℕ, suc, ◌+◌, List, Option, length, sym, ◌∙◌, subst, arith}
-use Rattle.unit_table.proofs.Common.{Ended, live_at, left_at, IsFilledTo, IsSweptTo, AreOrigins}
+use Rattle.unit_table.proofs.Common.{Ended, live_at, left_at, AreOrigins}
 use Rattle.unit_table.proofs.Common.{cost_at, first_at, HaveWays, ap, unit_of, prices_in, periods_in, charge_of}
 use Rattle.unit_table.proofs.Common.{limits_in}
 use Rattle.unit_table.proofs.Lemmas.{origins_to, filled_whole, cost-same}
@@ -15,8 +15,7 @@ loop-place-init c = record {
     roster_is = c.begin_all.ensures.roster;
   };
   same = c.begin_all.ensures.same;
-  origins = subst (λ (rows : List (Option Ended)). AreOrigins (unit_of c.args.question.now) (cost_at rows) 0
-      c.begin.new.self) c.as_slice.ensures c.begin.ensures.origins;
+  origins = rw c.as_slice.ensures at c.begin.ensures.origins;
   list_same = c.begin.ensures.length;
 }
 
@@ -26,21 +25,16 @@ loop-place-preserved c =
     let before = c.loop-place.invariant.same in
     let more = c.take_period.ensures.same in
     record {
-      now = subst (λ (t : ℕ). IsSweptTo (unit_of c.args.question.now)
-          (prices_in c.args.question.now) (limits_in c.args.question.now) t
-          (charge_of c.args.question.now) c.take_period.new.table.items c.take_period.new.runners
-          c.take_period.new.roster) next c.take_period.ensures.now;
+      now = rw next at c.take_period.ensures.now;
       same = record {
-        rows_length = more.rows_length ∙ before.rows_length;
-        count_same = more.count_same ∙ before.count_same;
-        firsts_same = more.firsts_same ∙ before.firsts_same;
+        rows_length = cc;
+        count_same = cc;
+        firsts_same = cc;
         keeps = λ most periods have. more.keeps most periods (before.keeps most periods have);
       };
-      origins = subst (λ (t : ℕ). AreOrigins (unit_of c.args.question.now) (cost_at c.take_period.new.table.items) t
-          c.go_on.new.self) next
-          (subst (λ (rows : List (Option Ended)). AreOrigins (unit_of c.args.question.now) (cost_at rows)
+      origins = rw next at (subst (λ (rows : List (Option Ended)). AreOrigins (unit_of c.args.question.now) (cost_at rows)
           (suc c.loop-place.place) c.go_on.new.self) c.as_slice-in-loop-place.ensures c.go_on.ensures.origins);
-      list_same = c.go_on.ensures.length ∙ c.loop-place.invariant.list_same;
+      list_same = cc;
     }
 
 pub take_period-requires-clause-long : goal.take_period-requires-clause-long
@@ -68,9 +62,7 @@ returns-clause-filled c = λ most right.
     filled_whole (unit_of c.args.question.now) (prices_in c.args.question.now) c.args.question.now.unit.now.valid
     c.start_costs_are_within.ensures most (limits_in c.args.question.now) right c.loop-place.table.items
     (live_at c.loop-place.runners)
-    (subst (λ (t : ℕ). IsFilledTo (unit_of c.args.question.now) (prices_in c.args.question.now)
-    (limits_in c.args.question.now) t c.loop-place.table.items (live_at c.loop-place.runners)) end
-    c.loop-place.invariant.now.filled)
+    (rw end at c.loop-place.invariant.now.filled)
 
 pub returns-clause-ways : goal.returns-clause-ways
 returns-clause-ways c =

@@ -1,12 +1,13 @@
-use Rattle.unit_table.proofs.Common.{rules, ◌≡◌, ℕ, suc, ◌+◌, ◌*◌, pos, length, refl, sym, ap, ◌∙◌, subst, arith, to_z}
+use Rattle.unit_table.proofs.Common.{rules, ◌≡◌, ℕ, suc, ◌+◌, ◌*◌, pos, length, refl, sym, ap, ◌∙◌, arith, to_z}
 use Rattle.unit_table.proofs.Common.{of_z, FitsSigned, w64, to_z-of_z, get_or_from_slice_get, ℤ, Some, List, slice_get}
 use Rattle.unit_table.proofs.Common.{unit_of, prices_in, periods_in, charge_of, limits_in, int_at, live_at, left_at}
-use Rattle.unit_table.proofs.Common.{cost_at, first_at, AreRunners}
+use Rattle.unit_table.proofs.Common.{cost_at, first_at, AreRunners, AreSmall, add-one}
 use Rattle.unit_table.proofs.Lemmas.{small_of, have_room, origins_within, period_off, period_run, period_filled}
 use Rattle.unit_table.proofs.Lemmas.{none_listed, still_listed, cost-same, first-same, left_live, ways_same, ways_none}
 use Rattle.unit_table.proofs.Lemmas.{ways_more, kept_then, kept_room, kept_roomy, kept_left, off_roomy, fewer_then}
 use Rattle.unit_table.proofs.Lemmas.{fewer_off, fewer_small}
 use Rattle.unit_table.proofs.periods.take_period.Goals as goal
+use Rattle.unit_table.proofs.periods.take_period.Goals.{After-start, After-run_all}
 
 -- ---- all are off
 
@@ -51,6 +52,29 @@ limit_at : (limits : List ℤ) (k : ℕ) (x : ℤ) → FitsSigned w64 x → slic
     int_at limits k ≡ to_z w64 (of_z w64 x)
 limit_at limits k x fits is = get_or_from_slice_get limits k x (pos 0) is ∙ sym (to_z-of_z w64 x fits)
 
+-- after a start
+begun : (c : After-start) → AreRunners (unit_of c.args.question.now) (prices_in c.args.question.now)
+    (limits_in c.args.question.now) (cost_at c.args.table.now.items) (live_at c.start.new.runners) c.args.place
+    (suc (suc c.args.place))
+begun c = c.start.ensures.stands (prices_in c.args.question.now) (limits_in c.args.question.now)
+    (cost_at c.args.table.now.items) (limit_at c.args.question.now.limits.now.items c.args.place c.get-limit.result.now
+    (search rules) c.get-limit.ensures.item) c.requires.origins c.requires.now.filled.runners
+
+-- and over the period
+ran : (c : After-run_all) → AreRunners (unit_of c.args.question.now) (prices_in c.args.question.now)
+    (limits_in c.args.question.now) (cost_at c.args.table.now.items) (live_at c.start.new.runners) c.args.place
+    (suc (suc c.args.place)) → AreRunners (unit_of c.args.question.now) (prices_in c.args.question.now)
+    (limits_in c.args.question.now) (cost_at c.args.table.now.items) (live_at c.run_all.new.runners) (suc c.args.place)
+    (suc (suc c.args.place))
+ran c now = period_run _ _ _ c.args.question.now.unit.now.valid _ _ _ c.requires.now.filled c.requires.place
+    c.run_all.new.table.items _ _ now c.requires.limits.0 c.requires.limits.1 c.runs_go_on.ensures
+    (c.is_must_off.ensures.no c.if-is_must_off.false) c.run_all.ensures.goes c.run_all.ensures.off
+
+ran_small : (c : After-run_all) → AreRunners (unit_of c.args.question.now) (prices_in c.args.question.now)
+    (limits_in c.args.question.now) (cost_at c.args.table.now.items) (live_at c.start.new.runners) c.args.place
+    (suc (suc c.args.place)) → AreSmall (live_at c.run_all.new.runners)
+ran_small c now = small_of _ _ _ _ _ (suc c.args.place) (suc (suc c.args.place)) (omega arith) (omega arith) (ran c now)
+
 pub start-requires-clause-within : goal.start-requires-clause-within
 start-requires-clause-within c =
     origins_within (unit_of c.args.question.now) c.args.table.now.items c.args.place c.args.origins.now
@@ -75,15 +99,7 @@ run_all-requires-clause-room c =
 
 pub run_all-requires-clause-now : goal.run_all-requires-clause-now
 run_all-requires-clause-now c =
-    let g = unit_of c.args.question.now in
-    let π = prices_in c.args.question.now in
-    let limits = limits_in c.args.question.now in
-    let rows = c.args.table.now.items in
-    let filled = c.requires.now.filled in
-    let here = limit_at c.args.question.now.limits.now.items c.args.place c.get-limit.result.now (search rules)
-    c.get-limit.ensures.item in
-    let begun = c.start.ensures.stands π limits (cost_at rows) here c.requires.origins filled.runners in
-    (limits, begun)
+    (limits_in c.args.question.now, begun (goal.at.run_all-requires-clause-now c).After-start)
 
 pub run_all-requires-clause-none : goal.run_all-requires-clause-none
 run_all-requires-clause-none c = c.requires.now.filled.table.none (suc c.args.place) (omega arith)
@@ -96,42 +112,13 @@ run_all-requires-clause-within c = c.requires.now.filled.within
 
 pub drop_beyond-requires-clause-small : goal.drop_beyond-requires-clause-small
 drop_beyond-requires-clause-small c =
-    let g = unit_of c.args.question.now in
-    let π = prices_in c.args.question.now in
-    let limits = limits_in c.args.question.now in
-    let rows = c.args.table.now.items in
-    let filled = c.requires.now.filled in
-    let here = limit_at c.args.question.now.limits.now.items c.args.place c.get-limit.result.now (search rules)
-    c.get-limit.ensures.item in
-    let begun = c.start.ensures.stands π limits (cost_at rows) here c.requires.origins filled.runners in
-    let ran = period_run g π limits c.args.question.now.unit.now.valid c.args.place rows
-    (live_at c.args.runners.now) filled c.requires.place
-    c.run_all.new.table.items (live_at c.start.new.runners) (live_at c.run_all.new.runners) begun
-    c.requires.limits.0 c.requires.limits.1
-    c.runs_go_on.ensures (c.is_must_off.ensures.no c.if-is_must_off.false) c.run_all.ensures.goes c.run_all.ensures.off
-    in
-    small_of g π limits _ (live_at c.run_all.new.runners) (suc c.args.place) (suc (suc c.args.place))
-    (omega arith) (omega arith) ran
+    let at = goal.at.drop_beyond-requires-clause-small c in
+    ran_small at.After-run_all (begun at.After-start)
 
 pub prune-requires-clause-small : goal.prune-requires-clause-small
 prune-requires-clause-small c =
-    let g = unit_of c.args.question.now in
-    let π = prices_in c.args.question.now in
-    let limits = limits_in c.args.question.now in
-    let rows = c.args.table.now.items in
-    let filled = c.requires.now.filled in
-    let here = limit_at c.args.question.now.limits.now.items c.args.place c.get-limit.result.now (search rules)
-    c.get-limit.ensures.item in
-    let begun = c.start.ensures.stands π limits (cost_at rows) here c.requires.origins filled.runners in
-    let ran = period_run g π limits c.args.question.now.unit.now.valid c.args.place rows
-    (live_at c.args.runners.now) filled c.requires.place
-    c.run_all.new.table.items (live_at c.start.new.runners) (live_at c.run_all.new.runners) begun
-    c.requires.limits.0 c.requires.limits.1
-    c.runs_go_on.ensures (c.is_must_off.ensures.no c.if-is_must_off.false) c.run_all.ensures.goes c.run_all.ensures.off
-    in
-    fewer_small _ _ c.drop_beyond.ensures.fewer
-    (small_of g π limits _ (live_at c.run_all.new.runners) (suc c.args.place) (suc (suc c.args.place))
-    (omega arith) (omega arith) ran)
+    let at = goal.at.prune-requires-clause-small c in
+    fewer_small _ _ c.drop_beyond.ensures.fewer (ran_small at.After-run_all (begun at.After-start))
 
 pub drop_beyond-requires-clause-roster : goal.drop_beyond-requires-clause-roster
 drop_beyond-requires-clause-roster c =
@@ -163,30 +150,18 @@ keep-requires-clause-roster c = (
 
 pub returns-clause-now : goal.returns-clause-now
 returns-clause-now c =
+    let at = goal.at.returns-clause-now c in
     let g = unit_of c.args.question.now in
     let π = prices_in c.args.question.now in
     let limits = limits_in c.args.question.now in
     let rows = c.args.table.now.items in
-    let filled = c.requires.now.filled in
-    let here = limit_at c.args.question.now.limits.now.items c.args.place c.get-limit.result.now (search rules)
-    c.get-limit.ensures.item in
-    let begun = c.start.ensures.stands π limits (cost_at rows) here c.requires.origins filled.runners in
-    let ran = period_run g π limits c.args.question.now.unit.now.valid c.args.place rows
-    (live_at c.args.runners.now) filled c.requires.place
-    c.run_all.new.table.items (live_at c.start.new.runners) (live_at c.run_all.new.runners) begun
-    c.requires.limits.0 c.requires.limits.1
-    c.runs_go_on.ensures (c.is_must_off.ensures.no c.if-is_must_off.false) c.run_all.ensures.goes c.run_all.ensures.off
-    in
-    let next : suc c.args.place ≡ c.args.place + 1 = omega arith in
+    let now = begun at.After-start in
+    let ran_on = ran at.After-run_all now in
     let next_is = limit_at c.args.question.now.limits.now.items (c.args.place + 1) c.get.result.now (search rules)
     c.get.ensures.item in
-    let there = subst (λ (t : ℕ). AreRunners g π limits (cost_at rows) (live_at c.run_all.new.runners) t
-    (suc (suc c.args.place))) next ran in
-    let pruned = subst (λ (t : ℕ). AreRunners g π limits (cost_at rows) (live_at c.prune.new.runners) t
-    (suc (suc c.args.place))) (sym next)
-    (c.prune.ensures.stands π limits (cost_at rows) (suc (suc c.args.place))
-    (c.drop_beyond.ensures.stands g π limits (cost_at rows) (c.args.place + 1) (suc (suc c.args.place)) next_is there))
-    in
+    let pruned = rw add-one at (c.prune.ensures.stands π limits (cost_at rows) (suc (suc c.args.place))
+    (c.drop_beyond.ensures.stands g π limits (cost_at rows) (c.args.place + 1) (suc (suc c.args.place)) next_is
+    (rw add-one ran_on))) in
     let rows' = c.run_all.new.table.items in
     let run = c.run_all.ensures in
     let kept = kept_then _ _ _ c.drop_beyond.ensures.kept c.prune.ensures.kept in
@@ -196,15 +171,13 @@ returns-clause-now c =
     (kept_left _ _ c.start.ensures.kept) c.requires.now.ways in
     let ways = ways_more g π c.args.place (suc (suc c.args.place)) (cost_at rows) (cost_at rows') (first_at rows)
     (first_at rows') _ (left_at c.start.new.runners) (left_at c.run_all.new.runners)
-    (live_at c.start.new.runners) limits begun (left_live c.start.new.runners) run.row run.ends run.left
+    (live_at c.start.new.runners) limits now (left_live c.start.new.runners) run.row run.ends run.left
     (λ l other. cost-same rows' rows l l (run.others l other))
     (λ l other. first-same rows' rows l l (run.others l other)) left in
     record {
-      filled = period_filled g π limits c.args.question.now.unit.now.valid c.args.place rows
-          (live_at c.args.runners.now) filled c.requires.place rows'
-          (live_at c.start.new.runners) (live_at c.run_all.new.runners) begun c.requires.limits.0
-          c.requires.limits.1 c.dispatches_go_on.ensures c.dispatches_are_runs.ensures
-          (live_at c.prune.new.runners) pruned run.row run.others run.within;
+      filled = period_filled _ _ _ c.args.question.now.unit.now.valid _ _ _ c.requires.now.filled c.requires.place rows' _
+          (live_at c.run_all.new.runners) now c.requires.limits.0 c.requires.limits.1 c.dispatches_go_on.ensures
+          c.dispatches_are_runs.ensures (live_at c.prune.new.runners) pruned run.row run.others run.within;
       ways = ways_same g π (suc c.args.place) (cost_at rows') (first_at rows') (left_at c.run_all.new.runners)
           (left_at c.prune.new.runners) (kept_left _ _ kept) ways;
       roomy = kept_roomy _ _ kept (periods_in c.args.question.now) (suc c.args.place)

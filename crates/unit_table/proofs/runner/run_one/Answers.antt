@@ -1,5 +1,5 @@
 use Rattle.unit_table.proofs.Common.{shown}
-use Rattle.unit_table.proofs.Common.{◌≡◌, ℕ, suc, ◌+◌, ◌<◌, ◌≤◌, subst, arith, unit_of, periods_in, on_time}
+use Rattle.unit_table.proofs.Common.{◌≡◌, suc, ◌+◌, ◌<◌, ◌≤◌, arith, unit_of, periods_in, on_time}
 use Rattle.unit_table.proofs.Lemmas.{always}
 use Rattle.unit_table.proofs.runner.run_one.Goals as goal
 
@@ -9,8 +9,7 @@ returns-then-may_end-clause-may c =
     let next : c.args.place + 1 ≡ suc c.args.place = omega arith in
     always c.end_and_run.result.end (suc c.args.place < periods_in c.args.question.now →
     u.min_up ≤ on_time u c.args.first (suc c.args.place))
-    (λ low. subst (λ (t : ℕ). u.min_up ≤ on_time u c.args.first t) next
-    (c.may_end.ensures.yes c.if-may_end.true (omega arith)))
+    (λ low. rw next at (c.may_end.ensures.yes c.if-may_end.true (omega arith)))
 
 pub returns-then-may_end-clause-noted : goal.returns-then-may_end-clause-noted
 returns-then-may_end-clause-noted c = λ x v there.

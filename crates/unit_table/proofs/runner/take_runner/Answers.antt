@@ -1,9 +1,9 @@
-use Rattle.unit_table.proofs.Common.{state_of}
+use Rattle.unit_table.proofs.Common.{state_of, add-one}
 use Rattle.unit_table.proofs.Common.{shown, count_of, room_of}
-use Rattle.unit_table.proofs.Common.{rules, ◌≡◌, ℕ, suc, ◌+◌, ◌-◌, ◌*◌, ◌<◌, ◌≤◌, ◌+ℤ◌, ℤ, inl, inr, Some, length, sym}
-use Rattle.unit_table.proofs.Common.{ap, ◌∙◌, subst, arith, to_z, of_z, FitsSigned, IfSome, w64, to_z-of_z, unit_of}
+use Rattle.unit_table.proofs.Common.{rules, ◌≡◌, ℕ, suc, ◌+◌, ◌-◌, ◌*◌, ◌<◌, ◌≤◌, inl, inr, Some, length, sym}
+use Rattle.unit_table.proofs.Common.{ap, ◌∙◌, subst, arith, FitsSigned, IfSome, w64, to_z-of_z, unit_of}
 use Rattle.unit_table.proofs.Common.{prices_in, periods_in, charge_of, going_of, Going, IsGoneOn, Lowest, passed_at}
-use Rattle.unit_table.proofs.Common.{IsOnNoted, IsPut, IsWithinTimes, on_time}
+use Rattle.unit_table.proofs.Common.{IsOnNoted, IsWithinTimes, on_time}
 use Rattle.unit_table.proofs.Lemmas.{room_more, room_next, going_on, row_end, end_some, end_left}
 use Rattle.unit_table.proofs.runner.take_runner.Goals as goal
 
@@ -11,16 +11,8 @@ pub returns-clause-more : goal.returns-clause-more
 returns-clause-more c =
     let ready = c.requires.ready _ (going_on c.args.runner.now c.requires.on) in
     let fits : FitsSigned w64 c.args.runner.now.cost = search rules in
-    let cost : to_z w64 (of_z w64 c.args.runner.now.cost) ≡ c.args.runner.now.cost = to_z-of_z w64 _ fits in
     let next : c.args.place + 1 ≡ suc c.args.place = omega arith in
-    let put = subst (λ (e : ℤ). IfSome c.cost_of.result
-    (λ (x : ℤ). IsPut (c.args.place + 1)
-    (record { cost = e +ℤ x; first = c.args.first; before = c.args.runner.now.before }) c.args.table.now.items
-    c.put_end.new.table.items)) cost c.put_end.ensures.some in
-    let put_next = subst
-    (λ (l : ℕ). IfSome c.cost_of.result
-    (λ (x : ℤ). IsPut l (record { cost = c.args.runner.now.cost +ℤ x; first = c.args.first; before = c.args.runner.now.before })
-    c.args.table.now.items c.put_end.new.table.items)) next put in
+    let put = simp (to_z-of_z, add-one) at c.put_end.ensures.some in
     record {
       row = λ live is. row_end (unit_of c.args.question.now) (prices_in c.args.question.now) live c.args.first
           c.args.place c.args.table.now.items c.put_end.new.table.items
@@ -30,7 +22,7 @@ returns-clause-more c =
           (end_some c.run_one-passed.result.end c.cost_of.result
           (λ _. suc c.args.place < periods_in c.args.question.now →
           (unit_of c.args.question.now).min_up ≤ on_time (unit_of c.args.question.now) c.args.first
-          (suc c.args.place)) c.cost_of.ensures c.run_one-passed.ensures.may) c.put_end.ensures.none put_next;
+          (suc c.args.place)) c.cost_of.ensures c.run_one-passed.ensures.may) c.put_end.ensures.none put;
       others = λ l other. c.put_end.ensures.others l (λ z. other (z ∙ next));
       within = c.put_end.ensures.within;
       rows_length = c.put_end.ensures.length;
@@ -38,22 +30,12 @@ returns-clause-more c =
 
 pub returns-clause-ends : goal.returns-clause-ends
 returns-clause-ends c =
-    let fits : FitsSigned w64 c.args.runner.now.cost = search rules in
-    let cost : to_z w64 (of_z w64 c.args.runner.now.cost) ≡ c.args.runner.now.cost = to_z-of_z w64 _ fits in
-    let next : c.args.place + 1 ≡ suc c.args.place = omega arith in
-    let put_next = subst
-    (λ (l : ℕ). IfSome c.cost_of.result
-    (λ (x : ℤ). IsPut l (record {
-      cost = to_z w64 (of_z w64 c.args.runner.now.cost) +ℤ x;
-      first = c.args.first;
-      before = c.args.runner.now.before;
-    }) c.args.table.now.items c.put_end.new.table.items)) next
-    c.put_end.ensures.some in
+    let put = simp add-one at c.put_end.ensures.some in
     let same = ap (λ l. passed_at l.items c.args.place) c.retire.ensures.passed ∙ c.leave_at.ensures.here in
     end_left (unit_of c.args.question.now) (prices_in c.args.question.now) c.args.first c.args.place
     c.args.runner.now.before _ c.args.table.now.items c.put_end.new.table.items c.run_one-passed.result
     (passed_at c.retire.new.runner.passed.items c.args.place) c.cost_of.result same c.cost_of.ensures
-    c.put_end.ensures.none put_next c.run_one-passed.ensures.ended
+    c.put_end.ensures.none put c.run_one-passed.ensures.ended
 
 pub put_end-requires-clause-net_bound : goal.put_end-requires-clause-net_bound
 put_end-requires-clause-net_bound c =

@@ -48,7 +48,7 @@ loop-place-preserved c =
             kept = λ until list. one_kept live until old list p q items (c.loop-place.invariant.kept until list) inside
                 first c.get-first.ensures.item w.set.new.self.items set same;
             low = omega arith;
-            same_length = same ∙ same_length;
+            same_length = cc;
             count_same = count_same;
           }))
       | else-runner_at w ↦
