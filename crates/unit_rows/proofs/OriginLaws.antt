@@ -6,6 +6,7 @@ use Rattle.unit_rows.proofs.Common.{ThermalUnit, IsThermalUnit, mark_in, Origin,
 use Rattle.unit_rows.proofs.Common.{HasOrigin, AreInOrder, AreRight, AreOrigins, IsOriginPut, HasEntryAtMost}
 use Rattle.unit_rows.proofs.Common.{IsWithinTimes, IsOffRun, off_time, start_cost_after, IsEntry}
 use Rattle.unit_rows.proofs.Common.{IsLeastEntry}
+use Rattle.unit_rows.specs.Ends.{IsStarted}
 use Rattle.unit_rows.proofs.RipeLaws.{off_next}
 use Rattle.unit_rows.specs.declared.origins.Origins.{Origins}
 
@@ -210,23 +211,24 @@ module _ (g : ThermalUnit) (ends : ℕ → Option ℤ) (k : ℕ) (os : Origins) 
       | inr new ↦ subst (λ (o : Origin). IsOrigin g ends k o) new.1 origin
     ]
 
-    last' : (i j : ℕ) (a b : Origin) → i < j → j < os'.count → slice_get os'.list.items i ≡ Some a →
-        slice_get os'.list.items j ≡ Some b → a.last < b.last
-    last' i j a b before low is is' =
-        let first = stands i a (omega arith) is in
-        elim (stands j b low is') [
-          | inl old ↦
-              let below = old.0 in
-              elim first [
-                | inl old' ↦ right.order.last i j a b before (old_low j below) old'.1 old.1
-                | inr new' ↦ absurd (omega arith)
-              ]
-          | inr new ↦
-              elim first [
-                | inl old' ↦ rw new.1 at (later i a (old_low i old'.0) old'.1)
-                | inr new' ↦ absurd (omega arith)
-              ]
-        ]
+    -- what holds of each two of the old list, and of each that comes before the new one, holds of each two now
+    pairs : (P : Origin → Origin → Type 0) → ((i j : ℕ) (a b : Origin) → i < j → j < os.count →
+        slice_get os.list.items i ≡ Some a → slice_get os.list.items j ≡ Some b → P a b) →
+        ((i : ℕ) (a : Origin) → i < put.place → slice_get os.list.items i ≡ Some a → P a n) →
+        (i j : ℕ) (a b : Origin) → i < j → j < os'.count → slice_get os'.list.items i ≡ Some a →
+        slice_get os'.list.items j ≡ Some b → P a b
+    pairs P old new i j a b before low is is' = elim (stands j b low is') [
+      | inl last ↦
+          let below = last.0 in
+          elim (stands i a (omega arith) is) [
+            | inl first ↦ old i j a b before (old_low j below) first.1 last.1
+            | inr here ↦ absurd (omega arith)
+          ]
+      | inr last ↦ elim (stands i a (omega arith) is) [
+        | inl first ↦ subst (P a) last.1 (new i a first.0 first.1)
+        | inr here ↦ absurd (omega arith)
+      ]
+    ]
 
     -- all before the new one cost no more
     cheaper : IsTrue os.is_rising → (i : ℕ) (a : Origin) → i < put.place → slice_get os.list.items i ≡ Some a →
@@ -241,25 +243,6 @@ module _ (g : ThermalUnit) (ends : ℕ → Option ℤ) (k : ℕ) (os : Origins) 
           let far = right.order.cost rising i p a b.0 (omega arith) (omega arith) is b.1 in
           omega (arith, ints)
     ]
-
-    cost' : IsTrue os'.is_rising → (i j : ℕ) (a b : Origin) → i < j → j < os'.count →
-        slice_get os'.list.items i ≡ Some a → slice_get os'.list.items j ≡ Some b → a.cost ≤ℤ b.cost
-    cost' rising' i j a b before low is is' =
-        let rising : IsTrue os.is_rising = cc in
-        let first = stands i a (omega arith) is in
-        elim (stands j b low is') [
-          | inl old ↦
-              let below = old.0 in
-              elim first [
-                | inl old' ↦ right.order.cost rising i j a b before (old_low j below) old'.1 old.1
-                | inr new' ↦ absurd (omega arith)
-              ]
-          | inr new ↦
-              elim first [
-                | inl old' ↦ rw new.1 at (cheaper rising i a old'.0 old'.1)
-                | inr new' ↦ absurd (omega arith)
-              ]
-        ]
 
     new_low : put.place < os'.count
     new_low = (omega arith)
@@ -315,7 +298,11 @@ module _ (g : ThermalUnit) (ends : ℕ → Option ℤ) (k : ℕ) (os : Origins) 
             (let from = right.off last low run in omega arith);
         off_since = λ last from low. (right.off_since last (omega arith) low);
         each = each';
-        order = record { last = last'; cost = cost' };
+        order = record {
+          last = pairs (λ a b. a.last < b.last) right.order.last (λ i a low is. later i a (old_low i low) is);
+          cost = λ yes. (let rising : IsTrue os.is_rising = cc in pairs (λ a b. a.cost ≤ℤ b.cost)
+              (right.order.cost rising) (cheaper rising));
+        };
       };
       all = all';
     }
@@ -421,51 +408,48 @@ module _ (g : ThermalUnit) (k : ℕ) (os : Origins) where
               inr (omega (arith, ints))
         ]
 
+    -- the least one beside any start in the next period
+    against : (r : Entry) → least ≡ Some r → (last : ℕ) (e : ℤ) → IsStarted g ends (suc k) last e →
+        (r.cost ≤ℤ e) × (r.cost ≡ e → r.last ≤ last)
+    against r is last e h =
+        let z : h.before ≡ k = omega arith in
+        let o : Origin = record { last = last; cost = h.value } in
+        let is_origin : IsOrigin g ends k o = record { ended = h.ended; gap = rw z at h.gap } in
+        let has = now.all o is_origin in
+        let low = all.complete has.place has.origin has.low has.is in
+        let same : low.0 ≡ r = (cc) in
+        let same_cost = ap (λ (r : Entry). r.cost) same in
+        let start = ap (λ (b : ℕ). start_cost_after g last b) z in
+        elim (beside o is_origin has) [
+          | inl equal ↦ (
+            omega (arith, ints),
+            λ cost. (let early = all.earliest r has.place has.origin is has.low has.is
+                (omega (arith, ints)) in omega arith),
+          )
+          | inr less ↦ (omega (arith, ints), λ cost. absurd (omega (arith, ints)))
+        ]
+
     pub least_of_origins : (r : Entry) → least ≡ Some r → IsLeastEntry g ends (suc k) r.last r.cost
     least_of_origins r is =
         let s = all.sound r is in
         let a = now.right.each s.0 s.1 s.2 s.3 in
         let from_last = s.4 in
-        let cost = s.5 in
         record {
-          entry = inr (rw from_last (record { before = k; first = refl; value = s.1.cost; ended = a.ended; gap = a.gap; cost = cost }));
+          entry = inr (rw from_last (record {
+            before = k;
+            first = refl;
+            value = s.1.cost;
+            ended = a.ended;
+            gap = a.gap;
+            cost = s.5;
+          }));
           least = λ d entry. elim (entry.1) [
             | inl none ↦ let z = none.0 in absurd (omega arith)
-            | inr h ↦
-                let z : h.before ≡ k = omega arith in
-                let o : Origin = record { last = entry.0; cost = h.value } in
-                let is_origin : IsOrigin g ends k o = record
-                { ended = h.ended; gap = rw z at h.gap } in
-                let has = now.all o is_origin in
-                let low = all.complete has.place has.origin has.low has.is in
-                let same : low.0 ≡ r = (cc) in
-                let same_cost = ap (λ (r : Entry). r.cost) same in
-                let start = ap (λ (b : ℕ). start_cost_after g entry.0 b) z in
-                elim (beside o is_origin has) [
-                  | inl equal ↦ omega (arith, ints)
-                  | inr less ↦ omega (arith, ints)
-                ]
+            | inr h ↦ (against r is entry.0 d h).0
           ];
           earliest = λ j entry. elim entry [
             | inl none ↦ let z = none.0 in absurd (omega arith)
-            | inr h ↦
-                let z : h.before ≡ k = omega arith in
-                let o : Origin = record { last = j; cost = h.value } in
-                let is_origin : IsOrigin g ends k o = record
-                { ended = h.ended; gap = rw z at h.gap } in
-                let has = now.all o is_origin in
-                let low = all.complete has.place has.origin has.low has.is in
-                let same : low.0 ≡ r = (cc) in
-                let same_cost = ap (λ (r : Entry). r.cost) same in
-                let start = ap (λ (b : ℕ). start_cost_after g j b) z in
-                elim (beside o is_origin has) [
-                  | inl equal ↦
-                      let l = equal.0 in
-                      let early = all.earliest r has.place has.origin is has.low has.is
-                      (omega (arith, ints)) in
-                      omega arith
-                  | inr less ↦ absurd (omega (arith, ints))
-                ]
+            | inr h ↦ (against r is j r.cost h).1 refl
           ];
         }
 

@@ -1,5 +1,6 @@
 -- The cost of a start is within the limits of a lag's cost.
-use Rattle.unit_rows.proofs.Common.{◌≡◌, ℕ, suc, ◌-◌, ◌<◌, ◌≤◌, Bool, true, false, cond, Option, Some, None, pos, ◌≤ℤ◌}
+use Rattle.unit_rows.proofs.Common.{ℤ, ◌≡◌, ℕ, suc, ◌-◌, ◌<◌, ◌≤◌, Bool, true, false, cond, Option, Some, None, pos}
+use Rattle.unit_rows.proofs.Common.{◌≤ℤ◌}
 use Rattle.unit_rows.proofs.Common.{List, [], ◌∷◌, length, refl, sym, ap, ◌∙◌, subst, arith, ints, reverse, nat_le}
 use Rattle.unit_rows.proofs.Common.{slice_get, slice_index_or, option_map_or, option_or, Lag, IsFrom, IsLag}
 use Rattle.std.proofs.lemmas.List.{length-reverse, get_or-reverse}
@@ -8,6 +9,15 @@ use Rattle.std.proofs.lemmas.Grind.{reverse_onto}
 use Rattle.std.proofs.lemmas.List.Folds.{find-append}
 use Rattle.std.specs.List.{All, find}
 use Rattle.uc_model.specs.Earnings.{start_cost_of}
+
+abbrev last_of : ℕ → List Lag → Option Lag
+last_of down ls = find (λ (l : Lag). nat_le l.lag down) (reverse ls)
+
+abbrev cost_or : Option Lag → ℤ → ℤ
+cost_or o d = option_map_or (λ (l : Lag). l.cost) o d
+
+abbrev reached : ℕ → Lag → Option Lag
+reached down x = cond (nat_le x.lag down) (Some x) None
 
 found_has : {X : Type 0} → (P : X → Type 0) (test : X → Bool) (xs : List X) → All P xs → (x : X) →
     find test xs ≡ Some x → P x
@@ -32,14 +42,14 @@ pub start_cost-within : (lags : List Lag) (down : ℕ) → All IsLag lags →
 start_cost-within lags down h =
     let limits = IsFrom (pos 0) (pos 10000000000000) in
     let none : limits (pos 0) = record { at_least = omega (arith, ints); at_most = omega (arith, ints) } in
-    let first : limits (option_map_or (λ (l : Lag). l.cost) (slice_get lags 0) (pos 0)) =
-    elim (slice_get lags 0) as (λ o. slice_get lags 0 ≡ o → limits (option_map_or (λ (l : Lag). l.cost) o (pos 0))) [
+    let first : limits (cost_or (slice_get lags 0) (pos 0)) =
+    elim (slice_get lags 0) as (λ o. slice_get lags 0 ≡ o → limits (cost_or o (pos 0))) [
       | None ↦ λ _. none
       | Some l ↦ λ is. (first_has IsLag lags h l is).cost
     ] refl in
-    elim (find (λ (l : Lag). nat_le l.lag down) (reverse lags)) as
-    (λ o. find (λ (l : Lag). nat_le l.lag down) (reverse lags) ≡ o →
-    limits (option_map_or (λ (l : Lag). l.cost) o (option_map_or (λ (l : Lag). l.cost) (slice_get lags 0) (pos 0)))) [
+    elim (last_of down lags) as
+    (λ o. last_of down lags ≡ o →
+    limits (cost_or o (cost_or (slice_get lags 0) (pos 0)))) [
       | None ↦ λ _. first
       | Some l ↦ λ is. (found_has IsLag (λ (l : Lag). nat_le l.lag down) (reverse lags) (reversed_has IsLag lags h) l
           is).cost
@@ -51,13 +61,14 @@ abbrev pub AreRising : List Lag → Type 0
 AreRising ls = (k : ℕ) (d : Lag) → suc k < length ls →
     (slice_index_or ls k d).cost ≤ℤ (slice_index_or ls (suc k) d).cost
 
-abbrev last_of : ℕ → List Lag → Option Lag
-last_of down ls = find (λ (l : Lag). nat_le l.lag down) (reverse ls)
-
 last_of-more : (down : ℕ) (x : Lag) (xs : List Lag) →
-    last_of down (x ∷ xs) ≡ option_or (last_of down xs) (cond (nat_le x.lag down) (Some x) None)
+    last_of down (x ∷ xs) ≡ option_or (last_of down xs) (reached down x)
 last_of-more down x xs = ap (find (λ (l : Lag). nat_le l.lag down)) (reverse_onto xs x []) ∙
     find-append (λ (l : Lag). nat_le l.lag down) (reverse xs) (x ∷ [])
+
+last_of-from : (down : ℕ) (x : Lag) (xs : List Lag) (o : Option Lag) → last_of down xs ≡ o →
+    last_of down (x ∷ xs) ≡ option_or o (reached down x)
+last_of-from down x xs o is = last_of-more down x xs ∙ ap (λ (o : Option Lag). option_or o (reached down x)) is
 
 -- the first costs no more than any that is reached
 first_least : (down : ℕ) (x : Lag) (xs : List Lag) → AreRising (x ∷ xs) → (z : Lag) → last_of down xs ≡ Some z →
@@ -66,7 +77,7 @@ first_least down x [] rising z is = cc
 first_least down x (y ∷ ys) rising z is =
     let next = rising 0 x (omega arith) in
     elim (last_of down ys) as (λ o. last_of down ys ≡ o →
-    option_or o (cond (nat_le y.lag down) (Some y) None) ≡ Some z → x.cost ≤ℤ z.cost) [
+    option_or o (reached down y) ≡ Some z → x.cost ≤ℤ z.cost) [
       | Some w ↦ λ was e.
           let low = first_least down y ys (λ k d within. rising (suc k) d (omega arith)) w was in
           let same : w ≡ z = (cc) in
@@ -85,14 +96,14 @@ last_rises : (a b : ℕ) → a ≤ b → (ls : List Lag) → AreRising ls → (y
 last_rises a b low [] rising y is = cc
 last_rises a b low (x ∷ xs) rising y is =
     let rest : AreRising xs = λ k d within. rising (suc k) d (omega arith) in
-    elim (last_of a xs) as (λ o. last_of a xs ≡ o → option_or o (cond (nat_le x.lag a) (Some x) None) ≡ Some y →
+    elim (last_of a xs) as (λ o. last_of a xs ≡ o → option_or o (reached a x) ≡ Some y →
     (z : Lag) × (last_of b (x ∷ xs) ≡ Some z) × (y.cost ≤ℤ z.cost)) [
       | Some w ↦ λ was e.
           let r = last_rises a b low xs rest w was in
           let same : w ≡ y = (cc) in
           let cost = ap (λ (l : Lag). l.cost) same in (
             r.0,
-            last_of-more b x xs ∙ ap (λ (o : Option Lag). option_or o (cond (nat_le x.lag b) (Some x) None)) r.1,
+            last_of-from b x xs _ r.1,
             omega (arith, ints),
           )
       | None ↦ λ was e.
@@ -109,14 +120,12 @@ last_rises a b low (x ∷ xs) rising y is =
                   | Some z ↦ λ there.
                       let most = first_least b x xs rising z there in (
                         z,
-                        last_of-more b x xs ∙ ap
-                            (λ (o : Option Lag). option_or o (cond (nat_le x.lag b) (Some x) None)) there,
+                        last_of-from b x xs _ there,
                         omega (arith, ints),
                       )
                   | None ↦ λ none. (
                     x,
-                    last_of-more b x xs ∙ ap
-                        (λ (o : Option Lag). option_or o (cond (nat_le x.lag b) (Some x) None)) none ∙
+                    last_of-from b x xs _ none ∙
                         ap (λ (t : Bool). cond t (Some x) None) yes',
                     omega (arith, ints),
                   )
@@ -126,10 +135,10 @@ last_rises a b low (x ∷ xs) rising y is =
 
 -- and no lag that is reached costs less than the first
 none_less : (b : ℕ) (ls : List Lag) → AreRising ls → (z : Lag) → last_of b ls ≡ Some z →
-    option_map_or (λ (l : Lag). l.cost) (slice_get ls 0) (pos 0) ≤ℤ z.cost
+    cost_or (slice_get ls 0) (pos 0) ≤ℤ z.cost
 none_less b [] rising z is = cc
 none_less b (x ∷ xs) rising z is =
-    elim (last_of b xs) as (λ o. last_of b xs ≡ o → option_or o (cond (nat_le x.lag b) (Some x) None) ≡ Some z →
+    elim (last_of b xs) as (λ o. last_of b xs ≡ o → option_or o (reached b x) ≡ Some z →
     x.cost ≤ℤ z.cost) [
       | Some w ↦ λ was e. (let low = first_least b x xs rising w was in let same : w ≡ z = (cc) in let cost = ap
           (λ (l : Lag). l.cost) same in omega (arith, ints))
@@ -141,19 +150,18 @@ none_less b (x ∷ xs) rising z is =
 
 pub start_cost-rises : (ls : List Lag) → AreRising ls → (a b : ℕ) → a ≤ b → start_cost_of ls a ≤ℤ start_cost_of ls b
 start_cost-rises ls rising a b low =
-    let first = option_map_or (λ (l : Lag). l.cost) (slice_get ls 0) (pos 0) in
+    let first = cost_or (slice_get ls 0) (pos 0) in
     elim (last_of a ls) as
-    (λ o. last_of a ls ≡ o → option_map_or (λ (l : Lag). l.cost) o
-    (option_map_or (λ (l : Lag). l.cost) (slice_get ls 0) (pos 0)) ≤ℤ start_cost_of ls b) [
+    (λ o. last_of a ls ≡ o → cost_or o
+    (cost_or (slice_get ls 0) (pos 0)) ≤ℤ start_cost_of ls b) [
       | Some y ↦ λ is.
           let r = last_rises a b low ls rising y is in
-          let cost = ap (λ (o : Option Lag). option_map_or (λ (l : Lag). l.cost) o
-          (option_map_or (λ (l : Lag). l.cost) (slice_get ls 0) (pos 0))) r.1 in
+          let cost = ap (λ (o : Option Lag). cost_or o
+          (cost_or (slice_get ls 0) (pos 0))) r.1 in
           omega (arith, ints)
       | None ↦ λ is.
           elim (last_of b ls) as
-          (λ o. last_of b ls ≡ o → option_map_or (λ (l : Lag). l.cost) (slice_get ls 0) (pos 0) ≤ℤ option_map_or
-          (λ (l : Lag). l.cost) o (option_map_or (λ (l : Lag). l.cost) (slice_get ls 0) (pos 0))) [
+          (λ o. last_of b ls ≡ o → cost_or (slice_get ls 0) (pos 0) ≤ℤ cost_or o (cost_or (slice_get ls 0) (pos 0))) [
             | Some z ↦ λ there. none_less b ls rising z there
             | None ↦ λ none. omega (arith, ints)
           ] refl

@@ -34,5 +34,6 @@ returns-in-Some-clause-some c =
       added = c.put.ensures.added;
       latest = c.put.ensures.latest;
     } in
-    rw c.in-Some.is (subst (λ (x : ℤ). IsPut c.args.last (record { cost = x; first = c.args.first; before = c.args.entry.now.last })
+    rw c.in-Some.is (subst (λ (x : ℤ). IsPut c.args.last (record
+    { cost = x; first = c.args.first; before = c.args.entry.now.last })
     c.args.table.now.items c.put.new.table.items) cost put)

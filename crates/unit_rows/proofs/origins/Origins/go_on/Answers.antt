@@ -33,4 +33,5 @@ take_ripe-requires-clause-others c =
     let ends = cost_at c.args.rows.now in
     let free = c.must_be_on.ensures.no c.if-must_be_on.false in
     let next : suc c.args.place ≡ c.args.place + 1 = omega arith in
-    rw next at (ripe_or_there u c.args.unit.now.valid ends c.args.place c.args.self.now c.requires.origins free.0 free.1)
+    rw next at (ripe_or_there u c.args.unit.now.valid ends c.args.place c.args.self.now c.requires.origins free.0
+    free.1)
