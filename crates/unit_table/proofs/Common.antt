@@ -13,7 +13,8 @@ pub use Rattle.std.specs.Prelude.{IsTrue, slice_set, int_le, IfSome, slice_get, 
 pub use Rattle.std.specs.Prelude.{FitsSigned}
 pub use Rattle.unit_rows.specs.Limits.{AreLimits, capped, cap_of_row, IsInRange}
 pub use Rattle.unit_table.specs.Limits.{IsTableWithin, IsFilledWithin}
-pub use Rattle.unit_table.specs.Live.{state_of, going_of, live_at, left_of, left_at, places_of, IsRoomy, AreRoomy, AreSmall}
+pub use Rattle.unit_table.specs.Live.{state_of, going_of, live_at, left_of, left_at, places_of, IsRoomy, AreRoomy}
+pub use Rattle.unit_table.specs.Live.{AreSmall}
 pub use Rattle.unit_table.specs.Live.{IsUnder, IsBeyond, IsBelow, HaveRoom, IsFilledTo}
 pub use Rattle.unit_rows.specs.Origins.{IsOrigin, AreOrigins, AreOriginsWithin}
 pub use Rattle.unit_table.specs.Questions.{unit_of, prices_in, periods_in, charge_of, limits_in}

@@ -148,8 +148,8 @@ pub stopped_one : (old a : Runner) → a.is_on ≡ false → a.running ≡ old.r
     IsKeptFrom old a
 stopped_one old a off same passed = record { room_same = ap room_of same; passed = passed; pieces = λ on. absurd (cc) }
 
-pub begun_one : (old a : Runner) → count_of a.running ≡ 0 → room_of a.running ≡ room_of old.running → a.passed ≡ old.passed →
-    IsKeptFrom old a
+pub begun_one : (old a : Runner) → count_of a.running ≡ 0 → room_of a.running ≡ room_of old.running →
+    a.passed ≡ old.passed → IsKeptFrom old a
 begun_one old a none same passed = record { room_same = same; passed = passed; pieces = λ on. inl none }
 
 pub kept_none : (runners : List Runner) → AreKept runners runners

@@ -2,7 +2,8 @@
 use Rattle.unit_table.proofs.Common.{room_of}
 use Rattle.unit_table.proofs.Common.{◌≡◌, ◌≢◌, ℕ, suc, ◌+◌, ◌<◌, ◌≤◌, ◌⊎◌, ℤ, inl, inr, true, get_or}
 use Rattle.unit_table.proofs.Common.{Option, Some, None, List, length, refl, sym, ap, ◌∙◌, subst, arith, slice_get}
-use Rattle.unit_table.proofs.Common.{slice_set, slice_get-get_or, slice_get_within, cases_lt, cases_eq, ThermalUnit, PriceLists}
+use Rattle.unit_table.proofs.Common.{slice_set, slice_get-get_or, slice_get_within, cases_lt, cases_eq, ThermalUnit}
+use Rattle.unit_table.proofs.Common.{PriceLists}
 use Rattle.unit_table.proofs.Common.{passed_at, Runner, Ended, going_of, live_at, left_of, left_at, IsRoomy, AreRoomy}
 use Rattle.unit_table.proofs.Common.{HaveRoom, row_at, cost_at, first_at, before_at, AreWithin, Going, IsGoneOn}
 use Rattle.unit_table.proofs.Common.{IsEndLeft, IsRowTo, IsRowMore, IsOneRun, IsRunOver, places_of, length-set}

@@ -50,51 +50,63 @@ one_more_cost g π first t d from = sum_from_to-more (net_cost g π d) first t f
 run_less : (g : ThermalUnit) (first t : ℕ) (d : Schedule) → IsRun g first (suc t) d → IsRun g first t d
 run_less g first t d run k from until = run k from (omega arith)
 
+-- where the runner that stands for it is the same one
+still_stands : {g : ThermalUnit} {π : PriceLists} {live live' : ℕ → Option Going} {t f : ℕ} {e : ℤ} {d : Schedule} →
+    (s : HasStandIn g π live t f e d) → live' s.other ≡ Some s.going → HasStandIn g π live' t f e d
+still_stands s on = record {
+  other = s.other;
+  going = s.going;
+  value = s.value;
+  on = on;
+  there = s.there;
+  cheap = s.cheap;
+  later = s.later;
+  long = s.long;
+  begun = s.begun;
+}
+
 module _ (g : ThermalUnit) (π : PriceLists) (limits : ℕ → ℤ) (ends : ℕ → Option ℤ) (t : ℕ) (live live' : ℕ →
     Option Going) where
   -- ---- a start in period suc t
 
   module _ (now : AreRunners g π limits ends live t (suc t)) where
-    -- no spell may begin there
-    pub none_starts : ((e : ℤ) → IsEntry g ends (suc t) e → ⊥) → AreRunners g π limits ends live t (suc (suc t))
-    none_starts none = record {
+    -- something stands for each run of one period
+    stood_for : ((e : ℤ) (d : Schedule) → IsEntry g ends (suc t) e → (e +ℤ spell_cost g π (suc t) t d) ≤ℤ limits t →
+        HasStandIn g π live t (suc t) e d) → AreRunners g π limits ends live t (suc (suc t))
+    stood_for new = record {
       right = λ f r is. (let h = now.right f r is in let low = h.0 in (omega arith, h.1));
       all = λ f e d low may entry run under. elim (cases_lt f (suc t)) [
         | inl less ↦ now.all f e d less may entry run under
-        | inr most ↦ let z : f ≡ suc t = omega arith in absurd
-            (none e (rw z at entry))
+        | inr most ↦
+            let z : suc t ≡ f = omega arith in
+            subst (λ (f : ℕ). IsEntry g ends f e → (e +ℤ spell_cost g π f t d) ≤ℤ limits t →
+            HasStandIn g π live t f e d) z (new e d) entry under
       ];
     }
+
+    -- no spell may begin there
+    pub none_starts : ((e : ℤ) → IsEntry g ends (suc t) e → ⊥) → AreRunners g π limits ends live t (suc (suc t))
+    none_starts none = stood_for (λ e d entry under. absurd (none e entry))
 
     -- a runner at the least power costs less than the least entry
     pub start_undercut : (last : ℕ) (e : ℤ) → IsLeastEntry g ends (suc t) last e → (other : ℕ) (r : Going) (v : ℤ) →
         live other ≡ Some r → value_of r.function g.min_power ≡ Some v →
         ((r.cost +ℤ v) +ℤ pos 1) ≤ℤ e → AreRunners g π limits ends live t (suc (suc t))
-    start_undercut last e least other r v on there cheap = record {
-      right = λ f r is. (let h = now.right f r is in let low = h.0 in (omega arith, h.1));
-      all = λ f e' d low may entry run under. elim (cases_lt f (suc t)) [
-        | inl less ↦ now.all f e' d less may entry run under
-        | inr most ↦
-            let z : suc t ≡ f = omega arith in
-            subst (λ (f : ℕ). IsEntry g ends f e' → HasStandIn g π live t f e' d) z
-            (λ entry. (
-            let bound = least.least e' entry in
-            let begun = (now.right other r on).0 in
-            let nothing : spell_cost g π (suc t) t d ≡ pos 0 = sum_from_to-none (net_cost g π d) t in
-            record {
-              other = other;
-              going = r;
-              value = v;
-              on = on;
-              there = ap (value_of r.function) (level_start g d t) ∙ there;
-              cheap = omega (arith, ints);
-              later = inr (omega (arith, ints));
-              long = λ l above up.
-                  (let longer = longer_on g other (suc t) l (omega arith) (omega arith) in omega arith);
-              begun = inl (omega arith);
-            })) entry
-      ];
-    }
+    start_undercut last e least other r v on there cheap = stood_for (λ e' d entry under.
+        (let bound = least.least e' entry in
+        let begun = (now.right other r on).0 in
+        let nothing : spell_cost g π (suc t) t d ≡ pos 0 = sum_from_to-none (net_cost g π d) t in
+        record {
+          other = other;
+          going = r;
+          value = v;
+          on = on;
+          there = ap (value_of r.function) (level_start g d t) ∙ there;
+          cheap = omega (arith, ints);
+          later = inr (omega (arith, ints));
+          long = λ l above up. (let longer = longer_on g other (suc t) l (omega arith) (omega arith) in omega arith);
+          begun = inl (omega arith);
+        }))
 
     -- or its own runner begins
     pub start_begun : (r : Going) → live' (suc t) ≡ Some r → ((f : ℕ) → f ≢ suc t → live' f ≡ live f) →
@@ -112,17 +124,7 @@ module _ (g : ThermalUnit) (π : PriceLists) (limits : ℕ → ℤ) (ends : ℕ 
         | inl less ↦
             let s = now.all f e' d less may entry run under in
             let begun = (now.right s.other s.going s.on).0 in
-            record {
-              other = s.other;
-              going = s.going;
-              value = s.value;
-              on = same s.other (λ z. omega arith) ∙ s.on;
-              there = s.there;
-              cheap = s.cheap;
-              later = s.later;
-              long = s.long;
-              begun = s.begun;
-            }
+            still_stands s (same s.other (λ z. omega arith) ∙ s.on)
         | inr most ↦
             let z : suc t ≡ f = omega arith in
             subst (λ (f : ℕ). IsEntry g ends f e' → HasStandIn g π live' t f e' d) z
@@ -146,20 +148,10 @@ module _ (g : ThermalUnit) (π : PriceLists) (limits : ℕ → ℤ) (ends : ℕ 
     -- or each entry is above the limit
     pub starts_beyond : ((e : ℤ) → IsEntry g ends (suc t) e → (limits t +ℤ pos 1) ≤ℤ e) →
         AreRunners g π limits ends live t (suc (suc t))
-    starts_beyond beyond = record {
-      right = λ f r is. (let h = now.right f r is in let low = h.0 in (omega arith, h.1));
-      all = λ f e d low may entry run under. elim (cases_lt f (suc t)) [
-        | inl less ↦ now.all f e d less may entry run under
-        | inr most ↦
-            let z : suc t ≡ f = omega arith in
-            subst (λ (f : ℕ). IsEntry g ends f e → (e +ℤ spell_cost g π f t d) ≤ℤ limits t →
-            HasStandIn g π live t f e d) z
-            (λ entry under. (
-            let above = beyond e entry in
-            let nothing : spell_cost g π (suc t) t d ≡ pos 0 = sum_from_to-none (net_cost g π d) t in
-            absurd (omega (arith, ints)))) entry under
-      ];
-    }
+    starts_beyond beyond = stood_for (λ e d entry under.
+        (let above = beyond e entry in
+        let nothing : spell_cost g π (suc t) t d ≡ pos 0 = sum_from_to-none (net_cost g π d) t in
+        absurd (omega (arith, ints))))
 
     -- as they are where the least one is
     pub start_beyond : (last : ℕ) (e : ℤ) → IsLeastEntry g ends (suc t) last e → (limits t +ℤ pos 1) ≤ℤ e →
@@ -182,17 +174,7 @@ module _ (g : ThermalUnit) (π : PriceLists) (limits : ℕ → ℤ) (ends : ℕ 
       all = λ f e d low may entry run under.
           let s = now.all f e d low may entry run under in
           elim (cases_eq s.other gone_first) [
-            | inr other ↦ record {
-              other = s.other;
-              going = s.going;
-              value = s.value;
-              on = same s.other other ∙ s.on;
-              there = s.there;
-              cheap = s.cheap;
-              later = s.later;
-              long = s.long;
-              begun = s.begun;
-            }
+            | inr other ↦ still_stands s (same s.other other ∙ s.on)
             | inl z ↦
                 let here : s.going ≡ a = (let j = ap live z in cc) in
                 let cost : s.going.cost ≡ a.cost = cc in
@@ -218,17 +200,7 @@ module _ (g : ThermalUnit) (π : PriceLists) (limits : ℕ → ℤ) (ends : ℕ 
       all = λ f e d low may entry run under.
           let s = now.all f e d low may entry run under in
           elim (cases_eq s.other early) [
-            | inr other ↦ record {
-              other = s.other;
-              going = s.going;
-              value = s.value;
-              on = same s.other other ∙ s.on;
-              there = s.there;
-              cheap = s.cheap;
-              later = s.later;
-              long = s.long;
-              begun = s.begun;
-            }
+            | inr other ↦ still_stands s (same s.other other ∙ s.on)
             | inl z ↦
                 let here : s.going ≡ a = (let j = ap live z in cc) in
                 let cost : s.going.cost ≡ a.cost = cc in

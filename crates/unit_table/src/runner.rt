@@ -283,8 +283,8 @@ fn retire(runner: &mut Runner)
 fn take_runner(question: &Question, first: u32, place: u32, runner: &mut Runner, table: &mut Table)
     requires place { place < periods_in question.now }
     requires on { runner.old.is_on ≡ true }
-    requires ready { (r : Going) → going_of (Some runner.old) ≡ Some r
-        → IsReady (unit_of question.now) (prices_in question.now) place first r }
+    requires ready { IsReady (unit_of question.now) (prices_in question.now) place first
+        (state_of runner.old) }
     requires room { IsRoomy (periods_in question.now) place
         (charge_of question.now)
         runner.old }

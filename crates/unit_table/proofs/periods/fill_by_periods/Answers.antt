@@ -32,7 +32,8 @@ loop-place-preserved c =
         firsts_same = cc;
         keeps = λ most periods have. more.keeps most periods (before.keeps most periods have);
       };
-      origins = rw next at (subst (λ (rows : List (Option Ended)). AreOrigins (unit_of c.args.question.now) (cost_at rows)
+      origins = rw next at
+          (subst (λ (rows : List (Option Ended)). AreOrigins (unit_of c.args.question.now) (cost_at rows)
           (suc c.loop-place.place) c.go_on.new.self) c.as_slice-in-loop-place.ensures c.go_on.ensures.origins);
       list_same = cc;
     }

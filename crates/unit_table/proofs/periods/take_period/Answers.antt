@@ -175,8 +175,8 @@ returns-clause-now c =
     (λ l other. cost-same rows' rows l l (run.others l other))
     (λ l other. first-same rows' rows l l (run.others l other)) left in
     record {
-      filled = period_filled _ _ _ c.args.question.now.unit.now.valid _ _ _ c.requires.now.filled c.requires.place rows' _
-          (live_at c.run_all.new.runners) now c.requires.limits.0 c.requires.limits.1 c.dispatches_go_on.ensures
+      filled = period_filled _ _ _ c.args.question.now.unit.now.valid _ _ _ c.requires.now.filled c.requires.place
+          rows' _ (live_at c.run_all.new.runners) now c.requires.limits.0 c.requires.limits.1 c.dispatches_go_on.ensures
           c.dispatches_are_runs.ensures (live_at c.prune.new.runners) pruned run.row run.others run.within;
       ways = ways_same g π (suc c.args.place) (cost_at rows') (first_at rows') (left_at c.run_all.new.runners)
           (left_at c.prune.new.runners) (kept_left _ _ kept) ways;

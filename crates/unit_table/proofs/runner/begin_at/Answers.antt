@@ -8,7 +8,8 @@ returns-clause-list c = ap (λ (xs : List ℕ). length xs) c.add.ensures.firsts 
 
 pub returns-clause-roster : goal.returns-clause-roster
 returns-clause-roster c =
-    one_listed (live_at c.args.runners.now) (live_at c.begin_in.new.runners) c.args.first c.args.roster.now c.add.new.self
+    one_listed (live_at c.args.runners.now) (live_at c.begin_in.new.runners) c.args.first c.args.roster.now
+    c.add.new.self
     c.requires.roster (omega arith) c.add.ensures.count c.add.ensures.firsts
     (ap (λ (xs : List ℕ). length xs) c.add.ensures.firsts ∙
     length-set c.args.roster.now.firsts.items c.args.roster.now.count c.args.first) c.begin_in.ensures.others

@@ -1,4 +1,5 @@
-use Rattle.unit_table.proofs.Common.{rules, shown, arith, FitsSigned, w64, OnTrue_at, ints, to_z-of_z, live_at, IsBeyond}
+use Rattle.unit_table.proofs.Common.{rules, shown, arith, FitsSigned, w64, OnTrue_at, ints, to_z-of_z, live_at}
+use Rattle.unit_table.proofs.Common.{IsBeyond}
 use Rattle.unit_table.proofs.Lemmas.{live_from, beyond_goes, kept_none}
 use Rattle.unit_table.proofs.runner.drop_at.Goals as goal
 

@@ -1,5 +1,5 @@
 use Rattle.unit_table.proofs.Common.{scaled_Fits, rules, length, unit_of, prices_in, charge_of}
-use Rattle.unit_table.proofs.Lemmas.{item_at, on_same, off_from, run_written, run_skipped}
+use Rattle.unit_table.proofs.Lemmas.{item_at, live_from, on_same, off_from, run_written, run_skipped}
 use Rattle.unit_table.proofs.runner.run_at.Goals as goal
 
 pub take_runner-requires-clause-on : goal.take_runner-requires-clause-on
@@ -8,9 +8,10 @@ take_runner-requires-clause-on c =
     (item_at c.args.runners.now c.args.first c.requires.runners c.index-runners-first.result) c.if-runner_at.true
 
 pub take_runner-requires-clause-ready : goal.take_runner-requires-clause-ready
-take_runner-requires-clause-ready c = λ r is.
+take_runner-requires-clause-ready c =
     let at = item_at c.args.runners.now c.args.first c.requires.runners c.index-runners-first.result in
-    c.requires.ready r (cc)
+    c.requires.ready _ (live_from c.args.runners.now c.args.first _ at
+    (on_same _ c.runner_at.result.now _ c.runner_at.ensures at c.if-runner_at.true))
 
 pub take_runner-requires-clause-room : goal.take_runner-requires-clause-room
 take_runner-requires-clause-room c =

@@ -9,7 +9,7 @@ use Rattle.unit_table.proofs.runner.take_runner.Goals as goal
 
 pub returns-clause-more : goal.returns-clause-more
 returns-clause-more c =
-    let ready = c.requires.ready _ (going_on c.args.runner.now c.requires.on) in
+    let ready = c.requires.ready in
     let fits : FitsSigned w64 c.args.runner.now.cost = search rules in
     let next : c.args.place + 1 ≡ suc c.args.place = omega arith in
     let put = simp (to_z-of_z, add-one) at c.put_end.ensures.some in
@@ -97,21 +97,21 @@ put_end-requires-clause-room c =
 
 pub put_end-requires-clause-order : goal.put_end-requires-clause-order
 put_end-requires-clause-order c =
-    let order = (c.requires.ready _ (going_on c.args.runner.now c.requires.on)).order in
+    let order = c.requires.ready.order in
     omega arith
 
 pub put_end-requires-clause-bound : goal.put_end-requires-clause-bound
 put_end-requires-clause-bound c =
     let fits : FitsSigned w64 c.args.runner.now.cost = search rules in
     subst (IsWithinTimes (2 * c.args.first + 1)) (sym (to_z-of_z w64 _ fits))
-    (c.requires.ready _ (going_on c.args.runner.now c.requires.on)).within
+    c.requires.ready.within
 
 pub run_one-passed-requires-clause-order : goal.run_one-passed-requires-clause-order
-run_one-passed-requires-clause-order c = (c.requires.ready _ (going_on c.args.runner.now c.requires.on)).order
+run_one-passed-requires-clause-order c = c.requires.ready.order
 
 pub run_one-passed-requires-clause-frontier : goal.run_one-passed-requires-clause-frontier
 run_one-passed-requires-clause-frontier c =
-    (c.requires.ready _ (going_on c.args.runner.now c.requires.on)).frontier
+    c.requires.ready.frontier
 
 pub returns-clause-same : goal.returns-clause-same
 returns-clause-same c = (

@@ -1,4 +1,5 @@
-use Rattle.unit_table.proofs.Common.{rules, ◌≡◌, Some, FitsSigned, w64, OnTrue_at, OnTrue_from, to_z-of_z, state_of, live_at}
+use Rattle.unit_table.proofs.Common.{rules, ◌≡◌, Some, FitsSigned, w64, OnTrue_at, OnTrue_from, to_z-of_z, state_of}
+use Rattle.unit_table.proofs.Common.{live_at}
 use Rattle.unit_table.proofs.Common.{IsUnder, Going}
 use Rattle.unit_table.proofs.Lemmas.{live_from}
 use Rattle.unit_table.proofs.runner.undercuts_from.Goals as goal
