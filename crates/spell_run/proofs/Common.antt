@@ -6,7 +6,7 @@ pub use Rattle.std.proofs.Common.{IfSome, ◌-◌, ◌≢◌, get_or, set, get_o
 pub use Rattle.std.proofs.Common.{length-set, replicate, rules}
 pub use Rattle.std.proofs.Math.IntN.{zero-*ℤ, *ℤ-one, *ℤ_comm}
 pub use Rattle.std.proofs.lemmas.Bool.{lt-ltb, le-ltb, cases_lt, eqb-true, ltb-true, eq-eqb}
-pub use Rattle.std.proofs.lemmas.Int.{ints, clamps, to_z-of_z, by_lt_z}
+pub use Rattle.std.proofs.lemmas.Int.{to_z-of_z, by_lt_z}
 pub use Rattle.std.proofs.lemmas.List.{length-replicate, get_or-replicate, get_or_past}
 pub use Rattle.std.proofs.lemmas.Option.{get_or_from_slice_get}
 pub use Rattle.std.specs.Int.{int_min}
@@ -19,6 +19,7 @@ pub use Rattle.shape_law.specs.Table.{Table, value_of, HasNone, offset_value, Is
 pub use Rattle.shape_law.specs.declared.step.Step.{Step}
 pub use Rattle.slope_list.specs.declared.slopes.Lowest.{Lowest}
 pub use Rattle.slope_piece.specs.Turn.{IsTurn}
+pub use Rattle.spell_run.proofs.Arithmetic.{signed, bounded}
 pub use Rattle.spell_run.proofs.Options.{same_some}
 pub use Rattle.spell_run.specs.Frontier.{IsFrontier, IsReached}
 pub use Rattle.spell_run.specs.Laws.{best_reserve, most_reserve, IsReserve, ReserveIsAKink, ReserveIsBest}

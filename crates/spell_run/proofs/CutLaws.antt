@@ -1,10 +1,10 @@
 -- A function cut above a power, and a step before a stop that only cuts.
 use Rattle.spell_run.proofs.Common.{◌≡◌, ℕ, zero, suc, ◌<◌, ◌≤◌, ◌⊎◌, inl, inr, ℤ, pos, negsuc, ◌+ℤ◌, ◌-ℤ◌, ◌*ℤ◌, ◌≤ℤ◌}
 use Rattle.spell_run.proofs.Common.{◌<ℤ◌, Bool, true, false, List, [], ◌∷◌, take, Option, Some, None, refl, sym, ap}
-use Rattle.spell_run.proofs.Common.{◌∙◌, subst, arith, slice_get, MatchOption, option_map, ints, by_lt_z, IsCostCurve}
+use Rattle.spell_run.proofs.Common.{◌∙◌, subst, arith, slice_get, MatchOption, option_map, by_lt_z, IsCostCurve}
 use Rattle.spell_run.proofs.Common.{curve_value, reserve_term, IsLeast, IsLeastIn, IsSum, IsCurveSum, Table, value_of}
 use Rattle.spell_run.proofs.Common.{offset_value, IsTurn, Curve, ThermalUnit, PriceLists, IsThermalUnit, int_at, cap_at}
-use Rattle.spell_run.proofs.Common.{step_at, IsKinked, IsStepped}
+use Rattle.spell_run.proofs.Common.{step_at, IsKinked, IsStepped, signed}
 use Rattle.slope_piece.specs.Pieces.{powers_to}
 use Rattle.spell_run.proofs.StepLaws.{under_cap, cap_over, under_most, step_sound}
 
@@ -18,8 +18,8 @@ get_before (x ∷ xs) (suc j) (suc k) w h low = get_before xs j k w h (omega ari
 
 between_by : (values : List ℤ) (d e z u w : ℤ) → offset_value values d ≡ Some u → offset_value values e ≡ Some w →
     d ≤ℤ z → z ≤ℤ e → (v : ℤ) × (offset_value values z ≡ Some v)
-between_by values (pos i) (pos j) (pos k) u w p q low high = get_before values j k w q (omega (arith, ints))
-between_by values (pos i) (pos j) (negsuc k) u w p q low high = absurd (omega (arith, ints))
+between_by values (pos i) (pos j) (pos k) u w p q low high = get_before values j k w q (omega signed)
+between_by values (pos i) (pos j) (negsuc k) u w p q low high = absurd (omega signed)
 between_by values (pos i) (negsuc j) z u w p q low high = cc
 between_by values (negsuc i) e z u w p q low high = cc
 
@@ -27,7 +27,7 @@ between_by values (negsuc i) e z u w p q low high = cc
 pub between_powers : (f : Table) (a b x u w : ℤ) → value_of f a ≡ Some u → value_of f b ≡ Some w → a ≤ℤ x → x ≤ℤ b →
     (v : ℤ) × (value_of f x ≡ Some v)
 between_powers f a b x u w p q low high = between_by f.values (a -ℤ f.lo) (b -ℤ f.lo) (x -ℤ f.lo) u w p q
-    (omega (arith, ints)) (omega (arith, ints))
+    (omega signed) (omega signed)
 
 -- ---- the powers up to one
 
@@ -47,44 +47,38 @@ take_past (suc n) (x ∷ xs) zero h = absurd (omega arith)
 take_past (suc n) (x ∷ xs) (suc k) h = take_past n xs k (omega arith)
 
 inside_by : (values : List ℤ) (d e : ℤ) → d ≤ℤ e → offset_value (take (powers_to e) values) d ≡ offset_value values d
-inside_by values (pos k) (pos m) h = take_inside (suc m) values k (omega (arith, ints))
-inside_by values (pos k) (negsuc m) h = absurd (omega (arith, ints))
+inside_by values (pos k) (pos m) h = take_inside (suc m) values k (omega signed)
+inside_by values (pos k) (negsuc m) h = absurd (omega signed)
 inside_by values (negsuc k) e h = refl
 
 past_by : (values : List ℤ) (d e : ℤ) → e <ℤ d → offset_value (take (powers_to e) values) d ≡ None
-past_by values (pos k) (pos m) h = take_past (suc m) values k (omega (arith, ints))
+past_by values (pos k) (pos m) h = take_past (suc m) values k (omega signed)
 past_by values (pos k) (negsuc m) h = take_past 0 values k (omega arith)
 past_by values (negsuc k) e h = refl
 
-pub cut_inside : (f : Table) (hi x : ℤ) → x ≤ℤ hi → value_of (cut f hi) x ≡ value_of f x
+pub cut_inside : (f : Table) {hi x : ℤ} → x ≤ℤ hi → value_of (cut f hi) x ≡ value_of f x
 unfolding cut
-cut_inside f hi x h = inside_by f.values (x -ℤ f.lo) (hi -ℤ f.lo) (omega (arith, ints))
+cut_inside f {hi = hi} {x = x} h = inside_by f.values (x -ℤ f.lo) (hi -ℤ f.lo) (omega signed)
 
-pub cut_past : (f : Table) (hi x : ℤ) → hi <ℤ x → value_of (cut f hi) x ≡ None
+pub cut_past : (f : Table) {hi x : ℤ} → hi <ℤ x → value_of (cut f hi) x ≡ None
 unfolding cut
-cut_past f hi x h = past_by f.values (x -ℤ f.lo) (hi -ℤ f.lo) (omega (arith, ints))
+cut_past f {hi = hi} {x = x} h = past_by f.values (x -ℤ f.lo) (hi -ℤ f.lo) (omega signed)
 
-none_some : {P : Type 0} (o : Option ℤ) (v : ℤ) → o ≡ None → o ≡ Some v → P
-none_some o v a b = cc
-
-pub cut_value : (f : Table) (hi x v : ℤ) → value_of (cut f hi) x ≡ Some v → (x ≤ℤ hi) × (value_of f x ≡ Some v)
-cut_value f hi x v h = by_lt_z hi x
-    (λ (l : hi <ℤ x). none_some (value_of (cut f hi) x) v (cut_past f hi x l) h)
-    (λ (l : x ≤ℤ hi). (l, sym (cut_inside f hi x l) ∙ h))
+pub cut_value : (f : Table) (hi x : ℤ) {v : ℤ} → value_of (cut f hi) x ≡ Some v → (x ≤ℤ hi) × (value_of f x ≡ Some v)
+cut_value f hi x h = by_lt_z hi x
+    (λ (l : hi <ℤ x). let none = cut_past f l in cc)
+    (λ (l : x ≤ℤ hi). (l, sym (cut_inside f l) ∙ h))
 
 cut_sum : (term : ℤ → ℤ) (f g : Table) (hi : ℤ) → IsSum term f g → IsSum term (cut f hi) (cut g hi)
 cut_sum term f g hi sum x = by_lt_z hi x
-    (λ (l : hi <ℤ x). cut_past g hi x l ∙ sym (ap (option_map (λ v. v +ℤ term x)) (cut_past f hi x l)))
-    (λ (l : x ≤ℤ hi). cut_inside g hi x l ∙ sum x ∙ sym (ap (option_map (λ v. v +ℤ term x)) (cut_inside f hi x l)))
+    (λ (l : hi <ℤ x). rw (cut_past g l, cut_past f l))
+    (λ (l : x ≤ℤ hi). rw (cut_inside g l, cut_inside f l) (sum x))
 
 cut_curve : (c : Curve) (f g : Table) (hi : ℤ) → IsCurveSum (curve_value c) (pos 0) f g →
     IsCurveSum (curve_value c) (pos 0) (cut f hi) (cut g hi)
-cut_curve c f g hi sum x =
-    let P : Option ℤ → Option ℤ → Type 0 = λ o p. MatchOption o (p ≡ None)
-    (λ v. (k : ℤ) × (curve_value c (x +ℤ pos 0) ≡ Some k) × (p ≡ Some (v +ℤ k))) in
-    by_lt_z hi x
-    (λ (l : hi <ℤ x). rw (cut_past f hi x l) (cut_past g hi x l))
-    (λ (l : x ≤ℤ hi). rw (cut_inside f hi x l) (subst (λ p. P (value_of f x) p) (sym (cut_inside g hi x l)) (sum x)))
+cut_curve c f g hi sum x = by_lt_z hi x
+    (λ (l : hi <ℤ x). rw (cut_past f l) (cut_past g l))
+    (λ (l : x ≤ℤ hi). rw (cut_inside f l, cut_inside g l) (sum x))
 
 -- ---- a step before a stop that has the same kink
 
@@ -93,7 +87,7 @@ kink_same mu a b up x (inl none) = ap (λ m. reserve_term m a up x) none ∙ fre
     sym (cc)
   where
     free : (c : ℤ) → reserve_term (pos 0) c up x ≡ pos 0
-    free c = omega (arith, ints)
+    free c = omega signed
 kink_same mu a b up x (inr same) = ap (λ c. reserve_term mu c up x) same
 
 module _ (g : ThermalUnit) (π : PriceLists) (k : ℕ) (starts : Bool)
@@ -124,12 +118,12 @@ module _ (g : ThermalUnit) (π : PriceLists) (k : ℕ) (starts : Bool)
     is_kinked = kinked_same f step.kinked step.is_kinked;
     is_window = record {
       reached = λ x v there.
-          (let inside = cut_value step.window high x v there in
+          (let inside = cut_value step.window high x there in
           let r = step.is_window.reached x v inside.1 in
           (r.0, r.1, (r.2.0, inside.0), r.3));
       least = λ x y w there inside reach.
           (let r = step.is_window.least x y w there (inside.0, high_is x inside.1) reach in
-          (r.0, cut_inside step.window high x inside.1 ∙ r.1, r.2));
+          (r.0, cut_inside step.window inside.1 ∙ r.1, r.2));
     };
     is_line = cut_sum (λ x. (int_at π.reserve k -ℤ int_at π.energy k) *ℤ x) step.window step.line high step.is_line;
     is_curve = cut_curve c step.line h high step.is_curve;
@@ -142,7 +136,7 @@ module _ (g : ThermalUnit) (π : PriceLists) (k : ℕ) (starts : Bool)
       let low : (y w : ℤ) → value_of h y ≡ Some w → g.min_power ≤ℤ y = λ y w there.
       (step_sound π k unit price curve starts false step y there).move.least in
       record {
-        there = cut_inside h high x least.inside.1 ∙ least.there;
-        least = λ y w there. (let i = cut_value h high y w there in least.least y w i.1 (low y w i.1) i.0);
-        first = λ y there. (let i = cut_value h high y v there in least.first y i.1 (low y v i.1) i.0);
+        there = cut_inside h least.inside.1 ∙ least.there;
+        least = λ y w there. (let i = cut_value h high y there in least.least y w i.1 (low y w i.1) i.0);
+        first = λ y there. (let i = cut_value h high y there in least.first y i.1 (low y v i.1) i.0);
       }

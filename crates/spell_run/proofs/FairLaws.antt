@@ -1,7 +1,7 @@
 -- The numbers of a unit's step are within limits, and the curve of its points is a cost of the step.
 use Rattle.spell_run.proofs.Common.{◌≡◌, ℕ, suc, ◌-◌, ◌<◌, ◌⊎◌, inl, inr, ℤ, pos, neg_ℤ, ◌+ℤ◌, ◌-ℤ◌, ◌≤ℤ◌, Bool, true}
 use Rattle.spell_run.proofs.Common.{false, cond, List, length, Some, refl, sym, ap, ◌∙◌, subst, arith}
-use Rattle.spell_run.proofs.Common.{w64, FitsSigned, slice_get, int_min, ints, clamps, to_z-of_z}
+use Rattle.spell_run.proofs.Common.{w64, FitsSigned, slice_get, int_min, to_z-of_z, bounded, signed}
 use Rattle.spell_run.proofs.Common.{get_or_from_slice_get, IsCostCurve, AreCostPoints, EnvelopeIsCost, curve_value}
 use Rattle.spell_run.proofs.Common.{end_of, IsLimitedCurve, same_some, Curve, ThermalUnit}
 use Rattle.spell_run.proofs.Common.{PriceLists, envelope, IsFrom, IsPower, IsOutput, IsCost, IsThermalUnit, ArePrices}
@@ -20,19 +20,19 @@ IsStep a b = a ≡ b
 
 pub cap_out : (g : ThermalUnit) (starts stops : Bool) → IsThermalUnit g → IsOutput (cap_at g starts stops)
 cap_out g true true unit = record {
-  at_least = (let c = unit.stop_limit.at_least in omega (arith, ints, clamps));
-  at_most = omega (arith, ints, clamps);
+  at_least = (let c = unit.stop_limit.at_least in omega bounded);
+  at_most = omega bounded;
 }
-cap_out g true false unit = record { at_least = omega (arith, ints, clamps); at_most = omega (arith, ints, clamps) }
-cap_out g false true unit = record { at_least = omega (arith, ints, clamps); at_most = omega (arith, ints, clamps) }
-cap_out g false false unit = record { at_least = omega (arith, ints, clamps); at_most = omega (arith, ints, clamps) }
+cap_out g true false unit = record { at_least = omega bounded; at_most = omega bounded }
+cap_out g false true unit = record { at_least = omega bounded; at_most = omega bounded }
+cap_out g false false unit = record { at_least = omega bounded; at_most = omega bounded }
 
 most_out : (g : ThermalUnit) (π : PriceLists) (k : ℕ) (starts stops : Bool) → IsThermalUnit g →
     IsOutput (step_at g π k starts stops).most
 most_out g π k starts true unit = least_of (cap_out g starts true unit)
   where
     least_of : {c : ℤ} → IsOutput c → IsOutput (int_min c (g.min_power +ℤ g.ramp_down))
-    least_of o = record { at_least = omega (arith, ints, clamps); at_most = omega (arith, ints, clamps) }
+    least_of o = record { at_least = omega bounded; at_most = omega bounded }
 most_out g π k starts false unit = cap_out g starts false unit
 
 pub step_fair : {g : ThermalUnit} {π : PriceLists} {k : ℕ} (starts stops : Bool) → IsThermalUnit g → ArePrices π →
@@ -41,22 +41,22 @@ step_fair {g = g} {π = π} {k = k} starts stops unit prices within =
     let e = prices.energy k (pos 0) within in
     let r = prices.reserve k (pos 0) (omega arith) in
     record {
-      least = record { at_least = unit.min_power.at_least; at_most = omega (arith, ints) };
+      least = record { at_least = unit.min_power.at_least; at_most = omega signed };
       most = most_out g π k starts stops unit;
       cap = cap_out g starts stops unit;
       ramp_up = unit.ramp_up;
       ramp_down = unit.ramp_down;
       reserve_price = r;
-      slope = record { at_least = omega (arith, ints); at_most = omega (arith, ints) };
+      slope = record { at_least = omega signed; at_most = omega signed };
     }
 
 -- ---- numbers as they are stored
 
 pub power_stored : {z : ℤ} → IsPower z → stored z ≡ z
-power_stored h = stored_is _ (record { at_least = omega (arith, ints); at_most = omega (arith, ints) })
+power_stored h = stored_is _ (record { at_least = omega signed; at_most = omega signed })
 
 pub output_stored : {z : ℤ} → IsOutput z → stored z ≡ z
-output_stored h = stored_is _ (record { at_least = omega (arith, ints); at_most = omega (arith, ints) })
+output_stored h = stored_is _ (record { at_least = omega signed; at_most = omega signed })
 
 -- the greatest power before a stop, as it is stored
 pub most_chosen : {g : ThermalUnit} {cap result : ℤ} → IsThermalUnit g → FitsSigned w64 cap → FitsSigned w64 result →
@@ -66,7 +66,7 @@ most_chosen {g = g} {cap = cap} {result = result} unit fits fits' is =
     let low = power_stored unit.min_power in
     let down = power_stored unit.ramp_down in
     let sum : stored (g.min_power +ℤ g.ramp_down) ≡ g.min_power +ℤ g.ramp_down = stored_is _
-    (record { at_least = omega (arith, ints); at_most = omega (arith, ints) }) in
+    (record { at_least = omega signed; at_most = omega signed }) in
     let top = to_z-of_z w64 cap fits in
     let here = to_z-of_z w64 result fits' in
     cc
@@ -90,14 +90,14 @@ module _ {g : ThermalUnit} {π : PriceLists} {k : ℕ} (starts stops : Bool) (un
   slope_within =
       let r = reserve_within in
       let e = energy_within in
-      record { at_least = omega (arith, ints); at_most = omega (arith, ints) }
+      record { at_least = omega signed; at_most = omega signed }
 
   slope_same : stored reserve -ℤ stored energy ≡ reserve -ℤ energy
   slope_same =
       let r = reserve_stored in
       let near = energy_within in
       let e : stored energy ≡ energy = stored_is _
-      (record { at_least = omega (arith, ints); at_most = omega (arith, ints) }) in
+      (record { at_least = omega signed; at_most = omega signed }) in
       cc
 
   pub slope_fits : FitsSigned w64 (stored reserve -ℤ stored energy)
@@ -159,13 +159,13 @@ module _ (g : ThermalUnit) (c : Curve) (unit : IsThermalUnit g) (curve : IsCostC
         rw (curve.ends n origin last) (unit.points n origin (omega arith)).at in
         record {
           blocks = curve.blocks;
-          first_place = (omega (arith, ints), omega (arith, ints));
-          last_place = (omega (arith, ints), omega (arith, ints));
+          first_place = (omega signed, omega signed);
+          last_place = (omega signed, omega signed);
           values = λ x v h.
               let spans = curve.inside x (rw h refl) in
-              let e : v ≡ envelope g.points x = same_some (curve_value c x) h (curve.value x spans) in
+              let e : v ≡ envelope g.points x = same_some h (curve.value x spans) in
               let cost : IsCost v = rw e (law g.points x points spans) in
-              (omega (arith, ints), omega (arith, ints));
+              (omega signed, omega signed);
         }
 
     pub cost_of_step : (π : PriceLists) (k : ℕ) (starts stops : Bool) → pos 0 ≤ℤ int_at π.reserve k →

@@ -1,10 +1,10 @@
 -- The frontier of a spell's first periods: its beginning, one more period, and the least costs that are read off it.
 use Rattle.spell_run.proofs.Common.{◌≡◌, ℕ, zero, suc, ◌+◌, ◌-◌, ◌*◌, ◌<◌, ◌≤◌, ◌⊎◌, inl, inr, ℤ, pos, neg_ℤ, ◌+ℤ◌}
 use Rattle.spell_run.proofs.Common.{◌≤ℤ◌, Bool, true, false, eqb, ltb, length, Option, Some, None, IfSome, refl, sym}
-use Rattle.spell_run.proofs.Common.{ap, ◌∙◌, subst, arith, ints, lt-ltb, length-replicate, IsCostCurve}
+use Rattle.spell_run.proofs.Common.{ap, ◌∙◌, subst, arith, lt-ltb, length-replicate, IsCostCurve}
 use Rattle.spell_run.proofs.Common.{EnvelopeIsCost, IsPoint, same_some, Table, value_of, Curve, ThermalUnit, PriceLists}
 use Rattle.spell_run.proofs.Common.{Schedule, IsFrom, IsOutput, IsThermalUnit, ArePrices, power_in, reserve_in, int_at}
-use Rattle.spell_run.proofs.Common.{IsWithin, IsReached, IsFrontier, IsDispatch, spell_cost}
+use Rattle.spell_run.proofs.Common.{IsWithin, IsReached, IsFrontier, IsDispatch, spell_cost, signed}
 use Rattle.spell_run.proofs.Common.{IsSpellAnswer, IsSpellWithin, cap_at, step_at, level, IsRun, IsStepped}
 use Rattle.spell_run.proofs.Common.{IsSmall, IsLeastCost, IsLeastCostIn}
 use Rattle.spell_run.proofs.RunLaws.{level_before, level_within, level_power, move_same}
@@ -23,7 +23,7 @@ within_more : {n m : ℕ} {v w : ℤ} → m ≡ suc n → IsWithin (n * 10000000
 within_more {n = n} {m = m} is h i =
     let size : m * 1000000000000000 ≡ n * 1000000000000000 + 1000000000000000 = ap (λ (k : ℕ). k * 1000000000000000) is
     ∙ omega arith in
-    record { at_least = omega (arith, ints); at_most = omega (arith, ints) }
+    record { at_least = omega signed; at_most = omega signed }
 
 -- a frontier is small
 pub small_frontier : {g : ThermalUnit} {π : PriceLists} {first t : ℕ} {f : Table} → t ≤ 168 → IsFrontier g π first t f →
@@ -31,7 +31,7 @@ pub small_frontier : {g : ThermalUnit} {π : PriceLists} {first t : ℕ} {f : Ta
 small_frontier {first = first} {t = t} few front x v h =
     let b = front.values x v h in
     let count : suc t - first ≤ 169 = omega arith in
-    (front.powers x v h, record { at_least = omega (arith, ints); at_most = omega (arith, ints) })
+    (front.powers x v h, record { at_least = omega signed; at_most = omega signed })
 
 -- ---- the beginning
 
@@ -39,7 +39,7 @@ module _ (g : ThermalUnit) (π : PriceLists) (first t : ℕ) {x : ℤ} {f : Tabl
     (out : IsOutput x) (none : (k : ℕ) → first ≤ suc k → suc k ≤ t → ⊥) (here : (d : Schedule) → level g first d t ≡ x)
     (cost : (d : Schedule) → spell_cost g π first t d ≡ pos 0) where
   nothing : (y v : ℤ) → value_of f y ≡ Some v → v ≡ pos 0
-  nothing y v h = let e = point.only y v h in same_some (value_of f x) (cc) point.there
+  nothing y v h = let e = point.only y v h in same_some (cc) point.there
 
   begin_at : IsFrontier g π first t f
   begin_at = record {
@@ -52,13 +52,13 @@ module _ (g : ThermalUnit) (π : PriceLists) (first t : ℕ) {x : ℤ} {f : Tabl
       cost = cost (blank (length π.energy)) ∙ sym (nothing y v h);
       idle = λ k is free. blank_reserve (length π.energy) k;
     };
-    complete = λ d run. (pos 0, ap (value_of f) (here d) ∙ point.there, let e = cost d in omega (arith, ints));
+    complete = λ d run. (pos 0, ap (value_of f) (here d) ∙ point.there, let e = cost d in omega signed);
     powers = λ y v h. rw (point.only y v h) out;
-    values = λ y v h. let z = nothing y v h in record { at_least = omega (arith, ints); at_most = omega (arith, ints) };
+    values = λ y v h. let z = nothing y v h in record { at_least = omega signed; at_most = omega signed };
   }
 
 pub least_power_out : {g : ThermalUnit} → IsThermalUnit g → IsOutput g.min_power
-least_power_out unit = record { at_least = unit.min_power.at_least; at_most = omega (arith, ints) }
+least_power_out unit = record { at_least = unit.min_power.at_least; at_most = omega signed }
 
 -- before a start in period suc b, and before a spell that goes on
 pub frontier_start : {g : ThermalUnit} (π : PriceLists) (b : ℕ) {f : Table} → IsThermalUnit g →
@@ -71,7 +71,7 @@ pub frontier_goes_on : {g : ThermalUnit} (π : PriceLists) {f : Table} → IsThe
     IsPoint g.power0 (pos 0) f → IsFrontier g π 0 0 f
 frontier_goes_on {g = g} π unit point =
     begin_at g π 0 0 point unit.power0 (λ k from until. absurd (omega arith))
-    (λ d. let e = level_within g 0 d 0 (omega arith) in omega (arith, ints)) (cost_zero g π)
+    (λ d. let e = level_within g 0 d 0 (omega arith) in omega signed) (cost_zero g π)
 
 pub begin_started : {g : ThermalUnit} (π : PriceLists) (first : ℕ) {f : Table} → IsThermalUnit g → 1 ≤ first →
     IsPoint g.min_power (pos 0) f → IsFrontier g π first (first - 1) f
@@ -125,7 +125,7 @@ module _ {g : ThermalUnit} {π : PriceLists} {first k : ℕ} {c : Curve} (unit :
     more_sound : (x v : ℤ) → value_of h x ≡ Some v → IsReached g π first (suc k) x v
     more_sound x v is =
         let m = moved x v is in
-        let b = build within from front m.before x m.there (omega (arith, ints)) m.not_negative in
+        let b = build within from front m.before x m.there (omega signed) m.not_negative in
         record {
           run = b.run;
           power_length = b.power_length;
@@ -146,13 +146,13 @@ module _ {g : ThermalUnit} {π : PriceLists} {first k : ℕ} {c : Curve} (unit :
         let s = step_complete π k unit reserve_price.at_least curve starts false step b.1 (run k from (omega arith))
         (reserve_not_negative d k) in
         let more = cost_more g π first k d from in
-        (s.0, ap (value_of h) (level_power g first d k from) ∙ s.1, omega (arith, ints))
+        (s.0, ap (value_of h) (level_power g first d k from) ∙ s.1, omega signed)
 
     more_powers : (x v : ℤ) → value_of h x ≡ Some v → IsOutput x
     more_powers x v is =
         let m = moved x v is in
         let u = (under_cap g starts false m.move.greatest).most in
-        record { at_least = omega (arith, ints); at_most = omega (arith, ints) }
+        record { at_least = omega signed; at_most = omega signed }
 
     pub frontier_more : IsFrontier g π first (suc k) h
     frontier_more = record {
@@ -193,7 +193,7 @@ module _ {g : ThermalUnit} {π : PriceLists} {first k : ℕ} {c : Curve} (unit :
   answer_by h reached under (Some v) least =
       let r = reached least.0 v least.1.there in
       answer_some r.0 r.1 (λ d dispatch.
-      let u = under d dispatch in let low = least.1.least (power_in d (suc k)) u.0 u.1 in omega (arith, ints))
+      let u = under d dispatch in let low = least.1.least (power_in d (suc k)) u.0 u.1 in omega signed)
 
   -- by a step that knows of the stop
   module _ {f h : Table} (front : IsFrontier g π first k f) {stops : Bool} (is_stop : stops ≡ ltb (suc k) periods)
@@ -206,12 +206,12 @@ module _ {g : ThermalUnit} {π : PriceLists} {first k : ℕ} {c : Curve} (unit :
         let m = rw (← is_stop) at whole in
         let s = step_complete π k unit reserve_price.at_least curve starts stops step b.1 m (reserve_not_negative d k) in
         let more = cost_more g π first k d from in
-        (s.0, s.1, omega (arith, ints))
+        (s.0, s.1, omega signed)
 
     end_reached : (x v : ℤ) → value_of h x ≡ Some v → Costs v × IsSpellWithin first (suc k) v
     end_reached x v is =
         let m = step_sound π k unit reserve_price.at_least curve starts stops step x is in
-        let b = build within from front m.before x m.there (omega (arith, ints)) m.not_negative in
+        let b = build within from front m.before x m.there (omega signed) m.not_negative in
         let whole = move_same (sym b.before) (sym b.power) (sym b.reserve) m.move in
         let parts = move_parts first k periods b.run (rw (← is_stop) whole) in
         let dispatch = dispatch_from_run b.run from (run_more b.run b.keeps parts.0) parts.1 in
@@ -253,13 +253,13 @@ module _ {g : ThermalUnit} {π : PriceLists} {first k : ℕ} {c : Curve} (unit :
           let parts = under_most g π k starts true top in
           let here = (r.keeps k from (omega arith)).greatest in
           let stop : (power_in d (suc k) +ℤ reserve_in d (suc k)) ≤ℤ cap_at g starts true = elim alike [
-            | inl free ↦ let none = r.idle k refl free in let low = parts.0 in omega (arith, ints)
-            | inr same ↦ omega (arith, ints)
+            | inl free ↦ let none = r.idle k refl free in let low = parts.0 in omega signed
+            | inr same ↦ omega signed
           ] in
           let under = under_cap g starts true stop in
           let may : MayEnd g periods k d = record {
             stop = λ low. under.stop refl;
-            leave = λ low. let l = parts.1 refl in omega (arith, ints);
+            leave = λ low. let l = parts.1 refl in omega signed;
           } in
           (d, dispatch_from_run d from r.keeps may, r.cost)
 
@@ -270,7 +270,7 @@ module _ {g : ThermalUnit} {π : PriceLists} {first k : ℕ} {c : Curve} (unit :
           let whole = move_whole first (run k from (omega arith)) (end_from_dispatch unit from dispatch) in
           let m = rw (lt-ltb (suc k) periods before) at whole in
           let kept = reserve_not_negative d k in
-          (m.least, most_over g π k starts true (omega (arith, ints)) m.leave)
+          (m.least, most_over g π k starts true (omega signed) m.leave)
 
       pub answer_alike : (o : Option ℤ) → IsLeastCostIn g.min_power high h o → IsAnswer g π first k o
       answer_alike None empty = (
@@ -288,7 +288,7 @@ module _ {g : ThermalUnit} {π : PriceLists} {first k : ℕ} {c : Curve} (unit :
           let u = under_front d dispatch in
           let inside = alike_inside d dispatch in
           let low = least.1.least (power_in d (suc k)) u.0 u.1 inside.0 inside.1 in
-          omega (arith, ints))
+          omega signed)
 
 -- ---- frontiers of the same periods have the same values
 
@@ -301,6 +301,6 @@ module _ {g : ThermalUnit} {π : PriceLists} {first t : ℕ} {f h : Table} (fron
       let at : value_of h x ≡ Some c.0 = ap (value_of h) (sym r.ends) ∙ c.1 in
       let q = other.sound x c.0 at in
       let d = front.complete q.run q.keeps in
-      let e = same_some (value_of f x) (ap (value_of f) (sym q.ends) ∙ d.1) there in
-      let same : c.0 ≡ v = omega (arith, ints) in
+      let e = same_some (ap (value_of f) (sym q.ends) ∙ d.1) there in
+      let same : c.0 ≡ v = omega signed in
       at ∙ ap Some same

@@ -1,8 +1,8 @@
 -- A period of one spell behind a run of another.
 use Rattle.spell_run.proofs.Common.{◌≡◌, ℕ, suc, ◌<◌, ◌≤◌, ℤ, Bool, true, false, eqb, Some, length}
-use Rattle.spell_run.proofs.Common.{refl, sym, ◌∙◌, arith, ints, eqb-true, Table, value_of, ThermalUnit}
+use Rattle.spell_run.proofs.Common.{refl, sym, ◌∙◌, arith, eqb-true, Table, value_of, ThermalUnit}
 use Rattle.spell_run.proofs.Common.{PriceLists, Schedule, IsThermalUnit, power_in, reserve_in, IsFrontier, IsDispatch}
-use Rattle.spell_run.proofs.Common.{IsMove, level, IsRun}
+use Rattle.spell_run.proofs.Common.{IsMove, level, IsRun, signed}
 use Rattle.spell_run.specs.Joins.{IsRunOn, IsDispatchOn, RunsGoOn, DispatchesGoOn, DispatchesAreRuns}
 use Rattle.spell_run.proofs.RunLaws.{level_power, move_same, run_more, IsBuilt, build, reserve_not_negative}
 use Rattle.spell_run.proofs.RunLaws.{dispatch_from_run, run_from_dispatch, end_from_dispatch}
@@ -32,7 +32,7 @@ module _ (g : ThermalUnit) (π : PriceLists) (first other k : ℕ) (f : Table) (
   -- the run of f that ends where d does, with the power and the reserve of d in the period after it
   joined : IsBuilt g π other k (level g first d k) v (power_in d (suc k)) (reserve_in d (suc k))
   joined =
-      build within (omega arith) front (level g first d k) (power_in d (suc k)) there (omega (arith, ints))
+      build within (omega arith) front (level g first d k) (power_in d (suc k)) there (omega signed)
       (reserve_not_negative d k)
 
   joined_run : IsRun g first (suc k) d → IsRun g other (suc k) joined.run
@@ -60,8 +60,8 @@ module _ (g : ThermalUnit) (π : PriceLists) (first other k : ℕ) (f : Table) (
         dispatch = j.run;
         keeps = dispatch_from_run j.run (omega arith) (joined_run (run_from_dispatch unit from dispatch))
             (record {
-              stop = λ inside. (let s = end.stop inside in omega (arith, ints));
-              leave = λ inside. (let s = end.leave inside in omega (arith, ints));
+              stop = λ inside. (let s = end.stop inside in omega signed);
+              leave = λ inside. (let s = end.leave inside in omega signed);
             });
         cost = j.cost;
       }

@@ -1,5 +1,7 @@
 -- The names from elsewhere that the proofs here cite.
 pub mod Common
+-- linear arithmetic over ℤ
+pub mod Arithmetic
 -- a value that is there is one
 pub mod Options
 -- a function cut above a power, and a step before a stop that only cuts

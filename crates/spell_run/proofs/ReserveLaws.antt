@@ -1,22 +1,23 @@
 -- The best reserve for given powers.
+use Rattle.spell_run.proofs.Common.{bounded, signed}
 use Rattle.spell_run.proofs.Common.{◌≡◌, ℤ, pos, ◌+ℤ◌, ◌-ℤ◌, ◌*ℤ◌, ◌≤ℤ◌, Bool, true, false, cond, ap}
-use Rattle.spell_run.proofs.Common.{arith, ◌<ℤ◌, int_lt, int_min, ints, clamps, by_lt_z, zero-*ℤ, *ℤ-one, mul-sub}
+use Rattle.spell_run.proofs.Common.{◌<ℤ◌, int_lt, int_min, by_lt_z, zero-*ℤ, *ℤ-one, mul-sub}
 use Rattle.spell_run.proofs.Common.{mul-mono_of, most_reserve, best_reserve, IsReserve, ReserveIsAKink, ReserveIsBest}
 
 pub positive_is : (a : ℤ) → pos 0 <ℤ a → int_lt (pos 0) a ≡ true
-positive_is a h = grind (arith, ints)
+positive_is a h = grind signed
 
 pub not_positive_is : (a : ℤ) → a ≤ℤ pos 0 → int_lt (pos 0) a ≡ false
-not_positive_is a h = grind (arith, ints)
+not_positive_is a h = grind signed
 
 min_less : (cap up q p : ℤ) → most_reserve cap up q p ≡ int_min cap (up +ℤ q) -ℤ p
-min_less cap up q p = omega (arith, ints, clamps)
+min_less cap up q p = omega bounded
 
 pub reserve_is_a_kink : ReserveIsAKink
 reserve_is_a_kink price cap up q p =
     let e = ap (λ (z : ℤ). price *ℤ z) (min_less cap up q p) in
     let f = mul-sub price (int_min cap (up +ℤ q)) p in
-    omega (arith, ints)
+    omega signed
 
 -- ---- the best reserve by cases
 
@@ -33,12 +34,12 @@ best_may price cap up q p h i =
     by_lt_z (pos 0) price
     (λ paid.
     rw (best_where_paid price cap up q p paid) (record {
-      least = omega (arith, ints, clamps);
-      greatest = omega (arith, ints, clamps);
-      ramp = omega (arith, ints, clamps);
+      least = omega bounded;
+      greatest = omega bounded;
+      ramp = omega bounded;
     }))
     (λ unpaid.
-    rw (best_where_not_paid price cap up q p unpaid) (record { least = omega (arith, ints); greatest = omega (arith, ints); ramp = omega (arith, ints) }))
+    rw (best_where_not_paid price cap up q p unpaid) (record { least = omega signed; greatest = omega signed; ramp = omega signed }))
 
 -- it earns what the most reserve earns
 pub best_earns : (price cap up q p : ℤ) → pos 0 ≤ℤ price →
@@ -47,7 +48,7 @@ best_earns price cap up q p h =
     by_lt_z (pos 0) price
     (λ paid. ap (λ (r : ℤ). price *ℤ r) (best_where_paid price cap up q p paid))
     (λ unpaid.
-    let z : price ≡ pos 0 = omega (arith, ints) in
+    let z : price ≡ pos 0 = omega signed in
     let none = zero-*ℤ (best_reserve price cap up q p) in
     let most = zero-*ℤ (most_reserve cap up q p) in
     let a = ap (λ (x : ℤ). x *ℤ best_reserve price cap up q p) z in
@@ -55,39 +56,39 @@ best_earns price cap up q p h =
     cc)
 
 pub at_most_most : (cap up q p r : ℤ) → IsReserve cap up q p r → r ≤ℤ most_reserve cap up q p
-at_most_most cap up q p r h = omega (arith, ints, clamps)
+at_most_most cap up q p r h = omega bounded
 
 pub best_is_best : (price cap up q p r : ℤ) → pos 0 ≤ℤ price → IsReserve cap up q p r →
     (price *ℤ r) ≤ℤ (price *ℤ best_reserve price cap up q p)
 best_is_best price cap up q p r h may =
     let m = mul-mono_of price r (most_reserve cap up q p) h (at_most_most cap up q p r may) in
     let e = best_earns price cap up q p h in
-    omega (arith, ints)
+    omega signed
 
 -- a product with a positive factor tells its other factor
 product_tells : (price r s : ℤ) → pos 0 <ℤ price → r ≤ℤ s → price *ℤ r ≡ price *ℤ s → r ≡ s
 product_tells price r s h low e =
     by_lt_z r s
     (λ less.
-    let one = mul-mono_of price (pos 1) (s -ℤ r) (omega (arith, ints)) (omega (arith, ints)) in
+    let one = mul-mono_of price (pos 1) (s -ℤ r) (omega signed) (omega signed) in
     let t = mul-sub price s r in
     let unit = *ℤ-one price in
-    absurd (omega (arith, ints)))
-    (λ same. omega (arith, ints))
+    absurd (omega signed))
+    (λ same. omega signed)
 
 pub reserve_is_best : ReserveIsBest
 reserve_is_best price cap up q p r h may =
     record {
-      may = best_may price cap up q p (omega (arith, ints)) (omega (arith, ints));
+      may = best_may price cap up q p (omega signed) (omega signed);
       best = best_is_best price cap up q p r h may;
       least = λ same.
           by_lt_z (pos 0) price
-          (λ paid. (let o = only paid same in omega (arith, ints)))
-          (λ unpaid. (let e = best_where_not_paid price cap up q p unpaid in omega (arith, ints)));
+          (λ paid. (let o = only paid same in omega signed))
+          (λ unpaid. (let e = best_where_not_paid price cap up q p unpaid in omega signed));
       only = only;
     }
   where
     only : pos 0 <ℤ price → price *ℤ r ≡ price *ℤ best_reserve price cap up q p → r ≡ best_reserve price cap up q p
     only paid same =
         product_tells price r (best_reserve price cap up q p) paid
-        (let e = best_where_paid price cap up q p paid in let m = at_most_most cap up q p r may in omega (arith, ints)) same
+        (let e = best_where_paid price cap up q p paid in let m = at_most_most cap up q p r may in omega signed) same

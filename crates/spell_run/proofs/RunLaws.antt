@@ -1,12 +1,12 @@
 -- Runs of periods: one more period, the periods that two schedules share, and dispatches.
 use Rattle.spell_run.proofs.Common.{◌≡◌, ℕ, zero, suc, ◌+◌, ◌-◌, ◌<◌, ◌≤◌, ◌≢◌, inl, inr, ℤ, pos, negsuc, ◌+ℤ◌, ◌-ℤ◌}
 use Rattle.spell_run.proofs.Common.{◌≤ℤ◌, Bool, true, false, cond, eqb, ltb, List, [], length, get_or, set, replicate}
-use Rattle.spell_run.proofs.Common.{refl, sym, ap, ◌∙◌, subst, arith, get_or-set_same, get_or-set_other, ints, clamps}
+use Rattle.spell_run.proofs.Common.{refl, sym, ap, ◌∙◌, subst, arith, get_or-set_same, get_or-set_other}
 use Rattle.spell_run.proofs.Common.{cases_lt, lt-ltb, le-ltb, ltb-true, eqb-true, eq-eqb, get_or-replicate, get_or_past}
 use Rattle.spell_run.proofs.Common.{length-replicate, ThermalUnit, PriceLists, Schedule, power_in, reserve_in, cap_of}
 use Rattle.spell_run.proofs.Common.{sum_below, sum_below-same, over_min, IsDispatch, net_cost_at, net_cost, spell_cost}
 use Rattle.spell_run.proofs.Common.{cap_at, IsMove, level, IsRun, IsThermalUnit, IsFrontier, Table}
-use Rattle.spell_run.proofs.Common.{value_of, Some, length-set}
+use Rattle.spell_run.proofs.Common.{value_of, Some, length-set, bounded, signed}
 use Rattle.spell_run.proofs.StepLaws.{IsUnder, under_cap, cap_over}
 
 -- ---- the power before a period
@@ -22,7 +22,7 @@ level_within g first d t h = ap (λ (b : Bool). cond b g.min_power (over_min g d
 
 pub level_power : (g : ThermalUnit) (first : ℕ) (d : Schedule) (k : ℕ) → first ≤ suc k →
     level g first d (suc k) ≡ power_in d (suc k)
-level_power g first d k h = let e = level_within g first d (suc k) h in omega (arith, ints)
+level_power g first d k h = let e = level_within g first d (suc k) h in omega signed
 
 -- ---- schedules that share periods
 
@@ -133,10 +133,10 @@ blank_reserve periods k = ap pos (blank_at periods k)
 
 pub natural : (x : ℤ) → pos 0 ≤ℤ x → (n : ℕ) × (x ≡ pos n)
 natural (pos n) h = (n, refl)
-natural (negsuc n) h = absurd (omega (arith, ints))
+natural (negsuc n) h = absurd (omega signed)
 
 pub reserve_not_negative : (d : Schedule) (k : ℕ) → pos 0 ≤ℤ reserve_in d (suc k)
-reserve_not_negative d k = omega (arith, ints)
+reserve_not_negative d k = omega signed
 
 -- a run up to k, and the period suc k after it
 pub record IsBuilt (g : ThermalUnit) (π : PriceLists) (first k : ℕ) (y w x r : ℤ) : Type 0 where
@@ -223,25 +223,25 @@ module _ {g : ThermalUnit} {periods first k : ℕ} (d : Schedule) (from : first 
 
   least_at : (t : ℕ) → 1 ≤ t → first ≤ t → t ≤ suc k → pos 0 ≤ℤ over_min g d t
   least_at zero one low until = absurd (omega arith)
-  least_at (suc j) one low until = let m = (run j low until).least in omega (arith, ints)
+  least_at (suc j) one low until = let m = (run j low until).least in omega signed
 
   greatest_at : (t : ℕ) → 1 ≤ t → first ≤ t → t ≤ suc k → (over_min g d t +ℤ reserve_in d t) ≤ℤ cap_of g false false
   greatest_at zero one low until = absurd (omega arith)
-  greatest_at (suc j) one low until = let u = (under j low until).most in omega (arith, ints, clamps)
+  greatest_at (suc j) one low until = let u = (under j low until).most in omega bounded
 
   start_at : (t : ℕ) → t ≡ first → 1 ≤ t → (over_min g d t +ℤ reserve_in d t) ≤ℤ cap_of g true false
   start_at zero is one = absurd (omega arith)
   start_at (suc j) is one =
       let u = under j (omega arith) (omega arith) in
       let b = u.start (eq-eqb first (suc j) (sym is)) in
-      omega (arith, ints, clamps)
+      omega bounded
 
   enter_at : (t : ℕ) → t ≡ first → 1 ≤ t → (over_min g d t +ℤ reserve_in d t) ≤ℤ g.ramp_up
   enter_at zero is one = absurd (omega arith)
   enter_at (suc j) is one =
       let m = (run j (omega arith) (omega arith)).ramp_up in
       let l = level_before g first d j (omega arith) in
-      omega (arith, ints)
+      omega signed
 
   pub dispatch_from_run : IsDispatch g periods first (suc k) d
   dispatch_from_run = record {
@@ -252,15 +252,15 @@ module _ {g : ThermalUnit} {periods first k : ℕ} (d : Schedule) (from : first 
     ramp_up = λ j low until.
         let m = (run j (omega arith) until).ramp_up in
         let l = level_within g first d j low in
-        omega (arith, ints);
+        omega signed;
     ramp_down = λ j low until.
         let m = (run j (omega arith) until).ramp_down in
         let l = level_within g first d j low in
-        omega (arith, ints);
+        omega signed;
     stop = λ inside one.
         let u = (under k from (omega arith)).most in
         let b = end.stop inside in
-        omega (arith, ints, clamps);
+        omega bounded;
     leave = end.leave;
     stop_at_once = λ inside none. absurd (omega arith);
     leave_at_once = λ inside none. absurd (omega arith);
@@ -273,11 +273,11 @@ module _ {g : ThermalUnit} {periods first k : ℕ} {d : Schedule} (unit : IsTher
   cap_here j low until =
       let a = h.greatest (suc j) (omega arith) low until in
       cap_over g (eqb first (suc j)) false (record {
-        most = omega (arith, ints, clamps);
+        most = omega bounded;
         start = λ e.
             let is = eqb-true first (suc j) e in
             let b = rw is at (h.start (omega arith)) in
-            omega (arith, ints, clamps);
+            omega bounded;
         stop = λ e. cc;
       })
 
@@ -291,10 +291,10 @@ module _ {g : ThermalUnit} {periods first k : ℕ} {d : Schedule} (unit : IsTher
             let up = h.ramp_up j inside until in
             let down = h.ramp_down j inside until in
             record {
-              least = omega (arith, ints);
+              least = omega signed;
               greatest = cap_here j low until;
-              ramp_up = omega (arith, ints);
-              ramp_down = omega (arith, ints);
+              ramp_up = omega signed;
+              ramp_down = omega signed;
               leave = λ e. cc;
             }
         | inl before ↦
@@ -302,16 +302,16 @@ module _ {g : ThermalUnit} {periods first k : ℕ} {d : Schedule} (unit : IsTher
             let l = level_before g first d j before in
             let up = rw is at (h.enter (omega arith)) in
             record {
-              least = omega (arith, ints);
+              least = omega signed;
               greatest = cap_here j low until;
-              ramp_up = omega (arith, ints);
-              ramp_down = omega (arith, ints);
+              ramp_up = omega signed;
+              ramp_down = omega signed;
               leave = λ e. cc;
             }
       ]
 
   pub end_from_dispatch : MayEnd g periods k d
   end_from_dispatch = record {
-    stop = λ inside. let s = h.stop inside (omega arith) in omega (arith, ints, clamps);
+    stop = λ inside. let s = h.stop inside (omega arith) in omega bounded;
     leave = h.leave;
   }

@@ -1,7 +1,7 @@
 -- A step on a function of the power is one period of a spell: each new value is an old one and a move, and no move is
 -- cheaper.
 use Rattle.spell_run.proofs.Common.{◌≡◌, ℕ, ℤ, pos, neg_ℤ, ◌+ℤ◌, ◌-ℤ◌, ◌*ℤ◌, ◌≤ℤ◌, Bool, true, false, Some, refl}
-use Rattle.spell_run.proofs.Common.{ap, ◌∙◌, subst, arith, IsTrue, option_map, int_min, ints, clamps}
+use Rattle.spell_run.proofs.Common.{ap, ◌∙◌, subst, IsTrue, option_map, int_min, bounded, signed}
 use Rattle.spell_run.proofs.Common.{*ℤ_comm, IsCostCurve, AreCostPoints, EnvelopeIsCost, curve_value, reserve_term}
 use Rattle.spell_run.proofs.Common.{same_some, Table, value_of, Curve, ThermalUnit, PriceLists, envelope, IsFrom}
 use Rattle.spell_run.proofs.Common.{IsThermalUnit, Spans, int_at, mul-sub, IsWithin, product_within, most_reserve}
@@ -19,22 +19,22 @@ pub record IsUnder (g : ThermalUnit) (starts stops : Bool) (z : ℤ) : Type 0 wh
 
 pub under_cap : (g : ThermalUnit) (starts stops : Bool) {z : ℤ} → z ≤ℤ cap_at g starts stops → IsUnder g starts stops z
 under_cap g true true h = record {
-  most = omega (arith, ints, clamps);
-  start = λ _. omega (arith, ints, clamps);
+  most = omega bounded;
+  start = λ _. omega bounded;
   stop = λ _.
-      omega (arith, ints, clamps);
+      omega bounded;
 }
 under_cap g true false h = record
-    { most = omega (arith, ints, clamps); start = λ _. omega (arith, ints, clamps); stop = λ e. cc }
+    { most = omega bounded; start = λ _. omega bounded; stop = λ e. cc }
 under_cap g false true h = record
-    { most = omega (arith, ints, clamps); start = λ e. cc; stop = λ _. omega (arith, ints, clamps) }
-under_cap g false false h = record { most = omega (arith, ints, clamps); start = λ e. cc; stop = λ e. cc }
+    { most = omega bounded; start = λ e. cc; stop = λ _. omega bounded }
+under_cap g false false h = record { most = omega bounded; start = λ e. cc; stop = λ e. cc }
 
 pub cap_over : (g : ThermalUnit) (starts stops : Bool) {z : ℤ} → IsUnder g starts stops z → z ≤ℤ cap_at g starts stops
-cap_over g true true h = let b = h.start refl in let c = h.stop refl in omega (arith, ints, clamps)
-cap_over g true false h = let b = h.start refl in omega (arith, ints, clamps)
-cap_over g false true h = let c = h.stop refl in omega (arith, ints, clamps)
-cap_over g false false h = omega (arith, ints, clamps)
+cap_over g true true h = let b = h.start refl in let c = h.stop refl in omega bounded
+cap_over g true false h = let b = h.start refl in omega bounded
+cap_over g false true h = let c = h.stop refl in omega bounded
+cap_over g false false h = omega bounded
 
 -- the greatest power of a step
 pub under_most : (g : ThermalUnit) (π : PriceLists) (k : ℕ) (starts stops : Bool) {x : ℤ} →
@@ -42,14 +42,14 @@ pub under_most : (g : ThermalUnit) (π : PriceLists) (k : ℕ) (starts stops : B
     (x ≤ℤ cap_at g starts stops) × (IsTrue stops → (x -ℤ g.min_power) ≤ℤ g.ramp_down)
 under_most g π k starts true {x = x} h =
     let z : x ≤ℤ int_min (cap_at g starts true) (g.min_power +ℤ g.ramp_down) = h in
-    (omega (arith, ints, clamps), λ _. omega (arith, ints, clamps))
+    (omega bounded, λ _. omega bounded)
 under_most g π k starts false h = (h, λ e. cc)
 
 pub most_over : (g : ThermalUnit) (π : PriceLists) (k : ℕ) (starts stops : Bool) {x : ℤ} → x ≤ℤ cap_at g starts stops →
     (IsTrue stops → (x -ℤ g.min_power) ≤ℤ g.ramp_down) → x ≤ℤ (step_at g π k starts stops).most
 most_over g π k starts true {x = x} h leave =
     let l = leave refl in
-    let z : x ≤ℤ int_min (cap_at g starts true) (g.min_power +ℤ g.ramp_down) = omega (arith, ints, clamps) in
+    let z : x ≤ℤ int_min (cap_at g starts true) (g.min_power +ℤ g.ramp_down) = omega bounded in
     z
 most_over g π k starts false h leave = h
 
@@ -61,7 +61,7 @@ sub_mul a b c =
     let f = mul-sub c a b in
     let i = *ℤ_comm c a in
     let j = *ℤ_comm c b in
-    omega (arith, ints)
+    omega signed
 
 -- the parts of a step make up the net cost at the most reserve
 parts_are : (mu lambda cap up q p w e : ℤ) →
@@ -71,7 +71,7 @@ parts_are mu lambda cap up q p w e =
     let k = reserve_is_a_kink mu cap up q p in
     let s = sub_mul mu lambda p in
     let t : reserve_term mu cap up q ≡ neg_ℤ (mu *ℤ int_min cap (up +ℤ q)) = refl in
-    omega (arith, ints)
+    omega signed
 
 -- ---- one step
 
@@ -91,8 +91,8 @@ module _ {g : ThermalUnit} (π : PriceLists) (k : ℕ) {c : Curve} (unit : IsThe
     (price : pos 0 ≤ℤ int_at π.reserve k) (curve : IsCostCurve g.points c) where
   spans : (x : ℤ) → g.min_power ≤ℤ x → x ≤ℤ g.max_power → Spans g.points x x
   spans x low high = record {
-    first = λ d. let e = unit.span.first d in omega (arith, ints);
-    last = λ n d is. let e = unit.span.last n d is in omega (arith, ints);
+    first = λ d. let e = unit.span.first d in omega signed;
+    last = λ n d is. let e = unit.span.last n d is in omega signed;
   }
 
   pub cost_on : {x : ℤ} → g.min_power ≤ℤ x → x ≤ℤ g.max_power → curve_value c x ≡ Some (envelope g.points x)
@@ -114,16 +114,16 @@ module _ {g : ThermalUnit} (π : PriceLists) (k : ℕ) {c : Curve} (unit : IsThe
     pub step_sound : (x : ℤ) {v : ℤ} → value_of h x ≡ Some v → IsFromMove g π k starts stops f x v
     step_sound x {v = v} is =
         let r = raised (curve_value c) (x +ℤ pos 0) v (value_of step.line x) (value_of h x) (step.is_curve x) is in
-        let l = added line_term x r.0 (value_of step.window x) (value_of step.line x) (step.is_line x) r.2 in
+        let l = added line_term x (step.is_line x) r.2 in
         let w = step.is_window.reached x l.0 l.1 in
         let q = w.0 in
-        let b = added kink_term q l.0 (value_of f q) (value_of step.kinked q) (step.is_kinked q) w.1 in
+        let b = added kink_term q (step.is_kinked q) w.1 in
         let low = w.2.0 in
         let high = under_most g π k starts stops w.2.1 in
         let u = under_cap g starts stops high.0 in
-        let at : x +ℤ pos 0 ≡ x = omega (arith, ints) in
-        let e = same_some (curve_value c x) (subst (λ (y : ℤ). curve_value c y ≡ Some r.1) at r.3) (cost_on low u.most) in
-        let may = best_may mu cap g.ramp_up q x high.0 (omega (arith, ints)) in
+        let at : x +ℤ pos 0 ≡ x = omega signed in
+        let e = same_some (subst (λ (y : ℤ). curve_value c y ≡ Some r.1) at r.3) (cost_on low u.most) in
+        let may = best_may mu cap g.ramp_up q x high.0 (omega signed) in
         let earns = best_earns mu cap g.ramp_up q x price in
         let parts = parts_are mu (int_at π.energy k) cap g.ramp_up q x b.0 r.1 in
         record {
@@ -132,27 +132,27 @@ module _ {g : ThermalUnit} (π : PriceLists) (k : ℕ) {c : Curve} (unit : IsThe
           reserve = best_reserve mu cap g.ramp_up q x;
           there = b.1;
           not_negative = may.least;
-          idle = λ none. best_where_not_paid mu cap g.ramp_up q x (omega (arith, ints));
+          idle = λ none. best_where_not_paid mu cap g.ramp_up q x (omega signed);
           move = record {
             least = low;
             greatest = may.greatest;
             ramp_up = may.ramp;
-            ramp_down = omega (arith, ints);
+            ramp_down = omega signed;
             leave = high.1;
           };
-          cost = omega (arith, ints);
+          cost = omega signed;
         }
 
     pub step_complete : {q w x r : ℤ} → value_of f q ≡ Some w → IsMove g starts stops q x r → pos 0 ≤ℤ r →
         (v : ℤ) × (value_of h x ≡ Some v) × (v ≤ℤ (w +ℤ net_cost_at g π k x r))
     step_complete {q = q} {w = w} {x = x} {r = r} there move kept =
-        let under : x ≤ℤ cap = let top = move.greatest in omega (arith, ints) in
+        let under : x ≤ℤ cap = let top = move.greatest in omega signed in
         let u = under_cap g starts stops under in
         let high = most_over g π k starts stops under move.leave in
         let kinked : value_of step.kinked q ≡ Some (w +ℤ kink_term q) = step.is_kinked q ∙
         ap (option_map (λ v. v +ℤ kink_term q)) there in
         let n = step.is_window.least x q (w +ℤ kink_term q) kinked (move.least, high)
-        (omega (arith, ints), omega (arith, ints)) in
+        (omega signed, omega signed) in
         let line : value_of step.line x ≡ Some (n.0 +ℤ line_term x) = step.is_line x ∙
         ap (option_map (λ v. v +ℤ line_term x)) n.1 in
         let p = on_curve x (n.0 +ℤ line_term x) line move.least u.most in
@@ -161,14 +161,14 @@ module _ {g : ThermalUnit} (π : PriceLists) (k : ℕ) {c : Curve} (unit : IsThe
         let best = best_is_best mu cap g.ramp_up q x r price may in
         let earns = best_earns mu cap g.ramp_up q x price in
         let parts = parts_are mu (int_at π.energy k) cap g.ramp_up q x w (envelope g.points x) in
-        ((n.0 +ℤ line_term x) +ℤ envelope g.points x, p, omega (arith, ints))
+        ((n.0 +ℤ line_term x) +ℤ envelope g.points x, p, omega signed)
       where
         on_curve : (x v : ℤ) → value_of step.line x ≡ Some v → g.min_power ≤ℤ x → x ≤ℤ g.max_power →
             value_of h x ≡ Some (v +ℤ envelope g.points x)
         on_curve x v is low high =
             let m = rw is at (step.is_curve x) in
-            let at : x +ℤ pos 0 ≡ x = omega (arith, ints) in
-            let e = same_some (curve_value c x) (subst (λ (y : ℤ). curve_value c y ≡ Some m.0) at m.1) (cost_on low high) in
+            let at : x +ℤ pos 0 ≡ x = omega signed in
+            let e = same_some (subst (λ (y : ℤ). curve_value c y ≡ Some m.0) at m.1) (cost_on low high) in
             cc
 
   -- what a move costs is far within the limits
@@ -180,15 +180,15 @@ module _ {g : ThermalUnit} (π : PriceLists) (k : ℕ) {c : Curve} (unit : IsThe
       let u = under_cap g starts stops move.greatest in
       let points : AreCostPoints g.points = record
       { some = unit.some_point; count = unit.point_count; points = unit.points; ordered = unit.points_ordered } in
-      let e = law g.points x points (spans x least (omega (arith, ints))) in
+      let e = law g.points x points (spans x least (omega signed)) in
       let reserve_price = product_within 10000000 10000000 (int_at π.energy k) x energy
-      (record { at_least = omega (arith, ints); at_most = omega (arith, ints) })
+      (record { at_least = omega signed; at_most = omega signed })
       in
       let worth = product_within 10000000 10000000 (int_at π.reserve k) r
-      (record { at_least = omega (arith, ints); at_most = high })
-      (record { at_least = kept; at_most = omega (arith, ints) }) in
+      (record { at_least = omega signed; at_most = high })
+      (record { at_least = kept; at_most = omega signed }) in
       let a = e.at_least in
-      record { at_least = omega (arith, ints); at_most = omega (arith, ints) }
+      record { at_least = omega signed; at_most = omega signed }
 
 -- ---- the best reserve of a step
 
@@ -204,8 +204,8 @@ module _ (g : ThermalUnit) (π : PriceLists) (k : ℕ) (price : pos 0 ≤ℤ int
   net_of_best =
       let parts = parts_are reserve_price (int_at π.energy k) cap g.ramp_up q x (pos 0) (envelope g.points x) in
       let earns = best_earns reserve_price cap g.ramp_up q x price in
-      omega (arith, ints)
+      omega signed
 
   pub net_at_least : {r : ℤ} → IsReserve cap g.ramp_up q x r →
       net_cost_at g π k x (best_reserve reserve_price cap g.ramp_up q x) ≤ℤ net_cost_at g π k x r
-  net_at_least {r = r} may = let best = best_is_best reserve_price cap g.ramp_up q x r price may in omega (arith, ints)
+  net_at_least {r = r} may = let best = best_is_best reserve_price cap g.ramp_up q x r price may in omega signed

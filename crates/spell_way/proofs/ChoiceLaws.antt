@@ -1,6 +1,6 @@
 -- The powers and the reserve of a period as they are stored, and that they stay within limits.
-use Rattle.spell_way.proofs.Common.{◌≡◌, ℕ, ℤ, pos, nat_abs, ◌+ℤ◌, ◌-ℤ◌, ◌≤ℤ◌, ◌<ℤ◌, sym, ◌∙◌, arith, w64}
-use Rattle.spell_way.proofs.Common.{FitsSigned, int_min, ints, to_z-of_z, Schedule, IsOutput}
+use Rattle.spell_way.proofs.Common.{◌≡◌, ℕ, ℤ, pos, nat_abs, ◌+ℤ◌, ◌-ℤ◌, ◌≤ℤ◌, ◌<ℤ◌, sym, ◌∙◌, w64}
+use Rattle.spell_way.proofs.Common.{FitsSigned, int_min, to_z-of_z, Schedule, IsOutput, signed}
 use Rattle.spell_way.proofs.Common.{Step, IsWritten, best_reserve, IsFairStep}
 use Rattle.plain_lists.proofs.SignedLaws.{stored, stored_is}
 use Rattle.spell_run.proofs.FairLaws.{output_stored, power_stored}
@@ -13,11 +13,11 @@ module _ {s : Step} {p q : ℤ} (fair : IsFairStep s) (p_out : IsOutput p) (q_ou
       stored result ≡ best_reserve s.reserve_price s.cap s.ramp_up q p
   reserve_is result fits paid is =
       let under : stored (s.cap -ℤ p) ≡ s.cap -ℤ p = stored_is _
-      (record { at_least = omega (arith, ints); at_most = omega (arith, ints) }) in
+      (record { at_least = omega signed; at_most = omega signed }) in
       let ahead : stored (s.ramp_up +ℤ q) ≡ s.ramp_up +ℤ q = stored_is _
-      (record { at_least = omega (arith, ints); at_most = omega (arith, ints) }) in
+      (record { at_least = omega signed; at_most = omega signed }) in
       let rise : stored ((s.ramp_up +ℤ q) -ℤ p) ≡ (s.ramp_up +ℤ q) -ℤ p = stored_is _
-      (record { at_least = omega (arith, ints); at_most = omega (arith, ints) }) in
+      (record { at_least = omega signed; at_most = omega signed }) in
       let most = rw (
         output_stored fair.cap,
         output_stored p_out,
@@ -32,7 +32,7 @@ module _ {s : Step} {p q : ℤ} (fair : IsFairStep s) (p_out : IsOutput p) (q_ou
   pub reserve_out : p ≤ℤ s.cap → (p -ℤ q) ≤ℤ s.ramp_up → IsOutput (best_reserve s.reserve_price s.cap s.ramp_up q p)
   reserve_out under rise =
       let may = best_may s.reserve_price s.cap s.ramp_up q p under rise in
-      record { at_least = may.least; at_most = omega (arith, ints) }
+      record { at_least = may.least; at_most = omega signed }
 
 -- ---- what is written
 
@@ -40,7 +40,7 @@ cast_is : {z : ℤ} → IsOutput z → pos (nat_abs (stored z)) ≡ z
 cast_is {z = z} h = rw (output_stored h) (abs_is z h.at_least)
   where
     abs_is : (z : ℤ) → pos 0 ≤ℤ z → pos (nat_abs z) ≡ z
-    abs_is z a = omega (arith, ints)
+    abs_is z a = omega signed
 
 pub written_cast : {k : ℕ} {p r b : ℤ} {d d' : Schedule} → IsOutput p → IsOutput r → r ≡ b →
     IsWritten k (pos (nat_abs (stored p))) (pos (nat_abs (stored r))) d d' → IsWritten k p b d d'

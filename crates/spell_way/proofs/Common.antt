@@ -5,7 +5,7 @@ pub use Rattle.std.proofs.Common.{◌⊎◌, inl, inr, Bool, true, false, ltb, e
 pub use Rattle.std.proofs.Common.{◌-◌, get_or}
 pub use Rattle.std.proofs.Common.{◌&&◌, rules}
 pub use Rattle.std.proofs.lemmas.Bool.{cases_lt, eq-eqb, ne_eqb, and_right}
-pub use Rattle.std.proofs.lemmas.Int.{ints, clamps, to_z-of_z, by_lt_z}
+pub use Rattle.std.proofs.lemmas.Int.{to_z-of_z, by_lt_z}
 pub use Rattle.std.specs.Int.{int_min, int_max}
 pub use Rattle.std.specs.Option.{option_map}
 pub use Rattle.std.specs.Prelude.{IsTrue}
@@ -16,6 +16,7 @@ pub use Rattle.shape_law.specs.Table.{Table, value_of}
 pub use Rattle.shape_law.specs.declared.step.Step.{Step}
 pub use Rattle.slope_list.specs.declared.slopes.Lowest.{Lowest}
 pub use Rattle.slope_piece.specs.Turn.{IsTurn, IsBottom, IsFirst, IsLast}
+pub use Rattle.spell_run.proofs.Arithmetic.{signed, bounded}
 pub use Rattle.spell_run.proofs.Options.{same_some}
 pub use Rattle.spell_way.specs.Entries.{IsOnFromTo, IsSameOutside}
 pub use Rattle.spell_way.specs.Ways.{IsWritten, IsChosen, IsWayFrom, stops_at}

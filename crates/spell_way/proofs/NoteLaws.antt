@@ -1,8 +1,9 @@
 -- The way back by what the steps noted: the power nearest to the turn is the cheapest power before, and the periods
 -- that are written for it are a way on.
+use Rattle.spell_way.proofs.Common.{bounded, signed}
 use Rattle.spell_way.proofs.Common.{◌≡◌, ℕ, zero, suc, ◌-◌, ◌<◌, ◌≤◌, ltb, eqb, ◌⊎◌, inl, inr, ℤ, pos, ◌+ℤ◌, ◌-ℤ◌, ◌≤ℤ◌}
 use Rattle.spell_way.proofs.Common.{◌<ℤ◌, Bool, false, length, Some, sym, ap, ◌∙◌, subst, arith, option_map, int_min}
-use Rattle.spell_way.proofs.Common.{int_max, ints, clamps, by_lt_z, EnvelopeIsCost, reserve_term, IsPoint, IsLeast}
+use Rattle.spell_way.proofs.Common.{int_max, by_lt_z, EnvelopeIsCost, reserve_term, IsPoint, IsLeast}
 use Rattle.spell_way.proofs.Common.{IsLeastIn, Reaches, same_some, Table, value_of, Step, IsBottom, IsTurn, IsFirst}
 use Rattle.spell_way.proofs.Common.{IsLast, ThermalUnit, PriceLists, Schedule, IsOutput, IsThermalUnit, ArePrices}
 use Rattle.spell_way.proofs.Common.{int_at, Lowest, Note, IsOnFromTo, IsSameOutside, IsFrontier, IsWritten, IsChosen}
@@ -34,7 +35,7 @@ module _ {k : Table} {m a b va vb lo hi y w : ℤ} (bottom : IsBottom k m) (firs
         let p = to m bottom.value bottom.there in
         let q = from y w there in
         let r = to y w there in
-        between_powers k a b near va vb first last (omega (arith, ints, clamps)) (omega (arith, ints, clamps))
+        between_powers k a b near va vb first last (omega bounded) (omega bounded)
 
     pub near_least : (v : ℤ) × IsLeastIn lo hi k v near
     near_least =
@@ -44,23 +45,23 @@ module _ {k : Table} {m a b va vb lo hi y w : ℤ} (bottom : IsBottom k m) (firs
         let r = to y w there in (
           v,
           record {
-            inside = (omega (arith, ints, clamps), omega (arith, ints, clamps));
+            inside = (omega bounded, omega bounded);
             there = at_near;
             least = λ z u at above below.
                 let za = from z u at in
                 let zb = to z u at in
                 by_lt_z z near
-                (λ (l : z <ℤ near). let s = bottom.falls z near u v at at_near l (omega (arith, ints, clamps)) in
-                omega (arith, ints))
+                (λ (l : z <ℤ near). let s = bottom.falls z near u v at at_near l (omega bounded) in
+                omega signed)
                 (λ (l : near ≤ℤ z). by_lt_z near m
-                (λ (s : near <ℤ m). let e : near ≡ z = omega (arith, ints, clamps) in
-                let same = same_some (value_of k near) at_near (ap (value_of k) e ∙ at) in omega (arith, ints))
+                (λ (s : near <ℤ m). let e : near ≡ z = omega bounded in
+                let same = same_some at_near (ap (value_of k) e ∙ at) in omega signed)
                 (λ (s : m ≤ℤ near). bottom.rises near z v u at_near at s l));
             first = λ z at above below.
                 let za = from z v at in
                 by_lt_z z near
-                (λ (l : z <ℤ near). let s = bottom.falls z near v v at at_near l (omega (arith, ints, clamps)) in
-                absurd (omega (arith, ints)))
+                (λ (l : z <ℤ near). let s = bottom.falls z near v v at at_near l (omega bounded) in
+                absurd (omega signed))
                 (λ (l : near ≤ℤ z). l);
           },
         )
@@ -76,7 +77,7 @@ cheapest_near {s = s} {f = f} {a = a} {b = b} {va = va} {y = y} {w = w} turn fir
     ap (option_map (λ v. v +ℤ term p)) at in
     let lowered : (p v : ℤ) → value_of kinked p ≡ Some v →
     (u : ℤ) × (value_of f p ≡ Some u) × (v ≡ u +ℤ term p) = λ p v at.
-    added term p v (value_of f p) (value_of kinked p) (turn.1 p) at in
+    added term p (turn.1 p) at in
     let least = near_least turn.2 (raised a va first.there) (raised b last.value last.there)
     (λ p v at. let u = lowered p v at in first.first p u.0 u.1)
     (λ p v at. let u = lowered p v at in last.last p u.0 u.1) (raised y w there) reach.0 reach.1 in
@@ -113,14 +114,14 @@ module _ {g : ThermalUnit} {π : PriceLists} {first k : ℕ} (unit : IsThermalUn
     reached : (y w : ℤ) × (value_of noted.before y ≡ Some w) × Reaches g.ramp_up g.ramp_down x y
     reached =
         let m = step_sound π k unit price noted.is_curve starts stops noted.stepped x there in
-        (m.before, m.old, m.there, (omega (arith, ints), omega (arith, ints)))
+        (m.before, m.old, m.there, (omega signed, omega signed))
 
     -- and the power is one of the step
     pub power_range : IsOutput x × (x ≤ℤ cap_at g starts stops)
     power_range =
         let m = step_sound π k unit price noted.is_curve starts stops noted.stepped x there in
         let cap = cap_out g starts stops unit in
-        (record { at_least = omega (arith, ints); at_most = omega (arith, ints) }, omega (arith, ints))
+        (record { at_least = omega signed; at_most = omega signed }, omega signed)
 
     module _ {s : Step} {begins : Bool} {y : ℤ} (is : s ≡ step_at g π k begins stops) (same : begins ≡ starts)
         (near : (f : Table) (va p w : ℤ) → IsTurn s f n.turn → IsFirst f n.first va → IsLast f n.last →
@@ -137,21 +138,20 @@ module _ {g : ThermalUnit} {π : PriceLists} {first k : ℕ} (unit : IsThermalUn
       pub before_out : IsOutput y
       before_out =
           let c = cheapest_noted in
-          let u = added (reserve_term (int_at π.reserve k) (cap_at g starts stops) g.ramp_up) y c.value
-          (value_of noted.before y) (value_of c.kinked y) (c.is_kinked y) c.least.there in
+          let u = added (reserve_term (int_at π.reserve k) (cap_at g starts stops) g.ramp_up) y (c.is_kinked y) c.least.there in
           noted.frontier.powers y u.0 u.1
 
       pub before_rise : (x -ℤ y) ≤ℤ s.ramp_up
       before_rise =
           let c = cheapest_noted in
           let e = ap (λ (s : Step). s.ramp_up) step_is in
-          omega (arith, ints)
+          omega signed
 
       pub before_under : x ≤ℤ s.cap
       before_under =
           let r = power_range.1 in
           let e = ap (λ (s : Step). s.cap) step_is in
-          omega (arith, ints)
+          omega signed
 
       pub chosen_noted : {d d' : Schedule} → IsWritten k (stored x)
           (best_reserve s.reserve_price s.cap s.ramp_up (stored y) (stored x)) d d' →
@@ -212,7 +212,7 @@ point_from_frontier {base = base} {f = f} front none at free some =
     let c = front.complete some (λ k from until. absurd (none k from until)) in
     let there : value_of f base ≡ Some c.0 = ap (value_of f) (sym (at some)) ∙ c.1 in
     let r = front.sound base c.0 there in
-    let zero : c.0 ≡ pos 0 = (let j = free r.run in omega (arith, ints)) in
+    let zero : c.0 ≡ pos 0 = (let j = free r.run in omega signed) in
     record {
       there = there ∙ ap Some zero;
       only = λ x v is. let r = front.sound x v is in sym r.ends ∙ at r.run;
@@ -228,7 +228,7 @@ module _ {g : ThermalUnit} {π : PriceLists} {last : ℕ} {f : Table} {d : Sched
       let here = rw z at front in
       let none : (k : ℕ) → 0 ≤ suc k → suc k ≤ 0 → ⊥ = λ k from until. absurd (omega arith) in
       let at : (d : Schedule) → level g 0 d 0 ≡ g.power0 = λ d.
-      (let e = level_within g 0 d 0 (omega arith) in omega (arith, ints)) in
+      (let e = level_within g 0 d 0 (omega arith) in omega signed) in
       of_way unit prices (point_from_frontier here none at (cost_zero g π) d) none (λ k from. omega arith) (at d)
       (cost_zero g π d) end (rw z at way)
   whole_way (suc b) front way =
@@ -326,8 +326,7 @@ module _ {g : ThermalUnit} {π : PriceLists} {first k : ℕ} {stops : Bool} {n :
   turn_out : IsOutput n.turn
   turn_out =
       let t = noted.turn in
-      let u = added (reserve_term (int_at π.reserve k) (cap_at g (eqb first (suc k)) stops) g.ramp_up) n.turn t.2.value
-      (value_of noted.before n.turn) (value_of t.0 n.turn) (t.1 n.turn) t.2.there in
+      let u = added (reserve_term (int_at π.reserve k) (cap_at g (eqb first (suc k)) stops) g.ramp_up) n.turn (t.1 n.turn) t.2.there in
       noted.frontier.powers n.turn u.0 u.1
 
   pub noted_stored : IsNoted g π first k stops (stored_note n) after

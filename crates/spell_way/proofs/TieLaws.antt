@@ -1,10 +1,10 @@
 -- A way on from the power before a spell is a best dispatch, and the first of those of its cost.
 use Rattle.spell_way.proofs.Common.{◌≡◌, ℕ, zero, suc, ◌+◌, ◌-◌, ◌<◌, ◌≤◌, inl, inr, ℤ, pos, ◌+ℤ◌, ◌*ℤ◌, ◌≤ℤ◌, eqb}
-use Rattle.spell_way.proofs.Common.{length, refl, sym, ap, ◌∙◌, subst, arith, ints, cases_lt, IsPoint, same_some, Table}
+use Rattle.spell_way.proofs.Common.{length, refl, sym, ap, ◌∙◌, subst, arith, cases_lt, IsPoint, same_some, Table}
 use Rattle.spell_way.proofs.Common.{value_of, ThermalUnit, PriceLists, Schedule, IsThermalUnit, ArePrices, power_in}
 use Rattle.spell_way.proofs.Common.{reserve_in, int_at, sum_below, stops_at, HasBestReserve, IsWayFrom}
 use Rattle.spell_way.proofs.Common.{IsDispatch, net_cost_at, net_cost, spell_cost, IsBestDispatch}
-use Rattle.spell_way.proofs.Common.{IsFirstDispatch, cap_at, level}
+use Rattle.spell_way.proofs.Common.{IsFirstDispatch, cap_at, level, signed}
 use Rattle.spell_run.specs.Laws.{IsBestReserve}
 use Rattle.spell_run.proofs.ReserveLaws.{reserve_is_best}
 use Rattle.spell_run.proofs.RunLaws.{level_before, level_within, move_same, reserve_not_negative}
@@ -19,14 +19,14 @@ same_terms (suc n) f g le same i low =
     let last = le n (omega arith) in
     let whole : sum_below n f +ℤ f n ≡ sum_below n g +ℤ g n = same in
     elim (cases_lt i n) [
-      | inl less ↦ same_terms n f g (λ j h. le j (omega arith)) (omega (arith, ints)) i less
-      | inr most ↦ let z : n ≡ i = omega arith in let e : f n ≡ g n = omega (arith, ints) in subst (λ (j : ℕ). f j ≡ g j) z e
+      | inl less ↦ same_terms n f g (λ j h. le j (omega arith)) (omega signed) i less
+      | inr most ↦ let z : n ≡ i = omega arith in let e : f n ≡ g n = omega signed in subst (λ (j : ℕ). f j ≡ g j) z e
     ]
   where
     sums_le : (n : ℕ) (f g : ℕ → ℤ) → ((i : ℕ) → i < n → f i ≤ℤ g i) → sum_below n f ≤ℤ sum_below n g
-    sums_le zero f g le = omega (arith, ints)
+    sums_le zero f g le = omega signed
     sums_le (suc n) f g le = let a = sums_le n f g (λ j h. le j (omega arith)) in let b = le n (omega arith) in
-        omega (arith, ints)
+        omega signed
 
 module _ {g : ThermalUnit} {π : PriceLists} {first last : ℕ} (unit : IsThermalUnit g) (prices : ArePrices π)
     (end : last ≤ length π.energy) (d : Schedule) {other : Schedule}
@@ -45,7 +45,7 @@ module _ {g : ThermalUnit} {π : PriceLists} {first last : ℕ} (unit : IsTherma
           let e = same i inside (omega arith) in
           let a = level_within g first other (suc i) inside in
           let b = level_within g first d (suc i) inside in
-          omega (arith, ints)
+          omega signed
 
   abbrev cap_here : ℕ → ℤ
   cap_here j = cap_at g (eqb first (suc j)) (stops_at last (length π.energy) j)
@@ -64,12 +64,12 @@ module _ {g : ThermalUnit} {π : PriceLists} {first last : ℕ} (unit : IsTherma
   net_parts j from low = ap (λ (p : ℤ). net_cost_at g π j p (reserve_in other (suc j))) (same j from low)
 
   net_le : (t : ℕ) → first ≤ t → t ≤ last → net_cost g π d t ≤ℤ net_cost g π other t
-  net_le zero from low = omega (arith, ints)
+  net_le zero from low = omega signed
   net_le (suc j) from low =
       let e = net_parts j from (omega arith) in
       let b = (best_law j from (omega arith)).best in
       let worth = ap (λ (r : ℤ). int_at π.reserve j *ℤ r) (best j from (omega arith)) in
-      omega (arith, ints)
+      omega signed
 
   pub reserve_first : spell_cost g π first last other ≡ spell_cost g π first last d → (k : ℕ) → first ≤ suc k →
       k < last → reserve_in d (suc k) ≤ℤ reserve_in other (suc k)
@@ -83,8 +83,8 @@ module _ {g : ThermalUnit} {π : PriceLists} {first last : ℕ} (unit : IsTherma
       let e = net_parts k from low in
       let is = best k from low in
       let worth = ap (λ (r : ℤ). int_at π.reserve k *ℤ r) is in
-      let least = (best_law k from low).least (omega (arith, ints)) in
-      omega (arith, ints)
+      let least = (best_law k from low).least (omega signed) in
+      omega signed
 
 -- ---- a whole spell
 
@@ -97,10 +97,10 @@ module _ {g : ThermalUnit} {π : PriceLists} {first b last : ℕ} {base : ℤ} {
       j < last → HasBestReserve g π first last d j)
   whole =
       let e = point.only y way.before way.there in
-      let z : way.before ≡ pos 0 = same_some (value_of f base) (cc) point.there in
+      let z : way.before ≡ pos 0 = same_some (cc) point.there in
       let r = way.completes d (λ k from until. absurd (none k from until)) (at ∙ sym e)
       (record { power = λ j low high. refl; reserve = λ j low high. refl }) in
-      (r.0, omega (arith, ints), r.2)
+      (r.0, omega signed, r.2)
 
   pub of_way : IsBestDispatch g π (length π.energy) first last d c × IsFirstDispatch g π (length π.energy) first last d
       c

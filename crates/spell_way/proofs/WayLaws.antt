@@ -1,7 +1,8 @@
 -- The way back: the periods that are written make, with what comes before them, a dispatch of least cost, the first of
 -- those of that cost.
+use Rattle.spell_way.proofs.Common.{signed}
 use Rattle.spell_way.proofs.Common.{◌≡◌, ℕ, zero, suc, ◌<◌, ◌≤◌, inl, inr, ℤ, pos, ◌+ℤ◌, ◌-ℤ◌, ◌≤ℤ◌, Bool, true, false}
-use Rattle.spell_way.proofs.Common.{◌&&◌, eqb, ltb, length, Some, refl, sym, ap, ◌∙◌, subst, arith, option_map, ints}
+use Rattle.spell_way.proofs.Common.{◌&&◌, eqb, ltb, length, Some, refl, sym, ap, ◌∙◌, subst, arith, option_map}
 use Rattle.spell_way.proofs.Common.{cases_lt, eq-eqb, ne_eqb, and_right, IsCostCurve, reserve_term, IsLeast, same_some}
 use Rattle.spell_way.proofs.Common.{Table, value_of, Curve, ThermalUnit, PriceLists, Schedule, IsThermalUnit, ArePrices}
 use Rattle.spell_way.proofs.Common.{power_in, reserve_in, int_at, IsFrontier, IsChosen, stops_at, HasSamePowersAfter}
@@ -88,7 +89,7 @@ onward_more {g = g} {π = π} {first = first} {k = k} {last = last} from low way
   first_here = λ other dispatch cost_is same.
       let a = way.first_before other dispatch cost_is same in
       let e = level_power g first other k from in
-      omega (arith, ints);
+      omega signed;
   first_after = way.first_after;
 }
 
@@ -115,7 +116,7 @@ module _ {g : ThermalUnit} {π : PriceLists} {first k : ℕ} {c : Curve} (unit :
         let s = step_complete π k unit price curve (eqb first (suc k)) (stops_at (suc k) T k) step b.1
         (move_of unit (suc k) from (omega arith) dispatch) (reserve_not_negative other k) in
         let more = cost_more g π first k other from in
-        (s.0, s.1, omega (arith, ints))
+        (s.0, s.1, omega signed)
 
     pub onward_end : IsOnward g π first k (suc k) h d x cost
     onward_end = record {
@@ -124,18 +125,18 @@ module _ {g : ThermalUnit} {π : PriceLists} {first k : ℕ} {c : Curve} (unit :
       completes = λ run keeps power move same.
           let parts = move_parts first k T run (rw (stops_last T k) at move) in (
             dispatch_from_run run from (run_more run keeps parts.0) parts.1,
-            omega (arith, ints),
+            omega signed,
             λ j low high. absurd (omega arith),
           );
       least = λ other dispatch.
           let l = last_value other dispatch in
           let a = is.least (power_in other (suc k)) l.0 l.1 in
-          omega (arith, ints);
-      rest = λ other dispatch same power. omega (arith, ints);
+          omega signed;
+      rest = λ other dispatch same power. omega signed;
       first_here = λ other dispatch cost_is same.
           let l = last_value other dispatch in
           let a = is.least (power_in other (suc k)) l.0 l.1 in
-          let e : l.0 ≡ cost = omega (arith, ints) in
+          let e : l.0 ≡ cost = omega signed in
           is.first (power_in other (suc k)) (cc);
       first_after = λ other dispatch cost_is i low high same. absurd (omega arith);
     }
@@ -162,7 +163,7 @@ module _ {g : ThermalUnit} {π : PriceLists} {first k : ℕ} {c : Curve} (unit :
     best_at q = best_reserve mu cap g.ramp_up q x
 
     source : (w : ℤ) × (value_of f y ≡ Some w) × (chosen.value ≡ w +ℤ term y)
-    source = added term y chosen.value (value_of f y) (value_of chosen.kinked y) (chosen.is_kinked y) chosen.least.there
+    source = added term y (chosen.is_kinked y) chosen.least.there
 
     -- a value before the kink is one after it
     kinked : (q v : ℤ) → value_of f q ≡ Some v → value_of chosen.kinked q ≡ Some (v +ℤ term q)
@@ -174,12 +175,12 @@ module _ {g : ThermalUnit} {π : PriceLists} {first k : ℕ} {c : Curve} (unit :
     move : IsMove g begins ends y x (best_at y)
     move =
         let m = step_sound π k unit price curve begins ends step x onward.there in
-        let may = best_may mu cap g.ramp_up y x (omega (arith, ints)) (omega (arith, ints)) in
+        let may = best_may mu cap g.ramp_up y x (omega signed) (omega signed) in
         record {
           least = m.move.least;
           greatest = may.greatest;
           ramp_up = may.ramp;
-          ramp_down = omega (arith, ints);
+          ramp_down = omega signed;
           leave = m.move.leave;
         }
 
@@ -188,17 +189,17 @@ module _ {g : ThermalUnit} {π : PriceLists} {first k : ℕ} {c : Curve} (unit :
     value_is =
         let m = step_sound π k unit price curve begins ends step x onward.there in
         let q = m.before in
-        let may = best_may mu cap g.ramp_up y x (omega (arith, ints)) (omega (arith, ints)) in
+        let may = best_may mu cap g.ramp_up y x (omega signed) (omega signed) in
         let s = step_complete π k unit price curve begins ends step source.1 move may.least in
-        let same = same_some {a = s.0} (value_of h x) s.1 onward.there in
-        let least = chosen.least.least q (m.old +ℤ term q) (kinked q m.old m.there) (omega (arith, ints))
-        (omega (arith, ints)) in
+        let same = same_some {a = s.0} s.1 onward.there in
+        let least = chosen.least.least q (m.old +ℤ term q) (kinked q m.old m.there) (omega signed)
+        (omega signed) in
         let below = net_at_least g π k price cap q x
         (record { least = m.not_negative; greatest = m.move.greatest; ramp = m.move.ramp_up }) in
         let net_q = net_of_best g π k price cap q x in
         let net_y = net_of_best g π k price cap y x in
         let from_y = source.2 in
-        omega (arith, ints)
+        omega signed
 
     power_after : (j : ℕ) → suc k ≤ j → power_in d' (suc j) ≡ power_in d (suc j)
     power_after j later = ap pos (chosen.written.outside.power j (inr (omega arith)))
@@ -226,7 +227,7 @@ module _ {g : ThermalUnit} {π : PriceLists} {first k : ℕ} {c : Curve} (unit :
         let is = value_is in
         let best : HasBestReserve g π first last run k = cc in (
           o.0,
-          omega (arith, ints),
+          omega signed,
           λ j above high. elim (cases_lt k j) [
             | inl after ↦ o.2 j (omega arith) high
             | inr most ↦ let z : k ≡ j = omega arith in subst (λ (i : ℕ). HasBestReserve g π first last run i) z best
@@ -251,7 +252,7 @@ module _ {g : ThermalUnit} {π : PriceLists} {first k : ℕ} {c : Curve} (unit :
             { least = reserve_not_negative other k; greatest = other_move.greatest; ramp = other_move.ramp_up }) in
             let same_net : net_cost g π other (suc k) ≡ net_cost_at g π k x (reserve_in other (suc k)) = ap
             (λ (p : ℤ). net_cost_at g π k p (reserve_in other (suc k))) other_power in
-            omega (arith, ints)
+            omega signed
 
         other_rest : ((spell_cost g π first k other +ℤ net_cost g π other (suc k)) +ℤ (cost -ℤ onward.value)) ≤ℤ
             spell_cost g π first last other
@@ -259,7 +260,7 @@ module _ {g : ThermalUnit} {π : PriceLists} {first k : ℕ} {c : Curve} (unit :
             let o = onward.rest other dispatch
             (λ j later high. same j (omega arith) high ∙ power_after j later) other_power in
             let more = cost_more g π first k other from in
-            omega (arith, ints)
+            omega signed
 
         way_rest : q ≡ y → (spell_cost g π first k other +ℤ (cost -ℤ w)) ≤ℤ spell_cost g π first last other
         way_rest at =
@@ -268,7 +269,7 @@ module _ {g : ThermalUnit} {π : PriceLists} {first k : ℕ} {c : Curve} (unit :
             let is = value_is in
             let e : net_cost_at g π k x (best_at q) ≡ net_cost_at g π k x (best_at y) = ap
             (λ (z : ℤ). net_cost_at g π k x (best_at z)) at in
-            omega (arith, ints)
+            omega signed
 
         way_first : spell_cost g π first last other ≡ cost → y ≤ℤ q
         way_first cost_is =
@@ -279,13 +280,13 @@ module _ {g : ThermalUnit} {π : PriceLists} {first k : ℕ} {c : Curve} (unit :
             let b = front.complete other (run_of unit last from low dispatch) in
             let there = kinked q b.0 b.1 in
             let kept = reserve_not_negative other k in
-            let back : (x -ℤ g.ramp_up) ≤ℤ q = omega (arith, ints) in
-            let ahead : q ≤ℤ (x +ℤ g.ramp_down) = omega (arith, ints) in
+            let back : (x -ℤ g.ramp_up) ≤ℤ q = omega signed in
+            let ahead : q ≤ℤ (x +ℤ g.ramp_down) = omega signed in
             let least = chosen.least.least q (b.0 +ℤ term q) there back ahead in
             let net_q = net_of_best g π k price cap q x in
             let net_y = net_of_best g π k price cap y x in
             let from_y = source.2 in
-            let e : b.0 +ℤ term q ≡ chosen.value = omega (arith, ints) in
+            let e : b.0 +ℤ term q ≡ chosen.value = omega signed in
             chosen.least.first q (cc) back ahead
 
     way_after : (other : Schedule) → IsDispatch g T first last other → spell_cost g π first last other ≡ cost →
@@ -295,12 +296,12 @@ module _ {g : ThermalUnit} {π : PriceLists} {first k : ℕ} {c : Curve} (unit :
       | inl after ↦
           let a = onward.first_after other dispatch cost_is i (omega arith) high (later_of i other above same) in
           let e = power_after i (omega arith) in
-          omega (arith, ints)
+          omega signed
       | inr most ↦
           let z : i ≡ k = omega arith in
           let here : HasSamePowersAfter (suc k) last d' other = rw z at same in
           let a = onward.first_here other dispatch cost_is (later_of k other (omega arith) here) in
-          let b : power_in d' (suc k) ≤ℤ power_in other (suc k) = omega (arith, ints) in
+          let b : power_in d' (suc k) ≤ℤ power_in other (suc k) = omega signed in
           subst (λ (t : ℕ). power_in d' (suc t) ≤ℤ power_in other (suc t)) (sym z) b
     ]
 

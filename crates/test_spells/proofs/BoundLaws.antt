@@ -58,7 +58,7 @@ module _ (n m : ℕ) (term : ℤ → ℤ) (f : Table) (bounded : IsBounded n f) 
 
   pub bounded_sum : (g : Table) → IsSum term f g → IsBounded (n + m) g
   bounded_sum g sum x v h =
-      let u = added term x v (value_of f x) (value_of g x) (sum x) h in
+      let u = added term x (sum x) h in
       let b = bounded x u.0 u.1 in
       let w = within x b.0 in
       let a = b.1.at_least in
@@ -102,7 +102,7 @@ module _ (s : Step) (fair : IsFairStep s) where
 
       pub can_curve : CanAddCurve (curve_value c) (pos 0) l
       can_curve x v h =
-          let u = added (λ x. s.slope *ℤ x) x v (value_of w x) (value_of l x) (line x) h in
+          let u = added (λ x. s.slope *ℤ x) x (line x) h in
           let r = window.reached x u.0 u.1 in
           let k = cost.costs x r.2.0 r.2.1 in
           let at : x ≡ x +ℤ pos 0 = omega (arith, ints) in

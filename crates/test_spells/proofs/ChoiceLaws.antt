@@ -53,7 +53,7 @@ found_out s p fair h =
 -- and so is a power before it
 pub kinked_out : (s : Step) (f g : Table) (y v : ℤ) → IsSmall f → IsKinked s f g → value_of g y ≡ Some v → IsOutput y
 kinked_out s f g y v small kinked h =
-    let a = added (reserve_term s.reserve_price s.cap s.ramp_up) y v (value_of f y) (value_of g y) (kinked y) h in
+    let a = added (reserve_term s.reserve_price s.cap s.ramp_up) y (kinked y) h in
     (small y a.0 a.1).0
 
 -- a choice as it is stored

@@ -1,5 +1,5 @@
 use Rattle.spell_way.proofs.Common.{rules, ◌≡◌, ℤ, ◌+ℤ◌, ◌-ℤ◌, ap, ◌∙◌, arith, w64, FitsSigned, to_z, of_z, int_min}
-use Rattle.spell_way.proofs.Common.{int_max, ints, to_z-of_z, fits_within}
+use Rattle.spell_way.proofs.Common.{int_max, to_z-of_z, fits_within, signed}
 use Rattle.spell_way.proofs.Lemmas.{cheapest_near}
 use Rattle.spell_way.proofs.way.cheapest_before.Goals as goal
 
@@ -9,9 +9,9 @@ returns c = λ f v y w turn first last there reach.
     let n = c.args.note in
     let x = c.args.power in
     let fits_low : FitsSigned w64 (x -ℤ s.ramp_up) = fits_within w64 3000000000 (x -ℤ s.ramp_up)
-    (record { at_least = omega (arith, ints); at_most = omega (arith, ints) }) (omega arith) in
+    (record { at_least = omega signed; at_most = omega signed }) (omega arith) in
     let fits_high : FitsSigned w64 (x +ℤ s.ramp_down) = fits_within w64 3000000000 (x +ℤ s.ramp_down)
-    (record { at_least = omega (arith, ints); at_most = omega (arith, ints) }) (omega arith) in
+    (record { at_least = omega signed; at_most = omega signed }) (omega arith) in
     let fits_x : FitsSigned w64 x = search rules in
     let fits_up : FitsSigned w64 s.ramp_up = search rules in
     let fits_down : FitsSigned w64 s.ramp_down = search rules in

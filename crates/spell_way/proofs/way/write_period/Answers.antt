@@ -1,6 +1,6 @@
-use Rattle.spell_way.proofs.Common.{rules, ◌≡◌, ℤ, ◌≤ℤ◌, suc, eqb, to_z, of_z, Some, arith, w64, FitsSigned}
-use Rattle.spell_way.proofs.Common.{ints, to_z-of_z, Reaches, Table, value_of, IsTurn, IsFirst, IsLast, Step, IsOutput}
-use Rattle.spell_way.proofs.Common.{thermal_of, Note, IsCheapest, cap_at}
+use Rattle.spell_way.proofs.Common.{rules, ◌≡◌, ℤ, ◌≤ℤ◌, suc, eqb, to_z, of_z, Some, w64, FitsSigned}
+use Rattle.spell_way.proofs.Common.{to_z-of_z, Reaches, Table, value_of, IsTurn, IsFirst, IsLast, Step, IsOutput}
+use Rattle.spell_way.proofs.Common.{thermal_of, Note, IsCheapest, cap_at, signed}
 use Rattle.spell_way.proofs.Lemmas.{output_stored, power_range, before_out, before_rise, before_under, chosen_noted}
 use Rattle.spell_way.proofs.way.write_period.Goals as goal
 use Rattle.spell_way.proofs.way.write_period.Goals.{Start, After-cheapest_before-before}
@@ -57,7 +57,7 @@ write_best-requires-clause-under c =
     c.args.visit.power noted.2.1 c.step_of-step.ensures.step c.starts_in.ensures
     (near_before at.After-cheapest_before-before) in
     let e = output_stored (range at.Start).0 in
-    omega (arith, ints)
+    omega signed
 
 pub write_best-requires-clause-rise : goal.write_best-requires-clause-rise
 write_best-requires-clause-rise c =
@@ -68,7 +68,7 @@ write_best-requires-clause-rise c =
     (near_before at.After-cheapest_before-before) in
     let e = output_stored (range at.Start).0 in
     let h = output_stored (out at.After-cheapest_before-before) in
-    omega (arith, ints)
+    omega signed
 
 pub returns-clause-chosen : goal.returns-clause-chosen
 returns-clause-chosen c = λ after v noted there.

@@ -1,11 +1,11 @@
-use Rattle.spell_way.proofs.Common.{arith, ints}
+use Rattle.spell_way.proofs.Common.{arith, signed}
 use Rattle.spell_way.proofs.Lemmas.{reserve_is, reserve_out}
 use Rattle.spell_way.proofs.write.reserve_of.Goals as goal
 
 pub returns-clause-best : goal.returns-clause-best
 returns-clause-best c =
     reserve_is c.requires.step c.requires.power c.requires.before c.min.result (record { sfits = c.min.type_inv })
-    (let least = c.requires.step.reserve_price.at_least in omega (arith, ints)) c.min.ensures.value
+    (let least = c.requires.step.reserve_price.at_least in omega signed) c.min.ensures.value
 
 pub returns-clause-bound : goal.returns-clause-bound
 returns-clause-bound c =
