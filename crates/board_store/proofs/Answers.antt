@@ -2,9 +2,11 @@
 use Rattle.board_store.proofs.Common.{◌≡◌, ℕ, ◌<◌, ◌⊎◌, ℤ, pos, Bool, inl, inr, List, [], length, get_or, sym, ap, ◌∙◌, arith, set, length-set, get_or-set_same, get_or-set_other, int_at, Kept, Answers, nothing, answer_in, answers_in}
 use Rattle.std.proofs.lemmas.List.FromFn.{fill_by_all, length-map-range_with_len, get_or-map-range_with_len}
 
-pub same_answer : (on on2 : List Bool) (power power2 reserve reserve2 : List ℕ) (earned earned2 : ℤ) → on ≡ on2 → power ≡ power2 → reserve ≡ reserve2 → earned ≡ earned2 →
+pub same_answer : (on on2 : List Bool) (power power2 reserve reserve2 : List ℕ) (earned earned2 : ℤ) → on ≡ on2 →
+    power ≡ power2 → reserve ≡ reserve2 → earned ≡ earned2 →
     (let a : Kept = record { schedule = record { on = on; power = power; reserve = reserve }; earned = earned } in
-    let b : Kept = record { schedule = record { on = on2; power = power2; reserve = reserve2 }; earned = earned2 } in a ≡ b)
+    let b : Kept = record { schedule = record { on = on2; power = power2; reserve = reserve2 }; earned = earned2 } in
+    a ≡ b)
 same_answer on on2 power power2 reserve reserve2 earned earned2 e f g h =
     λ i. record { schedule = record { on = e i; power = f i; reserve = g i }; earned = h i }
 
@@ -12,18 +14,23 @@ module _ (on : List (List Bool)) (power reserve : List (List ℕ)) (earned : Lis
   pub length-answers_in : length (answers_in on power reserve earned) ≡ length earned
   length-answers_in = length-map-range_with_len (answer_in on power reserve earned) 0 (length earned)
 
-  pub answer_at_place : (i : ℕ) → i < length earned → get_or (answers_in on power reserve earned) i nothing ≡ answer_in on power reserve earned i
-  answer_at_place i lt = get_or-map-range_with_len (answer_in on power reserve earned) 0 (length earned) i i nothing lt (omega arith)
+  pub answer_at_place : (i : ℕ) → i < length earned →
+      get_or (answers_in on power reserve earned) i nothing ≡ answer_in on power reserve earned i
+  answer_at_place i lt =
+      get_or-map-range_with_len (answer_in on power reserve earned) 0 (length earned) i i nothing lt (omega arith)
 
   -- a place of a store is one of its parts
   pub place_of : (v : Answers) (long left i : ℕ) →
-      (let w : Answers = record { periods = long; left = left; answers = answers_in on power reserve earned } in w ≡ v) → i < length v.answers → i < length earned
+      (let w : Answers = record { periods = long; left = left; answers = answers_in on power reserve earned } in
+      w ≡ v) → i < length v.answers → i < length earned
   place_of v long left i is lt =
-      let e : length (answers_in on power reserve earned) ≡ length v.answers = ap (λ (w : Answers). length w.answers) is in
+      let e : length (answers_in on power reserve earned) ≡ length v.answers =
+      ap (λ (w : Answers). length w.answers) is in
       omega (arith, e, lt, length-answers_in)
 
 module _ (on : List (List Bool)) (power reserve : List (List ℕ)) (earned : List ℤ) (i : ℕ) (a : Kept)
-    (on_count : length on ≡ length earned) (power_count : length power ≡ length earned) (reserve_count : length reserve ≡ length earned) (lt : i < length earned) where
+    (on_count : length on ≡ length earned) (power_count : length power ≡ length earned)
+    (reserve_count : length reserve ≡ length earned) (lt : i < length earned) where
   abbrev on2 : List (List Bool)
   on2 = set on i a.schedule.on
 
@@ -41,7 +48,8 @@ module _ (on : List (List Bool)) (power reserve : List (List ℕ)) (earned : Lis
 
   here : answer_in on2 power2 reserve2 earned2 i ≡ a
   here =
-      same_answer (get_or on2 i []) a.schedule.on (get_or power2 i []) a.schedule.power (get_or reserve2 i []) a.schedule.reserve (int_at earned2 i) a.earned
+      same_answer (get_or on2 i []) a.schedule.on (get_or power2 i []) a.schedule.power
+      (get_or reserve2 i []) a.schedule.reserve (int_at earned2 i) a.earned
       (get_or-set_same on i a.schedule.on [] (omega (arith, lt, on_count)))
       (get_or-set_same power i a.schedule.power [] (omega (arith, lt, power_count)))
       (get_or-set_same reserve i a.schedule.reserve [] (omega (arith, lt, reserve_count)))
@@ -49,7 +57,8 @@ module _ (on : List (List Bool)) (power reserve : List (List ℕ)) (earned : Lis
 
   there : (k : ℕ) → (k ≡ i → ⊥) → answer_in on2 power2 reserve2 earned2 k ≡ answer_in on power reserve earned k
   there k f =
-      same_answer (get_or on2 k []) (get_or on k []) (get_or power2 k []) (get_or power k []) (get_or reserve2 k []) (get_or reserve k []) (int_at earned2 k) (int_at earned k)
+      same_answer (get_or on2 k []) (get_or on k []) (get_or power2 k []) (get_or power k []) (get_or reserve2 k [])
+      (get_or reserve k []) (int_at earned2 k) (int_at earned k)
       (get_or-set_other on i k a.schedule.on [] f)
       (get_or-set_other power i k a.schedule.power [] f)
       (get_or-set_other reserve i k a.schedule.reserve [] f)
@@ -65,7 +74,9 @@ module _ (on : List (List Bool)) (power reserve : List (List ℕ)) (earned : Lis
       (length-set old i a ∙ length-answers_in on power reserve earned ∙ sym (length-set earned i a.earned))
       (λ k h. elim (same_or k i) [
         | inl e ↦
-            ap (λ (j : ℕ). get_or (set old i a) j nothing) e ∙ get_or-set_same old i a nothing (let l = length-answers_in on power reserve earned in omega (arith, l, lt))
+            ap (λ (j : ℕ). get_or (set old i a) j nothing) e
+            ∙ get_or-set_same old i a nothing (let l = length-answers_in on power reserve earned in
+            omega (arith, l, lt))
             ∙ sym here ∙ ap (answer_in on2 power2 reserve2 earned2) (sym e)
         | inr f ↦
             get_or-set_other old i k a nothing f

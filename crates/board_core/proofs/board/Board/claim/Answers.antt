@@ -149,7 +149,8 @@ invariant_of-self c =
     let k = c.args.caller in
     let K = c.self.invariant.1 in
     let early = c.if-open-before.false in
-    let history = c.push_reserved-2.ensures.items ∙ ap (λ (e : Entry). s.lists.history.items ++ e ∷ []) c.entry_of-entry.ensures in
+    let history =
+    c.push_reserved-2.ensures.items ∙ ap (λ (e : Entry). s.lists.history.items ++ e ∷ []) c.entry_of-entry.ensures in
     let takers = c.push_reserved.ensures.items in
     let events = events_are d c.push_reserved-2.new.self.items history in
     let caller : k < (b d).callers = subst (λ (v : Content). k < v.setup.callers) (sym c.self.view_is) c.requires.caller in
@@ -179,7 +180,11 @@ returns-clause-answer c = answered c.self.view_is (given (goal.at.returns-clause
 pub returns-clause-after : goal.returns-clause-after
 returns-clause-after c =
     let d = (goal.at.returns-clause-after c).After-unit_count-units in
-    ap (content (b d)) (events_are d c.push_reserved-2.new.self.items (c.push_reserved-2.ensures.items ∙ ap (λ (e : Entry). c.self.inside.lists.history.items ++ e ∷ []) c.entry_of-entry.ensures)) ∙ followed c.self.view_is (given d c.if-open-before.false) c.args.caller
+    let s = c.self.inside in
+    let history =
+    c.push_reserved-2.ensures.items ∙ ap (λ (e : Entry). s.lists.history.items ++ e ∷ []) c.entry_of-entry.ensures in
+    ap (content (b d)) (events_are d c.push_reserved-2.new.self.items history)
+    ∙ followed c.self.view_is (given d c.if-open-before.false) c.args.caller
 
 pub returns-clause-task : goal.returns-clause-task
 returns-clause-task c =

@@ -45,7 +45,8 @@ invariant_of-self c =
     let k = c.args.caller in
     let K = c.self.invariant.1 in
     let first = was d ∙ c.if-index.false in
-    let history = c.push_reserved.ensures.items ∙ ap (λ (e : Entry). s.lists.history.items ++ e ∷ []) c.entry_of-entry.ensures in
+    let history =
+    c.push_reserved.ensures.items ∙ ap (λ (e : Entry). s.lists.history.items ++ e ∷ []) c.entry_of-entry.ensures in
     let events = events_are d c.push_reserved.new.self.items history in
     let less = one_less s.lists.halted.items k (place d) first in
     let room = K.room in
@@ -65,4 +66,9 @@ invariant_of-self c =
 pub returns : goal.returns
 returns c =
     let d = (goal.at.returns c).After-index in
-    ap (content (b d)) (events_are d c.push_reserved.new.self.items (c.push_reserved.ensures.items ∙ ap (λ (e : Entry). c.self.inside.lists.history.items ++ e ∷ []) c.entry_of-entry.ensures)) ∙ followed d false (not_yet (b d) (h d) (x d) c.self.inside.ledger c.self.invariant.0 c.args.caller (caller d) (was d ∙ c.if-index.false))
+    let s = c.self.inside in
+    let history =
+    c.push_reserved.ensures.items ∙ ap (λ (e : Entry). s.lists.history.items ++ e ∷ []) c.entry_of-entry.ensures in
+    ap (content (b d)) (events_are d c.push_reserved.new.self.items history)
+    ∙ followed d false (not_yet (b d) (h d) (x d) s.ledger c.self.invariant.0 c.args.caller (caller d)
+    (was d ∙ c.if-index.false))

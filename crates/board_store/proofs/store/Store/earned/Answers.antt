@@ -5,15 +5,18 @@ use Rattle.board_store.proofs.store.Store.earned.Goals as goal
 pub index-requires : goal.index-requires
 index-requires c =
     let s = c.self.inside in
-    let lt = place_of s.on.rows s.power.rows s.reserve.rows s.earned.items c.args.self.now s.on.long (least_left s.on.left s.power.left s.reserve.left) c.args.place c.self.view_is c.requires in
+    let lt = place_of s.on.rows s.power.rows s.reserve.rows s.earned.items c.args.self.now s.on.long
+    (least_left s.on.left s.power.left s.reserve.left) c.args.place c.self.view_is c.requires in
     omega (arith, lt)
 
 pub returns : goal.returns
 returns c =
     let s = c.self.inside in
-    let lt = place_of s.on.rows s.power.rows s.reserve.rows s.earned.items c.args.self.now s.on.long (least_left s.on.left s.power.left s.reserve.left) c.args.place c.self.view_is c.requires in
+    let lt = place_of s.on.rows s.power.rows s.reserve.rows s.earned.items c.args.self.now s.on.long
+    (least_left s.on.left s.power.left s.reserve.left) c.args.place c.self.view_is c.requires in
     let f : FitsSigned w64 c.index.result.now = search rules in
     let read = get_or_read s.earned.items c.args.place c.index.result.now lt c.index.ensures (pos 0) in
     to_z-of_z w64 c.index.result.now f ∙ read
-    ∙ sym (ap (λ (a : Kept). a.earned) (answer_at_place s.on.rows s.power.rows s.reserve.rows s.earned.items c.args.place lt))
+    ∙ sym (ap (λ (a : Kept). a.earned)
+    (answer_at_place s.on.rows s.power.rows s.reserve.rows s.earned.items c.args.place lt))
     ∙ ap (λ (v : Answers). (get_or v.answers c.args.place nothing).earned) c.self.view_is

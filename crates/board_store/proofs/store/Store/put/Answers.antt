@@ -8,30 +8,38 @@ module _ (c : After-self) where
   place_inside : c.args.place < length c.self.inside.earned.items
   place_inside =
       let s = c.self.inside in
-      place_of s.on.rows s.power.rows s.reserve.rows s.earned.items c.args.self.now s.on.long (least_left s.on.left s.power.left s.reserve.left) c.args.place c.self.view_is c.requires.place
+      place_of s.on.rows s.power.rows s.reserve.rows s.earned.items c.args.self.now s.on.long
+      (least_left s.on.left s.power.left s.reserve.left) c.args.place c.self.view_is c.requires.place
 
   like_inside : c.args.like < length c.self.inside.earned.items
   like_inside =
       let s = c.self.inside in
-      place_of s.on.rows s.power.rows s.reserve.rows s.earned.items c.args.self.now s.on.long (least_left s.on.left s.power.left s.reserve.left) c.args.like c.self.view_is c.requires.like
+      place_of s.on.rows s.power.rows s.reserve.rows s.earned.items c.args.self.now s.on.long
+      (least_left s.on.left s.power.left s.reserve.left) c.args.like c.self.view_is c.requires.like
 
 pub put-requires-clause-place : goal.put-requires-clause-place
-put-requires-clause-place c = let lt = place_inside (goal.at.put-requires-clause-place c).After-self in omega (arith, lt, c.self.invariant.on_count)
+put-requires-clause-place c = let lt = place_inside (goal.at.put-requires-clause-place c).After-self in
+    omega (arith, lt, c.self.invariant.on_count)
 
 pub put-requires-clause-like : goal.put-requires-clause-like
-put-requires-clause-like c = let lt = like_inside (goal.at.put-requires-clause-like c).After-self in omega (arith, lt, c.self.invariant.on_count)
+put-requires-clause-like c = let lt = like_inside (goal.at.put-requires-clause-like c).After-self in
+    omega (arith, lt, c.self.invariant.on_count)
 
 pub put-requires-2-clause-place : goal.put-requires-2-clause-place
-put-requires-2-clause-place c = let lt = place_inside (goal.at.put-requires-2-clause-place c).After-self in omega (arith, lt, c.self.invariant.power_count)
+put-requires-2-clause-place c = let lt = place_inside (goal.at.put-requires-2-clause-place c).After-self in
+    omega (arith, lt, c.self.invariant.power_count)
 
 pub put-requires-2-clause-like : goal.put-requires-2-clause-like
-put-requires-2-clause-like c = let lt = like_inside (goal.at.put-requires-2-clause-like c).After-self in omega (arith, lt, c.self.invariant.power_count)
+put-requires-2-clause-like c = let lt = like_inside (goal.at.put-requires-2-clause-like c).After-self in
+    omega (arith, lt, c.self.invariant.power_count)
 
 pub put-requires-3-clause-place : goal.put-requires-3-clause-place
-put-requires-3-clause-place c = let lt = place_inside (goal.at.put-requires-3-clause-place c).After-self in omega (arith, lt, c.self.invariant.reserve_count)
+put-requires-3-clause-place c = let lt = place_inside (goal.at.put-requires-3-clause-place c).After-self in
+    omega (arith, lt, c.self.invariant.reserve_count)
 
 pub put-requires-3-clause-like : goal.put-requires-3-clause-like
-put-requires-3-clause-like c = let lt = like_inside (goal.at.put-requires-3-clause-like c).After-self in omega (arith, lt, c.self.invariant.reserve_count)
+put-requires-3-clause-like c = let lt = like_inside (goal.at.put-requires-3-clause-like c).After-self in
+    omega (arith, lt, c.self.invariant.reserve_count)
 
 pub index_mut-requires : goal.index_mut-requires
 index_mut-requires c = let lt = place_inside (goal.at.index_mut-requires c).After-self in omega (arith, lt)
