@@ -4,7 +4,7 @@ use Rattle.uc_case.specs.declared.stop.Stop.{Stop}
 use Rattle.uc_case.specs.declared.stop.Stop.TheVariants as stops
 use Rattle.uc_model.specs.declared.kinds.Kind.TheVariants.{Case, Thermal}
 use Rattle.uc_plan.specs.Shapes.{shape_number}
-use Rattle.uc_plan.specs.declared.fault.Seat.{Seat}
+use Rattle.uc_plan.specs.declared.fault.ShapeSite.{ShapeSite}
 use Rattle.uc_plan.specs.declared.fault.ShapeFault.{ShapeFault}
 use Rattle.uc_mixture.specs.declared.fault.ShareCode.{ShareCode}
 use Rattle.uc_mixture.specs.declared.fault.ShareCode.TheVariants.{Shape, Weight}
@@ -25,8 +25,8 @@ site_of_unit unit = record { kind = Thermal; unit = unit; entry = 0 }
 abbrev pub entry_at : ShareSite → ℕ → ShareSite
 entry_at at k = record at { entry = k }
 
-abbrev pub seat_of : ShareSite → Seat
-seat_of at = record { kind = at.kind; unit = at.unit }
+abbrev pub shape_site_of : ShareSite → ShapeSite
+shape_site_of at = record { kind = at.kind; unit = at.unit }
 
 abbrev pub fault : ShareSite → ShareCode → ShareFault
 fault at code =

@@ -16,7 +16,7 @@ use Rattle.uc_num.specs.Rounding.{rounded}
 use Rattle.uc_num.specs.declared.Decimal.{Decimal}
 use Rattle.uc_plan.specs.Plans.{thermal_lists, listed_schedule, all_known, object_under}
 use Rattle.uc_plan.specs.declared.fault.ShapeCode.TheVariants.{MissingUnit, PlanShape}
-use Rattle.uc_mixture.specs.Faults.{site_of_file, site_of_unit, entry_at, seat_of, fault, within}
+use Rattle.uc_mixture.specs.Faults.{site_of_file, site_of_unit, entry_at, shape_site_of, fault, within}
 use Rattle.uc_mixture.specs.declared.fault.ShareCode.TheVariants.{Shape, Weight}
 use Rattle.uc_mixture.specs.declared.fault.ShareFault.{ShareFault}
 use Rattle.uc_mixture.specs.declared.fault.ShareSite.{ShareSite}
@@ -51,7 +51,7 @@ entry frame at v = do
   heavy ← need (fault at (Shape PlanShape)) (value_of (codes "weight") ms)
   lists ← need (fault at (Shape PlanShape)) (thermal_lists frame.periods ms)
   weight ← need (fault at Weight) (weight_in (pos 0) frame.whole heavy)
-  schedule ← within at.entry (listed_schedule (seat_of at) lists)
+  schedule ← within at.entry (listed_schedule (shape_site_of at) lists)
   Ok (record { weight = weight; schedule = schedule })
 
 -- each at the site of its position

@@ -58,7 +58,7 @@ fn read_entry(
     let Some(weight) = weight_at(heavy, 0, frame.whole) else {
         return Err(at.stop(ShareCode::Weight));
     };
-    match read_lists(alloc, at.seat(), lists, frame.periods) {
+    match read_lists(alloc, at.shape_site(), lists, frame.periods) {
         Ok(response) => Ok(Entry { weight, response }),
         Err(stop) => Err(at.within(stop)),
     }

@@ -2,13 +2,13 @@
 ghost use Rattle.std.specs.Prelude.{◌≡◌};
 ghost use Rattle.uc_case.specs.declared.stop.Stop.TheVariants as stops;
 ghost use Rattle.uc_mixture.specs.Faults.{code_number, fault, site_of_file, site_of_unit};
-ghost use Rattle.uc_mixture.specs.Faults.{entry_at, seat_of, stop_within};
+ghost use Rattle.uc_mixture.specs.Faults.{entry_at, shape_site_of, stop_within};
 
 use std::fmt;
 use thiserror::Error;
 use uc_case::fault::Kind;
 use uc_case::stop::Stop;
-use uc_plan::fault::{Seat, ShapeCode, ShapeStop};
+use uc_plan::fault::{ShapeCode, ShapeSite, ShapeStop};
 use uc_text::TextFault;
 
 /// What is wrong with a mixture.
@@ -121,11 +121,11 @@ impl ShareSite {
         ShareSite { entry, ..self }
     }
 
-    /// The seat of its unit in a schedule.
-    pub fn seat(self) -> Seat
-        ensures { result ≡ seat_of self }
+    /// The site of its unit in a schedule.
+    pub fn shape_site(self) -> ShapeSite
+        ensures { result ≡ shape_site_of self }
     {
-        Seat {
+        ShapeSite {
             kind: self.kind,
             unit: self.unit,
         }

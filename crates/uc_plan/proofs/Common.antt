@@ -18,9 +18,9 @@ pub use Rattle.uc_model.specs.Laws.{HasPlanShape}
 pub use Rattle.uc_model.specs.PlainCases.{schedules_of, market_of}
 pub use Rattle.uc_model.specs.PlainUnits.{named_thermal_of, named_renewable_of, named_bid_of, schedule_of}
 pub use Rattle.uc_plan.specs.Added.{IsShaped, HasLengths, IsFlat}
-pub use Rattle.uc_plan.specs.Plans.{Groups, Read, is_among, first_unknown, seat, flag_in, kilowatts_in}
+pub use Rattle.uc_plan.specs.Plans.{Groups, Read, is_among, first_unknown, shape_site, flag_in, kilowatts_in}
 unfoldable pub use Rattle.uc_plan.specs.Plans.{groups, all_known, all_named, schedules, all_schedules, plan_of, numbers, named, flat_schedule, schedule}
-pub use Rattle.uc_plan.specs.declared.fault.Seat.{Seat}
+pub use Rattle.uc_plan.specs.declared.fault.ShapeSite.{ShapeSite}
 pub use Rattle.uc_plan.specs.declared.fault.ShapeFault.{ShapeFault}
 pub use Rattle.text_tree.specs.Parts.{Pair, items_of, members_of}
 pub use Rattle.text_tree.specs.Values.{Value, scalar, number, list, object}

@@ -15,7 +15,7 @@ use Rattle.uc_case.specs.Inside.{number_in, list_in, object_in, value_of, is_who
 use Rattle.uc_case.specs.Magnitudes.{most_power}
 use Rattle.uc_case.specs.Words.{◌>>=◌, ◌>>◌, refuse, need, each, position}
 use Rattle.uc_plan.specs.Shapes.{fault}
-use Rattle.uc_plan.specs.declared.fault.Seat.{Seat}
+use Rattle.uc_plan.specs.declared.fault.ShapeSite.{ShapeSite}
 use Rattle.uc_plan.specs.declared.fault.ShapeCode.TheVariants.{UnknownUnit, MissingUnit}
 use Rattle.uc_plan.specs.declared.fault.ShapeCode.TheVariants.{PlanShape, PlanNumber}
 use Rattle.uc_plan.specs.declared.fault.ShapeFault.{ShapeFault}
@@ -24,8 +24,8 @@ use Rattle.uc_plan.specs.declared.fault.ShapeFault.{ShapeFault}
 abbrev pub Read : Type 0 → Type 0
 Read A = Result A ShapeFault
 
-abbrev pub seat : Kind → ℕ → Seat
-seat kind unit = record { kind = kind; unit = unit }
+abbrev pub shape_site : Kind → ℕ → ShapeSite
+shape_site kind unit = record { kind = kind; unit = unit }
 
 -- ---- numbers
 
@@ -44,7 +44,7 @@ abbrev pub flag_in : Value → Option Bool
 flag_in v = option_and_then bit_of (number_in v)
 
 -- the items of a list, each a number of that kind
-unfoldable pub numbers : {A : Type 0} → (Value → Option A) → Seat → List Value → Read (List A)
+unfoldable pub numbers : {A : Type 0} → (Value → Option A) → ShapeSite → List Value → Read (List A)
 numbers number at vs =
     each (λ before v. need (fault at (position before) PlanNumber) (number v)) [] vs
 
@@ -75,31 +75,31 @@ thermal_lists periods ms =
     (list_under periods (codes "on") ms)
 
 -- the schedule that their numbers are
-unfoldable pub listed_schedule : Seat → ThermalLists → Read Schedule
+unfoldable pub listed_schedule : ShapeSite → ThermalLists → Read Schedule
 listed_schedule at lists = do
   on ← numbers flag_in at lists.on
   power ← numbers kilowatts_in at lists.power
   reserve ← numbers kilowatts_in at lists.reserve
   Ok (record { on = on; power = power; reserve = reserve })
 
-unfoldable pub thermal_schedule : ℕ → Seat → Value → Read Schedule
+unfoldable pub thermal_schedule : ℕ → ShapeSite → Value → Read Schedule
 thermal_schedule periods at v = do
   ms ← need (fault at 0 PlanShape) (object_in v)
   lists ← need (fault at 0 PlanShape) (thermal_lists periods ms)
   listed_schedule at lists
 
 -- the one list of a renewable unit or a bid: it is on in every period with reserve 0
-unfoldable pub flat_schedule : ℕ → Seat → Value → Read Schedule
+unfoldable pub flat_schedule : ℕ → ShapeSite → Value → Read Schedule
 flat_schedule periods at v = do
   vs ← need (fault at 0 PlanShape) (full_list periods v)
   power ← numbers kilowatts_in at vs
   Ok (record { on = replicate periods true; power = power; reserve = replicate periods 0 })
 
-abbrev pub schedule_by : Kind → ℕ → Seat → Value → Read Schedule
+abbrev pub schedule_by : Kind → ℕ → ShapeSite → Value → Read Schedule
 schedule_by Thermal = thermal_schedule
 schedule_by _ = flat_schedule
 
-unfoldable pub schedule : ℕ → Seat → Value → Read Schedule
+unfoldable pub schedule : ℕ → ShapeSite → Value → Read Schedule
 schedule periods at v = schedule_by at.kind periods at v
 
 -- ---- units by name
@@ -109,7 +109,7 @@ is_among name [] = false
 is_among name (n ∷ ns) = if bytes_eq n name then true else is_among name ns
 
 -- the schedule under a unit's name
-unfoldable pub named : ℕ → List Pair → Seat → List ℕ → Read Schedule
+unfoldable pub named : ℕ → List Pair → ShapeSite → List ℕ → Read Schedule
 named periods members at name = do
   v ← need (fault at 0 MissingUnit) (value_of name members)
   schedule periods at v
@@ -121,18 +121,18 @@ first_unknown names k (m ∷ ms) = if is_among m.name names then first_unknown n
 
 unfoldable pub all_known : Kind → List (List ℕ) → List Pair → Read (Unit {0})
 all_known kind names ms =
-    refuse (fault (seat kind (first_unknown names 1 ms)) 0 UnknownUnit)
+    refuse (fault (shape_site kind (first_unknown names 1 ms)) 0 UnknownUnit)
     (nat_lt 0 (first_unknown names 1 ms))
 
 -- the schedule of each unit in the order of the case
 unfoldable pub schedules : ℕ → Kind → List Pair → List (List ℕ) → Read (List Schedule)
 schedules periods kind members names =
-    each (λ before. named periods members (seat kind (position before))) [] names
+    each (λ before. named periods members (shape_site kind (position before))) [] names
 
 -- ---- the plan
 
-abbrev pub whole : Seat
-whole = seat Case 0
+abbrev pub whole : ShapeSite
+whole = shape_site Case 0
 
 abbrev pub object_under : List ℕ → List Pair → Option (List Pair)
 object_under key ms = option_and_then object_in (value_of key ms)

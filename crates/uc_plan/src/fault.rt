@@ -37,9 +37,10 @@ impl ShapeCode {
     }
 }
 
-/// A unit or bid at its position within its kind, from 1; the file as a whole has unit 0.
+/// Where a test looks: a unit or bid at its position within its kind, from 1, or the file as a
+/// whole, with unit 0.
 #[derive(Clone, Copy)]
-pub struct Seat {
+pub struct ShapeSite {
     /// The kind of the unit, or `Case`.
     pub kind: Kind,
     /// The position, or 0.
@@ -94,7 +95,7 @@ pub enum PlanFault {
 /// Why the reading of a schedule stops.
 pub type ShapeStop = Stop<ShapeFault>;
 
-impl Seat {
+impl ShapeSite {
     /// The stop at a test that failed here, at an item or 0.
     pub fn stop(self, item: u32, code: ShapeCode) -> ShapeStop
         ensures { result ≡ stops.Fault (fault self item code) }

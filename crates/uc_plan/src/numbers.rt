@@ -6,7 +6,7 @@ ghost use Rattle.text_tree.specs.View.{view, views, items_in};
 ghost use Rattle.uc_case.specs.Given.{Gives};
 ghost use Rattle.uc_plan.specs.Plans.{kilowatts_of, kilowatts_in, flag_in, numbers};
 
-use crate::fault::{Seat, ShapeCode, ShapeStop};
+use crate::fault::{ShapeCode, ShapeSite, ShapeStop};
 use plain_lists::lists::Flags;
 use std::alloc::Global;
 use text_tree::{Branch, ListBranch};
@@ -52,7 +52,7 @@ fn flag_at(branch: Branch<'_>) -> Option<bool>
 }
 
 /// The kilowatts of items.
-fn powers_of(alloc: Global, at: Seat, branches: &[Branch<'_>]) -> Result<Powers, ShapeStop>
+fn powers_of(alloc: Global, at: ShapeSite, branches: &[Branch<'_>]) -> Result<Powers, ShapeStop>
     requires { length branches.now ≤ MOST_PERIODS }
     ensures count { IfOk result (λ ns. length ns.items ≡ length branches.now) }
     ensures value { Gives (λ ns. ns.items) result (numbers kilowatts_in at (views branches.now)) }
@@ -68,7 +68,7 @@ fn powers_of(alloc: Global, at: Seat, branches: &[Branch<'_>]) -> Result<Powers,
 }
 
 /// The flags of items.
-fn flags_of(alloc: Global, at: Seat, branches: &[Branch<'_>]) -> Result<Flags, ShapeStop>
+fn flags_of(alloc: Global, at: ShapeSite, branches: &[Branch<'_>]) -> Result<Flags, ShapeStop>
     requires { length branches.now ≤ MOST_PERIODS }
     ensures count { IfOk result (λ ns. length ns.items ≡ length branches.now) }
     ensures value { Gives (λ ns. ns.items) result (numbers flag_in at (views branches.now)) }
@@ -85,7 +85,7 @@ fn flags_of(alloc: Global, at: Seat, branches: &[Branch<'_>]) -> Result<Flags, S
 
 /// The kilowatts of a list, one for each item. `PlanNumber` at the first item that isn't a whole
 /// number from 0 to `POWER_LIMIT`.
-pub fn read_powers(alloc: Global, at: Seat, list: ListBranch<'_>) -> Result<Powers, ShapeStop>
+pub fn read_powers(alloc: Global, at: ShapeSite, list: ListBranch<'_>) -> Result<Powers, ShapeStop>
     requires { length (items_in list) ≤ MOST_PERIODS }
     ensures count { IfOk result (λ ns. length ns.items ≡ length (items_in list.entry)) }
     ensures value { Gives (λ ns. ns.items) result
@@ -96,7 +96,7 @@ pub fn read_powers(alloc: Global, at: Seat, list: ListBranch<'_>) -> Result<Powe
 }
 
 /// The flags of a list, one for each item. `PlanNumber` at the first item that is neither 0 nor 1.
-pub fn read_flags(alloc: Global, at: Seat, list: ListBranch<'_>) -> Result<Flags, ShapeStop>
+pub fn read_flags(alloc: Global, at: ShapeSite, list: ListBranch<'_>) -> Result<Flags, ShapeStop>
     requires { length (items_in list) ≤ MOST_PERIODS }
     ensures count { IfOk result (λ ns. length ns.items ≡ length (items_in list.entry)) }
     ensures value { Gives (λ ns. ns.items) result (numbers flag_in at (items_in list.entry)) }

@@ -15,7 +15,7 @@ ghost use Rattle.uc_plan.specs.Plans.{named, schedules, all_known, all_named};
 ghost use Rattle.uc_plan.specs.Plans.{all_schedules, plan_of};
 ghost use Rattle.uc_plan.specs.Views.{groups_of};
 
-use crate::fault::{Seat, ShapeCode, ShapeStop};
+use crate::fault::{ShapeCode, ShapeSite, ShapeStop};
 use crate::lookup::{stranger_in, values_of};
 use crate::named::Named;
 use crate::shapes::{Groups, read_groups};
@@ -46,7 +46,7 @@ pub fn check_names<N: Named>(
         let Ok(unit) = u32::try_from(position) else {
             return Err(Stop::Memory);
         };
-        return Err(Seat { kind, unit }.stop(0, ShapeCode::UnknownUnit));
+        return Err(ShapeSite { kind, unit }.stop(0, ShapeCode::UnknownUnit));
     }
     Ok(())
 }
@@ -55,7 +55,7 @@ pub fn check_names<N: Named>(
 fn read_named(
     alloc: Global,
     values: &IndexMap<String, Branch<'_>>,
-    at: Seat,
+    at: ShapeSite,
     name: &str,
     periods: u32,
 ) -> Result<Response, ShapeStop>
@@ -92,7 +92,13 @@ fn read_schedules<N: Named>(
     let mut unit = 0;
     for named in units {
         unit += 1;
-        let response = read_named(alloc, &values, Seat { kind, unit }, named.name(), periods)?;
+        let response = read_named(
+            alloc,
+            &values,
+            ShapeSite { kind, unit },
+            named.name(),
+            periods,
+        )?;
         plan.push(response);
     }
     Ok(())

@@ -10,7 +10,7 @@ ghost use Rattle.uc_plan.specs.Plans.{object_under as object_under_spec};
 ghost use Rattle.uc_plan.specs.Plans.{thermal_lists as thermal_lists_spec};
 ghost use Rattle.uc_plan.specs.Views.{groups_of, lists_of, AreFull};
 
-use crate::fault::{Seat, ShapeCode, ShapeStop};
+use crate::fault::{ShapeCode, ShapeSite, ShapeStop};
 use std::alloc::Global;
 use text_tree::{Branch, ListBranch, Member, ObjectBranch};
 use uc_case::fault::Kind;
@@ -113,7 +113,7 @@ pub fn read_groups<'a>(
 ) -> Result<Groups<'a>, ShapeStop>
     ensures { Gives groups_of result (groups bids (view root.entry)) }
 {
-    let whole = Seat {
+    let whole = ShapeSite {
         kind: Kind::Case,
         unit: 0,
     };

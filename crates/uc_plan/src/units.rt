@@ -8,7 +8,7 @@ ghost use Rattle.uc_plan.specs.Added.{HasLengths, IsFlat, IsShaped};
 ghost use Rattle.uc_plan.specs.Plans.{listed_schedule, thermal_schedule, flat_schedule, schedule};
 ghost use Rattle.uc_plan.specs.Views.{lists_of, AreFull};
 
-use crate::fault::{Seat, ShapeCode, ShapeStop};
+use crate::fault::{ShapeCode, ShapeSite, ShapeStop};
 use crate::numbers::{read_flags, read_powers};
 use crate::shapes::{ThermalLists, full_list, thermal_lists};
 use plain_lists::lists::Flags;
@@ -22,7 +22,7 @@ use uc_model::units::{Powers, Response};
 #[tactic(auto, unfolding(crate::specs::Plans::listed_schedule))]
 pub fn read_lists(
     alloc: Global,
-    at: Seat,
+    at: ShapeSite,
     lists: ThermalLists<'_>,
     periods: u32,
 ) -> Result<Response, ShapeStop>
@@ -40,7 +40,7 @@ pub fn read_lists(
 #[tactic(auto, unfolding(crate::specs::Plans::thermal_schedule))]
 fn read_thermal(
     alloc: Global,
-    at: Seat,
+    at: ShapeSite,
     branch: Branch<'_>,
     periods: u32,
 ) -> Result<Response, ShapeStop>
@@ -61,7 +61,7 @@ fn read_thermal(
 #[tactic(auto, unfolding(crate::specs::Plans::flat_schedule))]
 fn read_flat(
     alloc: Global,
-    at: Seat,
+    at: ShapeSite,
     branch: Branch<'_>,
     periods: u32,
 ) -> Result<Response, ShapeStop>
@@ -84,7 +84,7 @@ fn read_flat(
 #[tactic(auto, unfolding(crate::specs::Plans::schedule))]
 pub fn read_schedule(
     alloc: Global,
-    at: Seat,
+    at: ShapeSite,
     branch: Branch<'_>,
     periods: u32,
 ) -> Result<Response, ShapeStop>
