@@ -1,0 +1,10 @@
+-- The names from elsewhere that the proofs here cite.
+pub mod Common
+-- what a string says is UTF-8
+pub mod Strings
+-- the keys among tokens are UTF-8
+pub mod Keys
+-- so are the names in a value
+pub mod Values
+-- and those of a case
+pub mod Cases

@@ -1,0 +1,2 @@
+-- the names of a case
+pub mod Laws
