@@ -1,11 +1,12 @@
 -- What an audit accepts of what a run prints (this project's profile). Each law is the clause of a
 -- public function.
-use Rattle.std.specs.Prelude.{ℕ, ◌≤◌, IsUtf8, List}
+use Rattle.std.specs.Prelude.{ℕ, ◌≤◌, IsUtf8, List, Ok}
 use Rattle.std.specs.List.{All}
 use Rattle.plain_lists.specs.declared.limits.TheConstants.{MOST_PROPOSALS, MOST_AHEAD}
 use Rattle.uc_model.specs.Data.{Schedule, Market, unit_names}
 use Rattle.uc_model.specs.Limits.{IsMarket}
 use Rattle.uc_model.specs.Systems.{IsFeasiblePlan}
+use Rattle.uc_case.specs.CaseFiles.{IsCaseOf}
 use Rattle.report_form.specs.ReportText.{Report}
 use Rattle.right_report.specs.RightReport.{IsRightReport}
 use Rattle.report_read.specs.Bounds.{IsReport}
@@ -28,3 +29,10 @@ abbrev pub RightReportsAreInForm : Type 0
 RightReportsAreInForm =
     (m : Market) (plan : List Schedule) (budget ahead : ℕ) (r : Report) →
     IsPlannedCase m plan → AreAsked budget ahead → IsRightReport m plan budget ahead r → IsReport r
+
+-- and so is one of a case that was read
+abbrev pub PrintedReportsAreInForm : Type 0
+PrintedReportsAreInForm =
+    (bytes : List ℕ) (m : Market) (plan : List Schedule) (budget ahead : ℕ) (r : Report) →
+    IsCaseOf bytes (Ok m) → IsFeasiblePlan m plan → AreAsked budget ahead →
+    IsRightReport m plan budget ahead r → IsReport r
