@@ -58,7 +58,7 @@ row_most limit (Some u) c h = elim (cases_le u limit) [
     elim h [
       | inl above ↦ above
       | inr a ↦
-          (let same : u ≡ a.0 = (let is = a.1 in cc) in let low = a.2 in omega (arith, ints))
+          (let same : u ≡ a.0 = (let is = a.1 in cc) in omega (arith, ints))
     ],
   )
   | inl low ↦ elim h [

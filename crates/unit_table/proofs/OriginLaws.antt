@@ -57,7 +57,7 @@ entry_beyond g ends k os starts now lags limit beyond e entry = elim (entry.1) [
 pub origins_within : (g : ThermalUnit) (rows : List (Option Ended)) (k : ℕ) (os : Origins) →
     AreOrigins g (cost_at rows) k os → AreWithin rows → k < length os.list.items → AreOriginsWithin k os
 origins_within g rows k os now within room = record {
-  room = (omega arith);
+  room = omega arith;
   last = λ i o low is. (now.right.each i o low is).gap.off.order;
   cost = λ i o low is. within o.last o.cost (now.right.each i o low is).ended;
 }

@@ -23,7 +23,7 @@ none_listed live until roster none off = record {
 pub still_listed : (live live' : ℕ → Option Going) (until until' : ℕ) (roster : Roster) → until ≤ until' →
     ((f : ℕ) → live f ≡ None → live' f ≡ None) → IsRoster live until roster → IsRoster live' until' roster
 still_listed live live' until until' roster more off list = record {
-  few = (omega arith);
+  few = omega arith;
   room = list.room;
   below = λ i f low is. (let below = list.below i f low is in omega arith);
   rising = list.rising;
@@ -51,7 +51,7 @@ module _ (live live' : ℕ → Option Going) (until : ℕ) (roster roster' : Ros
 
   pub one_listed : IsRoster live' (suc until) roster'
   one_listed = record {
-    few = (omega arith);
+    few = omega arith;
     room = omega arith;
     below = λ i f low is. elim (cases_eq i (roster.count)) [
       | inl z ↦ (let e = is_last i f z is in omega arith)
@@ -111,7 +111,7 @@ module _ (live : ℕ → Option Going) (until : ℕ) (old : Roster) (list : IsRo
     -- its runner is off
     pub one_off : live first ≡ None → IsKeptTo live until old (p + 1) q new
     one_off off = record {
-      low = (let low = so_far.low in omega arith);
+      low = omega arith;
       same_length = so_far.same_length;
       below = so_far.below;
       rising = so_far.rising;
@@ -137,7 +137,7 @@ module _ (live : ℕ → Option Going) (until : ℕ) (old : Roster) (list : IsRo
     -- it stays
     module _ (new' : List ℕ) (set : new' ≡ slice_set new q first) where
       room : q < length new
-      room = (omega arith)
+      room = omega arith
 
       here' : slice_get new' q ≡ Some first
       here' = ap (λ (xs : List ℕ). slice_get xs q) set ∙ get_set_same new q first room
@@ -150,7 +150,7 @@ module _ (live : ℕ → Option Going) (until : ℕ) (old : Roster) (list : IsRo
 
       pub one_kept : length new' ≡ length new → IsKeptTo live until old (p + 1) (q + 1) new'
       one_kept same = record {
-        low = (let low = so_far.low in omega arith);
+        low = omega arith;
         same_length = cc;
         below = λ i f low is. elim (cases_eq i q) [
           | inl z ↦ subst (λ (f : ℕ). f < until) (is_here i f z is) (list.below p first inside was)
@@ -191,8 +191,8 @@ module _ (live : ℕ → Option Going) (until : ℕ) (old : Roster) (list : IsRo
   pub all_kept : (p : ℕ) (new : Roster) → old.count ≤ p → p ≤ old.count →
       IsKeptTo live until old p new.count new.firsts.items → IsRoster live until new
   all_kept p new from to kept = record {
-    few = (let low = kept.low in omega arith);
-    room = (let low = kept.low in let same = kept.same_length in omega arith);
+    few = omega arith;
+    room = omega arith;
     below = kept.below;
     rising = kept.rising;
     all = λ f r is. elim (kept.all f r is) [

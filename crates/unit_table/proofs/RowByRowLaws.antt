@@ -345,7 +345,7 @@ module _ (g : ThermalUnit) (π : PriceLists) (some : 1 ≤ length π.energy) (ro
               omega arith,
               rw first_is
                   (subst (λ (k : ℕ). IsEnded g π (length π.energy) (cost_at rows) 0 k 0 v) (sym before_is) ended),
-              λ f k e d low spell entry dispatch cost. (let order = spell.order in omega arith),
+              λ f k e d low spell entry dispatch cost. (omega arith),
             )
       ] refl
 

@@ -19,5 +19,4 @@ returns-clause-off c = all_off c.loop-place.runners c.loop-place.place c.loop-pl
 
 pub stop_at-requires : goal.stop_at-requires
 stop_at-requires c =
-    let same = c.loop-place.invariant.kept.count_same in
     omega arith

@@ -97,7 +97,6 @@ put_end-requires-clause-room c =
 
 pub put_end-requires-clause-order : goal.put_end-requires-clause-order
 put_end-requires-clause-order c =
-    let order = c.requires.ready.order in
     omega arith
 
 pub put_end-requires-clause-bound : goal.put_end-requires-clause-bound
