@@ -6,6 +6,7 @@ use Rattle.right_report.specs.RightReport.{IsRightReport}
 use Rattle.report_read.specs.Bounds.{IsOtherLine, IsReport}
 use Rattle.report_read.specs.Faults.{IsFault}
 use Rattle.report_compare.specs.Right.{DiffersFromRight}
+use Rattle.law_audit.specs.Laws.{PrintedReportsAreInForm}
 use Rattle.law_outcome.proofs.OutcomeLaws.{pays_none_back, status_within, same_fault, bytes_fault, input_fault, work_fault, same_input, InputParts, input_parts}
 
 -- ---- a report within the bounds of reading
@@ -91,7 +92,7 @@ too_many (Some bytes) e = (bytes, refl, ltb-true MOST_BYTES (length bytes) (long
     long true e = refl
     long false e = absurd cc
 
-module _ (got : BytesAreThoseRead) (text_read : ReportBytesAreItsText) (determined : TextDeterminesReport) (has_form : RightReportHasForm) (a : AuditAsked) (gained short : List ℕ → Type 0) (reads : Reads) (f : TopFault) (lines : gained (fault_line f) ⊎ short (fault_line f))
+module _ (got : BytesAreThoseRead) (text_read : ReportBytesAreItsText) (determined : TextDeterminesReport) (has_form : RightReportHasForm) (in_form : PrintedReportsAreInForm) (a : AuditAsked) (gained short : List ℕ → Type 0) (reads : Reads) (f : TopFault) (lines : gained (fault_line f) ⊎ short (fault_line f))
     (eight : status_of f ≡ 8) (due_f : (command_for (Ok (audit a))).IsDue reads (Err f)) where
   abbrev IsSo : Type 0
   IsSo = (i : PlannedCase) × IsAuditRefused (command_for (Ok (audit a))) gained short reads i
@@ -126,7 +127,7 @@ module _ (got : BytesAreThoseRead) (text_read : ReportBytesAreItsText) (determin
       unfit = λ at is. absurd (never_61 at line is e);
       wrong = λ at is. subst (IsWrongAt i (report_text r)) (one_line Wrong line at e is)
           (record { report = r; bounds = is_within (reads ReportFile) r file; is_text = refl; wrong = other; differs = differs });
-      none = λ fits s bounds right same. not_right i r (is_within (reads ReportFile) r file) other s right same;
+      none = λ fits s asked right same. not_right i r (is_within (reads ReportFile) r file) other s right same;
       never = λ at is s right same. not_right i r (is_within (reads ReportFile) r file) other s right same;
     },
   )
@@ -145,7 +146,7 @@ module _ (got : BytesAreThoseRead) (text_read : ReportBytesAreItsText) (determin
       too_big = λ big. absurd (never_big OutOfForm line big is);
       unfit = λ at also. subst (IsFault bytes) (one_line OutOfForm line at is also) fault;
       wrong = λ other also. absurd (never_61 line other is also);
-      none = λ fits s bounds right same. fault.none s bounds same;
+      none = λ fits s asked right same. (let parts = input_parts got reads i input in fault.none s (in_form parts.case_bytes i.market i.plan s.budget s.ahead s parts.is_case parts.feasible asked right) same);
       never = λ other also s right same. never_61 line other is also;
     },
   )
@@ -164,7 +165,7 @@ module _ (got : BytesAreThoseRead) (text_read : ReportBytesAreItsText) (determin
       too_big = λ big. long;
       unfit = λ at also. absurd (never_big OutOfForm at is also);
       wrong = λ at also. absurd (never_big Wrong at is also);
-      none = λ fits s bounds right same. omega (arith, fits, long);
+      none = λ fits s asked right same. omega (arith, fits, long);
       never = λ at also s right same. never_big Wrong at is also;
     },
   )
@@ -201,7 +202,7 @@ module _ (got : BytesAreThoseRead) (text_read : ReportBytesAreItsText) (determin
 
 -- ---- both
 
-module _ (got : BytesAreThoseRead) (text_read : ReportBytesAreItsText) (gap : ReportPaymentsMakeUpTheGap) (priced : RunPricesAreWithin) (nothing : NothingIsPaidBack) (determined : TextDeterminesReport) (has_form : RightReportHasForm) (a : AuditAsked) (told : List ℕ → Option (List ℕ)) (rose gained short : List ℕ → Type 0) where
+module _ (got : BytesAreThoseRead) (text_read : ReportBytesAreItsText) (gap : ReportPaymentsMakeUpTheGap) (priced : RunPricesAreWithin) (nothing : NothingIsPaidBack) (determined : TextDeterminesReport) (has_form : RightReportHasForm) (in_form : PrintedReportsAreInForm) (a : AuditAsked) (told : List ℕ → Option (List ℕ)) (rose gained short : List ℕ → Type 0) where
   abbrev Promise : Result Asked WordFault → ℕ → Type 0
   Promise w n =
       (n ≡ 0 → IsAuditPromised a told gained)
@@ -212,7 +213,7 @@ module _ (got : BytesAreThoseRead) (text_read : ReportBytesAreItsText) (gap : Re
   audited n reads Cut are ends is = (λ z. absurd (omega (arith, is, z)), λ z. absurd (omega (arith, is, z)))
   audited n reads (Refused f) are (inl due, lines) is = (
     λ z. absurd (omega (arith, is, z, (status_within f).0)),
-    λ z. (reads, are, audit_refused got text_read determined has_form a gained short reads f lines (sym is ∙ z) due),
+    λ z. (reads, are, audit_refused got text_read determined has_form in_form a gained short reads f lines (sym is ∙ z) due),
   )
   audited n reads (Refused f) are (inr memory, lines) is =
       let seven : n ≡ 7 = is ∙ ap status_of memory in (

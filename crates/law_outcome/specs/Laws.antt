@@ -57,6 +57,7 @@ use Rattle.hull_report.specs.declared.fault.TopFault.TheVariants.{Report as Unfi
 use Rattle.report_read.specs.Bounds.{IsReport}
 use Rattle.report_read.specs.Faults.{IsFault}
 use Rattle.report_compare.specs.Right.{DiffersFromRight}
+use Rattle.law_audit.specs.Laws.{AreAsked}
 use Rattle.hull_engine.specs.Steps.{Reads, IsInput, IsCaseFile, prices_fault, mixture_fault}
 use Rattle.hull_engine.specs.Planned.{PlannedCase}
 use Rattle.hull_engine.specs.Outcome.{Command, command_for, AreReads, HasText, IsOutcome}
@@ -280,8 +281,8 @@ pub record IsWrongAt (i : PlannedCase) (bytes : List ℕ) (line : ℕ) : Type 0 
 -- And where it answers 8, over an accepted input: the line of a fault that is due was written, as
 -- far as the sink took it. The report's file has more than 67,108,864 bytes; or the line is the
 -- first that is out of form; or the report isn't right, and the line is the first that differs. No
--- report within the bounds of reading that is right has the bytes, unless they are too many; and
--- where a wrong line is told, no right report at all has them.
+-- right report with a budget and a number ahead that a run may be asked for has the bytes, unless
+-- they are too many; and where a wrong line is told, no right report at all has them.
 pub record IsAuditRefused (c : Command) (gained short : List ℕ → Type 0) (reads : Reads)
     (i : PlannedCase) : Type 0 where
   pub fault : TopFault
@@ -294,7 +295,7 @@ pub record IsAuditRefused (c : Command) (gained short : List ℕ → Type 0) (re
   pub too_big : fault ≡ TooBig ReportFile → MOST_BYTES < length bytes
   pub unfit : (line : ℕ) → fault ≡ Unfit OutOfForm line → IsFault bytes line
   pub wrong : (line : ℕ) → fault ≡ Unfit Wrong line → IsWrongAt i bytes line
-  pub none : length bytes ≤ MOST_BYTES → (r : Report) → IsReport r →
+  pub none : length bytes ≤ MOST_BYTES → (r : Report) → AreAsked r.budget r.ahead →
       IsRightReport i.market i.plan r.budget r.ahead r → bytes ≡ report_text r → ⊥
   pub never : (line : ℕ) → fault ≡ Unfit Wrong line → (r : Report) →
       IsRightReport i.market i.plan r.budget r.ahead r → bytes ≡ report_text r → ⊥

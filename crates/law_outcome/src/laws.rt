@@ -10,6 +10,7 @@ ghost use Rattle.law_outcome.specs.Laws.{RunsPrintTheSame};
 use gap_proof::laws::{run_bounds_hold, run_prices_are_within};
 use hull_engine::laws::{bytes_are_those_read, report_bytes_are_its_text, words_have_sizes};
 use hull_io::{Shelf, Sink};
+use law_audit::laws::printed_reports_are_in_form;
 use mixture_bound::laws::{
     mixture_bound_holds, mixture_bound_reaches_centre, mixtures_break_no_rule, payments_reach_least,
 };
@@ -146,6 +147,7 @@ pub fn audits_hold<F: Shelf, S: Sink>()
     nothing_is_paid_back();
     text_determines_the_report();
     right_report_has_form();
+    printed_reports_are_in_form();
 }
 
 /// The number of workers changes nothing that is due and nothing that may be printed, of any
