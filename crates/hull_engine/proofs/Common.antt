@@ -1,39 +1,28 @@
 -- The names that the proofs of this crate take from its specs and from other crates, passed on from one place.
-pub use Rattle.std.proofs.Common.{◌≡◌, ℕ, ℤ, List, subst, sym, ap, ◌∙◌, inl, inr, Option, Some, Result, Ok, Err, refl, ◌≤◌, zero, suc, ◌<◌, false, [], ◌∷◌, ◌++◌, length, map, drop, slice_index_or, slice_index, arith, append_assoc, length-append, ◌+◌, Bool, true, replicate, None, pos, ◌&&◌, cond, leb, option_map, unwrap_or, unsigned_abs, rules}
-pub use Rattle.std.proofs.lemmas.Bool.{le-ltb, lt-ltb, leb-true}
-pub use Rattle.std.proofs.lemmas.Int.{ints, to_z-of_z}
-pub use Rattle.std.proofs.lemmas.List.{length-map, length-replicate}
-pub use Rattle.std.proofs.lemmas.List.Elements.{All-from_get_or, All-push}
+pub use Rattle.std.proofs.Common.{◌≡◌, ℕ, ℤ, List, subst, sym, ap, ◌∙◌, inl, inr, Option, Result, Ok, Err, refl, ◌≤◌, [], ◌∷◌, ◌++◌, length, arith, length-append, rules}
+pub use Rattle.std.proofs.lemmas.Int.{to_z-of_z}
+pub use Rattle.std.proofs.lemmas.List.{length-map}
+pub use Rattle.std.proofs.lemmas.List.Elements.{All-push}
 pub use Rattle.std.proofs.lemmas.Result.{err_from_is_err_and}
-pub use Rattle.std.specs.Int.{w64, w128}
-pub use Rattle.std.specs.List.{All, AllZip}
-pub use Rattle.std.specs.Prelude.{IsTrue, IfSome, nat_lt, if◌then◌else◌, option_and_then, OnOk, OnErr}
-pub use Rattle.hull_engine.specs.Planned.{planned_in, planned_of, planned_run, PlannedCase}
+pub use Rattle.std.specs.Int.{w64}
+pub use Rattle.std.specs.List.{All}
+pub use Rattle.std.specs.Prelude.{OnOk, OnErr}
+pub use Rattle.hull_command.specs.Planned.{planned_in, planned_run, PlannedCase}
 pub use Rattle.run_settle.specs.Rounds.{IsEnded}
-pub use Rattle.board_core.specs.Setups.{setup_of, IsSetup}
+pub use Rattle.board_core.specs.Setups.{setup_of}
 pub use Rattle.board_core.specs.declared.terms.Terms.{Terms}
 pub use Rattle.audit_rows.specs.Benches.{IsBenchOver}
-pub use Rattle.hull_engine.specs.Answers.{HasStatus, IsRunText, IsFaultOf, IsCommandAnswer, IsTextOf, IsEndOf, HasRead, IsAnswer, HasSettled, IsCertifiedAt}
-pub use Rattle.hull_engine.specs.Inputs.{HasNumbers, try_asked, bound_asked, audit_asked, certify_asked}
-pub use Rattle.hull_engine.specs.Rest.{Completes, IsPrepared, rest_with, rest_of, nothing_read, EndsIn}
-pub use Rattle.hull_engine.specs.Outcome.{IsReportText, IsBoundText, IsFixedText, Command, command_for, Ends, IsReadOf, HasText, IsAuditText, IsSettlementText, case_and_schedule, with_report, with_prices, with_mixture, AreReads, no_files}
-pub use Rattle.hull_engine.specs.Steps.{Then, Reads, IsInput, IsWithinWork, IsReportFile, IsJudged, IsAudit, bytes_of, IsBytes, IsMade, IsPlanFile, IsChecked, IsCaseFile, IsReportIn, IsCase, IsPlan, IsPrices, IsPricesFile, IsPriced, IsShares, IsSharesFile, IsMixed, IsMixtureFile, IsCertifiable}
-pub use Rattle.hull_io.specs.Edge.{Gains, FallsShort, Rose}
+pub use Rattle.hull_command.specs.Answers.{HasStatus, IsRunText}
+pub use Rattle.hull_command.specs.Rest.{Completes, rest_with, rest_of, nothing_read}
+pub use Rattle.hull_command.specs.Outcome.{IsReportText, IsBoundText, IsFixedText, Command, command_for, Ends, HasText}
+pub use Rattle.hull_command.specs.Steps.{Reads}
+pub use Rattle.hull_io.specs.Edge.{Gains, FallsShort}
 pub use Rattle.right_report.specs.RightSide.{told_of}
 pub use Rattle.hull_report.specs.FixedText.{fixed_text}
 pub use Rattle.hull_report.specs.TryText.{try_text}
-pub use Rattle.hull_report.specs.declared.fault.FileKind.TheVariants.{ReportFile, CaseFile, ScheduleFile, PricesFile, MixtureFile}
-pub use Rattle.hull_report.specs.declared.fault.TopFault.{TopFault}
-pub use Rattle.hull_report.specs.declared.fault.TopFault.TheVariants.{Words, TooBig, Memory}
-pub use Rattle.hull_words.specs.Asked.{Asked, Found, CheckAsked, PriceAsked, SettleAsked, price, check, try, bound, fixed, audit, settle, certify, with_both, names_from, settle_from, asked_from, asked, price_asked, settle_asked}
-pub use Rattle.hull_words.specs.Words.{first_fault, backwards, or_fault, or_missing, asked_of, later_words, texts}
-unfoldable pub use Rattle.hull_words.specs.Words.{found_in, words_of}
-pub use Rattle.hull_words.specs.declared.fault.WordFault.{WordFault}
+pub use Rattle.hull_words.specs.Words.{texts}
+unfoldable pub use Rattle.hull_words.specs.Words.{words_of}
 pub use Rattle.report_form.specs.ReportText.{Report, report_text}
 unfoldable pub use Rattle.report_read.specs.Plain.{report_of}
-pub use Rattle.uc_case.specs.Files.{text, value}
-pub use Rattle.uc_model.specs.Data.{unit_count, AnyUnit, Thermal, Flat, Bid, NamedThermalUnit, NamedRenewableUnit, NamedBidUnit, Schedule, Market, units}
-pub use Rattle.uc_model.specs.PlainCases.{market_of, proposal_of, schedules_of}
-pub use Rattle.uc_model.specs.PlainUnits.{prices_of}
-pub use Rattle.mixture_bound.specs.Mixtures.{MixtureLists, mixture_of}
-pub use Rattle.mixture_bound.specs.MixtureBound.{mixture_bound}
+pub use Rattle.uc_model.specs.Data.{unit_count}
+pub use Rattle.uc_model.specs.PlainCases.{market_of, proposal_of}

@@ -1,12 +1,6 @@
 -- The lemmas that answers cite, passed on from one place.
 pub use Rattle.hull_engine.proofs.AnswerLaws.{run_texts, bound_texts, sides_paid, fixed_texts}
-pub use Rattle.hull_engine.proofs.AuditLaws.{report_refused, work_refused, completes_audit, text_read}
-pub use Rattle.hull_engine.proofs.CertifyLaws.{priced_refused, mixture_refused, answers_certify}
-pub use Rattle.hull_engine.proofs.EndLaws.{refused_words, ends_as, starved_ends, sink_later, ends_later, price_done, price_cut, done_status, cut_status, before_as}
-pub use Rattle.hull_engine.proofs.ReadLaws.{got, unread, unread_is, report_added, are_report_added, prices_added, are_prices_added, mixture_added, are_mixture_added, any_reads, are_any_reads, read_wider, two_reads, are_two_reads, was_read, was_too_big}
-pub use Rattle.hull_engine.proofs.RestLaws.{completes_price, completes_bound, completes_fixed, completes_try, ends_of_rest}
-pub use Rattle.hull_engine.proofs.SettleLaws.{prices_refused, answers_settle}
-pub use Rattle.hull_engine.proofs.StepLaws.{refused_then, answer_then}
-pub use Rattle.hull_engine.proofs.WordSizes.{words_have_sizes, words_have_sizes as sizes}
-pub use Rattle.hull_engine.proofs.WriteLaws.{status_written, run_text, written_bound, bound_written, ended_lengths}
+pub use Rattle.hull_engine.proofs.EndLaws.{ends_later, price_done, price_cut, done_status, cut_status}
+pub use Rattle.hull_engine.proofs.RestLaws.{ends_of_rest}
+pub use Rattle.hull_engine.proofs.WriteLaws.{status_written}
 pub use Rattle.hull_engine.proofs.WorkerLaws.{useful_within}

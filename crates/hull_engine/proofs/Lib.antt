@@ -1,24 +1,12 @@
 -- The names from elsewhere that the proofs here cite.
 pub mod Common
--- files.rt, prepare.rt: one step after another
-pub mod StepLaws
--- files.rt, prepare.rt, laws.rt: what was read of a file
-pub mod ReadLaws
 -- answers.rt: what a run leaves
 pub mod AnswerLaws
--- prepare.rt: the numbers of a run that words give are within their limits
-pub mod WordSizes
--- prepare.rt, laws.rt: the audit of a report
-pub mod AuditLaws
--- prepare.rt: a settlement at given prices
-pub mod SettleLaws
--- prepare.rt: a certificate of given prices
-pub mod CertifyLaws
--- prepare.rt, lib.rt: a run that is ready completes its command
+-- lib.rt: a run that is ready completes its command
 pub mod RestLaws
--- end.rt: what is written of a run that has ended is the text of a right report
+-- end.rt: the status of a run whose text was written
 pub mod WriteLaws
--- lib.rt, end.rt, prepare.rt: the end of a run is its outcome
+-- lib.rt, end.rt: how a run ends
 pub mod EndLaws
 -- lib.rt: how many workers a run has
 pub mod WorkerLaws

@@ -1,58 +1,9 @@
--- A run that is ready completes its command.
-use Rattle.hull_engine.proofs.Common.{◌≡◌, ℕ, List, Ok, Err, sym, subst, report_text, try_text, Terms, planned_run, PlannedCase, IsReportText, IsBoundText, IsFixedText, IsInput, IsWithinWork, IsMade, Then, Reads, Completes, Ends, HasText, Command, command_for, price, try, bound, fixed, price_asked, try_asked, bound_asked, HasNumbers, rest_with, nothing_read, inl, inr}
-use Rattle.hull_words.specs.declared.command.PriceWords.{PriceWords}
-use Rattle.hull_words.specs.declared.command.TryWords.{TryWords}
-use Rattle.hull_words.specs.declared.command.BoundWords.{BoundWords}
-use Rattle.hull_engine.specs.declared.ready.Task.{Task}
-use Rattle.hull_engine.specs.declared.ready.Task.TheVariants.{Price, Try, Bound, Fixed}
-use Rattle.hull_engine.specs.declared.end.End.{End}
-use Rattle.hull_engine.specs.declared.end.End.TheVariants.{Done, Cut, Refused}
+-- What the rest of a command ends in, the command ends in.
+use Rattle.hull_engine.proofs.Common.{ℕ, List, Ok, Err, PlannedCase, Reads, Completes, Ends, HasText, Command, rest_with, nothing_read, inl, inr}
+use Rattle.hull_command.specs.declared.ready.Task.{Task}
+use Rattle.hull_command.specs.declared.end.End.{End}
+use Rattle.hull_command.specs.declared.end.End.TheVariants.{Done, Cut, Refused}
 
-by_numbers : (P : (budget ahead : ℕ) → Type 0) (b a c d : ℕ) → b ≡ c → a ≡ d → P b a → P c d
-by_numbers P b a c d e f p = subst (P c) f (subst (λ (n : ℕ). P n a) e p)
-
-module _ (terms : Terms) where
-  pub completes_price : (words : PriceWords) (reads : Reads) → HasNumbers words terms
-      → Then (IsInput reads) (IsWithinWork words.proposals) (Ok (planned_run terms))
-      → Completes (command_for (Ok (price (price_asked words)))) reads
-      (rest_with Price (planned_run terms) terms.budget terms.ahead)
-  completes_price words reads n is = record {
-    due = λ found e. subst (Then (IsInput reads) (IsWithinWork words.proposals)) (sym e) is;
-    text = λ i text printed. by_numbers (λ (b a : ℕ). IsReportText report_text b a i text) terms.budget terms.ahead
-        words.proposals words.ahead n.budget n.ahead printed;
-  }
-
-  pub completes_bound : (words : BoundWords) (reads : Reads) → HasNumbers words.run terms
-      → Then (IsInput reads) (IsWithinWork words.run.proposals) (Ok (planned_run terms))
-      → Completes (command_for (Ok (bound (bound_asked words)))) reads
-      (rest_with (Bound words.radius) (planned_run terms) terms.budget terms.ahead)
-  completes_bound words reads n is = record {
-    due = λ found e. subst (Then (IsInput reads) (IsWithinWork words.run.proposals)) (sym e) is;
-    text = λ i text printed. by_numbers (λ (b a : ℕ). IsBoundText b a words.radius i text) terms.budget terms.ahead
-        words.run.proposals words.run.ahead n.budget n.ahead printed;
-  }
-
-  pub completes_fixed : (words : PriceWords) (reads : Reads) → HasNumbers words terms
-      → Then (IsInput reads) (IsWithinWork words.proposals) (Ok (planned_run terms))
-      → Completes (command_for (Ok (fixed (price_asked words)))) reads
-      (rest_with Fixed (planned_run terms) terms.budget terms.ahead)
-  completes_fixed words reads n is = record {
-    due = λ found e. subst (Then (IsInput reads) (IsWithinWork words.proposals)) (sym e) is;
-    text = λ i text printed. by_numbers (λ (b a : ℕ). IsFixedText b a i text) terms.budget terms.ahead words.proposals
-        words.ahead n.budget n.ahead printed;
-  }
-
-  pub completes_try : (words : TryWords) (reads : Reads) → terms.budget ≡ words.proposals → terms.ahead ≡ words.ahead
-      → Then (IsMade words.number) (IsWithinWork words.proposals) (Ok (planned_run terms))
-      → Completes (command_for (Ok (try (try_asked words)))) reads
-      (rest_with (Try words.number) (planned_run terms) terms.budget terms.ahead)
-  completes_try words reads budget ahead is = record {
-    due = λ found e. subst (Then (IsMade words.number) (IsWithinWork words.proposals)) (sym e) is;
-    text = λ i text printed. by_numbers (λ (b a : ℕ). IsReportText (try_text words.number) b a i text) terms.budget
-        terms.ahead words.proposals words.ahead budget ahead printed;
-  }
-
--- what the rest of a command ends in, the command ends in
 module _ (c : Command) (task : Task) (input : PlannedCase) (budget ahead : ℕ) (reads : Reads)
     (completes : Completes c reads (rest_with task input budget ahead)) (gained short : List ℕ → Type 0) where
   text_of_rest : (P : List ℕ → Type 0) → HasText (rest_with task input budget ahead) nothing_read P → HasText c reads P

@@ -1,41 +1,6 @@
--- What is written of a run that has ended is the text of a right report.
-use Rattle.hull_engine.proofs.Common.{◌≡◌, ℕ, inl, inr, List, Result, Ok, Err, length, unsigned_abs, refl, OnOk, OnErr, unit_count, Report, planned_in, IsRunText, IsBoundText, HasStatus, IsEnded}
-use Rattle.board_history.specs.Calls.{own_rows}
-use Rattle.hull_report.specs.BoundText.{bound_text}
-use Rattle.right_report.specs.RecordReport.{chosen_of, value_of, report_of, RecordReportIsRight, SettlementsAreOfAllUnits}
-use Rattle.run_settle.specs.declared.done.Done.{Done}
-use Rattle.run_settle.specs.declared.bound.Bounded.{Bounded}
-use Rattle.run_settle.specs.Bounded.{IsBounded}
+-- The status of a run whose text was written.
+use Rattle.hull_engine.proofs.Common.{◌≡◌, ℕ, inl, inr, Result, Ok, Err, OnOk, OnErr, HasStatus}
 
--- the settlement has one number for each unit
-pub ended_lengths : SettlementsAreOfAllUnits → (d : Done) → IsEnded d.closed.setup d
-    → (length d.settlement.scheduled.items ≡ unit_count d.closed.setup.market) × (length d.settlement.payments.items ≡ unit_count d.closed.setup.market)
-ended_lengths settled_lengths d h =
-    settled_lengths d.closed.setup.market d.closed.setup.plan h.row.prices d.settlement.scheduled.items d.settlement.payments.items d.settlement.surplus d.settlement.total
-    h.settled.feasible h.settled.settled
-
-pub run_text : RecordReportIsRight → (text_of : Report → List ℕ) (d : Done) → IsEnded d.closed.setup d → IsRunText text_of d.closed.setup (text_of (report_of d.closed d.settlement))
-run_text right text_of d h = (report_of d.closed d.settlement, right d.closed d.settlement h.row h.settled, refl)
-
--- what is written of a bound
-abbrev pub written_bound : Bounded → List ℕ
-written_bound b =
-    bound_text (length (own_rows b.done.closed)) (chosen_of b.done.closed) (value_of b.done.closed)
-    (unsigned_abs b.radius) b.certified.first b.certified.last b.certified.bound
-
-pub bound_written : RecordReportIsRight → (b : Bounded) → IsBounded b.done.closed.setup b.radius b
-    → IsBoundText b.done.closed.setup.budget b.done.closed.setup.ahead b.radius (planned_in b.done.closed.setup) (written_bound b)
-unfolding report_of
-bound_written right b h = (
-  report_of b.done.closed b.done.settlement,
-  right b.done.closed b.done.settlement h.ended.row h.ended.settled,
-  record { first = b.certified.first; last = b.certified.last },
-  b.certified.bound,
-  h.best,
-  refl,
-)
-
--- its status
 pub status_written : {E : Type 0} (written : Result (Unit {0}) E) (n : ℕ) (gained short : Type 0) → OnOk written gained → OnErr written short → OnOk written (n ≡ 0) → OnErr written (n ≡ 6) → HasStatus n gained short
 status_written (Ok u) n gained short whole cut zero six = inl (zero, whole)
 status_written (Err e) n gained short whole cut zero six = inr (six, cut)

@@ -2,17 +2,17 @@
 ghost use Rattle.std.specs.Prelude.{IfOk};
 ghost use Rattle.gap_proof.specs.Sums.{IsRadius};
 ghost use Rattle.board_core.specs.Setups.{IsSetup, setup_of};
-ghost use Rattle.hull_engine.specs.Planned.{planned_run};
-ghost use Rattle.hull_engine.specs.Sizes.{IsWorkers};
-ghost use Rattle.hull_engine.specs.Answers.{IsAnswered, IsCommandAnswer};
-ghost use Rattle.hull_engine.specs.Rest.{rest_with, nothing_read, IsFitReport};
-ghost use Rattle.hull_engine.specs.declared.ready.Task.TheVariants as tasks;
+ghost use Rattle.hull_command.specs.Planned.{planned_run};
+ghost use Rattle.hull_command.specs.Sizes.{IsWorkers};
+ghost use Rattle.hull_command.specs.Answers.{IsAnswered, IsCommandAnswer};
+ghost use Rattle.hull_command.specs.Rest.{rest_with, nothing_read, IsFitReport};
+ghost use Rattle.hull_command.specs.declared.ready.Task.TheVariants as tasks;
 
-use crate::answer::Answer;
 use crate::audit::right_proposals;
 use answer_workers::Gate;
 use board_core::Terms;
 use board_run::{bounded_run, compared_runs, open_run, run_board};
+use hull_command::Answer;
 use hull_report::TopFault;
 use report_read::Report;
 use std::alloc::Global;

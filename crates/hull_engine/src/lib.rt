@@ -6,60 +6,25 @@ ghost use Rattle.std.specs.Prelude.{◌≡◌, ◌≤◌, None};
 ghost use Rattle.hull_io.specs.Edge.{Rose, Gains, FallsShort};
 ghost use Rattle.hull_words.specs.Words.{texts, words_of};
 ghost use Rattle.hull_report.specs.declared.fault.FileKind.{FileKind};
-ghost use Rattle.hull_engine.specs.Outcome.{command_for, IsOutcome};
-ghost use Rattle.hull_engine.specs.Answers.{IsLaterShelf};
-ghost use Rattle.hull_engine.specs.Rest.{rest_of, IsReady, IsBefore, IsUntouched, EndsIn};
+ghost use Rattle.hull_command.specs.Outcome.{command_for, IsOutcome};
+ghost use Rattle.hull_command.specs.Answers.{IsLaterShelf};
+ghost use Rattle.hull_command.specs.Rest.{rest_of, IsReady, EndsIn};
 ghost use Rattle.hull_engine.specs.Workers.{IsUseful};
 
-mod answer;
 mod answers;
 mod audit;
-mod certify;
 mod end;
-mod files;
-mod input;
-pub mod laws;
-mod prepare;
-mod ready;
-mod settle;
 mod workers;
 
 use answer_workers::Gate;
+use end::end_ready;
 pub use end::finish_run;
-use end::{end_prepared, end_ready};
+use hull_command::{Before, Ready, hull_before_run};
 use hull_io::{Shelf, Sink};
-use prepare::prepare;
-pub use ready::{Before, Ready, Task};
 use std::alloc::Global;
 use std::sync::Wait;
 use std::thread::Threads;
 pub use workers::useful_workers;
-
-/// Does all of a command that comes before a run: its words, its files and each refusal up to the
-/// opening of the run; of `hull check`, `hull settle` and `hull certify` that is all. It answers the
-/// status with which the command has ended, or else what is left to be run, with nothing written
-/// yet. It starts no thread and waits for none, so it is proved to return where each read of the
-/// shelf and each write of the sink does.
-pub fn hull_before_run<F: Shelf, S: Sink>(
-    alloc: Global,
-    words: &[String],
-    shelf: &mut F,
-    out: &mut S,
-) -> Before
-    ensures before { IsBefore (texts words.now) (F.told shelf.old)
-        (λ name. Rose F.last (F.faults shelf.old name) (F.faults shelf.new name))
-        (Gains S.held S.faults out.old out.new)
-        (FallsShort S.held S.faults S.last out.old out.new) result }
-    ensures shelf { IsLaterShelf F.told F.faults shelf.old shelf.new }
-    ensures sink { S.faults out.old ≤ S.faults out.new }
-    ensures unread { ((file : FileKind)
-        → (command_for (words_of (texts words.now))).name_of file ≡ None)
-        → shelf.new ≡ shelf.old }
-    ensures unwritten { IsUntouched result (out.new ≡ out.old) }
-{
-    let prepared = prepare(alloc, words, shelf);
-    end_prepared(prepared, out)
-}
 
 /// Does what is left of a command with so many workers, which are those of the words that are
 /// useful, and answers its status as [`hull_run`] does.
@@ -84,7 +49,7 @@ pub fn finish_ready<R: Threads + Wait + Sync, S: Sink, G: Gate>(
 /// whole, and otherwise the status of the one fault line that was written, or 6 where the sink
 /// failed within the text.
 ///
-/// What that says of a run is one relation, `IsOutcome` in specs/Outcome.antt, to be read from top
+/// What that says of a run is one relation, `IsOutcome` in hull_command's specs/Outcome.antt, to be read from top
 /// to bottom. The crate law_outcome has what follows from it: the cause of each status, that at most
 /// one thing is due, that where no count rose what was read decides but for want of memory, and
 /// what a report that was printed promises. It names no workers: for every number of them, and

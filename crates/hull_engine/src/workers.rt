@@ -1,7 +1,10 @@
 //! How many workers a run has, and the processors of the machine.
+ghost use Rattle.std.specs.Prelude.{◌≡◌};
+ghost use Rattle.board_core.specs.Setups.{IsSetup, setup_of};
+ghost use Rattle.hull_command.specs.Sizes.{IsWorkers};
 ghost use Rattle.hull_engine.specs.Workers.{IsUseful};
-ghost use Rattle.hull_engine.specs.Sizes.{IsWorkers};
 
+use board_core::Terms;
 use plain_lists::limits::MOST_WORKERS;
 use std::thread;
 use std::thread::Threads;
@@ -30,4 +33,17 @@ pub fn useful_workers<R: Threads>(rt: &R, asked: u32) -> u32
         return asked;
     }
     asked.min(processors(rt).max(FEW_WORKERS))
+}
+
+/// The same terms for so many workers: the board has a caller for each.
+pub fn manned(terms: Terms, workers: u32) -> Terms
+    requires setup { IsSetup (setup_of terms) }
+    requires workers { IsWorkers workers }
+    ensures same { result ≡ record terms { callers = workers } }
+    ensures setup { IsSetup (setup_of result) }
+    ensures workers { IsWorkers result.callers }
+{
+    let mut terms = terms;
+    terms.callers = workers;
+    terms
 }

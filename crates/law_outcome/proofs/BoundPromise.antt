@@ -1,7 +1,7 @@
 -- The bound that `hull bound` prints holds.
 use Rattle.law_outcome.proofs.Common.{◌≡◌, ℕ, ◌-◌, ◌≤◌, List, slice_get, Some, Option, Result, Ok, ◌∙◌, subst, arith, slice_get_within, Proposal, chosen_number, plan_cost, Asked, BoundAsked, bound, WordFault, words_of, OneIsChosen, End, Done, Cut, Refused, Reads, PlannedCase, command_for, IsBoundText, AreReads, Ends, status_at, OverReads, IsBoundPromised, WordsHaveSizes}
 use Rattle.gap_proof.specs.Laws.{RunBoundsHold}
-use Rattle.hull_engine.specs.Sizes.{HasSizes}
+use Rattle.hull_command.specs.Sizes.{HasSizes}
 use Rattle.law_outcome.proofs.OutcomeLaws.{status_within}
 
 -- there is a row, so a row is chosen

@@ -5,14 +5,14 @@ pub use Rattle.std.proofs.lemmas.List.{length-map, get_or-map}
 pub use Rattle.std.proofs.lemmas.Option.{slice_get_within, same_Some}
 pub use Rattle.std.specs.List.{All}
 pub use Rattle.std.specs.Prelude.{nat_lt, if◌then◌else◌, IsTrue, IfSome, IsSome, ◌≤ℤ◌}
-pub use Rattle.hull_engine.specs.Planned.{PlannedCase}
+pub use Rattle.hull_command.specs.Planned.{PlannedCase}
 pub use Rattle.fixed_price.specs.FixedCase.{fixed_market}
 pub use Rattle.gap_proof.specs.Laws.{RunPricesAreWithin}
-pub use Rattle.hull_engine.specs.Laws.{BytesAreThoseRead, ReportBytesAreItsText, WordsHaveSizes}
-pub use Rattle.hull_engine.specs.Outcome.{command_for, IsReadOf, AreReads, with_report, HasText, Ends, status_at, IsBoundText, IsFixedText, IsReportText, IsAuditText, IsSettlementText, IsCertificateText, case_and_schedule, with_prices, with_mixture, Command}
-pub use Rattle.hull_engine.specs.Steps.{Reads, bytes_of, IsInput, IsWithinWork, IsReportFile, IsAudit, Goes, Then, IsBytes, case_fault, plan_fault, IsCase, IsCaseFile, IsPlan, IsPlanFile, IsChecked, IsMade, IsReportIn, IsJudged, IsPrices, IsPricesFile, IsPriced, prices_fault, IsShares, IsSharesFile, IsMixed, IsMixtureFile, HasMixture, IsCertifiable, mixture_fault}
-pub use Rattle.hull_engine.specs.declared.end.End.{End}
-pub use Rattle.hull_engine.specs.declared.end.End.TheVariants.{Done, Cut, Refused, Done as done_whole}
+pub use Rattle.hull_command.specs.Laws.{BytesAreThoseRead, ReportBytesAreItsText, WordsHaveSizes}
+pub use Rattle.hull_command.specs.Outcome.{command_for, IsReadOf, AreReads, with_report, HasText, Ends, status_at, IsBoundText, IsFixedText, IsReportText, IsAuditText, IsSettlementText, IsCertificateText, case_and_schedule, with_prices, with_mixture, Command}
+pub use Rattle.hull_command.specs.Steps.{Reads, bytes_of, IsInput, IsWithinWork, IsReportFile, IsAudit, Goes, Then, IsBytes, case_fault, plan_fault, IsCase, IsCaseFile, IsPlan, IsPlanFile, IsChecked, IsMade, IsReportIn, IsJudged, IsPrices, IsPricesFile, IsPriced, prices_fault, IsShares, IsSharesFile, IsMixed, IsMixtureFile, HasMixture, IsCertifiable, mixture_fault}
+pub use Rattle.hull_command.specs.declared.end.End.{End}
+pub use Rattle.hull_command.specs.declared.end.End.TheVariants.{Done, Cut, Refused, Done as done_whole}
 pub use Rattle.plain_lists.specs.declared.limits.TheConstants.{MOST_BYTES}
 pub use Rattle.hull_report.specs.FaultLines.{status_of, fault_line}
 pub use Rattle.right_report.specs.Laws.{RightReportHasForm, ReportPaymentsMakeUpTheGap, OneIsChosen, OneRightReport}

@@ -2,7 +2,7 @@
 -- hull_run's clause `outcome` holds: `told` is what the shelf tells, `rose` that the count of a
 -- name rose or stands at its last value, `gained` that the sink has a text whole, and `short` that
 -- it has a front of it and its count rose, or stands at its last value. IsOutcome and the commands
--- are in the Outcome of hull_engine.
+-- are in the Outcome of hull_command.
 use Rattle.std.specs.List.{All}
 use Rattle.std.specs.Prelude.{◌≡◌, ◌≢◌, ◌⊎◌, ℕ, ◌<◌, ◌≤◌, ◌==◌, ◌||◌, Bool, ◌+ℤ◌, ◌-ℤ◌, List}
 use Rattle.std.specs.Prelude.{Option, None, Some, Result, Ok, Err, IsTrue, IfSome, IsSome, ℤ, ◌-◌}
@@ -58,9 +58,9 @@ use Rattle.report_read.specs.Bounds.{IsReport}
 use Rattle.report_read.specs.Faults.{IsFault}
 use Rattle.report_compare.specs.Right.{DiffersFromRight}
 use Rattle.law_audit.specs.Laws.{AreAsked}
-use Rattle.hull_engine.specs.Steps.{Reads, IsInput, IsCaseFile, prices_fault, mixture_fault}
-use Rattle.hull_engine.specs.Planned.{PlannedCase}
-use Rattle.hull_engine.specs.Outcome.{Command, command_for, AreReads, HasText, IsOutcome}
+use Rattle.hull_command.specs.Steps.{Reads, IsInput, IsCaseFile, prices_fault, mixture_fault}
+use Rattle.hull_command.specs.Planned.{PlannedCase}
+use Rattle.hull_command.specs.Outcome.{Command, command_for, AreReads, HasText, IsOutcome}
 
 -- ---- at most one thing is due
 

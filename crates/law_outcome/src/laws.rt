@@ -8,7 +8,7 @@ ghost use Rattle.law_outcome.specs.Laws.{SettlementsHold, CertificatesHold, Work
 ghost use Rattle.law_outcome.specs.Laws.{RunsPrintTheSame};
 
 use gap_proof::laws::{run_bounds_hold, run_prices_are_within};
-use hull_engine::laws::{bytes_are_those_read, report_bytes_are_its_text, words_have_sizes};
+use hull_command::laws::{bytes_are_those_read, report_bytes_are_its_text, words_have_sizes};
 use hull_io::{Shelf, Sink};
 use law_audit::laws::printed_reports_are_in_form;
 use mixture_bound::laws::{

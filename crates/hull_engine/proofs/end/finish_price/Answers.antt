@@ -1,7 +1,7 @@
-use Rattle.hull_engine.proofs.Common.{refl, ◌∙◌, planned_run, report_text, Gains, FallsShort, rest_with, nothing_read, Err, Memory}
+use Rattle.hull_engine.proofs.Common.{refl, ◌∙◌, planned_run, report_text, Gains, FallsShort, inr}
 use Rattle.right_report.specs.RecordReport.{report_of}
-use Rattle.hull_engine.specs.declared.ready.Task.TheVariants.{Price}
-use Rattle.hull_engine.proofs.Lemmas.{run_texts, price_done, price_cut, done_status, cut_status, starved_ends}
+use Rattle.hull_command.specs.declared.ready.Task.TheVariants.{Price}
+use Rattle.hull_engine.proofs.Lemmas.{run_texts, price_done, price_cut, done_status, cut_status}
 use Rattle.hull_engine.proofs.end.finish_price.Goals as goal
 
 pub returns-then-status-eq0 : goal.returns-then-status-eq0
@@ -29,6 +29,4 @@ returns-in-Ok g c =
 pub returns : goal.returns
 returns g c =
     let terms = c.args.terms in
-    let gained = Gains g.S.Sink.held g.S.Sink.faults c.args.out.now c.finish.new.out in
-    let short = FallsShort g.S.Sink.held g.S.Sink.faults g.S.Sink.last c.args.out.now c.finish.new.out in
-    starved_ends (rest_with Price (planned_run terms) terms.budget terms.ahead) nothing_read gained short (Err Memory) c.finish.result refl c.finish.ensures
+    c.finish.ensures.ends Price (planned_run terms) terms.budget terms.ahead (inr refl)

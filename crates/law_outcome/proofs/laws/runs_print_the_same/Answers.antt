@@ -1,5 +1,5 @@
 use Rattle.law_outcome.proofs.Common.{◌≡◌, ℕ, List, Option, Result, Ok, subst, inl, inr, Asked, WordFault, words_of, command_for, Reads, PlannedCase, TopFault, AreReads, Ends, IsQuiet}
-use Rattle.hull_engine.specs.Outcome.{IsOutcome}
+use Rattle.hull_command.specs.Outcome.{IsOutcome}
 use Rattle.law_outcome.proofs.SameOutput.{Shows, free_shows, free_quiet, same_at_0, same_at_8}
 use Rattle.law_outcome.proofs.laws.runs_print_the_same.Goals as goal
 

@@ -1,0 +1,162 @@
+-- What the steps of a run answer, and what its end leaves.
+use Rattle.std.specs.Prelude.{◌≡◌, ◌⊎◌, ◌≤◌, ⊤, ℕ, ℤ, List, length, unsigned_abs, Option, Result}
+use Rattle.std.specs.Prelude.{Ok, Err}
+use Rattle.uc_model.specs.Data.{PriceLists}
+use Rattle.uc_model.specs.Limits.{IsSum, IsWorth}
+use Rattle.uc_model.specs.PlainCases.{market_of, schedules_of}
+use Rattle.uc_model.specs.PlainUnits.{prices_of}
+use Rattle.mixture_bound.specs.Mixtures.{MixtureLists}
+use Rattle.mixture_bound.specs.MixtureBound.{mixture_bound}
+use Rattle.right_report.specs.Told.{IsTold}
+use Rattle.board_history.specs.Board.{Setup}
+use Rattle.hull_report.specs.AuditText.{audit_text}
+use Rattle.hull_report.specs.CertifiedText.{certificate_of}
+use Rattle.hull_report.specs.CheckText.{check_text}
+use Rattle.hull_report.specs.FaultLines.{fault_line}
+use Rattle.right_report.specs.RightSide.{told_of}
+use Rattle.hull_report.specs.FixedText.{fixed_text}
+use Rattle.report_form.specs.CertificateText.{certificate_text}
+use Rattle.report_form.specs.ReportText.{Report}
+use Rattle.hull_report.specs.SettledText.{settlement_of}
+use Rattle.report_form.specs.SettlementText.{settlement_text}
+use Rattle.hull_report.specs.TryText.{try_text}
+use Rattle.hull_report.specs.declared.fault.FileKind.{FileKind}
+use Rattle.hull_report.specs.declared.fault.FileKind.TheVariants.{PricesFile}
+use Rattle.hull_report.specs.declared.fault.TopFault.{TopFault}
+use Rattle.hull_report.specs.declared.fault.TopFault.TheVariants.{Memory}
+use Rattle.hull_command.specs.declared.answer.Answer.{Answer}
+use Rattle.hull_command.specs.declared.answer.Answer.TheVariants.{Check, Settle, Try, Bound, Fixed}
+use Rattle.hull_command.specs.declared.answer.Answer.TheVariants.{Audit, Certify}
+use Rattle.hull_command.specs.declared.answer.CertifiedInput.{CertifiedInput}
+use Rattle.hull_command.specs.declared.answer.PricedInput.{PricedInput}
+use Rattle.hull_command.specs.declared.answer.SettledInput.{SettledInput}
+use Rattle.hull_command.specs.declared.end.End.{End}
+use Rattle.hull_command.specs.declared.end.End.TheVariants.{Done, Cut, Refused}
+use Rattle.hull_command.specs.Steps.{Reads, Then, IsInput, IsPricesFile, IsPriced}
+use Rattle.hull_command.specs.Planned.{PlannedCase, planned_in, planned_of, IsPlanned}
+use Rattle.hull_command.specs.Outcome.{Command, IsReportText, IsBoundText, IsReadOf, AreReads}
+use Rattle.run_settle.specs.Rounds.{IsEnded}
+use Rattle.run_settle.specs.Bounded.{IsBounded}
+use Rattle.run_settle.specs.Compared.{ArePaid}
+use Rattle.uplift_settle.specs.Settled.{HasEachUnit}
+use Rattle.uplift_settle.specs.Settled.{settled_of, IsSettledAt}
+
+-- ---- a step
+
+-- a fault is a refusal that is due, or want of memory
+abbrev pub IsFaultOf : {A : Type 0} → (Result A TopFault → Type 0) → TopFault → Type 0
+IsFaultOf is_due f = is_due (Err f) ⊎ (f ≡ Memory)
+
+-- what a step answers is what is due, unless memory ran out
+abbrev pub IsAnswer : {A X : Type 0} → (Result A TopFault → Type 0) → (X → A) →
+    Result X TopFault → Type 0
+IsAnswer is_due view (Ok x) = is_due (Ok (view x))
+IsAnswer is_due view (Err f) = IsFaultOf is_due f
+
+-- ---- a shelf that is read
+
+-- it tells the same, and no count falls
+pub record IsLaterShelf {F : Type 0} (told : F → List ℕ → Option (List ℕ))
+    (faults : F → List ℕ → ℕ) (old new : F) : Type 0 where
+  pub told_same : told new ≡ told old
+  pub later : (any : List ℕ) → faults old any ≤ faults new any
+
+-- what was read of a file has P
+abbrev pub HasRead : Option (List ℕ) → Type 0 → (Option (List ℕ) → Type 0) → Type 0
+HasRead told rose P = (read : Option (List ℕ)) × IsReadOf told rose read × P read
+
+-- what was read of the files of these names has P
+abbrev pub HasReads : (List ℕ → Option (List ℕ)) → (List ℕ → Type 0) →
+    (FileKind → Option (List ℕ)) → (Reads → Type 0) → Type 0
+HasReads told rose name_of P = (reads : Reads) × AreReads told rose name_of reads × P reads
+
+-- ---- an input with prices
+
+-- a feasible schedule of its case, and prices over the periods
+pub record IsFitPriced (p : PricedInput) : Type 0 where
+  pub planned : IsPlanned p.input
+  pub horizon : length (prices_of p.prices).energy ≡ (market_of p.input.case).periods
+
+-- the input and the prices of their files, or their first refusal, or want of memory
+abbrev pub IsPricedAnswer : Reads → Result PricedInput TopFault → Type 0
+IsPricedAnswer reads (Ok p) =
+    IsInput reads (Ok (planned_of p.input))
+    × IsPricesFile (market_of p.input.case).periods (reads PricesFile) (Ok (prices_of p.prices))
+IsPricedAnswer reads (Err f) = IsFaultOf (Then (IsInput reads) (IsPriced reads)) f
+
+-- ---- the answer of a command
+
+-- the texts that may be printed of a run
+abbrev pub IsRunText : (Report → List ℕ) → Setup → List ℕ → Type 0
+IsRunText text_of b = IsReportText text_of b.budget b.ahead (planned_in b)
+
+-- the texts that may be printed of an answer
+abbrev pub IsTextOf : Answer → List ℕ → Type 0
+IsTextOf (Check input) text = text ≡ check_text (market_of input.case) input.cost
+IsTextOf (Settle s) text =
+    text ≡ settlement_text
+    (settlement_of (market_of s.input.case) s.input.cost (settled_of s.settled))
+IsTextOf (Certify x) text =
+    text ≡ certificate_text
+    (certificate_of (market_of x.settled.input.case) x.settled.input.cost
+    (settled_of x.settled.settled) (unsigned_abs x.within.radius) x.within.bound)
+IsTextOf (Try number done) text = IsRunText (try_text number) done.closed.setup text
+IsTextOf (Bound b) text =
+    IsBoundText b.done.closed.setup.budget b.done.closed.setup.ahead b.radius
+    (planned_in b.done.closed.setup) text
+IsTextOf (Fixed s) text =
+    text ≡ fixed_text (market_of s.case) s.cost (told_of s.hull) (told_of s.fixed)
+IsTextOf (Audit proposals) text = text ≡ audit_text proposals
+
+-- a settlement has a number for each unit, and its sums are within their limits
+pub record HasSettled (s : SettledInput) : Type 0 where
+  pub cost : IsSum s.input.cost
+  pub value : IsWorth s.settled.row.value
+  pub each : HasEachUnit (market_of s.input.case) (settled_of s.settled)
+
+-- so it is of a certificate, and its bound is one that may be told
+pub record HasCertified (x : CertifiedInput) : Type 0 where
+  pub settled : HasSettled x.settled
+  pub bound : IsTold x.within.bound
+
+-- the schedule's settlement at these prices, and the bound round them by this mixture
+pub record IsCertifiedAt (π : PriceLists) (mixture : MixtureLists) (radius : ℤ)
+    (x : CertifiedInput) : Type 0 where
+  pub settled : IsSettledAt (market_of x.settled.input.case) (schedules_of x.settled.input.plan)
+      π (settled_of x.settled.settled)
+  pub radius_is : x.within.radius ≡ radius
+  pub bound_is : x.within.bound ≡ mixture_bound (market_of x.settled.input.case) mixture π radius
+
+-- a run that is answered has ended, and each unit is paid
+abbrev pub IsAnswered : Answer → Type 0
+IsAnswered (Check input) = ⊤
+IsAnswered (Settle s) = HasSettled s
+IsAnswered (Certify x) = HasCertified x
+IsAnswered (Try number done) = IsEnded done.closed.setup done
+IsAnswered (Bound b) = IsBounded b.done.closed.setup b.radius b
+IsAnswered (Fixed s) = ArePaid s
+IsAnswered (Audit proposals) = ⊤
+
+-- the answer's texts are texts of an accepted input of the command; a fault is one that is due, or
+-- want of memory
+abbrev pub IsCommandAnswer : Command → Reads → Result Answer TopFault → Type 0
+IsCommandAnswer c reads (Ok answer) =
+    (i : PlannedCase) × c.IsDue reads (Ok i)
+    × ((text : List ℕ) → IsTextOf answer text → c.IsText reads i text)
+IsCommandAnswer c reads (Err f) = IsFaultOf (c.IsDue reads) f
+
+-- ---- the end
+
+-- a text was written so: 0 where it was gained, and 6 where it fell short
+abbrev pub HasStatus : ℕ → (gained short : Type 0) → Type 0
+HasStatus n gained short = ((n ≡ 0) × gained) ⊎ ((n ≡ 6) × short)
+
+module _ (gained short : List ℕ → Type 0) where
+  -- what the end of an answer says of the sink
+  abbrev pub IsEndOf : Result Answer TopFault → End → Type 0
+  IsEndOf (Ok answer) Done = (text : List ℕ) × IsTextOf answer text × gained text
+  IsEndOf (Ok answer) Cut = (text : List ℕ) × IsTextOf answer text × short text
+  IsEndOf (Ok answer) (Refused f) = ⊥
+  IsEndOf (Err f) Done = ⊥
+  IsEndOf (Err f) Cut = ⊥
+  IsEndOf (Err f) (Refused g) = (g ≡ f) × (gained (fault_line g) ⊎ short (fault_line g))

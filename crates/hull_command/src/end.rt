@@ -1,0 +1,150 @@
+//! The end of a command: the text of its answer, or the line of a fault.
+ghost use Rattle.std.specs.Prelude.{◌≡◌, ◌≤◌, ℕ, List, length, IfOk};
+ghost use Rattle.uc_model.specs.PlainUnits.{schedule_of};
+ghost use Rattle.hull_io.specs.Edge.{Writes, Gains, FallsShort};
+ghost use Rattle.report_form.specs.ReportText.{report_text};
+ghost use Rattle.right_report.specs.RecordReport.{report_of};
+ghost use Rattle.run_settle.specs.Rounds.{IsEnded};
+ghost use Rattle.hull_command.specs.Answers.{IsTextOf, IsAnswered, IsCommandAnswer, IsEndOf};
+ghost use Rattle.hull_command.specs.Outcome.{Ends, status_at};
+ghost use Rattle.hull_command.specs.Planned.{PlannedCase};
+ghost use Rattle.hull_command.specs.Rest.{rest_with, nothing_read, IsFit, IsBeforeOf, IsUntouched};
+ghost use Rattle.hull_command.specs.declared.ready.Task.{Task};
+
+use crate::answer::{Answer, CertifiedInput, SettledInput};
+use crate::ready::{Before, Prepared};
+use hull_io::{Sink, WriteFailed};
+use hull_report::{
+    TopFault, write_audit, write_bound, write_certificate, write_check, write_fault, write_fixed,
+    write_report, write_settlement, write_try,
+};
+use right_report::laws::{record_report_is_right, settlements_are_of_all_units};
+use run_settle::{Bounded, Done};
+
+/// How a command ended.
+#[derive(Clone, Copy)]
+pub enum End {
+    /// The text was written whole.
+    Done,
+    /// The sink failed within the text.
+    Cut,
+    /// The line of this fault was written, as far as the sink took it.
+    Refused(TopFault),
+}
+
+impl End {
+    /// Its status.
+    pub fn status(&self) -> u8
+        ensures { result ≡ status_at self.now }
+    {
+        match self {
+            End::Done => 0,
+            End::Cut => 6,
+            End::Refused(fault) => fault.status(),
+        }
+    }
+}
+
+/// Writes the report of a run that has ended, which is left as it was but for its room for an
+/// answer. It takes no memory, and fails only where the sink does.
+pub fn write_done<S: Sink>(done: &mut Done, out: &mut S) -> Result<(), WriteFailed>
+    requires { IsEnded done.old.closed.setup done.old }
+    ensures text { Writes S.held S.faults S.last out.old out.new result
+        (report_text (report_of done.old.closed done.old.settlement)) }
+    ensures closed { done.new.closed ≡ done.old.closed }
+    ensures settlement { done.new.settlement ≡ done.old.settlement }
+    ensures horizon { length (schedule_of done.new.buffer.response).on
+        ≡ done.old.closed.setup.market.periods }
+{
+    settlements_are_of_all_units();
+    write_report(&done.closed, &done.settlement, &mut done.buffer, out)
+}
+
+/// Lets the parts of a run go, one after another.
+fn let_go(done: Done) {
+    let Done {
+        closed: _closed,
+        settlement: _settlement,
+        buffer: _buffer,
+        bench: _bench,
+    } = done;
+}
+
+/// Writes the text of the answer.
+fn write_answer<S: Sink>(answer: Answer, out: &mut S) -> Result<(), WriteFailed>
+    requires { IsAnswered answer }
+    ensures { (text : List ℕ) × IsTextOf answer text
+        × Writes S.held S.faults S.last out.old out.new result text }
+{
+    record_report_is_right();
+    match answer {
+        Answer::Check(input) => write_check(&input.case, input.cost, out),
+        Answer::Settle(settled) => {
+            let SettledInput { input, settled } = &settled;
+            write_settlement(&input.case, input.cost, settled, out)
+        }
+        Answer::Certify(certified) => {
+            let CertifiedInput { settled, within } = &certified;
+            let SettledInput { input, settled } = settled;
+            write_certificate(&input.case, input.cost, settled, *within, out)
+        }
+        Answer::Try(number, done) => {
+            let written = write_try(number, &done.closed, &done.settlement, out);
+            let_go(done);
+            written
+        }
+        Answer::Bound(bounded) => {
+            let Bounded {
+                done,
+                radius,
+                certified,
+            } = bounded;
+            let written = write_bound(&done.closed, radius, &certified, out);
+            let_go(done);
+            written
+        }
+        Answer::Fixed(sides) => {
+            write_fixed(&sides.case, sides.cost, &sides.hull, &sides.fixed, out)
+        }
+        Answer::Audit(proposals) => write_audit(proposals, out),
+    }
+}
+
+/// Writes the text of the answer, or the line of the fault. So ends the rest of each command that this
+/// answers.
+pub fn finish<S: Sink>(answer: Result<Answer, TopFault>, out: &mut S) -> End
+    requires { IfOk answer (λ answer. IsAnswered answer) }
+    ensures end { IsEndOf (Gains S.held S.faults out.old out.new)
+        (FallsShort S.held S.faults S.last out.old out.new) answer result }
+    ensures ends { (task : Task) (c : PlannedCase) (budget ahead : ℕ)
+        → IsCommandAnswer (rest_with task c budget ahead) nothing_read answer
+        → Ends (rest_with task c budget ahead) nothing_read
+        (Gains S.held S.faults out.old out.new)
+        (FallsShort S.held S.faults S.last out.old out.new) result }
+{
+    match answer {
+        Ok(answer) => match write_answer(answer, out) {
+            Ok(()) => End::Done,
+            Err(WriteFailed) => End::Cut,
+        },
+        Err(fault) => {
+            let _ = write_fault(&fault, out);
+            End::Refused(fault)
+        }
+    }
+}
+
+/// Ends a command that calls for no run, or leaves the sink as it is for one that does.
+pub fn end_prepared<S: Sink>(prepared: Result<Prepared, TopFault>, out: &mut S) -> Before
+    requires { IfOk prepared IsFit }
+    ensures before { IsBeforeOf (Gains S.held S.faults out.old out.new)
+        (FallsShort S.held S.faults S.last out.old out.new) prepared result }
+    ensures sink { S.faults out.old ≤ S.faults out.new }
+    ensures unwritten { IsUntouched result (out.new ≡ out.old) }
+{
+    match prepared {
+        Ok(Prepared::Ready(ready)) => Before::Ready(ready),
+        Ok(Prepared::Answered(answer)) => Before::Ended(finish(Ok(answer), out).status()),
+        Err(fault) => Before::Ended(finish(Err(fault), out).status()),
+    }
+}

@@ -1,0 +1,57 @@
+//! A command but for its runs: its words, its files and each refusal up to the opening of a run, and
+//! what is written of its answer. Of `hull check`, `hull settle` and `hull certify` that is all.
+//!
+//! No thread is started here, and nothing is waited for.
+#![tactic(auto)]
+
+ghost use Rattle.std.specs.Prelude.{◌≡◌, ◌≤◌, None};
+ghost use Rattle.hull_io.specs.Edge.{Rose, Gains, FallsShort};
+ghost use Rattle.hull_words.specs.Words.{texts, words_of};
+ghost use Rattle.hull_report.specs.declared.fault.FileKind.{FileKind};
+ghost use Rattle.hull_command.specs.Outcome.{command_for};
+ghost use Rattle.hull_command.specs.Answers.{IsLaterShelf};
+ghost use Rattle.hull_command.specs.Rest.{IsBefore, IsUntouched};
+
+mod answer;
+mod certify;
+mod end;
+mod files;
+mod input;
+pub mod laws;
+mod prepare;
+mod ready;
+mod settle;
+
+pub use answer::Answer;
+use end::end_prepared;
+pub use end::{End, finish, write_done};
+use hull_io::{Shelf, Sink};
+use prepare::prepare;
+pub use ready::{Before, Ready, Task};
+use std::alloc::Global;
+
+/// Does all of a command that comes before a run: its words, its files and each refusal up to the
+/// opening of the run; of `hull check`, `hull settle` and `hull certify` that is all. It answers the
+/// status with which the command has ended, or else what is left to be run, with nothing written
+/// yet. It starts no thread and waits for none, so it is proved to return where each read of the
+/// shelf and each write of the sink does.
+pub fn hull_before_run<F: Shelf, S: Sink>(
+    alloc: Global,
+    words: &[String],
+    shelf: &mut F,
+    out: &mut S,
+) -> Before
+    ensures before { IsBefore (texts words.now) (F.told shelf.old)
+        (λ name. Rose F.last (F.faults shelf.old name) (F.faults shelf.new name))
+        (Gains S.held S.faults out.old out.new)
+        (FallsShort S.held S.faults S.last out.old out.new) result }
+    ensures shelf { IsLaterShelf F.told F.faults shelf.old shelf.new }
+    ensures sink { S.faults out.old ≤ S.faults out.new }
+    ensures unread { ((file : FileKind)
+        → (command_for (words_of (texts words.now))).name_of file ≡ None)
+        → shelf.new ≡ shelf.old }
+    ensures unwritten { IsUntouched result (out.new ≡ out.old) }
+{
+    let prepared = prepare(alloc, words, shelf);
+    end_prepared(prepared, out)
+}

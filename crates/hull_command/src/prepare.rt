@@ -1,0 +1,300 @@
+//! What a command needs before a run: its words, its files and its input, up to the first refusal.
+//! Nothing here starts a thread or waits.
+ghost use Rattle.std.specs.Prelude.{◌≡◌, ℕ, List, Ok, Err, None, IfOk, IfErr};
+ghost use Rattle.gap_proof.specs.Sums.{IsRadius};
+ghost use Rattle.hull_words.specs.Asked.{asked, check, price, try, bound, fixed};
+ghost use Rattle.hull_words.specs.Asked.{audit, settle, certify, check_asked, price_asked};
+ghost use Rattle.hull_words.specs.Asked.{settle_asked};
+ghost use Rattle.hull_io.specs.Edge.{Rose};
+ghost use Rattle.hull_words.specs.Words.{texts, words_of};
+ghost use Rattle.hull_report.specs.declared.fault.FileKind.{FileKind};
+ghost use Rattle.hull_command.specs.Steps.{Then, Reads, IsInput, IsWithinWork, made_case};
+ghost use Rattle.hull_command.specs.Outcome.{command_for, case_and_schedule, with_prices};
+ghost use Rattle.hull_command.specs.Answers.{IsFaultOf, IsAnswer, IsLaterShelf, HasReads};
+ghost use Rattle.hull_command.specs.Answers.{IsFitPriced, IsPricedAnswer};
+ghost use Rattle.hull_command.specs.Rest.{IsPrepared, HasPrepared, IsAsked, IsFit};
+ghost use Rattle.board_core.specs.Setups.{IsSetup, setup_of};
+ghost use Rattle.hull_command.specs.Planned.{planned_of, planned_run, IsPlanned};
+ghost use Rattle.hull_command.specs.Inputs.{try_asked, bound_asked, audit_asked};
+ghost use Rattle.hull_command.specs.Inputs.{certify_asked, HasNumbers};
+ghost use Rattle.hull_command.specs.Sizes.{IsWorkers, IsRunSize};
+ghost use Rattle.hull_command.specs.Sizes.{HasSizes};
+
+use crate::answer::{Answer, PricedInput};
+use crate::certify::{certified_input, read_mixture_file};
+use crate::files::{read_input, read_prices_file, read_report_file};
+use crate::input::{Input, within_work};
+use crate::ready::{Prepared, Ready, Task};
+use crate::settle::settled_input;
+use board_core::Terms;
+use case_make::make_case;
+use hull_io::Shelf;
+use hull_report::TopFault;
+use hull_words::{
+    AuditWords, BoundWords, CertifyWords, CheckWords, Command, PriceWords, SettleWords, TryWords,
+    WordError, read_words,
+};
+use plan_check::costs::cost_of_plan;
+use std::alloc::{AllocError, Global};
+use uc_model::laws::feasible_plans_have_shape;
+
+/// The command that the words give.
+fn command_of(alloc: Global, words: &[String]) -> Result<Command, TopFault>
+    ensures given { IfOk result (λ c. words_of (texts words.now) ≡ Ok (asked c)) }
+    ensures sizes { IfOk result (λ c. HasSizes (asked c)) }
+    ensures refused { IfErr result (λ f. (reads : Reads)
+        → IsFaultOf ((command_for (words_of (texts words.now))).IsDue reads) f) }
+{
+    match read_words(alloc, words) {
+        Ok(command) => Ok(command),
+        Err(WordError::Fault(fault)) => Err(TopFault::Words(fault)),
+        Err(WordError::Memory) => Err(TopFault::Memory),
+    }
+}
+
+/// What `hull check` answers.
+fn prepare_check<F: Shelf>(
+    alloc: Global,
+    shelf: &mut F,
+    words: &CheckWords,
+) -> Result<Prepared, TopFault>
+    ensures prepared { HasPrepared F.told F.faults F.last shelf.old shelf.new
+        (Ok (check (check_asked words.now))) result }
+    ensures asked { IsAsked (Ok (check (check_asked words.now))) result }
+    ensures fit { IfOk result IsFit }
+    ensures shelf { IsLaterShelf F.told F.faults shelf.old shelf.new }
+{
+    let case_name = words.case_name.as_str();
+    let schedule_name = words.schedule_name.as_str();
+    let input = read_input(alloc, shelf, case_name, schedule_name)?;
+    Ok(Prepared::Answered(Answer::Check(input)))
+}
+
+/// The terms of the run that words ask for, over the case and the schedule of their files.
+fn read_run<F: Shelf>(alloc: Global, shelf: &mut F, words: &PriceWords) -> Result<Terms, TopFault>
+    requires { IsRunSize words.now.proposals words.now.workers words.now.ahead }
+    ensures answers { HasReads (F.told shelf.old)
+        (λ name. Rose F.last (F.faults shelf.old name) (F.faults shelf.new name))
+        (case_and_schedule words.now.case_name.items words.now.schedule_name.items)
+        (λ reads. IsAnswer (Then (IsInput reads) (IsWithinWork words.now.proposals))
+        planned_run result) }
+    ensures setup { IfOk result (λ terms. IsSetup (setup_of terms)) }
+    ensures numbers { IfOk result (HasNumbers words.now) }
+    ensures shelf { IsLaterShelf F.told F.faults shelf.old shelf.new }
+{
+    let case_name = words.case_name.as_str();
+    let schedule_name = words.schedule_name.as_str();
+    let input = read_input(alloc, shelf, case_name, schedule_name)?;
+    within_work(input, words.proposals, words.ahead, words.workers)
+}
+
+/// What `hull price` runs.
+fn prepare_price<F: Shelf>(
+    alloc: Global,
+    shelf: &mut F,
+    words: &PriceWords,
+) -> Result<Prepared, TopFault>
+    requires { IsRunSize words.now.proposals words.now.workers words.now.ahead }
+    ensures prepared { HasPrepared F.told F.faults F.last shelf.old shelf.new
+        (Ok (price (price_asked words.now))) result }
+    ensures asked { IsAsked (Ok (price (price_asked words.now))) result }
+    ensures fit { IfOk result IsFit }
+    ensures shelf { IsLaterShelf F.told F.faults shelf.old shelf.new }
+{
+    let terms = read_run(alloc, shelf, words)?;
+    let task = Task::Price;
+    Ok(Prepared::Ready(Ready { task, terms }))
+}
+
+/// What `hull bound` runs.
+fn prepare_bound<F: Shelf>(
+    alloc: Global,
+    shelf: &mut F,
+    words: &BoundWords,
+) -> Result<Prepared, TopFault>
+    requires size { IsRunSize words.now.run.proposals words.now.run.workers words.now.run.ahead }
+    requires radius { IsRadius words.now.radius }
+    ensures prepared { HasPrepared F.told F.faults F.last shelf.old shelf.new
+        (Ok (bound (bound_asked words.now))) result }
+    ensures asked { IsAsked (Ok (bound (bound_asked words.now))) result }
+    ensures fit { IfOk result IsFit }
+    ensures shelf { IsLaterShelf F.told F.faults shelf.old shelf.new }
+{
+    let terms = read_run(alloc, shelf, &words.run)?;
+    let task = Task::Bound(words.radius);
+    Ok(Prepared::Ready(Ready { task, terms }))
+}
+
+/// What `hull fixed` runs.
+fn prepare_fixed<F: Shelf>(
+    alloc: Global,
+    shelf: &mut F,
+    words: &PriceWords,
+) -> Result<Prepared, TopFault>
+    requires { IsRunSize words.now.proposals words.now.workers words.now.ahead }
+    ensures prepared { HasPrepared F.told F.faults F.last shelf.old shelf.new
+        (Ok (fixed (price_asked words.now))) result }
+    ensures asked { IsAsked (Ok (fixed (price_asked words.now))) result }
+    ensures fit { IfOk result IsFit }
+    ensures shelf { IsLaterShelf F.told F.faults shelf.old shelf.new }
+{
+    let terms = read_run(alloc, shelf, words)?;
+    let task = Task::Fixed;
+    Ok(Prepared::Ready(Ready { task, terms }))
+}
+
+/// The case and the feasible schedule that a number stands for.
+fn made_input(alloc: Global, number: u64) -> Result<Input, AllocError>
+    ensures made { IfOk result (λ input. planned_of input ≡ made_case number) }
+    ensures planned { IfOk result (λ input. IsPlanned input) }
+{
+    feasible_plans_have_shape();
+    let (case, plan) = make_case(alloc, number)?;
+    let cost = cost_of_plan(&case, &plan);
+    Ok(Input { case, plan, cost })
+}
+
+/// What `hull try` runs.
+fn prepare_try(alloc: Global, words: &TryWords) -> Result<Prepared, TopFault>
+    requires { IsRunSize words.now.proposals words.now.workers words.now.ahead }
+    ensures prepared { (reads : Reads)
+        → IsPrepared (command_for (Ok (try (try_asked words.now)))) reads result }
+    ensures asked { IsAsked (Ok (try (try_asked words.now))) result }
+    ensures fit { IfOk result IsFit }
+{
+    let Ok(input) = made_input(alloc, words.number) else {
+        return Err(TopFault::Memory);
+    };
+    let terms = within_work(input, words.proposals, words.ahead, words.workers)?;
+    let task = Task::Try(words.number);
+    Ok(Prepared::Ready(Ready { task, terms }))
+}
+
+/// What `hull audit` runs. The limit of work is that of a run with the report's own budget.
+fn prepare_audit<F: Shelf>(
+    alloc: Global,
+    shelf: &mut F,
+    words: &AuditWords,
+) -> Result<Prepared, TopFault>
+    requires { IsWorkers words.now.workers }
+    ensures prepared { HasPrepared F.told F.faults F.last shelf.old shelf.new
+        (Ok (audit (audit_asked words.now))) result }
+    ensures asked { IsAsked (Ok (audit (audit_asked words.now))) result }
+    ensures fit { IfOk result IsFit }
+    ensures shelf { IsLaterShelf F.told F.faults shelf.old shelf.new }
+{
+    let case_name = words.case_name.as_str();
+    let schedule_name = words.schedule_name.as_str();
+    let report_name = words.report_name.as_str();
+    let input = read_input(alloc, shelf, case_name, schedule_name)?;
+    let report = read_report_file(alloc, shelf, report_name)?;
+    let terms = within_work(input, report.budget, report.ahead, words.workers)?;
+    let task = Task::Audit(report);
+    Ok(Prepared::Ready(Ready { task, terms }))
+}
+
+/// The case, the schedule and the prices of the files of these names, or their first fault.
+fn read_priced<F: Shelf>(
+    alloc: Global,
+    shelf: &mut F,
+    words: &SettleWords,
+) -> Result<PricedInput, TopFault>
+    ensures answers { HasReads (F.told shelf.old)
+        (λ name. Rose F.last (F.faults shelf.old name) (F.faults shelf.new name))
+        (with_prices words.now.case_name.items words.now.schedule_name.items
+        words.now.prices_name.items)
+        (λ reads. IsPricedAnswer reads result) }
+    ensures fit { IfOk result IsFitPriced }
+    ensures shelf { IsLaterShelf F.told F.faults shelf.old shelf.new }
+{
+    let case_name = words.case_name.as_str();
+    let schedule_name = words.schedule_name.as_str();
+    let prices_name = words.prices_name.as_str();
+    let input = read_input(alloc, shelf, case_name, schedule_name)?;
+    let prices = read_prices_file(alloc, shelf, prices_name, &input.case)?;
+    Ok(PricedInput { input, prices })
+}
+
+/// What `hull settle` answers.
+fn prepare_settle<F: Shelf>(
+    alloc: Global,
+    shelf: &mut F,
+    words: &SettleWords,
+) -> Result<Prepared, TopFault>
+    ensures prepared { HasPrepared F.told F.faults F.last shelf.old shelf.new
+        (Ok (settle (settle_asked words.now))) result }
+    ensures asked { IsAsked (Ok (settle (settle_asked words.now))) result }
+    ensures fit { IfOk result IsFit }
+    ensures shelf { IsLaterShelf F.told F.faults shelf.old shelf.new }
+{
+    let priced = read_priced(alloc, shelf, words)?;
+    let settled = settled_input(alloc, priced)?;
+    Ok(Prepared::Answered(Answer::Settle(settled)))
+}
+
+/// What `hull certify` answers.
+fn prepare_certify<F: Shelf>(
+    alloc: Global,
+    shelf: &mut F,
+    words: &CertifyWords,
+) -> Result<Prepared, TopFault>
+    requires { IsRadius words.now.radius }
+    ensures prepared { HasPrepared F.told F.faults F.last shelf.old shelf.new
+        (Ok (certify (certify_asked words.now))) result }
+    ensures asked { IsAsked (Ok (certify (certify_asked words.now))) result }
+    ensures fit { IfOk result IsFit }
+    ensures shelf { IsLaterShelf F.told F.faults shelf.old shelf.new }
+{
+    let priced = read_priced(alloc, shelf, &words.names)?;
+    let mixture_name = words.mixture_name.as_str();
+    let mixture = read_mixture_file(alloc, shelf, mixture_name, &priced.input.case)?;
+    let certified = certified_input(alloc, priced, &mixture, words.radius)?;
+    Ok(Prepared::Answered(Answer::Certify(certified)))
+}
+
+/// What a command comes to before any run, or its first refusal.
+fn prepare_command<F: Shelf>(
+    alloc: Global,
+    shelf: &mut F,
+    command: &Command,
+) -> Result<Prepared, TopFault>
+    requires { HasSizes (asked command.now) }
+    ensures prepared { HasPrepared F.told F.faults F.last shelf.old shelf.new
+        (Ok (asked command.now)) result }
+    ensures asked { IsAsked (Ok (asked command.now)) result }
+    ensures fit { IfOk result IsFit }
+    ensures shelf { IsLaterShelf F.told F.faults shelf.old shelf.new }
+    ensures unread { ((file : FileKind)
+        → (command_for (Ok (asked command.now))).name_of file ≡ None)
+        → shelf.new ≡ shelf.old }
+{
+    match command {
+        Command::Check(words) => prepare_check(alloc, shelf, words),
+        Command::Price(words) => prepare_price(alloc, shelf, words),
+        Command::Try(words) => prepare_try(alloc, words),
+        Command::Bound(words) => prepare_bound(alloc, shelf, words),
+        Command::Fixed(words) => prepare_fixed(alloc, shelf, words),
+        Command::Audit(words) => prepare_audit(alloc, shelf, words),
+        Command::Settle(words) => prepare_settle(alloc, shelf, words),
+        Command::Certify(words) => prepare_certify(alloc, shelf, words),
+    }
+}
+
+/// What the words ask for, as far as it comes before any run, or the first refusal.
+pub fn prepare<F: Shelf>(
+    alloc: Global,
+    words: &[String],
+    shelf: &mut F,
+) -> Result<Prepared, TopFault>
+    ensures prepared { HasPrepared F.told F.faults F.last shelf.old shelf.new
+        (words_of (texts words.now)) result }
+    ensures asked { IsAsked (words_of (texts words.now)) result }
+    ensures fit { IfOk result IsFit }
+    ensures shelf { IsLaterShelf F.told F.faults shelf.old shelf.new }
+    ensures unread { ((file : FileKind)
+        → (command_for (words_of (texts words.now))).name_of file ≡ None)
+        → shelf.new ≡ shelf.old }
+{
+    let command = command_of(alloc, words)?;
+    prepare_command(alloc, shelf, &command)
+}

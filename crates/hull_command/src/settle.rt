@@ -1,0 +1,30 @@
+//! What a schedule is settled at, at given prices.
+ghost use Rattle.std.specs.Prelude.{◌≡◌, IfOk};
+ghost use Rattle.uc_model.specs.PlainCases.{market_of, schedules_of};
+ghost use Rattle.uc_model.specs.PlainUnits.{prices_of};
+ghost use Rattle.uplift_settle.specs.Settled.{IsSettledAt, settled_of};
+ghost use Rattle.hull_command.specs.Answers.{HasSettled, IsFitPriced};
+
+use crate::answer::{PricedInput, SettledInput};
+use case_answers::bench_for;
+use price_settle::laws::settlements_have_each_unit;
+use price_settle::settle_at;
+use std::alloc::{AllocError, Global};
+use uc_model::laws::{dual_values_are_within, plan_costs_are_within};
+
+/// What the schedule of an input is settled at, at its prices.
+pub fn settled_input(alloc: Global, priced: PricedInput) -> Result<SettledInput, AllocError>
+    requires { IsFitPriced priced }
+    ensures input { IfOk result (λ s. s.input ≡ priced.input) }
+    ensures settled { IfOk result (λ s. IsSettledAt (market_of s.input.case)
+        (schedules_of s.input.plan) (prices_of priced.prices) (settled_of s.settled)) }
+    ensures told { IfOk result (λ s. HasSettled s) }
+{
+    plan_costs_are_within();
+    dual_values_are_within();
+    settlements_have_each_unit();
+    let PricedInput { input, prices } = priced;
+    let mut bench = bench_for(alloc, &input.case)?;
+    let settled = settle_at(alloc, &input.case, &input.plan, prices, &mut bench)?;
+    Ok(SettledInput { input, settled })
+}
