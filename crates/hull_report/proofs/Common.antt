@@ -12,7 +12,7 @@ pub use Rattle.hull_io.specs.Edge.{Gains, FallsShort, Writes}
 pub use Rattle.right_report.specs.Told.{IsTold}
 unfoldable pub use Rattle.hull_report.specs.BoundText.{bound_text}
 pub use Rattle.hull_report.specs.FaultLines.{status_of, status_told, fault_told}
-unfoldable pub use Rattle.hull_report.specs.FaultLines.{shape_told, field_told, rule_told, text_told, words_told, share_told, entry_told}
+unfoldable pub use Rattle.hull_report.specs.FaultLines.{unit_told, shape_told, field_told, rule_told, text_told, words_told, share_told, entry_told}
 pub use Rattle.right_report.specs.RightSide.{told_of}
 pub use Rattle.hull_report.specs.FixedText.{renewable_paid, PaidLine, paid_start, paid_line, thermal_paid, bids_paid}
 unfoldable pub use Rattle.hull_report.specs.FixedText.{sides_text, paid_text, sums_text}

@@ -15,6 +15,7 @@ use Rattle.uc_mixture.specs.declared.fault.ShareFault.{ShareFault}
 use Rattle.uc_mixture.specs.Faults.{code_number as share_code}
 use Rattle.mixture_bound.specs.declared.check.EntryFault.{EntryFault}
 use Rattle.plan_check.specs.declared.RuleFault.{RuleFault}
+use Rattle.uc_model.specs.declared.kinds.Kind.{Kind}
 use Rattle.uc_model.specs.Refusals.{rule_number}
 use Rattle.report_form.specs.Numerals.{numeral, signed_numeral}
 use Rattle.hull_report.specs.declared.fault.FileKind.{FileKind}
@@ -58,21 +59,25 @@ unfoldable pub text_told : FileKind → TextFault → List ℕ
 text_told file f = concat (
     file_word file ∷ codes " " ∷ numeral (text_code f.code) ∷ codes " at " ∷ numeral f.offset ∷ [])
 
+-- which unit a fault is of
+unfoldable pub unit_told : Kind → ℕ → List ℕ
+unit_told kind unit =
+    concat (codes " kind " ∷ kind_word kind ∷ codes " unit " ∷ numeral unit ∷ [])
+
 unfoldable pub field_told : FieldFault → List ℕ
-field_told f = concat (
-    codes "case " ∷ numeral (field_code f.code) ∷ codes " field " ∷ key_of f.field
-    ∷ codes " kind " ∷ kind_word f.kind ∷ codes " unit " ∷ numeral f.unit
-    ∷ codes " item " ∷ numeral f.item ∷ [])
+field_told f =
+    concat (codes "case " ∷ numeral (field_code f.code) ∷ codes " field " ∷ key_of f.field ∷ [])
+    ++ unit_told f.kind f.unit ++ concat (codes " item " ∷ numeral f.item ∷ [])
 
 unfoldable pub shape_told : ShapeFault → List ℕ
-shape_told f = concat (
-    codes "schedule " ∷ numeral (shape_code f.code) ∷ codes " kind " ∷ kind_word f.kind
-    ∷ codes " unit " ∷ numeral f.unit ∷ codes " item " ∷ numeral f.item ∷ [])
+shape_told f =
+    concat (codes "schedule " ∷ numeral (shape_code f.code) ∷ [])
+    ++ unit_told f.kind f.unit ++ concat (codes " item " ∷ numeral f.item ∷ [])
 
 unfoldable pub rule_told : RuleFault → List ℕ
-rule_told f = concat (
-    codes "schedule " ∷ numeral (rule_number f.code) ∷ codes " kind " ∷ kind_word f.kind
-    ∷ codes " unit " ∷ numeral f.unit ∷ codes " period " ∷ numeral f.period
+rule_told f =
+    concat (codes "schedule " ∷ numeral (rule_number f.code) ∷ [])
+    ++ unit_told f.kind f.unit ++ concat (codes " period " ∷ numeral f.period
     ∷ codes " left " ∷ signed_numeral f.left ∷ codes " right " ∷ signed_numeral f.right ∷ [])
 
 -- a file has too many bytes
@@ -94,16 +99,16 @@ price_told f = concat (
     ∷ codes " item " ∷ numeral f.item ∷ [])
 
 unfoldable pub share_told : ShareFault → List ℕ
-share_told f = concat (
-    codes "mixture " ∷ numeral (share_code f.code) ∷ codes " kind " ∷ kind_word f.kind
-    ∷ codes " unit " ∷ numeral f.unit ∷ codes " entry " ∷ numeral f.entry
-    ∷ codes " item " ∷ numeral f.item ∷ [])
+share_told f =
+    concat (codes "mixture " ∷ numeral (share_code f.code) ∷ [])
+    ++ unit_told f.kind f.unit
+    ++ concat (codes " entry " ∷ numeral f.entry ∷ codes " item " ∷ numeral f.item ∷ [])
 
 -- a rule that an entry of a mixture breaks
 unfoldable pub entry_told : EntryFault → List ℕ
-entry_told f = concat (
-    codes "mixture " ∷ numeral (rule_number f.fault.code) ∷ codes " kind " ∷ kind_word f.fault.kind
-    ∷ codes " unit " ∷ numeral f.fault.unit ∷ codes " entry " ∷ numeral f.entry
+entry_told f =
+    concat (codes "mixture " ∷ numeral (rule_number f.fault.code) ∷ [])
+    ++ unit_told f.fault.kind f.fault.unit ++ concat (codes " entry " ∷ numeral f.entry
     ∷ codes " period " ∷ numeral f.fault.period ∷ codes " left " ∷ signed_numeral f.fault.left
     ∷ codes " right " ∷ signed_numeral f.fault.right ∷ [])
 

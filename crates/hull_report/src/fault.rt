@@ -1,11 +1,13 @@
 //! The line of a fault.
-ghost use Rattle.std.specs.Prelude.{◌≡◌};
+ghost use Rattle.std.specs.Prelude.{◌≡◌, ◌++◌};
+ghost use Rattle.std.specs.List.{flat_map};
 ghost use Rattle.hull_io.specs.Edge.{Writes};
+ghost use Rattle.report_form.specs.Parts.{part_text};
 ghost use Rattle.hull_report.specs.Words.{kind_word, file_word, file_status, report_number};
 ghost use Rattle.hull_report.specs.FaultLines.{status_of, words_told, read_told, text_told};
 ghost use Rattle.hull_report.specs.FaultLines.{field_told, shape_told, rule_told, too_big_told};
 ghost use Rattle.hull_report.specs.FaultLines.{work_told, report_told, status_told, fault_told};
-ghost use Rattle.hull_report.specs.FaultLines.{price_told, share_told, entry_told, fault_line};
+ghost use Rattle.hull_report.specs.FaultLines.{price_told, share_told, entry_told, unit_told, fault_line};
 ghost use Rattle.hull_report.specs.declared.fault.TopFault.TheVariants.{Memory};
 
 use hull_io::{Sink, WriteFailed, write_whole};
@@ -209,28 +211,53 @@ fn write_text_fault<S: Sink>(
     )
 }
 
+#[tactic(auto, unfolding(crate::specs::FaultLines::unit_told))]
+fn write_unit<S: Sink>(kind: Kind, unit: u32, out: &mut S) -> Result<(), WriteFailed>
+    ensures { Writes S.held S.faults S.last out.old out.new result (unit_told kind unit) }
+{
+    let kind = kind_text(kind);
+    write_parts(
+        out,
+        &[
+            Part::Text(b" kind "),
+            Part::Text(kind),
+            Part::Text(b" unit "),
+            Part::Count(unit as u64),
+        ],
+    )
+}
+
+// What a line tells before the kind and the unit of a fault, these two, and what it tells behind.
+fn write_at_unit<S: Sink>(
+    before: &[Part<'_>],
+    kind: Kind,
+    unit: u32,
+    behind: &[Part<'_>],
+    out: &mut S,
+) -> Result<(), WriteFailed>
+    ensures { Writes S.held S.faults S.last out.old out.new result
+        (flat_map part_text before.now ++ unit_told kind unit ++ flat_map part_text behind.now) }
+{
+    texts_add_up::<S>();
+    write_parts(out, before)?;
+    write_unit(kind, unit, out)?;
+    write_parts(out, behind)
+}
+
 #[tactic(auto, unfolding(crate::specs::FaultLines::field_told))]
 fn write_field_fault<S: Sink>(fault: &FieldFault, out: &mut S) -> Result<(), WriteFailed>
     ensures { Writes S.held S.faults S.last out.old out.new result (field_told fault.now) }
 {
     let code = fault.code.number();
     let key = fault.field.key().as_bytes();
-    let kind = kind_text(fault.kind);
-    write_parts(
-        out,
-        &[
-            Part::Text(b"case "),
-            Part::Count(code as u64),
-            Part::Text(b" field "),
-            Part::Text(key),
-            Part::Text(b" kind "),
-            Part::Text(kind),
-            Part::Text(b" unit "),
-            Part::Count(fault.unit as u64),
-            Part::Text(b" item "),
-            Part::Count(fault.item as u64),
-        ],
-    )
+    let before = [
+        Part::Text(b"case "),
+        Part::Count(code as u64),
+        Part::Text(b" field "),
+        Part::Text(key),
+    ];
+    let behind = [Part::Text(b" item "), Part::Count(fault.item as u64)];
+    write_at_unit(&before, fault.kind, fault.unit, &behind, out)
 }
 
 #[tactic(auto, unfolding(crate::specs::FaultLines::shape_told))]
@@ -238,20 +265,9 @@ fn write_shape_fault<S: Sink>(fault: &ShapeFault, out: &mut S) -> Result<(), Wri
     ensures { Writes S.held S.faults S.last out.old out.new result (shape_told fault.now) }
 {
     let code = fault.code.number();
-    let kind = kind_text(fault.kind);
-    write_parts(
-        out,
-        &[
-            Part::Text(b"schedule "),
-            Part::Count(code as u64),
-            Part::Text(b" kind "),
-            Part::Text(kind),
-            Part::Text(b" unit "),
-            Part::Count(fault.unit as u64),
-            Part::Text(b" item "),
-            Part::Count(fault.item as u64),
-        ],
-    )
+    let before = [Part::Text(b"schedule "), Part::Count(code as u64)];
+    let behind = [Part::Text(b" item "), Part::Count(fault.item as u64)];
+    write_at_unit(&before, fault.kind, fault.unit, &behind, out)
 }
 
 #[tactic(auto, unfolding(crate::specs::FaultLines::rule_told))]
@@ -259,24 +275,16 @@ fn write_rule_fault<S: Sink>(fault: &RuleFault, out: &mut S) -> Result<(), Write
     ensures { Writes S.held S.faults S.last out.old out.new result (rule_told fault.now) }
 {
     let code = fault.code.number();
-    let kind = kind_text(fault.kind);
-    write_parts(
-        out,
-        &[
-            Part::Text(b"schedule "),
-            Part::Count(code as u64),
-            Part::Text(b" kind "),
-            Part::Text(kind),
-            Part::Text(b" unit "),
-            Part::Count(fault.unit as u64),
-            Part::Text(b" period "),
-            Part::Count(fault.period as u64),
-            Part::Text(b" left "),
-            Part::Amount(fault.left),
-            Part::Text(b" right "),
-            Part::Amount(fault.right),
-        ],
-    )
+    let before = [Part::Text(b"schedule "), Part::Count(code as u64)];
+    let behind = [
+        Part::Text(b" period "),
+        Part::Count(fault.period as u64),
+        Part::Text(b" left "),
+        Part::Amount(fault.left),
+        Part::Text(b" right "),
+        Part::Amount(fault.right),
+    ];
+    write_at_unit(&before, fault.kind, fault.unit, &behind, out)
 }
 
 #[tactic(auto, unfolding(crate::specs::FaultLines::too_big_told))]
@@ -350,22 +358,14 @@ fn write_share_fault<S: Sink>(fault: &ShareFault, out: &mut S) -> Result<(), Wri
     ensures { Writes S.held S.faults S.last out.old out.new result (share_told fault.now) }
 {
     let code = fault.code.number();
-    let kind = kind_text(fault.kind);
-    write_parts(
-        out,
-        &[
-            Part::Text(b"mixture "),
-            Part::Count(code as u64),
-            Part::Text(b" kind "),
-            Part::Text(kind),
-            Part::Text(b" unit "),
-            Part::Count(fault.unit as u64),
-            Part::Text(b" entry "),
-            Part::Count(fault.entry as u64),
-            Part::Text(b" item "),
-            Part::Count(fault.item as u64),
-        ],
-    )
+    let before = [Part::Text(b"mixture "), Part::Count(code as u64)];
+    let behind = [
+        Part::Text(b" entry "),
+        Part::Count(fault.entry as u64),
+        Part::Text(b" item "),
+        Part::Count(fault.item as u64),
+    ];
+    write_at_unit(&before, fault.kind, fault.unit, &behind, out)
 }
 
 #[tactic(auto, unfolding(crate::specs::FaultLines::entry_told))]
@@ -374,26 +374,18 @@ fn write_entry_fault<S: Sink>(fault: &EntryFault, out: &mut S) -> Result<(), Wri
 {
     let rule = &fault.fault;
     let code = rule.code.number();
-    let kind = kind_text(rule.kind);
-    write_parts(
-        out,
-        &[
-            Part::Text(b"mixture "),
-            Part::Count(code as u64),
-            Part::Text(b" kind "),
-            Part::Text(kind),
-            Part::Text(b" unit "),
-            Part::Count(rule.unit as u64),
-            Part::Text(b" entry "),
-            Part::Count(fault.entry),
-            Part::Text(b" period "),
-            Part::Count(rule.period as u64),
-            Part::Text(b" left "),
-            Part::Amount(rule.left),
-            Part::Text(b" right "),
-            Part::Amount(rule.right),
-        ],
-    )
+    let before = [Part::Text(b"mixture "), Part::Count(code as u64)];
+    let behind = [
+        Part::Text(b" entry "),
+        Part::Count(fault.entry),
+        Part::Text(b" period "),
+        Part::Count(rule.period as u64),
+        Part::Text(b" left "),
+        Part::Amount(rule.left),
+        Part::Text(b" right "),
+        Part::Amount(rule.right),
+    ];
+    write_at_unit(&before, rule.kind, rule.unit, &behind, out)
 }
 
 /// Writes what the line of a fault tells behind its status.

@@ -3,4 +3,4 @@ use Rattle.hull_report.proofs.fault.write_field_fault.Goals as goal
 
 pub returns : goal.returns
 unfolding field_told
-returns g c = rw (← c.number-code.ensures, ← c.key.ensures, ← c.as_bytes-key.ensures.value, ← c.kind_text-kind.ensures) c.write_parts.ensures
+returns g c = rw (← c.number-code.ensures, ← c.key.ensures, ← c.as_bytes-key.ensures.value) c.write_at_unit.ensures

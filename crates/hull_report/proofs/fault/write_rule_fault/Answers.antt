@@ -3,4 +3,4 @@ use Rattle.hull_report.proofs.fault.write_rule_fault.Goals as goal
 
 pub returns : goal.returns
 unfolding rule_told
-returns g c = rw (← c.number-code.ensures, ← c.kind_text-kind.ensures) (rw (to_z-of_z w128 c.args.fault.now.left (search rules), to_z-of_z w128 c.args.fault.now.right (search rules)) at c.write_parts.ensures)
+returns g c = rw (← c.number-code.ensures) (rw (to_z-of_z w128 c.args.fault.now.left (search rules), to_z-of_z w128 c.args.fault.now.right (search rules)) at c.write_at_unit.ensures)

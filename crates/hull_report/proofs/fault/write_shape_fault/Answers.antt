@@ -3,4 +3,4 @@ use Rattle.hull_report.proofs.fault.write_shape_fault.Goals as goal
 
 pub returns : goal.returns
 unfolding shape_told
-returns g c = rw (← c.number-code.ensures, ← c.kind_text-kind.ensures) c.write_parts.ensures
+returns g c = rw (← c.number-code.ensures) c.write_at_unit.ensures
