@@ -72,18 +72,6 @@ returns-clause-ways c =
     (cost_at c.loop-place.table.items) (first_at c.loop-place.table.items) (left_at c.loop-place.runners)) end
     c.loop-place.invariant.now.ways
 
-pub begin_all-requires-clause-runners : goal.begin_all-requires-clause-runners
-begin_all-requires-clause-runners c =
-    omega arith
-
-pub begin_all-requires-clause-list : goal.begin_all-requires-clause-list
-begin_all-requires-clause-list c =
-    omega arith
-
-pub begin_all-requires-clause-rows : goal.begin_all-requires-clause-rows
-begin_all-requires-clause-rows c =
-    omega arith
-
 pub begin-requires-clause-rows : goal.begin-requires-clause-rows
 begin-requires-clause-rows c =
     let same = ap length c.as_slice.ensures ∙ c.begin_all.ensures.same.rows_length in
@@ -94,10 +82,3 @@ go_on-requires-clause-rows c =
     let same = ap length c.as_slice-in-loop-place.ensures ∙ c.take_period.ensures.same.rows_length ∙
     c.loop-place.invariant.same.rows_length in
     omega arith
-
-pub go_on-requires-clause-room : goal.go_on-requires-clause-room
-go_on-requires-clause-room c =
-    omega arith
-
-pub returns-clause-same : goal.returns-clause-same
-returns-clause-same c = c.loop-place.invariant.same

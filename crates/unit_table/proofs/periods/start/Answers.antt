@@ -36,9 +36,6 @@ returns-then-not-is_within-clause-roster c =
     still_listed (live_at c.args.runners.now) (live_at c.args.runners.now) (suc c.args.place)
     (suc (suc c.args.place)) c.args.roster.now (omega arith) (λ f off. off) c.requires.roster
 
-pub start_after-requires-clause-runners : goal.start_after-requires-clause-runners
-start_after-requires-clause-runners c = c.requires.runners
-
 pub returns-in-None-clause-kept : goal.returns-in-None-clause-kept
 returns-in-None-clause-kept c = kept_none c.args.runners.now
 

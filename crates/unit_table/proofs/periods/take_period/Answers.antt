@@ -80,12 +80,6 @@ start-requires-clause-within c =
     origins_within (unit_of c.args.question.now) c.args.table.now.items c.args.place c.args.origins.now
     c.requires.origins c.requires.now.filled.within (omega arith)
 
-pub start-requires-clause-order : goal.start-requires-clause-order
-start-requires-clause-order c = c.requires.origins.right.order
-
-pub start-requires-clause-roster : goal.start-requires-clause-roster
-start-requires-clause-roster c = c.requires.now.roster_is
-
 pub start-requires-clause-small : goal.start-requires-clause-small
 start-requires-clause-small c =
     small_of (unit_of c.args.question.now) (prices_in c.args.question.now) (limits_in c.args.question.now) _
@@ -106,9 +100,6 @@ run_all-requires-clause-none c = c.requires.now.filled.table.none (suc c.args.pl
 
 pub run_all-requires-clause-open : goal.run_all-requires-clause-open
 run_all-requires-clause-open c = c.is_must_off.ensures.no c.if-is_must_off.false
-
-pub run_all-requires-clause-within : goal.run_all-requires-clause-within
-run_all-requires-clause-within c = c.requires.now.filled.within
 
 pub drop_beyond-requires-clause-small : goal.drop_beyond-requires-clause-small
 drop_beyond-requires-clause-small c =
@@ -131,10 +122,6 @@ prune-requires-clause-roster c =
     still_listed (live_at c.start.new.runners) (live_at c.drop_beyond.new.runners) (suc (suc c.args.place))
     (suc (c.args.place + 1)) c.start.new.roster (omega arith)
     (λ f off. fewer_off _ _ c.drop_beyond.ensures.fewer f (c.run_all.ensures.off f off)) c.start.ensures.roster
-
-pub keep-requires-clause-small : goal.keep-requires-clause-small
-keep-requires-clause-small c =
-    omega arith
 
 pub keep-requires-clause-roster : goal.keep-requires-clause-roster
 keep-requires-clause-roster c = (
@@ -188,9 +175,6 @@ returns-clause-now c =
           (λ f off. fewer_off _ _ fewer f (run.off f off)) c.start.ensures.roster);
     }
 
-pub returns-clause-others : goal.returns-clause-others
-returns-clause-others c = c.run_all.ensures.others
-
 pub returns-clause-same : goal.returns-clause-same
 returns-clause-same c =
     let kept = kept_then _ _ _ c.drop_beyond.ensures.kept c.prune.ensures.kept in
@@ -206,33 +190,6 @@ returns-clause-same c =
 
 -- ---- places and lengths
 
-pub get-limit-requires : goal.get-limit-requires
-get-limit-requires c =
-    omega arith
-
-pub get-requires : goal.get-requires
-get-requires c =
-    omega arith
-
-pub start-requires-clause-list : goal.start-requires-clause-list
-start-requires-clause-list c =
-    omega arith
-
-pub start-requires-clause-runners : goal.start-requires-clause-runners
-start-requires-clause-runners c =
-    omega arith
-
-pub start-requires-clause-small_place : goal.start-requires-clause-small_place
-start-requires-clause-small_place c =
-    omega arith
-
-pub run_all-requires-clause-runners : goal.run_all-requires-clause-runners
-run_all-requires-clause-runners c =
-    omega arith
-
-pub run_all-requires-clause-rows : goal.run_all-requires-clause-rows
-run_all-requires-clause-rows c = c.requires.long.rows_end
-
 pub drop_beyond-requires-clause-end : goal.drop_beyond-requires-clause-end
 drop_beyond-requires-clause-end c =
     let same = c.run_all.ensures.count_same ∙ c.start.ensures.kept.count_same in
@@ -241,8 +198,4 @@ drop_beyond-requires-clause-end c =
 pub prune-requires-clause-end : goal.prune-requires-clause-end
 prune-requires-clause-end c =
     let same = c.drop_beyond.ensures.kept.count_same ∙ c.run_all.ensures.count_same ∙ c.start.ensures.kept.count_same in
-    omega arith
-
-pub prune-requires-clause-periods : goal.prune-requires-clause-periods
-prune-requires-clause-periods c =
     omega arith

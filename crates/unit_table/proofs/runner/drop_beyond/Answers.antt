@@ -15,10 +15,6 @@ loop-place-preserved c = record {
       (c.loop-place.invariant.stands u π limits ends t n here now);
 }
 
-pub get-requires : goal.get-requires
-get-requires c =
-    omega arith
-
 pub loop-place-init : goal.loop-place-init
 loop-place-init c = record {
   fewer = fewer_none (live_at c.args.runners.now);

@@ -1,4 +1,4 @@
-use Rattle.unit_table.proofs.Common.{rules, ◌≡◌, Some, FitsSigned, w64, to_z-of_z, live_at, IsUnder, Going, arith}
+use Rattle.unit_table.proofs.Common.{rules, ◌≡◌, Some, FitsSigned, w64, to_z-of_z, live_at, IsUnder, Going}
 use Rattle.unit_table.proofs.runner.is_undercut.Goals as goal
 
 pub returns-then-undercuts_from : goal.returns-then-undercuts_from
@@ -8,7 +8,3 @@ returns-then-undercuts_from c =
     let found : (r : Going) × (live_at c.args.runners.now c.get.result.now ≡ Some r) × IsUnder c.args.power
     c.args.cost r = simp to_z-of_z at c.if-undercuts_from.ensures in
     (c.get.result.now, found.0, found.1, found.2)
-
-pub get-requires : goal.get-requires
-get-requires c =
-    omega arith

@@ -24,10 +24,6 @@ loop-back-preserved c =
           (c.loop-back.invariant.stands π limits ends n now);
     }
 
-pub get-first-requires : goal.get-first-requires
-get-first-requires c =
-    omega arith
-
 pub loop-back-init : goal.loop-back-init
 loop-back-init c = record {
   fewer = fewer_none (live_at c.args.runners.now);
@@ -40,10 +36,6 @@ pub prune_one-late-requires-clause-early : goal.prune_one-late-requires-clause-e
 prune_one-late-requires-clause-early c =
     let below = c.requires.roster.below (c.args.roster.now.count - c.loop-back.back - 1) c.get-first.result.now
     (omega arith) c.get-first.ensures.item in
-    omega arith
-
-pub prune_one-late-requires-clause-end : goal.prune_one-late-requires-clause-end
-prune_one-late-requires-clause-end c =
     omega arith
 
 pub prune_one-late-requires-clause-late : goal.prune_one-late-requires-clause-late

@@ -64,16 +64,8 @@ returns c =
     c.loop-index.index c.loop-index.table.items c.loop-index.runners c.loop-index.invariant c.loop-index-test.false)
     (λ f r is. (c.requires.now.1.right f r is).0) c.requires.room
 
-pub get-first-requires : goal.get-first-requires
-get-first-requires c =
-    omega arith
-
 pub run_at-requires-clause-runners : goal.run_at-requires-clause-runners
 run_at-requires-clause-runners c =
     let below = c.requires.roster.below c.loop-index.index c.get-first.result.now (omega arith)
     c.get-first.ensures.item in
-    omega arith
-
-pub run_at-requires-clause-rows : goal.run_at-requires-clause-rows
-run_at-requires-clause-rows c =
     omega arith

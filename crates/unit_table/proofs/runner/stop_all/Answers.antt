@@ -16,7 +16,3 @@ loop-place-preserved c = record {
 
 pub returns-clause-off : goal.returns-clause-off
 returns-clause-off c = all_off c.loop-place.runners c.loop-place.place c.loop-place.invariant.off (omega arith)
-
-pub stop_at-requires : goal.stop_at-requires
-stop_at-requires c =
-    omega arith

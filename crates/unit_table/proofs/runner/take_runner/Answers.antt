@@ -87,30 +87,11 @@ run_one-passed-requires-clause-room c =
     (charge_of c.args.question.now) (room_of c.args.runner.now.running)
     c.requires.place (c.requires.room.rest c.requires.on)
 
-pub leave_at-requires : goal.leave_at-requires
-leave_at-requires c =
-    omega arith
-
-pub put_end-requires-clause-room : goal.put_end-requires-clause-room
-put_end-requires-clause-room c =
-    omega arith
-
-pub put_end-requires-clause-order : goal.put_end-requires-clause-order
-put_end-requires-clause-order c =
-    omega arith
-
 pub put_end-requires-clause-bound : goal.put_end-requires-clause-bound
 put_end-requires-clause-bound c =
     let fits : FitsSigned w64 c.args.runner.now.cost = search rules in
     subst (IsWithinTimes (2 * c.args.first + 1)) (sym (to_z-of_z w64 _ fits))
     c.requires.ready.within
-
-pub run_one-passed-requires-clause-order : goal.run_one-passed-requires-clause-order
-run_one-passed-requires-clause-order c = c.requires.ready.order
-
-pub run_one-passed-requires-clause-frontier : goal.run_one-passed-requires-clause-frontier
-run_one-passed-requires-clause-frontier c =
-    c.requires.ready.frontier
 
 pub returns-clause-same : goal.returns-clause-same
 returns-clause-same c = (

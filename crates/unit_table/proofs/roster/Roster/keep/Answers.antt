@@ -11,10 +11,6 @@ loop-place-init c = record {
   count_same = refl;
 }
 
-pub get-first-requires : goal.get-first-requires
-get-first-requires c =
-    omega arith
-
 pub runner_at-requires : goal.runner_at-requires
 runner_at-requires c =
     let list = c.requires.roster in
@@ -22,10 +18,6 @@ runner_at-requires c =
     c.loop-place.kept c.loop-place.self.firsts.items
     (c.loop-place.invariant.kept list.0 list.2) (omega arith) c.get-first.result.now
     c.get-first.ensures.item in
-    omega arith
-
-pub set-requires : goal.set-requires
-set-requires c =
     omega arith
 
 pub loop-place-preserved : goal.loop-place-preserved
