@@ -1,20 +1,21 @@
 -- A function cut above a power, and a step before a stop that only cuts.
-use Rattle.spell_run.proofs.Common.{◌≡◌, ℕ, zero, suc, ◌<◌, ◌≤◌, ◌⊎◌, inl, inr, ℤ, pos, negsuc, ◌+ℤ◌, ◌-ℤ◌, ◌*ℤ◌, ◌≤ℤ◌}
-use Rattle.spell_run.proofs.Common.{◌<ℤ◌, Bool, true, false, List, [], ◌∷◌, take, Option, Some, None, refl, sym, ap}
-use Rattle.spell_run.proofs.Common.{◌∙◌, subst, arith, slice_get, MatchOption, option_map, by_lt_z, IsCostCurve}
-use Rattle.spell_run.proofs.Common.{curve_value, reserve_term, IsLeast, IsLeastIn, IsSum, IsCurveSum, Table, value_of}
-use Rattle.spell_run.proofs.Common.{offset_value, IsTurn, Curve, ThermalUnit, PriceLists, IsThermalUnit, int_at, cap_at}
-use Rattle.spell_run.proofs.Common.{step_at, IsKinked, IsStepped, signed}
+use Rattle.spell_run.proofs.Common
+use Common.{◌≡◌, ℕ, zero, suc, ◌<◌, ◌≤◌, ◌⊎◌, inl, inr, ℤ, pos, negsuc, ◌+ℤ◌, ◌-ℤ◌, ◌*ℤ◌, ◌≤ℤ◌, ◌<ℤ◌, Bool, true}
+use Common.{false, List, [], ◌∷◌, take, Some, None, refl, sym, ap, ◌∙◌, arith, slice_get}
+use Common.{option_map, by_lt_z, IsCostCurve, curve_value, reserve_term, IsLeast, IsLeastIn, IsSum, IsCurveSum, Table}
+use Common.{value_of, offset_value, IsTurn, Curve, ThermalUnit, PriceLists, IsThermalUnit, int_at, cap_at, step_at}
+use Common.{IsKinked, IsStepped, signed}
+use Rattle.std.proofs.Common.{get_or}
+use Rattle.std.proofs.lemmas.Option.{slice_get_within, slice_get-get_or}
 use Rattle.slope_piece.specs.Pieces.{powers_to}
 use Rattle.spell_run.proofs.StepLaws.{under_cap, cap_over, under_most, step_sound}
 
 -- ---- powers of a table
 
 get_before : (xs : List ℤ) (j k : ℕ) (w : ℤ) → slice_get xs j ≡ Some w → k ≤ j → (v : ℤ) × (slice_get xs k ≡ Some v)
-get_before [] j k w h low = cc
-get_before (x ∷ xs) j zero w h low = (x, refl)
-get_before (x ∷ xs) zero (suc k) w h low = absurd (omega arith)
-get_before (x ∷ xs) (suc j) (suc k) w h low = get_before xs j k w h (omega arith)
+get_before xs j k w h low =
+    let inside = slice_get_within xs j w h in
+    (get_or xs k (pos 0), slice_get-get_or xs k (pos 0) (omega arith))
 
 between_by : (values : List ℤ) (d e z u w : ℤ) → offset_value values d ≡ Some u → offset_value values e ≡ Some w →
     d ≤ℤ z → z ≤ℤ e → (v : ℤ) × (offset_value values z ≡ Some v)
@@ -66,19 +67,19 @@ cut_past f {hi = hi} {x = x} h = past_by f.values (x -ℤ f.lo) (hi -ℤ f.lo) (
 
 pub cut_value : (f : Table) (hi x : ℤ) {v : ℤ} → value_of (cut f hi) x ≡ Some v → (x ≤ℤ hi) × (value_of f x ≡ Some v)
 cut_value f hi x h = by_lt_z hi x
-    (λ (l : hi <ℤ x). let none = cut_past f l in cc)
+    (λ l. let none = cut_past f l in cc)
     (λ (l : x ≤ℤ hi). (l, sym (cut_inside f l) ∙ h))
 
 cut_sum : (term : ℤ → ℤ) (f g : Table) (hi : ℤ) → IsSum term f g → IsSum term (cut f hi) (cut g hi)
 cut_sum term f g hi sum x = by_lt_z hi x
-    (λ (l : hi <ℤ x). rw (cut_past g l, cut_past f l))
-    (λ (l : x ≤ℤ hi). rw (cut_inside g l, cut_inside f l) (sum x))
+    (λ l. rw (cut_past g l, cut_past f l))
+    (λ l. rw (cut_inside g l, cut_inside f l) (sum x))
 
 cut_curve : (c : Curve) (f g : Table) (hi : ℤ) → IsCurveSum (curve_value c) (pos 0) f g →
     IsCurveSum (curve_value c) (pos 0) (cut f hi) (cut g hi)
 cut_curve c f g hi sum x = by_lt_z hi x
-    (λ (l : hi <ℤ x). rw (cut_past f l) (cut_past g l))
-    (λ (l : x ≤ℤ hi). rw (cut_inside f l, cut_inside g l) (sum x))
+    (λ l. rw (cut_past f l) (cut_past g l))
+    (λ l. rw (cut_inside f l, cut_inside g l) (sum x))
 
 -- ---- a step before a stop that has the same kink
 

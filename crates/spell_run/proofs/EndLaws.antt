@@ -1,10 +1,10 @@
 -- What is noted of the last step of a spell.
-use Rattle.spell_run.proofs.Common.{◌≡◌, ℕ, suc, ◌<◌, ltb, eqb, ◌⊎◌, ℤ, pos, ◌≤ℤ◌, Bool, true, false, length, Option}
-use Rattle.spell_run.proofs.Common.{Some, None, sym, ◌∙◌, arith, IfSome, IfNone, MatchOption, lt-ltb, le-ltb}
-use Rattle.spell_run.proofs.Common.{IsCostCurve, IsLeast, IsLeastIn, Table, value_of, IsEmpty, HasNone, Lowest, IsTurn}
-use Rattle.spell_run.proofs.Common.{Curve, ThermalUnit, PriceLists, IsThermalUnit, int_at, Note, IsFrontier, IsNoted}
-use Rattle.spell_run.proofs.Common.{IsEndNoted, level, end_cost, IsSpellWithin, cap_at, step_at, IsStepped, IsLeastCost}
-use Rattle.spell_run.proofs.Common.{IsLeastCostIn}
+use Rattle.spell_run.proofs.Common
+use Common.{◌≡◌, ℕ, suc, ◌<◌, ltb, eqb, ◌⊎◌, ℤ, pos, ◌≤ℤ◌, Bool, true, false, length, Option, Some, None, sym, ◌∙◌}
+use Common.{arith, IfSome, IfNone, MatchOption, lt-ltb, le-ltb, IsCostCurve, IsLeast, IsLeastIn, Table, value_of}
+use Common.{IsEmpty, HasNone, Lowest, IsTurn, Curve, ThermalUnit, PriceLists, IsThermalUnit, int_at, Note, IsFrontier}
+use Common.{IsNoted, IsEndNoted, level, end_cost, IsSpellWithin, cap_at, step_at, IsStepped, IsLeastCost}
+use Common.{IsLeastCostIn}
 use Rattle.slope_read.specs.declared.read.Spot.{Spot}
 use Rattle.spell_run.proofs.CutLaws.{cut, stepped_cut, least_cut, turn_alike}
 use Rattle.spell_run.proofs.FrontierLaws.{frontier_same}
@@ -16,7 +16,7 @@ use Rattle.spell_run.proofs.StepLaws.{step_sound}
 -- an end and the least value that it was made of
 abbrev pub IsEndOf : Option Spot → ℤ → Option Lowest → Type 0
 IsEndOf spot turn end = IfNone end (spot ≡ None) × IfSome end
-    (λ (r : Lowest). (spot ≡ Some (record { at = r.at; value = r.value })) × (r.turn ≡ turn))
+    (λ r. (spot ≡ Some (record { at = r.at; value = r.value })) × (r.turn ≡ turn))
 
 pub end_least : (f : Table) (spot : Option Spot) (turn : ℤ) (end : Option Lowest) →
     MatchOption spot (IsEmpty f) (λ r. IsLeast f r.value r.at) → IsEndOf spot turn end → IsLeastCost f (end_cost end)
@@ -35,7 +35,7 @@ end_least_after f P None h = h
 end_least_after f P (Some r) h = (r.at, h.0)
 
 pub end_within : (first last : ℕ) (end : Option Lowest) → IfSome (end_cost end) (IsSpellWithin first last) →
-    IfSome end (λ (e : Lowest). IsSpellWithin first last e.value)
+    IfSome end (λ e. IsSpellWithin first last e.value)
 end_within first last None h = tt
 end_within first last (Some e) h = h
 

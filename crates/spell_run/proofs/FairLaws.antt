@@ -1,11 +1,10 @@
 -- The numbers of a unit's step are within limits, and the curve of its points is a cost of the step.
-use Rattle.spell_run.proofs.Common.{◌≡◌, ℕ, suc, ◌-◌, ◌<◌, ◌⊎◌, inl, inr, ℤ, pos, neg_ℤ, ◌+ℤ◌, ◌-ℤ◌, ◌≤ℤ◌, Bool, true}
-use Rattle.spell_run.proofs.Common.{false, cond, List, length, Some, refl, sym, ap, ◌∙◌, subst, arith}
-use Rattle.spell_run.proofs.Common.{w64, FitsSigned, slice_get, int_min, to_z-of_z, bounded, signed}
-use Rattle.spell_run.proofs.Common.{get_or_from_slice_get, IsCostCurve, AreCostPoints, EnvelopeIsCost, curve_value}
-use Rattle.spell_run.proofs.Common.{end_of, IsLimitedCurve, same_some, Curve, ThermalUnit}
-use Rattle.spell_run.proofs.Common.{PriceLists, envelope, IsFrom, IsPower, IsOutput, IsCost, IsThermalUnit, ArePrices}
-use Rattle.spell_run.proofs.Common.{int_at, fits_within, IsWithin, Step, cap_at, step_at, IsFairStep, IsCostOf}
+use Rattle.spell_run.proofs.Common
+use Common.{◌≡◌, ℕ, suc, ◌-◌, ◌<◌, ◌⊎◌, inl, inr, ℤ, pos, neg_ℤ, ◌+ℤ◌, ◌-ℤ◌, ◌≤ℤ◌, Bool, true, false, cond, List}
+use Common.{length, Some, refl, sym, ap, ◌∙◌, arith, w64, FitsSigned, slice_get, int_min, to_z-of_z, bounded}
+use Common.{signed, get_or_from_slice_get, IsCostCurve, AreCostPoints, EnvelopeIsCost, end_of}
+use Common.{IsLimitedCurve, same_some, Curve, ThermalUnit, PriceLists, envelope, IsFrom, IsPower, IsOutput, IsCost}
+use Common.{IsThermalUnit, ArePrices, int_at, fits_within, IsWithin, Step, cap_at, step_at, IsFairStep, IsCostOf}
 use Rattle.plain_lists.proofs.SignedLaws.{stored, stored_is}
 use Rattle.uc_model.specs.declared.units.Point.{Point}
 use Rattle.spell_run.proofs.StepLaws.{under_cap, under_most, cost_on}
@@ -107,7 +106,7 @@ module _ {g : ThermalUnit} {π : PriceLists} {k : ℕ} (starts stops : Bool) (un
   cap_stored = output_stored (rw cap_is (cap_out g starts stops unit)) ∙ cap_is
 
   most_at : most ≡ (step_at g π k starts stops).most
-  most_at = most_is ∙ ap (λ (z : ℤ). cond stops (int_min z (g.min_power +ℤ g.ramp_down)) z) cap_stored
+  most_at = most_is ∙ ap (λ z. cond stops (int_min z (g.min_power +ℤ g.ramp_down)) z) cap_stored
 
   most_stored : stored most ≡ (step_at g π k starts stops).most
   most_stored = output_stored (rw most_at (most_out g π k starts stops unit)) ∙ most_at
@@ -193,14 +192,14 @@ module _ (g : ThermalUnit) (π : PriceLists) (k : ℕ) {starts starts' : Bool} {
       (int_at π.reserve k ≡ pos 0) ⊎ (cap_at g starts' true ≡ cap_at g starts' false)
   alike_of on_is (inl free) = inl (cc)
   alike_of on_is (inr alike) =
-      inr (rw same at (sym (ap (λ (s : Step). s.cap) last_is) ∙ alike ∙ ap (λ (s : Step). s.cap) on_is))
+      inr (rw same at (sym (ap (λ s. s.cap) last_is) ∙ alike ∙ ap (λ (s : Step). s.cap) on_is))
 
   pub range_moved : IsFairStep last → (P : ℤ → ℤ → Type 0) → P (stored last.least) (stored last.most) →
       P g.min_power (step_at g π k starts' true).most
   range_moved fair P here =
       let low : stored last.least ≡ g.min_power = output_stored fair.least ∙
-      ap (λ (s : Step). s.least) last_is in
+      ap (λ s. s.least) last_is in
       let high : stored last.most ≡ (step_at g π k starts' true).most =
-      output_stored fair.most ∙ ap (λ (s : Step). s.most) last_is ∙
-      ap (λ (b : Bool). (step_at g π k b true).most) same in
-      rw low at (subst (λ (y : ℤ). P (stored last.least) y) high here)
+      output_stored fair.most ∙ ap (λ s. s.most) last_is ∙
+      ap (λ b. (step_at g π k b true).most) same in
+      rw low at (rw high at here)

@@ -1,12 +1,11 @@
 -- The frontier of a spell's first periods: its beginning, one more period, and the least costs that are read off it.
-use Rattle.spell_run.proofs.Common.{◌≡◌, ℕ, zero, suc, ◌+◌, ◌-◌, ◌*◌, ◌<◌, ◌≤◌, ◌⊎◌, inl, inr, ℤ, pos, neg_ℤ, ◌+ℤ◌}
-use Rattle.spell_run.proofs.Common.{◌≤ℤ◌, Bool, true, false, eqb, ltb, length, Option, Some, None, IfSome, refl, sym}
-use Rattle.spell_run.proofs.Common.{ap, ◌∙◌, subst, arith, lt-ltb, length-replicate, IsCostCurve}
-use Rattle.spell_run.proofs.Common.{EnvelopeIsCost, IsPoint, same_some, Table, value_of, Curve, ThermalUnit, PriceLists}
-use Rattle.spell_run.proofs.Common.{Schedule, IsFrom, IsOutput, IsThermalUnit, ArePrices, power_in, reserve_in, int_at}
-use Rattle.spell_run.proofs.Common.{IsWithin, IsReached, IsFrontier, IsDispatch, spell_cost, signed}
-use Rattle.spell_run.proofs.Common.{IsSpellAnswer, IsSpellWithin, cap_at, step_at, level, IsRun, IsStepped}
-use Rattle.spell_run.proofs.Common.{IsSmall, IsLeastCost, IsLeastCostIn}
+use Rattle.spell_run.proofs.Common
+use Common.{◌≡◌, ℕ, zero, suc, ◌+◌, ◌-◌, ◌*◌, ◌<◌, ◌≤◌, ◌⊎◌, inl, inr, ℤ, pos, neg_ℤ, ◌+ℤ◌, ◌≤ℤ◌, Bool, true, false}
+use Common.{eqb, ltb, length, Option, Some, None, IfSome, refl, sym, ap, ◌∙◌, subst, arith, lt-ltb, length-replicate}
+use Common.{IsCostCurve, EnvelopeIsCost, IsPoint, same_some, Table, value_of, Curve, ThermalUnit, PriceLists}
+use Common.{Schedule, IsFrom, IsOutput, IsThermalUnit, ArePrices, power_in, reserve_in, int_at, IsWithin, IsReached}
+use Common.{IsFrontier, IsDispatch, spell_cost, signed, IsSpellAnswer, IsSpellWithin, cap_at, step_at, level, IsRun}
+use Common.{IsStepped, IsSmall, IsLeastCost, IsLeastCostIn}
 use Rattle.spell_run.proofs.RunLaws.{level_before, level_within, level_power, move_same}
 use Rattle.spell_run.proofs.RunLaws.{run_more, run_less, cost_more, cost_none, cost_zero}
 use Rattle.spell_run.proofs.RunLaws.{blank, blank_reserve, build}
@@ -21,7 +20,7 @@ use Rattle.spell_run.proofs.StepLaws.{net_within}
 within_more : {n m : ℕ} {v w : ℤ} → m ≡ suc n → IsWithin (n * 1000000000000000) v → IsWithin 1000000000000000 w →
     IsWithin (m * 1000000000000000) (v +ℤ w)
 within_more {n = n} {m = m} is h i =
-    let size : m * 1000000000000000 ≡ n * 1000000000000000 + 1000000000000000 = ap (λ (k : ℕ). k * 1000000000000000) is
+    let size : m * 1000000000000000 ≡ n * 1000000000000000 + 1000000000000000 = ap (λ k. k * 1000000000000000) is
     ∙ omega arith in
     record { at_least = omega signed; at_most = omega signed }
 
@@ -60,13 +59,7 @@ module _ (g : ThermalUnit) (π : PriceLists) (first t : ℕ) {x : ℤ} {f : Tabl
 pub least_power_out : {g : ThermalUnit} → IsThermalUnit g → IsOutput g.min_power
 least_power_out unit = record { at_least = unit.min_power.at_least; at_most = omega signed }
 
--- before a start in period suc b, and before a spell that goes on
-pub frontier_start : {g : ThermalUnit} (π : PriceLists) (b : ℕ) {f : Table} → IsThermalUnit g →
-    IsPoint g.min_power (pos 0) f → IsFrontier g π (suc b) b f
-frontier_start {g = g} π b unit point =
-    begin_at g π (suc b) b point (least_power_out unit) (λ k from until. absurd (omega arith))
-    (λ d. level_before g (suc b) d b (omega arith)) (λ d. cost_none g π (suc b) b d (omega arith))
-
+-- before a spell that goes on, and before a start
 pub frontier_goes_on : {g : ThermalUnit} (π : PriceLists) {f : Table} → IsThermalUnit g →
     IsPoint g.power0 (pos 0) f → IsFrontier g π 0 0 f
 frontier_goes_on {g = g} π unit point =
@@ -75,17 +68,16 @@ frontier_goes_on {g = g} π unit point =
 
 pub begin_started : {g : ThermalUnit} (π : PriceLists) (first : ℕ) {f : Table} → IsThermalUnit g → 1 ≤ first →
     IsPoint g.min_power (pos 0) f → IsFrontier g π first (first - 1) f
-begin_started π zero unit one point = absurd (omega arith)
-begin_started {g = g} π (suc b) {f = f} unit one point =
-    let z : b ≡ suc b - 1 = omega arith in
-    subst (λ (t : ℕ). IsFrontier g π (suc b) t f) z (frontier_start π b unit point)
+begin_started {g = g} π first unit one point =
+    begin_at g π first (first - 1) point (least_power_out unit) (λ k from until. absurd (omega arith))
+    (λ d. level_before g first d (first - 1) (omega arith)) (λ d. cost_none g π first (first - 1) d (omega arith))
 
 pub frontier_from : {g : ThermalUnit} (π : PriceLists) (first : ℕ) {power : ℤ} {f : Table} → IsThermalUnit g →
     (1 ≤ first → power ≡ g.min_power) → (first ≡ 0 → power ≡ g.power0) →
     IsPoint power (pos 0) f → IsFrontier g π first (first - 1) f
 frontier_from {g = g} π zero {f = f} unit start goes_on point =
     let z : 0 ≡ 0 - 1 = omega arith in
-    subst (λ (t : ℕ). IsFrontier g π 0 t f) z (frontier_goes_on π unit (rw (goes_on refl) at point))
+    subst (λ t. IsFrontier g π 0 t f) z (frontier_goes_on π unit (rw (goes_on refl) at point))
 frontier_from π (suc b) unit start goes_on point =
     begin_started π (suc b) unit (omega arith) (rw (start (omega arith)) at point)
 
@@ -136,7 +128,7 @@ module _ {g : ThermalUnit} {π : PriceLists} {first k : ℕ} {c : Curve} (unit :
           idle = λ j is free.
               let z : j ≡ k = omega arith in
               let here : int_at π.reserve k ≡ pos 0 = cc in
-              ap (λ (i : ℕ). reserve_in b.run (suc i)) z ∙ b.reserve ∙ m.idle here;
+              ap (λ i. reserve_in b.run (suc i)) z ∙ b.reserve ∙ m.idle here;
         }
 
     more_complete : (d : Schedule) → IsRun g first (suc k) d →

@@ -1,8 +1,8 @@
 -- A period of one spell behind a run of another.
-use Rattle.spell_run.proofs.Common.{◌≡◌, ℕ, suc, ◌<◌, ◌≤◌, ℤ, Bool, true, false, eqb, Some, length}
-use Rattle.spell_run.proofs.Common.{refl, sym, ◌∙◌, arith, eqb-true, Table, value_of, ThermalUnit}
-use Rattle.spell_run.proofs.Common.{PriceLists, Schedule, IsThermalUnit, power_in, reserve_in, IsFrontier, IsDispatch}
-use Rattle.spell_run.proofs.Common.{IsMove, level, IsRun, signed}
+use Rattle.spell_run.proofs.Common
+use Common.{◌≡◌, ℕ, suc, ◌<◌, ◌≤◌, ℤ, Bool, true, false, eqb, Some, length, refl, sym, ◌∙◌, arith, eqb-true, Table}
+use Common.{value_of, ThermalUnit, PriceLists, Schedule, IsThermalUnit, power_in, reserve_in, IsFrontier, IsDispatch}
+use Common.{IsMove, level, IsRun, signed}
 use Rattle.spell_run.specs.Joins.{IsRunOn, IsDispatchOn, RunsGoOn, DispatchesGoOn, DispatchesAreRuns}
 use Rattle.spell_run.proofs.RunLaws.{level_power, move_same, run_more, IsBuilt, build, reserve_not_negative}
 use Rattle.spell_run.proofs.RunLaws.{dispatch_from_run, run_from_dispatch, end_from_dispatch}

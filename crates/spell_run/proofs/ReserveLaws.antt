@@ -1,8 +1,8 @@
 -- The best reserve for given powers.
-use Rattle.spell_run.proofs.Common.{bounded, signed}
-use Rattle.spell_run.proofs.Common.{◌≡◌, ℤ, pos, ◌+ℤ◌, ◌-ℤ◌, ◌*ℤ◌, ◌≤ℤ◌, Bool, true, false, cond, ap}
-use Rattle.spell_run.proofs.Common.{◌<ℤ◌, int_lt, int_min, by_lt_z, zero-*ℤ, *ℤ-one, mul-sub}
-use Rattle.spell_run.proofs.Common.{mul-mono_of, most_reserve, best_reserve, IsReserve, ReserveIsAKink, ReserveIsBest}
+use Rattle.spell_run.proofs.Common
+use Common.{bounded, signed, ◌≡◌, ℤ, pos, ◌+ℤ◌, ◌-ℤ◌, ◌*ℤ◌, ◌≤ℤ◌, true, false, cond, ap, ◌<ℤ◌, int_lt, int_min}
+use Common.{by_lt_z, zero-*ℤ, *ℤ-one, mul-sub, mul-mono_of, most_reserve, best_reserve, IsReserve, ReserveIsAKink}
+use Common.{ReserveIsBest}
 
 pub positive_is : (a : ℤ) → pos 0 <ℤ a → int_lt (pos 0) a ≡ true
 positive_is a h = grind signed
@@ -15,17 +15,17 @@ min_less cap up q p = omega bounded
 
 pub reserve_is_a_kink : ReserveIsAKink
 reserve_is_a_kink price cap up q p =
-    let e = ap (λ (z : ℤ). price *ℤ z) (min_less cap up q p) in
+    let e = ap (λ z. price *ℤ z) (min_less cap up q p) in
     let f = mul-sub price (int_min cap (up +ℤ q)) p in
     omega signed
 
 -- ---- the best reserve by cases
 
 pub best_where_paid : (price cap up q p : ℤ) → pos 0 <ℤ price → best_reserve price cap up q p ≡ most_reserve cap up q p
-best_where_paid price cap up q p h = ap (λ (b : Bool). cond b (most_reserve cap up q p) (pos 0)) (positive_is price h)
+best_where_paid price cap up q p h = ap (λ b. cond b (most_reserve cap up q p) (pos 0)) (positive_is price h)
 
 pub best_where_not_paid : (price cap up q p : ℤ) → price ≤ℤ pos 0 → best_reserve price cap up q p ≡ pos 0
-best_where_not_paid price cap up q p h = ap (λ (b : Bool). cond b (most_reserve cap up q p) (pos 0))
+best_where_not_paid price cap up q p h = ap (λ b. cond b (most_reserve cap up q p) (pos 0))
     (not_positive_is price h)
 
 -- where some reserve may be kept, so may the best
@@ -46,13 +46,13 @@ pub best_earns : (price cap up q p : ℤ) → pos 0 ≤ℤ price →
     price *ℤ best_reserve price cap up q p ≡ price *ℤ most_reserve cap up q p
 best_earns price cap up q p h =
     by_lt_z (pos 0) price
-    (λ paid. ap (λ (r : ℤ). price *ℤ r) (best_where_paid price cap up q p paid))
+    (λ paid. ap (λ r. price *ℤ r) (best_where_paid price cap up q p paid))
     (λ unpaid.
     let z : price ≡ pos 0 = omega signed in
     let none = zero-*ℤ (best_reserve price cap up q p) in
     let most = zero-*ℤ (most_reserve cap up q p) in
-    let a = ap (λ (x : ℤ). x *ℤ best_reserve price cap up q p) z in
-    let b = ap (λ (x : ℤ). x *ℤ most_reserve cap up q p) z in
+    let a = ap (λ x. x *ℤ best_reserve price cap up q p) z in
+    let b = ap (λ x. x *ℤ most_reserve cap up q p) z in
     cc)
 
 pub at_most_most : (cap up q p r : ℤ) → IsReserve cap up q p r → r ≤ℤ most_reserve cap up q p

@@ -1,24 +1,23 @@
 -- Runs of periods: one more period, the periods that two schedules share, and dispatches.
-use Rattle.spell_run.proofs.Common.{◌≡◌, ℕ, zero, suc, ◌+◌, ◌-◌, ◌<◌, ◌≤◌, ◌≢◌, inl, inr, ℤ, pos, negsuc, ◌+ℤ◌, ◌-ℤ◌}
-use Rattle.spell_run.proofs.Common.{◌≤ℤ◌, Bool, true, false, cond, eqb, ltb, List, [], length, get_or, set, replicate}
-use Rattle.spell_run.proofs.Common.{refl, sym, ap, ◌∙◌, subst, arith, get_or-set_same, get_or-set_other}
-use Rattle.spell_run.proofs.Common.{cases_lt, lt-ltb, le-ltb, ltb-true, eqb-true, eq-eqb, get_or-replicate, get_or_past}
-use Rattle.spell_run.proofs.Common.{length-replicate, ThermalUnit, PriceLists, Schedule, power_in, reserve_in, cap_of}
-use Rattle.spell_run.proofs.Common.{sum_below, sum_below-same, over_min, IsDispatch, net_cost_at, net_cost, spell_cost}
-use Rattle.spell_run.proofs.Common.{cap_at, IsMove, level, IsRun, IsThermalUnit, IsFrontier, Table}
-use Rattle.spell_run.proofs.Common.{value_of, Some, length-set, bounded, signed}
+use Rattle.spell_run.proofs.Common
+use Common.{◌≡◌, ℕ, zero, suc, ◌+◌, ◌-◌, ◌<◌, ◌≤◌, ◌≢◌, inl, inr, ℤ, pos, negsuc, ◌+ℤ◌, ◌-ℤ◌, ◌≤ℤ◌, Bool, true, false}
+use Common.{cond, eqb, ltb, List, [], length, get_or, set, replicate, refl, sym, ap, ◌∙◌, subst, arith}
+use Common.{get_or-set_same, get_or-set_other, cases_lt, lt-ltb, le-ltb, ltb-true, eqb-true, eq-eqb, get_or-replicate}
+use Common.{get_or_past, length-replicate, ThermalUnit, PriceLists, Schedule, power_in, reserve_in, cap_of, sum_below}
+use Common.{sum_below-same, over_min, IsDispatch, net_cost_at, net_cost, spell_cost, cap_at, IsMove, level, IsRun}
+use Common.{IsThermalUnit, IsFrontier, Table, value_of, Some, length-set, bounded, signed}
 use Rattle.spell_run.proofs.StepLaws.{IsUnder, under_cap, cap_over}
 
 -- ---- the power before a period
 
 pub level_before : (g : ThermalUnit) (first : ℕ) (d : Schedule) (t : ℕ) → t < first → level g first d t ≡ g.min_power
 unfolding level
-level_before g first d t h = ap (λ (b : Bool). cond b g.min_power (over_min g d t +ℤ g.min_power)) (lt-ltb t first h)
+level_before g first d t h = ap (λ b. cond b g.min_power (over_min g d t +ℤ g.min_power)) (lt-ltb t first h)
 
 pub level_within : (g : ThermalUnit) (first : ℕ) (d : Schedule) (t : ℕ) → first ≤ t →
     level g first d t ≡ over_min g d t +ℤ g.min_power
 unfolding level
-level_within g first d t h = ap (λ (b : Bool). cond b g.min_power (over_min g d t +ℤ g.min_power)) (le-ltb t first h)
+level_within g first d t h = ap (λ b. cond b g.min_power (over_min g d t +ℤ g.min_power)) (le-ltb t first h)
 
 pub level_power : (g : ThermalUnit) (first : ℕ) (d : Schedule) (k : ℕ) → first ≤ suc k →
     level g first d (suc k) ≡ power_in d (suc k)
@@ -45,7 +44,7 @@ module _ (g : ThermalUnit) (first : ℕ) where
   unfolding level
   level_alike same zero low = refl
   level_alike same (suc j) low =
-      ap (λ (p : ℤ). cond (ltb (suc j) first) g.min_power ((p -ℤ g.min_power) +ℤ g.min_power))
+      ap (λ p. cond (ltb (suc j) first) g.min_power ((p -ℤ g.min_power) +ℤ g.min_power))
       (same.power j (omega arith))
 
   pub level_same : {t : ℕ} {d d' : Schedule} → IsAlike t d d' → level g first d' t ≡ level g first d t
@@ -61,7 +60,7 @@ module _ {g : ThermalUnit} {first : ℕ} where
   pub run_more : {k : ℕ} (d : Schedule) → IsRun g first k d → MovesIn g first k false d → IsRun g first (suc k) d
   run_more {k = k} d run move j from until = elim (cases_lt j k) [
     | inl less ↦ run j from (omega arith)
-    | inr most ↦ let z : k ≡ j = omega arith in subst (λ (i : ℕ). MovesIn g first i false d) z move
+    | inr most ↦ let z : k ≡ j = omega arith in subst (λ i. MovesIn g first i false d) z move
   ]
 
   pub run_less : {k : ℕ} (d : Schedule) → IsRun g first (suc k) d → IsRun g first k d
@@ -73,8 +72,8 @@ module _ (g : ThermalUnit) (π : PriceLists) (first : ℕ) where
   net_alike : {t : ℕ} {d d' : Schedule} → IsAlike t d d' → (j : ℕ) → j ≤ t → net_cost g π d' j ≡ net_cost g π d j
   net_alike same zero low = refl
   net_alike {d = d} {d' = d'} same (suc j) low =
-      ap (λ (p : ℤ). net_cost_at g π j p (reserve_in d' (suc j))) (same.power j (omega arith))
-      ∙ ap (λ (r : ℤ). net_cost_at g π j (power_in d (suc j)) r) (same.reserve j (omega arith))
+      ap (λ p. net_cost_at g π j p (reserve_in d' (suc j))) (same.power j (omega arith))
+      ∙ ap (λ r. net_cost_at g π j (power_in d (suc j)) r) (same.reserve j (omega arith))
 
   pub cost_alike : {t : ℕ} {d d' : Schedule} → IsAlike t d d' → spell_cost g π first t d' ≡ spell_cost g π first t d
   cost_alike {t = t} same =
@@ -85,13 +84,13 @@ module _ (g : ThermalUnit) (π : PriceLists) (first : ℕ) where
   cost_more k d from =
       let count : suc (suc k) - first ≡ suc (suc k - first) = omega arith in
       let last : first + (suc k - first) ≡ suc k = omega arith in
-      ap (λ (n : ℕ). sum_below n (λ k. net_cost g π d (first + k))) count ∙
-      ap (λ (t : ℕ). sum_below (suc k - first) (λ k. net_cost g π d (first + k)) +ℤ net_cost g π d t) last
+      ap (λ n. sum_below n (λ k. net_cost g π d (first + k))) count ∙
+      ap (λ t. sum_below (suc k - first) (λ k. net_cost g π d (first + k)) +ℤ net_cost g π d t) last
 
   pub cost_none : (t : ℕ) (d : Schedule) → t < first → spell_cost g π first t d ≡ pos 0
   cost_none t d h =
       let count : suc t - first ≡ 0 = omega arith in
-      ap (λ (n : ℕ). sum_below n (λ k. net_cost g π d (first + k))) count
+      ap (λ n. sum_below n (λ k. net_cost g π d (first + k))) count
 
 pub cost_zero : (g : ThermalUnit) (π : PriceLists) (d : Schedule) → spell_cost g π 0 0 d ≡ pos 0
 cost_zero g π d = refl

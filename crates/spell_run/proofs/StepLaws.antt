@@ -1,11 +1,11 @@
 -- A step on a function of the power is one period of a spell: each new value is an old one and a move, and no move is
 -- cheaper.
-use Rattle.spell_run.proofs.Common.{◌≡◌, ℕ, ℤ, pos, neg_ℤ, ◌+ℤ◌, ◌-ℤ◌, ◌*ℤ◌, ◌≤ℤ◌, Bool, true, false, Some, refl}
-use Rattle.spell_run.proofs.Common.{ap, ◌∙◌, subst, IsTrue, option_map, int_min, bounded, signed}
-use Rattle.spell_run.proofs.Common.{*ℤ_comm, IsCostCurve, AreCostPoints, EnvelopeIsCost, curve_value, reserve_term}
-use Rattle.spell_run.proofs.Common.{same_some, Table, value_of, Curve, ThermalUnit, PriceLists, envelope, IsFrom}
-use Rattle.spell_run.proofs.Common.{IsThermalUnit, Spans, int_at, mul-sub, IsWithin, product_within, most_reserve}
-use Rattle.spell_run.proofs.Common.{best_reserve, IsReserve, net_cost_at, cap_at, step_at, IsMove, IsStepped}
+use Rattle.spell_run.proofs.Common
+use Common.{◌≡◌, ℕ, ℤ, pos, neg_ℤ, ◌+ℤ◌, ◌-ℤ◌, ◌*ℤ◌, ◌≤ℤ◌, Bool, true, false, Some, refl, ap, ◌∙◌, subst, IsTrue}
+use Common.{option_map, int_min, bounded, signed, *ℤ_comm, IsCostCurve, AreCostPoints, EnvelopeIsCost, curve_value}
+use Common.{reserve_term, same_some, Table, value_of, Curve, ThermalUnit, PriceLists, envelope, IsFrom, IsThermalUnit}
+use Common.{Spans, int_at, mul-sub, IsWithin, product_within, most_reserve, best_reserve, IsReserve, net_cost_at}
+use Common.{cap_at, step_at, IsMove, IsStepped}
 use Rattle.spell_run.proofs.ReserveLaws.{reserve_is_a_kink, best_may, best_earns, best_is_best, best_where_not_paid}
 use Rattle.spell_run.proofs.SumLaws.{added, raised}
 
@@ -122,7 +122,7 @@ module _ {g : ThermalUnit} (π : PriceLists) (k : ℕ) {c : Curve} (unit : IsThe
         let high = under_most g π k starts stops w.2.1 in
         let u = under_cap g starts stops high.0 in
         let at : x +ℤ pos 0 ≡ x = omega signed in
-        let e = same_some (subst (λ (y : ℤ). curve_value c y ≡ Some r.1) at r.3) (cost_on low u.most) in
+        let e = same_some (subst (λ y. curve_value c y ≡ Some r.1) at r.3) (cost_on low u.most) in
         let may = best_may mu cap g.ramp_up q x high.0 (omega signed) in
         let earns = best_earns mu cap g.ramp_up q x price in
         let parts = parts_are mu (int_at π.energy k) cap g.ramp_up q x b.0 r.1 in
@@ -168,7 +168,7 @@ module _ {g : ThermalUnit} (π : PriceLists) (k : ℕ) {c : Curve} (unit : IsThe
         on_curve x v is low high =
             let m = rw is at (step.is_curve x) in
             let at : x +ℤ pos 0 ≡ x = omega signed in
-            let e = same_some (subst (λ (y : ℤ). curve_value c y ≡ Some m.0) at m.1) (cost_on low high) in
+            let e = same_some (subst (λ y. curve_value c y ≡ Some m.0) at m.1) (cost_on low high) in
             cc
 
   -- what a move costs is far within the limits

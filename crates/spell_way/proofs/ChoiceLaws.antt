@@ -1,7 +1,7 @@
 -- The powers and the reserve of a period as they are stored, and that they stay within limits.
-use Rattle.spell_way.proofs.Common.{◌≡◌, ℕ, ℤ, pos, nat_abs, ◌+ℤ◌, ◌-ℤ◌, ◌≤ℤ◌, ◌<ℤ◌, sym, ◌∙◌, w64}
-use Rattle.spell_way.proofs.Common.{FitsSigned, int_min, to_z-of_z, Schedule, IsOutput, signed}
-use Rattle.spell_way.proofs.Common.{Step, IsWritten, best_reserve, IsFairStep}
+use Rattle.spell_way.proofs.Common
+use Common.{◌≡◌, ℕ, ℤ, pos, nat_abs, ◌+ℤ◌, ◌-ℤ◌, ◌≤ℤ◌, ◌<ℤ◌, sym, ◌∙◌, w64, FitsSigned, int_min, to_z-of_z, Schedule}
+use Common.{IsOutput, signed, Step, IsWritten, best_reserve, IsFairStep}
 use Rattle.plain_lists.proofs.SignedLaws.{stored, stored_is}
 use Rattle.spell_run.proofs.FairLaws.{output_stored, power_stored}
 use Rattle.spell_run.proofs.ReserveLaws.{best_where_paid, best_may}

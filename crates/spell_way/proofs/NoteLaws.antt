@@ -1,14 +1,13 @@
 -- The way back by what the steps noted: the power nearest to the turn is the cheapest power before, and the periods
 -- that are written for it are a way on.
-use Rattle.spell_way.proofs.Common.{bounded, signed}
-use Rattle.spell_way.proofs.Common.{◌≡◌, ℕ, zero, suc, ◌-◌, ◌<◌, ◌≤◌, ltb, eqb, ◌⊎◌, inl, inr, ℤ, pos, ◌+ℤ◌, ◌-ℤ◌, ◌≤ℤ◌}
-use Rattle.spell_way.proofs.Common.{◌<ℤ◌, Bool, false, length, Some, sym, ap, ◌∙◌, subst, arith, option_map, int_min}
-use Rattle.spell_way.proofs.Common.{int_max, by_lt_z, EnvelopeIsCost, reserve_term, IsPoint, IsLeast}
-use Rattle.spell_way.proofs.Common.{IsLeastIn, Reaches, same_some, Table, value_of, Step, IsBottom, IsTurn, IsFirst}
-use Rattle.spell_way.proofs.Common.{IsLast, ThermalUnit, PriceLists, Schedule, IsOutput, IsThermalUnit, ArePrices}
-use Rattle.spell_way.proofs.Common.{int_at, Lowest, Note, IsOnFromTo, IsSameOutside, IsFrontier, IsWritten, IsChosen}
-use Rattle.spell_way.proofs.Common.{IsWayFrom, best_reserve, IsNoted, IsSpellNoted, IsCheapest}
-use Rattle.spell_way.proofs.Common.{IsBestDispatch, IsFirstDispatch, spell_cost, cap_at, step_at, level, IsStepped}
+use Rattle.spell_way.proofs.Common
+use Common.{bounded, signed, ◌≡◌, ℕ, zero, suc, ◌-◌, ◌<◌, ◌≤◌, ltb, eqb, ◌⊎◌, inl, inr, ℤ, pos, ◌+ℤ◌, ◌-ℤ◌, ◌≤ℤ◌}
+use Common.{Bool, false, length, Some, sym, ap, ◌∙◌, subst, arith, option_map, int_min, int_max, by_lt_z}
+use Common.{EnvelopeIsCost, reserve_term, IsPoint, IsLeast, IsLeastIn, Reaches, same_some, Table, value_of, Step}
+use Common.{IsBottom, IsTurn, IsFirst, IsLast, ThermalUnit, PriceLists, Schedule, IsOutput, IsThermalUnit, ArePrices}
+use Common.{int_at, Lowest, Note, IsOnFromTo, IsSameOutside, IsFrontier, IsWritten, IsChosen, IsWayFrom, best_reserve}
+use Common.{IsNoted, IsSpellNoted, IsCheapest, IsBestDispatch, IsFirstDispatch, spell_cost, cap_at, step_at, level}
+use Common.{IsStepped}
 use Rattle.spell_run.specs.declared.notes.Passed.{Passed}
 use Rattle.plain_lists.proofs.SignedLaws.{stored}
 use Rattle.spell_run.proofs.CutLaws.{between_powers}
@@ -51,18 +50,18 @@ module _ {k : Table} {m a b va vb lo hi y w : ℤ} (bottom : IsBottom k m) (firs
                 let za = from z u at in
                 let zb = to z u at in
                 by_lt_z z near
-                (λ (l : z <ℤ near). let s = bottom.falls z near u v at at_near l (omega bounded) in
+                (λ l. let s = bottom.falls z near u v at at_near l (omega bounded) in
                 omega signed)
-                (λ (l : near ≤ℤ z). by_lt_z near m
-                (λ (s : near <ℤ m). let e : near ≡ z = omega bounded in
+                (λ l. by_lt_z near m
+                (λ s. let e : near ≡ z = omega bounded in
                 let same = same_some at_near (ap (value_of k) e ∙ at) in omega signed)
-                (λ (s : m ≤ℤ near). bottom.rises near z v u at_near at s l));
+                (λ s. bottom.rises near z v u at_near at s l));
             first = λ z at above below.
                 let za = from z v at in
                 by_lt_z z near
-                (λ (l : z <ℤ near). let s = bottom.falls z near v v at at_near l (omega bounded) in
+                (λ l. let s = bottom.falls z near v v at at_near l (omega bounded) in
                 absurd (omega signed))
-                (λ (l : near ≤ℤ z). l);
+                (λ l. l);
           },
         )
 
@@ -132,7 +131,7 @@ module _ {g : ThermalUnit} {π : PriceLists} {first k : ℕ} (unit : IsThermalUn
       cheapest_noted : IsCheapest (step_at g π k starts stops) noted.before x y
       cheapest_noted =
           let r = reached in
-          subst (λ (s : Step). IsCheapest s noted.before x y) step_is
+          subst (λ s. IsCheapest s noted.before x y) step_is
           (near noted.before noted.value r.0 r.1 (rw step_is noted.turn) noted.begins noted.ends r.2 (rw step_is r.3))
 
       pub before_out : IsOutput y
@@ -144,13 +143,13 @@ module _ {g : ThermalUnit} {π : PriceLists} {first k : ℕ} (unit : IsThermalUn
       pub before_rise : (x -ℤ y) ≤ℤ s.ramp_up
       before_rise =
           let c = cheapest_noted in
-          let e = ap (λ (s : Step). s.ramp_up) step_is in
+          let e = ap (λ s. s.ramp_up) step_is in
           omega signed
 
       pub before_under : x ≤ℤ s.cap
       before_under =
           let r = power_range.1 in
-          let e = ap (λ (s : Step). s.cap) step_is in
+          let e = ap (λ s. s.cap) step_is in
           omega signed
 
       pub chosen_noted : {d d' : Schedule} → IsWritten k (stored x)
@@ -163,9 +162,7 @@ module _ {g : ThermalUnit} {π : PriceLists} {first k : ℕ} (unit : IsThermalUn
             is_kinked = c.is_kinked;
             value = c.value;
             least = rw (output_stored before_out) c.least;
-            written = rw step_is at (subst
-                (λ (z : ℤ). IsWritten k z (best_reserve s.reserve_price s.cap s.ramp_up (stored y) z) d d')
-                (output_stored power_range.0) written);
+            written = rw step_is at (rw (output_stored power_range.0) at written);
           }
 
   module _ {d d' : Schedule} {x y cost : ℤ} {n : Note} {after : Table} where
@@ -186,9 +183,9 @@ module _ {g : ThermalUnit} {π : PriceLists} {first k : ℕ} (unit : IsThermalUn
         IsWayFrom g π first k last noted.before d' y cost
     way_more {last = last} noted law low front way chosen =
         let e = sym (stops_before last (length π.energy) k low) in
-        let step = subst (λ (b : Bool). IsStepped (step_at g π k starts b) noted.curve noted.before after) e
+        let step = subst (λ b. IsStepped (step_at g π k starts b) noted.curve noted.before after) e
         noted.stepped in
-        let choice = subst (λ (b : Bool). IsChosen (step_at g π k starts b) noted.before k x y d d') e chosen in
+        let choice = subst (λ b. IsChosen (step_at g π k starts b) noted.before k x y d d') e chosen in
         let next = frontier_more unit prices noted.is_curve law within from noted.frontier noted.stepped in
         way_of_choice unit prices noted.is_curve within from (omega arith) noted.frontier step
         (onward_more from low (way_moved front next way)) choice

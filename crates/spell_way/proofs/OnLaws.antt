@@ -6,7 +6,7 @@ pub on_more : {k last : ℕ} {p r : ℤ} {d d' : Schedule} → IsWritten k p r d
     IsOnFromTo (suc k) last d'
 on_more {k = k} {d' = d'} written on j from until = elim (cases_lt k j) [
   | inl after ↦ written.outside.on j (inr (omega arith)) ∙ on j (omega arith) until
-  | inr most ↦ let z : k ≡ j = omega arith in subst (λ (i : ℕ). IsTrue (get_or d'.on i false)) z written.on
+  | inr most ↦ let z : k ≡ j = omega arith in subst (λ i. IsTrue (get_or d'.on i false)) z written.on
 ]
 
 pub on_last : {k last : ℕ} {p r : ℤ} {d d' : Schedule} → suc k ≡ last → IsWritten k p r d d' →

@@ -1,10 +1,9 @@
 -- A way on from the power before a spell is a best dispatch, and the first of those of its cost.
-use Rattle.spell_way.proofs.Common.{◌≡◌, ℕ, zero, suc, ◌+◌, ◌-◌, ◌<◌, ◌≤◌, inl, inr, ℤ, pos, ◌+ℤ◌, ◌*ℤ◌, ◌≤ℤ◌, eqb}
-use Rattle.spell_way.proofs.Common.{length, refl, sym, ap, ◌∙◌, subst, arith, cases_lt, IsPoint, same_some, Table}
-use Rattle.spell_way.proofs.Common.{value_of, ThermalUnit, PriceLists, Schedule, IsThermalUnit, ArePrices, power_in}
-use Rattle.spell_way.proofs.Common.{reserve_in, int_at, sum_below, stops_at, HasBestReserve, IsWayFrom}
-use Rattle.spell_way.proofs.Common.{IsDispatch, net_cost_at, net_cost, spell_cost, IsBestDispatch}
-use Rattle.spell_way.proofs.Common.{IsFirstDispatch, cap_at, level, signed}
+use Rattle.spell_way.proofs.Common
+use Common.{◌≡◌, ℕ, zero, suc, ◌+◌, ◌-◌, ◌<◌, ◌≤◌, inl, inr, ℤ, pos, ◌+ℤ◌, ◌*ℤ◌, ◌≤ℤ◌, eqb, length, refl, sym, ap}
+use Common.{◌∙◌, subst, arith, cases_lt, IsPoint, same_some, Table, ThermalUnit, PriceLists, Schedule}
+use Common.{IsThermalUnit, ArePrices, power_in, reserve_in, int_at, sum_below, stops_at, HasBestReserve, IsWayFrom}
+use Common.{IsDispatch, net_cost_at, net_cost, spell_cost, IsBestDispatch, IsFirstDispatch, cap_at, level, signed}
 use Rattle.spell_run.specs.Laws.{IsBestReserve}
 use Rattle.spell_run.proofs.ReserveLaws.{reserve_is_best}
 use Rattle.spell_run.proofs.RunLaws.{level_before, level_within, move_same, reserve_not_negative}
@@ -20,7 +19,7 @@ same_terms (suc n) f g le same i low =
     let whole : sum_below n f +ℤ f n ≡ sum_below n g +ℤ g n = same in
     elim (cases_lt i n) [
       | inl less ↦ same_terms n f g (λ j h. le j (omega arith)) (omega signed) i less
-      | inr most ↦ let z : n ≡ i = omega arith in let e : f n ≡ g n = omega signed in subst (λ (j : ℕ). f j ≡ g j) z e
+      | inr most ↦ let z : n ≡ i = omega arith in let e : f n ≡ g n = omega signed in subst (λ j. f j ≡ g j) z e
     ]
   where
     sums_le : (n : ℕ) (f g : ℕ → ℤ) → ((i : ℕ) → i < n → f i ≤ℤ g i) → sum_below n f ≤ℤ sum_below n g
@@ -61,14 +60,14 @@ module _ {g : ThermalUnit} {π : PriceLists} {first last : ℕ} (unit : IsTherma
 
   net_parts : (j : ℕ) → first ≤ suc j → j < last → net_cost g π other (suc j) ≡ net_cost_at g π j (power_in d (suc j))
       (reserve_in other (suc j))
-  net_parts j from low = ap (λ (p : ℤ). net_cost_at g π j p (reserve_in other (suc j))) (same j from low)
+  net_parts j from low = ap (λ p. net_cost_at g π j p (reserve_in other (suc j))) (same j from low)
 
   net_le : (t : ℕ) → first ≤ t → t ≤ last → net_cost g π d t ≤ℤ net_cost g π other t
   net_le zero from low = omega signed
   net_le (suc j) from low =
       let e = net_parts j from (omega arith) in
       let b = (best_law j from (omega arith)).best in
-      let worth = ap (λ (r : ℤ). int_at π.reserve j *ℤ r) (best j from (omega arith)) in
+      let worth = ap (λ r. int_at π.reserve j *ℤ r) (best j from (omega arith)) in
       omega signed
 
   pub reserve_first : spell_cost g π first last other ≡ spell_cost g π first last d → (k : ℕ) → first ≤ suc k →
@@ -79,10 +78,10 @@ module _ {g : ThermalUnit} {π : PriceLists} {first last : ℕ} (unit : IsTherma
       (omega arith) in
       let at : first + (suc k - first) ≡ suc k = omega arith in
       let net : net_cost g π d (suc k) ≡ net_cost g π other (suc k) = subst
-      (λ (t : ℕ). net_cost g π d t ≡ net_cost g π other t) at terms in
+      (λ t. net_cost g π d t ≡ net_cost g π other t) at terms in
       let e = net_parts k from low in
       let is = best k from low in
-      let worth = ap (λ (r : ℤ). int_at π.reserve k *ℤ r) is in
+      let worth = ap (λ r. int_at π.reserve k *ℤ r) is in
       let least = (best_law k from low).least (omega signed) in
       omega signed
 

@@ -1,13 +1,12 @@
 -- The way back: the periods that are written make, with what comes before them, a dispatch of least cost, the first of
 -- those of that cost.
-use Rattle.spell_way.proofs.Common.{signed}
-use Rattle.spell_way.proofs.Common.{◌≡◌, ℕ, zero, suc, ◌<◌, ◌≤◌, inl, inr, ℤ, pos, ◌+ℤ◌, ◌-ℤ◌, ◌≤ℤ◌, Bool, true, false}
-use Rattle.spell_way.proofs.Common.{◌&&◌, eqb, ltb, length, Some, refl, sym, ap, ◌∙◌, subst, arith, option_map}
-use Rattle.spell_way.proofs.Common.{cases_lt, eq-eqb, ne_eqb, and_right, IsCostCurve, reserve_term, IsLeast, same_some}
-use Rattle.spell_way.proofs.Common.{Table, value_of, Curve, ThermalUnit, PriceLists, Schedule, IsThermalUnit, ArePrices}
-use Rattle.spell_way.proofs.Common.{power_in, reserve_in, int_at, IsFrontier, IsChosen, stops_at, HasSamePowersAfter}
-use Rattle.spell_way.proofs.Common.{IsSameAfter, HasBestReserve, IsWayFrom, best_reserve, IsDispatch}
-use Rattle.spell_way.proofs.Common.{net_cost_at, net_cost, spell_cost, cap_at, step_at, IsMove, level, IsRun, IsStepped}
+use Rattle.spell_way.proofs.Common
+use Common.{signed, ◌≡◌, ℕ, zero, suc, ◌<◌, ◌≤◌, inl, inr, ℤ, pos, ◌+ℤ◌, ◌-ℤ◌, ◌≤ℤ◌, Bool, true, false, ◌&&◌, eqb}
+use Common.{ltb, length, Some, refl, sym, ap, ◌∙◌, subst, arith, option_map, cases_lt, eq-eqb, ne_eqb, and_right}
+use Common.{IsCostCurve, reserve_term, IsLeast, same_some, Table, value_of, Curve, ThermalUnit, PriceLists, Schedule}
+use Common.{IsThermalUnit, ArePrices, power_in, reserve_in, int_at, IsFrontier, IsChosen, stops_at}
+use Common.{HasSamePowersAfter, IsSameAfter, HasBestReserve, IsWayFrom, best_reserve, IsDispatch, net_cost_at}
+use Common.{net_cost, spell_cost, cap_at, step_at, IsMove, level, IsRun, IsStepped}
 use Rattle.spell_run.proofs.ReserveLaws.{best_may}
 use Rattle.spell_run.proofs.RunLaws.{level_power, MovesIn, move_same, run_more, cost_more, reserve_not_negative, move_parts}
 use Rattle.spell_run.proofs.RunLaws.{move_whole, dispatch_from_run, run_from_dispatch, end_from_dispatch}
@@ -25,7 +24,7 @@ stops_before last periods k h = and_right (ltb last periods) (eqb last (suc k))
     (ne_eqb last (suc k) (λ e. absurd (omega arith)))
 
 pub stops_last : (periods k : ℕ) → stops_at (suc k) periods k ≡ ltb (suc k) periods
-stops_last periods k = ap (λ (b : Bool). ltb (suc k) periods && b) (eq-eqb (suc k) (suc k) refl) ∙
+stops_last periods k = ap (λ b. ltb (suc k) periods && b) (eq-eqb (suc k) (suc k) refl) ∙
     and_true (ltb (suc k) periods)
 
 -- ---- dispatches period by period
@@ -44,7 +43,7 @@ module _ {g : ThermalUnit} {periods first : ℕ} {d : Schedule} (unit : IsTherma
             let z : m ≡ k = omega arith in
             let whole = move_whole first (run m start (omega arith)) (end_from_dispatch unit start dispatch) in
             let stop = rw (← stops_last periods m) at whole in
-            subst (λ (j : ℕ). MovesIn g first j (stops_at (suc m) periods j) d) z stop
+            subst (λ j. MovesIn g first j (stops_at (suc m) periods j) d) z stop
       ]
 
   pub run_of : (last : ℕ) {k : ℕ} → first ≤ suc k → suc k ≤ last → IsDispatch g periods first last d → IsRun g first k d
@@ -251,7 +250,7 @@ module _ {g : ThermalUnit} {π : PriceLists} {first k : ℕ} {c : Curve} (unit :
             let least = net_at_least g π k price cap q x (record
             { least = reserve_not_negative other k; greatest = other_move.greatest; ramp = other_move.ramp_up }) in
             let same_net : net_cost g π other (suc k) ≡ net_cost_at g π k x (reserve_in other (suc k)) = ap
-            (λ (p : ℤ). net_cost_at g π k p (reserve_in other (suc k))) other_power in
+            (λ p. net_cost_at g π k p (reserve_in other (suc k))) other_power in
             omega signed
 
         other_rest : ((spell_cost g π first k other +ℤ net_cost g π other (suc k)) +ℤ (cost -ℤ onward.value)) ≤ℤ
@@ -268,7 +267,7 @@ module _ {g : ThermalUnit} {π : PriceLists} {first k : ℕ} {c : Curve} (unit :
             let n = other_net in
             let is = value_is in
             let e : net_cost_at g π k x (best_at q) ≡ net_cost_at g π k x (best_at y) = ap
-            (λ (z : ℤ). net_cost_at g π k x (best_at z)) at in
+            (λ z. net_cost_at g π k x (best_at z)) at in
             omega signed
 
         way_first : spell_cost g π first last other ≡ cost → y ≤ℤ q
@@ -302,7 +301,7 @@ module _ {g : ThermalUnit} {π : PriceLists} {first k : ℕ} {c : Curve} (unit :
           let here : HasSamePowersAfter (suc k) last d' other = rw z at same in
           let a = onward.first_here other dispatch cost_is (later_of k other (omega arith) here) in
           let b : power_in d' (suc k) ≤ℤ power_in other (suc k) = omega signed in
-          subst (λ (t : ℕ). power_in d' (suc t) ≤ℤ power_in other (suc t)) (sym z) b
+          subst (λ t. power_in d' (suc t) ≤ℤ power_in other (suc t)) (sym z) b
     ]
 
     pub way_of_choice : IsWayFrom g π first k last f d' y cost

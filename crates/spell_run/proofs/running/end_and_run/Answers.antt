@@ -1,8 +1,7 @@
 use Rattle.slope_list.specs.Slopes.{shown}
-use Rattle.spell_run.proofs.Common.{rules, ◌≡◌, ◌⊎◌, pos, false, suc, true, eqb, ◌<◌, length, sym}
-use Rattle.spell_run.proofs.Common.{arith, w64, FitsSigned, MatchOption, lt-ltb, to_z-of_z, IsLeastIn}
-use Rattle.spell_run.proofs.Common.{HasNone, IsTurn, thermal_of, prices_of, int_at}
-use Rattle.spell_run.proofs.Common.{end_cost, cap_at, step_at}
+use Rattle.spell_run.proofs.Common
+use Common.{rules, ◌≡◌, ◌⊎◌, pos, false, suc, true, eqb, ◌<◌, length, sym, arith, w64, FitsSigned, MatchOption}
+use Common.{lt-ltb, to_z-of_z, IsLeastIn, HasNone, IsTurn, thermal_of, prices_of, int_at, end_cost, cap_at, step_at}
 use Rattle.spell_run.proofs.EndLaws.{end_least, end_least_in, end_least_after, end_within, ended_last, ended_alike}
 use Rattle.spell_run.proofs.EndLaws.{ended_beside}
 use Rattle.spell_run.proofs.Lemmas.{alike_of, range_moved, cost_is, small_frontier, answer_at_end}

@@ -1,4 +1,4 @@
-use Rattle.spell_way.proofs.Common.{rules, ◌≡◌, ℤ, ◌+ℤ◌, ◌-ℤ◌, ap, ◌∙◌, arith, w64, FitsSigned, to_z, of_z, int_min}
+use Rattle.spell_way.proofs.Common.{rules, ◌≡◌, ◌+ℤ◌, ◌-ℤ◌, ap, ◌∙◌, arith, w64, FitsSigned, to_z, of_z, int_min}
 use Rattle.spell_way.proofs.Common.{int_max, to_z-of_z, fits_within, signed}
 use Rattle.spell_way.proofs.Lemmas.{cheapest_near}
 use Rattle.spell_way.proofs.way.cheapest_before.Goals as goal
@@ -28,6 +28,6 @@ returns c = λ f v y w turn first last there reach.
     let top : c.max.result ≡ int_max c.max-low.result c.min.result = simp to_z-of_z at c.max.ensures.value in
     let is : to_z w64 (of_z w64 c.max.result) ≡ int_max (int_max (x -ℤ s.ramp_up) n.first)
     (int_min (int_min (x +ℤ s.ramp_down) n.last) n.turn) =
-    to_z-of_z w64 _ fits_d ∙ top ∙ ap (λ (z : ℤ). int_max z c.min.result) low ∙
+    to_z-of_z w64 _ fits_d ∙ top ∙ ap (λ z. int_max z c.min.result) low ∙
     ap (int_max (int_max (x -ℤ s.ramp_up) n.first)) (cc) in
     cheapest_near turn first last there reach is

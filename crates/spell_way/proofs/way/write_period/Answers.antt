@@ -1,6 +1,6 @@
-use Rattle.spell_way.proofs.Common.{rules, ◌≡◌, ℤ, ◌≤ℤ◌, suc, eqb, to_z, of_z, Some, w64, FitsSigned}
-use Rattle.spell_way.proofs.Common.{to_z-of_z, Reaches, Table, value_of, IsTurn, IsFirst, IsLast, Step, IsOutput}
-use Rattle.spell_way.proofs.Common.{thermal_of, Note, IsCheapest, cap_at, signed}
+use Rattle.spell_way.proofs.Common
+use Common.{rules, ◌≡◌, ℤ, ◌≤ℤ◌, suc, eqb, to_z, of_z, Some, w64, FitsSigned, to_z-of_z, Reaches, Table, value_of}
+use Common.{IsTurn, IsFirst, IsLast, Step, IsOutput, thermal_of, Note, IsCheapest, cap_at, signed}
 use Rattle.spell_way.proofs.Lemmas.{output_stored, power_range, before_out, before_rise, before_under, chosen_noted}
 use Rattle.spell_way.proofs.way.write_period.Goals as goal
 use Rattle.spell_way.proofs.way.write_period.Goals.{Start, After-cheapest_before-before}

@@ -1,4 +1,4 @@
-use Rattle.spell_way.proofs.Common.{arith, signed}
+use Rattle.spell_way.proofs.Common.{signed}
 use Rattle.spell_way.proofs.Lemmas.{reserve_is, reserve_out}
 use Rattle.spell_way.proofs.write.reserve_of.Goals as goal
 
