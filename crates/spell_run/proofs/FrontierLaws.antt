@@ -168,7 +168,8 @@ module _ {g : ThermalUnit} {π : PriceLists} {first k : ℕ} {c : Curve} (unit :
   Bounds h d = (v : ℤ) × (value_of h (power_in d (suc k)) ≡ Some v) × (v ≤ℤ spell_cost g π first (suc k) d)
 
   answer_some : {v : ℤ} → Costs v → IsSpellWithin first (suc k) v →
-      ((d : Schedule) → IsDispatch g periods first (suc k) d → v ≤ℤ spell_cost g π first (suc k) d) → IsAnswer g π first k (Some v)
+      ((d : Schedule) → IsDispatch g periods first (suc k) d → v ≤ℤ spell_cost g π first (suc k) d) →
+      IsAnswer g π first k (Some v)
   answer_some found within least = (
     record { dispatch = found.0; keeps = found.1; cost = found.2; least = least },
     within,
@@ -196,7 +197,8 @@ module _ {g : ThermalUnit} {π : PriceLists} {first k : ℕ} {c : Curve} (unit :
         let b = front.complete d (run_less d run) in
         let whole = move_whole first (run k from (omega arith)) (end_from_dispatch unit from dispatch) in
         let m = rw (← is_stop) at whole in
-        let s = step_complete π k unit reserve_price.at_least curve starts stops step b.1 m (reserve_not_negative d k) in
+        let s = step_complete π k unit reserve_price.at_least curve starts stops step b.1 m
+        (reserve_not_negative d k) in
         let more = cost_more g π first k d from in
         (s.0, s.1, omega signed)
 

@@ -39,7 +39,8 @@ best_may price cap up q p h i =
       ramp = omega bounded;
     }))
     (λ unpaid.
-    rw (best_where_not_paid price cap up q p unpaid) (record { least = omega signed; greatest = omega signed; ramp = omega signed }))
+    rw (best_where_not_paid price cap up q p unpaid)
+    (record { least = omega signed; greatest = omega signed; ramp = omega signed }))
 
 -- it earns what the most reserve earns
 pub best_earns : (price cap up q p : ℤ) → pos 0 ≤ℤ price →

@@ -198,7 +198,8 @@ module _ (g : ThermalUnit) (π : PriceLists) (k : ℕ) (price : pos 0 ≤ℤ int
 
   -- what a step from q to x adds at the best reserve
   abbrev pub best_net : ℤ
-  best_net = (reserve_term reserve_price cap g.ramp_up q +ℤ ((reserve_price -ℤ int_at π.energy k) *ℤ x)) +ℤ envelope g.points x
+  best_net = (reserve_term reserve_price cap g.ramp_up q +ℤ ((reserve_price -ℤ int_at π.energy k) *ℤ x)) +ℤ
+      envelope g.points x
 
   pub net_of_best : net_cost_at g π k x (best_reserve reserve_price cap g.ramp_up q x) ≡ best_net
   net_of_best =

@@ -137,7 +137,8 @@ module _ {g : ThermalUnit} {π : PriceLists} {first k : ℕ} (unit : IsThermalUn
       pub before_out : IsOutput y
       before_out =
           let c = cheapest_noted in
-          let u = added (reserve_term (int_at π.reserve k) (cap_at g starts stops) g.ramp_up) y (c.is_kinked y) c.least.there in
+          let u = added (reserve_term (int_at π.reserve k) (cap_at g starts stops) g.ramp_up) y
+          (c.is_kinked y) c.least.there in
           noted.frontier.powers y u.0 u.1
 
       pub before_rise : (x -ℤ y) ≤ℤ s.ramp_up
@@ -323,7 +324,8 @@ module _ {g : ThermalUnit} {π : PriceLists} {first k : ℕ} {stops : Bool} {n :
   turn_out : IsOutput n.turn
   turn_out =
       let t = noted.turn in
-      let u = added (reserve_term (int_at π.reserve k) (cap_at g (eqb first (suc k)) stops) g.ramp_up) n.turn (t.1 n.turn) t.2.there in
+      let u = added (reserve_term (int_at π.reserve k) (cap_at g (eqb first (suc k)) stops) g.ramp_up) n.turn
+      (t.1 n.turn) t.2.there in
       noted.frontier.powers n.turn u.0 u.1
 
   pub noted_stored : IsNoted g π first k stops (stored_note n) after

@@ -8,8 +8,8 @@ use Common.{IsThermalUnit, ArePrices, power_in, reserve_in, int_at, IsFrontier, 
 use Common.{HasSamePowersAfter, IsSameAfter, HasBestReserve, IsWayFrom, best_reserve, IsDispatch, net_cost_at}
 use Common.{net_cost, spell_cost, cap_at, step_at, IsMove, level, IsRun, IsStepped}
 use Rattle.spell_run.proofs.ReserveLaws.{best_may}
-use Rattle.spell_run.proofs.RunLaws.{level_power, MovesIn, move_same, run_more, cost_more, reserve_not_negative, move_parts}
-use Rattle.spell_run.proofs.RunLaws.{move_whole, dispatch_from_run, run_from_dispatch, end_from_dispatch}
+use Rattle.spell_run.proofs.RunLaws.{level_power, MovesIn, move_same, run_more, cost_more, reserve_not_negative}
+use Rattle.spell_run.proofs.RunLaws.{move_parts, move_whole, dispatch_from_run, run_from_dispatch, end_from_dispatch}
 use Rattle.spell_run.proofs.StepLaws.{step_sound, step_complete, net_of_best, net_at_least}
 use Rattle.spell_run.proofs.SumLaws.{added}
 

@@ -5,4 +5,5 @@ use Rattle.spell_way.proofs.write.write_best.Goals as goal
 pub returns-clause-written : goal.returns-clause-written
 returns-clause-written c =
     written_cast c.requires.power c.reserve_of-reserve.ensures.bound
-    (c.reserve_of-reserve.ensures.best ∙ best_stored c.args.step c.requires.before c.requires.power) c.write.ensures.written
+    (c.reserve_of-reserve.ensures.best ∙ best_stored c.args.step c.requires.before c.requires.power)
+    c.write.ensures.written
