@@ -1,7 +1,7 @@
 -- The keys and texts among the tokens of a file are UTF-8.
 use Rattle.law_names.proofs.Common.{◌≡◌, ℕ, zero, suc, ◌-◌, Bool, true, false, cond, List, [], ◌∷◌, take, drop, Option, Some, None, refl, AllByRecursion, IsUtf8}
 unfoldable use Rattle.text_tokens.specs.Numbers.{number_token, power_digits, power, behind_fraction, behind_whole, unsigned, number_of}
-use Rattle.text_tokens.specs.Numbers.{is_digit}
+use Rattle.std.specs.Char.{is_digit}
 use Rattle.std.specs.List.{prefix_len}
 use Rattle.std.specs.Prelude.{◌==◌, ◌||◌}
 use Rattle.text_tokens.specs.Grammar.{Token, open_list, close_list, open_object, close_object, comma, colon, word, bad}
