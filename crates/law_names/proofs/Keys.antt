@@ -1,7 +1,7 @@
 -- The keys and texts among the tokens of a file are UTF-8.
 use Rattle.law_names.proofs.Common.{◌≡◌, ℕ, zero, suc, ◌-◌, Bool, true, false, cond, List, [], ◌∷◌, take, drop, Option, Some, None, refl, AllByRecursion, IsUtf8}
 unfoldable use Rattle.text_tokens.specs.Numbers.{number_token, power_digits, power, behind_fraction, behind_whole, unsigned, number_of}
-use Rattle.std.specs.Char.{is_digit}
+use Rattle.std.specs.Char.{is_ascii_digit}
 use Rattle.std.specs.List.{prefix_len}
 use Rattle.std.specs.Prelude.{◌==◌, ◌||◌}
 use Rattle.text_tokens.specs.Grammar.{Token, open_list, close_list, open_object, close_object, comma, colon, word, bad}
@@ -99,7 +99,7 @@ token_kept b bytes =
     (either_read (b == 44) (comma, 1) _ (record { says = tt })
     (either_read (b == 58) (colon, 1) _ (record { says = tt })
     (either_read (b == 34) (string_at (drop 1 bytes)) _ (string_kept (drop 1 bytes))
-    (either_read (b == 45 || is_digit b) (number_at bytes) _ (number_kept _)
+    (either_read (b == 45 || is_ascii_digit b) (number_at bytes) _ (number_kept _)
     (either_read (is_letter b) (word_at bytes) (bad, 1) (word_kept (take (prefix_len is_letter bytes) bytes)) (record { says = tt })))))))))
 
 pub tokens_kept : (at passing : ℕ) (bytes : List ℕ) → AllByRecursion IsKept (kinds (tokens_from at passing bytes))
