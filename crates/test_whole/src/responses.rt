@@ -82,7 +82,7 @@ fn answer_of<S: Shape>(
     Ok(best_response::<S>(alloc, home, &unit, &prices)?)
 }
 
-// The least best response on a bench, that of a second call, which begins with the first one's.
+// The least best response on a bench, begun with the last answer that another bench left.
 fn on_bench(alloc: Global, row: Row) -> Result<Option<Answered>, Fail> {
     let periods = row.energy.len();
     if periods == 0 || periods > 168 {
@@ -93,11 +93,13 @@ fn on_bench(alloc: Global, row: Row) -> Result<Option<Answered>, Fail> {
     }
     let unit = unit(alloc, row.unit, row.window)?;
     let prices = small_prices(alloc, row.energy, row.reserve)?;
-    let mut bench = Bench::make(alloc, periods as u32, unit.points.len() as u32)?;
+    let points = unit.points.len() as u32;
+    let mut earlier = Bench::make(alloc, periods as u32, points)?;
+    let mut bench = Bench::make(alloc, periods as u32, points)?;
     let last = LastAnswers::make(alloc, 1, periods as u32)?;
     let mut first = Answered::make(alloc, periods as u32)?;
     let mut into = Answered::make(alloc, periods as u32)?;
-    let _ = least_on_bench(&mut bench, &last, 0, &unit, &prices, &mut first);
+    let _ = least_on_bench(&mut earlier, &last, 0, &unit, &prices, &mut first);
     if least_on_bench(&mut bench, &last, 0, &unit, &prices, &mut into) {
         return Ok(Some(into));
     }
