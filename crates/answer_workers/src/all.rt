@@ -50,7 +50,8 @@ fn work_each<R: Threads + Wait + Sync, G: Gate>(
     thread::for_each_mut(rt, workers, count, &one);
 }
 
-// Lets each worker of a row work, one after another, and says how they ended.
+// Asks each worker once more, one after another, and says how they ended: there is nothing left to
+// do, but the threads that worked handed back no answer.
 fn end_all<R: Wait, G: Gate>(
     rt: &R,
     board: &SharedBoard,
@@ -99,6 +100,5 @@ pub fn answer_all<R: Threads + Wait + Sync, G: Gate>(
         workers: workers.len(),
     };
     work_each(rt, board, &crew, workers, gate);
-    // The threads hand back no answers, so each worker is asked once more: nothing is left to do.
     end_all(rt, board, &crew, workers, gate)
 }

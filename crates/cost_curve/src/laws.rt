@@ -6,7 +6,7 @@ ghost use Rattle.cost_curve.specs.CostCurve.{EnvelopeIsCost};
 use uc_model::laws::{envelope_is_greatest, power_costs_are_within};
 
 /// At each whole price the best earnings of one period over the envelope are those over the points:
-/// the cost is as good as the lower convex envelope of the points.
+/// whole prices can't tell the cost from the points, or from their lower convex envelope.
 pub fn envelope_earns_as_points()
     ensures { EnvelopeEarnsAsPoints }
 {

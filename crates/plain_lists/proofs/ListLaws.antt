@@ -1,5 +1,6 @@
 -- Lists, and sums over them, item by item.
 use Rattle.plain_lists.proofs.Common.{◌≡◌, ℕ, zero, suc, ◌+◌, ◌<◌, ◌⊎◌, inl, inr, ℤ, ◌+ℤ◌, Bool, true, false, cond, Some, None, List, [], ◌∷◌, ◌++◌, map, length, reverse, take, drop, get_or, refl, sym, ap, ◌∙◌, subst, arith, append_assoc, ints, reverse-reverse, append-nil, take-append-drop, take_more, drop_more, slice_get, slice_index_or, All, AllZip, flat_map, option_map, total, sum_below, zip_with}
+use Rattle.plain_lists.proofs.Common.{◌≢◌, Option, IfSome, slice_set}
 use Rattle.std.proofs.lemmas.List.Concat.{flat_map-append}
 use Rattle.std.proofs.lemmas.Option.{slice_get-map}
 
@@ -174,3 +175,25 @@ total-append (x ∷ xs) ys = omega (arith, ints, total-append xs ys)
 
 pub total-push : (xs : List ℤ) (x : ℤ) → total (xs ++ x ∷ []) ≡ total xs +ℤ x
 total-push xs x = omega (arith, ints, total-append xs (x ∷ []))
+
+-- ---- an item of a list that is written, and what holds of an option that is there
+
+pub get_set_same : {X : Type 0} (xs : List X) (i : ℕ) (a : X) → i < length xs → slice_get (slice_set xs i a) i ≡ Some a
+get_set_same [] i a low = absurd (omega arith)
+get_set_same (x ∷ xs) zero a low = refl
+get_set_same (x ∷ xs) (suc i) a low = get_set_same xs i a (omega arith)
+
+pub get_set_other : {X : Type 0} (xs : List X) (i j : ℕ) (a : X) → j ≢ i →
+    slice_get (slice_set xs i a) j ≡ slice_get xs j
+get_set_other [] i j a other = refl
+get_set_other (x ∷ xs) zero zero a other = absurd (other refl)
+get_set_other (x ∷ xs) zero (suc j) a other = refl
+get_set_other (x ∷ xs) (suc i) zero a other = refl
+get_set_other (x ∷ xs) (suc i) (suc j) a other = get_set_other xs i j a (λ z. other (ap suc z))
+
+pub if_some : {X : Type 0} → (P : X → Type 0) (o : Option X) (x : X) → o ≡ Some x → IfSome o P → P x
+if_some P o x is h = rw is at h
+
+pub if_some_more : {X : Type 0} (P Q : X → Type 0) → ((x : X) → P x → Q x) → (o : Option X) → IfSome o P → IfSome o Q
+if_some_more P Q more None h = tt
+if_some_more P Q more (Some x) h = more x h

@@ -2,9 +2,6 @@
 use Rattle.unit_program.proofs.Common.{◌≡◌, ℕ, ◌+◌, ◌<◌, ◌⊎◌, inl, inr, ◌≤◌, Option, Some, None, ℤ, pos, ◌+ℤ◌, ◌≤ℤ◌}
 use Rattle.unit_program.proofs.Common.{sym, subst, arith, IfSome, IfNone, ints, cases_lt, Entry, HasEntryAtMost}
 
-pub if_some : {X : Type 0} → (P : X → Type 0) (o : Option X) (x : X) → o ≡ Some x → IfSome o P → P x
-if_some P o x is h = subst (λ o. IfSome o P) is h
-
 pub if_none : {X : Type 0} → (P : Type 0) (o : Option X) → o ≡ None → IfNone o P → P
 if_none P o is h = subst (λ o. IfNone o P) is h
 

@@ -5,7 +5,7 @@ use Rattle.unit_program.proofs.Common.{PriceLists, Schedule, Thermal, earnings, 
 use Rattle.unit_program.proofs.Common.{IsThermalFeasible, Ended, Entry, CappedRowsAreRows, LimitsAreAboveTheAmount}
 use Rattle.unit_program.proofs.Common.{capped, IsFilledWithin, IsEndWithin, EachCostsMore, cost_at, IsOffRun}
 use Rattle.unit_program.proofs.Common.{IsLeastEnd}
-use Rattle.unit_program.proofs.EntryLaws.{if_some}
+use Rattle.plain_lists.proofs.ListLaws.{if_some}
 use Rattle.unit_program.proofs.ShapeLaws.{table_is_least}
 
 -- ---- the rows

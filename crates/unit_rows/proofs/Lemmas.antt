@@ -1,6 +1,6 @@
 -- The lemmas that answers cite, passed on from one place.
+pub use Rattle.plain_lists.proofs.ListLaws.{get_set_same, get_set_other, if_some}
 pub use Rattle.unit_rows.proofs.BeginLaws.{begun, within_first}
-pub use Rattle.unit_rows.proofs.ListLaws.{get_set_same, get_set_other, if_some}
 pub use Rattle.unit_rows.proofs.OriginLaws.{begun_right, begun_ripe, none_ripe, put_ripe, IsLeastUpTo, one_more}
 pub use Rattle.unit_rows.proofs.OriginLaws.{least_of_origins, none_of_origins, right_more, ripe_later, ripe_or_there}
 pub use Rattle.unit_rows.proofs.OriginLaws.{cleared}

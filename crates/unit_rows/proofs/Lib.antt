@@ -2,8 +2,6 @@
 pub mod Common
 -- the table before the first period
 pub mod BeginLaws
--- an item of a list that is written, and what holds of an option that is there
-pub mod ListLaws
 -- the ends that the next start may follow, a period later, and the cheapest start
 pub mod OriginLaws
 -- when the unit has been off for long enough

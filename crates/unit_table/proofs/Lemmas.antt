@@ -1,10 +1,11 @@
 -- The lemmas that answers cite, passed on from one place.
+pub use Rattle.plain_lists.proofs.ListLaws.{if_some_more}
 pub use Rattle.unit_table.proofs.BeginLaws.{at_once_some, at_once_none}
 pub use Rattle.unit_table.proofs.LiveLaws.{going_on, live_other, live_here, live_from, off_from, on_from, kept_none}
 pub use Rattle.unit_table.proofs.LiveLaws.{kept_then, kept_written, kept_roomy, kept_room, kept_left, stopped_one}
 pub use Rattle.unit_table.proofs.LiveLaws.{begun_one, off_roomy, all_off, fewer_none, fewer_then, fewer_off}
 pub use Rattle.unit_table.proofs.LiveLaws.{fewer_small}
-pub use Rattle.unit_table.proofs.LiveLaws.{fewer_but, below_of, if_some, if_some_more, under_of, beyond_of, small_of}
+pub use Rattle.unit_table.proofs.LiveLaws.{fewer_but, below_of, under_of, beyond_of, small_of}
 pub use Rattle.unit_table.proofs.LiveLaws.{going_off, on_same, room_more, room_next, have_room}
 pub use Rattle.unit_table.proofs.NoteLaws.{passed_append, passed_here, passed_other}
 pub use Rattle.unit_table.proofs.OriginLaws.{origins_to, origins_within, entry_beyond}

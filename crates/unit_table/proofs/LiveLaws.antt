@@ -7,6 +7,7 @@ use Rattle.unit_table.proofs.Common.{sym, ap, ◌∙◌, subst, arith, IfSome, s
 use Rattle.unit_table.proofs.Common.{cases_eq, Table, value_of, ThermalUnit, PriceLists, passed_at, Runner, Passed}
 use Rattle.unit_table.proofs.Common.{going_of, live_at, left_of, left_at, AreRoomy, AreSmall, IsUnder, IsBeyond}
 use Rattle.unit_table.proofs.Common.{IsBelow, HaveRoom, Going, AreRunners, AreFewer, IsKeptFrom, AreKept, length-set}
+use Rattle.plain_lists.proofs.ListLaws.{get_set_same, get_set_other}
 use Rattle.std.proofs.Math.Nat.{mul-le-mul_right}
 
 -- the runners are small
@@ -70,19 +71,6 @@ pub beyond_of : (f : Table) (e limit : ℤ) → ((x v : ℤ) → value_of f x �
 beyond_of f e limit above x v there = (let over = above x v there in omega (arith, ints))
 
 -- ---- one of the list written
-
-pub get_set_same : {X : Type 0} (xs : List X) (i : ℕ) (a : X) → i < length xs → slice_get (slice_set xs i a) i ≡ Some a
-get_set_same [] i a low = absurd (omega arith)
-get_set_same (x ∷ xs) zero a low = refl
-get_set_same (x ∷ xs) (suc i) a low = get_set_same xs i a (omega arith)
-
-pub get_set_other : {X : Type 0} (xs : List X) (i j : ℕ) (a : X) → j ≢ i →
-    slice_get (slice_set xs i a) j ≡ slice_get xs j
-get_set_other [] i j a other = refl
-get_set_other (x ∷ xs) zero zero a other = absurd (other refl)
-get_set_other (x ∷ xs) zero (suc j) a other = refl
-get_set_other (x ∷ xs) (suc i) zero a other = refl
-get_set_other (x ∷ xs) (suc i) (suc j) a other = get_set_other xs i j a (λ z. other (ap suc z))
 
 module _ (runners runners' : List Runner) (i : ℕ) (a : Runner)
     (room : i < length runners) (set : runners' ≡ slice_set runners i a) where
@@ -284,10 +272,3 @@ all_off runners n off end f = elim (cases_lt f n) [
   | inl less ↦ off f less
   | inr from ↦ ap going_of (slice_get_past runners f (omega arith))
 ]
-
-pub if_some_more : {X : Type 0} (P Q : X → Type 0) → ((x : X) → P x → Q x) → (o : Option X) → IfSome o P → IfSome o Q
-if_some_more P Q more None h = tt
-if_some_more P Q more (Some x) h = more x h
-
-pub if_some : {X : Type 0} → (P : X → Type 0) (o : Option X) (x : X) → o ≡ Some x → IfSome o P → P x
-if_some P o x is h = rw is at h

@@ -4,7 +4,8 @@ use Rattle.unit_table.proofs.Common.{length, refl, sym, ap, ◌∙◌, subst, ar
 use Rattle.unit_table.proofs.Common.{cases_lt, cases_eq, ThermalUnit, PriceLists, Runner, Ended, going_of}
 use Rattle.unit_table.proofs.Common.{live_at, AreRoomy, IsRoster, Going, IsRowOf, IsOneRun}
 use Rattle.unit_table.specs.declared.roster.Roster.{Roster}
-use Rattle.unit_table.proofs.LiveLaws.{get_set_same, get_set_other, going_on}
+use Rattle.unit_table.proofs.LiveLaws.{going_on}
+use Rattle.plain_lists.proofs.ListLaws.{get_set_same, get_set_other}
 use Rattle.unit_table.proofs.RunAllLaws.{IsRunTo, run_more}
 
 -- ---- none, one more, fewer on

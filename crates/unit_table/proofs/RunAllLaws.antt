@@ -7,7 +7,8 @@ use Rattle.unit_table.proofs.Common.{PriceLists}
 use Rattle.unit_table.proofs.Common.{passed_at, Runner, Ended, going_of, live_at, left_of, left_at, IsRoomy, AreRoomy}
 use Rattle.unit_table.proofs.Common.{HaveRoom, row_at, cost_at, first_at, before_at, AreWithin, Going, IsGoneOn}
 use Rattle.unit_table.proofs.Common.{IsEndLeft, IsRowTo, IsRowMore, IsOneRun, IsRunOver, places_of, length-set}
-use Rattle.unit_table.proofs.LiveLaws.{going_on, live_from, get_set_same, get_set_other, each_written}
+use Rattle.unit_table.proofs.LiveLaws.{going_on, live_from, each_written}
+use Rattle.plain_lists.proofs.ListLaws.{get_set_same, get_set_other}
 use Rattle.unit_table.proofs.RowLaws.{cost-same, first-same}
 use Rattle.unit_table.proofs.RunnerRowLaws.{row_none, row_skip}
 
