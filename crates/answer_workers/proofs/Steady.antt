@@ -1,5 +1,7 @@
 -- A worker that has worked still is one of its board.
-use Rattle.answer_workers.proofs.Common.{◌≡◌, length, ap, ◌∙◌, refl, sym, subst, Setup, SeatValue, view_of, IsSameBoard, SharedBoard, Market, schedule_of, IsTaskFor, Task, IsBenchOf, IsWorkerOf, HasParts, HasWorked, GoesOn, IsHeldFor, All, market_at, Worker}
+use Rattle.answer_workers.proofs.Common.{◌≡◌, length, ap, ◌∙◌, refl, sym, subst, Setup, SeatValue, view_of, IsSameBoard}
+use Rattle.answer_workers.proofs.Common.{SharedBoard, Market, schedule_of, IsTaskFor, Task, IsBenchOf, IsWorkerOf}
+use Rattle.answer_workers.proofs.Common.{HasParts, HasWorked, GoesOn, IsHeldFor, All, market_at, Worker}
 use Rattle.answer_workers.proofs.Going.{stays, then_on}
 
 pub rests : (w : Worker) → HasParts (market_at w.seat) w → HasWorked w w
@@ -21,14 +23,17 @@ works_on a b c p q = record {
 }
 
 pub still_of : (b : SharedBoard) (old new : Worker) → IsWorkerOf b old → HasWorked old new → IsWorkerOf b new
-still_of b old new is h = record { seat = (h.board.0 ∙ is.seat.0, ap (λ (s : Setup). s.callers) h.board.1 ∙ is.seat.1); parts = h.parts }
+still_of b old new is h =
+    record { seat = (h.board.0 ∙ is.seat.0, ap (λ (s : Setup). s.callers) h.board.1 ∙ is.seat.1); parts = h.parts }
 
 -- a seat that has gone on names the same market
 pub same_market : (old new : SeatValue) → IsSameBoard old new → market_at old ≡ market_at new
 same_market old new same = ap (λ (s : Setup). s.market) (sym same.1)
 
 -- a claim leaves the seat further on, and maybe another task
-pub parts_after : (old : Worker) (seat : SeatValue) (task : Task) → IsSameBoard old.seat seat → HasParts (market_at old.seat) old → IsTaskFor (market_at seat).periods task → HasParts (market_at seat) (record old { seat = seat; task = task })
+pub parts_after : (old : Worker) (seat : SeatValue) (task : Task) → IsSameBoard old.seat seat →
+    HasParts (market_at old.seat) old → IsTaskFor (market_at seat).periods task →
+    HasParts (market_at seat) (record old { seat = seat; task = task })
 parts_after old seat task same parts room =
     let m : market_at old.seat ≡ market_at seat = same_market old.seat seat same in record {
       bench = subst (λ (n : Market). IsBenchOf n old.bench) m parts.bench;
@@ -39,5 +44,7 @@ parts_after old seat task same parts room =
     }
 
 -- a post leaves it further on
-pub parts_posted : (old : Worker) (seat : SeatValue) → IsSameBoard old.seat seat → HasParts (market_at old.seat) old → HasParts (market_at seat) (record old { seat = seat })
-parts_posted old seat same parts = parts_after old seat old.task same parts (subst (λ (n : Market). IsTaskFor n.periods old.task) (same_market old.seat seat same) parts.task)
+pub parts_posted : (old : Worker) (seat : SeatValue) → IsSameBoard old.seat seat → HasParts (market_at old.seat) old →
+    HasParts (market_at seat) (record old { seat = seat })
+parts_posted old seat same parts = parts_after old seat old.task same parts
+    (subst (λ (n : Market). IsTaskFor n.periods old.task) (same_market old.seat seat same) parts.task)

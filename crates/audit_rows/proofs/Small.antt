@@ -1,5 +1,8 @@
 -- Sizes of totals, and numbers by their places.
-use Rattle.audit_rows.proofs.Common.{◌≡◌, ℕ, zero, suc, ◌+◌, ◌<◌, ◌≤◌, ℤ, pos, ◌+ℤ◌, List, [], ◌∷◌, ◌++◌, map, take, length, replicate, refl, sym, ap, ◌∙◌, subst, arith, ints, All-from_get_or, All, slice_index_or, IsRaised, int_at, total, at_place, map-append, total-push, Sums, IsSmall, AreWithin}
+use Rattle.audit_rows.proofs.Common.{◌≡◌, ℕ, zero, suc, ◌+◌, ◌<◌, ◌≤◌, ℤ, pos, ◌+ℤ◌, List, [], ◌∷◌, ◌++◌, map, take}
+use Rattle.audit_rows.proofs.Common.{length, replicate, refl, sym, ap, ◌∙◌, subst, arith, ints, All-from_get_or, All}
+use Rattle.audit_rows.proofs.Common.{slice_index_or, IsRaised, int_at, total, at_place, map-append, total-push, Sums}
+use Rattle.audit_rows.proofs.Common.{IsSmall, AreWithin}
 
 pub nothing_small : (n : ℕ) → IsSmall n (pos 0)
 nothing_small n = record { at_least = omega (arith, ints); at_most = omega (arith, ints) }
@@ -37,12 +40,14 @@ zero_at zero k = refl
 zero_at (suc n) zero = refl
 zero_at (suc n) (suc k) = zero_at n k
 
-pub all_zero : (n : ℕ) (xs : List ℤ) → length xs ≡ n → ((k : ℕ) → k < n → int_at xs k ≡ pos 0) → xs ≡ replicate n (pos 0)
+pub all_zero : (n : ℕ) (xs : List ℤ) → length xs ≡ n → ((k : ℕ) → k < n → int_at xs k ≡ pos 0) →
+    xs ≡ replicate n (pos 0)
 all_zero zero [] e each = refl
 all_zero zero (x ∷ xs) e each = absurd (omega (arith, e))
 all_zero (suc n) [] e each = absurd (omega (arith, e))
 all_zero (suc n) (x ∷ xs) e each =
-    ap (λ z. z ∷ xs) (each 0 (omega arith)) ∙ ap (λ zs. pos 0 ∷ zs) (all_zero n xs (omega (arith, e)) (λ k less. each (suc k) (omega (arith, less))))
+    ap (λ z. z ∷ xs) (each 0 (omega arith)) ∙
+    ap (λ zs. pos 0 ∷ zs) (all_zero n xs (omega (arith, e)) (λ k less. each (suc k) (omega (arith, less))))
 
 -- ---- sums of more
 
@@ -54,15 +59,18 @@ small_sum n m x o p e a b =
     let bm = b.at_most in
     record { at_least = omega (arith, ints, e, al, bl); at_most = omega (arith, ints, e, am, bm) }
 
-raised_small : (n m : ℕ) (old new : List ℤ) (f : ℕ → ℤ) → IsRaised old new f → All (IsSmall n) old → ((k : ℕ) → k < length old → IsSmall m (f k)) → All (IsSmall (n + m)) new
+raised_small : (n m : ℕ) (old new : List ℤ) (f : ℕ → ℤ) → IsRaised old new f → All (IsSmall n) old →
+    ((k : ℕ) → k < length old → IsSmall m (f k)) → All (IsSmall (n + m)) new
 raised_small n m old new f raised all each = all_small (n + m) new (λ k less.
     let same = raised.same_length in
     let inside : k < length old = omega (arith, less, same) in
     small_sum n m (int_at new k) (int_at old k) (f k) (raised.each k inside) (small_at n old k all) (each k inside))
 
-pub raised_within : (periods n m : ℕ) (old new : Sums) (e : ℤ) (f g : ℕ → ℤ) → AreWithin periods n old → new.earned ≡ old.earned +ℤ e
+pub raised_within : (periods n m : ℕ) (old new : Sums) (e : ℤ) (f g : ℕ → ℤ) → AreWithin periods n old →
+    new.earned ≡ old.earned +ℤ e
     → IsRaised old.supply.items new.supply.items f → IsRaised old.reserve.items new.reserve.items g
-    → IsSmall m e → ((k : ℕ) → k < periods → IsSmall m (f k)) → ((k : ℕ) → k < periods → IsSmall m (g k)) → AreWithin periods (n + m) new
+    → IsSmall m e → ((k : ℕ) → k < periods → IsSmall m (f k)) → ((k : ℕ) → k < periods → IsSmall m (g k)) →
+    AreWithin periods (n + m) new
 raised_within periods n m old new e f g w earned supply reserve small_e small_f small_g =
     let ls = w.supply_length in
     let lr = w.reserve_length in
@@ -70,12 +78,15 @@ raised_within periods n m old new e f g w earned supply reserve small_e small_f 
       supply_length = supply.same_length ∙ ls;
       reserve_length = reserve.same_length ∙ lr;
       earned = small_sum n m new.earned old.earned e earned w.earned small_e;
-      supply = raised_small n m old.supply.items new.supply.items f supply w.supply (λ k less. small_f k (omega (arith, less, ls)));
-      reserve = raised_small n m old.reserve.items new.reserve.items g reserve w.reserve (λ k less. small_g k (omega (arith, less, lr)));
+      supply = raised_small n m old.supply.items new.supply.items f supply w.supply
+          (λ k less. small_f k (omega (arith, less, ls)));
+      reserve = raised_small n m old.reserve.items new.reserve.items g reserve w.reserve
+          (λ k less. small_g k (omega (arith, less, lr)));
     }
 
 -- a list item by item
-taken : {X : Type 0} → (xs : List X) (i : ℕ) (x d : X) → i < length xs → x ≡ slice_index_or xs i d → take (i + 1) xs ≡ take i xs ++ x ∷ []
+taken : {X : Type 0} → (xs : List X) (i : ℕ) (x d : X) → i < length xs → x ≡ slice_index_or xs i d →
+    take (i + 1) xs ≡ take i xs ++ x ∷ []
 taken [] i x d less is = absurd (omega (arith, less))
 taken (y ∷ ys) zero x d less is = ap (λ z. z ∷ []) (sym is)
 taken (y ∷ ys) (suc i) x d less is =
@@ -85,11 +96,13 @@ taken (y ∷ ys) (suc i) x d less is =
 gathered : (new old base t u : ℤ) (p : ℤ) → old ≡ base +ℤ t → new ≡ old +ℤ p → u ≡ t +ℤ p → new ≡ base +ℤ u
 gathered new old base t u p e f g = omega (arith, ints, e, f, g)
 
-pub gather_more : {X : Type 0} → (f : X → ℤ) (xs : List X) (i : ℕ) (x d : X) (new old base : ℤ) → i < length xs → x ≡ slice_index_or xs i d
+pub gather_more : {X : Type 0} → (f : X → ℤ) (xs : List X) (i : ℕ) (x d : X) (new old base : ℤ) → i < length xs →
+    x ≡ slice_index_or xs i d
     → old ≡ base +ℤ total (map f (take i xs)) → new ≡ old +ℤ f x → new ≡ base +ℤ total (map f (take (i + 1) xs))
 gather_more f xs i x d new old base less is was more =
     gathered new old base (total (map f (take i xs))) (total (map f (take (i + 1) xs))) (f x) was more
-    (ap (λ l. total (map f l)) (taken xs i x d less is) ∙ (ap total (map-append f (take i xs) (x ∷ [])) ∙ total-push (map f (take i xs)) (f x)))
+    (ap (λ l. total (map f l)) (taken xs i x d less is) ∙
+    (ap total (map-append f (take i xs) (x ∷ [])) ∙ total-push (map f (take i xs)) (f x)))
 
 pub within_over : (periods other n : ℕ) (s : Sums) → periods ≡ other → AreWithin periods n s → AreWithin other n s
 within_over periods other n s e w = subst (λ (p : ℕ). AreWithin p n s) e w

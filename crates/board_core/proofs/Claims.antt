@@ -1,11 +1,21 @@
 -- What a claim answers, and that the lists go on with it.
-use Rattle.board_core.proofs.Common.{◌≡◌, ℕ, zero, suc, ◌+◌, ◌-◌, ◌*◌, ◌/◌, ◌%◌, ◌<◌, ◌≤◌, ◌⊎◌, Bool, true, false, cond, ◌&&◌, ◌==◌, inl, inr, Option, Some, None, List, [], ◌∷◌, ◌++◌, length, map, get_or, refl, sym, ap, ◌∙◌, subst, arith, eq-eqb, length-append, le-leb, lt-leb, nat_tests, get_or-map, get_or-take, get_or-map-range_with_len, list_any-append, slice_get_past, slice_get-get_or, list_any, slice_get, slice_index_or, Setup, Answer, no_answer, rules_of, BoardLaws, Rules, Event, Given, sooner, only_at, posts, holders, closed_front, opened, is_finished, prices_at, is_halt, is_halt_of, Holders, Finished, Halted, GivenTask, NotYet, claim_reply, PriceLists, unit_count, Proposal, no_prices, task_number, LedgerValue, Lists, task_count, sums_of, fronts_of, AreTakers, mark, AreMarks, AreTallies, AreRounds, IsBoard, IsSetup}
+use Rattle.board_core.proofs.Common.{◌≡◌, ℕ, zero, suc, ◌+◌, ◌-◌, ◌*◌, ◌/◌, ◌%◌, ◌<◌, ◌≤◌, ◌⊎◌, Bool, true, false, cond}
+use Rattle.board_core.proofs.Common.{◌&&◌, ◌==◌, inl, inr, Option, Some, None, List, [], ◌∷◌, ◌++◌, length, map, get_or}
+use Rattle.board_core.proofs.Common.{refl, sym, ap, ◌∙◌, subst, arith, eq-eqb, length-append, le-leb, lt-leb, nat_tests}
+use Rattle.board_core.proofs.Common.{get_or-map, get_or-take, get_or-map-range_with_len, list_any-append}
+use Rattle.board_core.proofs.Common.{slice_get_past, slice_get-get_or, list_any, slice_get, slice_index_or, Setup}
+use Rattle.board_core.proofs.Common.{Answer, no_answer, rules_of, BoardLaws, Rules, Event, Given, sooner, only_at}
+use Rattle.board_core.proofs.Common.{posts, holders, closed_front, opened, is_finished, prices_at, is_halt, is_halt_of}
+use Rattle.board_core.proofs.Common.{Holders, Finished, Halted, GivenTask, NotYet, claim_reply, PriceLists, unit_count}
+use Rattle.board_core.proofs.Common.{Proposal, no_prices, task_number, LedgerValue, Lists, task_count, sums_of}
+use Rattle.board_core.proofs.Common.{fronts_of, AreTakers, mark, AreMarks, AreTallies, AreRounds, IsBoard, IsSetup}
 use Rattle.board_history.specs.Words.{IsHeld, IsGoing, ClaimSays}
 use Rattle.board_core.proofs.Fronts.{closed_is, opened_is}
 use Rattle.board_core.proofs.Halts.{or_false}
 use Rattle.board_core.proofs.Lists.{place_before, place_same}
 
-slice_get-snoc : {X : Type 0} (xs : List X) (x : X) (i : ℕ) → slice_get (xs ++ x ∷ []) i ≡ sooner (slice_get xs i) (cond (i == length xs) (Some x) None)
+slice_get-snoc : {X : Type 0} (xs : List X) (x : X) (i : ℕ) →
+    slice_get (xs ++ x ∷ []) i ≡ sooner (slice_get xs i) (cond (i == length xs) (Some x) None)
 slice_get-snoc [] x zero = refl
 slice_get-snoc {X} [] x (suc i) =
     let e : (suc i == 0) ≡ false = grind (arith, nat_tests) in
@@ -15,7 +25,8 @@ slice_get-snoc {X} (y ∷ ys) x (suc i) =
     let e : (i == length ys) ≡ (suc i == suc (length ys)) = grind (arith, nat_tests) in
     slice_get-snoc ys x i ∙ ap (λ (b : Bool). sooner (slice_get ys i) (cond b (Some x) None)) e
 
-same_test : (units n u m v : ℕ) → 0 < n → 0 < m → u < units → v < units → (n == m && u == v) ≡ (task_number units m v == task_number units n u)
+same_test : (units n u m v : ℕ) → 0 < n → 0 < m → u < units → v < units →
+    (n == m && u == v) ≡ (task_number units m v == task_number units n u)
 same_test units n u m v a b i j =
     elim (cases_same (task_number units m v) (task_number units n u)) [
       | inl e ↦
@@ -24,7 +35,9 @@ same_test units n u m v a b i j =
           let l : (n == m && u == v) ≡ true = grind (arith, nat_tests) in
           l ∙ sym (eq-eqb (task_number units m v) (task_number units n u) e)
       | inr f ↦
-          let l : (n == m && u == v) ≡ false = not_both n m u v (λ x y. f (ap (λ (k : ℕ). task_number units k v) (sym x) ∙ ap (λ (k : ℕ). task_number units n k) (sym y))) in
+          let l : (n == m && u == v) ≡ false =
+          not_both n m u v (λ x y. f (ap (λ (k : ℕ). task_number units k v) (sym x) ∙
+          ap (λ (k : ℕ). task_number units n k) (sym y))) in
           let r : (task_number units m v == task_number units n u) ≡ false = grind (arith, nat_tests, f) in
           l ∙ sym r
     ]
@@ -59,7 +72,8 @@ module _ (b : Setup) (h : List (Event Answer)) (x : Lists) (l : LedgerValue) (I 
       sym (get_or-map (λ (r : Proposal). r.prices) l.proposals k d no_prices (omega (arith, i, n, m)))
       ∙ sym (get_or-take l.opened (map (λ (r : Proposal). r.prices) l.proposals) k no_prices i)
       ∙ ap (λ (xs : List PriceLists). get_or xs k no_prices) I.rounds.prices_are
-      ∙ get_or-map-range_with_len (prices_at g (posts h)) 1 (opened g (posts h)) k (k + 1) no_prices (omega (arith, i, o)) (omega arith)
+      ∙ get_or-map-range_with_len (prices_at g (posts h)) 1 (opened g (posts h)) k (k + 1) no_prices
+      (omega (arith, i, o)) (omega arith)
 
   module _ (laws : BoardLaws) where
     c_is : l.closed ≡ closed_front g (posts h)
@@ -69,10 +83,12 @@ module _ (b : Setup) (h : List (Event Answer)) (x : Lists) (l : LedgerValue) (I 
     says = laws.claims_mean b h
 
     pub claim_finished : l.opened ≤ l.closed → claim_reply g h ≡ Finished
-    claim_finished i = let o = o_is in let c = c_is in says.finished.1 (le-leb (opened g (posts h)) (closed_front g (posts h)) (omega (arith, i, o, c)))
+    claim_finished i = let o = o_is in let c = c_is in
+        says.finished.1 (le-leb (opened g (posts h)) (closed_front g (posts h)) (omega (arith, i, o, c)))
 
     not_finished : l.closed < l.opened → is_finished g (posts h) ≡ false
-    not_finished i = let o = o_is in let c = c_is in lt-leb (opened g (posts h)) (closed_front g (posts h)) (omega (arith, i, o, c))
+    not_finished i = let o = o_is in let c = c_is in
+        lt-leb (opened g (posts h)) (closed_front g (posts h)) (omega (arith, i, o, c))
 
     pub claim_halted : l.closed < l.opened → x.any_halt ≡ true → claim_reply g h ≡ Halted
     claim_halted i halt = says.halted.1 (not_finished i, sym I.halts.some ∙ halt)
@@ -85,8 +101,11 @@ module _ (b : Setup) (h : List (Event Answer)) (x : Lists) (l : LedgerValue) (I 
 
     held_before : (m v k : ℕ) → 0 < m → m ≤ b.budget → v < units → m ≤ k → k * units ≤ count → IsHeld g (holders h) m v
     held_before m v k low high i within before =
-        let p = place_before units k m v low within i in
-        (get_or x.takers (task_number units m v) 0, I.takers_are.each m v low high i ∙ slice_get-get_or x.takers (task_number units m v) 0 (omega (arith, p, before)))
+        let p = place_before units k m v low within i in (
+          get_or x.takers (task_number units m v) 0,
+          I.takers_are.each m v low high i ∙
+              slice_get-get_or x.takers (task_number units m v) 0 (omega (arith, p, before)),
+        )
 
     abbrev before : ℕ
     before = count / units
@@ -116,7 +135,8 @@ module _ (b : Setup) (h : List (Event Answer)) (x : Lists) (l : LedgerValue) (I 
           going i calm,
           λ m v t.
               let w = t.open_ in
-              held_before m v before t.from_one (in_budget m (omega (arith, w, o))) t.unit (omega (arith, w, none, o)) (omega (arith, s)),
+              held_before m v before t.from_one (in_budget m (omega (arith, w, o))) t.unit (omega (arith, w, none, o))
+              (omega (arith, s)),
         )
 
     module _ (more : before < l.opened) where
@@ -132,7 +152,8 @@ module _ (b : Setup) (h : List (Event Answer)) (x : Lists) (l : LedgerValue) (I 
           let q : task_number units (before + 1) v ≡ before * units + v = ap (λ (k : ℕ). k * units + v) e in
           let s = split in (
             get_or x.takers (task_number units (before + 1) v) 0,
-            I.takers_are.each (before + 1) v (omega arith) (in_budget (before + 1) (omega (arith, more))) (omega (arith, w, j))
+            I.takers_are.each (before + 1) v (omega arith) (in_budget (before + 1) (omega (arith, more)))
+                (omega (arith, w, j))
                 ∙ slice_get-get_or x.takers (task_number units (before + 1) v) 0 (omega (arith, q, s, j)),
           )
 
@@ -144,7 +165,9 @@ module _ (b : Setup) (h : List (Event Answer)) (x : Lists) (l : LedgerValue) (I 
             record {
               task = record { from_one = omega arith; open_ = omega (arith, more, o); unit = unit_within };
               free = task_free;
-              lower_proposals = λ k v low t. let s = split in held_before k v before t.from_one (in_budget k (omega (arith, low, more))) t.unit (omega (arith, low)) (omega (arith, s));
+              lower_proposals = λ k v low t. let s = split in
+                  held_before k v before t.from_one (in_budget k (omega (arith, low, more))) t.unit (omega (arith, low))
+                  (omega (arith, s));
               lower_units = here_held;
             },
           )
@@ -153,7 +176,8 @@ module _ (b : Setup) (h : List (Event Answer)) (x : Lists) (l : LedgerValue) (I 
 
       pub count_within : count < task_count b
       count_within =
-          let p = place_before units b.budget (before + 1) unit (omega arith) (in_budget (before + 1) (omega (arith, more))) unit_within in
+          let p = place_before units b.budget (before + 1) unit (omega arith)
+          (in_budget (before + 1) (omega (arith, more))) unit_within in
           let s = number_is in
           omega (arith, p, s)
 
@@ -164,7 +188,8 @@ module _ (b : Setup) (h : List (Event Answer)) (x : Lists) (l : LedgerValue) (I 
             ap (λ (held : Holders). held m v) (laws.one_event h (Given c (before + 1) unit)).holders_are
             ∙ ap (λ (o : Option ℕ). sooner o (only_at (before + 1) unit c m v)) (I.takers_are.each m v low high i)
             ∙ ap (λ (t : Bool). sooner (slice_get x.takers (task_number units m v)) (cond t (Some c) None))
-            (same_test units (before + 1) unit m v (omega arith) low unit_within i ∙ ap (λ (k : ℕ). task_number units m v == k) number_is)
+            (same_test units (before + 1) unit m v (omega arith) low unit_within i ∙
+            ap (λ (k : ℕ). task_number units m v == k) number_is)
             ∙ sym (slice_get-snoc x.takers c (task_number units m v));
       }
 
@@ -174,10 +199,12 @@ module _ (b : Setup) (h : List (Event Answer)) (x : Lists) (l : LedgerValue) (I 
       get_or-longer (z ∷ zs) y (suc i) j = get_or-longer zs y i (omega (arith, j))
 
       mark_more : (c i : ℕ) → mark x.marks (x.takers ++ c ∷ []) x.kept i ≡ mark x.marks x.takers x.kept i
-      mark_more c i = choose (slice_index_or x.marks i false) (λ e. get_or-longer x.takers c i (I.marks_are.claimed i e))
+      mark_more c i = choose (slice_index_or x.marks i false)
+          (λ e. get_or-longer x.takers c i (I.marks_are.claimed i e))
         where
           choose : (t : Bool) → (t ≡ true → get_or (x.takers ++ c ∷ []) i 0 ≡ get_or x.takers i 0) →
-              cond {A = Option (ℕ × Answer)} t (Some (get_or (x.takers ++ c ∷ []) i 0, get_or x.kept i no_answer)) None ≡ cond {A = Option (ℕ × Answer)} t (Some (get_or x.takers i 0, get_or x.kept i no_answer)) None
+              cond {A = Option (ℕ × Answer)} t (Some (get_or (x.takers ++ c ∷ []) i 0, get_or x.kept i no_answer))
+              None ≡ cond {A = Option (ℕ × Answer)} t (Some (get_or x.takers i 0, get_or x.kept i no_answer)) None
           choose true f = ap (λ (k : ℕ). Some (k, get_or x.kept i no_answer)) (f refl)
           choose false f = refl
 
@@ -189,7 +216,8 @@ module _ (b : Setup) (h : List (Event Answer)) (x : Lists) (l : LedgerValue) (I 
         claimed = λ i e. let j = I.marks_are.claimed i e in omega (arith, j, length-append x.takers (c ∷ []));
       }
 
-      pub claimed : (c : ℕ) → c < b.callers → l.closed < l.opened → x.any_halt ≡ false → IsBoard b (h ++ Given c (before + 1) unit ∷ []) (given_lists x c) l
+      pub claimed : (c : ℕ) → c < b.callers → l.closed < l.opened → x.any_halt ≡ false →
+          IsBoard b (h ++ Given c (before + 1) unit ∷ []) (given_lists x c) l
       claimed c caller i calm =
           let e = Given c (before + 1) unit in
           let same = sym (laws.one_event h e).posts_are in
@@ -203,7 +231,8 @@ module _ (b : Setup) (h : List (Event Answer)) (x : Lists) (l : LedgerValue) (I 
             rounds = subst (AreRounds b (fronts_of l)) same I.rounds;
             halts = record {
               count = I.halts.count;
-              each = λ d j. I.halts.each d j ∙ sym (list_any-append (is_halt_of d) h (e ∷ []) ∙ or_false (list_any (is_halt_of d) h));
+              each = λ d j. I.halts.each d j ∙
+                  sym (list_any-append (is_halt_of d) h (e ∷ []) ∙ or_false (list_any (is_halt_of d) h));
               some = I.halts.some ∙ sym (list_any-append is_halt h (e ∷ []) ∙ or_false (list_any is_halt h));
             };
           }

@@ -1,5 +1,9 @@
 -- A caller's first halt.
-use Rattle.board_core.proofs.Common.{◌≡◌, ℕ, ◌+◌, ◌<◌, ◌⊎◌, Bool, true, false, ◌||◌, ◌==◌, inl, inr, List, [], ◌∷◌, ◌++◌, length, get_or, refl, sym, ap, ◌∙◌, subst, arith, set, length-set, nat_tests, get_or-set_same, get_or-set_other, list_any-append, list_any, not, Setup, Answer, BoardLaws, Event, Stopped, is_halt, is_halt_of, LedgerValue, bit, unset, Lists, sums_of, fronts_of, AreTakers, AreMarks, AreTallies, AreRounds, AreHalts, IsBoard}
+use Rattle.board_core.proofs.Common.{◌≡◌, ℕ, ◌+◌, ◌<◌, ◌⊎◌, Bool, true, false, ◌||◌, ◌==◌, inl, inr, List, [], ◌∷◌}
+use Rattle.board_core.proofs.Common.{◌++◌, length, get_or, refl, sym, ap, ◌∙◌, subst, arith, set, length-set, nat_tests}
+use Rattle.board_core.proofs.Common.{get_or-set_same, get_or-set_other, list_any-append, list_any, not, Setup, Answer}
+use Rattle.board_core.proofs.Common.{BoardLaws, Event, Stopped, is_halt, is_halt_of, LedgerValue, bit, unset, Lists}
+use Rattle.board_core.proofs.Common.{sums_of, fronts_of, AreTakers, AreMarks, AreTallies, AreRounds, AreHalts, IsBoard}
 use Rattle.std.proofs.lemmas.List.Sums.{sum_by-set}
 
 pub or_false : (b : Bool) → (b || false) ≡ b
@@ -13,7 +17,8 @@ or_true false = refl
 same_or : (x y : ℕ) → (x ≡ y) ⊎ (x ≡ y → ⊥)
 same_or x y = grind arith
 
-pub one_less : (marks : List Bool) (i : ℕ) → i < length marks → get_or marks i false ≡ false → unset (set marks i true) + 1 ≡ unset marks
+pub one_less : (marks : List Bool) (i : ℕ) → i < length marks → get_or marks i false ≡ false →
+    unset (set marks i true) + 1 ≡ unset marks
 one_less marks i lt was =
     let e = sum_by-set (λ (t : Bool). bit (not t)) marks i true false lt in
     let f = ap (λ (t : Bool). bit (not t)) was in
@@ -22,7 +27,8 @@ one_less marks i lt was =
 abbrev pub halted_lists : Lists → ℕ → Lists
 halted_lists x c = record x { halted = set x.halted c true; any_halt = true }
 
-module _ (b : Setup) (h : List (Event Answer)) (x : Lists) (l : LedgerValue) (I : IsBoard b h x l) (c : ℕ) (caller : c < b.callers) (first : get_or x.halted c false ≡ false) where
+module _ (b : Setup) (h : List (Event Answer)) (x : Lists) (l : LedgerValue) (I : IsBoard b h x l) (c : ℕ)
+    (caller : c < b.callers) (first : get_or x.halted c false ≡ false) where
   halts_more : AreHalts b (set x.halted c true) true (h ++ Stopped c ∷ [])
   halts_more = record {
     count = length-set x.halted c true ∙ I.halts.count;
@@ -30,12 +36,15 @@ module _ (b : Setup) (h : List (Event Answer)) (x : Lists) (l : LedgerValue) (I 
       | inl e ↦
           let w : c < length x.halted = let k = I.halts.count in omega (arith, k, caller) in
           let s : (c == d) ≡ true = grind (arith, nat_tests) in
-          subst (λ (k : ℕ). get_or (set x.halted c true) k false ≡ true) (sym e) (get_or-set_same x.halted c true false w)
-          ∙ sym (list_any-append (is_halt_of d) h (Stopped c ∷ []) ∙ ap (λ (t : Bool). list_any (is_halt_of d) h || (t || false)) s ∙ or_true (list_any (is_halt_of d) h))
+          subst (λ (k : ℕ). get_or (set x.halted c true) k false ≡ true) (sym e)
+          (get_or-set_same x.halted c true false w)
+          ∙ sym (list_any-append (is_halt_of d) h (Stopped c ∷ []) ∙
+          ap (λ (t : Bool). list_any (is_halt_of d) h || (t || false)) s ∙ or_true (list_any (is_halt_of d) h))
       | inr e ↦
           let s : (c == d) ≡ false = grind (arith, nat_tests, e) in
           get_or-set_other x.halted c d true false e ∙ I.halts.each d i
-          ∙ sym (list_any-append (is_halt_of d) h (Stopped c ∷ []) ∙ ap (λ (t : Bool). list_any (is_halt_of d) h || (t || false)) s ∙ or_false (list_any (is_halt_of d) h))
+          ∙ sym (list_any-append (is_halt_of d) h (Stopped c ∷ []) ∙
+          ap (λ (t : Bool). list_any (is_halt_of d) h || (t || false)) s ∙ or_false (list_any (is_halt_of d) h))
     ];
     some = sym (list_any-append is_halt h (Stopped c ∷ []) ∙ or_true (list_any is_halt h));
   }

@@ -9,4 +9,12 @@ abbrev pub events_in : Inside → List (Event Answer)
 events_in s = events_of (unit_count (setup_in s).market) (answers_kept s.store) s.lists.history.items
 
 abbrev pub lists_in : Inside → Lists
-lists_in s = record { takers = s.lists.takers.items; marks = s.lists.marks.items; kept = answers_kept s.store; counts = s.lists.counts.items; halted = s.lists.halted.items; any_halt = s.any_halt }
+lists_in s = record {
+  takers = s.lists.takers.items;
+  marks = s.lists.marks.items;
+  kept = answers_kept s.store;
+  counts =
+      s.lists.counts.items;
+  halted = s.lists.halted.items;
+  any_halt = s.any_halt;
+}

@@ -1,5 +1,12 @@
 -- The lists of a board with one more post.
-use Rattle.board_core.proofs.Common.{◌≡◌, ℕ, zero, suc, ◌+◌, ◌-◌, ◌*◌, ◌<◌, ◌≤◌, ◌⊎◌, Bool, true, false, cond, ◌&&◌, ◌==◌, inl, inr, Option, Some, None, List, length, map, get_or, refl, sym, ap, ◌∙◌, subst, arith, eq-eqb, set, length-set, cases_lt, nat_tests, get_or-set_same, get_or-set_other, slice_get_within, get_or_from_slice_get, list_all, range_with_len, is_some, slice_get, slice_index, Setup, Answer, no_answer, rules_of, Event, sooner, only_at, Posts, posts, holders, with_post, is_closed, unit_count, task_number, LedgerValue, Lists, task_count, bit, sum_up, answered, mark, AreMarks, IsBoard}
+use Rattle.board_core.proofs.Common.{◌≡◌, ℕ, zero, suc, ◌+◌, ◌-◌, ◌*◌, ◌<◌, ◌≤◌, ◌⊎◌, Bool, true, false, cond, ◌&&◌}
+use Rattle.board_core.proofs.Common.{◌==◌, inl, inr, Option, Some, None, List, length, map, get_or, refl, sym, ap, ◌∙◌}
+use Rattle.board_core.proofs.Common.{subst, arith, eq-eqb, set, length-set, cases_lt, nat_tests, get_or-set_same}
+use Rattle.board_core.proofs.Common.{get_or-set_other, slice_get_within, get_or_from_slice_get, list_all}
+use Rattle.board_core.proofs.Common.{range_with_len, is_some, slice_get, slice_index, Setup, Answer, no_answer}
+use Rattle.board_core.proofs.Common.{rules_of, Event, sooner, only_at, Posts, posts, holders, with_post, is_closed}
+use Rattle.board_core.proofs.Common.{unit_count, task_number, LedgerValue, Lists, task_count, bit, sum_up, answered}
+use Rattle.board_core.proofs.Common.{mark, AreMarks, IsBoard}
 use Rattle.board_core.proofs.Lists.{sooner_none, map_range_same, place_before, place_same}
 
 pub same_or : (x y : ℕ) → (x ≡ y) ⊎ (x ≡ y → ⊥)
@@ -25,7 +32,8 @@ sum_one f f2 a (suc n) u x low high other here =
           omega (arith, e, s)
     ]
 
-sum_at_most : (f : ℕ → ℕ) (a n k : ℕ) → ((v : ℕ) → a ≤ v → v < a + n → f v ≤ k) → sum_up (map f (range_with_len a n)) ≤ k * n
+sum_at_most : (f : ℕ → ℕ) (a n k : ℕ) → ((v : ℕ) → a ≤ v → v < a + n → f v ≤ k) →
+    sum_up (map f (range_with_len a n)) ≤ k * n
 sum_at_most f a zero k each = omega arith
 sum_at_most f a (suc n) k each =
     let h = each a (omega arith) (omega arith) in
@@ -38,23 +46,29 @@ count_cases : (t : ℕ → Bool) (a n : ℕ) →
     ⊎ ((list_all t (range_with_len a n) ≡ false) × (sum_up (map (λ u. bit (t u)) (range_with_len a n)) < n))
 count_cases t a zero = inl (refl, refl)
 count_cases t a (suc n) =
-    more (t a) (list_all t (range_with_len (a + 1) n)) (sum_up (map (λ u. bit (t u)) (range_with_len (a + 1) n))) (count_cases t (a + 1) n)
+    more (t a) (list_all t (range_with_len (a + 1) n)) (sum_up (map (λ u. bit (t u)) (range_with_len (a + 1) n)))
+    (count_cases t (a + 1) n)
   where
-    more : (x y : Bool) (s : ℕ) → ((y ≡ true) × (s ≡ n)) ⊎ ((y ≡ false) × (s < n)) → (((x && y) ≡ true) × (bit x + s ≡ suc n)) ⊎ (((x && y) ≡ false) × (bit x + s < suc n))
+    more : (x y : Bool) (s : ℕ) → ((y ≡ true) × (s ≡ n)) ⊎ ((y ≡ false) × (s < n)) →
+        (((x && y) ≡ true) × (bit x + s ≡ suc n)) ⊎ (((x && y) ≡ false) × (bit x + s < suc n))
     more true y s (inl h) = let e = h.1 in inl (h.0, omega (arith, e))
     more true y s (inr h) = let e = h.1 in inr (h.0, omega (arith, e))
     more false y s (inl h) = let e = h.1 in inr (refl, omega (arith, e))
     more false y s (inr h) = let e = h.1 in inr (refl, omega (arith, e))
 
-pub closed_counts : (b : Setup) (p : Posts Answer) (n : ℕ) → is_closed (rules_of b) p n ≡ (answered b p n == unit_count b.market)
+pub closed_counts : (b : Setup) (p : Posts Answer) (n : ℕ) →
+    is_closed (rules_of b) p n ≡ (answered b p n == unit_count b.market)
 closed_counts b p n =
     elim (count_cases (λ u. is_some (p n u)) 0 (unit_count b.market)) [
       | inl h ↦ let e = h.1 in h.0 ∙ sym (eq-eqb (answered b p n) (unit_count b.market) e)
-      | inr h ↦ let e = h.1 in let f : (answered b p n == unit_count b.market) ≡ false = grind (arith, nat_tests, e) in h.0 ∙ sym f
+      | inr h ↦ let e = h.1 in let f : (answered b p n == unit_count b.market) ≡ false = grind (arith, nat_tests, e) in
+          h.0 ∙ sym f
     ]
 
 pub answered_few : (b : Setup) (p : Posts Answer) (n : ℕ) → answered b p n ≤ unit_count b.market
-answered_few b p n = let e = sum_at_most (λ u. bit (is_some (p n u))) 0 (unit_count b.market) 1 (λ v low high. small (is_some (p n v))) in omega (arith, e)
+answered_few b p n =
+    let e = sum_at_most (λ u. bit (is_some (p n u))) 0 (unit_count b.market) 1
+    (λ v low high. small (is_some (p n v))) in omega (arith, e)
   where
     small : (t : Bool) → bit t ≤ 1
     small true = omega arith
@@ -89,7 +103,8 @@ pub record IsHeldTask (b : Setup) (h : List (Event Answer)) (l : LedgerValue) (c
   pub none_yet : posts h n u ≡ None
   pub held : holders h n u ≡ Some c
 
-module _ (b : Setup) (h : List (Event Answer)) (x : Lists) (l : LedgerValue) (I : IsBoard b h x l) (c n u : ℕ) (a : Answer) (H : IsHeldTask b h l c n u) where
+module _ (b : Setup) (h : List (Event Answer)) (x : Lists) (l : LedgerValue) (I : IsBoard b h x l) (c n u : ℕ)
+    (a : Answer) (H : IsHeldTask b h l c n u) where
   abbrev p : Posts Answer
   p = posts h
 
@@ -112,7 +127,8 @@ module _ (b : Setup) (h : List (Event Answer)) (x : Lists) (l : LedgerValue) (I 
   taker_is = sym (I.takers_are.each n u H.one in_budget H.inside) ∙ H.held
 
   pub free : get_or x.marks i false ≡ false
-  free = no_mark (get_or x.marks i false) (slice_index x.takers i, get_or x.kept i no_answer) (sym (I.marks_are.each n u H.one in_budget H.inside) ∙ H.none_yet)
+  free = no_mark (get_or x.marks i false) (slice_index x.takers i, get_or x.kept i no_answer)
+      (sym (I.marks_are.each n u H.one in_budget H.inside) ∙ H.none_yet)
 
   pub mark_inside : i < length x.marks
   mark_inside = let w = in_lists in let e = I.marks_are.marks_count in omega (arith, w, e)
@@ -126,14 +142,20 @@ module _ (b : Setup) (h : List (Event Answer)) (x : Lists) (l : LedgerValue) (I 
   pub q_here : q n u ≡ Some (c, a)
   q_here = ap (sooner (p n u)) (only_here n u (c, a)) ∙ sooner_some (p n u) (c, a) H.none_yet
 
-  marked : (j : ℕ) → (j ≡ i → ⊥) → mark (set x.marks i true) x.takers (set x.kept i a) j ≡ mark x.marks x.takers x.kept j
+  marked : (j : ℕ) → (j ≡ i → ⊥) →
+      mark (set x.marks i true) x.takers (set x.kept i a) j ≡ mark x.marks x.takers x.kept j
   marked j other =
-      ap (λ (t : Bool). cond {A = Option (ℕ × Answer)} t (Some (slice_index x.takers j, get_or (set x.kept i a) j no_answer)) None) (get_or-set_other x.marks i j true false other)
-      ∙ ap (λ (y : Answer). cond {A = Option (ℕ × Answer)} (get_or x.marks j false) (Some (slice_index x.takers j, y)) None) (get_or-set_other x.kept i j a no_answer other)
+      ap (λ (t : Bool). cond {A = Option (ℕ × Answer)} t
+      (Some (slice_index x.takers j, get_or (set x.kept i a) j no_answer)) None)
+      (get_or-set_other x.marks i j true false other)
+      ∙ ap (λ (y : Answer). cond {A = Option (ℕ × Answer)} (get_or x.marks j false) (Some (slice_index x.takers j, y))
+      None) (get_or-set_other x.kept i j a no_answer other)
 
   marked_here : mark (set x.marks i true) x.takers (set x.kept i a) i ≡ Some (c, a)
   marked_here =
-      ap (λ (t : Bool). cond {A = Option (ℕ × Answer)} t (Some (slice_index x.takers i, get_or (set x.kept i a) i no_answer)) None) (get_or-set_same x.marks i true false mark_inside)
+      ap (λ (t : Bool). cond {A = Option (ℕ × Answer)} t
+      (Some (slice_index x.takers i, get_or (set x.kept i a) i no_answer)) None)
+      (get_or-set_same x.marks i true false mark_inside)
       ∙ ap (λ (y : Answer). Some (slice_index x.takers i, y)) (get_or-set_same x.kept i a no_answer kept_inside)
       ∙ ap (λ (y : ℕ). Some (y, a)) (get_or_from_slice_get x.takers i c 0 taker_is)
 
@@ -147,7 +169,8 @@ module _ (b : Setup) (h : List (Event Answer)) (x : Lists) (l : LedgerValue) (I 
           ap (λ (k : ℕ). q k v) s.0 ∙ ap (λ (k : ℕ). q n k) s.1 ∙ q_here ∙ sym marked_here
           ∙ ap (mark (set x.marks i true) x.takers (set x.kept i a)) (sym e)
       | inr e ↦
-          q_other m v (λ y z. e (ap (λ (k : ℕ). task_number units k v) (sym y) ∙ ap (λ (k : ℕ). task_number units n k) (sym z)))
+          q_other m v
+          (λ y z. e (ap (λ (k : ℕ). task_number units k v) (sym y) ∙ ap (λ (k : ℕ). task_number units n k) (sym z)))
           ∙ I.marks_are.each m v low high j ∙ sym (marked (task_number units m v) e)
     ];
     claimed = λ j e. elim (same_or j i) [
@@ -159,9 +182,11 @@ module _ (b : Setup) (h : List (Event Answer)) (x : Lists) (l : LedgerValue) (I 
   pub answered_more : answered b q n ≡ answered b p n + 1
   answered_more =
       let inside = H.inside in
-      sum_one (λ v. bit (is_some (p n v))) (λ v. bit (is_some (q n v))) 0 units u 1 (omega arith) (omega (arith, inside))
+      sum_one (λ v. bit (is_some (p n v))) (λ v. bit (is_some (q n v))) 0 units u 1 (omega arith)
+      (omega (arith, inside))
       (λ v f. ap (λ (o : Option (ℕ × Answer)). bit (is_some o)) (q_other n v (λ y z. f (sym z))))
-      (let e = ap (λ (o : Option (ℕ × Answer)). bit (is_some o)) q_here in let f = ap (λ (o : Option (ℕ × Answer)). bit (is_some o)) H.none_yet in omega (arith, e, f))
+      (let e = ap (λ (o : Option (ℕ × Answer)). bit (is_some o)) q_here in
+      let f = ap (λ (o : Option (ℕ × Answer)). bit (is_some o)) H.none_yet in omega (arith, e, f))
 
   abbrev k_ : ℕ
   k_ = n - 1
@@ -186,12 +211,14 @@ module _ (b : Setup) (h : List (Event Answer)) (x : Lists) (l : LedgerValue) (I 
     | inl s ↦
         let size = I.tallies.counts_count in
         let here = k_inside in
-        ap (λ (y : ℕ). get_or counts2 y 0) s ∙ get_or-set_same x.counts k_ (get_or x.counts k_ 0 + 1) 0 (omega (arith, size, here))
+        ap (λ (y : ℕ). get_or counts2 y 0) s ∙
+        get_or-set_same x.counts k_ (get_or x.counts k_ 0 + 1) 0 (omega (arith, size, here))
         ∙ ap (λ (y : ℕ). y + 1) count_is ∙ sym answered_more ∙ ap (answered b q) (sym after_k ∙ ap suc (sym s))
     | inr s ↦
         get_or-set_other x.counts k_ k (get_or x.counts k_ 0 + 1) 0 s ∙ I.tallies.counts_are k j
         ∙ sym (ap sum_up (map_range_same (λ v. bit (is_some (q (suc k) v))) (λ v. bit (is_some (p (suc k) v))) 0 units
-        (λ v low high. ap (λ (o : Option (ℕ × Answer)). bit (is_some o)) (q_other (suc k) v (λ y z. s (omega (arith, y)))))))
+        (λ v low high. ap (λ (o : Option (ℕ × Answer)). bit (is_some o))
+        (q_other (suc k) v (λ y z. s (omega (arith, y)))))))
   ]
 
   -- whether the post closes its proposal

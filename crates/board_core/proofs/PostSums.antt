@@ -1,17 +1,27 @@
 -- The totals of a ledger with one more answer.
-use Rattle.board_core.proofs.Common.{◌≡◌, ℕ, suc, ◌+◌, ◌-◌, ◌<◌, ◌≤◌, ℤ, pos, ◌+ℤ◌, inl, inr, Option, Some, None, List, [], length, map, take, get_or, refl, sym, ap, ◌∙◌, subst, arith, set, length-set, cases_lt, get_or-set_same, get_or-set_other, get_or-map, map-set, take-set-le, length-map-range_with_len, get_or-map-range_with_len, All, range_with_len, option_map_or, slice_get, Setup, Answer, no_answer, rules_of, schedules_in, earned_in, RoundLaws, Rules, Event, Posts, posts, with_post, answer_at, answers, AnyUnit, PriceLists, units, unit_count, supply_in, Proposal, reserve_in, int_at, total, total_power, total_reserve, LedgerValue, raised_by, with_schedule, Lists, supply_to, reserve_to, sums_of, fronts_of, AreTallies, IsLedger, IsBoard}
+use Rattle.board_core.proofs.Common.{◌≡◌, ℕ, suc, ◌+◌, ◌-◌, ◌<◌, ◌≤◌, ℤ, pos, ◌+ℤ◌, inl, inr, Option, Some, None, List}
+use Rattle.board_core.proofs.Common.{[], length, map, take, get_or, refl, sym, ap, ◌∙◌, subst, arith, set, length-set}
+use Rattle.board_core.proofs.Common.{cases_lt, get_or-set_same, get_or-set_other, get_or-map, map-set, take-set-le}
+use Rattle.board_core.proofs.Common.{length-map-range_with_len, get_or-map-range_with_len, All, range_with_len}
+use Rattle.board_core.proofs.Common.{option_map_or, slice_get, Setup, Answer, no_answer, rules_of, schedules_in}
+use Rattle.board_core.proofs.Common.{earned_in, RoundLaws, Rules, Event, Posts, posts, with_post, answer_at, answers}
+use Rattle.board_core.proofs.Common.{AnyUnit, PriceLists, units, unit_count, supply_in, Proposal, reserve_in, int_at}
+use Rattle.board_core.proofs.Common.{total, total_power, total_reserve, LedgerValue, raised_by, with_schedule, Lists}
+use Rattle.board_core.proofs.Common.{supply_to, reserve_to, sums_of, fronts_of, AreTallies, IsLedger, IsBoard}
 use Rattle.board_history.specs.Totals.{AddsOne}
 use Rattle.board_core.proofs.Fronts.{closed_is}
 use Rattle.board_core.proofs.LedgerSteps.{map_unchanged, same_fronts}
 use Rattle.board_core.proofs.Lists.{map_range_same}
 use Rattle.board_core.proofs.PostLists.{IsHeldTask, same_or, q_other, q_here, k_inside, after_k, counts_more}
 
-raised_map : (f add f2 : ℕ → ℤ) (n : ℕ) → ((k : ℕ) → f2 k ≡ f k +ℤ add k) → raised_by (map f (range_with_len 0 n)) add ≡ map f2 (range_with_len 0 n)
+raised_map : (f add f2 : ℕ → ℤ) (n : ℕ) → ((k : ℕ) → f2 k ≡ f k +ℤ add k) →
+    raised_by (map f (range_with_len 0 n)) add ≡ map f2 (range_with_len 0 n)
 raised_map f add f2 n h =
     let xs = map f (range_with_len 0 n) in
     ap (λ (m : ℕ). map (λ (k : ℕ). int_at xs k +ℤ add k) (range_with_len 0 m)) (length-map-range_with_len f 0 n)
     ∙ map_range_same (λ (k : ℕ). int_at xs k +ℤ add k) f2 0 n (λ k low high.
-    ap (λ (z : ℤ). z +ℤ add k) (get_or-map-range_with_len f 0 n k k (pos 0) (omega (arith, high)) (omega arith)) ∙ sym (h k))
+    ap (λ (z : ℤ). z +ℤ add k) (get_or-map-range_with_len f 0 n k k (pos 0) (omega (arith, high)) (omega arith)) ∙
+    sym (h k))
 
 -- a ledger into which an answer was counted
 pub record IsCounted (l l2 : LedgerValue) (k : ℕ) (w : AnyUnit) (a : Answer) (d : Proposal) : Type 0 where
@@ -20,7 +30,9 @@ pub record IsCounted (l l2 : LedgerValue) (k : ℕ) (w : AnyUnit) (a : Answer) (
   pub closed : l2.closed ≡ l.closed
   pub opened : l2.opened ≡ l.opened
 
-module _ (b : Setup) (laws : RoundLaws b) (h : List (Event Answer)) (x : Lists) (l : LedgerValue) (I : IsBoard b h x l) (c n u : ℕ) (a : Answer) (H : IsHeldTask b h l c n u) (w : AnyUnit) (is : slice_get (units b.market) u ≡ Some w) where
+module _ (b : Setup) (laws : RoundLaws b) (h : List (Event Answer)) (x : Lists) (l : LedgerValue) (I : IsBoard b h x l)
+    (c n u : ℕ) (a : Answer) (H : IsHeldTask b h l c n u) (w : AnyUnit)
+    (is : slice_get (units b.market) u ≡ Some w) where
   abbrev g : Rules PriceLists Proposal Answer
   g = rules_of b
 
@@ -48,20 +60,27 @@ module _ (b : Setup) (laws : RoundLaws b) (h : List (Event Answer)) (x : Lists) 
 
   supply_more : raised_by (supply_to b p n) (λ j. supply_in w a.schedule (suc j)) ≡ supply_to b q n
   supply_more =
-      raised_map (total_power (units b.market) (schedules_in (answers g p n))) (λ j. supply_in w a.schedule (suc j)) (total_power (units b.market) (schedules_in (answers g q n))) b.market.periods
-      (λ j. adds.power j ∙ ap (λ (y : Answer). total_power (units b.market) (schedules_in (answers g p n)) j +ℤ supply_in w y.schedule (suc j)) here_is)
+      raised_map (total_power (units b.market) (schedules_in (answers g p n))) (λ j. supply_in w a.schedule (suc j))
+      (total_power (units b.market) (schedules_in (answers g q n))) b.market.periods
+      (λ j. adds.power j ∙
+      ap (λ (y : Answer). total_power (units b.market) (schedules_in (answers g p n)) j +ℤ supply_in w y.schedule
+      (suc j)) here_is)
 
   reserve_more : raised_by (reserve_to b p n) (λ j. reserve_in a.schedule (suc j)) ≡ reserve_to b q n
   reserve_more =
-      raised_map (total_reserve (units b.market) (schedules_in (answers g p n))) (λ j. reserve_in a.schedule (suc j)) (total_reserve (units b.market) (schedules_in (answers g q n))) b.market.periods
-      (λ j. adds.reserve j ∙ ap (λ (y : Answer). total_reserve (units b.market) (schedules_in (answers g p n)) j +ℤ reserve_in y.schedule (suc j)) here_is)
+      raised_map (total_reserve (units b.market) (schedules_in (answers g p n))) (λ j. reserve_in a.schedule (suc j))
+      (total_reserve (units b.market) (schedules_in (answers g q n))) b.market.periods
+      (λ j. adds.reserve j ∙
+      ap (λ (y : Answer). total_reserve (units b.market) (schedules_in (answers g p n)) j +ℤ reserve_in y.schedule
+      (suc j)) here_is)
 
   earned_more : total (earned_in (answers g p n)) +ℤ a.earned ≡ total (earned_in (answers g q n))
   earned_more = ap (λ (y : Answer). total (earned_in (answers g p n)) +ℤ y.earned) (sym here_is) ∙ sym adds.earned
 
   -- the answers of the other proposals stay
   others : (k : ℕ) → (k ≡ k_ → ⊥) → answers g q (suc k) ≡ answers g p (suc k)
-  others k f = map_range_same (answer_at g q (suc k)) (answer_at g p (suc k)) 0 m (λ v low high. ap answer_of_post (q_other b h x l I c n u a H (suc k) v (λ y z. f (omega (arith, y)))))
+  others k f = map_range_same (answer_at g q (suc k)) (answer_at g p (suc k)) 0 m
+      (λ v low high. ap answer_of_post (q_other b h x l I c n u a H (suc k) v (λ y z. f (omega (arith, y)))))
 
   size : length l.proposals ≡ b.budget
   size = I.ledger.count
@@ -71,16 +90,19 @@ module _ (b : Setup) (laws : RoundLaws b) (h : List (Event Answer)) (x : Lists) 
 
   pub supply_was : (d : Proposal) → (get_or l.proposals k_ d).supply ≡ supply_to b p n
   supply_was d =
-      sym (get_or-map (λ (r : Proposal). r.supply) l.proposals k_ d [] place_) ∙ I.tallies.supply_are k_ (k_inside b h x l I c n u a H)
+      sym (get_or-map (λ (r : Proposal). r.supply) l.proposals k_ d [] place_) ∙
+      I.tallies.supply_are k_ (k_inside b h x l I c n u a H)
       ∙ ap (supply_to b p) (after_k b h x l I c n u a H)
 
   pub reserve_was : (d : Proposal) → (get_or l.proposals k_ d).reserve ≡ reserve_to b p n
   reserve_was d =
-      sym (get_or-map (λ (r : Proposal). r.reserve) l.proposals k_ d [] place_) ∙ I.tallies.reserve_are k_ (k_inside b h x l I c n u a H)
+      sym (get_or-map (λ (r : Proposal). r.reserve) l.proposals k_ d [] place_) ∙
+      I.tallies.reserve_are k_ (k_inside b h x l I c n u a H)
       ∙ ap (reserve_to b p) (after_k b h x l I c n u a H)
 
   pub earned_was : int_at l.earned k_ ≡ total (earned_in (answers g p n))
-  earned_was = I.tallies.earned_are k_ (k_inside b h x l I c n u a H) ∙ ap (λ (j : ℕ). total (earned_in (answers g p j))) (after_k b h x l I c n u a H)
+  earned_was = I.tallies.earned_are k_ (k_inside b h x l I c n u a H) ∙
+      ap (λ (j : ℕ). total (earned_in (answers g p j))) (after_k b h x l I c n u a H)
 
   module _ (l2 : LedgerValue) (d : Proposal) (W : IsCounted l l2 k_ w a d) where
     abbrev was : Proposal
@@ -90,10 +112,12 @@ module _ (b : Setup) (laws : RoundLaws b) (h : List (Event Answer)) (x : Lists) 
     new = with_schedule was w a.schedule
 
     supply_list : (sums_of l2).supply ≡ set (sums_of l).supply k_ new.supply
-    supply_list = ap (map (λ (r : Proposal). r.supply)) W.proposals ∙ map-set (λ (r : Proposal). r.supply) l.proposals k_ new
+    supply_list = ap (map (λ (r : Proposal). r.supply)) W.proposals ∙
+        map-set (λ (r : Proposal). r.supply) l.proposals k_ new
 
     reserve_list : (sums_of l2).reserve ≡ set (sums_of l).reserve k_ new.reserve
-    reserve_list = ap (map (λ (r : Proposal). r.reserve)) W.proposals ∙ map-set (λ (r : Proposal). r.reserve) l.proposals k_ new
+    reserve_list = ap (map (λ (r : Proposal). r.reserve)) W.proposals ∙
+        map-set (λ (r : Proposal). r.reserve) l.proposals k_ new
 
     to_n : (k : ℕ) → k ≡ k_ → n ≡ suc k
     to_n k s = sym (after_k b h x l I c n u a H) ∙ ap suc (sym s)
@@ -102,33 +126,44 @@ module _ (b : Setup) (laws : RoundLaws b) (h : List (Event Answer)) (x : Lists) 
     tallies_more = record {
       counts_count = length-set x.counts k_ _ ∙ I.tallies.counts_count;
       earned_count = ap (λ (xs : List ℤ). length xs) W.earned ∙ length-set l.earned k_ _ ∙ I.tallies.earned_count;
-      supply_count = ap (λ (xs : List (List ℤ)). length xs) supply_list ∙ length-set (sums_of l).supply k_ _ ∙ I.tallies.supply_count;
-      reserve_count = ap (λ (xs : List (List ℤ)). length xs) reserve_list ∙ length-set (sums_of l).reserve k_ _ ∙ I.tallies.reserve_count;
+      supply_count = ap (λ (xs : List (List ℤ)). length xs) supply_list ∙ length-set (sums_of l).supply k_ _ ∙
+          I.tallies.supply_count;
+      reserve_count = ap (λ (xs : List (List ℤ)). length xs) reserve_list ∙ length-set (sums_of l).reserve k_ _ ∙
+          I.tallies.reserve_count;
       counts_are = counts_more b h x l I c n u a H;
       earned_are = λ k j. ap (λ (xs : List ℤ). int_at xs k) W.earned ∙ (elim (same_or k k_) [
         | inl s ↦
             let few = I.tallies.earned_count in let here = k_inside b h x l I c n u a H in
-            ap (λ (y : ℕ). int_at (set l.earned k_ (int_at l.earned k_ +ℤ a.earned)) y) s ∙ get_or-set_same l.earned k_ (int_at l.earned k_ +ℤ a.earned) (pos 0) (omega (arith, few, here))
-            ∙ ap (λ (z : ℤ). z +ℤ a.earned) earned_was ∙ earned_more ∙ ap (λ (y : ℕ). total (earned_in (answers g q y))) (to_n k s)
-        | inr s ↦ get_or-set_other l.earned k_ k (int_at l.earned k_ +ℤ a.earned) (pos 0) s ∙ I.tallies.earned_are k j ∙ ap (λ (xs : List Answer). total (earned_in xs)) (sym (others k s))
+            ap (λ (y : ℕ). int_at (set l.earned k_ (int_at l.earned k_ +ℤ a.earned)) y) s ∙
+            get_or-set_same l.earned k_ (int_at l.earned k_ +ℤ a.earned) (pos 0) (omega (arith, few, here))
+            ∙ ap (λ (z : ℤ). z +ℤ a.earned) earned_was ∙ earned_more ∙
+            ap (λ (y : ℕ). total (earned_in (answers g q y))) (to_n k s)
+        | inr s ↦ get_or-set_other l.earned k_ k (int_at l.earned k_ +ℤ a.earned) (pos 0) s ∙ I.tallies.earned_are k j ∙
+            ap (λ (xs : List Answer). total (earned_in xs)) (sym (others k s))
       ]);
       supply_are = λ k j. ap (λ (xs : List (List ℤ)). get_or xs k []) supply_list ∙ (elim (same_or k k_) [
         | inl s ↦
             let few = I.tallies.supply_count in let here = k_inside b h x l I c n u a H in
-            ap (λ (y : ℕ). get_or (set (sums_of l).supply k_ new.supply) y []) s ∙ get_or-set_same (sums_of l).supply k_ new.supply [] (omega (arith, few, here))
-            ∙ ap (λ (xs : List ℤ). raised_by xs (λ j. supply_in w a.schedule (suc j))) (supply_was d) ∙ supply_more ∙ ap (supply_to b q) (to_n k s)
+            ap (λ (y : ℕ). get_or (set (sums_of l).supply k_ new.supply) y []) s ∙
+            get_or-set_same (sums_of l).supply k_ new.supply [] (omega (arith, few, here))
+            ∙ ap (λ (xs : List ℤ). raised_by xs (λ j. supply_in w a.schedule (suc j))) (supply_was d) ∙ supply_more ∙
+            ap (supply_to b q) (to_n k s)
         | inr s ↦
             get_or-set_other (sums_of l).supply k_ k new.supply [] s ∙ I.tallies.supply_are k j
-            ∙ ap (λ (xs : List Answer). map (total_power (units b.market) (schedules_in xs)) (range_with_len 0 b.market.periods)) (sym (others k s))
+            ∙ ap (λ (xs : List Answer). map (total_power (units b.market) (schedules_in xs))
+            (range_with_len 0 b.market.periods)) (sym (others k s))
       ]);
       reserve_are = λ k j. ap (λ (xs : List (List ℤ)). get_or xs k []) reserve_list ∙ (elim (same_or k k_) [
         | inl s ↦
             let few = I.tallies.reserve_count in let here = k_inside b h x l I c n u a H in
-            ap (λ (y : ℕ). get_or (set (sums_of l).reserve k_ new.reserve) y []) s ∙ get_or-set_same (sums_of l).reserve k_ new.reserve [] (omega (arith, few, here))
-            ∙ ap (λ (xs : List ℤ). raised_by xs (λ j. reserve_in a.schedule (suc j))) (reserve_was d) ∙ reserve_more ∙ ap (reserve_to b q) (to_n k s)
+            ap (λ (y : ℕ). get_or (set (sums_of l).reserve k_ new.reserve) y []) s ∙
+            get_or-set_same (sums_of l).reserve k_ new.reserve [] (omega (arith, few, here))
+            ∙ ap (λ (xs : List ℤ). raised_by xs (λ j. reserve_in a.schedule (suc j))) (reserve_was d) ∙ reserve_more ∙
+            ap (reserve_to b q) (to_n k s)
         | inr s ↦
             get_or-set_other (sums_of l).reserve k_ k new.reserve [] s ∙ I.tallies.reserve_are k j
-            ∙ ap (λ (xs : List Answer). map (total_reserve (units b.market) (schedules_in xs)) (range_with_len 0 b.market.periods)) (sym (others k s))
+            ∙ ap (λ (xs : List Answer). map (total_reserve (units b.market) (schedules_in xs))
+            (range_with_len 0 b.market.periods)) (sym (others k s))
       ]);
     }
 
@@ -150,7 +185,8 @@ module _ (b : Setup) (laws : RoundLaws b) (h : List (Event Answer)) (x : Lists) 
     pub fronts_same : fronts_of l2 ≡ fronts_of l
     fronts_same =
         same_fronts (fronts_of l2).rows (fronts_of l).rows (fronts_of l2).prices (fronts_of l).prices
-        (ap (λ (k : ℕ). take k l2.proposals) W.closed ∙ ap (take l.closed) W.proposals ∙ take-set-le l.closed l.proposals k_ new still_open)
+        (ap (λ (k : ℕ). take k l2.proposals) W.closed ∙ ap (take l.closed) W.proposals ∙
+        take-set-le l.closed l.proposals k_ new still_open)
         (ap (λ (k : ℕ). take k (map (λ (r : Proposal). r.prices) l2.proposals)) W.opened
         ∙ ap (λ (xs : List Proposal). take l.opened (map (λ (r : Proposal). r.prices) xs)) W.proposals
         ∙ ap (take l.opened) (map_unchanged (λ (r : Proposal). r.prices) l.proposals k_ new d place_ refl))
@@ -166,12 +202,14 @@ module _ (b : Setup) (laws : RoundLaws b) (h : List (Event Answer)) (x : Lists) 
           count = ap (λ (xs : List Proposal). length xs) W.proposals ∙ length-set l.proposals k_ new ∙ old.count;
           closed = omega (arith, most, e);
           opened = omega (arith, most2, f);
-          horizon = subst (λ (xs : List Proposal). All (λ (r : Proposal). length r.prices.energy ≡ b.market.periods) xs) (sym W.proposals) (λ k e2 lt. elim (same_or k k_) [
-            | inl s ↦
-                ap (λ (j : ℕ). length (get_or (set l.proposals k_ new) j e2).prices.energy) s ∙ ap (λ (r : Proposal). length r.prices.energy) (get_or-set_same l.proposals k_ new e2 place_)
-                ∙ old.horizon k_ d place_
-            | inr s ↦
-                ap (λ (r : Proposal). length r.prices.energy) (get_or-set_other l.proposals k_ k new e2 s)
-                ∙ old.horizon k e2 (let z = length-set l.proposals k_ new in omega (arith, lt, z))
-          ]);
+          horizon = subst (λ (xs : List Proposal). All (λ (r : Proposal). length r.prices.energy ≡ b.market.periods) xs)
+              (sym W.proposals) (λ k e2 lt. elim (same_or k k_) [
+                | inl s ↦
+                    ap (λ (j : ℕ). length (get_or (set l.proposals k_ new) j e2).prices.energy) s ∙
+                    ap (λ (r : Proposal). length r.prices.energy) (get_or-set_same l.proposals k_ new e2 place_)
+                    ∙ old.horizon k_ d place_
+                | inr s ↦
+                    ap (λ (r : Proposal). length r.prices.energy) (get_or-set_other l.proposals k_ k new e2 s)
+                    ∙ old.horizon k e2 (let z = length-set l.proposals k_ new in omega (arith, lt, z))
+              ]);
         }

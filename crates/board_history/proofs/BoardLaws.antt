@@ -1,9 +1,14 @@
 -- The laws that a crate goes by that keeps a board in lists of its own.
-use Rattle.board_history.proofs.Common.{ℕ, length, List, ap, sym, subst, ◌∙◌, fun_ext, Setup, Answer, rules_of, IsRight, FrontIsClosed, IsOneEventMore, TakenTells, RoundLaws, BoardLaws, differs_from, Event, Given, Taken, Closing, Stopped, Posts, posts, is_closed, PriceLists, units, unit_count, DualIsAtMostCost, Fits, IsFeasible}
-use Rattle.board_history.proofs.Answered.{posts-given, posts-taken, posts-closing, posts-stopped, holders-given, holders-taken, holders-closing, holders-stopped, extends_with, post_cases}
+use Rattle.board_history.proofs.Common.{ℕ, length, List, ap, sym, subst, ◌∙◌, fun_ext, Setup, Answer, rules_of, IsRight}
+use Rattle.board_history.proofs.Common.{FrontIsClosed, IsOneEventMore, TakenTells, RoundLaws, BoardLaws, differs_from}
+use Rattle.board_history.proofs.Common.{Event, Given, Taken, Closing, Stopped, Posts, posts, is_closed, PriceLists}
+use Rattle.board_history.proofs.Common.{units, unit_count, DualIsAtMostCost, Fits, IsFeasible}
+use Rattle.board_history.proofs.Answered.{posts-given, posts-taken, posts-closing, posts-stopped, holders-given}
+use Rattle.board_history.proofs.Answered.{holders-taken, holders-closing, holders-stopped, extends_with, post_cases}
 use Rattle.board_history.proofs.ClaimWords.{claim_says}
 use Rattle.board_history.proofs.Fronts.{front_le, front_most, front_is}
-use Rattle.board_history.proofs.Kept.{post_of, rows_by_length, rows_by_more, rows_by_take, rows_by_same, closed_kept, rows_kept_to, front_closed, free_le}
+use Rattle.board_history.proofs.Kept.{post_of, rows_by_length, rows_by_more, rows_by_take, rows_by_same, closed_kept}
+use Rattle.board_history.proofs.Kept.{rows_kept_to, front_closed, free_le}
 use Rattle.board_history.proofs.Machine.{reply_says, reply_taken}
 use Rattle.board_history.proofs.Opens.{opens_one, opens_none}
 use Rattle.board_history.proofs.OwnTasks.{own_horizon, same_is_own, right_of}
@@ -14,7 +19,8 @@ use Rattle.board_history.proofs.Totals.{totals_run}
 use Rattle.board_history.proofs.UnitBounds.{ModelLaws}
 
 one_event : (h : List (Event Answer)) (e : Event Answer) → IsOneEventMore h e
-one_event h (Given c n u) = record { posts_are = posts-given h c n u; holders_are = fun_ext (λ m. fun_ext (λ v. holders-given h c n u m v)) }
+one_event h (Given c n u) =
+    record { posts_are = posts-given h c n u; holders_are = fun_ext (λ m. fun_ext (λ v. holders-given h c n u m v)) }
 one_event h (Taken c n u a) = record { posts_are = posts-taken h c n u a; holders_are = holders-taken h c n u a }
 one_event h (Closing c n u a) = record { posts_are = posts-closing h c n u a; holders_are = holders-closing h c n u a }
 one_event h (Stopped c) = record { posts_are = posts-stopped h c; holders_are = holders-stopped h c }
@@ -44,7 +50,8 @@ taken_tells s k n u ρ x a closed limits task fit earned reply =
         unit = own.unit;
         right = right_of s.setup (posts h) n u ρ x a own fit earned;
         long = lengths.0 ∙ sym (ap (λ (π : PriceLists). length π.energy) own.prices) ∙ own_horizon s.setup (posts h) n;
-        feasible = subst (λ (j : ℕ). IsFeasible x j a.schedule) (sym lengths.0) (fits_is_best x ρ a.schedule fit).feasible;
+        feasible = subst (λ (j : ℕ). IsFeasible x j a.schedule) (sym lengths.0)
+            (fits_is_best x ρ a.schedule fit).feasible;
       },
       reply_taken g (IsRight Fits s.setup.market) h (differs_from s.setup u ρ x) k n u a t,
     )
@@ -53,10 +60,16 @@ round_laws : (b : Setup) → RoundLaws b
 round_laws b =
     let g = rules_of b in
     record {
-      rows = λ make. record { count = rows_by_length g make; more = rows_by_more g make; front = rows_by_take g make; same = rows_by_same g make };
+      rows = λ make. record {
+        count = rows_by_length g make;
+        more = rows_by_more g make;
+        front = rows_by_take g make;
+        same = rows_by_same g make;
+      };
       opens = λ rows r. record {
         one = λ o. opens_one g rows r o.all_free o.within o.free;
-        none = λ never. opens_none g rows r (λ all within free. never (record { all_free = all; within = within; free = free }));
+        none = λ never. opens_none g rows r
+            (λ all within free. never (record { all_free = all; within = within; free = free }));
       };
       front = front_of b;
       posted = post_of g;

@@ -1,5 +1,8 @@
 -- What each answer of a claim says.
-use Rattle.board_history.proofs.Common.{◌≡◌, ℕ, Bool, true, false, cond, Option, Some, None, List, refl, sym, ap, ◌∙◌, arith, false≢true, list_any, is_none, Rules, Event, is_halt, Holders, holders, Posts, posts, opened, is_finished, ClaimReply, Finished, Halted, GivenTask, NotYet, next_task, IsOpenTask, IsHeld, IsFirstFree, ClaimSays}
+use Rattle.board_history.proofs.Common.{◌≡◌, ℕ, Bool, true, false, cond, Option, Some, None, List, refl, sym, ap, ◌∙◌}
+use Rattle.board_history.proofs.Common.{arith, false≢true, list_any, is_none, Rules, Event, is_halt, Holders, holders}
+use Rattle.board_history.proofs.Common.{Posts, posts, opened, is_finished, ClaimReply, Finished, Halted, GivenTask}
+use Rattle.board_history.proofs.Common.{NotYet, next_task, IsOpenTask, IsHeld, IsFirstFree, ClaimSays}
 use Rattle.board_history.proofs.Held.{given_or, is_given, not_none}
 use Rattle.board_history.proofs.NextTask.{first_in_rows, found_in_rows, none_in_rows, not_in_rows}
 
@@ -19,7 +22,8 @@ module _ {P R A : Type 0} (g : Rules P R A) where
   is_halted_of false false None e = (cc)
   is_halted_of false false (Some x) e = (cc)
 
-  is_given_of : (f t : Bool) (o : Option (ℕ × ℕ)) (n u : ℕ) → claim_of f t o ≡ GivenTask n u → (f ≡ false) × (t ≡ false) × (o ≡ Some (n, u))
+  is_given_of : (f t : Bool) (o : Option (ℕ × ℕ)) (n u : ℕ) → claim_of f t o ≡ GivenTask n u →
+      (f ≡ false) × (t ≡ false) × (o ≡ Some (n, u))
   is_given_of true t o n u e = (cc)
   is_given_of false true o n u e = (cc)
   is_given_of false false o n u e = (refl, refl, is_given g o n u e)
@@ -32,7 +36,8 @@ module _ {P R A : Type 0} (g : Rules P R A) where
 
   past_both : (f t : Bool) (o q : Option (ℕ × ℕ)) → f ≡ false → t ≡ false → o ≡ q → claim_of f t o ≡ given_or g q
   past_both f t o q a b e =
-      ap (λ (x : Bool). claim_of x t o) a ∙ ap (λ (x : Bool). claim_of false x o) b ∙ ap (λ (x : Option (ℕ × ℕ)). given_or g x) e
+      ap (λ (x : Bool). claim_of x t o) a ∙ ap (λ (x : Bool). claim_of false x o) b ∙
+      ap (λ (x : Option (ℕ × ℕ)). given_or g x) e
 
   module _ (p : Posts A) (held : Holders) where
     abbrev unheld : ℕ × ℕ → Bool
@@ -56,7 +61,8 @@ module _ {P R A : Type 0} (g : Rules P R A) where
         record {
           task = record { from_one = omega (arith, lo); open_ = omega (arith, hi); unit = r.unit };
           free = not_none (held n u) r.passes;
-          lower_proposals = λ m v less t. let one = t.from_one in held_of (held m v) (r.before m v (omega (arith, one)) less t.unit);
+          lower_proposals = λ m v less t. let one = t.from_one in
+              held_of (held m v) (r.before m v (omega (arith, one)) less t.unit);
           lower_units = λ v less. held_of (held n v) (r.here v less);
         }
 
@@ -64,19 +70,25 @@ module _ {P R A : Type 0} (g : Rules P R A) where
     first_is_next n u f =
         let one = f.task.from_one in
         let to = f.task.open_ in
-        first_in_rows unheld g.units 1 (opened g p) n u (omega (arith, one)) (omega (arith, to)) f.task.unit (ap is_none f.free)
-        (λ k v low less i. not_free (held k v) (f.lower_proposals k v less (record { from_one = omega (arith, low); open_ = omega (arith, less, to); unit = i })))
+        first_in_rows unheld g.units 1 (opened g p) n u (omega (arith, one)) (omega (arith, to)) f.task.unit
+        (ap is_none f.free)
+        (λ k v low less i. not_free (held k v)
+        (f.lower_proposals k v less
+        (record { from_one = omega (arith, low); open_ = omega (arith, less, to); unit = i })))
         (λ v less. not_free (held n v) (f.lower_units v less))
 
     none_is_held : next ≡ None → (n u : ℕ) → IsOpenTask g p n u → IsHeld g held n u
     none_is_held is n u t =
         let one = t.from_one in
         let to = t.open_ in
-        held_of (held n u) (none_in_rows unheld g.units 1 (opened g p) n u is (omega (arith, one)) (omega (arith, to)) t.unit)
+        held_of (held n u)
+        (none_in_rows unheld g.units 1 (opened g p) n u is (omega (arith, one)) (omega (arith, to)) t.unit)
 
     held_is_none : ((n u : ℕ) → IsOpenTask g p n u → IsHeld g held n u) → next ≡ None
     held_is_none all =
-        not_in_rows unheld g.units 1 (opened g p) (λ n u low high i. not_free (held n u) (all n u (record { from_one = omega (arith, low); open_ = omega (arith, high); unit = i })))
+        not_in_rows unheld g.units 1 (opened g p)
+        (λ n u low high i. not_free (held n u)
+        (all n u (record { from_one = omega (arith, low); open_ = omega (arith, high); unit = i })))
 
   pub claim_says : (h : List (Event A)) → ClaimSays g h
   claim_says h =
@@ -85,7 +97,11 @@ module _ {P R A : Type 0} (g : Rules P R A) where
       let o = next_task g.units (opened g (posts h)) (holders h) in
       record {
         finished = (is_finished_of f t o, λ is. ap (λ (x : Bool). claim_of x t o) is);
-        halted = (is_halted_of f t o, λ is. ap (λ (x : Bool). claim_of x t o) is.0 ∙ ap (λ (x : Bool). claim_of false x o) is.1);
+        halted = (
+          is_halted_of f t o,
+          λ is. ap (λ (x : Bool). claim_of x t o) is.0 ∙
+              ap (λ (x : Bool). claim_of false x o) is.1,
+        );
         given = λ n u. (
           λ is. let r = is_given_of f t o n u is in ((r.0, r.1), next_is_first (posts h) (holders h) n u r.2),
           λ is. past_both f t o (Some (n, u)) is.0.0 is.0.1 (first_is_next (posts h) (holders h) n u is.1),

@@ -1,5 +1,7 @@
 -- The first task that isn't held.
-use Rattle.board_history.proofs.Common.{◌≡◌, ℕ, zero, suc, ◌+◌, ◌<◌, ◌≤◌, Bool, true, false, cond, inl, inr, Option, Some, None, List, map, refl, sym, ap, ◌∙◌, subst, arith, cases_lt, find-append, find, flat_map, range_with_len, option_or}
+use Rattle.board_history.proofs.Common.{◌≡◌, ℕ, zero, suc, ◌+◌, ◌<◌, ◌≤◌, Bool, true, false, cond, inl, inr, Option}
+use Rattle.board_history.proofs.Common.{Some, None, List, map, refl, sym, ap, ◌∙◌, subst, arith, cases_lt, find-append}
+use Rattle.board_history.proofs.Common.{find, flat_map, range_with_len, option_or}
 
 or_none : {X : Type 0} (a b : Option X) → a ≡ None → option_or a b ≡ b
 or_none None b h = refl
@@ -19,42 +21,51 @@ module _ (t : ℕ × ℕ → Bool) where
       ap (λ (b : Bool). cond b (Some (m, a)) (find t (one_row m (a + 1) k))) (h a (omega arith) (omega arith))
       ∙ not_in_row m (a + 1) k (λ v low high. h v (omega (arith, low)) (omega (arith, high)))
 
-  first_in_row : (m a k u : ℕ) → a ≤ u → u < a + k → t (m, u) ≡ true → ((v : ℕ) → a ≤ v → v < u → t (m, v) ≡ false) → find t (one_row m a k) ≡ Some (m, u)
+  first_in_row : (m a k u : ℕ) → a ≤ u → u < a + k → t (m, u) ≡ true → ((v : ℕ) → a ≤ v → v < u → t (m, v) ≡ false) →
+      find t (one_row m a k) ≡ Some (m, u)
   first_in_row m a zero u low high yes_ h = absurd (omega (arith, low, high))
   first_in_row m a (suc k) u low high yes_ h =
       elim (cases_lt a u) [
         | inl above ↦
             ap (λ (b : Bool). cond b (Some (m, a)) (find t (one_row m (a + 1) k))) (h a (omega arith) above)
-            ∙ first_in_row m (a + 1) k u (omega (arith, above)) (omega (arith, high)) yes_ (λ v l i. h v (omega (arith, l)) i)
+            ∙ first_in_row m (a + 1) k u (omega (arith, above)) (omega (arith, high)) yes_
+            (λ v l i. h v (omega (arith, l)) i)
         | inr below ↦
             let same : u ≡ a = omega (arith, below, low) in
-            ap (λ (b : Bool). cond b (Some (m, a)) (find t (one_row m (a + 1) k))) (subst (λ (w : ℕ). t (m, w) ≡ true) same yes_)
+            ap (λ (b : Bool). cond b (Some (m, a)) (find t (one_row m (a + 1) k)))
+            (subst (λ (w : ℕ). t (m, w) ≡ true) same yes_)
             ∙ ap (λ (w : ℕ). Some (m, w)) (sym same)
       ]
 
   abbrev pub rows_from : ℕ → ℕ → ℕ → List (ℕ × ℕ)
   rows_from units a n = flat_map (λ (k : ℕ). one_row k 0 units) (range_with_len a n)
 
-  pub not_in_rows : (units a n : ℕ) → ((m v : ℕ) → a ≤ m → m < a + n → v < units → t (m, v) ≡ false) → find t (rows_from units a n) ≡ None
+  pub not_in_rows : (units a n : ℕ) → ((m v : ℕ) → a ≤ m → m < a + n → v < units → t (m, v) ≡ false) →
+      find t (rows_from units a n) ≡ None
   not_in_rows units a zero h = refl
   not_in_rows units a (suc n) h =
       find-append t (one_row a 0 units) (rows_from units (a + 1) n)
-      ∙ or_none (find t (one_row a 0 units)) (find t (rows_from units (a + 1) n)) (not_in_row a 0 units (λ v low high. h a v (omega arith) (omega arith) (omega (arith, high))))
+      ∙ or_none (find t (one_row a 0 units)) (find t (rows_from units (a + 1) n))
+      (not_in_row a 0 units (λ v low high. h a v (omega arith) (omega arith) (omega (arith, high))))
       ∙ not_in_rows units (a + 1) n (λ m v low high i. h m v (omega (arith, low)) (omega (arith, high)) i)
 
   pub first_in_rows : (units a n m u : ℕ) → a ≤ m → m < a + n → u < units → t (m, u) ≡ true →
-      ((k v : ℕ) → a ≤ k → k < m → v < units → t (k, v) ≡ false) → ((v : ℕ) → v < u → t (m, v) ≡ false) → find t (rows_from units a n) ≡ Some (m, u)
+      ((k v : ℕ) → a ≤ k → k < m → v < units → t (k, v) ≡ false) → ((v : ℕ) → v < u → t (m, v) ≡ false) →
+      find t (rows_from units a n) ≡ Some (m, u)
   first_in_rows units a zero m u low high i yes_ before here = absurd (omega (arith, low, high))
   first_in_rows units a (suc n) m u low high i yes_ before here =
       find-append t (one_row a 0 units) (rows_from units (a + 1) n)
       ∙ (elim (cases_lt a m) [
         | inl above ↦
-            or_none (find t (one_row a 0 units)) (find t (rows_from units (a + 1) n)) (not_in_row a 0 units (λ v l j. before a v (omega arith) above (omega (arith, j))))
-            ∙ first_in_rows units (a + 1) n m u (omega (arith, above)) (omega (arith, high)) i yes_ (λ k v l j w. before k v (omega (arith, l)) j w) here
+            or_none (find t (one_row a 0 units)) (find t (rows_from units (a + 1) n))
+            (not_in_row a 0 units (λ v l j. before a v (omega arith) above (omega (arith, j))))
+            ∙ first_in_rows units (a + 1) n m u (omega (arith, above)) (omega (arith, high)) i yes_
+            (λ k v l j w. before k v (omega (arith, l)) j w) here
         | inr below ↦
             let same : m ≡ a = omega (arith, below, low) in
             or_some (find t (one_row a 0 units)) (find t (rows_from units (a + 1) n)) (m, u)
-            (subst (λ (k : ℕ). find t (one_row k 0 units) ≡ Some (m, u)) same (first_in_row m 0 units u (omega arith) (omega (arith, i)) yes_ (λ v l j. here v j)))
+            (subst (λ (k : ℕ). find t (one_row k 0 units) ≡ Some (m, u)) same
+            (first_in_row m 0 units u (omega arith) (omega (arith, i)) yes_ (λ v l j. here v j)))
       ])
 
   rest_none : {X : Type 0} (b : Bool) (x : X) (o : Option X) → cond b (Some x) o ≡ None → (b ≡ false) × (o ≡ None)
@@ -74,16 +85,19 @@ module _ (t : ℕ × ℕ → Bool) where
   both_none None b h = (refl, h)
   both_none (Some x) b h = (cc)
 
-  pub none_in_rows : (units a n m v : ℕ) → find t (rows_from units a n) ≡ None → a ≤ m → m < a + n → v < units → t (m, v) ≡ false
+  pub none_in_rows : (units a n m v : ℕ) → find t (rows_from units a n) ≡ None → a ≤ m → m < a + n → v < units →
+      t (m, v) ≡ false
   none_in_rows units a zero m v h low high unit = absurd (omega (arith, low, high))
   none_in_rows units a (suc n) m v h low high unit =
       let row = find t (one_row a 0 units) in
-      let both = both_none row (find t (rows_from units (a + 1) n)) (sym (find-append t (one_row a 0 units) (rows_from units (a + 1) n)) ∙ h) in
+      let both = both_none row (find t (rows_from units (a + 1) n))
+      (sym (find-append t (one_row a 0 units) (rows_from units (a + 1) n)) ∙ h) in
       elim (cases_lt a m) [
         | inl above ↦ none_in_rows units (a + 1) n m v both.1 (omega (arith, above)) (omega (arith, high)) unit
         | inr below ↦
             let same : a ≡ m = omega (arith, below, low) in
-            subst (λ (k : ℕ). t (k, v) ≡ false) same (none_in_row a 0 units v both.0 (omega arith) (omega (arith, unit)))
+            subst (λ (k : ℕ). t (k, v) ≡ false) same
+            (none_in_row a 0 units v both.0 (omega arith) (omega (arith, unit)))
       ]
 
   -- the task that is found passes, and those before it don't
@@ -95,7 +109,8 @@ module _ (t : ℕ × ℕ → Bool) where
     pub before : (k v : ℕ) → low ≤ k → k < m → v < units → t (k, v) ≡ false
     pub here : (v : ℕ) → v < u → t (m, v) ≡ false
 
-  first_or : {X Y : Type 0} (b : Bool) (x y : X) (o : Option X) → cond b (Some x) o ≡ Some y → (b ≡ true → x ≡ y → Y) → (b ≡ false → o ≡ Some y → Y) → Y
+  first_or : {X Y : Type 0} (b : Bool) (x y : X) (o : Option X) → cond b (Some x) o ≡ Some y → (b ≡ true → x ≡ y → Y) →
+      (b ≡ false → o ≡ Some y → Y) → Y
   first_or true x y o h f g = f refl (cc)
   first_or false x y o h f g = g refl h
 
@@ -112,7 +127,13 @@ module _ (t : ℕ × ℕ → Bool) where
       (λ is same.
       let e : m ≡ n = ap (λ (x : ℕ × ℕ). x.0) same in
       let f : a ≡ u = ap (λ (x : ℕ × ℕ). x.1) same in
-      record { number = e; to = omega (arith, f); passes = subst (λ (x : ℕ × ℕ). t x ≡ true) same is; here = λ v low high. absurd (omega (arith, low, high, f)) })
+      record {
+        number = e;
+        to = omega (arith, f);
+        passes = subst (λ (x : ℕ × ℕ). t x ≡ true) same is;
+        here =
+            λ v low high. absurd (omega (arith, low, high, f));
+      })
       (λ isnt rest.
       let r = found_in_row m (a + 1) k n u rest in
       let w = r.to in
@@ -129,14 +150,16 @@ module _ (t : ℕ × ℕ → Bool) where
             ];
       })
 
-  either : {X Y : Type 0} (a b : Option X) (y : X) → option_or a b ≡ Some y → (a ≡ Some y → Y) → (a ≡ None → b ≡ Some y → Y) → Y
+  either : {X Y : Type 0} (a b : Option X) (y : X) → option_or a b ≡ Some y → (a ≡ Some y → Y) →
+      (a ≡ None → b ≡ Some y → Y) → Y
   either None b y h f g = g refl h
   either (Some x) b y h f g = f h
 
   pub found_in_rows : (units a n m u : ℕ) → find t (rows_from units a n) ≡ Some (m, u) → IsFound a (a + n) units m u
   found_in_rows units a zero m u h = (cc)
   found_in_rows units a (suc n) m u h =
-      either (find t (one_row a 0 units)) (find t (rows_from units (a + 1) n)) (m, u) (sym (find-append t (one_row a 0 units) (rows_from units (a + 1) n)) ∙ h)
+      either (find t (one_row a 0 units)) (find t (rows_from units (a + 1) n)) (m, u)
+      (sym (find-append t (one_row a 0 units) (rows_from units (a + 1) n)) ∙ h)
       (λ found.
       let r = found_in_row a 0 units m u found in
       let e = r.number in
@@ -163,7 +186,8 @@ module _ (t : ℕ × ℕ → Bool) where
               | inl above ↦ r.before k v (omega (arith, above)) high i
               | inr below ↦
                   let same : a ≡ k = omega (arith, below, low) in
-                  subst (λ (j : ℕ). t (j, v) ≡ false) same (none_in_row a 0 units v none (omega arith) (omega (arith, i)))
+                  subst (λ (j : ℕ). t (j, v) ≡ false) same
+                  (none_in_row a 0 units v none (omega arith) (omega (arith, i)))
             ];
         here = r.here;
       })

@@ -1,9 +1,18 @@
--- How many events a legal history has: a task is claimed at most once and posted at most once, and a caller halts at most
+-- How many events a legal history has: a task is claimed at most once and posted at most once, and a caller halts at
+-- most
 -- once.
-use Rattle.board_history.proofs.Common.{◌≡◌, ℕ, zero, suc, ◌+◌, ◌*◌, ◌<◌, ◌≤◌, ◌⊎◌, Bool, true, false, cond, ◌&&◌, ◌||◌, ◌==◌, inl, inr, Option, Some, None, List, [], ◌∷◌, ◌++◌, length, map, refl, sym, ap, ◌∙◌, subst, arith, length-append, false≢true, cases_lt, nat_tests, length-map, filter-append, list_any-append, length-range_with_len, filter, flat_map, list_any, range_with_len, is_some, Fits, rules_of, IsRight, is_claim, is_post, claims_in, posts_in, halts_in, EventsAreAtMost, Rules, Event, Given, Taken, Closing, Stopped, sooner, only_at, is_halt, is_halt_of, Holders, holders, Posts, posts, with_post, IsPost, IsNext, IsLegal}
+use Rattle.board_history.proofs.Common.{◌≡◌, ℕ, zero, suc, ◌+◌, ◌*◌, ◌<◌, ◌≤◌, ◌⊎◌, Bool, true, false, cond, ◌&&◌, ◌||◌}
+use Rattle.board_history.proofs.Common.{◌==◌, inl, inr, Option, Some, None, List, [], ◌∷◌, ◌++◌, length, map, refl, sym}
+use Rattle.board_history.proofs.Common.{ap, ◌∙◌, subst, arith, length-append, false≢true, cases_lt, nat_tests}
+use Rattle.board_history.proofs.Common.{length-map, filter-append, list_any-append, length-range_with_len, filter}
+use Rattle.board_history.proofs.Common.{flat_map, list_any, range_with_len, is_some, Fits, rules_of, IsRight, is_claim}
+use Rattle.board_history.proofs.Common.{is_post, claims_in, posts_in, halts_in, EventsAreAtMost, Rules, Event, Given}
+use Rattle.board_history.proofs.Common.{Taken, Closing, Stopped, sooner, only_at, is_halt, is_halt_of, Holders, holders}
+use Rattle.board_history.proofs.Common.{Posts, posts, with_post, IsPost, IsNext, IsLegal}
 use Rattle.std.proofs.Math.Nat.{suc-mul}
 use Rattle.board_history.specs.Entries.{entry_of, entries_of}
-use Rattle.board_history.proofs.Answered.{posts-given, posts-stopped, posts-taken, posts-closing, holders-given, holders-taken, holders-closing, holders-stopped}
+use Rattle.board_history.proofs.Answered.{posts-given, posts-stopped, posts-taken, posts-closing, holders-given}
+use Rattle.board_history.proofs.Answered.{holders-taken, holders-closing, holders-stopped}
 use Rattle.board_history.proofs.Held.{along, given_says}
 
 -- ---- how many items pass a test
@@ -41,9 +50,11 @@ module _ {X : Type 0} where
 
   tally_more : (t t2 : X → Bool) (xs : List X) → ((x : X) → t x ≡ true → t2 x ≡ true) → tally t xs ≤ tally t2 xs
   tally_more t t2 [] more = omega arith
-  tally_more t t2 (x ∷ xs) more = let a = bit_more (t x) (t2 x) (more x) in let b = tally_more t t2 xs more in omega (arith, a, b)
+  tally_more t t2 (x ∷ xs) more = let a = bit_more (t x) (t2 x) (more x) in let b = tally_more t t2 xs more in
+      omega (arith, a, b)
 
-  tally_new : (t t2 : X → Bool) (xs : List X) (x : X) → ((y : X) → t y ≡ true → t2 y ≡ true) → IsIn x xs → t x ≡ false → t2 x ≡ true → tally t xs + 1 ≤ tally t2 xs
+  tally_new : (t t2 : X → Bool) (xs : List X) (x : X) → ((y : X) → t y ≡ true → t2 y ≡ true) → IsIn x xs → t x ≡ false →
+      t2 x ≡ true → tally t xs + 1 ≤ tally t2 xs
   tally_new t t2 [] x more is old new = absurd is
   tally_new t t2 (y ∷ ys) x more is old new =
       elim is [
@@ -92,23 +103,34 @@ tasks_length : (units a n : ℕ) → length (tasks_from units a n) ≡ n * units
 tasks_length units a zero = omega arith
 tasks_length units a (suc n) =
     let l = length-map (range_with_len 0 units) (task a) in
-    omega (arith, length-append (tasks_of units a) (tasks_from units (a + 1) n), l, length-range_with_len 0 units, tasks_length units (a + 1) n, suc-mul n units)
+    omega (
+      arith,
+      length-append (tasks_of units a) (tasks_from units (a + 1) n),
+      l,
+      length-range_with_len 0 units,
+      tasks_length units (a + 1) n,
+      suc-mul n units,
+    )
 
 in_tasks : (units a n m u : ℕ) → a ≤ m → m < a + n → u < units → IsIn (m, u) (tasks_from units a n)
 in_tasks units a zero m u low high unit = absurd (omega (arith, low, high))
 in_tasks units a (suc n) m u low high unit =
     elim (cases_lt a m) [
-      | inl above ↦ in_right (m, u) (tasks_of units a) (tasks_from units (a + 1) n) (in_tasks units (a + 1) n m u (omega (arith, above)) (omega (arith, high)) unit)
+      | inl above ↦ in_right (m, u) (tasks_of units a) (tasks_from units (a + 1) n)
+          (in_tasks units (a + 1) n m u (omega (arith, above)) (omega (arith, high)) unit)
       | inr below ↦
           let same : a ≡ m = omega (arith, below, low) in
-          let here : IsIn (task a u) (tasks_of units a) = in_map (task a) u (range_with_len 0 units) (in_range 0 units u (omega arith) (omega (arith, unit))) in
-          subst (λ (k : ℕ). IsIn (task k u) (tasks_of units a ++ tasks_from units (a + 1) n)) same (in_left (task a u) (tasks_of units a) (tasks_from units (a + 1) n) here)
+          let here : IsIn (task a u) (tasks_of units a) =
+          in_map (task a) u (range_with_len 0 units) (in_range 0 units u (omega arith) (omega (arith, unit))) in
+          subst (λ (k : ℕ). IsIn (task k u) (tasks_of units a ++ tasks_from units (a + 1) n)) same
+          (in_left (task a u) (tasks_of units a) (tasks_from units (a + 1) n) here)
     ]
 
 -- ---- legal histories, event by event
 
 module _ {P R A : Type 0} (g : Rules P R A) (fits : ℕ → P → A → Type 0) where
-  count_more : (t : Event A → Bool) (h : List (Event A)) (e : Event A) → length (filter t (h ++ e ∷ [])) ≡ length (filter t h) + length (filter t (e ∷ []))
+  count_more : (t : Event A → Bool) (h : List (Event A)) (e : Event A) →
+      length (filter t (h ++ e ∷ [])) ≡ length (filter t h) + length (filter t (e ∷ []))
   count_more t h e = ap length (filter-append t h (e ∷ [])) ∙ length-append (filter t h) (filter t (e ∷ []))
 
   abbrev all_tasks : List (ℕ × ℕ)
@@ -134,18 +156,22 @@ module _ {P R A : Type 0} (g : Rules P R A) (fits : ℕ → P → A → Type 0) 
 
   -- ---- posts
 
-  post_new : (p : Posts A) (held : Holders) (c n u : ℕ) (a : A) → IsPost g fits p held c n u a → tally (posted_in p) all_tasks + 1 ≤ tally (posted_in (with_post p c n u a)) all_tasks
+  post_new : (p : Posts A) (held : Holders) (c n u : ℕ) (a : A) → IsPost g fits p held c n u a →
+      tally (posted_in p) all_tasks + 1 ≤ tally (posted_in (with_post p c n u a)) all_tasks
   post_new p held c n u a post =
       let lo = post.from_one in let hi = post.open_ in
-      tally_new (posted_in p) (posted_in (with_post p c n u a)) all_tasks (n, u) (λ t is. some_sooner (p t.0 t.1) (only_at n u (c, a) t.0 t.1) is)
-      (in_tasks g.units 1 g.budget n u (omega (arith, lo)) (omega (arith, hi)) post.unit) (ap is_some post.first) (here n u (c, a) (p n u))
+      tally_new (posted_in p) (posted_in (with_post p c n u a)) all_tasks (n, u)
+      (λ t is. some_sooner (p t.0 t.1) (only_at n u (c, a) t.0 t.1) is)
+      (in_tasks g.units 1 g.budget n u (omega (arith, lo)) (omega (arith, hi)) post.unit) (ap is_some post.first)
+      (here n u (c, a) (p n u))
 
   abbrev PostsCounted : List (Event A) → Type 0
   PostsCounted h = posts_in h ≤ tally (posted_in (posts h)) all_tasks
 
   posts_step : (h : List (Event A)) (e : Event A) → PostsCounted h → IsNext g fits h e → PostsCounted (h ++ e ∷ [])
   posts_step h (Given c n u) now next =
-      let s = ap (λ (p : Posts A). tally (posted_in p) all_tasks) (posts-given h c n u) in omega (arith, now, s, count_more is_post h (Given c n u))
+      let s = ap (λ (p : Posts A). tally (posted_in p) all_tasks) (posts-given h c n u) in
+      omega (arith, now, s, count_more is_post h (Given c n u))
   posts_step h (Taken c n u a) now next =
       let s = ap (λ (p : Posts A). tally (posted_in p) all_tasks) (posts-taken h c n u a) in
       omega (arith, now, s, count_more is_post h (Taken c n u a), post_new (posts h) (holders h) c n u a next.1)
@@ -153,7 +179,8 @@ module _ {P R A : Type 0} (g : Rules P R A) (fits : ℕ → P → A → Type 0) 
       let s = ap (λ (p : Posts A). tally (posted_in p) all_tasks) (posts-closing h c n u a) in
       omega (arith, now, s, count_more is_post h (Closing c n u a), post_new (posts h) (holders h) c n u a next.1)
   posts_step h (Stopped c) now next =
-      let s = ap (λ (p : Posts A). tally (posted_in p) all_tasks) (posts-stopped h c) in omega (arith, now, s, count_more is_post h (Stopped c))
+      let s = ap (λ (p : Posts A). tally (posted_in p) all_tasks) (posts-stopped h c) in
+      omega (arith, now, s, count_more is_post h (Stopped c))
 
   pub posts_most : (h : List (Event A)) → IsLegal g fits h → posts_in h ≤ g.budget * g.units
   posts_most h legal =
@@ -176,11 +203,14 @@ module _ {P R A : Type 0} (g : Rules P R A) (fits : ℕ → P → A → Type 0) 
       (ap is_some (holders-given h c n u n u) ∙ here n u c (holders h n u)) in
       omega (arith, now, more, count_more is_claim h (Given c n u))
   claims_step h (Taken c n u a) now next =
-      let s = ap (λ (k : Holders). tally (held_in k) all_tasks) (holders-taken h c n u a) in omega (arith, now, s, count_more is_claim h (Taken c n u a))
+      let s = ap (λ (k : Holders). tally (held_in k) all_tasks) (holders-taken h c n u a) in
+      omega (arith, now, s, count_more is_claim h (Taken c n u a))
   claims_step h (Closing c n u a) now next =
-      let s = ap (λ (k : Holders). tally (held_in k) all_tasks) (holders-closing h c n u a) in omega (arith, now, s, count_more is_claim h (Closing c n u a))
+      let s = ap (λ (k : Holders). tally (held_in k) all_tasks) (holders-closing h c n u a) in
+      omega (arith, now, s, count_more is_claim h (Closing c n u a))
   claims_step h (Stopped c) now next =
-      let s = ap (λ (k : Holders). tally (held_in k) all_tasks) (holders-stopped h c) in omega (arith, now, s, count_more is_claim h (Stopped c))
+      let s = ap (λ (k : Holders). tally (held_in k) all_tasks) (holders-stopped h c) in
+      omega (arith, now, s, count_more is_claim h (Stopped c))
 
   pub claims_most : (h : List (Event A)) → IsLegal g fits h → claims_in h ≤ g.budget * g.units
   claims_most h legal =
@@ -203,7 +233,8 @@ module _ {P R A : Type 0} (g : Rules P R A) (fits : ℕ → P → A → Type 0) 
   or_left false b h = absurd (false≢true h)
 
   stays_halted : (h : List (Event A)) (e : Event A) (c : ℕ) → halted_in h c ≡ true → halted_in (h ++ e ∷ []) c ≡ true
-  stays_halted h e c is = list_any-append (is_halt_of c) h (e ∷ []) ∙ or_left (halted_in h c) (list_any (is_halt_of c) (e ∷ [])) is
+  stays_halted h e c is = list_any-append (is_halt_of c) h (e ∷ []) ∙
+      or_left (halted_in h c) (list_any (is_halt_of c) (e ∷ [])) is
 
   now_halted : (a : Bool) (c : ℕ) → (a || ((c == c) || false)) ≡ true
   now_halted true c = refl
@@ -211,15 +242,19 @@ module _ {P R A : Type 0} (g : Rules P R A) (fits : ℕ → P → A → Type 0) 
 
   halts_step : (h : List (Event A)) (e : Event A) → HaltsCounted h → IsNext g fits h e → HaltsCounted (h ++ e ∷ [])
   halts_step h (Given c n u) now next =
-      let more = tally_more (halted_in h) (halted_in (h ++ Given c n u ∷ [])) callers (stays_halted h (Given c n u)) in omega (arith, now, more, count_more is_halt h (Given c n u))
+      let more = tally_more (halted_in h) (halted_in (h ++ Given c n u ∷ [])) callers (stays_halted h (Given c n u)) in
+      omega (arith, now, more, count_more is_halt h (Given c n u))
   halts_step h (Taken c n u a) now next =
-      let more = tally_more (halted_in h) (halted_in (h ++ Taken c n u a ∷ [])) callers (stays_halted h (Taken c n u a)) in omega (arith, now, more, count_more is_halt h (Taken c n u a))
+      let more = tally_more (halted_in h) (halted_in (h ++ Taken c n u a ∷ [])) callers
+      (stays_halted h (Taken c n u a)) in omega (arith, now, more, count_more is_halt h (Taken c n u a))
   halts_step h (Closing c n u a) now next =
-      let more = tally_more (halted_in h) (halted_in (h ++ Closing c n u a ∷ [])) callers (stays_halted h (Closing c n u a)) in omega (arith, now, more, count_more is_halt h (Closing c n u a))
+      let more = tally_more (halted_in h) (halted_in (h ++ Closing c n u a ∷ [])) callers
+      (stays_halted h (Closing c n u a)) in omega (arith, now, more, count_more is_halt h (Closing c n u a))
   halts_step h (Stopped c) now next =
       let caller = next.0 in
       let more =
-      tally_new (halted_in h) (halted_in (h ++ Stopped c ∷ [])) callers c (stays_halted h (Stopped c)) (in_range 0 g.callers c (omega arith) (omega (arith, caller))) next.1
+      tally_new (halted_in h) (halted_in (h ++ Stopped c ∷ [])) callers c (stays_halted h (Stopped c))
+      (in_range 0 g.callers c (omega arith) (omega (arith, caller))) next.1
       (list_any-append (is_halt_of c) h (Stopped c ∷ []) ∙ now_halted (halted_in h c) c) in
       omega (arith, now, more, count_more is_halt h (Stopped c))
 
@@ -237,7 +272,8 @@ module _ {P R A : Type 0} (g : Rules P R A) (fits : ℕ → P → A → Type 0) 
   all_counted (Closing c n u a ∷ h) = omega (arith, all_counted h)
   all_counted (Stopped c ∷ h) = omega (arith, all_counted h)
 
-  pub events_most : (h : List (Event A)) → IsLegal g fits h → length (entries_of h) ≤ 2 * (g.budget * g.units) + g.callers
+  pub events_most : (h : List (Event A)) → IsLegal g fits h →
+      length (entries_of h) ≤ 2 * (g.budget * g.units) + g.callers
   events_most h legal =
       let a = claims_most h legal in let b = posts_most h legal in let c = halts_most h legal in
       let l = length-map h (λ (e : Event A). entry_of e) in
@@ -247,4 +283,9 @@ pub events_are_at_most : EventsAreAtMost
 events_are_at_most b h legal =
     let g = rules_of b in
     let fits = IsRight Fits b.market in
-    record { claims = claims_most g fits h legal; posts = posts_most g fits h legal; halts = halts_most g fits h legal; entries = events_most g fits h legal }
+    record {
+      claims = claims_most g fits h legal;
+      posts = posts_most g fits h legal;
+      halts = halts_most g fits h legal;
+      entries = events_most g fits h legal;
+    }

@@ -1,5 +1,7 @@
 -- The list of the callers whose seats are out.
-use Rattle.board_run.proofs.Common.{◌≡◌, ◌≢◌, ℕ, Bool, zero, suc, ◌<◌, ◌⊎◌, inl, inr, ⊎_elim, List, [], ◌∷◌, length, slice_index_or, subst, sym, ◌∙◌, refl, arith, eq-eqb, ne_eqb, ◌==◌, if◌then◌else◌, Contains, without}
+use Rattle.board_run.proofs.Common.{◌≡◌, ◌≢◌, ℕ, Bool, zero, suc, ◌<◌, ◌⊎◌, inl, inr, ⊎_elim, List, [], ◌∷◌, length}
+use Rattle.board_run.proofs.Common.{slice_index_or, subst, sym, ◌∙◌, refl, arith, eq-eqb, ne_eqb, ◌==◌, if◌then◌else◌}
+use Rattle.board_run.proofs.Common.{Contains, without}
 use native.Mathlib.Decide.{ℕ_discrete}
 
 has_head : {A : Type 0} (x : A) (xs : List A) → Contains (x ∷ xs) x
@@ -23,7 +25,8 @@ pub in_one : {A : Type 0} (y x : A) → Contains (y ∷ []) x → y ≡ x
 in_one y x c = ⊎_elim (λ e. e) (λ t. absurd (in_none x t)) (in_cons y [] x c)
 
 -- by cases on whether the first element is the one taken out
-without_cons : (c x : ℕ) (xs : List ℕ) (F : List ℕ → Type 0) → (x ≡ c → F xs) → (x ≢ c → F (x ∷ without c xs)) → F (without c (x ∷ xs))
+without_cons : (c x : ℕ) (xs : List ℕ) (F : List ℕ → Type 0) → (x ≡ c → F xs) → (x ≢ c → F (x ∷ without c xs)) →
+    F (without c (x ∷ xs))
 without_cons c x xs F hit miss = pick (ℕ_discrete x c)
   where
     pick : Dec (x ≡ c) → F (if x == c then xs else x ∷ without c xs)
@@ -33,5 +36,7 @@ without_cons c x xs F hit miss = pick (ℕ_discrete x c)
 -- another than the one taken out stays
 pub in_without : (c : ℕ) (xs : List ℕ) (x : ℕ) → Contains xs x → x ≢ c → Contains (without c xs) x
 in_without c [] x h n = absurd (in_none x h)
-in_without c (y ∷ ys) x h n = without_cons c y ys (λ l. Contains l x) (λ e. ⊎_elim (λ e'. absurd (n (sym e' ∙ e))) (λ t. t) (in_cons y ys x h))
-    (λ m. ⊎_elim (λ e'. subst (Contains (y ∷ without c ys)) e' (has_head y (without c ys))) (λ (t : Contains ys x). has_tail y (without c ys) x (in_without c ys x t n)) (in_cons y ys x h))
+in_without c (y ∷ ys) x h n =
+    without_cons c y ys (λ l. Contains l x) (λ e. ⊎_elim (λ e'. absurd (n (sym e' ∙ e))) (λ t. t) (in_cons y ys x h))
+    (λ m. ⊎_elim (λ e'. subst (Contains (y ∷ without c ys)) e' (has_head y (without c ys)))
+    (λ (t : Contains ys x). has_tail y (without c ys) x (in_without c ys x t n)) (in_cons y ys x h))

@@ -1,5 +1,8 @@
 -- The rule at the start.
-use Rattle.board_share.proofs.Common.{⊎_elim, ◌≡◌, ℕ, zero, suc, ◌<◌, ◌≤◌, [], ◌∷◌, length, subst, sym, ◌∙◌, refl, arith, lit<, All, Contains, some, some-injective, some-ne-none, get_elem?, opening, Content, BoardEvent, caller_of, idle, turn, View, first_view, live_count, Shared, Sees, home, HasTicket, Joined}
+use Rattle.board_share.proofs.Common.{⊎_elim, ◌≡◌, ℕ, zero, suc, ◌<◌, ◌≤◌, [], ◌∷◌, length, subst, sym, ◌∙◌, refl}
+use Rattle.board_share.proofs.Common.{arith, lit<, All, Contains, some, some-injective, some-ne-none, get_elem?}
+use Rattle.board_share.proofs.Common.{opening, Content, BoardEvent, caller_of, idle, turn, View, first_view, live_count}
+use Rattle.board_share.proofs.Common.{Shared, Sees, home, HasTicket, Joined}
 use Rattle.board_share.proofs.SlotSteps.{same_board}
 use Rattle.board_share.proofs.Outs.{in_cons, in_none}
 use Rattle.board_share.proofs.HistorySteps.{sees_all, all_one}
@@ -18,7 +21,8 @@ turn_idle t e = cc
 has_zero : Contains {X = ℕ} (0 ∷ []) 0
 has_zero = (0, lit< tt, refl)
 
-pub starts : (b : Content) → All (λ (e : BoardEvent). (caller_of e) ≡ 0) b.events → Shared b (opening (length b.events ∷ 0 ∷ 0 ∷ []) (b ∷ []) (first_view b))
+pub starts : (b : Content) → All (λ (e : BoardEvent). (caller_of e) ≡ 0) b.events →
+    Shared b (opening (length b.events ∷ 0 ∷ 0 ∷ []) (b ∷ []) (first_view b))
 starts b own = let v : View = first_view b in record {
   serving = 0;
   next = 0;
@@ -34,7 +38,11 @@ starts b own = let v : View = first_view b in record {
     in_range = each_only (λ j x. (t : ℕ) → HasTicket x.stage t → (0 ≤ t) × (t < 0)) v (λ t h. absurd h);
     differ = λ i u j x a c t h k. (only v u i a).0 ∙ sym (only v x j c).0;
   };
-  slot = record { lies = (b, refl); turns = each_only (λ j x. (t : ℕ) → x.stage ≡ turn t → home ≡ _) v (λ t e. absurd (turn_idle t e)) };
+  slot = record {
+    lies = (b, refl);
+    turns =
+        each_only (λ j x. (t : ℕ) → x.stage ≡ turn t → home ≡ _) v (λ t e. absurd (turn_idle t e));
+  };
   counted = record {
     length_is = refl;
     kept = λ c at. same_board (some (some b)) b c refl at;
@@ -49,7 +57,13 @@ starts b own = let v : View = first_view b in record {
     owner_at = refl;
     owner_is = (refl, refl, refl, refl);
     outs = each_only (λ j x. live_count x.stage ≡ 1 → Contains (0 ∷ []) x.caller) v (λ _. has_zero);
-    each_out = λ c h. (0, v, refl, refl, ⊎_elim (λ (e : 0 ≡ c). e) (λ (t : Contains [] c). absurd (in_none c t)) (in_cons 0 [] c h));
+    each_out = λ c h. (
+      0,
+      v,
+      refl,
+      refl,
+      ⊎_elim (λ (e : 0 ≡ c). e) (λ (t : Contains [] c). absurd (in_none c t)) (in_cons 0 [] c h),
+    );
     apart = λ i u j x a c _ _ _. (only v u i a).0 ∙ sym (only v x j c).0;
     differ = ((λ h. let lt = h.1 in absurd (omega arith)), tt);
     below = all_one (λ c. c < 1) 0 (omega arith);

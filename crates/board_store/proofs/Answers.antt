@@ -1,5 +1,7 @@
 -- The answers of a store, and one of them written in place.
-use Rattle.board_store.proofs.Common.{◌≡◌, ℕ, ◌<◌, ◌⊎◌, ℤ, pos, Bool, inl, inr, List, [], length, get_or, sym, ap, ◌∙◌, arith, set, length-set, get_or-set_same, get_or-set_other, int_at, Kept, Answers, nothing, answer_in, answers_in}
+use Rattle.board_store.proofs.Common.{◌≡◌, ℕ, ◌<◌, ◌⊎◌, ℤ, pos, Bool, inl, inr, List, [], length, get_or, sym, ap, ◌∙◌}
+use Rattle.board_store.proofs.Common.{arith, set, length-set, get_or-set_same, get_or-set_other, int_at, Kept, Answers}
+use Rattle.board_store.proofs.Common.{nothing, answer_in, answers_in}
 use Rattle.std.proofs.lemmas.List.FromFn.{fill_by_all, length-map-range_with_len, get_or-map-range_with_len}
 
 pub same_answer : (on on2 : List Bool) (power power2 reserve reserve2 : List ℕ) (earned earned2 : ℤ) → on ≡ on2 →

@@ -1,5 +1,6 @@
 -- Lists of one length, one after another in one list.
-use Rattle.board_store.proofs.Common.{◌≡◌, ℕ, zero, suc, ◌+◌, ◌-◌, ◌*◌, ◌<◌, ◌≤◌, List, [], ◌∷◌, ◌++◌, length, take, drop, refl, sym, ap, ◌∙◌, arith, part}
+use Rattle.board_store.proofs.Common.{◌≡◌, ℕ, zero, suc, ◌+◌, ◌-◌, ◌*◌, ◌<◌, ◌≤◌, List, [], ◌∷◌, ◌++◌, length, take}
+use Rattle.board_store.proofs.Common.{drop, refl, sym, ap, ◌∙◌, arith, part}
 
 -- a window that ends where the change begins
 before_change : {A : Type 0} (xs zs : List A) (i n p : ℕ) → i + n ≤ p → p ≤ length xs →

@@ -1,5 +1,7 @@
 -- A table with one more row put.
-use Rattle.board_store.proofs.Common.{◌≡◌, ℕ, zero, suc, ◌+◌, ◌*◌, ◌<◌, ◌≤◌, List, [], ◌∷◌, ◌++◌, length, take, drop, map, get_or, sym, ap, ◌∙◌, arith, set, length-replicate, map-set, replicate, refl, part, Rows, rows_in, IsTable}
+use Rattle.board_store.proofs.Common.{◌≡◌, ℕ, zero, suc, ◌+◌, ◌*◌, ◌<◌, ◌≤◌, List, [], ◌∷◌, ◌++◌, length, take, drop}
+use Rattle.board_store.proofs.Common.{map, get_or, sym, ap, ◌∙◌, arith, set, length-replicate, map-set, replicate, refl}
+use Rattle.board_store.proofs.Common.{part, Rows, rows_in, IsTable}
 use Rattle.board_store.proofs.Parts.{inside, take_all, others_stay_more, stands_last}
 
 same_maps : {B : Type 0} (f g : ℕ → B) (xs : List ℕ) →

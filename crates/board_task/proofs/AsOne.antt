@@ -1,5 +1,7 @@
 -- Lists and units that were compared part by part.
-use Rattle.board_task.proofs.Common.{◌≡◌, ℕ, suc, ◌<◌, Some, List, [], ◌∷◌, length, map, get_or, refl, sym, ap, ◌∙◌, arith, slice_get, ThermalUnit, Reserved, items_in, Block, HaveSamePowers, HaveSameTimes}
+use Rattle.board_task.proofs.Common.{◌≡◌, ℕ, suc, ◌<◌, Some, List, [], ◌∷◌, length, map, get_or, refl, sym, ap, ◌∙◌}
+use Rattle.board_task.proofs.Common.{arith, slice_get, ThermalUnit, Reserved, items_in, Block, HaveSamePowers}
+use Rattle.board_task.proofs.Common.{HaveSameTimes}
 use Rattle.plain_lists.proofs.ListLaws.{map_item}
 
 -- lists with the same item at each place
@@ -39,7 +41,8 @@ pub one_item : (xs ys : List (Reserved Block)) (k : ℕ) (x y : Reserved Block) 
 one_item xs ys k x y same at at' =
     let here = map_item items_in xs k x at in
     let there = map_item items_in ys k y at' in
-    let both : Some (items_in x) ≡ Some (items_in y) = sym here ∙ ap (λ (l : List (List Block)). slice_get l k) same ∙ there in
+    let both : Some (items_in x) ≡ Some (items_in y) =
+    sym here ∙ ap (λ (l : List (List Block)). slice_get l k) same ∙ there in
     (cc)
 
 -- lists of lists whose items are alike at each place
@@ -51,4 +54,5 @@ same_items [] (y ∷ ys) e h = absurd (omega (arith, e))
 same_items (x ∷ xs) [] e h = absurd (omega (arith, e))
 same_items (x ∷ xs) (y ∷ ys) e h =
     ap (λ (z : List Block). z ∷ map items_in xs) (h 0 x (omega arith))
-    ∙ ap (λ (zs : List (List Block)). items_in y ∷ zs) (same_items xs ys (omega (arith, e)) (λ k d lt. h (suc k) d (omega (arith, lt))))
+    ∙ ap (λ (zs : List (List Block)). items_in y ∷ zs)
+    (same_items xs ys (omega (arith, e)) (λ k d lt. h (suc k) d (omega (arith, lt))))

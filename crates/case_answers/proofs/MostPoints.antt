@@ -1,5 +1,8 @@
 -- The most cost points of the units of a case.
-use Rattle.case_answers.proofs.Common.{◌≡◌, ℕ, suc, ◌+◌, ◌<◌, ◌≤◌, ◌⊎◌, inl, inr, cond, Some, List, [], ◌∷◌, map, length, refl, sym, ap, ◌∙◌, subst, arith, Less, Equal, Greater, All, slice_get, slice_get_within, NamedThermalUnit, named_thermal_of, NamedUnit, All-nil, All-cons}
+use Rattle.case_answers.proofs.Common.{◌≡◌, ℕ, suc, ◌+◌, ◌<◌, ◌≤◌, ◌⊎◌, inl, inr, cond, Some, List, [], ◌∷◌, map}
+use Rattle.case_answers.proofs.Common.{length, refl, sym, ap, ◌∙◌, subst, arith, Less, Equal, Greater, All, slice_get}
+use Rattle.case_answers.proofs.Common.{slice_get_within, NamedThermalUnit, named_thermal_of, NamedUnit, All-nil}
+use Rattle.case_answers.proofs.Common.{All-cons}
 use Rattle.std.specs.Cmp.{nat_cmp_is}
 use Rattle.std.specs.Ordering.{nat_cmp, ord_max, is_lt}
 use Rattle.std.specs.declared.cmp.Ordering.{Ordering}
@@ -33,7 +36,8 @@ HaveFew k most us = (i : ℕ) (x : NamedUnit) → i < k → slice_get us i ≡ S
 some_same : (u x : NamedUnit) → Some u ≡ Some x → u ≡ x
 some_same u x h = cc
 
-pub few_more : (us : List NamedUnit) (k most more : ℕ) (u : NamedUnit) → slice_get us k ≡ Some u → most ≤ more → length u.unit.points.items ≤ more → HaveFew k most us → HaveFew (k + 1) more us
+pub few_more : (us : List NamedUnit) (k most more : ℕ) (u : NamedUnit) → slice_get us k ≡ Some u → most ≤ more →
+    length u.unit.points.items ≤ more → HaveFew k most us → HaveFew (k + 1) more us
 few_more us k most more u at rise fits have i x below there =
     elim (cases_lt i k) [
       | inl before ↦ let old = have i x before there in omega (arith, old, rise)
@@ -43,12 +47,16 @@ few_more us k most more u at rise fits have i x below there =
           subst (λ (y : NamedUnit). length y.unit.points.items ≤ more) same fits
     ]
 
-few_named : (us : List NamedUnit) (most : ℕ) → ((i : ℕ) (x : NamedUnit) → slice_get us i ≡ Some x → length x.unit.points.items ≤ most)
+few_named : (us : List NamedUnit) (most : ℕ) →
+    ((i : ℕ) (x : NamedUnit) → slice_get us i ≡ Some x → length x.unit.points.items ≤ most)
     → All (λ (n : NamedThermalUnit). length n.unit.points ≤ most) (map named_thermal_of us)
 few_named [] most have = All-nil (λ (n : NamedThermalUnit). length n.unit.points ≤ most)
 few_named (u ∷ us) most have =
-    All-cons (λ (n : NamedThermalUnit). length n.unit.points ≤ most) (named_thermal_of u) (map named_thermal_of us) (have 0 u refl) (few_named us most (λ i x there. have (suc i) x there))
+    All-cons (λ (n : NamedThermalUnit). length n.unit.points ≤ most) (named_thermal_of u) (map named_thermal_of us)
+    (have 0 u refl) (few_named us most (λ i x there. have (suc i) x there))
 
-pub all_few : (us : List NamedUnit) (k most : ℕ) → length us ≤ k → HaveFew k most us → All (λ (n : NamedThermalUnit). length n.unit.points ≤ most) (map named_thermal_of us)
+pub all_few : (us : List NamedUnit) (k most : ℕ) → length us ≤ k → HaveFew k most us →
+    All (λ (n : NamedThermalUnit). length n.unit.points ≤ most) (map named_thermal_of us)
 all_few us k most past have =
-    few_named us most (λ i x there. let inside = slice_get_within us i x there in have i x (omega (arith, inside, past)) there)
+    few_named us most (λ i x there. let inside = slice_get_within us i x there in
+    have i x (omega (arith, inside, past)) there)

@@ -1,11 +1,14 @@
 -- What all units of a case earn at best, unit by unit.
-use Rattle.case_answers.proofs.Common.{◌≡◌, ℕ, zero, suc, ◌+◌, ℤ, Some, List, [], ◌∷◌, ◌++◌, take, sym, ap, ◌∙◌, subst, arith, slice_get, AllZip, Answered, AnyUnit, PriceLists, Schedule, Market, units, IsTop, schedule_of, IsFeasible, HasSchedules, CanAnswer}
+use Rattle.case_answers.proofs.Common.{◌≡◌, ℕ, zero, suc, ◌+◌, ℤ, Some, List, [], ◌∷◌, ◌++◌, take, sym, ap, ◌∙◌, subst}
+use Rattle.case_answers.proofs.Common.{arith, slice_get, AllZip, Answered, AnyUnit, PriceLists, Schedule, Market, units}
+use Rattle.case_answers.proofs.Common.{IsTop, schedule_of, IsFeasible, HasSchedules, CanAnswer}
 use Rattle.std.proofs.lemmas.Option.{none-some, same_Some}
 use Rattle.std.proofs.lemmas.Slice.Zip.{all_zipped_more}
 use Rattle.uc_model.specs.declared.units.Flow.{Flow}
 use Rattle.case_answers.specs.Answers.{IsAnswerAt}
 
-one_of : {A B : Type 0} (Q : A → B → Type 0) (us : List A) (ys : List B) (k : ℕ) (u : A) → AllZip Q us ys → slice_get us k ≡ Some u → (y : B) × Q u y
+one_of : {A B : Type 0} (Q : A → B → Type 0) (us : List A) (ys : List B) (k : ℕ) (u : A) → AllZip Q us ys →
+    slice_get us k ≡ Some u → (y : B) × Q u y
 one_of Q [] ys k u h e = absurd (none-some u e)
 one_of Q (x ∷ us) [] k u h e = absurd h
 one_of Q (x ∷ us) (y ∷ ys) zero u h e = (y, subst (λ z. Q z y) (same_Some x u e) h.0)
@@ -19,7 +22,8 @@ can_answer m some k u is none =
     none at.0 at.1
 
 -- the answer of the unit of a number earns what its best schedules do
-pub answer_top : (m : Market) (π : PriceLists) (number : ℕ) (flow : Flow) (a : Answered) (h : IsAnswerAt m π number flow a) → IsTop h.unit π a.earned
+pub answer_top : (m : Market) (π : PriceLists) (number : ℕ) (flow : Flow) (a : Answered)
+    (h : IsAnswerAt m π number flow a) → IsTop h.unit π a.earned
 answer_top m π number flow a h = record { schedule = schedule_of a.response; best = h.fit.best; earns = sym h.earned }
 
 -- ---- one unit after another
@@ -35,7 +39,9 @@ take_item (x ∷ us) (suc k) u e =
 abbrev pub AreTopsTo : Market → PriceLists → ℕ → List ℤ → Type 0
 AreTopsTo m π k earned = AllZip (λ (u : AnyUnit) (e : ℤ). IsTop u π e) (take k (units m)) earned
 
-pub tops_pushed : (m : Market) (π : PriceLists) (k : ℕ) (earned more : List ℤ) (u : AnyUnit) (e : ℤ) → AreTopsTo m π k earned → slice_get (units m) k ≡ Some u → IsTop u π e → more ≡ earned ++ e ∷ [] → AreTopsTo m π (k + 1) more
+pub tops_pushed : (m : Market) (π : PriceLists) (k : ℕ) (earned more : List ℤ) (u : AnyUnit) (e : ℤ) →
+    AreTopsTo m π k earned → slice_get (units m) k ≡ Some u → IsTop u π e → more ≡ earned ++ e ∷ [] →
+    AreTopsTo m π (k + 1) more
 tops_pushed m π k earned more u e so_far at top is =
     let Fits : List AnyUnit → List ℤ → Type 0 = AllZip (λ (u : AnyUnit) (e : ℤ). IsTop u π e) in
     subst (λ (es : List ℤ). Fits (take (k + 1) (units m)) es) (sym is)

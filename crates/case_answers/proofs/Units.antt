@@ -1,5 +1,9 @@
 -- The unit of a number.
-use Rattle.case_answers.proofs.Common.{◌≡◌, ℕ, ◌++◌, Flat, Bid, NamedRenewableUnit, NamedBidUnit, Bool, true, false, Some, List, ◌≤◌, length, refl, sym, subst, arith, All, IsTrue, IsFalse, slice_get, slice_index_or, Answered, ThermalUnit, NamedThermalUnit, AnyUnit, Thermal, PriceLists, Schedule, Market, units, earnings, schedule_of, IsThermalFeasible, item_of, map_item, CanAnswer, points_of, IsBenchOver}
+use Rattle.case_answers.proofs.Common.{◌≡◌, ℕ, ◌++◌, Flat, Bid, NamedRenewableUnit, NamedBidUnit, Bool, true, false}
+use Rattle.case_answers.proofs.Common.{Some, List, ◌≤◌, length, refl, sym, subst, arith, All, IsTrue, IsFalse}
+use Rattle.case_answers.proofs.Common.{slice_get, slice_index_or, Answered, ThermalUnit, NamedThermalUnit, AnyUnit}
+use Rattle.case_answers.proofs.Common.{Thermal, PriceLists, Schedule, Market, units, earnings, schedule_of}
+use Rattle.case_answers.proofs.Common.{IsThermalFeasible, item_of, map_item, CanAnswer, points_of, IsBenchOver}
 use Rattle.std.specs.Prelude.{map, ⊤}
 use Rattle.std.proofs.lemmas.Option.{slice_get-get_or}
 use Rattle.std.proofs.lemmas.List.Elements.{All-map, All-append}
@@ -13,15 +17,19 @@ pub record IsFound (g : ThermalUnit) (π : PriceLists) (a : Answered) : Type 0 w
   pub fit : Fits (Thermal g) π (schedule_of a.response)
   pub earned : a.earned ≡ earnings (Thermal g) π (schedule_of a.response)
 
-pub found : (g : ThermalUnit) (π : PriceLists) (a : Answered) (is_found : Bool) → (((s : Schedule) → IsThermalFeasible g (length π.energy) s → ⊥) → ⊥)
-    → (IsTrue is_found → Fits (Thermal g) π (schedule_of a.response)) → (IsTrue is_found → a.earned ≡ earnings (Thermal g) π (schedule_of a.response))
+pub found : (g : ThermalUnit) (π : PriceLists) (a : Answered) (is_found : Bool) →
+    (((s : Schedule) → IsThermalFeasible g (length π.energy) s → ⊥) → ⊥)
+    → (IsTrue is_found → Fits (Thermal g) π (schedule_of a.response)) →
+    (IsTrue is_found → a.earned ≡ earnings (Thermal g) π (schedule_of a.response))
     → (IsFalse is_found → (s : Schedule) → IsThermalFeasible g (length π.energy) s → ⊥) → IsFound g π a
 found g π a true some fit earned none = record { fit = fit refl; earned = earned refl }
 found g π a false some fit earned none = absurd (some (none refl))
 
 -- it isn't without one, over as many periods as the prices have
-pub some_at : (m : Market) (n k : ℕ) (g : ThermalUnit) → CanAnswer m → n ≡ m.periods → slice_get (units m) k ≡ Some (Thermal g) → ((s : Schedule) → IsThermalFeasible g n s → ⊥) → ⊥
-some_at m n k g can horizon is = subst (λ (p : ℕ). ((s : Schedule) → IsThermalFeasible g p s → ⊥) → ⊥) (sym horizon) (can k (Thermal g) is)
+pub some_at : (m : Market) (n k : ℕ) (g : ThermalUnit) → CanAnswer m → n ≡ m.periods →
+    slice_get (units m) k ≡ Some (Thermal g) → ((s : Schedule) → IsThermalFeasible g n s → ⊥) → ⊥
+some_at m n k g can horizon is =
+    subst (λ (p : ℕ). ((s : Schedule) → IsThermalFeasible g p s → ⊥) → ⊥) (sym horizon) (can k (Thermal g) is)
 
 -- and the bench suffices for it
 abbrev serves : Market → Bench → AnyUnit → Type 0
@@ -37,8 +45,10 @@ serves_each m b over =
     let bs = map (λ (n : NamedBidUnit). Bid n.unit) m.bids in
     All-append P (ts ++ fs) bs
     (All-append P ts fs (All-map P (λ (n : NamedThermalUnit). Thermal n.unit) m.thermal (λ k d inside. item_of
-    (λ (ps : List Point). IsBenchFor m.periods (length ps) b) (points_of m) k (slice_index_or m.thermal k d).unit.points over
-    (map_item (λ (n : NamedThermalUnit). n.unit.points) m.thermal k (slice_index_or m.thermal k d) (slice_get-get_or m.thermal k d inside))))
+    (λ (ps : List Point). IsBenchFor m.periods (length ps) b) (points_of m) k (slice_index_or m.thermal k d).unit.points
+    over
+    (map_item (λ (n : NamedThermalUnit). n.unit.points) m.thermal k (slice_index_or m.thermal k d)
+    (slice_get-get_or m.thermal k d inside))))
     (All-map P (λ (n : NamedRenewableUnit). Flat n.unit) m.flat (λ k d inside. tt)))
     (All-map P (λ (n : NamedBidUnit). Bid n.unit) m.bids (λ k d inside. tt))
 
@@ -48,10 +58,16 @@ bench_at m n k g b over horizon is =
     subst (λ (p : ℕ). IsBenchFor p (length g.points) b) (sym horizon)
     (item_of (serves m b) (units m) k (Thermal g) (serves_each m b over) is)
 
-pub bench_kept : (m : Market) (old new : Bench) → ((periods points : ℕ) → IsBenchFor periods points old → IsBenchFor periods points new) → IsBenchOver m old → IsBenchOver m new
+pub bench_kept : (m : Market) (old new : Bench) →
+    ((periods points : ℕ) → IsBenchFor periods points old → IsBenchFor periods points new) → IsBenchOver m old →
+    IsBenchOver m new
 bench_kept m old new keeps over k d inside = keeps m.periods _ (over k d inside)
 
-pub serves_all : BenchesServeLess → (m : Market) (points : ℕ) (b : Bench) → All (λ (n : NamedThermalUnit). length n.unit.points ≤ points) m.thermal → IsBenchFor m.periods points b → IsBenchOver m b
+pub serves_all : BenchesServeLess → (m : Market) (points : ℕ) (b : Bench) →
+    All (λ (n : NamedThermalUnit). length n.unit.points ≤ points) m.thermal → IsBenchFor m.periods points b →
+    IsBenchOver m b
 serves_all less m points b few over =
-    All-map (λ (ps : List Point). IsBenchFor m.periods (length ps) b) (λ (n : NamedThermalUnit). n.unit.points) m.thermal
-    (λ k d inside. less m.periods points m.periods (length (slice_index_or m.thermal k d).unit.points) b (omega arith) (few k d inside) over)
+    All-map (λ (ps : List Point). IsBenchFor m.periods (length ps) b) (λ (n : NamedThermalUnit). n.unit.points)
+    m.thermal
+    (λ k d inside. less m.periods points m.periods (length (slice_index_or m.thermal k d).unit.points) b (omega arith)
+    (few k d inside) over)

@@ -1,5 +1,7 @@
 -- What follows from draws that are within their ranges.
-use Rattle.case_make.proofs.Common.{◌≡◌, ℕ, zero, suc, ◌+◌, ◌-◌, ◌*◌, ◌≤◌, refl, arith, div-le_self, mul-le-mul_left, min-le_left, min-le_right, mul-le, UnitDraws, Lcg, unit_draws, max_of, min_of, ramp_of, level_of, step_of, high_of, reserve_of, at_of, cost_of, AreDrawn, word_at}
+use Rattle.case_make.proofs.Common.{◌≡◌, ℕ, zero, suc, ◌+◌, ◌-◌, ◌*◌, ◌≤◌, refl, arith, div-le_self, mul-le-mul_left}
+use Rattle.case_make.proofs.Common.{min-le_left, min-le_right, mul-le, UnitDraws, Lcg, unit_draws, max_of, min_of}
+use Rattle.case_make.proofs.Common.{ramp_of, level_of, step_of, high_of, reserve_of, at_of, cost_of, AreDrawn, word_at}
 use Rattle.case_make.proofs.WordLaws.{drawn_within}
 
 -- a part of a whole in hundredths
@@ -38,7 +40,10 @@ high_is d = refl
 
 pub reserve_range : (d : UnitDraws) → (reserve_of d ≤ max_of d - high_of d) × (reserve_of d ≤ ramp_of d - step_of d)
 unfolding reserve_of
-reserve_range d = (min-le_left (max_of d - high_of d) (ramp_of d - step_of d), min-le_right (max_of d - high_of d) (ramp_of d - step_of d))
+reserve_range d = (
+  min-le_left (max_of d - high_of d) (ramp_of d - step_of d),
+  min-le_right (max_of d - high_of d) (ramp_of d - step_of d),
+)
 
 -- all that a schedule needs
 pub record HasRange (d : UnitDraws) : Type 0 where
@@ -113,7 +118,8 @@ cost_range d (suc i) h low =
     let before = cost_range d i h (omega arith) in
     let top = max_range d h in
     let last = at_most d (suc i) h low in
-    let more = mul-le (100 * d.energy_cost * (10 + suc i)) (at_of d (suc i) - at_of d i) 78000 400000 (price_range d i h (omega arith)) (omega (arith, top, last)) in
+    let more = mul-le (100 * d.energy_cost * (10 + suc i)) (at_of d (suc i) - at_of d i) 78000 400000
+    (price_range d i h (omega arith)) (omega (arith, top, last)) in
     omega (arith, before, more)
 
 -- ---- the draws of a unit are within their ranges

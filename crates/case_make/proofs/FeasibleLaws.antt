@@ -1,5 +1,9 @@
 -- A unit that stays as it is before the horizon keeps all rules.
-use Rattle.case_make.proofs.Common.{◌≡◌, ℕ, zero, suc, ◌+◌, ◌<◌, ◌≤◌, ℤ, pos, ◌+ℤ◌, ◌-ℤ◌, ◌≤ℤ◌, Bool, true, false, not, ◌&&◌, if◌then◌else◌, length, slice_index, slice_index_or, refl, ap, sym, ◌∙◌, arith, ints, clamps, Mark, Free, MustOn, MustOff, ThermalUnit, Schedule, on_in, above_min, above_with_reserve, starts_in, stops_in, mark_in, cap_of, IsPeriod, KeepsCommitment, KeepsDispatch, IsThermalFeasible}
+use Rattle.case_make.proofs.Common.{◌≡◌, ℕ, zero, suc, ◌+◌, ◌<◌, ◌≤◌, ℤ, pos, ◌+ℤ◌, ◌-ℤ◌, ◌≤ℤ◌, Bool, true, false, not}
+use Rattle.case_make.proofs.Common.{◌&&◌, if◌then◌else◌, length, slice_index, slice_index_or, refl, ap, sym, ◌∙◌, arith}
+use Rattle.case_make.proofs.Common.{ints, clamps, Mark, Free, MustOn, MustOff, ThermalUnit, Schedule, on_in, above_min}
+use Rattle.case_make.proofs.Common.{above_with_reserve, starts_in, stops_in, mark_in, cap_of, IsPeriod, KeepsCommitment}
+use Rattle.case_make.proofs.Common.{KeepsDispatch, IsThermalFeasible}
 
 -- a schedule over n periods with one flag throughout, which is that of the unit before the horizon; the unit need not
 -- run, and its window is free
@@ -58,8 +62,10 @@ module _ (n : ℕ) (flag : Bool) (u : ThermalUnit) (s : Schedule) (h : Stays n f
     must_run = λ m t p. absurd (not_both u.must_run m h.free);
     stays_on = λ b t p low. same_flag t (within t p) ∙ sym h.before ∙ b;
     stays_off = λ b t p low. same_flag t (within t p) ∙ sym h.before ∙ b;
-    min_up = λ start t b low high p. absurd (let top = within t p in not_both _ b (never_starts start (omega (arith, low, top))));
-    min_down = λ stop t b low high p. absurd (let top = within t p in not_both _ b (never_stops stop (omega (arith, low, top))));
+    min_up = λ start t b low high p. absurd (let top = within t p in
+        not_both _ b (never_starts start (omega (arith, low, top))));
+    min_down = λ stop t b low high p. absurd (let top = within t p in
+        not_both _ b (never_stops stop (omega (arith, low, top))));
     must_on = λ t p m. absurd (free_not_on _ (free_mark t (within t p)) m);
     must_off = λ t p m. absurd (free_not_off _ (free_mark t (within t p)) m);
   }
@@ -81,12 +87,15 @@ pub record IsBetween (n least most ramp low high reserve : ℕ) (u : ThermalUnit
   pub room : high + reserve ≤ most
   pub in_ramp : high + reserve ≤ low + ramp
 
-module _ (n least most ramp low high reserve : ℕ) (u : ThermalUnit) (s : Schedule) (h : Stays n true u s) (b : IsBetween n least most ramp low high reserve u s) where
+module _ (n least most ramp low high reserve : ℕ) (u : ThermalUnit) (s : Schedule) (h : Stays n true u s)
+    (b : IsBetween n least most ramp low high reserve u s) where
   above_is : (k : ℕ) → k < n → above_min u s (suc k) ≡ pos (slice_index s.power k) -ℤ pos least
-  above_is k i = ap (λ (x : Bool). if x then pos (slice_index s.power k) -ℤ u.min_power else pos 0) (h.flags k i) ∙ ap (λ (z : ℤ). pos (slice_index s.power k) -ℤ z) b.least_is
+  above_is k i = ap (λ (x : Bool). if x then pos (slice_index s.power k) -ℤ u.min_power else pos 0) (h.flags k i) ∙
+      ap (λ (z : ℤ). pos (slice_index s.power k) -ℤ z) b.least_is
 
   first_is : above_min u s 0 ≡ pos low -ℤ pos least
-  first_is = ap (λ (x : Bool). if x then u.power0 -ℤ u.min_power else pos 0) h.before ∙ ap (λ (z : ℤ). z -ℤ u.min_power) b.first ∙ ap (λ (z : ℤ). pos low -ℤ z) b.least_is
+  first_is = ap (λ (x : Bool). if x then u.power0 -ℤ u.min_power else pos 0) h.before ∙
+      ap (λ (z : ℤ). z -ℤ u.min_power) b.first ∙ ap (λ (z : ℤ). pos low -ℤ z) b.least_is
 
   above_low : (t : ℕ) → t ≤ n → (pos low -ℤ pos least) ≤ℤ above_min u s t
   above_low zero i = let e = first_is in omega (arith, ints, e)
@@ -121,7 +130,8 @@ module _ (n least most ramp low high reserve : ℕ) (u : ThermalUnit) (s : Sched
       let down = b.down_is in
       record {
         least = λ t p on. let e = above_low t (within n true u s h t p) in omega (arith, ints, e, above);
-        greatest = λ t p on. let e = with_reserve t (within n true u s h t p) in let f = cap_is in omega (arith, ints, e, f, room);
+        greatest = λ t p on. let e = with_reserve t (within n true u s h t p) in let f = cap_is in
+            omega (arith, ints, e, f, room);
         start = λ t p on. absurd (not_both _ on (never_starts n true u s h t (within n true u s h t p)));
         stop = λ t p q on. absurd (not_both _ on (never_stops n true u s h (suc t) (within n true u s h (suc t) q)));
         stop_at_once = λ p on. absurd (not_both _ on (never_stops n true u s h 1 (within n true u s h 1 p)));
@@ -160,10 +170,12 @@ pub record IsIdle (n ramp : ℕ) (u : ThermalUnit) (s : Schedule) : Type 0 where
 module _ (n ramp : ℕ) (u : ThermalUnit) (s : Schedule) (h : Stays n false u s) (b : IsIdle n ramp u s) where
   nothing_above : (t : ℕ) → t ≤ n → above_min u s t ≡ pos 0
   nothing_above zero i = ap (λ (x : Bool). if x then u.power0 -ℤ u.min_power else pos 0) h.before
-  nothing_above (suc k) i = ap (λ (x : Bool). if x then pos (slice_index s.power k) -ℤ u.min_power else pos 0) (h.flags k (omega (arith, i)))
+  nothing_above (suc k) i = ap (λ (x : Bool). if x then pos (slice_index s.power k) -ℤ u.min_power else pos 0)
+      (h.flags k (omega (arith, i)))
 
   nothing_with_reserve : (k : ℕ) → suc k ≤ n → above_with_reserve u s (suc k) ≡ pos 0
-  nothing_with_reserve k i = let e = nothing_above (suc k) i in let f = b.reserves k (omega (arith, i)) in omega (arith, ints, e, f)
+  nothing_with_reserve k i = let e = nothing_above (suc k) i in let f = b.reserves k (omega (arith, i)) in
+      omega (arith, ints, e, f)
 
   idle_dispatch : KeepsDispatch u s
   idle_dispatch =

@@ -1,5 +1,18 @@
 -- A generated case is within the limits, and its schedule is feasible.
-use Rattle.case_make.proofs.Common.{◌≡◌, ℕ, suc, ◌*◌, ◌/◌, ◌<◌, ◌≤◌, ℤ, pos, ◌≤ℤ◌, Bool, true, false, if◌then◌else◌, List, [], ◌∷◌, ◌++◌, map, replicate, length, get_or, slice_index, slice_index_or, refl, ap, sym, ◌∙◌, subst, arith, ints, append-nil, length-replicate, get_or-replicate, All-map, All-nil, length-map-range_with_len, get_or-map-range_with_len, sum_by-cons, All, AllZip, sum_by, range_with_len, Lcg, Free, AnyUnit, Thermal, Flat, NamedThermalUnit, NamedRenewableUnit, NamedBidUnit, Schedule, Market, units, IsPower, IsThermalUnit, IsRenewableUnit, IsBidUnit, IsMarket, reserve_in, IsThermalFeasible, IsFeasible, int_at, total, zip_with, UnitDraws, unit_draws, max_of, min_of, ramp_of, is_on, level_of, high_of, reserve_of, is_high, power_at, unit_of, running, idle, unit_schedule, most_powers, renewable_of, IsSmall, unit_place, named_unit, unit_plan, thermal_units, thermal_plan, renewable_place, named_renewable, renewable_plan, renewable_units, renewable_plans, power_sum, reserve_sum, demand_of, requirement_of, plan_from, market_from, AreDrawn}
+use Rattle.case_make.proofs.Common.{◌≡◌, ℕ, suc, ◌*◌, ◌/◌, ◌<◌, ◌≤◌, ℤ, pos, ◌≤ℤ◌, Bool, true, false, if◌then◌else◌}
+use Rattle.case_make.proofs.Common.{List, [], ◌∷◌, ◌++◌, map, replicate, length, get_or, slice_index, slice_index_or}
+use Rattle.case_make.proofs.Common.{refl, ap, sym, ◌∙◌, subst, arith, ints, append-nil, length-replicate}
+use Rattle.case_make.proofs.Common.{get_or-replicate, All-map, All-nil, length-map-range_with_len}
+use Rattle.case_make.proofs.Common.{get_or-map-range_with_len, sum_by-cons, All, AllZip, sum_by, range_with_len, Lcg}
+use Rattle.case_make.proofs.Common.{Free, AnyUnit, Thermal, Flat, NamedThermalUnit, NamedRenewableUnit, NamedBidUnit}
+use Rattle.case_make.proofs.Common.{Schedule, Market, units, IsPower, IsThermalUnit, IsRenewableUnit, IsBidUnit}
+use Rattle.case_make.proofs.Common.{IsMarket, reserve_in, IsThermalFeasible, IsFeasible, int_at, total, zip_with}
+use Rattle.case_make.proofs.Common.{UnitDraws, unit_draws, max_of, min_of, ramp_of, is_on, level_of, high_of}
+use Rattle.case_make.proofs.Common.{reserve_of, is_high, power_at, unit_of, running, idle, unit_schedule, most_powers}
+use Rattle.case_make.proofs.Common.{renewable_of, IsSmall, unit_place, named_unit, unit_plan, thermal_units}
+use Rattle.case_make.proofs.Common.{thermal_plan, renewable_place, named_renewable, renewable_plan, renewable_units}
+use Rattle.case_make.proofs.Common.{renewable_plans, power_sum, reserve_sum, demand_of, requirement_of, plan_from}
+use Rattle.case_make.proofs.Common.{market_from, AreDrawn}
 use Rattle.uc_model.specs.Earnings.{supply_in}
 use Rattle.uc_model.specs.Systems.{total_power, total_reserve, IsFeasiblePlan}
 use Rattle.case_make.proofs.Bounds.{has_range, draws_within}
@@ -21,10 +34,12 @@ power_between low high k h =
       | false ↦ (omega arith, h)
     ]
 
-power_is : (low high k : ℕ) → k < 48 → slice_index (map (power_at low high) (range_with_len 0 48)) k ≡ power_at low high k
+power_is : (low high k : ℕ) → k < 48 →
+    slice_index (map (power_at low high) (range_with_len 0 48)) k ≡ power_at low high k
 power_is low high k i = get_or-map-range_with_len (power_at low high) 0 48 k k 0 i (omega arith)
 
-stays_on : (d : UnitDraws) → is_on d ≡ true → Stays 48 true (unit_of d) (running (level_of d) (high_of d) (reserve_of d))
+stays_on : (d : UnitDraws) → is_on d ≡ true →
+    Stays 48 true (unit_of d) (running (level_of d) (high_of d) (reserve_of d))
 unfolding unit_of running
 stays_on d e = record {
   on = length-replicate 48 true;
@@ -37,14 +52,17 @@ stays_on d e = record {
 }
 
 between : (d : UnitDraws) → AreDrawn d → is_on d ≡ true →
-    IsBetween 48 (min_of d) (max_of d) (ramp_of d) (level_of d) (high_of d) (reserve_of d) (unit_of d) (running (level_of d) (high_of d) (reserve_of d))
+    IsBetween 48 (min_of d) (max_of d) (ramp_of d) (level_of d) (high_of d) (reserve_of d) (unit_of d)
+    (running (level_of d) (high_of d) (reserve_of d))
 unfolding unit_of running
 between d h e =
     let r = has_range d h in
     let rises : level_of d ≤ high_of d = omega (arith, r) in
     record {
-      powers_low = λ k i. let p = power_is (level_of d) (high_of d) k i in let q = power_between (level_of d) (high_of d) k rises in omega (arith, p, q);
-      powers_high = λ k i. let p = power_is (level_of d) (high_of d) k i in let q = power_between (level_of d) (high_of d) k rises in omega (arith, p, q);
+      powers_low = λ k i. let p = power_is (level_of d) (high_of d) k i in
+          let q = power_between (level_of d) (high_of d) k rises in omega (arith, p, q);
+      powers_high = λ k i. let p = power_is (level_of d) (high_of d) k i in
+          let q = power_between (level_of d) (high_of d) k rises in omega (arith, p, q);
       reserves = λ k i. get_or-replicate 48 k (reserve_of d) 0 i;
       first = ap (λ (b : Bool). pos (if b then level_of d else 0)) e;
       least_is = refl;
@@ -81,24 +99,29 @@ is_idle d = record {
 pub unit_feasible : (d : UnitDraws) → AreDrawn d → IsThermalFeasible (unit_of d) 48 (unit_schedule d)
 unfolding unit_schedule
 unit_feasible d h =
-    elim (is_on d) as (λ (b : Bool). is_on d ≡ b → IsThermalFeasible (unit_of d) 48 (if b then running (level_of d) (high_of d) (reserve_of d) else idle)) [
-      | true ↦ λ e. on_feasible 48 (min_of d) (max_of d) (ramp_of d) (level_of d) (high_of d) (reserve_of d) (unit_of d) _ (stays_on d e) (between d h e)
+    elim (is_on d) as (λ (b : Bool). is_on d ≡ b →
+    IsThermalFeasible (unit_of d) 48 (if b then running (level_of d) (high_of d) (reserve_of d) else idle)) [
+      | true ↦ λ e. on_feasible 48 (min_of d) (max_of d) (ramp_of d) (level_of d) (high_of d) (reserve_of d) (unit_of d)
+          _ (stays_on d e) (between d h e)
       | false ↦ λ e. off_feasible 48 (ramp_of d) (unit_of d) idle (stays_off d e) (is_idle d)
     ] refl
 
 -- ---- all units
 
-all_zip_map : {A B C : Type 0} → (R : B → C → Type 0) (view : A → B) (f : ℕ → A) (g : ℕ → C) → ((k : ℕ) → R (view (f k)) (g k)) → (ks : List ℕ) → AllZip R (map view (map f ks)) (map g ks)
+all_zip_map : {A B C : Type 0} → (R : B → C → Type 0) (view : A → B) (f : ℕ → A) (g : ℕ → C) →
+    ((k : ℕ) → R (view (f k)) (g k)) → (ks : List ℕ) → AllZip R (map view (map f ks)) (map g ks)
 all_zip_map R view f g h [] = tt
 all_zip_map R view f g h (k ∷ ks) = (h k, all_zip_map R view f g h ks)
 
-all_zip_append : {A B : Type 0} → (R : A → B → Type 0) (xs xs' : List A) (ys ys' : List B) → AllZip R xs ys → AllZip R xs' ys' → AllZip R (xs ++ xs') (ys ++ ys')
+all_zip_append : {A B : Type 0} → (R : A → B → Type 0) (xs xs' : List A) (ys ys' : List B) → AllZip R xs ys →
+    AllZip R xs' ys' → AllZip R (xs ++ xs') (ys ++ ys')
 all_zip_append R [] xs' [] ys' h i = i
 all_zip_append R [] xs' (y ∷ ys) ys' h i = absurd h
 all_zip_append R (x ∷ xs) xs' [] ys' h i = absurd h
 all_zip_append R (x ∷ xs) xs' (y ∷ ys) ys' h i = (h.0, all_zip_append R xs xs' ys ys' h.1 i)
 
-all_zip_weaker : {A B : Type 0} → (R S : A → B → Type 0) → ((x : A) (y : B) → R x y → S x y) → (xs : List A) (ys : List B) → AllZip R xs ys → AllZip S xs ys
+all_zip_weaker : {A B : Type 0} → (R S : A → B → Type 0) → ((x : A) (y : B) → R x y → S x y) →
+    (xs : List A) (ys : List B) → AllZip R xs ys → AllZip S xs ys
 all_zip_weaker R S w [] [] h = tt
 all_zip_weaker R S w [] (y ∷ ys) h = absurd h
 all_zip_weaker R S w (x ∷ xs) [] h = absurd h
@@ -117,7 +140,10 @@ any_renewable n = Flat n.unit
 
 thermal_gives : (g : Lcg) (k : ℕ) → Gives (any_thermal (named_unit g k)) (unit_plan g k)
 unfolding named_unit unit_plan
-thermal_gives g k = record { feasible = unit_feasible (unit_draws g (unit_place k)) (draws_within g (unit_place k)); supply = λ i. refl }
+thermal_gives g k = record {
+  feasible = unit_feasible (unit_draws g (unit_place k)) (draws_within g (unit_place k));
+  supply = λ i. refl;
+}
 
 renewable_gives : (g : Lcg) (place k : ℕ) → Gives (any_renewable (named_renewable g place k)) (renewable_plan g place k)
 unfolding named_renewable renewable_plan
@@ -128,23 +154,29 @@ renewable_gives g place k = record {
 
 all_thermal_give : (g : Lcg) (count : ℕ) → AllZip Gives (map any_thermal (thermal_units g count)) (thermal_plan g count)
 unfolding thermal_units thermal_plan
-all_thermal_give g count = all_zip_map Gives any_thermal (named_unit g) (unit_plan g) (thermal_gives g) (range_with_len 0 count)
+all_thermal_give g count = all_zip_map Gives any_thermal (named_unit g) (unit_plan g) (thermal_gives g)
+    (range_with_len 0 count)
 
-all_renewable_give : (g : Lcg) (place count : ℕ) → AllZip Gives (map any_renewable (renewable_units g place count)) (renewable_plans g place count)
+all_renewable_give : (g : Lcg) (place count : ℕ) →
+    AllZip Gives (map any_renewable (renewable_units g place count)) (renewable_plans g place count)
 unfolding renewable_units renewable_plans
-all_renewable_give g place count = all_zip_map Gives any_renewable (named_renewable g place) (renewable_plan g place) (renewable_gives g place) (range_with_len 0 count)
+all_renewable_give g place count = all_zip_map Gives any_renewable (named_renewable g place) (renewable_plan g place)
+    (renewable_gives g place) (range_with_len 0 count)
 
 all_give : (g : Lcg) → AllZip Gives (units (market_from g)) (plan_from g)
 unfolding market_from plan_from
 all_give g =
     let thermal = map any_thermal (thermal_units g 73) in
     let flat = map any_renewable (renewable_units g (9 * 73) 81) in
-    let both = all_zip_append Gives thermal flat (thermal_plan g 73) (renewable_plans g (9 * 73) 81) (all_thermal_give g 73) (all_renewable_give g (9 * 73) 81) in
-    subst (λ (us : List AnyUnit). AllZip Gives us (thermal_plan g 73 ++ renewable_plans g (9 * 73) 81)) (sym (append-nil (thermal ++ flat))) both
+    let both = all_zip_append Gives thermal flat (thermal_plan g 73) (renewable_plans g (9 * 73) 81)
+    (all_thermal_give g 73) (all_renewable_give g (9 * 73) 81) in
+    subst (λ (us : List AnyUnit). AllZip Gives us (thermal_plan g 73 ++ renewable_plans g (9 * 73) 81))
+    (sym (append-nil (thermal ++ flat))) both
 
 -- ---- sums
 
-total_is : (f : AnyUnit → Schedule → ℤ) (w : Schedule → ℕ) (us : List AnyUnit) (plan : List Schedule) → AllZip (λ u s. f u s ≡ pos (w s)) us plan → total (zip_with f us plan) ≡ pos (sum_by w plan)
+total_is : (f : AnyUnit → Schedule → ℤ) (w : Schedule → ℕ) (us : List AnyUnit) (plan : List Schedule) →
+    AllZip (λ u s. f u s ≡ pos (w s)) us plan → total (zip_with f us plan) ≡ pos (sum_by w plan)
 total_is f w [] [] h = refl
 total_is f w [] (s ∷ plan) h = absurd h
 total_is f w (u ∷ us) [] h = absurd h
@@ -154,12 +186,14 @@ total_is f w (u ∷ us) (s ∷ plan) h =
     let more = sum_by-cons w s plan in
     omega (arith, ints, e, rest, more)
 
-power_total : (us : List AnyUnit) (plan : List Schedule) (k : ℕ) → AllZip Gives us plan → total_power us plan k ≡ pos (power_sum plan k)
+power_total : (us : List AnyUnit) (plan : List Schedule) (k : ℕ) → AllZip Gives us plan →
+    total_power us plan k ≡ pos (power_sum plan k)
 power_total us plan k h =
     total_is (λ (u : AnyUnit) (s : Schedule). supply_in u s (suc k)) (λ (s : Schedule). slice_index s.power k) us plan
     (all_zip_weaker Gives (λ u s. supply_in u s (suc k) ≡ pos (slice_index s.power k)) (λ u s g. g.supply k) us plan h)
 
-reserve_total : (us : List AnyUnit) (plan : List Schedule) (k : ℕ) → AllZip Gives us plan → total_reserve us plan k ≡ pos (reserve_sum plan k)
+reserve_total : (us : List AnyUnit) (plan : List Schedule) (k : ℕ) → AllZip Gives us plan →
+    total_reserve us plan k ≡ pos (reserve_sum plan k)
 reserve_total us plan k h =
     total_is (λ (u : AnyUnit) (s : Schedule). reserve_in s (suc k)) (λ (s : Schedule). slice_index s.reserve k) us plan
     (all_zip_weaker Gives (λ u s. reserve_in s (suc k) ≡ pos (slice_index s.reserve k)) (λ u s g. refl) us plan h)
@@ -168,9 +202,11 @@ demand_at : (plan : List Schedule) (k : ℕ) → k < 48 → int_at (demand_of pl
 unfolding demand_of
 demand_at plan k low = get_or-map-range_with_len (λ (i : ℕ). pos (power_sum plan i)) 0 48 k k (pos 0) low (omega arith)
 
-requirement_at : (plan : List Schedule) (k : ℕ) → k < 48 → int_at (requirement_of plan) k ≡ pos (reserve_sum plan k * 9 / 10)
+requirement_at : (plan : List Schedule) (k : ℕ) → k < 48 →
+    int_at (requirement_of plan) k ≡ pos (reserve_sum plan k * 9 / 10)
 unfolding requirement_of
-requirement_at plan k low = get_or-map-range_with_len (λ (i : ℕ). pos (reserve_sum plan i * 9 / 10)) 0 48 k k (pos 0) low (omega arith)
+requirement_at plan k low = get_or-map-range_with_len (λ (i : ℕ). pos (reserve_sum plan i * 9 / 10)) 0 48 k k (pos 0)
+    low (omega arith)
 
 feasible_by : (us : List AnyUnit) (plan : List Schedule) → AllZip Gives us plan → (k : ℕ) → k < 48 →
     (total_power us plan k ≡ int_at (demand_of plan) k) × (int_at (requirement_of plan) k ≤ℤ total_reserve us plan k)
@@ -179,11 +215,15 @@ feasible_by us plan h k low =
     let given = reserve_total us plan k h in
     (power_total us plan k h ∙ sym (demand_at plan k low), omega (arith, ints, required, given))
 
-market_plan_feasible : (m : Market) (plan : List Schedule) → m.periods ≡ 48 → m.demand ≡ demand_of plan → m.reserves ≡ requirement_of plan → AllZip Gives (units m) plan → IsFeasiblePlan m plan
+market_plan_feasible : (m : Market) (plan : List Schedule) → m.periods ≡ 48 → m.demand ≡ demand_of plan →
+    m.reserves ≡ requirement_of plan → AllZip Gives (units m) plan → IsFeasiblePlan m plan
 market_plan_feasible m plan count demand reserves h = record {
-  feasible = all_zip_weaker Gives (λ u s. IsFeasible u m.periods s) (λ u s g. subst (λ (n : ℕ). IsFeasible u n s) (sym count) g.feasible) (units m) plan h;
-  balance = λ k low. (feasible_by (units m) plan h k (subst (λ (n : ℕ). k < n) count low)).0 ∙ sym (ap (λ (xs : List ℤ). int_at xs k) demand);
-  reserve = λ k low. subst (λ (xs : List ℤ). int_at xs k ≤ℤ total_reserve (units m) plan k) (sym reserves) (feasible_by (units m) plan h k (subst (λ (n : ℕ). k < n) count low)).1;
+  feasible = all_zip_weaker Gives (λ u s. IsFeasible u m.periods s)
+      (λ u s g. subst (λ (n : ℕ). IsFeasible u n s) (sym count) g.feasible) (units m) plan h;
+  balance = λ k low. (feasible_by (units m) plan h k (subst (λ (n : ℕ). k < n) count low)).0 ∙
+      sym (ap (λ (xs : List ℤ). int_at xs k) demand);
+  reserve = λ k low. subst (λ (xs : List ℤ). int_at xs k ≤ℤ total_reserve (units m) plan k) (sym reserves)
+      (feasible_by (units m) plan h k (subst (λ (n : ℕ). k < n) count low)).1;
 }
 
 pub made_feasible : (g : Lcg) → IsFeasiblePlan (market_from g) (plan_from g)
@@ -200,13 +240,15 @@ demand_limited : (plan : List Schedule) → IsSmall 100000000 plan → All IsPow
 unfolding demand_of
 demand_limited plan h =
     All-map IsPower (λ (k : ℕ). pos (power_sum plan k)) (range_with_len 0 48)
-    (λ k d low. let p = h.powers (get_or (range_with_len 0 48) k d) in record { at_least = omega (arith, ints); at_most = omega (arith, ints, p) })
+    (λ k d low. let p = h.powers (get_or (range_with_len 0 48) k d) in
+    record { at_least = omega (arith, ints); at_most = omega (arith, ints, p) })
 
 requirement_limited : (plan : List Schedule) → IsSmall 100000000 plan → All IsPower (requirement_of plan)
 unfolding requirement_of
 requirement_limited plan h =
     All-map IsPower (λ (k : ℕ). pos (reserve_sum plan k * 9 / 10)) (range_with_len 0 48)
-    (λ k d low. let p = h.reserves (get_or (range_with_len 0 48) k d) in record { at_least = omega (arith, ints); at_most = omega (arith, ints, p) })
+    (λ k d low. let p = h.reserves (get_or (range_with_len 0 48) k d) in
+    record { at_least = omega (arith, ints); at_most = omega (arith, ints, p) })
 
 length-demand : (plan : List Schedule) → length (demand_of plan) ≡ 48
 unfolding demand_of
@@ -224,16 +266,22 @@ length-least : (powers : List ℕ) → length (renewable_of powers).least ≡ 48
 unfolding renewable_of
 length-least powers = length-replicate 48 (pos 0)
 
-thermal_limited : (g : Lcg) (count : ℕ) → All (λ (n : NamedThermalUnit). IsThermalUnit n.unit × (length n.unit.window ≡ 48)) (thermal_units g count)
+thermal_limited : (g : Lcg) (count : ℕ) →
+    All (λ (n : NamedThermalUnit). IsThermalUnit n.unit × (length n.unit.window ≡ 48)) (thermal_units g count)
 unfolding thermal_units named_unit
 thermal_limited g count =
-    All-map (λ (n : NamedThermalUnit). IsThermalUnit n.unit × (length n.unit.window ≡ 48)) (named_unit g) (range_with_len 0 count)
-    (λ k d low. let p : ℕ = unit_place (get_or (range_with_len 0 count) k d) in (unit_limited (unit_draws g p) (draws_within g p), length-window (unit_draws g p)))
+    All-map (λ (n : NamedThermalUnit). IsThermalUnit n.unit × (length n.unit.window ≡ 48)) (named_unit g)
+    (range_with_len 0 count)
+    (λ k d low. let p : ℕ = unit_place (get_or (range_with_len 0 count) k d) in
+    (unit_limited (unit_draws g p) (draws_within g p), length-window (unit_draws g p)))
 
-renewables_limited : (g : Lcg) (place count : ℕ) → All (λ (n : NamedRenewableUnit). IsRenewableUnit n.unit × (length n.unit.least ≡ 48)) (renewable_units g place count)
+renewables_limited : (g : Lcg) (place count : ℕ) →
+    All (λ (n : NamedRenewableUnit). IsRenewableUnit n.unit × (length n.unit.least ≡ 48))
+    (renewable_units g place count)
 unfolding renewable_units named_renewable
 renewables_limited g place count =
-    All-map (λ (n : NamedRenewableUnit). IsRenewableUnit n.unit × (length n.unit.least ≡ 48)) (named_renewable g place) (range_with_len 0 count)
+    All-map (λ (n : NamedRenewableUnit). IsRenewableUnit n.unit × (length n.unit.least ≡ 48)) (named_renewable g place)
+    (range_with_len 0 count)
     (λ k d low.
     let p : ℕ = renewable_place place (get_or (range_with_len 0 count) k d) in
     (renewable_limited (most_powers g p) (powers_within g p), length-least (most_powers g p)))
@@ -266,6 +314,8 @@ made_limited g =
       bids = All-nil (λ (n : NamedBidUnit). IsBidUnit n.unit × (length n.unit.blocks ≡ 48));
     }
 
-pub feasible_for : (g : Lcg) (m : Market) (plan : List Schedule) → m ≡ market_from g → plan ≡ plan_from g → IsFeasiblePlan m plan
+pub feasible_for : (g : Lcg) (m : Market) (plan : List Schedule) → m ≡ market_from g → plan ≡ plan_from g →
+    IsFeasiblePlan m plan
 feasible_for g m plan e f =
-    subst (λ (x : Market). IsFeasiblePlan x plan) (sym e) (subst (λ (p : List Schedule). IsFeasiblePlan (market_from g) p) (sym f) (made_feasible g))
+    subst (λ (x : Market). IsFeasiblePlan x plan) (sym e)
+    (subst (λ (p : List Schedule). IsFeasiblePlan (market_from g) p) (sym f) (made_feasible g))

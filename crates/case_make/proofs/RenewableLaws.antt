@@ -1,5 +1,10 @@
 -- A generated renewable unit is within the limits, and giving its greatest power is feasible.
-use Rattle.case_make.proofs.Common.{◌≡◌, ℕ, zero, suc, ◌+◌, ◌*◌, ◌≤◌, ℤ, pos, true, false, List, [], ◌∷◌, map, replicate, get_or, slice_index, refl, sym, ◌∙◌, arith, ints, length-map, length-replicate, get_or-replicate, All-map, All-weaker, All-replicate, length-map-range_with_len, mul-le-mul_left, range_with_len, Lcg, RenewableUnit, IsPower, IsRenewableUnit, IsRenewableFeasible, int_at, capacity_at, most_at, most_powers, renewable_of, full, ArePowers, draw, word_at}
+use Rattle.case_make.proofs.Common.{◌≡◌, ℕ, zero, suc, ◌+◌, ◌*◌, ◌≤◌, ℤ, pos, true, false, List, [], ◌∷◌, map}
+use Rattle.case_make.proofs.Common.{replicate, get_or, slice_index, refl, sym, ◌∙◌, arith, ints, length-map}
+use Rattle.case_make.proofs.Common.{length-replicate, get_or-replicate, All-map, All-weaker, All-replicate}
+use Rattle.case_make.proofs.Common.{length-map-range_with_len, mul-le-mul_left, range_with_len, Lcg, RenewableUnit}
+use Rattle.case_make.proofs.Common.{IsPower, IsRenewableUnit, IsRenewableFeasible, int_at, capacity_at, most_at}
+use Rattle.case_make.proofs.Common.{most_powers, renewable_of, full, ArePowers, draw, word_at}
 use Rattle.case_make.proofs.WordLaws.{drawn_within}
 
 pub most_low : (g : Lcg) (place k : ℕ) → most_at g place k ≤ 100000
@@ -14,7 +19,8 @@ pub powers_within : (g : Lcg) (place : ℕ) → ArePowers (most_powers g place)
 unfolding most_powers
 powers_within g place = record {
   count = length-map-range_with_len (most_at g place) 0 48;
-  most = All-map (λ x. x ≤ 100000) (most_at g place) (range_with_len 0 48) (λ k d low. most_low g place (get_or (range_with_len 0 48) k d));
+  most = All-map (λ x. x ≤ 100000) (most_at g place) (range_with_len 0 48)
+      (λ k d low. most_low g place (get_or (range_with_len 0 48) k d));
 }
 
 -- the numbers of a list of powers
@@ -31,11 +37,14 @@ renewable_limited powers h =
     record {
       lengths = least ∙ sym most;
       horizon = record { at_least = omega (arith, least); at_most = omega (arith, least) };
-      least = All-replicate IsPower 48 (pos 0) (record { at_least = omega (arith, ints); at_most = omega (arith, ints) });
+      least = All-replicate IsPower 48 (pos 0)
+          (record { at_least = omega (arith, ints); at_most = omega (arith, ints) });
       most = All-map IsPower pos powers
-          (All-weaker (λ x. x ≤ 100000) (λ x. IsPower (pos x)) (λ x low. record { at_least = omega (arith, ints); at_most = omega (arith, ints, low) }) powers h.most);
+          (All-weaker (λ x. x ≤ 100000) (λ x. IsPower (pos x))
+          (λ x low. record { at_least = omega (arith, ints); at_most = omega (arith, ints, low) }) powers h.most);
       range = λ k low.
-          let e : int_at (replicate 48 (pos 0)) k ≡ pos 0 = get_or-replicate 48 k (pos 0) (pos 0) (omega (arith, least, low)) in
+          let e : int_at (replicate 48 (pos 0)) k ≡ pos 0 =
+          get_or-replicate 48 k (pos 0) (pos 0) (omega (arith, least, low)) in
           let f = number_at powers k in
           omega (arith, ints, e, f);
     }

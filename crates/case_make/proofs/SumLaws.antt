@@ -1,11 +1,19 @@
 -- The sums of generated schedules, and how large they can be.
-use Rattle.case_make.proofs.Common.{◌≡◌, ℕ, ◌*◌, ◌<◌, ◌≤◌, ℤ, pos, Bool, true, false, if◌then◌else◌, List, [], ◌++◌, map, replicate, length, get_or, slice_index, ap, sym, ◌∙◌, inl, inr, arith, length-replicate, get_or-replicate, get_or_past, All-map, length-map-range_with_len, get_or-map-range_with_len, sum_by-append, sum_by-le, All, range_with_len, Lcg, Schedule, int_at, UnitDraws, unit_draws, is_on, level_of, high_of, reserve_of, is_high, power_at, running, idle, unit_schedule, most_powers, full, AreSums, IsSmall, IsSteady, unit_place, unit_plan, thermal_plan, renewable_place, renewable_plan, renewable_plans, power_sum, reserve_sum, AreDrawn, ArePowers}
+use Rattle.case_make.proofs.Common.{◌≡◌, ℕ, ◌*◌, ◌<◌, ◌≤◌, ℤ, pos, Bool, true, false, if◌then◌else◌, List, [], ◌++◌}
+use Rattle.case_make.proofs.Common.{map, replicate, length, get_or, slice_index, ap, sym, ◌∙◌, inl, inr, arith}
+use Rattle.case_make.proofs.Common.{length-replicate, get_or-replicate, get_or_past, All-map, length-map-range_with_len}
+use Rattle.case_make.proofs.Common.{get_or-map-range_with_len, sum_by-append, sum_by-le, All, range_with_len, Lcg}
+use Rattle.case_make.proofs.Common.{Schedule, int_at, UnitDraws, unit_draws, is_on, level_of, high_of, reserve_of}
+use Rattle.case_make.proofs.Common.{is_high, power_at, running, idle, unit_schedule, most_powers, full, AreSums}
+use Rattle.case_make.proofs.Common.{IsSmall, IsSteady, unit_place, unit_plan, thermal_plan, renewable_place}
+use Rattle.case_make.proofs.Common.{renewable_plan, renewable_plans, power_sum, reserve_sum, AreDrawn, ArePowers}
 use Rattle.std.proofs.lemmas.Bool.{cases_lt}
 use Rattle.case_make.proofs.Bounds.{has_range, draws_within}
 use Rattle.case_make.proofs.RenewableLaws.{powers_within}
 
 -- no schedule has no power
-pub no_sums : (plan : List Schedule) (powers : List ℤ) → plan ≡ [] → powers ≡ replicate 48 (pos 0) → AreSums plan powers 0
+pub no_sums : (plan : List Schedule) (powers : List ℤ) → plan ≡ [] → powers ≡ replicate 48 (pos 0) →
+    AreSums plan powers 0
 no_sums plan powers none is = record {
   count = ap length is ∙ length-replicate 48 (pos 0);
   powers_are = λ k low.
@@ -34,7 +42,8 @@ unfolding power_at
 power_low level high most k h i =
     elim (is_high k) as (λ (b : Bool). (if b then high else level) ≤ most) [ true ↦ i | false ↦ h ]
 
-pub running_within : (level high reserve most : ℕ) → level ≤ most → high ≤ most → reserve ≤ most → IsWithin most (running level high reserve)
+pub running_within : (level high reserve most : ℕ) → level ≤ most → high ≤ most → reserve ≤ most →
+    IsWithin most (running level high reserve)
 unfolding running
 running_within level high reserve most h i j = record {
   steady = record {
@@ -43,8 +52,12 @@ running_within level high reserve most h i j = record {
     same = λ k low. get_or-replicate 48 k reserve 0 low ∙ sym (get_or-replicate 48 0 reserve 0 (omega arith));
   };
   power = λ k. by_lt k 48
-      (λ low. let e = get_or-map-range_with_len (power_at level high) 0 48 k k 0 low (omega arith) in let f = power_low level high most k h i in omega (arith, e, f))
-      (λ past. let e = get_or_past (map (power_at level high) (range_with_len 0 48)) k 0 (omega (arith, past, length-map-range_with_len (power_at level high) 0 48)) in omega (arith, e));
+      (λ low. let e = get_or-map-range_with_len (power_at level high) 0 48 k k 0 low (omega arith) in
+      let f = power_low level high most k h i in omega (arith, e, f))
+      (λ past.
+      let e = get_or_past (map (power_at level high) (range_with_len 0 48)) k 0
+      (omega (arith, past, length-map-range_with_len (power_at level high) 0 48)) in
+      omega (arith, e));
   reserve = λ k. replicate_low 48 most reserve k j;
 }
 
@@ -64,8 +77,10 @@ pub unit_within : (d : UnitDraws) → AreDrawn d → IsWithin 400000 (unit_sched
 unfolding unit_schedule
 unit_within d h =
     let r = has_range d h in
-    elim (is_on d) as (λ (b : Bool). IsWithin 400000 (if b then running (level_of d) (high_of d) (reserve_of d) else idle)) [
-      | true ↦ running_within (level_of d) (high_of d) (reserve_of d) 400000 (omega (arith, r)) (omega (arith, r)) (omega (arith, r))
+    elim (is_on d) as (λ (b : Bool). IsWithin 400000
+    (if b then running (level_of d) (high_of d) (reserve_of d) else idle)) [
+      | true ↦ running_within (level_of d) (high_of d) (reserve_of d) 400000 (omega (arith, r)) (omega (arith, r))
+          (omega (arith, r))
       | false ↦ idle_within 400000
     ]
 
@@ -77,7 +92,8 @@ full_within powers h = record {
     reserves = length-replicate {A = ℕ} 48 0;
     same = λ k low. get_or-replicate 48 k 0 0 low ∙ sym (get_or-replicate {A = ℕ} 48 0 0 0 (omega arith));
   };
-  power = λ k. by_lt k (length powers) (λ low. let e = h.most k 0 low in omega (arith, e)) (λ past. let e = get_or_past powers k 0 past in omega (arith, e));
+  power = λ k. by_lt k (length powers) (λ low. let e = h.most k 0 low in omega (arith, e))
+      (λ past. let e = get_or_past powers k 0 past in omega (arith, e));
   reserve = λ k. replicate_low 48 400000 0 k (omega arith);
 }
 
@@ -93,13 +109,15 @@ pub thermal_within : (g : Lcg) (count : ℕ) → All (IsWithin 400000) (thermal_
 unfolding thermal_plan unit_plan
 thermal_within g count =
     All-map (IsWithin 400000) (unit_plan g) (range_with_len 0 count)
-    (λ k d low. let p : ℕ = unit_place (get_or (range_with_len 0 count) k d) in unit_within (unit_draws g p) (draws_within g p))
+    (λ k d low. let p : ℕ = unit_place (get_or (range_with_len 0 count) k d) in
+    unit_within (unit_draws g p) (draws_within g p))
 
 pub renewables_within : (g : Lcg) (place count : ℕ) → All (IsWithin 400000) (renewable_plans g place count)
 unfolding renewable_plans renewable_plan
 renewables_within g place count =
     All-map (IsWithin 400000) (renewable_plan g place) (range_with_len 0 count)
-    (λ k d low. let p : ℕ = renewable_place place (get_or (range_with_len 0 count) k d) in full_within (most_powers g p) (powers_within g p))
+    (λ k d low. let p : ℕ = renewable_place place (get_or (range_with_len 0 count) k d) in
+    full_within (most_powers g p) (powers_within g p))
 
 pub length-thermal_plan : (g : Lcg) (count : ℕ) → length (thermal_plan g count) ≡ count
 unfolding thermal_plan
@@ -113,9 +131,14 @@ pub thermal_small : (g : Lcg) (count : ℕ) → count ≤ 73 → IsSmall 4000000
 thermal_small g count h =
     let s = sums_low 400000 (thermal_plan g count) (thermal_within g count) in
     let e = length-thermal_plan g count in
-    record { powers = λ k. let p = s.powers k in omega (arith, h, e, p); reserves = λ k. let p = s.reserves k in omega (arith, h, e, p) }
+    record {
+      powers = λ k. let p = s.powers k in omega (arith, h, e, p);
+      reserves = λ k. let p = s.reserves k in
+          omega (arith, h, e, p);
+    }
 
-pub grown_small : (plan : List Schedule) (g : Lcg) (place count : ℕ) → IsSmall 40000000 plan → count ≤ 81 → IsSmall 100000000 (plan ++ renewable_plans g place count)
+pub grown_small : (plan : List Schedule) (g : Lcg) (place count : ℕ) → IsSmall 40000000 plan → count ≤ 81 →
+    IsSmall 100000000 (plan ++ renewable_plans g place count)
 grown_small plan g place count h low =
     let s = sums_low 400000 (renewable_plans g place count) (renewables_within g place count) in
     let e = length-renewable_plans g place count in
@@ -133,4 +156,8 @@ grown_small plan g place count h low =
     }
 
 pub smaller : (plan : List Schedule) → IsSmall 40000000 plan → IsSmall 100000000 plan
-smaller plan h = record { powers = λ k. let p = h.powers k in omega (arith, p); reserves = λ k. let p = h.reserves k in omega (arith, p) }
+smaller plan h = record {
+  powers = λ k. let p = h.powers k in omega (arith, p);
+  reserves = λ k. let p = h.reserves k in
+      omega (arith, p);
+}

@@ -1,5 +1,10 @@
 -- A generated thermal unit is within the limits.
-use Rattle.case_make.proofs.Common.{◌≡◌, ℕ, zero, suc, ◌+◌, ◌*◌, ◌≤◌, ℤ, pos, ◌≤ℤ◌, Bool, true, false, if◌then◌else◌, List, map, replicate, length, slice_index_or, refl, ap, sym, ◌∙◌, subst, arith, to_z, of_z, ints, to_z-of_z, length-replicate, All, range_with_len, Point, Mark, Free, ThermalUnit, IsFrom, IsLag, IsPoint, Spans, IsThermalUnit, AreLagsOrdered, ArePointsOrdered, UnitDraws, max_of, min_of, ramp_of, is_on, level_of, start_cost_of, lags_of, at_of, point_of, unit_of, AreDrawn}
+use Rattle.case_make.proofs.Common.{◌≡◌, ℕ, zero, suc, ◌+◌, ◌*◌, ◌≤◌, ℤ, pos, ◌≤ℤ◌, Bool, true, false, if◌then◌else◌}
+use Rattle.case_make.proofs.Common.{List, map, replicate, length, slice_index_or, refl, ap, sym, ◌∙◌, subst, arith}
+use Rattle.case_make.proofs.Common.{to_z, of_z, ints, to_z-of_z, length-replicate, All, range_with_len, Point, Mark}
+use Rattle.case_make.proofs.Common.{Free, ThermalUnit, IsFrom, IsLag, IsPoint, Spans, IsThermalUnit, AreLagsOrdered}
+use Rattle.case_make.proofs.Common.{ArePointsOrdered, UnitDraws, max_of, min_of, ramp_of, is_on, level_of}
+use Rattle.case_make.proofs.Common.{start_cost_of, lags_of, at_of, point_of, unit_of, AreDrawn}
 use Rattle.std.specs.Int.{w64}
 use Rattle.uc_model.specs.declared.units.Lag.{Lag}
 use Rattle.case_make.proofs.Bounds.{has_range, at_first, at_last, at_rises, at_most, cost_range}
@@ -28,7 +33,8 @@ is_lag l c h i = record { lag = h; cost = natural c 10000000000000 i }
 
 lags_limited : (d : UnitDraws) → AreDrawn d → All IsLag (lags_of d)
 unfolding lags_of
-lags_limited d h zero x low = let down = h.min_down in let cost = h.start_hundreds in is_lag d.min_down (start_cost_of d) (omega (arith, down)) (omega (arith, cost))
+lags_limited d h zero x low = let down = h.min_down in let cost = h.start_hundreds in
+    is_lag d.min_down (start_cost_of d) (omega (arith, down)) (omega (arith, cost))
 lags_limited d h (suc zero) x low =
     let down = h.min_down in
     let cost = h.start_hundreds in
@@ -81,13 +87,15 @@ points_span : (d : UnitDraws) → AreDrawn d → Spans (points_of d) (pos (min_o
 points_span d h = record {
   first = λ x. let e = at_first d in omega (arith, ints, e);
   last = λ n x e. let m : n ≡ 3 = omega (arith, e) in
-      subst (λ (k : ℕ). pos (max_of d) ≤ℤ (slice_index_or (points_of d) k x).at) (sym m) (let f = at_last d h in omega (arith, ints, f));
+      subst (λ (k : ℕ). pos (max_of d) ≤ℤ (slice_index_or (points_of d) k x).at) (sym m)
+      (let f = at_last d h in omega (arith, ints, f));
 }
 
 -- ---- the unit
 
 pub first_power_low : (d : UnitDraws) → AreDrawn d → (if is_on d then level_of d else 0) ≤ 1000000000
-first_power_low d h = let r = has_range d h in either_kept (is_on d) (level_of d) 0 1000000000 (omega (arith, r)) (omega arith)
+first_power_low d h = let r = has_range d h in
+    either_kept (is_on d) (level_of d) 0 1000000000 (omega (arith, r)) (omega arith)
 
 pub unit_limited : (d : UnitDraws) → AreDrawn d → IsThermalUnit (unit_of d)
 unfolding unit_of
@@ -107,7 +115,8 @@ unit_limited d h =
       min_up_is_one_or_more = up.at_least;
       min_down = omega (arith, down);
       min_down_is_one_or_more = down.at_least;
-      power0 = natural (if is_on d then level_of d else 0) 10000000 (either_kept (is_on d) (level_of d) 0 10000000 (omega (arith, r)) (omega arith));
+      power0 = natural (if is_on d then level_of d else 0) 10000000
+          (either_kept (is_on d) (level_of d) 0 10000000 (omega (arith, r)) (omega arith));
       up0 = either_kept (is_on d) 24 0 1000000 (omega arith) (omega arith);
       down0 = either_kept (is_on d) 0 24 1000000 (omega arith) (omega arith);
       lag_count = lag_count d;
@@ -118,13 +127,19 @@ unit_limited d h =
       points = points_limited d h;
       points_ordered = points_rise d;
       span = points_span d h;
-      horizon = record { at_least = omega (arith, length-replicate 48 Free); at_most = omega (arith, length-replicate 48 Free) };
+      horizon = record {
+        at_least = omega (arith, length-replicate 48 Free);
+        at_most =
+            omega (arith, length-replicate 48 Free);
+      };
     }
 
 -- the unit with these numbers
-pub unit_is : (d : UnitDraws) (least most up_ramp down_ramp start stop before : ℤ) (on : Bool) (up down : ℕ) (lags : List Lag) (points : List Point) (window : List Mark) →
+pub unit_is : (d : UnitDraws) (least most up_ramp down_ramp start stop before : ℤ) (on : Bool) (up down : ℕ)
+    (lags : List Lag) (points : List Point) (window : List Mark) →
     least ≡ pos (min_of d) → most ≡ pos (max_of d) → up_ramp ≡ pos (ramp_of d) → down_ramp ≡ pos (ramp_of d) →
-    start ≡ pos (min_of d + ramp_of d) → stop ≡ pos (min_of d + ramp_of d) → before ≡ pos (if is_on d then level_of d else 0) →
+    start ≡ pos (min_of d + ramp_of d) → stop ≡ pos (min_of d + ramp_of d) →
+    before ≡ pos (if is_on d then level_of d else 0) →
     on ≡ is_on d → up ≡ (if is_on d then 24 else 0) → down ≡ (if is_on d then 0 else 24) →
     lags ≡ lags_of d → points ≡ points_of d → window ≡ replicate 48 Free →
     (let u : ThermalUnit = record {
@@ -146,4 +161,5 @@ pub unit_is : (d : UnitDraws) (least most up_ramp down_ramp start stop before : 
       window = window;
     } in u ≡ unit_of d)
 unfolding unit_of
-unit_is d least most up_ramp down_ramp start stop before on up down lags points window e1 e2 e3 e4 e5 e6 e7 e8 e9 e10 e11 e12 e13 = cc
+unit_is d least most up_ramp down_ramp start stop before on up down lags points window e1 e2 e3 e4 e5 e6 e7 e8 e9 e10
+    e11 e12 e13 = cc

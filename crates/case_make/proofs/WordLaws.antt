@@ -1,8 +1,10 @@
 -- The words of a generator that has moved on are those behind the ones that it gave.
-use Rattle.case_make.proofs.Common.{◌≡◌, ℕ, zero, suc, ◌+◌, ◌-◌, ◌%◌, ◌<◌, ◌≤◌, refl, ap, sym, ◌∙◌, arith, zero-add, mod_below, Lcg, next_state, state_after, IsDrawn, moved_on, word_at, draw}
+use Rattle.case_make.proofs.Common.{◌≡◌, ℕ, zero, suc, ◌+◌, ◌-◌, ◌%◌, ◌<◌, ◌≤◌, refl, ap, sym, ◌∙◌, arith, zero-add}
+use Rattle.case_make.proofs.Common.{mod_below, Lcg, next_state, state_after, IsDrawn, moved_on, word_at, draw}
 use Rattle.rand_pcg.specs.Pcg.{multiplier_64, pcg32}
 
-states_join : (w m increment a b s : ℕ) → state_after w m increment b (state_after w m increment a s) ≡ state_after w m increment (a + b) s
+states_join : (w m increment a b s : ℕ) →
+    state_after w m increment b (state_after w m increment a s) ≡ state_after w m increment (a + b) s
 unfolding state_after
 states_join w m increment zero b s = ap (λ (n : ℕ). state_after w m increment n s) (sym (zero-add b))
 states_join w m increment (suc a) b s =
@@ -11,7 +13,8 @@ states_join w m increment (suc a) b s =
 
 pub moved_twice : (a b : ℕ) (g : Lcg) → moved_on b (moved_on a g) ≡ moved_on (a + b) g
 unfolding moved_on
-moved_twice a b g = ap (λ (s : ℕ). let h : Lcg = record { state = s; increment = g.increment } in h) (states_join 64 multiplier_64 g.increment a b g.state)
+moved_twice a b g = ap (λ (s : ℕ). let h : Lcg = record { state = s; increment = g.increment } in h)
+    (states_join 64 multiplier_64 g.increment a b g.state)
 
 pub word_later : (a b : ℕ) (g : Lcg) → word_at (moved_on a g) b ≡ word_at g (a + b)
 unfolding word_at

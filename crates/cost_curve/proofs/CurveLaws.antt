@@ -1,5 +1,7 @@
 -- What blocks add, one block after another.
-use Rattle.cost_curve.proofs.Common.{◌≡◌, suc, ◌⊎◌, inl, inr, ℤ, pos, ◌+ℤ◌, ◌-ℤ◌, ◌*ℤ◌, ◌≤ℤ◌, ◌<ℤ◌, Bool, true, false, cond, Option, Some, None, List, [], ◌∷◌, ◌++◌, refl, sym, ap, ◌∙◌, arith, ints, *ℤ-zero, int_lt, All, option_map, Block, rise_at, end_of, width_of, rise_of}
+use Rattle.cost_curve.proofs.Common.{◌≡◌, suc, ◌⊎◌, inl, inr, ℤ, pos, ◌+ℤ◌, ◌-ℤ◌, ◌*ℤ◌, ◌≤ℤ◌, ◌<ℤ◌, Bool, true, false}
+use Rattle.cost_curve.proofs.Common.{cond, Option, Some, None, List, [], ◌∷◌, ◌++◌, refl, sym, ap, ◌∙◌, arith, ints}
+use Rattle.cost_curve.proofs.Common.{*ℤ-zero, int_lt, All, option_map, Block, rise_at, end_of, width_of, rise_of}
 
 abbrev pub AreWide : List Block → Type 0
 AreWide bs = All (λ (b : Block). pos 0 ≤ℤ b.width) bs
@@ -12,7 +14,8 @@ head_wide b bs h = h 0 b (omega arith)
 
 pub width_least : (bs : List Block) → AreWide bs → pos 0 ≤ℤ width_of bs
 width_least [] h = omega (arith, ints)
-width_least (b ∷ bs) h = let a = head_wide b bs h in let r = width_least bs (tail_wide b bs h) in omega (arith, ints, a, r)
+width_least (b ∷ bs) h = let a = head_wide b bs h in let r = width_least bs (tail_wide b bs h) in
+    omega (arith, ints, a, r)
 
 pub end_is : (from : ℤ) (bs : List Block) → end_of from bs ≡ from +ℤ width_of bs
 end_is from [] = omega (arith, ints)
@@ -31,12 +34,15 @@ rise-append (a ∷ bs) b = omega (arith, ints, rise-append bs b)
 pub rise_in : (b : Block) (bs : List Block) (x : ℤ) → x ≤ℤ b.width → rise_at (b ∷ bs) x ≡ Some (b.price *ℤ x)
 rise_in b bs x h =
     let e : int_lt b.width x ≡ false = grind (arith, ints) in
-    ap (λ (t : Bool). cond t (option_map (λ (v : ℤ). v +ℤ (b.price *ℤ b.width)) (rise_at bs (x -ℤ b.width))) (Some (b.price *ℤ x))) e
+    ap (λ (t : Bool). cond t (option_map (λ (v : ℤ). v +ℤ (b.price *ℤ b.width)) (rise_at bs (x -ℤ b.width)))
+    (Some (b.price *ℤ x))) e
 
-pub rise_past : (b : Block) (bs : List Block) (x : ℤ) → b.width <ℤ x → rise_at (b ∷ bs) x ≡ option_map (λ (v : ℤ). v +ℤ (b.price *ℤ b.width)) (rise_at bs (x -ℤ b.width))
+pub rise_past : (b : Block) (bs : List Block) (x : ℤ) → b.width <ℤ x →
+    rise_at (b ∷ bs) x ≡ option_map (λ (v : ℤ). v +ℤ (b.price *ℤ b.width)) (rise_at bs (x -ℤ b.width))
 rise_past b bs x h =
     let e : int_lt b.width x ≡ true = grind (arith, ints) in
-    ap (λ (t : Bool). cond t (option_map (λ (v : ℤ). v +ℤ (b.price *ℤ b.width)) (rise_at bs (x -ℤ b.width))) (Some (b.price *ℤ x))) e
+    ap (λ (t : Bool). cond t (option_map (λ (v : ℤ). v +ℤ (b.price *ℤ b.width)) (rise_at bs (x -ℤ b.width)))
+    (Some (b.price *ℤ x))) e
 
 pub in_or_past : (w x : ℤ) → (x ≤ℤ w) ⊎ (w <ℤ x)
 in_or_past w x = grind (arith, ints)
@@ -64,10 +70,12 @@ some_from None g v e = absurd (none_some v e)
 some_from (Some z) g v e = let h : z +ℤ g ≡ v = cc in ap Some (omega (arith, ints, h))
 
 -- what was there stays
-pub rise_old : (bs : List Block) (b : Block) (x v : ℤ) → AreWide bs → pos 0 ≤ℤ b.width → pos 0 ≤ℤ x → rise_at bs x ≡ Some v → rise_at (bs ++ b ∷ []) x ≡ Some v
+pub rise_old : (bs : List Block) (b : Block) (x v : ℤ) → AreWide bs → pos 0 ≤ℤ b.width → pos 0 ≤ℤ x →
+    rise_at bs x ≡ Some v → rise_at (bs ++ b ∷ []) x ≡ Some v
 rise_old [] b x v wide b_wide x_least e =
     elim (in_or_past (pos 0) x) [
-      | inr up ↦ let t : int_lt (pos 0) x ≡ true = grind (arith, ints) in absurd (none_some v (sym (ap (λ (q : Bool). cond q None (Some (pos 0))) t) ∙ e))
+      | inr up ↦ let t : int_lt (pos 0) x ≡ true = grind (arith, ints) in
+          absurd (none_some v (sym (ap (λ (q : Bool). cond q None (Some (pos 0))) t) ∙ e))
       | inl low ↦
           let none : x ≡ pos 0 = omega (arith, ints, low, x_least) in
           let f : int_lt (pos 0) x ≡ false = grind (arith, ints) in
@@ -87,7 +95,8 @@ rise_old (a ∷ bs) b x v wide b_wide x_least e =
     ]
 
 -- past the end of what was there the new block's price counts
-pub rise_new : (bs : List Block) (b : Block) (y : ℤ) → AreWide bs → pos 0 ≤ℤ y → y ≤ℤ b.width → rise_at (bs ++ b ∷ []) (width_of bs +ℤ y) ≡ Some (rise_of bs +ℤ (b.price *ℤ y))
+pub rise_new : (bs : List Block) (b : Block) (y : ℤ) → AreWide bs → pos 0 ≤ℤ y → y ≤ℤ b.width →
+    rise_at (bs ++ b ∷ []) (width_of bs +ℤ y) ≡ Some (rise_of bs +ℤ (b.price *ℤ y))
 rise_new [] b y wide least most =
     let e : pos 0 +ℤ y ≡ y = omega (arith, ints) in
     let f : b.price *ℤ y ≡ pos 0 +ℤ (b.price *ℤ y) = omega (arith, ints) in
@@ -111,5 +120,6 @@ rise_new (a ∷ bs) b y wide least most =
           let back : x -ℤ a.width ≡ width_of bs +ℤ y = omega (arith, ints) in
           let i = rise_new bs b y t least most in
           let sum : (rise_of bs +ℤ (b.price *ℤ y)) +ℤ g ≡ (g +ℤ rise_of bs) +ℤ (b.price *ℤ y) = omega (arith, ints) in
-          rise_past a (bs ++ b ∷ []) x up ∙ ap (λ (z : ℤ). option_map (λ (v : ℤ). v +ℤ g) (rise_at (bs ++ b ∷ []) z)) back ∙ ap (option_map (λ (v : ℤ). v +ℤ g)) i ∙ ap Some sum
+          rise_past a (bs ++ b ∷ []) x up ∙ ap (λ (z : ℤ). option_map (λ (v : ℤ). v +ℤ g) (rise_at (bs ++ b ∷ []) z))
+          back ∙ ap (option_map (λ (v : ℤ). v +ℤ g)) i ∙ ap Some sum
     ]

@@ -1,5 +1,8 @@
 -- The edges of the envelope: how one is found point by point, and what it says of all points.
-use Rattle.cost_curve.proofs.Common.{◌≡◌, ℕ, zero, suc, ◌+◌, ◌-◌, ◌<◌, ◌≤◌, ◌⊎◌, inl, inr, ℤ, pos, neg_ℤ, ◌+ℤ◌, ◌-ℤ◌, ◌*ℤ◌, ◌≤ℤ◌, ◌<ℤ◌, List, length, sym, ap, subst, arith, ints, *ℤ_comm, zero-*ℤ, *ℤ-one, Point, IsPoint, ArePointsOrdered, mul-add, mul-sub, mul-mono_of, point_at, AllFirst, net_at, IsSlope, IsEdge, IsLast, IsStart, IsVertex}
+use Rattle.cost_curve.proofs.Common.{◌≡◌, ℕ, zero, suc, ◌+◌, ◌-◌, ◌<◌, ◌≤◌, ◌⊎◌, inl, inr, ℤ, pos, neg_ℤ, ◌+ℤ◌, ◌-ℤ◌}
+use Rattle.cost_curve.proofs.Common.{◌*ℤ◌, ◌≤ℤ◌, ◌<ℤ◌, List, length, sym, ap, subst, arith, ints, *ℤ_comm, zero-*ℤ}
+use Rattle.cost_curve.proofs.Common.{*ℤ-one, Point, IsPoint, ArePointsOrdered, mul-add, mul-sub, mul-mono_of, point_at}
+use Rattle.cost_curve.proofs.Common.{AllFirst, net_at, IsSlope, IsEdge, IsLast, IsStart, IsVertex}
 use Rattle.cost_curve.proofs.SlopeLaws.{before_times}
 
 -- ---- facts on the first points
@@ -8,11 +11,14 @@ before_or_at : (k n : ℕ) → k < n + 1 → (k < n) ⊎ (k ≡ n)
 before_or_at k n lt = grind arith
 
 pub more : (P : Point → Type 0) (ps : List Point) (n : ℕ) → AllFirst n P ps → P (point_at ps n) → AllFirst (n + 1) P ps
-more P ps n below here k lt = elim (before_or_at k n lt) [ inl h ↦ below k h | inr e ↦ subst (λ j. P (point_at ps j)) (sym e) here ]
+more P ps n below here k lt =
+    elim (before_or_at k n lt) [ inl h ↦ below k h | inr e ↦ subst (λ j. P (point_at ps j)) (sym e) here ]
 
 -- a later point has at least as much power
-later_more : (ps : List Point) → ArePointsOrdered ps → (i n : ℕ) → i + n < length ps → (point_at ps i).at ≤ℤ (point_at ps (i + n)).at
-later_more ps ordered i zero lt = let e : i ≡ i + 0 = omega arith in let h = ap (λ j. (point_at ps j).at) e in omega (arith, ints, h)
+later_more : (ps : List Point) → ArePointsOrdered ps → (i n : ℕ) → i + n < length ps →
+    (point_at ps i).at ≤ℤ (point_at ps (i + n)).at
+later_more ps ordered i zero lt = let e : i ≡ i + 0 = omega arith in let h = ap (λ j. (point_at ps j).at) e in
+    omega (arith, ints, h)
 later_more ps ordered i (suc n) lt =
     let e : suc (i + n) ≡ i + suc n = omega arith in
     let same = ap (λ j. (point_at ps j).at) e in
@@ -20,7 +26,8 @@ later_more ps ordered i (suc n) lt =
     let before = later_more ps ordered i n (omega arith) in
     omega (arith, ints, same, step, before)
 
-pub ordered_powers : (ps : List Point) → ArePointsOrdered ps → (i j : ℕ) → i ≤ j → j < length ps → (point_at ps i).at ≤ℤ (point_at ps j).at
+pub ordered_powers : (ps : List Point) → ArePointsOrdered ps → (i j : ℕ) → i ≤ j → j < length ps →
+    (point_at ps i).at ≤ℤ (point_at ps j).at
 ordered_powers ps ordered i j le lt =
     let e : i + (j - i) ≡ j = omega arith in
     subst (λ k. (point_at ps i).at ≤ℤ (point_at ps k).at) e (later_more ps ordered i (j - i) (omega arith))
@@ -83,13 +90,19 @@ worse_le t w t' w' (inr h) = let e = h.0 in omega (arith, ints, e)
 
 module _ (q : Point) (ps : List Point) (n : ℕ) where
   -- the first point of more power
-  pub IsEdge-first : (t w : ℤ) → IsLast q n ps → q.at <ℤ (point_at ps n).at → IsSlope q (point_at ps n) t w → IsEdge q (n + 1) ps (point_at ps n) t w
+  pub IsEdge-first : (t w : ℤ) → IsLast q n ps → q.at <ℤ (point_at ps n).at → IsSlope q (point_at ps n) t w →
+      IsEdge q (n + 1) ps (point_at ps n) t w
   IsEdge-first t w none rising s = record {
     rising = rising;
     slope = s;
-    before = more (λ l. q.at <ℤ l.at → net_at (t -ℤ pos 1) q <ℤ net_at (t -ℤ pos 1) l) ps n (λ k lt up. let h = none k lt in absurd (omega (arith, ints, h, up))) (λ up. dearer_before q (point_at ps n) t w s);
-    cheapest = more (λ l. q.at <ℤ l.at → net_at t (point_at ps n) ≤ℤ net_at t l) ps n (λ k lt up. let h = none k lt in absurd (omega (arith, ints, h, up))) (λ up. omega (arith, ints));
-    last = more (λ l. (point_at ps n).at <ℤ l.at → net_at t (point_at ps n) <ℤ net_at t l) ps n (λ k lt up. let h = none k lt in absurd (omega (arith, ints, h, up, rising))) (λ up. absurd (omega (arith, ints, up)));
+    before = more (λ l. q.at <ℤ l.at → net_at (t -ℤ pos 1) q <ℤ net_at (t -ℤ pos 1) l) ps n
+        (λ k lt up. let h = none k lt in absurd (omega (arith, ints, h, up)))
+        (λ up. dearer_before q (point_at ps n) t w s);
+    cheapest = more (λ l. q.at <ℤ l.at → net_at t (point_at ps n) ≤ℤ net_at t l) ps n
+        (λ k lt up. let h = none k lt in absurd (omega (arith, ints, h, up))) (λ up. omega (arith, ints));
+    last = more (λ l. (point_at ps n).at <ℤ l.at → net_at t (point_at ps n) <ℤ net_at t l) ps n
+        (λ k lt up. let h = none k lt in absurd (omega (arith, ints, h, up, rising)))
+        (λ up. absurd (omega (arith, ints, up)));
   }
 
   module _ (p : Point) (t w : ℤ) (e : IsEdge q n ps p t w) where
@@ -100,15 +113,19 @@ module _ (q : Point) (ps : List Point) (n : ℕ) where
         record {
           rising = e.rising;
           slope = e.slope;
-          before = more (λ l. q.at <ℤ l.at → net_at (t -ℤ pos 1) q <ℤ net_at (t -ℤ pos 1) l) ps n e.before (λ up. absurd (omega (arith, ints, up, low)));
-          cheapest = more (λ l. q.at <ℤ l.at → net_at t p ≤ℤ net_at t l) ps n e.cheapest (λ up. absurd (omega (arith, ints, up, low)));
-          last = more (λ l. p.at <ℤ l.at → net_at t p <ℤ net_at t l) ps n e.last (λ up. absurd (omega (arith, ints, up, low, rising)));
+          before = more (λ l. q.at <ℤ l.at → net_at (t -ℤ pos 1) q <ℤ net_at (t -ℤ pos 1) l) ps n e.before
+              (λ up. absurd (omega (arith, ints, up, low)));
+          cheapest = more (λ l. q.at <ℤ l.at → net_at t p ≤ℤ net_at t l) ps n e.cheapest
+              (λ up. absurd (omega (arith, ints, up, low)));
+          last = more (λ l. p.at <ℤ l.at → net_at t p <ℤ net_at t l) ps n e.last
+              (λ up. absurd (omega (arith, ints, up, low, rising)));
         }
 
     module _ (t' w' : ℤ) (s' : IsSlope q (point_at ps n) t' w') (rising' : q.at <ℤ (point_at ps n).at) where
       dearer_there : IsWorse t w t' w' → net_at t p <ℤ net_at t (point_at ps n)
       dearer_there (inl h) =
-          let b = dearer_until q (point_at ps n) t (t' -ℤ pos 1) rising' (omega (arith, ints, h)) (dearer_before q (point_at ps n) t' w' s') in
+          let b = dearer_until q (point_at ps n) t (t' -ℤ pos 1) rising' (omega (arith, ints, h))
+          (dearer_before q (point_at ps n) t' w' s') in
           let m = e.slope.meets in
           let z = e.slope.least in
           omega (arith, ints, b, m, z)
@@ -129,8 +146,10 @@ module _ (q : Point) (ps : List Point) (n : ℕ) where
             rising = e.rising;
             slope = e.slope;
             before = more (λ x. q.at <ℤ x.at → net_at (t -ℤ pos 1) q <ℤ net_at (t -ℤ pos 1) x) ps n e.before
-                (λ up. dearer_until q (point_at ps n) (t -ℤ pos 1) (t' -ℤ pos 1) rising' (omega (arith, ints, le)) (dearer_before q (point_at ps n) t' w' s'));
-            cheapest = more (λ x. q.at <ℤ x.at → net_at t p ≤ℤ net_at t x) ps n e.cheapest (λ up. omega (arith, ints, above));
+                (λ up. dearer_until q (point_at ps n) (t -ℤ pos 1) (t' -ℤ pos 1) rising' (omega (arith, ints, le))
+                (dearer_before q (point_at ps n) t' w' s'));
+            cheapest = more (λ x. q.at <ℤ x.at → net_at t p ≤ℤ net_at t x) ps n e.cheapest
+                (λ up. omega (arith, ints, above));
             last = more (λ x. p.at <ℤ x.at → net_at t p <ℤ net_at t x) ps n e.last (λ up. above);
           }
 
@@ -146,10 +165,14 @@ module _ (q : Point) (ps : List Point) (n : ℕ) where
           record {
             rising = rising';
             slope = s';
-            before = more (λ x. q.at <ℤ x.at → net_at (t' -ℤ pos 1) q <ℤ net_at (t' -ℤ pos 1) x) ps n (old (t' -ℤ pos 1) (omega (arith, ints, h))) (λ up. dearer_before q (point_at ps n) t' w' s');
-            cheapest = more (λ x. q.at <ℤ x.at → net_at t' (point_at ps n) ≤ℤ net_at t' x) ps n (λ k lt up. let o = old t' (omega (arith, ints, h)) k lt up in omega (arith, ints, o, r)) (λ up. omega (arith, ints));
+            before = more (λ x. q.at <ℤ x.at → net_at (t' -ℤ pos 1) q <ℤ net_at (t' -ℤ pos 1) x) ps n
+                (old (t' -ℤ pos 1) (omega (arith, ints, h))) (λ up. dearer_before q (point_at ps n) t' w' s');
+            cheapest = more (λ x. q.at <ℤ x.at → net_at t' (point_at ps n) ≤ℤ net_at t' x) ps n
+                (λ k lt up. let o = old t' (omega (arith, ints, h)) k lt up in omega (arith, ints, o, r))
+                (λ up. omega (arith, ints));
             last = more (λ x. (point_at ps n).at <ℤ x.at → net_at t' (point_at ps n) <ℤ net_at t' x) ps n
-                (λ k lt up. let o = old t' (omega (arith, ints, h)) k lt (omega (arith, ints, up, rising')) in omega (arith, ints, o, r)) (λ up. absurd (omega (arith, ints, up)));
+                (λ k lt up. let o = old t' (omega (arith, ints, h)) k lt (omega (arith, ints, up, rising')) in
+                omega (arith, ints, o, r)) (λ up. absurd (omega (arith, ints, up)));
           }
 
       takes_same : t' ≡ t → w ≤ℤ w' → p.at ≤ℤ (point_at ps n).at → IsEdge q (n + 1) ps (point_at ps n) t' w'
@@ -163,11 +186,15 @@ module _ (q : Point) (ps : List Point) (n : ℕ) where
             rising = rising';
             slope = s';
             before = more (λ x. q.at <ℤ x.at → net_at (t' -ℤ pos 1) q <ℤ net_at (t' -ℤ pos 1) x) ps n
-                (λ k lt up. dearer_until q (point_at ps k) (t' -ℤ pos 1) (t -ℤ pos 1) up (omega (arith, ints, same)) (e.before k lt up)) (λ up. dearer_before q (point_at ps n) t' w' s');
+                (λ k lt up. dearer_until q (point_at ps k) (t' -ℤ pos 1) (t -ℤ pos 1) up (omega (arith, ints, same))
+                (e.before k lt up)) (λ up. dearer_before q (point_at ps n) t' w' s');
             cheapest = more (λ x. q.at <ℤ x.at → net_at t' (point_at ps n) ≤ℤ net_at t' x) ps n
-                (λ k lt up. let o = e.cheapest k lt up in let at_x = ap (λ j. net_at j (point_at ps k)) same in omega (arith, ints, o, below, at_x)) (λ up. omega (arith, ints));
+                (λ k lt up. let o = e.cheapest k lt up in let at_x = ap (λ j. net_at j (point_at ps k)) same in
+                omega (arith, ints, o, below, at_x)) (λ up. omega (arith, ints));
             last = more (λ x. (point_at ps n).at <ℤ x.at → net_at t' (point_at ps n) <ℤ net_at t' x) ps n
-                (λ k lt up. let o = e.last k lt (omega (arith, ints, up, more_power)) in let at_x = ap (λ j. net_at j (point_at ps k)) same in omega (arith, ints, o, below, at_x)) (λ up. absurd (omega (arith, ints, up)));
+                (λ k lt up. let o = e.last k lt (omega (arith, ints, up, more_power)) in
+                let at_x = ap (λ j. net_at j (point_at ps k)) same in omega (arith, ints, o, below, at_x))
+                (λ up. absurd (omega (arith, ints, up)));
           }
 
       pub IsEdge-takes : p.at ≤ℤ (point_at ps n).at → IsBetter t w t' w' → IsEdge q (n + 1) ps (point_at ps n) t' w'
@@ -177,9 +204,11 @@ module _ (q : Point) (ps : List Point) (n : ℕ) where
 -- ---- edges between vertices
 
 -- the first of the cheapest points of least power is cheapest at a price below all slopes
-pub IsVertex-start : (q : Point) (ps : List Point) → IsPoint q → ((k : ℕ) → k < length ps → IsPoint (point_at ps k)) → IsStart q (length ps) ps → IsVertex ps (neg_ℤ (pos 20000000000001)) q
+pub IsVertex-start : (q : Point) (ps : List Point) → IsPoint q → ((k : ℕ) → k < length ps → IsPoint (point_at ps k)) →
+    IsStart q (length ps) ps → IsVertex ps (neg_ℤ (pos 20000000000001)) q
 IsVertex-start q ps hq all start =
-    let above : (k : ℕ) → k < length ps → q.at <ℤ (point_at ps k).at → net_at (neg_ℤ (pos 20000000000001)) q <ℤ net_at (neg_ℤ (pos 20000000000001)) (point_at ps k) =
+    let above : (k : ℕ) → k < length ps → q.at <ℤ (point_at ps k).at →
+    net_at (neg_ℤ (pos 20000000000001)) q <ℤ net_at (neg_ℤ (pos 20000000000001)) (point_at ps k) =
     λ k lt up.
     let l = point_at ps k in
     let hl = all k lt in
@@ -222,7 +251,8 @@ module _ (q : Point) (ps : List Point) (p : Point) (k t w : ℤ) (v : IsVertex p
             absurd (omega (arith, ints, d, g, x, s1))
       ]
 
-  low_side : (j : ℤ) → k ≤ℤ j → (i : ℕ) → i < length ps → (point_at ps i).at ≤ℤ q.at → net_at j q ≤ℤ net_at j (point_at ps i)
+  low_side : (j : ℤ) → k ≤ℤ j → (i : ℕ) → i < length ps → (point_at ps i).at ≤ℤ q.at →
+      net_at j q ≤ℤ net_at j (point_at ps i)
   low_side j le i lt low =
       let g = turn k j (point_at ps i) q le low in
       let c = v.cheapest i lt in
@@ -242,7 +272,8 @@ module _ (q : Point) (ps : List Point) (p : Point) (k t w : ℤ) (v : IsVertex p
     cheapest = λ i lt.
         elim (up_or_same q.at (point_at ps i).at) [
           | inl up ↦ e.cheapest i lt up
-          | inr low ↦ let r = price_rises in let h = low_side t (omega (arith, ints, r)) i lt low in let x = reached_at in omega (arith, ints, h, x)
+          | inr low ↦ let r = price_rises in let h = low_side t (omega (arith, ints, r)) i lt low in
+              let x = reached_at in omega (arith, ints, h, x)
         ];
     last = e.last;
   }

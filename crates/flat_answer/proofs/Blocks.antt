@@ -1,5 +1,10 @@
 -- A bid's best power: all blocks whose price is above the energy price, and no more.
-use Rattle.flat_answer.proofs.Common.{◌≡◌, ℕ, zero, suc, ◌+◌, ◌≤◌, ◌<◌, ◌⊎◌, inl, inr, ⊎_elim, Bool, true, false, ℤ, pos, neg_ℤ, ◌+ℤ◌, ◌-ℤ◌, ◌*ℤ◌, ◌≤ℤ◌, ◌<ℤ◌, int_lt, if◌then◌else◌, List, [], ◌∷◌, drop, length, slice_index_or, refl, ap, sym, ◌∙◌, arith, ints, clamps, by_lt_z, drop_more, drop_all, *ℤ_comm, *ℤ-zero, int_min, Block, worth_of, IsBlock, IsBlockList, IsFrom, price_limit, width_of, IsLeastChoice, IsWithinBlocks, bought_at, added_power, added_gain, mul-sub, mul-add, mul-mono_of}
+use Rattle.flat_answer.proofs.Common.{◌≡◌, ℕ, zero, suc, ◌+◌, ◌≤◌, ◌<◌, ◌⊎◌, inl, inr, ⊎_elim, Bool, true, false, ℤ}
+use Rattle.flat_answer.proofs.Common.{pos, neg_ℤ, ◌+ℤ◌, ◌-ℤ◌, ◌*ℤ◌, ◌≤ℤ◌, ◌<ℤ◌, int_lt, if◌then◌else◌, List, [], ◌∷◌}
+use Rattle.flat_answer.proofs.Common.{drop, length, slice_index_or, refl, ap, sym, ◌∙◌, arith, ints, clamps, by_lt_z}
+use Rattle.flat_answer.proofs.Common.{drop_more, drop_all, *ℤ_comm, *ℤ-zero, int_min, Block, worth_of, IsBlock}
+use Rattle.flat_answer.proofs.Common.{IsBlockList, IsFrom, price_limit, width_of, IsLeastChoice, IsWithinBlocks}
+use Rattle.flat_answer.proofs.Common.{bought_at, added_power, added_gain, mul-sub, mul-add, mul-mono_of}
 use Rattle.flat_answer.proofs.Powers.{mul-fall, mul-rise, sub-mul}
 
 -- the widths of the blocks above the price, and what they earn
@@ -15,7 +20,8 @@ pub record AreBlocks (bs : List Block) : Type 0 where
   pub each : (k : ℕ) (d : Block) → k < length bs → IsBlock (slice_index_or bs k d)
 
 abbrev pub FallsFrom : List Block → Type 0
-FallsFrom bs = (k : ℕ) (d : Block) → suc k < length bs → (slice_index_or bs (suc k) d).price ≤ℤ (slice_index_or bs k d).price
+FallsFrom bs = (k : ℕ) (d : Block) → suc k < length bs →
+    (slice_index_or bs (suc k) d).price ≤ℤ (slice_index_or bs k d).price
 
 blocks_rest : (b : Block) (bs : List Block) → AreBlocks (b ∷ bs) → AreBlocks bs
 blocks_rest b bs h = record { each = λ k d i. h.each (suc k) d (omega (arith, i)) }
@@ -157,7 +163,8 @@ record IsParted (b : Block) (bs : List Block) (x : ℤ) : Type 0 where
   rest_low : pos 0 ≤ℤ (x -ℤ int_min x b.width)
   rest_high : (x -ℤ int_min x b.width) ≤ℤ width_of bs
 
-parted : (b : Block) (bs : List Block) (x : ℤ) → pos 0 ≤ℤ b.width → pos 0 ≤ℤ x → x ≤ℤ width_of (b ∷ bs) → pos 0 ≤ℤ width_of bs → IsParted b bs x
+parted : (b : Block) (bs : List Block) (x : ℤ) → pos 0 ≤ℤ b.width → pos 0 ≤ℤ x → x ≤ℤ width_of (b ∷ bs) →
+    pos 0 ≤ℤ width_of bs → IsParted b bs x
 parted b bs x wide low high rest = record {
   low = omega (arith, ints, clamps);
   first = omega (arith, ints, clamps);
@@ -173,10 +180,13 @@ widths_low (b ∷ bs) h =
     omega (arith, ints, wide, rest)
 
 -- the earnings in those two parts
-earned_parts : (p : ℤ) (b : Block) (bs : List Block) (x m : ℤ) → ((b.price *ℤ m) +ℤ worth_of bs (x -ℤ m)) -ℤ (p *ℤ x) ≡ ((b.price -ℤ p) *ℤ m) +ℤ (worth_of bs (x -ℤ m) -ℤ (p *ℤ (x -ℤ m)))
+earned_parts : (p : ℤ) (b : Block) (bs : List Block) (x m : ℤ) →
+    ((b.price *ℤ m) +ℤ worth_of bs (x -ℤ m)) -ℤ (p *ℤ x) ≡ ((b.price -ℤ p) *ℤ m)
+    +ℤ (worth_of bs (x -ℤ m) -ℤ (p *ℤ (x -ℤ m)))
 earned_parts p b bs x m = let e = mul-sub p x m in let f = sub-mul b.price p m in omega (arith, ints, e, f)
 
-counts_no_better : (p : ℤ) (b : Block) (bs : List Block) (x : ℤ) → Counts p b → IsParted b bs x → IsNoBetter p bs (x -ℤ int_min x b.width) → IsNoBetter p (b ∷ bs) x
+counts_no_better : (p : ℤ) (b : Block) (bs : List Block) (x : ℤ) → Counts p b → IsParted b bs x →
+    IsNoBetter p bs (x -ℤ int_min x b.width) → IsNoBetter p (b ∷ bs) x
 counts_no_better p b bs x c two rest =
     let m = int_min x b.width in
     let parts = earned_parts p b bs x m in
@@ -190,12 +200,14 @@ counts_no_better p b bs x c two rest =
     record {
       at_most = omega (arith, ints, parts, rise, most, won, first);
       at_least = λ e.
-          let tight : worth_of bs (x -ℤ m) -ℤ (p *ℤ (x -ℤ m)) ≡ gain p bs = omega (arith, ints, parts, rise, most, won, first, e) in
+          let tight : worth_of bs (x -ℤ m) -ℤ (p *ℤ (x -ℤ m)) ≡ gain p bs =
+          omega (arith, ints, parts, rise, most, won, first, e) in
           let least = rest.at_least tight in
           omega (arith, ints, parts, rise, most, won, first, e, least, power);
     }
 
-left_no_better : (p : ℤ) (b : Block) (bs : List Block) (x : ℤ) → IsLeftOut p b → IsParted b bs x → IsNoBetter p bs (x -ℤ int_min x b.width) → IsNoBetter p (b ∷ bs) x
+left_no_better : (p : ℤ) (b : Block) (bs : List Block) (x : ℤ) → IsLeftOut p b → IsParted b bs x →
+    IsNoBetter p bs (x -ℤ int_min x b.width) → IsNoBetter p (b ∷ bs) x
 left_no_better p b bs x c two rest =
     let m = int_min x b.width in
     let parts = earned_parts p b bs x m in
@@ -210,7 +222,8 @@ left_no_better p b bs x c two rest =
     record {
       at_most = omega (arith, ints, parts, fall, none, most, won);
       at_least = λ e.
-          let tight : worth_of bs (x -ℤ m) -ℤ (p *ℤ (x -ℤ m)) ≡ gain p bs = omega (arith, ints, parts, fall, none, most, won, e) in
+          let tight : worth_of bs (x -ℤ m) -ℤ (p *ℤ (x -ℤ m)) ≡ gain p bs =
+          omega (arith, ints, parts, fall, none, most, won, e) in
           let least = rest.at_least tight in
           omega (arith, ints, least, power, low);
     }
@@ -223,7 +236,8 @@ no_better p [] x h low high =
 no_better p (b ∷ bs) x h low high =
     let two = parted b bs x (block_first b bs h).width.at_least low high (widths_low bs (blocks_rest b bs h)) in
     let rest = no_better p bs (x -ℤ int_min x b.width) (blocks_rest b bs h) two.rest_low two.rest_high in
-    ⊎_elim (λ (c : Counts p b). counts_no_better p b bs x c two rest) (λ (c : IsLeftOut p b). left_no_better p b bs x c two rest) (one_of p b)
+    ⊎_elim (λ (c : Counts p b). counts_no_better p b bs x c two rest)
+    (λ (c : IsLeftOut p b). left_no_better p b bs x c two rest) (one_of p b)
 
 -- ---- what the wanted power earns, where the dearest block comes first
 
@@ -257,7 +271,8 @@ all_left_out p b (b2 ∷ bs) falls h =
     }
 
 counts_earns : (p : ℤ) (b : Block) (bs : List Block) → Counts p b → pos 0 ≤ℤ wanted p bs →
-    worth_of bs (wanted p bs) -ℤ (p *ℤ wanted p bs) ≡ gain p bs → worth_of (b ∷ bs) (wanted p (b ∷ bs)) -ℤ (p *ℤ wanted p (b ∷ bs)) ≡ gain p (b ∷ bs)
+    worth_of bs (wanted p bs) -ℤ (p *ℤ wanted p bs) ≡ gain p bs →
+    worth_of (b ∷ bs) (wanted p (b ∷ bs)) -ℤ (p *ℤ wanted p (b ∷ bs)) ≡ gain p (b ∷ bs)
 counts_earns p b bs c low rest =
     let x = wanted p (b ∷ bs) in
     let power = c.power in
@@ -269,7 +284,8 @@ counts_earns p b bs c low rest =
     let f = ap (λ (z : ℤ). worth_of bs z -ℤ (p *ℤ z)) behind in
     omega (arith, ints, e, parts, f, rest, won)
 
-left_earns : (p : ℤ) (b : Block) (bs : List Block) → AreBlocks (b ∷ bs) → IsNothing p (b ∷ bs) → worth_of (b ∷ bs) (wanted p (b ∷ bs)) -ℤ (p *ℤ wanted p (b ∷ bs)) ≡ gain p (b ∷ bs)
+left_earns : (p : ℤ) (b : Block) (bs : List Block) → AreBlocks (b ∷ bs) → IsNothing p (b ∷ bs) →
+    worth_of (b ∷ bs) (wanted p (b ∷ bs)) -ℤ (p *ℤ wanted p (b ∷ bs)) ≡ gain p (b ∷ bs)
 left_earns p b bs h none =
     let e = ap (λ (z : ℤ). worth_of (b ∷ bs) z -ℤ (p *ℤ z)) none.power in
     let f = worth_none (b ∷ bs) h in
@@ -277,7 +293,8 @@ left_earns p b bs h none =
     let won = none.won in
     e ∙ (omega (arith, ints, f, g, won))
 
-wanted_earns : (p : ℤ) (bs : List Block) → AreBlocks bs → neg_ℤ price_limit ≤ℤ p → FallsFrom bs → worth_of bs (wanted p bs) -ℤ (p *ℤ wanted p bs) ≡ gain p bs
+wanted_earns : (p : ℤ) (bs : List Block) → AreBlocks bs → neg_ℤ price_limit ≤ℤ p → FallsFrom bs →
+    worth_of bs (wanted p bs) -ℤ (p *ℤ wanted p bs) ≡ gain p bs
 wanted_earns p [] h low falls = let e = *ℤ-zero p in omega (arith, ints, e)
 wanted_earns p (b ∷ bs) h low falls =
     let rest = wanted_earns p bs (blocks_rest b bs h) low (falls_rest b bs falls) in
@@ -295,9 +312,11 @@ pub record IsPart (p : ℤ) (bs : List Block) (i power : ℕ) (earned : ℤ) : T
 pub record IsStep (p : ℤ) (bs : List Block) (i power : ℕ) (earned : ℤ) (d : Block) : Type 0 where
   pub power_room : IsFrom (pos 0) (pos 1000000000) (pos power +ℤ added_power p (slice_index_or bs i d))
   pub earned_room : IsFrom (pos 0) (pos 20000000000000000) (earned +ℤ added_gain p (slice_index_or bs i d))
-  pub next : (more : ℕ) (won : ℤ) → pos more ≡ pos power +ℤ added_power p (slice_index_or bs i d) → won ≡ earned +ℤ added_gain p (slice_index_or bs i d) → IsPart p bs (i + 1) more won
+  pub next : (more : ℕ) (won : ℤ) → pos more ≡ pos power +ℤ added_power p (slice_index_or bs i d) →
+      won ≡ earned +ℤ added_gain p (slice_index_or bs i d) → IsPart p bs (i + 1) more won
 
-pub part_step : (p : ℤ) (bs : List Block) (i power : ℕ) (earned : ℤ) (d : Block) → IsBlockList bs → neg_ℤ price_limit ≤ℤ p → i < length bs → IsPart p bs i power earned → IsStep p bs i power earned d
+pub part_step : (p : ℤ) (bs : List Block) (i power : ℕ) (earned : ℤ) (d : Block) → IsBlockList bs →
+    neg_ℤ price_limit ≤ℤ p → i < length bs → IsPart p bs i power earned → IsStep p bs i power earned d
 part_step p bs i power earned d h low within part =
     let blocks : AreBlocks bs = record { each = h.blocks } in
     let b = slice_index_or bs i d in
@@ -307,7 +326,8 @@ part_step p bs i power earned d h low within part =
     let wide = h.width in
     let most = all_.high in
     let top = all_.gain_high in
-    let scaled = mul-mono_of (pos 20000000) (wanted p bs) (pos 1000000000) (omega (arith, ints)) (omega (arith, ints, most, wide)) in
+    let scaled = mul-mono_of (pos 20000000) (wanted p bs) (pos 1000000000) (omega (arith, ints))
+    (omega (arith, ints, most, wide)) in
     let split = drop_more bs i d within in
     let e = ap (wanted p) split in
     let f = ap (gain p) split in
@@ -320,7 +340,11 @@ part_step p bs i power earned d h low within part =
     let n = rest.gain_low in
     record {
       power_room = record { at_least = omega (arith, ints, j); at_most = omega (arith, ints, e, a, m, most, wide) };
-      earned_room = record { at_least = omega (arith, ints, g, k); at_most = omega (arith, ints, f, c, n, top, scaled) };
+      earned_room = record {
+        at_least = omega (arith, ints, g, k);
+        at_most =
+            omega (arith, ints, f, c, n, top, scaled);
+      };
       next = λ more won q r. record {
         power_is = omega (arith, ints, e, a, q);
         earned_is = omega (arith, ints, f, c, r);
@@ -330,7 +354,8 @@ part_step p bs i power earned d h low within part =
 
 -- ---- the choice
 
-pub wanted_is_choice : (bs : List Block) (p : ℤ) (power : ℕ) (earned : ℤ) → IsBlockList bs → neg_ℤ price_limit ≤ℤ p → pos power ≡ wanted p bs → earned ≡ gain p bs →
+pub wanted_is_choice : (bs : List Block) (p : ℤ) (power : ℕ) (earned : ℤ) → IsBlockList bs → neg_ℤ price_limit ≤ℤ p →
+    pos power ≡ wanted p bs → earned ≡ gain p bs →
     IsLeastChoice (IsWithinBlocks bs) (bought_at bs p) power earned
 wanted_is_choice bs p power earned h low is won =
     let blocks : AreBlocks bs = record { each = h.blocks } in
@@ -342,11 +367,13 @@ wanted_is_choice bs p power earned h low is won =
     let wide = h.width in
     let e = wanted_earns p bs blocks low h.falling in
     let f = ap (λ (z : ℤ). worth_of bs z -ℤ (p *ℤ z)) is in
-    let scaled = mul-mono_of (pos 20000000) (wanted p bs) (pos 1000000000) (omega (arith, ints)) (omega (arith, ints, b, wide)) in
+    let scaled = mul-mono_of (pos 20000000) (wanted p bs) (pos 1000000000) (omega (arith, ints))
+    (omega (arith, ints, b, wide)) in
     record {
       best = record {
         allowed = omega (arith, ints, is, b);
-        greatest = λ other i. let g = (no_better p bs (pos other) blocks (omega (arith, ints)) i).at_most in omega (arith, ints, e, f, g);
+        greatest = λ other i. let g = (no_better p bs (pos other) blocks (omega (arith, ints)) i).at_most in
+            omega (arith, ints, e, f, g);
         least = λ other i j.
             let g = (no_better p bs (pos other) blocks (omega (arith, ints)) i).at_least (j ∙ f ∙ e) in
             omega (arith, ints, g, is);
@@ -355,7 +382,8 @@ wanted_is_choice bs p power earned h low is won =
       bound = record { at_least = omega (arith, ints, c, won); at_most = omega (arith, ints, d, scaled, won) };
     }
 
-pub part_is_choice : (bs : List Block) (p : ℤ) (i power : ℕ) (earned : ℤ) → IsBlockList bs → neg_ℤ price_limit ≤ℤ p → length bs ≤ i → IsPart p bs i power earned →
+pub part_is_choice : (bs : List Block) (p : ℤ) (i power : ℕ) (earned : ℤ) → IsBlockList bs → neg_ℤ price_limit ≤ℤ p →
+    length bs ≤ i → IsPart p bs i power earned →
     IsLeastChoice (IsWithinBlocks bs) (bought_at bs p) power earned
 part_is_choice bs p i power earned h low past part =
     let none = drop_all i bs past in

@@ -1,5 +1,6 @@
 -- The best power at a price: all where it is paid for, else as little as allowed.
-use Rattle.flat_answer.proofs.Common.{◌≡◌, ℕ, ℤ, pos, ◌+ℤ◌, ◌-ℤ◌, ◌*ℤ◌, ◌≤ℤ◌, ◌<ℤ◌, arith, ints, *ℤ_comm, *ℤ-zero, IsLeastBest, IsBetween, sold_at, mul-sub, mul-mono_of}
+use Rattle.flat_answer.proofs.Common.{◌≡◌, ℕ, ℤ, pos, ◌+ℤ◌, ◌-ℤ◌, ◌*ℤ◌, ◌≤ℤ◌, ◌<ℤ◌, arith, ints, *ℤ_comm, *ℤ-zero}
+use Rattle.flat_answer.proofs.Common.{IsLeastBest, IsBetween, sold_at, mul-sub, mul-mono_of}
 
 mul-one : (z : ℤ) → z *ℤ pos 1 ≡ z
 mul-one z = omega (arith, ints)
@@ -28,14 +29,18 @@ mul-rise a b c h i =
     let unit = mul-one (c -ℤ b) in
     omega (arith, ints, d, turn, low, unit)
 
-pub sold_all : (least most price : ℤ) (power : ℕ) → pos 0 <ℤ price → least ≤ℤ most → pos power ≡ most → IsLeastBest (IsBetween least most) (sold_at price) power
+pub sold_all : (least most price : ℤ) (power : ℕ) → pos 0 <ℤ price → least ≤ℤ most → pos power ≡ most →
+    IsLeastBest (IsBetween least most) (sold_at price) power
 sold_all least most price power paid range is = record {
   allowed = (omega (arith, ints), omega (arith, ints));
-  greatest = λ other h. let top = h.1 in let rise = mul-rise price (pos other) (pos power) paid (omega (arith, ints)) in omega (arith, ints, rise);
-  least = λ other h e. let top = h.1 in let rise = mul-rise price (pos other) (pos power) paid (omega (arith, ints)) in omega (arith, ints, rise, e);
+  greatest = λ other h. let top = h.1 in let rise = mul-rise price (pos other) (pos power) paid (omega (arith, ints)) in
+      omega (arith, ints, rise);
+  least = λ other h e. let top = h.1 in let rise = mul-rise price (pos other) (pos power) paid (omega (arith, ints)) in
+      omega (arith, ints, rise, e);
 }
 
-pub sold_least : (least most price : ℤ) (power : ℕ) → price ≤ℤ pos 0 → least ≤ℤ most → pos power ≡ least → IsLeastBest (IsBetween least most) (sold_at price) power
+pub sold_least : (least most price : ℤ) (power : ℕ) → price ≤ℤ pos 0 → least ≤ℤ most → pos power ≡ least →
+    IsLeastBest (IsBetween least most) (sold_at price) power
 sold_least least most price power unpaid range is = record {
   allowed = (omega (arith, ints), omega (arith, ints));
   greatest = λ other h. let low = h.0 in mul-fall price (pos power) (pos other) unpaid (omega (arith, ints));

@@ -1,5 +1,6 @@
 -- The least of some numbers, the first of them in a tie, found from the last one back.
-use Rattle.gap_proof.proofs.Common.{◌≡◌, ℕ, ◌+◌, ◌-◌, ◌<◌, ◌≤◌, ℤ, ◌≤ℤ◌, ◌<ℤ◌, inl, inr, sym, ap, ◌∙◌, arith, cases_lt, ints, by_lt_z}
+use Rattle.gap_proof.proofs.Common.{◌≡◌, ℕ, ◌+◌, ◌-◌, ◌<◌, ◌≤◌, ℤ, ◌≤ℤ◌, ◌<ℤ◌, inl, inr, sym, ap, ◌∙◌, arith, cases_lt}
+use Rattle.gap_proof.proofs.Common.{ints, by_lt_z}
 
 -- among the numbers behind place i, up to n, the one at first
 pub record IsLeastBehind (f : ℕ → ℤ) (i n first : ℕ) (bound : ℤ) : Type 0 where
@@ -22,8 +23,10 @@ least_one f i n bound e is = record {
 }
 
 -- one number more, at i, which is taken in a tie
-pub least_more : (f : ℕ → ℤ) (i n first first' : ℕ) (bound b bound' : ℤ) → 0 < i → IsLeastBehind f i n first bound → b ≡ f ((i - 1) + 1) →
-    (b ≤ℤ bound → (first' ≡ (i - 1) + 1) × (bound' ≡ b)) → (bound <ℤ b → (first' ≡ first) × (bound' ≡ bound)) → IsLeastBehind f (i - 1) n first' bound'
+pub least_more : (f : ℕ → ℤ) (i n first first' : ℕ) (bound b bound' : ℤ) → 0 < i → IsLeastBehind f i n first bound →
+    b ≡ f ((i - 1) + 1) →
+    (b ≤ℤ bound → (first' ≡ (i - 1) + 1) × (bound' ≡ b)) → (bound <ℤ b → (first' ≡ first) × (bound' ≡ bound)) →
+    IsLeastBehind f (i - 1) n first' bound'
 least_more f i n first first' bound b bound' low h value taken kept =
     let back : (i - 1) + 1 ≡ i = omega (arith, low) in
     let here : b ≡ f i = value ∙ ap f back in
@@ -40,11 +43,13 @@ least_more f i n first first' bound b bound' low h value taken kept =
       is = let s = h.is in g ∙ s ∙ ap f (sym e);
       least = λ j after up. elim (cases_lt i j) [
         | inl more ↦ let l = h.least j more up in omega (arith, ints, l, g)
-        | inr none ↦ let same = at_same f i j (omega (arith, none, after, low)) in omega (arith, ints, lt, here, same, g)
+        | inr none ↦ let same = at_same f i j (omega (arith, none, after, low)) in
+            omega (arith, ints, lt, here, same, g)
       ];
       earlier = λ j after below. elim (cases_lt i j) [
         | inl more ↦ let l = h.earlier j more (omega (arith, below, e)) in omega (arith, ints, l, g)
-        | inr none ↦ let same = at_same f i j (omega (arith, none, after, low)) in omega (arith, ints, lt, here, same, g)
+        | inr none ↦ let same = at_same f i j (omega (arith, none, after, low)) in
+            omega (arith, ints, lt, here, same, g)
       ];
     })
     (λ le.

@@ -1,5 +1,12 @@
 -- A weighted mean of planes is nowhere below the dual, and its greatest height over a box bounds it there.
-use Rattle.gap_proof.proofs.Common.{◌≡◌, ℕ, zero, suc, ◌*◌, ◌/◌, ◌<◌, ◌≤◌, ℤ, pos, negsuc, neg_ℤ, ◌+ℤ◌, ◌-ℤ◌, ◌*ℤ◌, ◌≤ℤ◌, ◌<ℤ◌, unsigned_abs, List, [], ◌∷◌, length, refl, sym, ap, ◌∙◌, arith, ints, clamps, All-head, All-tail, *ℤ_comm, *ℤ-zero, zero-*ℤ, pos-*ℤ-pos, *ℤ-negsuc, suc_ℤ-*ℤ, pred_ℤ-*ℤ, ℤ_ind, div-lt_iff_lt-mul, mul_comm, int_max, All, PriceLists, Market, IsFrom, Proposal, total, sum_below, floor_div, IsDualValue, mul-add, mul-sub, mul-mono_of, sum_below-le, sum_below-same, sum_below-add, sum_below-zero, price_at, slope_at, height_of, weighted, low_end, high_end, most_over, certified_bound, IsAnswered, AreWeights, IsInBox}
+use Rattle.gap_proof.proofs.Common.{◌≡◌, ℕ, zero, suc, ◌*◌, ◌/◌, ◌<◌, ◌≤◌, ℤ, pos, negsuc, neg_ℤ, ◌+ℤ◌, ◌-ℤ◌, ◌*ℤ◌}
+use Rattle.gap_proof.proofs.Common.{◌≤ℤ◌, ◌<ℤ◌, unsigned_abs, List, [], ◌∷◌, length, refl, sym, ap, ◌∙◌, arith, ints}
+use Rattle.gap_proof.proofs.Common.{clamps, All-head, All-tail, *ℤ_comm, *ℤ-zero, zero-*ℤ, pos-*ℤ-pos, *ℤ-negsuc}
+use Rattle.gap_proof.proofs.Common.{suc_ℤ-*ℤ, pred_ℤ-*ℤ, ℤ_ind, div-lt_iff_lt-mul, mul_comm, int_max, All, PriceLists}
+use Rattle.gap_proof.proofs.Common.{Market, IsFrom, Proposal, total, sum_below, floor_div, IsDualValue, mul-add}
+use Rattle.gap_proof.proofs.Common.{mul-sub, mul-mono_of, sum_below-le, sum_below-same, sum_below-add, sum_below-zero}
+use Rattle.gap_proof.proofs.Common.{price_at, slope_at, height_of, weighted, low_end, high_end, most_over}
+use Rattle.gap_proof.proofs.Common.{certified_bound, IsAnswered, AreWeights, IsInBox}
 use Rattle.std.proofs.lemmas.Nat.{le-div}
 use Rattle.gap_proof.proofs.Subgradients.{plane_above}
 
@@ -29,11 +36,13 @@ mul_assoc a b c =
     (λ n h. ap (λ (z : ℤ). z *ℤ c) (add-mul (pos n) (pos 1) b) ∙ add-mul (pos n *ℤ b) (pos 1 *ℤ b) c
     ∙ ap (λ (z : ℤ). z +ℤ ((pos 1 *ℤ b) *ℤ c)) h ∙ ap (λ (z : ℤ). (pos n *ℤ (b *ℤ c)) +ℤ (z *ℤ c)) (one_mul b)
     ∙ ap (λ (z : ℤ). (pos n *ℤ (b *ℤ c)) +ℤ z) (sym (one_mul (b *ℤ c))) ∙ sym (add-mul (pos n) (pos 1) (b *ℤ c)))
-    (λ n h. ap (λ (z : ℤ). z *ℤ c) (add-mul (neg_ℤ (pos n)) (neg_ℤ (pos 1)) b) ∙ add-mul (neg_ℤ (pos n) *ℤ b) (neg_ℤ (pos 1) *ℤ b) c
+    (λ n h. ap (λ (z : ℤ). z *ℤ c) (add-mul (neg_ℤ (pos n)) (neg_ℤ (pos 1)) b) ∙
+    add-mul (neg_ℤ (pos n) *ℤ b) (neg_ℤ (pos 1) *ℤ b) c
     ∙ ap (λ (z : ℤ). z +ℤ ((neg_ℤ (pos 1) *ℤ b) *ℤ c)) h
     ∙ ap (λ (z : ℤ). (neg_ℤ (pos n) *ℤ (b *ℤ c)) +ℤ (z *ℤ c)) (less_one_mul b)
     ∙ ap (λ (z : ℤ). (neg_ℤ (pos n) *ℤ (b *ℤ c)) +ℤ z) (neg-mul b c)
-    ∙ ap (λ (z : ℤ). (neg_ℤ (pos n) *ℤ (b *ℤ c)) +ℤ z) (sym (less_one_mul (b *ℤ c))) ∙ sym (add-mul (neg_ℤ (pos n)) (neg_ℤ (pos 1)) (b *ℤ c)))
+    ∙ ap (λ (z : ℤ). (neg_ℤ (pos n) *ℤ (b *ℤ c)) +ℤ z) (sym (less_one_mul (b *ℤ c))) ∙
+    sym (add-mul (neg_ℤ (pos n)) (neg_ℤ (pos 1)) (b *ℤ c)))
     a
 
 -- so many times a sum
@@ -46,9 +55,12 @@ sum_below-times w (suc n) f =
 -- ---- the mean of planes
 
 -- numbers that are at most each plane are at most the mean of the planes
-mean_above : (n : ℕ) (height : Proposal → ℤ) (slope : Proposal → ℕ → ℤ) (x : ℕ → ℤ) (v : ℤ) (ws : List ℤ) (rows : List Proposal) → length ws ≡ length rows →
-    All (λ (w : ℤ). pos 0 ≤ℤ w) ws → All (λ (r : Proposal). v ≤ℤ (height r +ℤ sum_below n (λ j. slope r j *ℤ x j))) rows →
-    (total ws *ℤ v) ≤ℤ (weighted height ws rows +ℤ sum_below n (λ j. weighted (λ (r : Proposal). slope r j) ws rows *ℤ x j))
+mean_above : (n : ℕ) (height : Proposal → ℤ) (slope : Proposal → ℕ → ℤ) (x : ℕ → ℤ) (v : ℤ) (ws : List ℤ)
+    (rows : List Proposal) → length ws ≡ length rows →
+    All (λ (w : ℤ). pos 0 ≤ℤ w) ws →
+    All (λ (r : Proposal). v ≤ℤ (height r +ℤ sum_below n (λ j. slope r j *ℤ x j))) rows →
+    (total ws *ℤ v) ≤ℤ (weighted height ws rows +ℤ sum_below n
+    (λ j. weighted (λ (r : Proposal). slope r j) ws rows *ℤ x j))
 mean_above n height slope x v [] [] e low above =
     let a = zero-*ℤ v in
     let b = sum_below-same n (λ j. pos 0 *ℤ x j) (λ j. pos 0) (λ j h. zero-*ℤ (x j)) in
@@ -56,7 +68,8 @@ mean_above n height slope x v [] [] e low above =
 mean_above n height slope x v [] (r ∷ rows) e low above = absurd (omega (arith, e))
 mean_above n height slope x v (w ∷ ws) [] e low above = absurd (omega (arith, e))
 mean_above n height slope x v (w ∷ ws) (r ∷ rows) e low above =
-    let rest = mean_above n height slope x v ws rows (omega (arith, e)) (All-tail (λ (y : ℤ). pos 0 ≤ℤ y) w ws low) (All-tail (λ (q : Proposal). v ≤ℤ (height q +ℤ sum_below n (λ j. slope q j *ℤ x j))) r rows above) in
+    let rest = mean_above n height slope x v ws rows (omega (arith, e)) (All-tail (λ (y : ℤ). pos 0 ≤ℤ y) w ws low)
+    (All-tail (λ (q : Proposal). v ≤ℤ (height q +ℤ sum_below n (λ j. slope q j *ℤ x j))) r rows above) in
     let one = All-head (λ (q : Proposal). v ≤ℤ (height q +ℤ sum_below n (λ j. slope q j *ℤ x j))) r rows above in
     let positive = All-head (λ (y : ℤ). pos 0 ≤ℤ y) w ws low in
     let times = mul-mono_of w v (height r +ℤ sum_below n (λ j. slope r j *ℤ x j)) positive one in
@@ -64,9 +77,12 @@ mean_above n height slope x v (w ∷ ws) (r ∷ rows) e low above =
     let inside = sum_below-times w n (λ j. slope r j *ℤ x j) in
     let left = add-mul w (total ws) v in
     let joined =
-    sum_below-same n (λ j. weighted (λ (q : Proposal). slope q j) (w ∷ ws) (r ∷ rows) *ℤ x j) (λ j. (w *ℤ (slope r j *ℤ x j)) +ℤ (weighted (λ (q : Proposal). slope q j) ws rows *ℤ x j))
-    (λ j h. add-mul (w *ℤ slope r j) (weighted (λ (q : Proposal). slope q j) ws rows) (x j) ∙ ap (λ (z : ℤ). z +ℤ (weighted (λ (q : Proposal). slope q j) ws rows *ℤ x j)) (mul_assoc w (slope r j) (x j))) in
-    let split = sum_below-add n (λ j. w *ℤ (slope r j *ℤ x j)) (λ j. weighted (λ (q : Proposal). slope q j) ws rows *ℤ x j) in
+    sum_below-same n (λ j. weighted (λ (q : Proposal). slope q j) (w ∷ ws) (r ∷ rows) *ℤ x j)
+    (λ j. (w *ℤ (slope r j *ℤ x j)) +ℤ (weighted (λ (q : Proposal). slope q j) ws rows *ℤ x j))
+    (λ j h. add-mul (w *ℤ slope r j) (weighted (λ (q : Proposal). slope q j) ws rows) (x j) ∙
+    ap (λ (z : ℤ). z +ℤ (weighted (λ (q : Proposal). slope q j) ws rows *ℤ x j)) (mul_assoc w (slope r j) (x j))) in
+    let split = sum_below-add n (λ j. w *ℤ (slope r j *ℤ x j))
+    (λ j. weighted (λ (q : Proposal). slope q j) ws rows *ℤ x j) in
     omega (arith, ints, rest, times, apart, inside, left, joined, split)
 
 -- ---- the greatest height over a box
@@ -113,19 +129,25 @@ positive_low (pos n) h = omega (arith, ints, h)
 positive_low (negsuc n) h = absurd (omega (arith, ints, h))
 
 -- the bound holds: no prices in the box have a dual value above it
-pub bound_above : (m : Market) (rows : List Proposal) (weights : List ℤ) (centre : PriceLists) (radius : ℤ) (π : PriceLists) (value : ℤ) →
+pub bound_above : (m : Market) (rows : List Proposal) (weights : List ℤ) (centre : PriceLists) (radius : ℤ)
+    (π : PriceLists) (value : ℤ) →
     All (IsAnswered m) rows → AreWeights rows weights → IsInBox m centre radius π → IsDualValue m π value →
     value ≤ℤ certified_bound m rows weights centre radius
 unfolding certified_bound
 bound_above m rows weights centre radius π value answered are box dual =
     let n = 2 * m.periods in
     let slopes : ℕ → ℤ = λ j. weighted (λ (r : Proposal). slope_at m r j) weights rows in
-    let above : All (λ (r : Proposal). value ≤ℤ (height_of m r +ℤ sum_below (2 * m.periods) (λ j. slope_at m r j *ℤ price_at m π j))) rows =
+    let above : All (λ (r : Proposal).
+    value ≤ℤ (height_of m r +ℤ sum_below (2 * m.periods) (λ j. slope_at m r j *ℤ price_at m π j))) rows =
     λ k d lt. plane_above m _ π value (answered k d lt) box.horizon dual in
-    let mean = mean_above n (height_of m) (slope_at m) (price_at m π) value weights rows are.count are.from_zero above in
-    let most = sum_below-le n (λ j. slopes j *ℤ price_at m π j) (λ j. int_max (slopes j *ℤ low_end m centre radius j) (slopes j *ℤ high_end m centre radius j))
-    (λ j lt. at_an_end (slopes j) (low_end m centre radius j) (high_end m centre radius j) (price_at m π j) (box.inside j lt)) in
+    let mean = mean_above n (height_of m) (slope_at m) (price_at m π) value weights rows are.count are.from_zero
+    above in
+    let most = sum_below-le n (λ j. slopes j *ℤ price_at m π j)
+    (λ j. int_max (slopes j *ℤ low_end m centre radius j) (slopes j *ℤ high_end m centre radius j))
+    (λ j lt. at_an_end (slopes j) (low_end m centre radius j) (high_end m centre radius j) (price_at m π j)
+    (box.inside j lt)) in
     let some = are.some in
     let sum : pos (unsigned_abs (total weights)) ≡ total weights = positive_is (total weights) some in
-    at_most_quotient value (weighted (height_of m) weights rows +ℤ most_over m centre radius slopes) (unsigned_abs (total weights)) (positive_low (total weights) some)
+    at_most_quotient value (weighted (height_of m) weights rows +ℤ most_over m centre radius slopes)
+    (unsigned_abs (total weights)) (positive_low (total weights) some)
     (let e = ap (λ (z : ℤ). z *ℤ value) sum in omega (arith, ints, mean, most, e))

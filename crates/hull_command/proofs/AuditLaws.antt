@@ -1,5 +1,8 @@
 -- The steps of an audit, one after another.
-use Rattle.hull_command.proofs.Common.{◌≡◌, ℕ, inl, inr, List, Option, Some, Ok, Err, refl, sym, subst, ap, ◌∙◌, Report, report_text, ReportFile, TopFault, IsAuditText, IsFaultOf, Then, Reads, IsInput, IsWithinWork, IsReportFile, IsAudit, PlannedCase, Completes, command_for, audit, audit_asked, rest_with, report_of}
+use Rattle.hull_command.proofs.Common.{◌≡◌, ℕ, inl, inr, List, Option, Some, Ok, Err, refl, sym, subst, ap, ◌∙◌, Report}
+use Rattle.hull_command.proofs.Common.{report_text, ReportFile, TopFault, IsAuditText, IsFaultOf, Then, Reads, IsInput}
+use Rattle.hull_command.proofs.Common.{IsWithinWork, IsReportFile, IsAudit, PlannedCase, Completes, command_for, audit}
+use Rattle.hull_command.proofs.Common.{audit_asked, rest_with, report_of}
 use Rattle.hull_words.specs.declared.command.AuditWords.{AuditWords}
 use Rattle.report_read.specs.declared.report.Report.{Report as ReadReport}
 use Rattle.hull_command.specs.declared.ready.Task.TheVariants.{Audit}
@@ -13,19 +16,24 @@ text_read read r (Err f, is, e) = absurd cc
 -- ---- the steps
 
 module _ (reads : Reads) (c : PlannedCase) (input : IsInput reads (Ok c)) where
-  pub report_refused : (f : TopFault) → IsFaultOf (IsReportFile (reads ReportFile)) f → IsFaultOf (Then (IsInput reads) (IsAudit reads)) f
+  pub report_refused : (f : TopFault) → IsFaultOf (IsReportFile (reads ReportFile)) f →
+      IsFaultOf (Then (IsInput reads) (IsAudit reads)) f
   report_refused f (inl due) = inl (Ok c, input, (Err f, due, refl))
   report_refused f (inr memory) = inr memory
 
   module _ (r : Report) (file : IsReportFile (reads ReportFile) (Ok r)) where
-    pub work_refused : (f : TopFault) → IsFaultOf (IsWithinWork r.budget c) f → IsFaultOf (Then (IsInput reads) (IsAudit reads)) f
+    pub work_refused : (f : TopFault) → IsFaultOf (IsWithinWork r.budget c) f →
+        IsFaultOf (Then (IsInput reads) (IsAudit reads)) f
     work_refused f (inl due) = inl (Ok c, input, (Ok r, file, (Err f, due, refl)))
     work_refused f (inr memory) = inr memory
 
 -- what judges the report completes the audit
-pub completes_audit : (words : AuditWords) (reads : Reads) (c left : PlannedCase) (report : ReadReport) (budget ahead : ℕ) → IsInput reads (Ok c) → IsReportFile (reads ReportFile) (Ok (report_of report))
-    → IsWithinWork (report_of report).budget c (Ok left) → Completes (command_for (Ok (audit (audit_asked words)))) reads (rest_with (Audit report) left budget ahead)
+pub completes_audit : (words : AuditWords) (reads : Reads) (c left : PlannedCase) (report : ReadReport)
+    (budget ahead : ℕ) → IsInput reads (Ok c) → IsReportFile (reads ReportFile) (Ok (report_of report))
+    → IsWithinWork (report_of report).budget c (Ok left) →
+    Completes (command_for (Ok (audit (audit_asked words)))) reads (rest_with (Audit report) left budget ahead)
 completes_audit words reads c left report budget ahead input file work = record {
   due = λ found judged. (Ok c, input, (Ok (report_of report), file, (Ok left, work, judged)));
-  text = λ i text printed. subst (λ (read : Option (List ℕ)). IsAuditText read i text) (sym (text_read (reads ReportFile) (report_of report) file)) printed;
+  text = λ i text printed. subst (λ (read : Option (List ℕ)). IsAuditText read i text)
+      (sym (text_read (reads ReportFile) (report_of report) file)) printed;
 }

@@ -1,5 +1,7 @@
 -- The end of a run is its outcome.
-use Rattle.hull_command.proofs.Common.{◌≡◌, ℕ, ◌≤◌, List, Option, Result, Ok, Err, inl, inr, sym, subst, Gains, FallsShort, Asked, WordFault, TopFault, Words, Reads, Command, command_for, Ends, IsFaultOf, IsCommandAnswer, IsEndOf, IsPrepared, words_of}
+use Rattle.hull_command.proofs.Common.{◌≡◌, ℕ, ◌≤◌, List, Option, Result, Ok, Err, inl, inr, sym, subst, Gains}
+use Rattle.hull_command.proofs.Common.{FallsShort, Asked, WordFault, TopFault, Words, Reads, Command, command_for, Ends}
+use Rattle.hull_command.proofs.Common.{IsFaultOf, IsCommandAnswer, IsEndOf, IsPrepared, words_of}
 use Rattle.hull_command.specs.declared.answer.Answer.{Answer}
 use Rattle.hull_command.specs.declared.end.End.{End}
 use Rattle.hull_command.specs.declared.end.End.TheVariants.{Done, Cut, Refused}
@@ -12,7 +14,8 @@ use Rattle.hull_command.specs.declared.ready.Prepared.{Prepared}
 use Rattle.hull_command.specs.declared.ready.Prepared.TheVariants as prepareds
 use Rattle.hull_command.specs.declared.ready.Ready.{Ready}
 
-pub ends_as : (c : Command) (reads : Reads) (gained short : List ℕ → Type 0) (r : Result Answer TopFault) (e : End) → IsCommandAnswer c reads r → IsEndOf gained short r e → Ends c reads gained short e
+pub ends_as : (c : Command) (reads : Reads) (gained short : List ℕ → Type 0) (r : Result Answer TopFault) (e : End) →
+    IsCommandAnswer c reads r → IsEndOf gained short r e → Ends c reads gained short e
 ends_as c reads gained short (Ok a) Done (i, due, texts) (text, is, p) = (i, due, text, texts text is, p)
 ends_as c reads gained short (Ok a) Cut (i, due, texts) (text, is, p) = (i, due, text, texts text is, p)
 ends_as c reads gained short (Ok a) (Refused f) due p = absurd p
@@ -21,13 +24,15 @@ ends_as c reads gained short (Err f) Cut due p = absurd p
 ends_as c reads gained short (Err f) (Refused g) due p = (subst (IsFaultOf (c.IsDue reads)) (sym p.0) due, p.1)
 
 -- words that are refused
-pub refused_words : (w : Result Asked WordFault) (f : WordFault) → w ≡ Err f → (reads : Reads) → (command_for w).IsDue reads (Err (Words f))
+pub refused_words : (w : Result Asked WordFault) (f : WordFault) → w ≡ Err f → (reads : Reads) →
+    (command_for w).IsDue reads (Err (Words f))
 refused_words (Err g) f e reads = cc
 refused_words (Ok a) f e reads = absurd cc
 
 -- no count of the sink falls
 module _ {S : Type 0} (held : S → Option (List ℕ)) (faults : S → ℕ) (last : Option ℕ) (old new : S) where
-  pub sink_later : (r : Result Answer TopFault) (e : End) → IsEndOf (Gains held faults old new) (FallsShort held faults last old new) r e → faults old ≤ faults new
+  pub sink_later : (r : Result Answer TopFault) (e : End) →
+      IsEndOf (Gains held faults old new) (FallsShort held faults last old new) r e → faults old ≤ faults new
   sink_later (Ok a) Done (text, is, p) = p.later
   sink_later (Ok a) Cut (text, is, p) = p.later
   sink_later (Ok a) (Refused f) p = absurd p
@@ -40,7 +45,9 @@ module _ {S : Type 0} (held : S → Option (List ℕ)) (faults : S → ℕ) (las
 
 -- what was prepared is what the words come to before a run
 module _ (words : List (List ℕ)) (told : List ℕ → Option (List ℕ)) (rose gained short : List ℕ → Type 0) where
-  pub before_as : (p : Result Prepared TopFault) (b : Before) → HasReads told rose (command_for (words_of words)).name_of (λ reads. IsPrepared (command_for (words_of words)) reads p) → IfOk p IsFit → IsAsked (words_of words) p
+  pub before_as : (p : Result Prepared TopFault) (b : Before) →
+      HasReads told rose (command_for (words_of words)).name_of
+      (λ reads. IsPrepared (command_for (words_of words)) reads p) → IfOk p IsFit → IsAsked (words_of words) p
       → IsBeforeOf gained short p b → IsBefore words told rose gained short b
   before_as (Ok (prepareds.Answered a)) (befores.Ended n) (reads, are, answers) fit asked (e, ends, is) = record {
     reads = reads;
@@ -52,7 +59,8 @@ module _ (words : List (List ℕ)) (told : List ℕ → Option (List ℕ)) (rose
   before_as (Ok (prepareds.Answered a)) (befores.Ready r) (reads, are, answers) fit asked p = absurd p
   before_as (Ok (prepareds.Ready r)) (befores.Ended n) (reads, are, completes) fit asked p = absurd p
   before_as (Ok (prepareds.Ready r)) (befores.Ready s) (reads, are, completes) fit asked same =
-      subst (λ (x : Ready). IsBefore words told rose gained short (befores.Ready x)) (sym same) (fit, asked, (reads, are, completes))
+      subst (λ (x : Ready). IsBefore words told rose gained short (befores.Ready x)) (sym same)
+      (fit, asked, (reads, are, completes))
   before_as (Err f) (befores.Ended n) (reads, are, answers) fit asked (e, ends, is) = record {
     reads = reads;
     are_reads = are;

@@ -1,5 +1,10 @@
 -- What was read of a file, of the two files of an input, and of a report beside them.
-use Rattle.hull_command.proofs.Common.{◌≡◌, ℕ, ◌+◌, ◌<◌, ◌≤◌, Bool, true, false, List, [], length, replicate, Option, None, Some, Ok, Err, refl, inl, inr, arith, IfSome, nat_lt, if◌then◌else◌, length-replicate, le-ltb, lt-ltb, Rose, CaseFile, ScheduleFile, ReportFile, PricesFile, MixtureFile, TooBig, Reads, bytes_of, IsBytes, IsReadOf, case_and_schedule, with_report, with_prices, with_mixture, SettleAsked, AreReads, HasRead}
+use Rattle.hull_command.proofs.Common.{◌≡◌, ℕ, ◌+◌, ◌<◌, ◌≤◌, Bool, true, false, List, [], length, replicate, Option}
+use Rattle.hull_command.proofs.Common.{None, Some, Ok, Err, refl, inl, inr, arith, IfSome, nat_lt, if◌then◌else◌}
+use Rattle.hull_command.proofs.Common.{length-replicate, le-ltb, lt-ltb, Rose, CaseFile, ScheduleFile, ReportFile}
+use Rattle.hull_command.proofs.Common.{PricesFile, MixtureFile, TooBig, Reads, bytes_of, IsBytes, IsReadOf}
+use Rattle.hull_command.proofs.Common.{case_and_schedule, with_report, with_prices, with_mixture, SettleAsked, AreReads}
+use Rattle.hull_command.proofs.Common.{HasRead}
 use Rattle.plain_lists.specs.declared.limits.TheConstants.{MOST_BYTES}
 use Rattle.hull_report.specs.declared.fault.FileKind.{FileKind}
 
@@ -23,25 +28,31 @@ passed_test true x y z e h = h
 passed_test false x y z e h = absurd cc
 
 read_whole_file : (file : FileKind) (bytes : List ℕ) → length bytes ≤ MOST_BYTES → Ok bytes ≡ bytes_of file (Some bytes)
-read_whole_file file bytes fits = as_test (nat_lt MOST_BYTES (length bytes)) (Err (TooBig file)) (Ok bytes) (Ok bytes) (le-ltb MOST_BYTES (length bytes) fits) refl
+read_whole_file file bytes fits = as_test (nat_lt MOST_BYTES (length bytes)) (Err (TooBig file)) (Ok bytes) (Ok bytes)
+    (le-ltb MOST_BYTES (length bytes) fits) refl
 
-too_long : (file : FileKind) (bytes : List ℕ) → MOST_BYTES < length bytes → Err (TooBig file) ≡ bytes_of file (Some bytes)
-too_long file bytes long = passed_test (nat_lt MOST_BYTES (length bytes)) (Err (TooBig file)) (Ok bytes) (Err (TooBig file)) (lt-ltb MOST_BYTES (length bytes) long) refl
+too_long : (file : FileKind) (bytes : List ℕ) → MOST_BYTES < length bytes →
+    Err (TooBig file) ≡ bytes_of file (Some bytes)
+too_long file bytes long = passed_test (nat_lt MOST_BYTES (length bytes)) (Err (TooBig file)) (Ok bytes)
+    (Err (TooBig file)) (lt-ltb MOST_BYTES (length bytes) long) refl
 
 -- some bytes are longer
 longer : (n : ℕ) → (bytes : List ℕ) × (n < length bytes)
 longer n = (replicate (n + 1) 0, omega (arith, length-replicate {A = ℕ} (n + 1) 0))
 
 module _ (told : Option (List ℕ)) (rose : Type 0) (file : FileKind) where
-  pub was_read : (bytes : List ℕ) → IfSome told (λ all. bytes ≡ all) → length bytes ≤ MOST_BYTES → HasRead told rose (λ read. IsBytes file read (Ok bytes))
+  pub was_read : (bytes : List ℕ) → IfSome told (λ all. bytes ≡ all) → length bytes ≤ MOST_BYTES →
+      HasRead told rose (λ read. IsBytes file read (Ok bytes))
   was_read bytes is fits = (Some bytes, is, read_whole_file file bytes fits)
 
-pub was_too_big : (told : Option (List ℕ)) (rose : Type 0) (file : FileKind) → IfSome told (λ all. MOST_BYTES < length all) → HasRead told rose (λ read. IsBytes file read (Err (TooBig file)))
+pub was_too_big : (told : Option (List ℕ)) (rose : Type 0) (file : FileKind) →
+    IfSome told (λ all. MOST_BYTES < length all) → HasRead told rose (λ read. IsBytes file read (Err (TooBig file)))
 was_too_big None rose file h = let some = longer MOST_BYTES in (Some some.0, tt, too_long file some.0 some.1)
 was_too_big (Some all) rose file h = (Some all, refl, too_long file all h)
 
 -- the bytes that were read of it
-pub got : (file : FileKind) (read : Option (List ℕ)) (bytes : List ℕ) → Ok bytes ≡ bytes_of file read → read ≡ Some bytes
+pub got : (file : FileKind) (read : Option (List ℕ)) (bytes : List ℕ) → Ok bytes ≡ bytes_of file read →
+    read ≡ Some bytes
 got file None bytes e = absurd cc
 got file (Some all) bytes e = more (nat_lt MOST_BYTES _) e
   where
@@ -57,7 +68,8 @@ rose_wider None a b c d p h q = omega arith
 rose_wider (Some most) a b c d p (inl h) q = inl (omega arith)
 rose_wider (Some most) a b c d p (inr h) q = inr (omega arith)
 
-pub read_wider : (told : Option (List ℕ)) (last : Option ℕ) (a b c d : ℕ) (read : Option (List ℕ)) → a ≤ b → c ≤ d → IsReadOf told (Rose last b c) read → IsReadOf told (Rose last a d) read
+pub read_wider : (told : Option (List ℕ)) (last : Option ℕ) (a b c d : ℕ) (read : Option (List ℕ)) → a ≤ b → c ≤ d →
+    IsReadOf told (Rose last b c) read → IsReadOf told (Rose last a d) read
 read_wider told last a b c d None p q h = rose_wider last a b c d p h q
 read_wider told last a b c d (Some bytes) p q h = h
 
@@ -70,8 +82,10 @@ two_reads case_read schedule_read ReportFile = None
 two_reads case_read schedule_read PricesFile = None
 two_reads case_read schedule_read MixtureFile = None
 
-pub are_two_reads : (told : List ℕ → Option (List ℕ)) (rose : List ℕ → Type 0) (case_name schedule_name : List ℕ) (case_read schedule_read : Option (List ℕ))
-    → IsReadOf (told case_name) (rose case_name) case_read → IsReadOf (told schedule_name) (rose schedule_name) schedule_read
+pub are_two_reads : (told : List ℕ → Option (List ℕ)) (rose : List ℕ → Type 0) (case_name schedule_name : List ℕ)
+    (case_read schedule_read : Option (List ℕ))
+    → IsReadOf (told case_name) (rose case_name) case_read →
+    IsReadOf (told schedule_name) (rose schedule_name) schedule_read
     → AreReads told rose (case_and_schedule case_name schedule_name) (two_reads case_read schedule_read)
 are_two_reads told rose case_name schedule_name case_read schedule_read p q CaseFile = p
 are_two_reads told rose case_name schedule_name case_read schedule_read p q ScheduleFile = q
@@ -104,28 +118,37 @@ mixture_added reads read PricesFile = reads PricesFile
 mixture_added reads read MixtureFile = read
 
 -- a shelf counts the faults of a name before, between and after the reads of the input and of the last file
-module _ (told : List ℕ → Option (List ℕ)) (last : Option ℕ) (before between after : List ℕ → ℕ) (case_name schedule_name last_name : List ℕ) where
-  module _ (reads : Reads) (read : Option (List ℕ)) (early : (any : List ℕ) → before any ≤ between any) (late : (any : List ℕ) → between any ≤ after any)
-      (are : AreReads told (λ name. Rose last (before name) (between name)) (case_and_schedule case_name schedule_name) reads)
+module _ (told : List ℕ → Option (List ℕ)) (last : Option ℕ) (before between after : List ℕ → ℕ)
+    (case_name schedule_name last_name : List ℕ) where
+  module _ (reads : Reads) (read : Option (List ℕ)) (early : (any : List ℕ) → before any ≤ between any)
+      (late : (any : List ℕ) → between any ≤ after any)
+      (are : AreReads told (λ name. Rose last (before name) (between name)) (case_and_schedule case_name schedule_name)
+      reads)
       (is : IsReadOf (told last_name) (Rose last (between last_name) (after last_name)) read) where
     case_later : IsReadOf (told case_name) (Rose last (before case_name) (after case_name)) (reads CaseFile)
-    case_later = read_wider (told case_name) last (before case_name) (before case_name) (between case_name) (after case_name) (reads CaseFile) (omega arith) (late case_name) (are CaseFile)
+    case_later = read_wider (told case_name) last (before case_name) (before case_name) (between case_name)
+        (after case_name) (reads CaseFile) (omega arith) (late case_name) (are CaseFile)
 
-    schedule_later : IsReadOf (told schedule_name) (Rose last (before schedule_name) (after schedule_name)) (reads ScheduleFile)
+    schedule_later : IsReadOf (told schedule_name) (Rose last (before schedule_name) (after schedule_name))
+        (reads ScheduleFile)
     schedule_later =
-        read_wider (told schedule_name) last (before schedule_name) (before schedule_name) (between schedule_name) (after schedule_name) (reads ScheduleFile) (omega arith) (late schedule_name) (are ScheduleFile)
+        read_wider (told schedule_name) last (before schedule_name) (before schedule_name) (between schedule_name)
+        (after schedule_name) (reads ScheduleFile) (omega arith) (late schedule_name) (are ScheduleFile)
 
     last_earlier : IsReadOf (told last_name) (Rose last (before last_name) (after last_name)) read
-    last_earlier = read_wider (told last_name) last (before last_name) (between last_name) (after last_name) (after last_name) read (early last_name) (omega arith) is
+    last_earlier = read_wider (told last_name) last (before last_name) (between last_name) (after last_name)
+        (after last_name) read (early last_name) (omega arith) is
 
-    pub are_report_added : AreReads told (λ name. Rose last (before name) (after name)) (with_report case_name schedule_name last_name) (report_added reads read)
+    pub are_report_added : AreReads told (λ name. Rose last (before name) (after name))
+        (with_report case_name schedule_name last_name) (report_added reads read)
     are_report_added CaseFile = case_later
     are_report_added ScheduleFile = schedule_later
     are_report_added ReportFile = last_earlier
     are_report_added PricesFile = tt
     are_report_added MixtureFile = tt
 
-    pub are_prices_added : AreReads told (λ name. Rose last (before name) (after name)) (with_prices case_name schedule_name last_name) (prices_added reads read)
+    pub are_prices_added : AreReads told (λ name. Rose last (before name) (after name))
+        (with_prices case_name schedule_name last_name) (prices_added reads read)
     are_prices_added CaseFile = case_later
     are_prices_added ScheduleFile = schedule_later
     are_prices_added ReportFile = tt
@@ -133,19 +156,27 @@ module _ (told : List ℕ → Option (List ℕ)) (last : Option ℕ) (before bet
     are_prices_added MixtureFile = tt
 
 -- and before, between and after the reads of the input with its prices and of a mixture
-module _ (told : List ℕ → Option (List ℕ)) (last : Option ℕ) (before between after : List ℕ → ℕ) (names : SettleAsked) (mixture_name : List ℕ) where
-  module _ (reads : Reads) (read : Option (List ℕ)) (early : (any : List ℕ) → before any ≤ between any) (late : (any : List ℕ) → between any ≤ after any)
-      (are : AreReads told (λ name. Rose last (before name) (between name)) (with_prices names.case_name names.schedule_name names.prices_name) reads)
+module _ (told : List ℕ → Option (List ℕ)) (last : Option ℕ) (before between after : List ℕ → ℕ) (names : SettleAsked)
+    (mixture_name : List ℕ) where
+  module _ (reads : Reads) (read : Option (List ℕ)) (early : (any : List ℕ) → before any ≤ between any)
+      (late : (any : List ℕ) → between any ≤ after any)
+      (are : AreReads told (λ name. Rose last (before name) (between name))
+      (with_prices names.case_name names.schedule_name names.prices_name) reads)
       (is : IsReadOf (told mixture_name) (Rose last (between mixture_name) (after mixture_name)) read) where
-    later : (name : List ℕ) (bytes : Option (List ℕ)) → IsReadOf (told name) (Rose last (before name) (between name)) bytes → IsReadOf (told name) (Rose last (before name) (after name)) bytes
-    later name bytes h = read_wider (told name) last (before name) (before name) (between name) (after name) bytes (omega arith) (late name) h
+    later : (name : List ℕ) (bytes : Option (List ℕ)) →
+        IsReadOf (told name) (Rose last (before name) (between name)) bytes →
+        IsReadOf (told name) (Rose last (before name) (after name)) bytes
+    later name bytes h = read_wider (told name) last (before name) (before name) (between name) (after name) bytes
+        (omega arith) (late name) h
 
-    pub are_mixture_added : AreReads told (λ name. Rose last (before name) (after name)) (with_mixture names mixture_name) (mixture_added reads read)
+    pub are_mixture_added : AreReads told (λ name. Rose last (before name) (after name))
+        (with_mixture names mixture_name) (mixture_added reads read)
     are_mixture_added CaseFile = later names.case_name (reads CaseFile) (are CaseFile)
     are_mixture_added ScheduleFile = later names.schedule_name (reads ScheduleFile) (are ScheduleFile)
     are_mixture_added ReportFile = tt
     are_mixture_added PricesFile = later names.prices_name (reads PricesFile) (are PricesFile)
-    are_mixture_added MixtureFile = read_wider (told mixture_name) last (before mixture_name) (between mixture_name) (after mixture_name) (after mixture_name) read (early mixture_name) (omega arith) is
+    are_mixture_added MixtureFile = read_wider (told mixture_name) last (before mixture_name) (between mixture_name)
+        (after mixture_name) (after mixture_name) read (early mixture_name) (omega arith) is
 
 -- what may have been read of all files, whatever is told of them
 abbrev pub any_of : (told : List ℕ → Option (List ℕ)) → Option (List ℕ) → Option (List ℕ)
@@ -155,7 +186,8 @@ any_of told (Some name) = unread (told name)
 abbrev pub any_reads : (told : List ℕ → Option (List ℕ)) (name_of : FileKind → Option (List ℕ)) → Reads
 any_reads told name_of file = any_of told (name_of file)
 
-pub are_any_reads : (told : List ℕ → Option (List ℕ)) (rose : List ℕ → Type 0) (name_of : FileKind → Option (List ℕ)) → AreReads told rose name_of (any_reads told name_of)
+pub are_any_reads : (told : List ℕ → Option (List ℕ)) (rose : List ℕ → Type 0) (name_of : FileKind → Option (List ℕ)) →
+    AreReads told rose name_of (any_reads told name_of)
 are_any_reads told rose name_of file = each (name_of file)
   where
     each : (o : Option (List ℕ)) → IfSome o (λ name. IsReadOf (told name) (rose name) (any_of told o))

@@ -1,5 +1,8 @@
 -- A run that is ready completes its command.
-use Rattle.hull_command.proofs.Common.{◌≡◌, ℕ, Ok, sym, subst, report_text, try_text, Terms, planned_run, IsReportText, IsBoundText, IsFixedText, IsInput, IsWithinWork, IsMade, Then, Reads, Completes, command_for, price, try, bound, fixed, price_asked, try_asked, bound_asked, HasNumbers, rest_with}
+use Rattle.hull_command.proofs.Common.{◌≡◌, ℕ, Ok, sym, subst, report_text, try_text, Terms, planned_run, IsReportText}
+use Rattle.hull_command.proofs.Common.{IsBoundText, IsFixedText, IsInput, IsWithinWork, IsMade, Then, Reads, Completes}
+use Rattle.hull_command.proofs.Common.{command_for, price, try, bound, fixed, price_asked, try_asked, bound_asked}
+use Rattle.hull_command.proofs.Common.{HasNumbers, rest_with}
 use Rattle.hull_words.specs.declared.command.PriceWords.{PriceWords}
 use Rattle.hull_words.specs.declared.command.TryWords.{TryWords}
 use Rattle.hull_words.specs.declared.command.BoundWords.{BoundWords}

@@ -1,5 +1,7 @@
 -- The steps of a settlement at given prices, one after another.
-use Rattle.hull_command.proofs.Common.{◌≡◌, inl, inr, Ok, Err, refl, subst, market_of, schedules_of, PricesFile, TopFault, IsFaultOf, Then, Reads, IsInput, IsPricesFile, IsPriced, planned_of, PlannedCase, IsCommandAnswer, command_for, settle, settle_asked}
+use Rattle.hull_command.proofs.Common.{◌≡◌, inl, inr, Ok, Err, refl, subst, market_of, schedules_of, PricesFile}
+use Rattle.hull_command.proofs.Common.{TopFault, IsFaultOf, Then, Reads, IsInput, IsPricesFile, IsPriced, planned_of}
+use Rattle.hull_command.proofs.Common.{PlannedCase, IsCommandAnswer, command_for, settle, settle_asked}
 use Rattle.uc_model.specs.Data.{PriceLists}
 use Rattle.hull_words.specs.declared.command.SettleWords.{SettleWords}
 use Rattle.hull_report.specs.SettledText.{settlement_of}
@@ -10,12 +12,15 @@ use Rattle.hull_command.specs.declared.answer.Answer.TheVariants.{Settle}
 use Rattle.hull_command.specs.declared.answer.SettledInput.{SettledInput}
 
 module _ (reads : Reads) (c : PlannedCase) (input : IsInput reads (Ok c)) where
-  pub prices_refused : (f : TopFault) → IsFaultOf (IsPricesFile c.market.periods (reads PricesFile)) f → IsFaultOf (Then (IsInput reads) (IsPriced reads)) f
+  pub prices_refused : (f : TopFault) → IsFaultOf (IsPricesFile c.market.periods (reads PricesFile)) f →
+      IsFaultOf (Then (IsInput reads) (IsPriced reads)) f
   prices_refused f (inl due) = inl (Ok c, input, (Err f, due, refl))
   prices_refused f (inr memory) = inr memory
 
-module _ (input : Input) (s : SettledInput) (same : s.input ≡ input) (prices : PriceLists) (settled : IsSettledAt (market_of s.input.case) (schedules_of s.input.plan) prices (settled_of s.settled)) where
-  pub answers_settle : (words : SettleWords) (reads : Reads) → IsInput reads (Ok (planned_of input)) → IsPricesFile (market_of input.case).periods (reads PricesFile) (Ok prices)
+module _ (input : Input) (s : SettledInput) (same : s.input ≡ input) (prices : PriceLists)
+    (settled : IsSettledAt (market_of s.input.case) (schedules_of s.input.plan) prices (settled_of s.settled)) where
+  pub answers_settle : (words : SettleWords) (reads : Reads) → IsInput reads (Ok (planned_of input)) →
+      IsPricesFile (market_of input.case).periods (reads PricesFile) (Ok prices)
       → IsCommandAnswer (command_for (Ok (settle (settle_asked words)))) reads (Ok (Settle s))
   answers_settle words reads is file = (
     planned_of input,
@@ -24,7 +29,9 @@ module _ (input : Input) (s : SettledInput) (same : s.input ≡ input) (prices :
       prices,
       file,
       settled_of s.settled,
-      subst (λ (x : Input). IsSettledAt (market_of x.case) (schedules_of x.plan) prices (settled_of s.settled)) same settled,
-      subst (λ (x : Input). text ≡ settlement_text (settlement_of (market_of x.case) x.cost (settled_of s.settled))) same printed,
+      subst (λ (x : Input). IsSettledAt (market_of x.case) (schedules_of x.plan) prices (settled_of s.settled)) same
+          settled,
+      subst (λ (x : Input). text ≡ settlement_text (settlement_of (market_of x.case) x.cost (settled_of s.settled)))
+          same printed,
     ),
   )

@@ -10,7 +10,8 @@ module _ {A B : Type 0} (first : Result A TopFault → Type 0) (next : A → Res
   fault_then x f before (inl due) = inl (Ok x, before, due)
   fault_then x f before (inr memory) = inr memory
 
-  pub answer_then : {X : Type 0} (x : A) (view : X → B) (r : Result X TopFault) → first (Ok x) → IsAnswer (next x) view r → IsAnswer (Then first next) view r
+  pub answer_then : {X : Type 0} (x : A) (view : X → B) (r : Result X TopFault) → first (Ok x) →
+      IsAnswer (next x) view r → IsAnswer (Then first next) view r
   answer_then x view (Ok y) before after = (Ok x, before, after)
   answer_then x view (Err f) before (inl due) = inl (Ok x, before, due)
   answer_then x view (Err f) before (inr memory) = inr memory

@@ -1,20 +1,25 @@
 -- What is written of a run that has ended is the text of a right report.
-use Rattle.hull_command.proofs.Common.{◌≡◌, ℕ, List, length, unsigned_abs, refl, unit_count, Report, planned_in, IsRunText, IsBoundText, IsEnded}
+use Rattle.hull_command.proofs.Common.{◌≡◌, ℕ, List, length, unsigned_abs, refl, unit_count, Report, planned_in}
+use Rattle.hull_command.proofs.Common.{IsRunText, IsBoundText, IsEnded}
 use Rattle.board_history.specs.Calls.{own_rows}
 use Rattle.hull_report.specs.BoundText.{bound_text}
-use Rattle.right_report.specs.RecordReport.{chosen_of, value_of, report_of, RecordReportIsRight, SettlementsAreOfAllUnits}
+use Rattle.right_report.specs.RecordReport.{chosen_of, value_of, report_of, RecordReportIsRight}
+use Rattle.right_report.specs.RecordReport.{SettlementsAreOfAllUnits}
 use Rattle.run_settle.specs.declared.done.Done.{Done}
 use Rattle.run_settle.specs.declared.bound.Bounded.{Bounded}
 use Rattle.run_settle.specs.Bounded.{IsBounded}
 
 -- the settlement has one number for each unit
 pub ended_lengths : SettlementsAreOfAllUnits → (d : Done) → IsEnded d.closed.setup d
-    → (length d.settlement.scheduled.items ≡ unit_count d.closed.setup.market) × (length d.settlement.payments.items ≡ unit_count d.closed.setup.market)
+    → (length d.settlement.scheduled.items ≡ unit_count d.closed.setup.market) ×
+    (length d.settlement.payments.items ≡ unit_count d.closed.setup.market)
 ended_lengths settled_lengths d h =
-    settled_lengths d.closed.setup.market d.closed.setup.plan h.row.prices d.settlement.scheduled.items d.settlement.payments.items d.settlement.surplus d.settlement.total
+    settled_lengths d.closed.setup.market d.closed.setup.plan h.row.prices d.settlement.scheduled.items
+    d.settlement.payments.items d.settlement.surplus d.settlement.total
     h.settled.feasible h.settled.settled
 
-pub run_text : RecordReportIsRight → (text_of : Report → List ℕ) (d : Done) → IsEnded d.closed.setup d → IsRunText text_of d.closed.setup (text_of (report_of d.closed d.settlement))
+pub run_text : RecordReportIsRight → (text_of : Report → List ℕ) (d : Done) → IsEnded d.closed.setup d →
+    IsRunText text_of d.closed.setup (text_of (report_of d.closed d.settlement))
 run_text right text_of d h = (report_of d.closed d.settlement, right d.closed d.settlement h.row h.settled, refl)
 
 -- what is written of a bound
@@ -24,7 +29,8 @@ written_bound b =
     (unsigned_abs b.radius) b.certified.first b.certified.last b.certified.bound
 
 pub bound_written : RecordReportIsRight → (b : Bounded) → IsBounded b.done.closed.setup b.radius b
-    → IsBoundText b.done.closed.setup.budget b.done.closed.setup.ahead b.radius (planned_in b.done.closed.setup) (written_bound b)
+    → IsBoundText b.done.closed.setup.budget b.done.closed.setup.ahead b.radius (planned_in b.done.closed.setup)
+    (written_bound b)
 unfolding report_of
 bound_written right b h = (
   report_of b.done.closed b.done.settlement,

@@ -1,5 +1,6 @@
 -- The names that the proofs of this crate take from its specs and from other crates, passed on from one place.
-pub use Rattle.std.proofs.Common.{◌≡◌, ℕ, ℤ, List, subst, sym, ap, ◌∙◌, inl, inr, Option, Result, Ok, Err, refl, ◌≤◌, [], ◌∷◌, ◌++◌, length, arith, length-append, rules}
+pub use Rattle.std.proofs.Common.{◌≡◌, ℕ, ℤ, List, subst, sym, ap, ◌∙◌, inl, inr, Option, Result, Ok, Err, refl, ◌≤◌}
+pub use Rattle.std.proofs.Common.{[], ◌∷◌, ◌++◌, length, arith, length-append, rules}
 pub use Rattle.std.proofs.lemmas.Int.{to_z-of_z}
 pub use Rattle.std.proofs.lemmas.List.{length-map}
 pub use Rattle.std.proofs.lemmas.List.Elements.{All-push}

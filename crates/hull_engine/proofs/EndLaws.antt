@@ -1,19 +1,22 @@
 -- How a run ends.
-use Rattle.hull_engine.proofs.Common.{◌≡◌, ℕ, ◌≤◌, List, Option, inl, inr, refl, Gains, FallsShort, Reads, PlannedCase, Command, Ends, HasStatus, IsReportText, report_text, rest_with, nothing_read}
+use Rattle.hull_engine.proofs.Common.{◌≡◌, ℕ, ◌≤◌, List, Option, inl, inr, refl, Gains, FallsShort, Reads, PlannedCase}
+use Rattle.hull_engine.proofs.Common.{Command, Ends, HasStatus, IsReportText, report_text, rest_with, nothing_read}
 use Rattle.hull_command.specs.declared.end.End.{End}
 use Rattle.hull_command.specs.declared.end.End.TheVariants.{Done, Cut, Refused}
 use Rattle.hull_command.specs.declared.ready.Task.TheVariants.{Price}
 
 -- no count of the sink falls
 module _ {S : Type 0} (held : S → Option (List ℕ)) (faults : S → ℕ) (last : Option ℕ) (old new : S) where
-  pub ends_later : (c : Command) (reads : Reads) (e : End) → Ends c reads (Gains held faults old new) (FallsShort held faults last old new) e → faults old ≤ faults new
+  pub ends_later : (c : Command) (reads : Reads) (e : End) →
+      Ends c reads (Gains held faults old new) (FallsShort held faults last old new) e → faults old ≤ faults new
   ends_later c reads Done (i, due, text, is, p) = p.later
   ends_later c reads Cut (i, due, text, is, p) = p.later
   ends_later c reads (Refused f) (due, inl p) = p.later
   ends_later c reads (Refused f) (due, inr p) = p.later
 
 -- a report that was written, or fell short, is the end of `hull price`
-module _ (c : PlannedCase) (budget ahead : ℕ) (gained short : List ℕ → Type 0) (text : List ℕ) (is : IsReportText report_text budget ahead c text) where
+module _ (c : PlannedCase) (budget ahead : ℕ) (gained short : List ℕ → Type 0) (text : List ℕ)
+    (is : IsReportText report_text budget ahead c text) where
   pub price_done : gained text → Ends (rest_with Price c budget ahead) nothing_read gained short Done
   price_done p = (c, refl, text, is, p)
 

@@ -1,5 +1,6 @@
 -- What the rest of a command ends in, the command ends in.
-use Rattle.hull_engine.proofs.Common.{ℕ, List, Ok, Err, PlannedCase, Reads, Completes, Ends, HasText, Command, rest_with, nothing_read, inl, inr}
+use Rattle.hull_engine.proofs.Common.{ℕ, List, Ok, Err, PlannedCase, Reads, Completes, Ends, HasText, Command}
+use Rattle.hull_engine.proofs.Common.{rest_with, nothing_read, inl, inr}
 use Rattle.hull_command.specs.declared.ready.Task.{Task}
 use Rattle.hull_command.specs.declared.end.End.{End}
 use Rattle.hull_command.specs.declared.end.End.TheVariants.{Done, Cut, Refused}

@@ -1,5 +1,7 @@
 -- The names that the proofs of this crate take from its specs and from other crates, passed on from one place.
-pub use Rattle.std.proofs.Common.{◌≡◌, ℕ, zero, suc, ◌∷◌, length-append, ◌+◌, ◌-◌, ◌<◌, ◌≤◌, ℤ, pos, Some, List, [], map, length, get_or, slice_get, sym, ap, ◌∙◌, subst, arith, ◌++◌, take, drop, Option, Result, Ok, Err, IsErr, ◌-ℤ◌, append_assoc, rules, codes, refl, w64}
+pub use Rattle.std.proofs.Common.{◌≡◌, ℕ, zero, suc, ◌∷◌, length-append, ◌+◌, ◌-◌, ◌<◌, ◌≤◌, ℤ, pos, Some, List, []}
+pub use Rattle.std.proofs.Common.{map, length, get_or, slice_get, sym, ap, ◌∙◌, subst, arith, ◌++◌, take, drop, Option}
+pub use Rattle.std.proofs.Common.{Result, Ok, Err, IsErr, ◌-ℤ◌, append_assoc, rules, codes, refl, w64}
 pub use Rattle.std.proofs.lemmas.Int.{to_z-of_z}
 pub use Rattle.std.proofs.lemmas.List.{length-map, get_or-map, take_all}
 pub use Rattle.std.proofs.lemmas.Option.{get_or_from_slice_get}
@@ -12,17 +14,28 @@ pub use Rattle.hull_io.specs.Edge.{Gains, FallsShort, Writes}
 pub use Rattle.right_report.specs.Told.{IsTold}
 unfoldable pub use Rattle.hull_report.specs.BoundText.{bound_text}
 pub use Rattle.hull_report.specs.FaultLines.{status_of, status_told, fault_told}
-unfoldable pub use Rattle.hull_report.specs.FaultLines.{unit_told, shape_told, field_told, rule_told, text_told, words_told, share_told, entry_told}
+unfoldable pub use Rattle.hull_report.specs.FaultLines.{
+  unit_told,
+  shape_told,
+  field_told,
+  rule_told,
+  text_told,
+  words_told,
+  share_told,
+  entry_told,
+}
 pub use Rattle.right_report.specs.RightSide.{told_of}
 pub use Rattle.hull_report.specs.FixedText.{renewable_paid, PaidLine, paid_start, paid_line, thermal_paid, bids_paid}
 unfoldable pub use Rattle.hull_report.specs.FixedText.{sides_text, paid_text, sums_text}
-pub use Rattle.uc_model.specs.Data.{thermal_names, renewable_names, bid_names, NamedThermalUnit, NamedRenewableUnit, NamedBidUnit, Market, unit_count, AnyUnit, Thermal, Flat, Bid, units, unit_names}
+pub use Rattle.uc_model.specs.Data.{thermal_names, renewable_names, bid_names, NamedThermalUnit, NamedRenewableUnit}
+pub use Rattle.uc_model.specs.Data.{NamedBidUnit, Market, unit_count, AnyUnit, Thermal, Flat, Bid, units, unit_names}
 pub use Rattle.right_report.specs.RecordReport.{told_line, line_of, lines_from, chosen_of, value_of}
 unfoldable pub use Rattle.right_report.specs.RecordReport.{report_of}
 pub use Rattle.hull_report.specs.TryText.{try_text}
 unfoldable pub use Rattle.hull_report.specs.TryText.{try_lines}
 pub use Rattle.report_form.specs.Laws.{GainsAddUp}
-pub use Rattle.report_form.specs.ReportText.{head_text, rows_text, chosen_text, thermal_text, renewable_text, bid_text, foot_text, UnitLine, unit_text}
+pub use Rattle.report_form.specs.ReportText.{head_text, rows_text, chosen_text, thermal_text, renewable_text, bid_text}
+pub use Rattle.report_form.specs.ReportText.{foot_text, UnitLine, unit_text}
 unfoldable pub use Rattle.report_form.specs.ReportText.{report_text}
 pub use Rattle.plain_lists.proofs.ListLaws.{flat_map_at, flat_map_up_to}
 pub use Rattle.uc_model.specs.PlainCases.{market_of, proposal_of, unit_of}

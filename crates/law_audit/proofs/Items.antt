@@ -16,25 +16,29 @@ module _ {A : Type 0} where
   back P [] ys h = h
   back P (x ∷ xs) ys h = back P xs ys h.1
 
-  pub of_map : {B : Type 0} (P : B → Type 0) (f : A → B) (xs : List A) → AllByRecursion P (map f xs) → AllByRecursion (λ (x : A). P (f x)) xs
+  pub of_map : {B : Type 0} (P : B → Type 0) (f : A → B) (xs : List A) → AllByRecursion P (map f xs) →
+      AllByRecursion (λ (x : A). P (f x)) xs
   of_map P f [] h = tt
   of_map P f (x ∷ xs) h = (h.0, of_map P f xs h.1)
 
-  pub both : (P Q R : A → Type 0) → ((x : A) → P x → Q x → R x) → (xs : List A) → AllByRecursion P xs → AllByRecursion Q xs → AllByRecursion R xs
+  pub both : (P Q R : A → Type 0) → ((x : A) → P x → Q x → R x) → (xs : List A) → AllByRecursion P xs →
+      AllByRecursion Q xs → AllByRecursion R xs
   both P Q R so [] h i = tt
   both P Q R so (x ∷ xs) h i = (so x h.0 i.0, both P Q R so xs h.1 i.1)
 
 -- ---- two lists, item by item
 
 module _ {A B : Type 0} where
-  pub zip_weaker : (R S : A → B → Type 0) (P : A → Type 0) → ((a : A) (b : B) → P a → R a b → S a b) → (xs : List A) (ys : List B) → AllByRecursion P xs → AllZip R xs ys → AllZip S xs ys
+  pub zip_weaker : (R S : A → B → Type 0) (P : A → Type 0) → ((a : A) (b : B) → P a → R a b → S a b) →
+      (xs : List A) (ys : List B) → AllByRecursion P xs → AllZip R xs ys → AllZip S xs ys
   zip_weaker R S P so [] [] h i = tt
   zip_weaker R S P so [] (y ∷ ys) h i = absurd i
   zip_weaker R S P so (x ∷ xs) [] h i = absurd i
   zip_weaker R S P so (x ∷ xs) (y ∷ ys) h i = (so x y h.0 i.0, zip_weaker R S P so xs ys h.1 i.1)
 
   -- what an item of the left list tells of its item of the right one
-  pub zip_right : (R : A → B → Type 0) (P : A → Type 0) (Q : B → Type 0) → ((a : A) (b : B) → P a → R a b → Q b) → (xs : List A) (ys : List B) → AllByRecursion P xs → AllZip R xs ys → AllByRecursion Q ys
+  pub zip_right : (R : A → B → Type 0) (P : A → Type 0) (Q : B → Type 0) → ((a : A) (b : B) → P a → R a b → Q b) →
+      (xs : List A) (ys : List B) → AllByRecursion P xs → AllZip R xs ys → AllByRecursion Q ys
   zip_right R P Q so [] [] h i = tt
   zip_right R P Q so [] (y ∷ ys) h i = absurd i
   zip_right R P Q so (x ∷ xs) [] h i = absurd i

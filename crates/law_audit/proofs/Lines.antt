@@ -1,5 +1,10 @@
 -- The lines of the units of a right report are within the bounds of reading.
-use Rattle.law_audit.proofs.Common.{◌≡◌, ℕ, ℤ, ◌-ℤ◌, List, [], ◌∷◌, map, length, sym, subst, arith, ints, AllByRecursion, AllZip, recursion_from_All, IsUtf8, slice_index, zip_with, GivesWithin, OutputsAreWithin, EarningsAreWithin, UnitsAreWithin, AnyUnit, Thermal, Flat, Bid, PriceLists, Schedule, Market, units, earnings, IsTop, IsMarket, IsUnit, ArePrices, IsEarned, Fits, IsFeasible, IsSchedule, IsSettled, IsFlatLine, UnitLine, IsCount, IsNumber, IsList, IsTold, IsThermalLine, IsOtherLine}
+use Rattle.law_audit.proofs.Common.{◌≡◌, ℕ, ℤ, ◌-ℤ◌, List, [], ◌∷◌, map, length, sym, subst, arith, ints}
+use Rattle.law_audit.proofs.Common.{AllByRecursion, AllZip, recursion_from_All, IsUtf8, slice_index, zip_with}
+use Rattle.law_audit.proofs.Common.{GivesWithin, OutputsAreWithin, EarningsAreWithin, UnitsAreWithin, AnyUnit, Thermal}
+use Rattle.law_audit.proofs.Common.{Flat, Bid, PriceLists, Schedule, Market, units, earnings, IsTop, IsMarket, IsUnit}
+use Rattle.law_audit.proofs.Common.{ArePrices, IsEarned, Fits, IsFeasible, IsSchedule, IsSettled, IsFlatLine, UnitLine}
+use Rattle.law_audit.proofs.Common.{IsCount, IsNumber, IsList, IsTold, IsThermalLine, IsOtherLine}
 use Rattle.law_audit.proofs.Items.{weaker, of_map, both, zip_right, counts_by_place}
 
 -- ---- responses
@@ -29,8 +34,16 @@ response_fits output_in u n s ok feasible =
     let gives = output_in u s n ok feasible in
     record {
       on = lists.on;
-      power = record { length_is = lists.power; items = counts_by_place IsCount s.power (λ k. power_fits u s k (gives k)) };
-      reserve = record { length_is = lists.reserve; items = counts_by_place IsCount s.reserve (λ k. reserve_fits u s k (gives k)) };
+      power = record {
+        length_is = lists.power;
+        items =
+            counts_by_place IsCount s.power (λ k. power_fits u s k (gives k));
+      };
+      reserve = record {
+        length_is = lists.reserve;
+        items =
+            counts_by_place IsCount s.reserve (λ k. reserve_fits u s k (gives k));
+      };
     }
 
 -- ---- money
@@ -49,13 +62,16 @@ difference_fits x y h i =
     let d = i.at_most in
     record { at_least = omega (arith, ints, a, d); at_most = omega (arith, ints, b, c) }
 
-differences_fit : (xs ys : List ℤ) → AllByRecursion IsEarned xs → AllByRecursion IsEarned ys → AllByRecursion IsNumber (zip_with (λ (e s : ℤ). e -ℤ s) xs ys)
+differences_fit : (xs ys : List ℤ) → AllByRecursion IsEarned xs → AllByRecursion IsEarned ys →
+    AllByRecursion IsNumber (zip_with (λ (e s : ℤ). e -ℤ s) xs ys)
 differences_fit [] ys h i = tt
 differences_fit (x ∷ xs) [] h i = tt
 differences_fit (x ∷ xs) (y ∷ ys) h i = (difference_fits x y h.0 i.0, differences_fit xs ys h.1 i.1)
 
 module _ (earning_in : EarningsAreWithin) (π : PriceLists) (prices : ArePrices π) where
-  plan_earned : (us : List AnyUnit) (plan : List Schedule) → AllByRecursion IsUnit us → AllZip (λ u s. IsFeasible u (length π.energy) s) us plan → AllByRecursion IsEarned (zip_with (λ (u : AnyUnit) (s : Schedule). earnings u π s) us plan)
+  plan_earned : (us : List AnyUnit) (plan : List Schedule) → AllByRecursion IsUnit us →
+      AllZip (λ u s. IsFeasible u (length π.energy) s) us plan →
+      AllByRecursion IsEarned (zip_with (λ (u : AnyUnit) (s : Schedule). earnings u π s) us plan)
   plan_earned [] [] h i = tt
   plan_earned [] (s ∷ plan) h i = absurd i
   plan_earned (u ∷ us) [] h i = absurd i
@@ -73,36 +89,54 @@ pub record HasBody (periods : ℕ) (l : UnitLine) : Type 0 where
   pub scheduled : IsNumber l.scheduled
   pub payment : IsNumber l.payment
 
-module _ (unit_in : UnitsAreWithin) (output_in : OutputsAreWithin) (earning_in : EarningsAreWithin) (m : Market) (within : IsMarket m) (π : PriceLists) (prices : ArePrices π) (ls : List UnitLine) where
+module _ (unit_in : UnitsAreWithin) (output_in : OutputsAreWithin) (earning_in : EarningsAreWithin) (m : Market)
+    (within : IsMarket m) (π : PriceLists) (prices : ArePrices π) (ls : List UnitLine) where
   all_units : AllByRecursion IsUnit (units m)
   all_units = recursion_from_All IsUnit (units m) (unit_in m within)
 
-  responses_fit : AllZip (λ u (l : UnitLine). Fits u π l.response) (units m) ls → AllByRecursion (λ (l : UnitLine). IsResponse (length π.energy) l.response) ls
+  responses_fit : AllZip (λ u (l : UnitLine). Fits u π l.response) (units m) ls →
+      AllByRecursion (λ (l : UnitLine). IsResponse (length π.energy) l.response) ls
   responses_fit =
-      zip_right (λ (u : AnyUnit) (l : UnitLine). Fits u π l.response) IsUnit (λ (l : UnitLine). IsResponse (length π.energy) l.response)
-      (λ u l ok fits. response_fits output_in u (length π.energy) l.response ok fits.best.feasible) (units m) ls all_units
+      zip_right (λ (u : AnyUnit) (l : UnitLine). Fits u π l.response) IsUnit
+      (λ (l : UnitLine). IsResponse (length π.energy) l.response)
+      (λ u l ok fits. response_fits output_in u (length π.energy) l.response ok fits.best.feasible) (units m) ls
+      all_units
 
-  earned_all : AllZip (λ u (l : UnitLine). IsTop u π l.earned) (units m) ls → AllByRecursion (λ (l : UnitLine). IsNumber l.earned) ls
+  earned_all : AllZip (λ u (l : UnitLine). IsTop u π l.earned) (units m) ls →
+      AllByRecursion (λ (l : UnitLine). IsNumber l.earned) ls
   earned_all =
       zip_right (λ (u : AnyUnit) (l : UnitLine). IsTop u π l.earned) IsUnit (λ (l : UnitLine). IsNumber l.earned)
       (λ u l ok top. earned_fits l.earned (top_earned earning_in π prices u l.earned ok top)) (units m) ls all_units
 
-  module _ (plan : List Schedule) (surplus sum : ℤ) (feasible : AllZip (λ u s. IsFeasible u (length π.energy) s) (units m) plan) (settled : IsSettled m plan π (map (λ (l : UnitLine). l.scheduled) ls) (map (λ (l : UnitLine). l.payment) ls) surplus sum) where
+  module _ (plan : List Schedule) (surplus sum : ℤ)
+      (feasible : AllZip (λ u s. IsFeasible u (length π.energy) s) (units m) plan)
+      (settled : IsSettled m plan π (map (λ (l : UnitLine). l.scheduled) ls) (map (λ (l : UnitLine). l.payment) ls)
+      surplus sum) where
     scheduled_in : AllByRecursion IsEarned (map (λ (l : UnitLine). l.scheduled) ls)
-    scheduled_in = subst (AllByRecursion IsEarned) (sym settled.scheduled_is) (plan_earned earning_in π prices (units m) plan all_units feasible)
+    scheduled_in = subst (AllByRecursion IsEarned) (sym settled.scheduled_is)
+        (plan_earned earning_in π prices (units m) plan all_units feasible)
 
     payments_in : AllByRecursion IsNumber (map (λ (l : UnitLine). l.payment) ls)
     payments_in =
-        let tops = zip_right (λ (u : AnyUnit) (e : ℤ). IsTop u π e) IsUnit IsEarned (top_earned earning_in π prices) (units m) settled.tops all_units settled.best in
-        subst (AllByRecursion IsNumber) (sym settled.payments_are) (differences_fit settled.tops (map (λ (l : UnitLine). l.scheduled) ls) tops scheduled_in)
+        let tops = zip_right (λ (u : AnyUnit) (e : ℤ). IsTop u π e) IsUnit IsEarned (top_earned earning_in π prices)
+        (units m) settled.tops all_units settled.best in
+        subst (AllByRecursion IsNumber) (sym settled.payments_are)
+        (differences_fit settled.tops (map (λ (l : UnitLine). l.scheduled) ls) tops scheduled_in)
 
-    pub bodies : AllZip (λ u (l : UnitLine). Fits u π l.response) (units m) ls → AllZip (λ u (l : UnitLine). IsTop u π l.earned) (units m) ls → AllByRecursion (HasBody (length π.energy)) ls
+    pub bodies : AllZip (λ u (l : UnitLine). Fits u π l.response) (units m) ls →
+        AllZip (λ u (l : UnitLine). IsTop u π l.earned) (units m) ls → AllByRecursion (HasBody (length π.energy)) ls
     bodies fits tops =
-        let scheduled = weaker (λ (l : UnitLine). IsEarned l.scheduled) (λ (l : UnitLine). IsNumber l.scheduled) (λ l h. earned_fits l.scheduled h) ls (of_map IsEarned (λ (l : UnitLine). l.scheduled) ls scheduled_in) in
+        let scheduled = weaker (λ (l : UnitLine). IsEarned l.scheduled) (λ (l : UnitLine). IsNumber l.scheduled)
+        (λ l h. earned_fits l.scheduled h) ls
+        (of_map IsEarned (λ (l : UnitLine). l.scheduled) ls scheduled_in) in
         let payment = of_map IsNumber (λ (l : UnitLine). l.payment) ls payments_in in
-        let owed = both (λ (l : UnitLine). IsNumber l.scheduled) (λ (l : UnitLine). IsNumber l.payment) (λ (l : UnitLine). IsNumber l.scheduled × IsNumber l.payment) (λ l a b. (a, b)) ls scheduled payment in
-        let told = both (λ (l : UnitLine). IsResponse (length π.energy) l.response) (λ (l : UnitLine). IsNumber l.earned) (λ (l : UnitLine). IsResponse (length π.energy) l.response × IsNumber l.earned) (λ l a b. (a, b)) ls (responses_fit fits) (earned_all tops) in
-        both (λ (l : UnitLine). IsResponse (length π.energy) l.response × IsNumber l.earned) (λ (l : UnitLine). IsNumber l.scheduled × IsNumber l.payment) (HasBody (length π.energy))
+        let owed = both (λ (l : UnitLine). IsNumber l.scheduled) (λ (l : UnitLine). IsNumber l.payment)
+        (λ (l : UnitLine). IsNumber l.scheduled × IsNumber l.payment) (λ l a b. (a, b)) ls scheduled payment in
+        let told = both (λ (l : UnitLine). IsResponse (length π.energy) l.response)
+        (λ (l : UnitLine). IsNumber l.earned) (λ (l : UnitLine). IsResponse (length π.energy) l.response ×
+        IsNumber l.earned) (λ l a b. (a, b)) ls (responses_fit fits) (earned_all tops) in
+        both (λ (l : UnitLine). IsResponse (length π.energy) l.response × IsNumber l.earned)
+        (λ (l : UnitLine). IsNumber l.scheduled × IsNumber l.payment) (HasBody (length π.energy))
         (λ l a b. record { response = a.0; earned = a.1; scheduled = b.0; payment = b.1 }) ls told owed
 
 -- ---- lines of each kind
@@ -112,15 +146,20 @@ module _ (periods : ℕ) where
   told l h name = record { name = name; earned = h.earned; scheduled = h.scheduled; payment = h.payment }
 
   thermal_line : (l : UnitLine) → HasBody periods l → IsUtf8 l.name → IsThermalLine periods l
-  thermal_line l h name = record { told = told l h name; on = h.response.on; power = h.response.power; reserve = h.response.reserve }
+  thermal_line l h name =
+      record { told = told l h name; on = h.response.on; power = h.response.power; reserve = h.response.reserve }
 
-  pub thermal_lines : (ls : List UnitLine) → AllByRecursion (HasBody periods) ls → AllByRecursion (λ (l : UnitLine). IsUtf8 l.name) ls → AllByRecursion (IsThermalLine periods) ls
+  pub thermal_lines : (ls : List UnitLine) → AllByRecursion (HasBody periods) ls →
+      AllByRecursion (λ (l : UnitLine). IsUtf8 l.name) ls → AllByRecursion (IsThermalLine periods) ls
   thermal_lines = both (HasBody periods) (λ (l : UnitLine). IsUtf8 l.name) (IsThermalLine periods) thermal_line
 
   other_line : (l : UnitLine) → HasBody periods l × IsUtf8 l.name → IsFlatLine l → IsOtherLine periods l
   other_line l h flat = record { told = told l h.0 h.1; flat = flat; power = h.0.response.power }
 
-  pub other_lines : (ls : List UnitLine) → AllByRecursion (HasBody periods) ls → AllByRecursion (λ (l : UnitLine). IsUtf8 l.name) ls → AllByRecursion IsFlatLine ls → AllByRecursion (IsOtherLine periods) ls
+  pub other_lines : (ls : List UnitLine) → AllByRecursion (HasBody periods) ls →
+      AllByRecursion (λ (l : UnitLine). IsUtf8 l.name) ls → AllByRecursion IsFlatLine ls →
+      AllByRecursion (IsOtherLine periods) ls
   other_lines ls bodies names =
       both (λ (l : UnitLine). HasBody periods l × IsUtf8 l.name) IsFlatLine (IsOtherLine periods) other_line ls
-      (both (HasBody periods) (λ (l : UnitLine). IsUtf8 l.name) (λ (l : UnitLine). HasBody periods l × IsUtf8 l.name) (λ l a b. (a, b)) ls bodies names)
+      (both (HasBody periods) (λ (l : UnitLine). IsUtf8 l.name) (λ (l : UnitLine). HasBody periods l × IsUtf8 l.name)
+      (λ l a b. (a, b)) ls bodies names)

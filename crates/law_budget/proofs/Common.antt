@@ -1,8 +1,10 @@
 -- The names that the proofs of this crate take from its specs and from other crates, passed on from one place.
-pub use Rattle.std.proofs.Common.{◌≡◌, ℕ, suc, ◌-◌, ◌<◌, ◌≤◌, Bool, true, false, Option, Some, None, ℤ, pos, ◌≤ℤ◌, List, map, length, take, get_or, refl, sym, ap, ◌∙◌, subst, arith, inl, inr, slice_get}
+pub use Rattle.std.proofs.Common.{◌≡◌, ℕ, suc, ◌-◌, ◌<◌, ◌≤◌, Bool, true, false, Option, Some, None, ℤ, pos, ◌≤ℤ◌, List}
+pub use Rattle.std.proofs.Common.{map, length, take, get_or, refl, sym, ap, ◌∙◌, subst, arith, inl, inr, slice_get}
 pub use Rattle.std.proofs.lemmas.Bool.{cases_lt}
 pub use Rattle.std.proofs.lemmas.Int.{ints}
-pub use Rattle.std.proofs.lemmas.List.{length-map, get_or-map, get_or-take, length-take, length-take-le, take_all, take-take}
+pub use Rattle.std.proofs.lemmas.List.{length-map, get_or-map, get_or-take, length-take, length-take-le, take_all}
+pub use Rattle.std.proofs.lemmas.List.{take-take}
 pub use Rattle.std.proofs.lemmas.List.Folds.{list_all_at}
 pub use Rattle.std.proofs.lemmas.List.Quantifiers.{position-Some}
 pub use Rattle.std.proofs.lemmas.Option.{slice_get_within, get_or_from_slice_get}

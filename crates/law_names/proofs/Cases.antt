@@ -1,9 +1,12 @@
 -- The names of the units of a case are UTF-8.
-use Rattle.law_names.proofs.Common.{◌≡◌, ℕ, Bool, true, false, cond, List, [], ◌∷◌, ◌++◌, map, Option, Some, None, Result, Ok, Err, refl, sym, ap, subst, ℤ, All-from_recursion, AllByRecursion, IsUtf8, bytes_eq}
+use Rattle.law_names.proofs.Common.{◌≡◌, ℕ, Bool, true, false, cond, List, [], ◌∷◌, ◌++◌, map, Option, Some, None}
+use Rattle.law_names.proofs.Common.{Result, Ok, Err, refl, sym, ap, subst, ℤ, All-from_recursion, AllByRecursion}
+use Rattle.law_names.proofs.Common.{IsUtf8, bytes_eq}
 use Rattle.uc_model.specs.declared.kinds.Kind.{Kind}
 use Rattle.uc_model.specs.declared.kinds.Kind.TheVariants as kinds
 use Rattle.uc_model.specs.declared.limits.TheConstants.{MOST_PERIODS}
-use Rattle.uc_model.specs.Data.{NamedThermalUnit, NamedRenewableUnit, NamedBidUnit, Market, thermal_names, renewable_names, bid_names, unit_names}
+use Rattle.uc_model.specs.Data.{NamedThermalUnit, NamedRenewableUnit, NamedBidUnit, Market, thermal_names}
+use Rattle.uc_model.specs.Data.{renewable_names, bid_names, unit_names}
 use Rattle.text_tree.specs.Values.{Value}
 use Rattle.text_tree.specs.Parts.{Pair}
 use Rattle.text_tree.specs.Inside.{object_in}
@@ -27,7 +30,8 @@ use Rattle.law_names.proofs.Values.{AreNamed, IsNamedPair, value_named, object_n
 
 -- ---- one test after the other
 
-bind_ok : {A B F : Type 0} (r : Result A F) (f : A → Result B F) (y : B) → (r >>= f) ≡ Ok y → (x : A) × (r ≡ Ok x) × (f x ≡ Ok y)
+bind_ok : {A B F : Type 0} (r : Result A F) (f : A → Result B F) (y : B) → (r >>= f) ≡ Ok y →
+    (x : A) × (r ≡ Ok x) × (f x ≡ Ok y)
 bind_ok (Ok x) f y e = (x, refl, e)
 bind_ok (Err d) f y e = absurd cc
 
@@ -44,31 +48,40 @@ ok_same x y e = cc
 
 -- ---- the value of a key
 
-found_named : (name : List ℕ) (ms : List Pair) (v : Value) → AllByRecursion IsNamedPair ms → value_of name ms ≡ Some v → AreNamed v
+found_named : (name : List ℕ) (ms : List Pair) (v : Value) → AllByRecursion IsNamedPair ms → value_of name ms ≡ Some v →
+    AreNamed v
 unfolding value_of
 found_named name [] v h e = absurd cc
 found_named name (m ∷ ms) v h e = by_name (bytes_eq m.name name) e (found_named name ms v h.1)
   where
-    by_name : (t : Bool) → cond t (Some m.value) (value_of name ms) ≡ Some v → (value_of name ms ≡ Some v → AreNamed v) → AreNamed v
+    by_name : (t : Bool) → cond t (Some m.value) (value_of name ms) ≡ Some v →
+        (value_of name ms ≡ Some v → AreNamed v) → AreNamed v
     by_name true f later = let is : m.value ≡ v = cc in subst AreNamed is h.0.1
     by_name false f later = later f
 
 -- ---- the units of a kind
 
-pushed : {A : Type 0} (name : A → List ℕ) (xs : List A) (x : A) → AllByRecursion IsUtf8 (map name xs) → IsUtf8 (name x) → AllByRecursion IsUtf8 (map name (xs ++ x ∷ []))
+pushed : {A : Type 0} (name : A → List ℕ) (xs : List A) (x : A) → AllByRecursion IsUtf8 (map name xs) →
+    IsUtf8 (name x) → AllByRecursion IsUtf8 (map name (xs ++ x ∷ []))
 pushed name [] x h i = (i, tt)
 pushed name (y ∷ xs) x h i = (h.0, pushed name xs x h.1 i)
 
-each_named : {A F : Type 0} (name : A → List ℕ) (read : List A → Pair → Result A F) → ((front : List A) (m : Pair) (x : A) → read front m ≡ Ok x → name x ≡ m.name)
-    → (ms : List Pair) (front all : List A) → AllByRecursion IsNamedPair ms → AllByRecursion IsUtf8 (map name front) → each read front ms ≡ Ok all → AllByRecursion IsUtf8 (map name all)
+each_named : {A F : Type 0} (name : A → List ℕ) (read : List A → Pair → Result A F) →
+    ((front : List A) (m : Pair) (x : A) → read front m ≡ Ok x → name x ≡ m.name)
+    → (ms : List Pair) (front all : List A) → AllByRecursion IsNamedPair ms → AllByRecursion IsUtf8 (map name front) →
+    each read front ms ≡ Ok all → AllByRecursion IsUtf8 (map name all)
 unfolding each
-each_named name read same [] front all h kept e = subst (λ xs. AllByRecursion IsUtf8 (map name xs)) (ok_same front all e) kept
+each_named name read same [] front all h kept e =
+    subst (λ xs. AllByRecursion IsUtf8 (map name xs)) (ok_same front all e) kept
 each_named name read same (m ∷ ms) front all h kept e =
     let r = bind_ok (read front m) (λ x. each read (front ++ x ∷ []) ms) all e in
-    each_named name read same ms (front ++ r.0 ∷ []) all h.1 (pushed name front r.0 kept (subst IsUtf8 (sym (same front m r.0 r.1)) h.0.0)) r.2
+    each_named name read same ms (front ++ r.0 ∷ []) all h.1
+    (pushed name front r.0 kept (subst IsUtf8 (sym (same front m r.0 r.1)) h.0.0)) r.2
 
-units_named : {A : Type 0} (name : A → List ℕ) (field : Field) (kind : Kind) (read : Site → Pair → Read A) → ((at : Site) (m : Pair) (x : A) → read at m ≡ Ok x → name x ≡ m.name)
-    → (at : Site) (v : Value) (all : List A) → AreNamed v → units field kind read at v ≡ Ok all → AllByRecursion IsUtf8 (map name all)
+units_named : {A : Type 0} (name : A → List ℕ) (field : Field) (kind : Kind) (read : Site → Pair → Read A) →
+    ((at : Site) (m : Pair) (x : A) → read at m ≡ Ok x → name x ≡ m.name)
+    → (at : Site) (v : Value) (all : List A) → AreNamed v → units field kind read at v ≡ Ok all →
+    AllByRecursion IsUtf8 (map name all)
 unfolding units
 units_named name field kind read same at v all h e =
     let ms = bind_ok (object at v) _ all e in
@@ -76,18 +89,25 @@ units_named name field kind read same at v all h e =
     each_named name (λ before. read (site field kind (position before))) (λ front m x is. same _ m x is) ms.0 [] all
     (object_named v ms.0 h (need_ok _ (object_in v) ms.0 ms.1)) tt few
 
-key_named : {A : Type 0} (o : Keys) (f : Field) (form : Site → Value → Read A) (x : A) → AllByRecursion IsNamedPair o.members → key o f form ≡ Ok x → (v : Value) × AreNamed v × (form (field_at o.at f) v ≡ Ok x)
+key_named : {A : Type 0} (o : Keys) (f : Field) (form : Site → Value → Read A) (x : A) →
+    AllByRecursion IsNamedPair o.members → key o f form ≡ Ok x →
+    (v : Value) × AreNamed v × (form (field_at o.at f) v ≡ Ok x)
 key_named o f form x h e =
-    let found = bind_ok (under (field_at o.at f) (key_of f) o.members) (λ v. form (field_at o.at f) v) x e in
-    (found.0, found_named (key_of f) o.members found.0 h (need_ok _ (value_of (key_of f) o.members) found.0 found.1), found.2)
+    let found = bind_ok (under (field_at o.at f) (key_of f) o.members) (λ v. form (field_at o.at f) v) x e in (
+      found.0,
+      found_named (key_of f) o.members found.0 h (need_ok _ (value_of (key_of f) o.members) found.0 found.1),
+      found.2,
+    )
 
-thermal_name : (periods : ℕ) (at : Site) (m : Pair) (n : NamedThermalUnit) → thermal periods at m ≡ Ok n → n.name ≡ m.name
+thermal_name : (periods : ℕ) (at : Site) (m : Pair) (n : NamedThermalUnit) → thermal periods at m ≡ Ok n →
+    n.name ≡ m.name
 unfolding thermal
 thermal_name periods at m n e =
     let u = bind_ok (thermal_unit periods at m.value) _ n e in
     sym (ap (λ (k : NamedThermalUnit). k.name) (ok_same _ n u.2))
 
-renewable_name : (periods : ℕ) (at : Site) (m : Pair) (n : NamedRenewableUnit) → renewable periods at m ≡ Ok n → n.name ≡ m.name
+renewable_name : (periods : ℕ) (at : Site) (m : Pair) (n : NamedRenewableUnit) → renewable periods at m ≡ Ok n →
+    n.name ≡ m.name
 unfolding renewable
 renewable_name periods at m n e =
     let u = bind_ok (renewable_unit periods at m.value) _ n e in
@@ -100,11 +120,16 @@ bid_name periods at m n e =
     sym (ap (λ (k : NamedBidUnit). k.name) (ok_same _ n u.2))
 
 -- bids may be absent
-bids_named : (periods : ℕ) (at : Site) (name : List ℕ) (ms : List Pair) (o : Option Value) (ns : List NamedBidUnit) → AllByRecursion IsNamedPair ms → value_of name ms ≡ o → bids periods at o ≡ Ok ns → AllByRecursion IsUtf8 (map (λ (n : NamedBidUnit). n.name) ns)
+bids_named : (periods : ℕ) (at : Site) (name : List ℕ) (ms : List Pair) (o : Option Value) (ns : List NamedBidUnit) →
+    AllByRecursion IsNamedPair ms → value_of name ms ≡ o → bids periods at o ≡ Ok ns →
+    AllByRecursion IsUtf8 (map (λ (n : NamedBidUnit). n.name) ns)
 unfolding bids
-bids_named periods at name ms None ns h found e = subst (λ (ks : List NamedBidUnit). AllByRecursion IsUtf8 (map (λ (n : NamedBidUnit). n.name) ks)) (ok_same [] ns e) tt
+bids_named periods at name ms None ns h found e =
+    subst (λ (ks : List NamedBidUnit). AllByRecursion IsUtf8 (map (λ (n : NamedBidUnit). n.name) ks)) (ok_same [] ns e)
+    tt
 bids_named periods at name ms (Some v) ns h found e =
-    units_named (λ (n : NamedBidUnit). n.name) fields.DemandBids kinds.Bid (bid periods) (bid_name periods) at v ns (found_named name ms v h found) e
+    units_named (λ (n : NamedBidUnit). n.name) fields.DemandBids kinds.Bid (bid periods) (bid_name periods) at v ns
+    (found_named name ms v h found) e
 
 -- ---- a case
 
@@ -113,20 +138,28 @@ record HasUtf8Names (m : Market) : Type 0 where
   pub renewable : AllByRecursion IsUtf8 (renewable_names m)
   pub bids : AllByRecursion IsUtf8 (bid_names m)
 
-with_units_named : (c : Keys) (periods : ℕ) (demand reserves : List ℤ) (m : Market) → AllByRecursion IsNamedPair c.members → with_units c periods demand reserves ≡ Ok m → HasUtf8Names m
+with_units_named : (c : Keys) (periods : ℕ) (demand reserves : List ℤ) (m : Market) →
+    AllByRecursion IsNamedPair c.members → with_units c periods demand reserves ≡ Ok m → HasUtf8Names m
 unfolding with_units
 with_units_named c periods demand reserves m h e =
-    let g = bind_ok (key c fields.ThermalGenerators (units fields.ThermalGenerators kinds.Thermal (thermal periods))) _ m e in
-    let f = bind_ok (key c fields.RenewableGenerators (units fields.RenewableGenerators kinds.Renewable (renewable periods))) _ m g.2 in
+    let g = bind_ok (key c fields.ThermalGenerators (units fields.ThermalGenerators kinds.Thermal (thermal periods))) _
+    m e in
+    let f = bind_ok (key c fields.RenewableGenerators
+    (units fields.RenewableGenerators kinds.Renewable (renewable periods))) _ m g.2 in
     let b = bind_ok (key_or_none c fields.DemandBids (bids periods)) _ m f.2 in
     let made = passed _ _ _ m b.2 in
-    let g_at = key_named c fields.ThermalGenerators (units fields.ThermalGenerators kinds.Thermal (thermal periods)) g.0 h g.1 in
-    let f_at = key_named c fields.RenewableGenerators (units fields.RenewableGenerators kinds.Renewable (renewable periods)) f.0 h f.1 in
+    let g_at = key_named c fields.ThermalGenerators (units fields.ThermalGenerators kinds.Thermal (thermal periods)) g.0
+    h g.1 in
+    let f_at = key_named c fields.RenewableGenerators
+    (units fields.RenewableGenerators kinds.Renewable (renewable periods)) f.0 h f.1 in
     subst HasUtf8Names (ok_same _ m made)
     (record {
-      thermal = units_named (λ (n : NamedThermalUnit). n.name) fields.ThermalGenerators kinds.Thermal (thermal periods) (thermal_name periods) _ g_at.0 g.0 g_at.1 g_at.2;
-      renewable = units_named (λ (n : NamedRenewableUnit). n.name) fields.RenewableGenerators kinds.Renewable (renewable periods) (renewable_name periods) _ f_at.0 f.0 f_at.1 f_at.2;
-      bids = bids_named periods _ (key_of fields.DemandBids) c.members (value_of (key_of fields.DemandBids) c.members) b.0 h refl b.1;
+      thermal = units_named (λ (n : NamedThermalUnit). n.name) fields.ThermalGenerators kinds.Thermal (thermal periods)
+          (thermal_name periods) _ g_at.0 g.0 g_at.1 g_at.2;
+      renewable = units_named (λ (n : NamedRenewableUnit). n.name) fields.RenewableGenerators kinds.Renewable
+          (renewable periods) (renewable_name periods) _ f_at.0 f.0 f_at.1 f_at.2;
+      bids = bids_named periods _ (key_of fields.DemandBids) c.members (value_of (key_of fields.DemandBids) c.members)
+          b.0 h refl b.1;
     })
 
 case_named : (v : Value) (m : Market) → AreNamed v → case_of v ≡ Ok m → HasUtf8Names m
@@ -138,9 +171,11 @@ case_named v m h e =
     let some = passed _ _ _ m periods.2 in
     let demand = bind_ok (key c fields.Demand (powers periods.0)) _ m some in
     let reserves = bind_ok (key c fields.Reserves (powers periods.0)) _ m demand.2 in
-    with_units_named c periods.0 demand.0 reserves.0 m (object_named v ms.0 h (need_ok _ (object_in v) ms.0 ms.1)) reserves.2
+    with_units_named c periods.0 demand.0 reserves.0 m (object_named v ms.0 h (need_ok _ (object_in v) ms.0 ms.1))
+    reserves.2
 
-all_of : (xs ys : List (List ℕ)) → AllByRecursion IsUtf8 xs → AllByRecursion IsUtf8 ys → AllByRecursion IsUtf8 (xs ++ ys)
+all_of : (xs ys : List (List ℕ)) → AllByRecursion IsUtf8 xs → AllByRecursion IsUtf8 ys →
+    AllByRecursion IsUtf8 (xs ++ ys)
 all_of [] ys h i = i
 all_of (x ∷ xs) ys h i = (h.0, all_of xs ys h.1 i)
 
@@ -148,13 +183,16 @@ of_value_ok : {A F : Type 0} (r : Result A F) (x : A) → of_value r ≡ Ok x �
 of_value_ok (Ok y) x e = let same : y ≡ x = cc in cc
 of_value_ok (Err f) x e = absurd cc
 
-file_named : (bytes : List ℕ) (found : Result Value TextFault) (m : Market) → IsFile bytes found → reading_of case_of found ≡ Ok m → HasUtf8Names m
+file_named : (bytes : List ℕ) (found : Result Value TextFault) (m : Market) → IsFile bytes found →
+    reading_of case_of found ≡ Ok m → HasUtf8Names m
 file_named bytes (Err f) m file e = absurd cc
 file_named bytes (Ok v) m file e =
-    case_named v m (value_named v (end ∷ []) (subst (AllByRecursion IsKept) file.0 (tokens_kept 0 0 bytes))) (of_value_ok (case_of v) m e)
+    case_named v m (value_named v (end ∷ []) (subst (AllByRecursion IsKept) file.0 (tokens_kept 0 0 bytes)))
+    (of_value_ok (case_of v) m e)
 
 pub names_utf8 : CaseNamesAreUtf8
 names_utf8 bytes m h =
     let names = file_named bytes h.0 m h.1 h.2 in
     All-from_recursion IsUtf8 (unit_names m)
-    (all_of (thermal_names m ++ renewable_names m) (bid_names m) (all_of (thermal_names m) (renewable_names m) names.thermal names.renewable) names.bids)
+    (all_of (thermal_names m ++ renewable_names m) (bid_names m)
+    (all_of (thermal_names m) (renewable_names m) names.thermal names.renewable) names.bids)

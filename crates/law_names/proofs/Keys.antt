@@ -1,6 +1,15 @@
 -- The keys and texts among the tokens of a file are UTF-8.
-use Rattle.law_names.proofs.Common.{◌≡◌, ℕ, zero, suc, ◌-◌, Bool, true, false, cond, List, [], ◌∷◌, take, drop, Option, Some, None, refl, AllByRecursion, IsUtf8}
-unfoldable use Rattle.text_tokens.specs.Numbers.{number_token, power_digits, power, behind_fraction, behind_whole, unsigned, number_of}
+use Rattle.law_names.proofs.Common.{◌≡◌, ℕ, zero, suc, ◌-◌, Bool, true, false, cond, List, [], ◌∷◌, take, drop, Option}
+use Rattle.law_names.proofs.Common.{Some, None, refl, AllByRecursion, IsUtf8}
+unfoldable use Rattle.text_tokens.specs.Numbers.{
+  number_token,
+  power_digits,
+  power,
+  behind_fraction,
+  behind_whole,
+  unsigned,
+  number_of,
+}
 use Rattle.std.specs.Char.{is_ascii_digit}
 use Rattle.std.specs.List.{prefix_len}
 use Rattle.std.specs.Prelude.{◌==◌, ◌||◌}
@@ -46,11 +55,13 @@ null_kept = record { says = tt }
 flag_kept : (b : Bool) → IsKept (word (flag b))
 flag_kept b = record { says = tt }
 
-number_token_kept : (negative : Bool) (whole fraction : List ℕ) (lowers : Bool) (digits : List ℕ) → IsKept (number_token negative whole fraction lowers digits)
+number_token_kept : (negative : Bool) (whole fraction : List ℕ) (lowers : Bool) (digits : List ℕ) →
+    IsKept (number_token negative whole fraction lowers digits)
 unfolding number_token
 number_token_kept negative whole fraction lowers digits = search (either, digits_kept, long_kept)
 
-power_digits_kept : (negative : Bool) (whole fraction : List ℕ) (lowers : Bool) (bs : List ℕ) → IsKept (power_digits negative whole fraction lowers bs)
+power_digits_kept : (negative : Bool) (whole fraction : List ℕ) (lowers : Bool) (bs : List ℕ) →
+    IsKept (power_digits negative whole fraction lowers bs)
 unfolding power_digits
 power_digits_kept negative whole fraction lowers bs = search (either, number_token_kept, bad_kept)
 
@@ -58,7 +69,8 @@ power_kept : (negative : Bool) (whole fraction bs : List ℕ) → IsKept (power 
 unfolding power
 power_kept negative whole fraction bs = search (either, power_digits_kept)
 
-behind_fraction_kept : (negative : Bool) (whole fraction bs : List ℕ) → IsKept (behind_fraction negative whole fraction bs)
+behind_fraction_kept : (negative : Bool) (whole fraction bs : List ℕ) →
+    IsKept (behind_fraction negative whole fraction bs)
 unfolding behind_fraction
 behind_fraction_kept negative whole fraction bs = search (either, number_token_kept, power_kept, bad_kept)
 
@@ -100,7 +112,8 @@ token_kept b bytes =
     (either_read (b == 58) (colon, 1) _ (record { says = tt })
     (either_read (b == 34) (string_at (drop 1 bytes)) _ (string_kept (drop 1 bytes))
     (either_read (b == 45 || is_ascii_digit b) (number_at bytes) _ (number_kept _)
-    (either_read (is_letter b) (word_at bytes) (bad, 1) (word_kept (take (prefix_len is_letter bytes) bytes)) (record { says = tt })))))))))
+    (either_read (is_letter b) (word_at bytes) (bad, 1) (word_kept (take (prefix_len is_letter bytes) bytes))
+    (record { says = tt })))))))))
 
 pub tokens_kept : (at passing : ℕ) (bytes : List ℕ) → AllByRecursion IsKept (kinds (tokens_from at passing bytes))
 unfolding tokens_from
@@ -109,6 +122,8 @@ tokens_kept at (suc passing) (b ∷ bytes) = tokens_kept (suc at) passing bytes
 tokens_kept at zero (b ∷ bytes) = by_blank (is_blank b) (λ k. tokens_kept (suc at) k bytes)
   where
     by_blank : (t : Bool) → ((k : ℕ) → AllByRecursion IsKept (kinds (tokens_from (suc at) k bytes)))
-        → AllByRecursion IsKept (kinds (cond t (tokens_from (suc at) 0 bytes) (lexed (token_at b (b ∷ bytes)).0 at ∷ tokens_from (suc at) ((token_at b (b ∷ bytes)).1 - 1) bytes)))
+        → AllByRecursion IsKept
+        (kinds (cond t (tokens_from (suc at) 0 bytes)
+        (lexed (token_at b (b ∷ bytes)).0 at ∷ tokens_from (suc at) ((token_at b (b ∷ bytes)).1 - 1) bytes)))
     by_blank true behind = behind 0
     by_blank false behind = (token_kept b (b ∷ bytes), behind ((token_at b (b ∷ bytes)).1 - 1))

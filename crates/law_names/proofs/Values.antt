@@ -37,19 +37,31 @@ mutual
 
   items_named : (vs : Items) → AllByRecursion IsKept (spell_items vs) → AreItemsNamed vs
   items_named no_items h = tt
-  items_named (item v vs) h = (named v (front (spell v) (spell_more_items vs) h), more_items_named vs (back (spell v) (spell_more_items vs) h))
+  items_named (item v vs) h =
+      (named v (front (spell v) (spell_more_items vs) h), more_items_named vs (back (spell v) (spell_more_items vs) h))
 
   more_items_named : (vs : Items) → AllByRecursion IsKept (spell_more_items vs) → AreItemsNamed vs
   more_items_named no_items h = tt
-  more_items_named (item v vs) h = (named v (front (spell v) (spell_more_items vs) h.1), more_items_named vs (back (spell v) (spell_more_items vs) h.1))
+  more_items_named (item v vs) h = (
+    named v (front (spell v) (spell_more_items vs) h.1),
+    more_items_named vs (back (spell v) (spell_more_items vs) h.1),
+  )
 
   members_named : (ms : Members) → AllByRecursion IsKept (spell_members ms) → AreMembersNamed ms
   members_named no_members h = tt
-  members_named (member k v ms) h = (h.0.says, named v (front (spell v) (spell_more_members ms) h.1.1), more_members_named ms (back (spell v) (spell_more_members ms) h.1.1))
+  members_named (member k v ms) h = (
+    h.0.says,
+    named v (front (spell v) (spell_more_members ms) h.1.1),
+    more_members_named ms (back (spell v) (spell_more_members ms) h.1.1),
+  )
 
   more_members_named : (ms : Members) → AllByRecursion IsKept (spell_more_members ms) → AreMembersNamed ms
   more_members_named no_members h = tt
-  more_members_named (member k v ms) h = (h.1.0.says, named v (front (spell v) (spell_more_members ms) h.1.1.1), more_members_named ms (back (spell v) (spell_more_members ms) h.1.1.1))
+  more_members_named (member k v ms) h = (
+    h.1.0.says,
+    named v (front (spell v) (spell_more_members ms) h.1.1.1),
+    more_members_named ms (back (spell v) (spell_more_members ms) h.1.1.1),
+  )
 
 -- the tokens of a value in front of others
 pub value_named : (v : Value) (rest : List Token) → AllByRecursion IsKept (spell v ++ rest) → AreNamed v
@@ -67,4 +79,5 @@ pairs_named (member k v ms) h = ((h.0, h.1), pairs_named ms h.2)
 pub object_named : (v : Value) (ps : List Pair) → AreNamed v → object_in v ≡ Some ps → AllByRecursion IsNamedPair ps
 object_named (scalar s) ps h e = absurd cc
 object_named (list vs) ps h e = absurd cc
-object_named (object ms) ps h e = let is : member_pairs ms ≡ ps = cc in subst (AllByRecursion IsNamedPair) is (pairs_named ms h)
+object_named (object ms) ps h e = let is : member_pairs ms ≡ ps = cc in
+    subst (AllByRecursion IsNamedPair) is (pairs_named ms h)

@@ -1,5 +1,7 @@
 -- The names that the proofs of this crate take from its specs and from other crates, passed on from one place.
-pub use Rattle.std.proofs.Common.{◌≡◌, ℕ, ◌<◌, ◌⊎◌, inl, inr, Bool, true, false, List, [], ◌∷◌, Option, None, Some, Result, Ok, Err, refl, sym, ap, ◌∙◌, subst, arith, length, ◌-◌, ◌≤◌, slice_get, ℤ, unsigned_abs, ◌*◌, pos}
+pub use Rattle.std.proofs.Common.{◌≡◌, ℕ, ◌<◌, ◌⊎◌, inl, inr, Bool, true, false, List, [], ◌∷◌, Option, None, Some}
+pub use Rattle.std.proofs.Common.{Result, Ok, Err, refl, sym, ap, ◌∙◌, subst, arith, length, ◌-◌, ◌≤◌, slice_get, ℤ}
+pub use Rattle.std.proofs.Common.{unsigned_abs, ◌*◌, pos}
 pub use Rattle.std.proofs.lemmas.Bool.{ltb-true, cases_lt}
 pub use Rattle.std.proofs.lemmas.List.{length-map, get_or-map}
 pub use Rattle.std.proofs.lemmas.Option.{slice_get_within, same_Some}
@@ -9,8 +11,14 @@ pub use Rattle.hull_command.specs.Planned.{PlannedCase}
 pub use Rattle.fixed_price.specs.FixedCase.{fixed_market}
 pub use Rattle.gap_proof.specs.Laws.{RunPricesAreWithin}
 pub use Rattle.hull_command.specs.Laws.{BytesAreThoseRead, ReportBytesAreItsText, WordsHaveSizes}
-pub use Rattle.hull_command.specs.Outcome.{command_for, IsReadOf, AreReads, with_report, HasText, Ends, status_at, IsBoundText, IsFixedText, IsReportText, IsAuditText, IsSettlementText, IsCertificateText, case_and_schedule, with_prices, with_mixture, Command}
-pub use Rattle.hull_command.specs.Steps.{Reads, bytes_of, IsInput, IsWithinWork, IsReportFile, IsAudit, Goes, Then, IsBytes, case_fault, plan_fault, IsCase, IsCaseFile, IsPlan, IsPlanFile, IsChecked, IsMade, IsReportIn, IsJudged, IsPrices, IsPricesFile, IsPriced, prices_fault, IsShares, IsSharesFile, IsMixed, IsMixtureFile, HasMixture, IsCertifiable, mixture_fault}
+pub use Rattle.hull_command.specs.Outcome.{command_for, IsReadOf, AreReads, with_report, HasText, Ends, status_at}
+pub use Rattle.hull_command.specs.Outcome.{IsBoundText, IsFixedText, IsReportText, IsAuditText, IsSettlementText}
+pub use Rattle.hull_command.specs.Outcome.{IsCertificateText, case_and_schedule, with_prices, with_mixture, Command}
+pub use Rattle.hull_command.specs.Steps.{Reads, bytes_of, IsInput, IsWithinWork, IsReportFile, IsAudit, Goes, Then}
+pub use Rattle.hull_command.specs.Steps.{IsBytes, case_fault, plan_fault, IsCase, IsCaseFile, IsPlan, IsPlanFile}
+pub use Rattle.hull_command.specs.Steps.{IsChecked, IsMade, IsReportIn, IsJudged, IsPrices, IsPricesFile, IsPriced}
+pub use Rattle.hull_command.specs.Steps.{prices_fault, IsShares, IsSharesFile, IsMixed, IsMixtureFile, HasMixture}
+pub use Rattle.hull_command.specs.Steps.{IsCertifiable, mixture_fault}
 pub use Rattle.hull_command.specs.declared.end.End.{End}
 pub use Rattle.hull_command.specs.declared.end.End.TheVariants.{Done, Cut, Refused, Done as done_whole}
 pub use Rattle.plain_lists.specs.declared.limits.TheConstants.{MOST_BYTES}
@@ -18,18 +26,27 @@ pub use Rattle.hull_report.specs.FaultLines.{status_of, fault_line}
 pub use Rattle.right_report.specs.Laws.{RightReportHasForm, ReportPaymentsMakeUpTheGap, OneIsChosen, OneRightReport}
 pub use Rattle.right_report.specs.RightReport.{unit_lines, IsRightReport}
 pub use Rattle.right_report.specs.RightSide.{SidePaymentsMakeUpTheGap, OneRightSide}
-pub use Rattle.hull_report.specs.declared.fault.FileKind.TheVariants.{CaseFile, ScheduleFile, ReportFile, PricesFile, MixtureFile}
+pub use Rattle.hull_report.specs.declared.fault.FileKind.TheVariants.{CaseFile, ScheduleFile, ReportFile, PricesFile}
+pub use Rattle.hull_report.specs.declared.fault.FileKind.TheVariants.{MixtureFile}
 pub use Rattle.hull_report.specs.declared.fault.TopFault.{TopFault}
 pub use Rattle.hull_report.specs.Words.{report_number}
 pub use Rattle.hull_report.specs.declared.fault.ReportCode.{ReportCode}
 pub use Rattle.hull_report.specs.declared.fault.ReportCode.TheVariants.{OutOfForm, Wrong}
-pub use Rattle.hull_report.specs.declared.fault.TopFault.TheVariants.{TooBig, Report as Unfit, PlanRule, Words, Read, CaseText, CaseField, PlanText, PlanShape, Work, Memory, PricesText, PricesValue, MixtureText, MixtureShare, MixtureRule, Report as report_fault}
-pub use Rattle.hull_words.specs.Asked.{Asked, AuditAsked, audit, BoundAsked, bound, PriceAsked, fixed, price, check, try, settle, certify, CheckAsked, SettleAsked, CertifyAsked}
+pub use Rattle.hull_report.specs.declared.fault.TopFault.TheVariants.{TooBig, Report as Unfit, PlanRule, Words, Read}
+pub use Rattle.hull_report.specs.declared.fault.TopFault.TheVariants.{CaseText, CaseField, PlanText, PlanShape, Work}
+pub use Rattle.hull_report.specs.declared.fault.TopFault.TheVariants.{Memory, PricesText, PricesValue, MixtureText}
+pub use Rattle.hull_report.specs.declared.fault.TopFault.TheVariants.{MixtureShare, MixtureRule, Report as report_fault}
+pub use Rattle.hull_words.specs.Asked.{Asked, AuditAsked, audit, BoundAsked, bound, PriceAsked, fixed, price, check}
+pub use Rattle.hull_words.specs.Asked.{try, settle, certify, CheckAsked, SettleAsked, CertifyAsked}
 pub use Rattle.hull_words.specs.Words.{words_of}
 pub use Rattle.hull_words.specs.declared.fault.WordFault.{WordFault}
 pub use Rattle.report_form.specs.Laws.{IsFlatLine, HasForm, TextDeterminesReport}
 pub use Rattle.report_form.specs.ReportText.{UnitLine, Report, report_text}
-pub use Rattle.law_outcome.specs.Laws.{OverReads, IsAuditPromised, IsWrongAt, IsAuditRefused, IsBoundPromised, IsFixedPromised, is_refusal, IsWritten, IsUnread, HasCause, IsQuiet, IsDecided, word_fault, FollowsFromWords, IsPromised, IsSettlePromised, HasNoPrices, IsCertifyPromised, HasNoMixture, AskForPrices, AreAlike, with_workers, TellTheSame}
+pub use Rattle.law_outcome.specs.Laws.{OverReads, IsAuditPromised, IsWrongAt, IsAuditRefused, IsBoundPromised}
+pub use Rattle.law_outcome.specs.Laws.{IsFixedPromised, is_refusal, IsWritten, IsUnread, HasCause, IsQuiet, IsDecided}
+pub use Rattle.law_outcome.specs.Laws.{word_fault, FollowsFromWords, IsPromised, IsSettlePromised, HasNoPrices}
+pub use Rattle.law_outcome.specs.Laws.{IsCertifyPromised, HasNoMixture, AskForPrices, AreAlike, with_workers}
+pub use Rattle.law_outcome.specs.Laws.{TellTheSame}
 pub use Rattle.uc_model.specs.Data.{Market, PriceLists, Schedule, unit_count}
 pub use Rattle.price_settle.specs.Laws.{OneSettlement, SettlementsAddUp}
 pub use Rattle.uplift_settle.specs.Settled.{Settled, IsSettledAt}

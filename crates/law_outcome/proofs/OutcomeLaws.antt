@@ -1,5 +1,21 @@
 -- What follows from the outcome of a run.
-use Rattle.law_outcome.proofs.Common.{◌≡◌, ℕ, ◌*◌, ◌≤◌, ◌⊎◌, inl, inr, Bool, true, false, List, Option, None, Some, Result, Ok, Err, refl, sym, ap, ◌∙◌, subst, arith, ◌-◌, ◌<◌, ℤ, pos, ◌≤ℤ◌, All, length-map, get_or-map, IsTrue, IfSome, IsSome, if◌then◌else◌, nat_lt, Market, Schedule, unit_count, IsFeasiblePlan, plan_cost, int_at, NothingIsPaidBack, RunPricesAreWithin, UnitLine, Report, unit_lines, IsRightReport, words_of, WordsHaveSizes, MOST_BYTES, Asked, CheckAsked, PriceAsked, AuditAsked, SettleAsked, CertifyAsked, price, check, try, bound, fixed, audit, settle, certify, WordFault, PricesFile, MixtureFile, PricesText, PricesValue, MixtureText, MixtureShare, MixtureRule, IsPricesFile, IsPriced, IsMixtureFile, IsCertifiable, AskForPrices, status_of, fault_line, ReportPaymentsMakeUpTheGap, CaseFile, ScheduleFile, ReportFile, TopFault, Words, Read, CaseText, CaseField, PlanText, PlanShape, PlanRule, TooBig, Work, Memory, report_fault, End, Done, Cut, Refused, Reads, bytes_of, IsCase, IsCaseFile, IsPlan, IsPlanFile, IsChecked, IsInput, IsWithinWork, IsReportFile, IsAudit, PlannedCase, command_for, case_and_schedule, IsReadOf, AreReads, HasText, Ends, status_at, is_refusal, IsWritten, IsUnread, HasCause, IsQuiet, IsDecided, word_fault, FollowsFromWords, IsPromised, BytesAreThoseRead}
+use Rattle.law_outcome.proofs.Common.{◌≡◌, ℕ, ◌*◌, ◌≤◌, ◌⊎◌, inl, inr, Bool, true, false, List, Option, None, Some}
+use Rattle.law_outcome.proofs.Common.{Result, Ok, Err, refl, sym, ap, ◌∙◌, subst, arith, ◌-◌, ◌<◌, ℤ, pos, ◌≤ℤ◌, All}
+use Rattle.law_outcome.proofs.Common.{length-map, get_or-map, IsTrue, IfSome, IsSome, if◌then◌else◌, nat_lt, Market}
+use Rattle.law_outcome.proofs.Common.{Schedule, unit_count, IsFeasiblePlan, plan_cost, int_at, NothingIsPaidBack}
+use Rattle.law_outcome.proofs.Common.{RunPricesAreWithin, UnitLine, Report, unit_lines, IsRightReport, words_of}
+use Rattle.law_outcome.proofs.Common.{WordsHaveSizes, MOST_BYTES, Asked, CheckAsked, PriceAsked, AuditAsked}
+use Rattle.law_outcome.proofs.Common.{SettleAsked, CertifyAsked, price, check, try, bound, fixed, audit, settle}
+use Rattle.law_outcome.proofs.Common.{certify, WordFault, PricesFile, MixtureFile, PricesText, PricesValue, MixtureText}
+use Rattle.law_outcome.proofs.Common.{MixtureShare, MixtureRule, IsPricesFile, IsPriced, IsMixtureFile, IsCertifiable}
+use Rattle.law_outcome.proofs.Common.{AskForPrices, status_of, fault_line, ReportPaymentsMakeUpTheGap, CaseFile}
+use Rattle.law_outcome.proofs.Common.{ScheduleFile, ReportFile, TopFault, Words, Read, CaseText, CaseField, PlanText}
+use Rattle.law_outcome.proofs.Common.{PlanShape, PlanRule, TooBig, Work, Memory, report_fault, End, Done, Cut, Refused}
+use Rattle.law_outcome.proofs.Common.{Reads, bytes_of, IsCase, IsCaseFile, IsPlan, IsPlanFile, IsChecked, IsInput}
+use Rattle.law_outcome.proofs.Common.{IsWithinWork, IsReportFile, IsAudit, PlannedCase, command_for, case_and_schedule}
+use Rattle.law_outcome.proofs.Common.{IsReadOf, AreReads, HasText, Ends, status_at, is_refusal, IsWritten, IsUnread}
+use Rattle.law_outcome.proofs.Common.{HasCause, IsQuiet, IsDecided, word_fault, FollowsFromWords, IsPromised}
+use Rattle.law_outcome.proofs.Common.{BytesAreThoseRead}
 use Rattle.uc_case.specs.Files.{text, value}
 use Rattle.uc_case.specs.CaseFiles.{IsCaseOf}
 use Rattle.uc_plan.specs.PlanFiles.{IsPlanOf}
@@ -64,12 +80,14 @@ sort (MixtureRule f) = is_other (λ e. absurd cc) (λ e. absurd cc)
 -- the fault of a read that failed, or one of what the case (3) or the schedule (4) has
 abbrev pub IsInputFault : Reads → TopFault → Type 0
 IsInputFault reads f =
-    ((f ≡ Read CaseFile) × (reads CaseFile ≡ None)) ⊎ ((f ≡ Read ScheduleFile) × (reads ScheduleFile ≡ None)) ⊎ (3 ≤ status_of f) × (status_of f ≤ 4)
+    ((f ≡ Read CaseFile) × (reads CaseFile ≡ None)) ⊎ ((f ≡ Read ScheduleFile) × (reads ScheduleFile ≡ None)) ⊎
+    (3 ≤ status_of f) × (status_of f ≤ 4)
 
 pub same_fault : {X : Type 0} (f g : TopFault) → ◌≡◌ {A = Result X TopFault} (Err f) (Err g) → f ≡ g
 same_fault f g e = cc
 
-pub bytes_fault : (file : FileKind) (read : Option (List ℕ)) (f : TopFault) → Err f ≡ bytes_of file read → ((f ≡ Read file) × (read ≡ None)) ⊎ (f ≡ TooBig file)
+pub bytes_fault : (file : FileKind) (read : Option (List ℕ)) (f : TopFault) → Err f ≡ bytes_of file read →
+    ((f ≡ Read file) × (read ≡ None)) ⊎ (f ≡ TooBig file)
 bytes_fault file None f e = inl (cc, refl)
 bytes_fault file (Some bytes) f e = inr (long (nat_lt MOST_BYTES _) e)
   where
@@ -79,8 +97,10 @@ bytes_fault file (Some bytes) f e = inr (long (nat_lt MOST_BYTES _) e)
 
 case_file_fault : (reads : Reads) (f : TopFault) → IsCaseFile (reads CaseFile) (Err f) → IsInputFault reads f
 case_file_fault reads f (Ok bytes, is, (Ok m, reading, e)) = absurd cc
-case_file_fault reads f (Ok bytes, is, (Err (text t), reading, e)) = let s : f ≡ CaseText t = cc in let n : status_of f ≡ 3 = ap status_of s in inr (inr (omega (arith, n), omega (arith, n)))
-case_file_fault reads f (Ok bytes, is, (Err (value t), reading, e)) = let s : f ≡ CaseField t = cc in let n : status_of f ≡ 3 = ap status_of s in inr (inr (omega (arith, n), omega (arith, n)))
+case_file_fault reads f (Ok bytes, is, (Err (text t), reading, e)) = let s : f ≡ CaseText t = cc in
+    let n : status_of f ≡ 3 = ap status_of s in inr (inr (omega (arith, n), omega (arith, n)))
+case_file_fault reads f (Ok bytes, is, (Err (value t), reading, e)) = let s : f ≡ CaseField t = cc in
+    let n : status_of f ≡ 3 = ap status_of s in inr (inr (omega (arith, n), omega (arith, n)))
 case_file_fault reads f (Err g, is, e) =
     let h : Err f ≡ bytes_of CaseFile (reads CaseFile) = ap Err (same_fault f g e) ∙ is in
     elim (bytes_fault CaseFile (reads CaseFile) f h) [
@@ -88,10 +108,13 @@ case_file_fault reads f (Err g, is, e) =
       | inr s ↦ let n : status_of f ≡ 3 = ap status_of s in inr (inr (omega (arith, n), omega (arith, n)))
     ]
 
-plan_file_fault : (m : Market) (reads : Reads) (f : TopFault) → IsPlanFile m (reads ScheduleFile) (Err f) → IsInputFault reads f
+plan_file_fault : (m : Market) (reads : Reads) (f : TopFault) → IsPlanFile m (reads ScheduleFile) (Err f) →
+    IsInputFault reads f
 plan_file_fault m reads f (Ok bytes, is, (Ok p, reading, e)) = absurd cc
-plan_file_fault m reads f (Ok bytes, is, (Err (text t), reading, e)) = let s : f ≡ PlanText t = cc in let n : status_of f ≡ 4 = ap status_of s in inr (inr (omega (arith, n), omega (arith, n)))
-plan_file_fault m reads f (Ok bytes, is, (Err (value t), reading, e)) = let s : f ≡ PlanShape t = cc in let n : status_of f ≡ 4 = ap status_of s in inr (inr (omega (arith, n), omega (arith, n)))
+plan_file_fault m reads f (Ok bytes, is, (Err (text t), reading, e)) = let s : f ≡ PlanText t = cc in
+    let n : status_of f ≡ 4 = ap status_of s in inr (inr (omega (arith, n), omega (arith, n)))
+plan_file_fault m reads f (Ok bytes, is, (Err (value t), reading, e)) = let s : f ≡ PlanShape t = cc in
+    let n : status_of f ≡ 4 = ap status_of s in inr (inr (omega (arith, n), omega (arith, n)))
 plan_file_fault m reads f (Err g, is, e) =
     let h : Err f ≡ bytes_of ScheduleFile (reads ScheduleFile) = ap Err (same_fault f g e) ∙ is in
     elim (bytes_fault ScheduleFile (reads ScheduleFile) f h) [
@@ -100,7 +123,8 @@ plan_file_fault m reads f (Err g, is, e) =
     ]
 
 pub input_fault : (reads : Reads) (f : TopFault) → IsInput reads (Err f) → IsInputFault reads f
-input_fault reads f (Ok m, case_is, (Ok plan, plan_is, (rule, is, first))) = let n : status_of f ≡ 4 = ap status_of is in inr (inr (omega (arith, n), omega (arith, n)))
+input_fault reads f (Ok m, case_is, (Ok plan, plan_is, (rule, is, first))) =
+    let n : status_of f ≡ 4 = ap status_of is in inr (inr (omega (arith, n), omega (arith, n)))
 input_fault reads f (Ok m, case_is, (Err g, plan_is, e)) =
     let same : g ≡ f = sym (same_fault f g e) in
     plan_file_fault m reads f (subst (λ (h : TopFault). IsPlanFile m (reads ScheduleFile) (Err h)) same plan_is)
@@ -108,15 +132,18 @@ input_fault reads f (Err g, case_is, e) =
     let same : g ≡ f = sym (same_fault f g e) in
     case_file_fault reads f (subst (λ (h : TopFault). IsCaseFile (reads CaseFile) (Err h)) same case_is)
 
-above_work : (b : Bool) (proposals units periods : ℕ) (c : PlannedCase) (f : TopFault) → Err f ≡ (if b then Err (Work proposals units periods) else Ok c) → status_of f ≡ 5
+above_work : (b : Bool) (proposals units periods : ℕ) (c : PlannedCase) (f : TopFault) →
+    Err f ≡ (if b then Err (Work proposals units periods) else Ok c) → status_of f ≡ 5
 above_work true proposals units periods c f e = let s : f ≡ Work proposals units periods = cc in ap status_of s
 above_work false proposals units periods c f e = absurd cc
 
 pub work_fault : (proposals : ℕ) (c : PlannedCase) (f : TopFault) → IsWithinWork proposals c (Err f) → status_of f ≡ 5
-work_fault proposals c f e = above_work (nat_lt MOST_WORK (proposals * unit_count c.market * c.market.periods)) proposals (unit_count c.market) c.market.periods c f e
+work_fault proposals c f e = above_work (nat_lt MOST_WORK (proposals * unit_count c.market * c.market.periods))
+    proposals (unit_count c.market) c.market.periods c f e
 
 -- the fault of a report's file: of its read, or of status 8
-report_file_fault : (read : Option (List ℕ)) (f : TopFault) → IsReportFile read (Err f) → ((f ≡ Read ReportFile) × (read ≡ None)) ⊎ (status_of f ≡ 8)
+report_file_fault : (read : Option (List ℕ)) (f : TopFault) → IsReportFile read (Err f) →
+    ((f ≡ Read ReportFile) × (read ≡ None)) ⊎ (status_of f ≡ 8)
 report_file_fault read f (Ok bytes, is, (line, fault, e)) = inr (ap status_of e)
 report_file_fault read f (Err g, is, e) =
     elim (bytes_fault ReportFile read f (ap Err (same_fault f g e) ∙ is)) [
@@ -125,38 +152,50 @@ report_file_fault read f (Err g, is, e) =
     ]
 
 -- and that of an audit: or of the limit of work
-pub audit_fault : (reads : Reads) (c : PlannedCase) (f : TopFault) → IsAudit reads c (Err f) → ((f ≡ Read ReportFile) × (reads ReportFile ≡ None)) ⊎ ((status_of f ≡ 8) ⊎ (status_of f ≡ 5))
+pub audit_fault : (reads : Reads) (c : PlannedCase) (f : TopFault) → IsAudit reads c (Err f) →
+    ((f ≡ Read ReportFile) × (reads ReportFile ≡ None)) ⊎ ((status_of f ≡ 8) ⊎ (status_of f ≡ 5))
 audit_fault reads c f (Ok r, report_is, (Ok left, work, (line, wrong, differs, e))) = inr (inl (ap status_of e))
 audit_fault reads c f (Ok r, report_is, (Err g, work, e)) =
-    inr (inr (work_fault r.budget c f (subst (λ (h : TopFault). IsWithinWork r.budget c (Err h)) (sym (same_fault f g e)) work)))
+    inr (inr (work_fault r.budget c f
+    (subst (λ (h : TopFault). IsWithinWork r.budget c (Err h)) (sym (same_fault f g e)) work)))
 audit_fault reads c f (Err g, report_is, e) =
-    elim (report_file_fault (reads ReportFile) f (subst (λ (h : TopFault). IsReportFile (reads ReportFile) (Err h)) (sym (same_fault f g e)) report_is)) [
+    elim (report_file_fault (reads ReportFile) f
+    (subst (λ (h : TopFault). IsReportFile (reads ReportFile) (Err h)) (sym (same_fault f g e)) report_is)) [
       | inl p ↦ inl p
       | inr s ↦ inr (inl s)
     ]
 
 -- the fault of a file of prices: of its read, or of status 9
-prices_file_fault : (periods : ℕ) (read : Option (List ℕ)) (f : TopFault) → IsPricesFile periods read (Err f) → ((f ≡ Read PricesFile) × (read ≡ None)) ⊎ (status_of f ≡ 9)
+prices_file_fault : (periods : ℕ) (read : Option (List ℕ)) (f : TopFault) → IsPricesFile periods read (Err f) →
+    ((f ≡ Read PricesFile) × (read ≡ None)) ⊎ (status_of f ≡ 9)
 prices_file_fault periods read f (Ok bytes, is, (Ok π, reading, e)) = absurd cc
-prices_file_fault periods read f (Ok bytes, is, (Err (text t), reading, e)) = let s : f ≡ PricesText t = cc in inr (ap status_of s)
-prices_file_fault periods read f (Ok bytes, is, (Err (value t), reading, e)) = let s : f ≡ PricesValue t = cc in inr (ap status_of s)
+prices_file_fault periods read f (Ok bytes, is, (Err (text t), reading, e)) = let s : f ≡ PricesText t = cc in
+    inr (ap status_of s)
+prices_file_fault periods read f (Ok bytes, is, (Err (value t), reading, e)) = let s : f ≡ PricesValue t = cc in
+    inr (ap status_of s)
 prices_file_fault periods read f (Err g, is, e) =
     elim (bytes_fault PricesFile read f (ap Err (same_fault f g e) ∙ is)) [
       | inl p ↦ inl p
       | inr s ↦ inr (ap status_of s)
     ]
 
-pub priced_fault : (reads : Reads) (c : PlannedCase) (f : TopFault) → IsPriced reads c (Err f) → ((f ≡ Read PricesFile) × (reads PricesFile ≡ None)) ⊎ (status_of f ≡ 9)
+pub priced_fault : (reads : Reads) (c : PlannedCase) (f : TopFault) → IsPriced reads c (Err f) →
+    ((f ≡ Read PricesFile) × (reads PricesFile ≡ None)) ⊎ (status_of f ≡ 9)
 priced_fault reads c f (Ok π, file, e) = absurd cc
 priced_fault reads c f (Err g, file, e) =
-    prices_file_fault c.market.periods (reads PricesFile) f (subst (λ (h : TopFault). IsPricesFile c.market.periods (reads PricesFile) (Err h)) (sym (same_fault f g e)) file)
+    prices_file_fault c.market.periods (reads PricesFile) f
+    (subst (λ (h : TopFault). IsPricesFile c.market.periods (reads PricesFile) (Err h)) (sym (same_fault f g e))
+    file)
 
 -- the fault of a file with a mixture: of its read, or of status 10
-pub mixture_file_fault : (m : Market) (read : Option (List ℕ)) (f : TopFault) → IsMixtureFile m read (Err f) → ((f ≡ Read MixtureFile) × (read ≡ None)) ⊎ (status_of f ≡ 10)
+pub mixture_file_fault : (m : Market) (read : Option (List ℕ)) (f : TopFault) → IsMixtureFile m read (Err f) →
+    ((f ≡ Read MixtureFile) × (read ≡ None)) ⊎ (status_of f ≡ 10)
 mixture_file_fault m read f (Ok x, shares, (rule, is, first)) = inr (ap status_of is)
 mixture_file_fault m read f (Err g, (Ok bytes, is, (Ok x, reading, k)), e) = absurd cc
-mixture_file_fault m read f (Err g, (Ok bytes, is, (Err (text t), reading, k)), e) = let s : f ≡ MixtureText t = cc in inr (ap status_of s)
-mixture_file_fault m read f (Err g, (Ok bytes, is, (Err (value t), reading, k)), e) = let s : f ≡ MixtureShare t = cc in inr (ap status_of s)
+mixture_file_fault m read f (Err g, (Ok bytes, is, (Err (text t), reading, k)), e) = let s : f ≡ MixtureText t = cc in
+    inr (ap status_of s)
+mixture_file_fault m read f (Err g, (Ok bytes, is, (Err (value t), reading, k)), e) = let s : f ≡ MixtureShare t = cc in
+    inr (ap status_of s)
 mixture_file_fault m read f (Err g, (Err h, is, k), e) =
     elim (bytes_fault MixtureFile read f (ap Err (same_fault f g e ∙ same_fault g h k) ∙ is)) [
       | inl p ↦ inl p
@@ -165,10 +204,12 @@ mixture_file_fault m read f (Err g, (Err h, is, k), e) =
 
 -- and that of a certificate: or of its prices
 pub certifiable_fault : (reads : Reads) (c : PlannedCase) (f : TopFault) → IsCertifiable reads c (Err f)
-    → (((f ≡ Read PricesFile) × (reads PricesFile ≡ None)) ⊎ ((f ≡ Read MixtureFile) × (reads MixtureFile ≡ None))) ⊎ ((status_of f ≡ 9) ⊎ (status_of f ≡ 10))
+    → (((f ≡ Read PricesFile) × (reads PricesFile ≡ None)) ⊎ ((f ≡ Read MixtureFile) × (reads MixtureFile ≡ None))) ⊎
+    ((status_of f ≡ 9) ⊎ (status_of f ≡ 10))
 certifiable_fault reads c f (Ok d, priced, (Ok x, file, e)) = absurd cc
 certifiable_fault reads c f (Ok d, priced, (Err g, file, e)) =
-    elim (mixture_file_fault d.market (reads MixtureFile) f (subst (λ (h : TopFault). IsMixtureFile d.market (reads MixtureFile) (Err h)) (sym (same_fault f g e)) file)) [
+    elim (mixture_file_fault d.market (reads MixtureFile) f
+    (subst (λ (h : TopFault). IsMixtureFile d.market (reads MixtureFile) (Err h)) (sym (same_fault f g e)) file)) [
       | inl p ↦ inl (inr p)
       | inr ten ↦ inr (inr ten)
     ]
@@ -180,22 +221,26 @@ certifiable_fault reads c f (Err g, priced, e) =
 
 -- what a fault that is due says of the words
 data IsDueFault (w : Result Asked WordFault) (reads : Reads) (f : TopFault) : Type 0 where
-  unread : (file : FileKind) (name : List ℕ) → f ≡ Read file → (command_for w).name_of file ≡ Some name → reads file ≡ None → IsDueFault w reads f
+  unread : (file : FileKind) (name : List ℕ) → f ≡ Read file → (command_for w).name_of file ≡ Some name →
+      reads file ≡ None → IsDueFault w reads f
   of_input : 3 ≤ status_of f → status_of f ≤ 4 → IsDueFault w reads f
-  of_work : ((a : CheckAsked) → w ≡ Ok (check a) → ⊥) → ((a : SettleAsked) → w ≡ Ok (settle a) → ⊥) → ((a : CertifyAsked) → w ≡ Ok (certify a) → ⊥) → status_of f ≡ 5 → IsDueFault w reads f
+  of_work : ((a : CheckAsked) → w ≡ Ok (check a) → ⊥) → ((a : SettleAsked) → w ≡ Ok (settle a) → ⊥) →
+      ((a : CertifyAsked) → w ≡ Ok (certify a) → ⊥) → status_of f ≡ 5 → IsDueFault w reads f
   of_report : (a : AuditAsked) → w ≡ Ok (audit a) → status_of f ≡ 8 → IsDueFault w reads f
   of_prices : AskForPrices w → status_of f ≡ 9 → IsDueFault w reads f
   of_mixture : (a : CertifyAsked) → w ≡ Ok (certify a) → status_of f ≡ 10 → IsDueFault w reads f
   of_words : (x : WordFault) → f ≡ Words x → word_fault w ≡ Some x → IsDueFault w reads f
 
-due_fault : (w : Result Asked WordFault) (reads : Reads) (f : TopFault) → (command_for w).IsDue reads (Err f) → IsDueFault w reads f
+due_fault : (w : Result Asked WordFault) (reads : Reads) (f : TopFault) → (command_for w).IsDue reads (Err f) →
+    IsDueFault w reads f
 due_fault (Ok (check a)) reads f due =
     elim (input_fault reads f due) [
       | inl p ↦ unread CaseFile a.case_name p.0 refl p.1
       | inr (inl p) ↦ unread ScheduleFile a.schedule_name p.0 refl p.1
       | inr (inr p) ↦ of_input p.0 p.1
     ]
-due_fault (Ok (price a)) reads f (Ok c, input, work) = of_work (λ b e. absurd cc) (λ b e. absurd cc) (λ b e. absurd cc) (work_fault a.proposals c f work)
+due_fault (Ok (price a)) reads f (Ok c, input, work) =
+    of_work (λ b e. absurd cc) (λ b e. absurd cc) (λ b e. absurd cc) (work_fault a.proposals c f work)
 due_fault (Ok (price a)) reads f (Err g, input, e) =
     let same : g ≡ f = sym (same_fault f g e) in
     elim (input_fault reads f (subst (λ (h : TopFault). IsInput reads (Err h)) same input)) [
@@ -203,9 +248,11 @@ due_fault (Ok (price a)) reads f (Err g, input, e) =
       | inr (inl p) ↦ unread ScheduleFile a.schedule_name p.0 refl p.1
       | inr (inr p) ↦ of_input p.0 p.1
     ]
-due_fault (Ok (try a)) reads f (Ok c, input, work) = of_work (λ b e. absurd cc) (λ b e. absurd cc) (λ b e. absurd cc) (work_fault a.proposals c f work)
+due_fault (Ok (try a)) reads f (Ok c, input, work) =
+    of_work (λ b e. absurd cc) (λ b e. absurd cc) (λ b e. absurd cc) (work_fault a.proposals c f work)
 due_fault (Ok (try a)) reads f (Err g, made, e) = absurd made
-due_fault (Ok (bound a)) reads f (Ok c, input, work) = of_work (λ b e. absurd cc) (λ b e. absurd cc) (λ b e. absurd cc) (work_fault a.run.proposals c f work)
+due_fault (Ok (bound a)) reads f (Ok c, input, work) =
+    of_work (λ b e. absurd cc) (λ b e. absurd cc) (λ b e. absurd cc) (work_fault a.run.proposals c f work)
 due_fault (Ok (bound a)) reads f (Err g, input, e) =
     let same : g ≡ f = sym (same_fault f g e) in
     elim (input_fault reads f (subst (λ (h : TopFault). IsInput reads (Err h)) same input)) [
@@ -213,7 +260,8 @@ due_fault (Ok (bound a)) reads f (Err g, input, e) =
       | inr (inl p) ↦ unread ScheduleFile a.run.schedule_name p.0 refl p.1
       | inr (inr p) ↦ of_input p.0 p.1
     ]
-due_fault (Ok (fixed a)) reads f (Ok c, input, work) = of_work (λ b e. absurd cc) (λ b e. absurd cc) (λ b e. absurd cc) (work_fault a.proposals c f work)
+due_fault (Ok (fixed a)) reads f (Ok c, input, work) =
+    of_work (λ b e. absurd cc) (λ b e. absurd cc) (λ b e. absurd cc) (work_fault a.proposals c f work)
 due_fault (Ok (fixed a)) reads f (Err g, input, e) =
     let same : g ≡ f = sym (same_fault f g e) in
     elim (input_fault reads f (subst (λ (h : TopFault). IsInput reads (Err h)) same input)) [
@@ -269,30 +317,43 @@ not_refusal n k e never told = let same : is_refusal n ≡ is_refusal k = ap is_
 
 module _ (w : Result Asked WordFault) (told : List ℕ → Option (List ℕ)) (rose gained short : List ℕ → Type 0) where
   -- a file whose read failed has a name, whose count rose
-  rose_of : (reads : Reads) → AreReads told rose (command_for w).name_of reads → (file : FileKind) (name : List ℕ) → (command_for w).name_of file ≡ Some name → reads file ≡ None → rose name
+  rose_of : (reads : Reads) → AreReads told rose (command_for w).name_of reads → (file : FileKind) (name : List ℕ) →
+      (command_for w).name_of file ≡ Some name → reads file ≡ None → rose name
   rose_of reads are file name named none =
-      let all = subst (λ (o : Option (List ℕ)). IfSome o (λ n. IsReadOf (told n) (rose n) (reads file))) named (are file) in
+      let all = subst (λ (o : Option (List ℕ)). IfSome o (λ n. IsReadOf (told n) (rose n) (reads file))) named
+      (are file) in
       subst (IsReadOf (told name) (rose name)) none all
 
   -- the fault of status 7 is want of memory
-  starved : (f : TopFault) → IsWritten (command_for w) told rose gained short f → status_of f ≡ 7 → Sort f → IsWritten (command_for w) told rose gained short Memory
+  starved : (f : TopFault) → IsWritten (command_for w) told rose gained short f → status_of f ≡ 7 → Sort f →
+      IsWritten (command_for w) told rose gained short Memory
   starved f lines z (is_read file e) = let s : status_of f ≡ 2 = ap status_of e in absurd (omega (arith, z, s))
   starved f lines z (is_memory e) = subst (IsWritten (command_for w) told rose gained short) e lines
   starved f lines z (is_other two seven) = absurd (seven z)
 
   -- the fault of status 2 is a failed read
-  read_failed : (reads : Reads) (f : TopFault) → AreReads told rose (command_for w).name_of reads → IsWritten (command_for w) told rose gained short f → status_of f ≡ 2
-      → (command_for w).IsDue reads (Err f) → IsDueFault w reads f → IsUnread (command_for w) told rose gained short reads
-  read_failed reads f are lines z due (unread file name is named none) =
-      (file, name, named, rose_of reads are file name named none, subst (λ (g : TopFault). (command_for w).IsDue reads (Err g)) is due, subst (IsWritten (command_for w) told rose gained short) is lines)
+  read_failed : (reads : Reads) (f : TopFault) → AreReads told rose (command_for w).name_of reads →
+      IsWritten (command_for w) told rose gained short f → status_of f ≡ 2
+      → (command_for w).IsDue reads (Err f) → IsDueFault w reads f →
+      IsUnread (command_for w) told rose gained short reads
+  read_failed reads f are lines z due (unread file name is named none) = (
+    file,
+    name,
+    named,
+    rose_of reads are file name named none,
+    subst (λ (g : TopFault). (command_for w).IsDue reads (Err g)) is due,
+    subst (IsWritten (command_for w) told rose gained short) is lines,
+  )
   read_failed reads f are lines z due (of_input low high) = absurd (omega (arith, z, low))
   read_failed reads f are lines z due (of_work other more third five) = absurd (omega (arith, z, five))
   read_failed reads f are lines z due (of_report a same eight) = absurd (omega (arith, z, eight))
   read_failed reads f are lines z due (of_prices asked nine) = absurd (omega (arith, z, nine))
   read_failed reads f are lines z due (of_mixture a same ten) = absurd (omega (arith, z, ten))
-  read_failed reads f are lines z due (of_words x is faulty) = let s : status_of f ≡ 1 = ap status_of is in absurd (omega (arith, z, s))
+  read_failed reads f are lines z due (of_words x is faulty) = let s : status_of f ≡ 1 = ap status_of is in
+      absurd (omega (arith, z, s))
 
-  pub has_cause : (n : ℕ) (reads : Reads) (e : End) → AreReads told rose (command_for w).name_of reads → Ends (command_for w) reads gained short e → n ≡ status_at e → HasCause (command_for w) told rose gained short n
+  pub has_cause : (n : ℕ) (reads : Reads) (e : End) → AreReads told rose (command_for w).name_of reads →
+      Ends (command_for w) reads gained short e → n ≡ status_at e → HasCause (command_for w) told rose gained short n
   has_cause n reads Done are ends is = record {
     known = omega (arith, is);
     done = λ z. (reads, are, ends);
@@ -329,15 +390,19 @@ module _ (w : Result Asked WordFault) (told : List ℕ → Option (List ℕ)) (r
   -- ---- completeness
 
   -- where no count rose, no read failed
-  all_read : (reads : Reads) → AreReads told rose (command_for w).name_of reads → IsQuiet (command_for w) told rose gained short → (file : FileKind) → IfSome ((command_for w).name_of file) (λ name. IsSome (reads file))
+  all_read : (reads : Reads) → AreReads told rose (command_for w).name_of reads →
+      IsQuiet (command_for w) told rose gained short → (file : FileKind) →
+      IfSome ((command_for w).name_of file) (λ name. IsSome (reads file))
   all_read reads are quiet file = each ((command_for w).name_of file) (reads file) (are file) (quiet.shelf file)
     where
-      each : (o : Option (List ℕ)) (read : Option (List ℕ)) → IfSome o (λ name. IsReadOf (told name) (rose name) read) → IfSome o (λ name. ¬ rose name) → IfSome o (λ name. IsSome read)
+      each : (o : Option (List ℕ)) (read : Option (List ℕ)) → IfSome o (λ name. IsReadOf (told name) (rose name) read) →
+          IfSome o (λ name. ¬ rose name) → IfSome o (λ name. IsSome read)
       each None read p q = tt
       each (Some name) None p q = absurd (q p)
       each (Some name) (Some bytes) p q = refl
 
-  pub is_decided : AreOne → (n : ℕ) (reads : Reads) (e : End) → AreReads told rose (command_for w).name_of reads → IsQuiet (command_for w) told rose gained short
+  pub is_decided : AreOne → (n : ℕ) (reads : Reads) (e : End) → AreReads told rose (command_for w).name_of reads →
+      IsQuiet (command_for w) told rose gained short
       → Ends (command_for w) reads gained short e → n ≡ status_at e → IsDecided (command_for w) n reads
   is_decided ones n reads Done are quiet (i, due, shown, right, ends) is = record {
     read = all_read reads are quiet;
@@ -356,7 +421,8 @@ module _ (w : Result Asked WordFault) (told : List ℕ → Option (List ℕ)) (r
 
 -- ---- what the words alone say
 
-refused_words : (w : Result Asked WordFault) (f : WordFault) (reads : Reads) (due : Result PlannedCase TopFault) → word_fault w ≡ Some f → (command_for w).IsDue reads due → due ≡ Err (Words f)
+refused_words : (w : Result Asked WordFault) (f : WordFault) (reads : Reads) (due : Result PlannedCase TopFault) →
+    word_fault w ≡ Some f → (command_for w).IsDue reads due → due ≡ Err (Words f)
 refused_words (Ok a) f reads due e is = absurd cc
 refused_words (Err g) f reads due e is = cc
 
@@ -364,8 +430,10 @@ module _ (w : Result Asked WordFault) (gained short : List ℕ → Type 0) where
   abbrev Lines : TopFault → Type 0
   Lines f = gained (fault_line f) ⊎ short (fault_line f)
 
-  at_1_of : (reads : Reads) (f : TopFault) → Lines f → status_of f ≡ 1 → IsDueFault w reads f → (x : WordFault) × (word_fault w ≡ Some x) × Lines (Words x)
-  at_1_of reads f lines z (unread file name is named none) = let s : status_of f ≡ 2 = ap status_of is in absurd (omega (arith, z, s))
+  at_1_of : (reads : Reads) (f : TopFault) → Lines f → status_of f ≡ 1 → IsDueFault w reads f →
+      (x : WordFault) × (word_fault w ≡ Some x) × Lines (Words x)
+  at_1_of reads f lines z (unread file name is named none) = let s : status_of f ≡ 2 = ap status_of is in
+      absurd (omega (arith, z, s))
   at_1_of reads f lines z (of_input low high) = absurd (omega (arith, z, low))
   at_1_of reads f lines z (of_work other more third five) = absurd (omega (arith, z, five))
   at_1_of reads f lines z (of_report a same eight) = absurd (omega (arith, z, eight))
@@ -373,8 +441,10 @@ module _ (w : Result Asked WordFault) (gained short : List ℕ → Type 0) where
   at_1_of reads f lines z (of_mixture a same ten) = absurd (omega (arith, z, ten))
   at_1_of reads f lines z (of_words x is faulty) = (x, faulty, subst Lines is lines)
 
-  at_8_of : (reads : Reads) (f : TopFault) → status_of f ≡ 8 → IsDueFault w reads f → (a : AuditAsked) × (w ≡ Ok (audit a))
-  at_8_of reads f z (unread file name is named none) = let s : status_of f ≡ 2 = ap status_of is in absurd (omega (arith, z, s))
+  at_8_of : (reads : Reads) (f : TopFault) → status_of f ≡ 8 → IsDueFault w reads f →
+      (a : AuditAsked) × (w ≡ Ok (audit a))
+  at_8_of reads f z (unread file name is named none) = let s : status_of f ≡ 2 = ap status_of is in
+      absurd (omega (arith, z, s))
   at_8_of reads f z (of_input low high) = absurd (omega (arith, z, high))
   at_8_of reads f z (of_work other more third five) = absurd (omega (arith, z, five))
   at_8_of reads f z (of_report a same eight) = (a, same)
@@ -383,7 +453,8 @@ module _ (w : Result Asked WordFault) (gained short : List ℕ → Type 0) where
   at_8_of reads f z (of_words x is faulty) = let s : status_of f ≡ 1 = ap status_of is in absurd (omega (arith, z, s))
 
   at_9_of : (reads : Reads) (f : TopFault) → status_of f ≡ 9 → IsDueFault w reads f → AskForPrices w
-  at_9_of reads f z (unread file name is named none) = let s : status_of f ≡ 2 = ap status_of is in absurd (omega (arith, z, s))
+  at_9_of reads f z (unread file name is named none) = let s : status_of f ≡ 2 = ap status_of is in
+      absurd (omega (arith, z, s))
   at_9_of reads f z (of_input low high) = absurd (omega (arith, z, high))
   at_9_of reads f z (of_work other more third five) = absurd (omega (arith, z, five))
   at_9_of reads f z (of_report a same eight) = absurd (omega (arith, z, eight))
@@ -391,8 +462,10 @@ module _ (w : Result Asked WordFault) (gained short : List ℕ → Type 0) where
   at_9_of reads f z (of_mixture a same ten) = absurd (omega (arith, z, ten))
   at_9_of reads f z (of_words x is faulty) = let s : status_of f ≡ 1 = ap status_of is in absurd (omega (arith, z, s))
 
-  at_10_of : (reads : Reads) (f : TopFault) → status_of f ≡ 10 → IsDueFault w reads f → (a : CertifyAsked) × (w ≡ Ok (certify a))
-  at_10_of reads f z (unread file name is named none) = let s : status_of f ≡ 2 = ap status_of is in absurd (omega (arith, z, s))
+  at_10_of : (reads : Reads) (f : TopFault) → status_of f ≡ 10 → IsDueFault w reads f →
+      (a : CertifyAsked) × (w ≡ Ok (certify a))
+  at_10_of reads f z (unread file name is named none) = let s : status_of f ≡ 2 = ap status_of is in
+      absurd (omega (arith, z, s))
   at_10_of reads f z (of_input low high) = absurd (omega (arith, z, high))
   at_10_of reads f z (of_work other more third five) = absurd (omega (arith, z, five))
   at_10_of reads f z (of_report a same eight) = absurd (omega (arith, z, eight))
@@ -400,34 +473,44 @@ module _ (w : Result Asked WordFault) (gained short : List ℕ → Type 0) where
   at_10_of reads f z (of_mixture a same ten) = (a, same)
   at_10_of reads f z (of_words x is faulty) = let s : status_of f ≡ 1 = ap status_of is in absurd (omega (arith, z, s))
 
-  check_never_5 : (reads : Reads) (f : TopFault) (a : CheckAsked) → w ≡ Ok (check a) → status_of f ≡ 5 → IsDueFault w reads f → ⊥
-  check_never_5 reads f a same z (unread file name is named none) = let s : status_of f ≡ 2 = ap status_of is in omega (arith, z, s)
+  check_never_5 : (reads : Reads) (f : TopFault) (a : CheckAsked) → w ≡ Ok (check a) → status_of f ≡ 5 →
+      IsDueFault w reads f → ⊥
+  check_never_5 reads f a same z (unread file name is named none) = let s : status_of f ≡ 2 = ap status_of is in
+      omega (arith, z, s)
   check_never_5 reads f a same z (of_input low high) = omega (arith, z, high)
   check_never_5 reads f a same z (of_work other more third five) = other a same
   check_never_5 reads f a same z (of_report b also eight) = omega (arith, z, eight)
   check_never_5 reads f a same z (of_prices asked nine) = omega (arith, z, nine)
   check_never_5 reads f a same z (of_mixture b also ten) = omega (arith, z, ten)
-  check_never_5 reads f a same z (of_words x is faulty) = let s : status_of f ≡ 1 = ap status_of is in omega (arith, z, s)
+  check_never_5 reads f a same z (of_words x is faulty) = let s : status_of f ≡ 1 = ap status_of is in
+      omega (arith, z, s)
 
-  settle_never_5 : (reads : Reads) (f : TopFault) (a : SettleAsked) → w ≡ Ok (settle a) → status_of f ≡ 5 → IsDueFault w reads f → ⊥
-  settle_never_5 reads f a same z (unread file name is named none) = let s : status_of f ≡ 2 = ap status_of is in omega (arith, z, s)
+  settle_never_5 : (reads : Reads) (f : TopFault) (a : SettleAsked) → w ≡ Ok (settle a) → status_of f ≡ 5 →
+      IsDueFault w reads f → ⊥
+  settle_never_5 reads f a same z (unread file name is named none) = let s : status_of f ≡ 2 = ap status_of is in
+      omega (arith, z, s)
   settle_never_5 reads f a same z (of_input low high) = omega (arith, z, high)
   settle_never_5 reads f a same z (of_work other more third five) = more a same
   settle_never_5 reads f a same z (of_report b also eight) = omega (arith, z, eight)
   settle_never_5 reads f a same z (of_prices asked nine) = omega (arith, z, nine)
   settle_never_5 reads f a same z (of_mixture b also ten) = omega (arith, z, ten)
-  settle_never_5 reads f a same z (of_words x is faulty) = let s : status_of f ≡ 1 = ap status_of is in omega (arith, z, s)
+  settle_never_5 reads f a same z (of_words x is faulty) = let s : status_of f ≡ 1 = ap status_of is in
+      omega (arith, z, s)
 
-  certify_never_5 : (reads : Reads) (f : TopFault) (a : CertifyAsked) → w ≡ Ok (certify a) → status_of f ≡ 5 → IsDueFault w reads f → ⊥
-  certify_never_5 reads f a same z (unread file name is named none) = let s : status_of f ≡ 2 = ap status_of is in omega (arith, z, s)
+  certify_never_5 : (reads : Reads) (f : TopFault) (a : CertifyAsked) → w ≡ Ok (certify a) → status_of f ≡ 5 →
+      IsDueFault w reads f → ⊥
+  certify_never_5 reads f a same z (unread file name is named none) = let s : status_of f ≡ 2 = ap status_of is in
+      omega (arith, z, s)
   certify_never_5 reads f a same z (of_input low high) = omega (arith, z, high)
   certify_never_5 reads f a same z (of_work other more third five) = third a same
   certify_never_5 reads f a same z (of_report b also eight) = omega (arith, z, eight)
   certify_never_5 reads f a same z (of_prices asked nine) = omega (arith, z, nine)
   certify_never_5 reads f a same z (of_mixture b also ten) = omega (arith, z, ten)
-  certify_never_5 reads f a same z (of_words x is faulty) = let s : status_of f ≡ 1 = ap status_of is in omega (arith, z, s)
+  certify_never_5 reads f a same z (of_words x is faulty) = let s : status_of f ≡ 1 = ap status_of is in
+      omega (arith, z, s)
 
-  pub words_follow : (n : ℕ) (reads : Reads) (e : End) → Ends (command_for w) reads gained short e → n ≡ status_at e → FollowsFromWords w gained short n
+  pub words_follow : (n : ℕ) (reads : Reads) (e : End) → Ends (command_for w) reads gained short e → n ≡ status_at e →
+      FollowsFromWords w gained short n
   words_follow n reads Done (i, due, shown, right, ends) is = record {
     faulty = λ f e. let h = refused_words w f reads (Ok i) e due in absurd cc;
     at_1 = λ z. absurd (omega (arith, is, z));
@@ -473,11 +556,14 @@ module _ (w : Result Asked WordFault) (gained short : List ℕ → Type 0) where
 
 -- ---- what is accepted
 
-checked_is_feasible : (m : Market) (plan : List Schedule) (i : PlannedCase) → IsChecked m plan (Ok i) → IsFeasiblePlan i.market i.plan × (i.cost ≡ plan_cost i.market i.plan)
+checked_is_feasible : (m : Market) (plan : List Schedule) (i : PlannedCase) → IsChecked m plan (Ok i) →
+    IsFeasiblePlan i.market i.plan × (i.cost ≡ plan_cost i.market i.plan)
 checked_is_feasible m plan i (feasible, none, is) =
-    subst (λ (c : PlannedCase). IsFeasiblePlan c.market c.plan × (c.cost ≡ plan_cost c.market c.plan)) (sym is) (feasible, refl)
+    subst (λ (c : PlannedCase). IsFeasiblePlan c.market c.plan × (c.cost ≡ plan_cost c.market c.plan)) (sym is)
+    (feasible, refl)
 
-input_is_feasible : (reads : Reads) (i : PlannedCase) → IsInput reads (Ok i) → IsFeasiblePlan i.market i.plan × (i.cost ≡ plan_cost i.market i.plan)
+input_is_feasible : (reads : Reads) (i : PlannedCase) → IsInput reads (Ok i) →
+    IsFeasiblePlan i.market i.plan × (i.cost ≡ plan_cost i.market i.plan)
 input_is_feasible reads i (Ok m, case_is, (Ok plan, plan_is, checked)) = checked_is_feasible m plan i checked
 input_is_feasible reads i (Ok m, case_is, (Err g, plan_is, e)) = absurd cc
 input_is_feasible reads i (Err g, case_is, e) = absurd cc
@@ -488,36 +574,45 @@ below_work false f c i e = cc
 
 pub same_input : (proposals : ℕ) (c i : PlannedCase) → IsWithinWork proposals c (Ok i) → c ≡ i
 same_input proposals c i e =
-    below_work (nat_lt MOST_WORK (proposals * unit_count c.market * c.market.periods)) (Work proposals (unit_count c.market) c.market.periods) c i e
+    below_work (nat_lt MOST_WORK (proposals * unit_count c.market * c.market.periods))
+    (Work proposals (unit_count c.market) c.market.periods) c i e
 
-pub accepted_is_feasible : (w : Result Asked WordFault) (reads : Reads) (i : PlannedCase) → (command_for w).IsDue reads (Ok i) → IsFeasiblePlan i.market i.plan × (i.cost ≡ plan_cost i.market i.plan)
+pub accepted_is_feasible : (w : Result Asked WordFault) (reads : Reads) (i : PlannedCase) →
+    (command_for w).IsDue reads (Ok i) → IsFeasiblePlan i.market i.plan × (i.cost ≡ plan_cost i.market i.plan)
 accepted_is_feasible (Ok (check a)) reads i due = input_is_feasible reads i due
 accepted_is_feasible (Ok (price a)) reads i (Ok c, input, work) =
-    subst (λ (c : PlannedCase). IsFeasiblePlan c.market c.plan × (c.cost ≡ plan_cost c.market c.plan)) (same_input a.proposals c i work) (input_is_feasible reads c input)
+    subst (λ (c : PlannedCase). IsFeasiblePlan c.market c.plan × (c.cost ≡ plan_cost c.market c.plan))
+    (same_input a.proposals c i work) (input_is_feasible reads c input)
 accepted_is_feasible (Ok (price a)) reads i (Err g, input, e) = absurd cc
 accepted_is_feasible (Ok (try a)) reads i (Ok c, (feasible, is), work) =
-    subst (λ (c : PlannedCase). IsFeasiblePlan c.market c.plan × (c.cost ≡ plan_cost c.market c.plan)) (same_input a.proposals c i work)
+    subst (λ (c : PlannedCase). IsFeasiblePlan c.market c.plan × (c.cost ≡ plan_cost c.market c.plan))
+    (same_input a.proposals c i work)
     (feasible, subst (λ (c : PlannedCase). c.cost ≡ plan_cost c.market c.plan) (sym is) refl)
 accepted_is_feasible (Ok (try a)) reads i (Err g, made, e) = absurd made
 accepted_is_feasible (Ok (bound a)) reads i (Ok c, input, work) =
-    subst (λ (c : PlannedCase). IsFeasiblePlan c.market c.plan × (c.cost ≡ plan_cost c.market c.plan)) (same_input a.run.proposals c i work) (input_is_feasible reads c input)
+    subst (λ (c : PlannedCase). IsFeasiblePlan c.market c.plan × (c.cost ≡ plan_cost c.market c.plan))
+    (same_input a.run.proposals c i work) (input_is_feasible reads c input)
 accepted_is_feasible (Ok (bound a)) reads i (Err g, input, e) = absurd cc
 accepted_is_feasible (Ok (fixed a)) reads i (Ok c, input, work) =
-    subst (λ (c : PlannedCase). IsFeasiblePlan c.market c.plan × (c.cost ≡ plan_cost c.market c.plan)) (same_input a.proposals c i work) (input_is_feasible reads c input)
+    subst (λ (c : PlannedCase). IsFeasiblePlan c.market c.plan × (c.cost ≡ plan_cost c.market c.plan))
+    (same_input a.proposals c i work) (input_is_feasible reads c input)
 accepted_is_feasible (Ok (fixed a)) reads i (Err g, input, e) = absurd cc
 accepted_is_feasible (Ok (audit a)) reads i (Ok c, input, (Ok r, report_is, (Ok left, work, (right, same)))) =
-    subst (λ (c : PlannedCase). IsFeasiblePlan c.market c.plan × (c.cost ≡ plan_cost c.market c.plan)) (same_input r.budget c left work ∙ sym same) (input_is_feasible reads c input)
+    subst (λ (c : PlannedCase). IsFeasiblePlan c.market c.plan × (c.cost ≡ plan_cost c.market c.plan))
+    (same_input r.budget c left work ∙ sym same) (input_is_feasible reads c input)
 accepted_is_feasible (Ok (audit a)) reads i (Ok c, input, (Ok r, report_is, (Err g, work, e))) = absurd cc
 accepted_is_feasible (Ok (audit a)) reads i (Ok c, input, (Err g, report_is, e)) = absurd cc
 accepted_is_feasible (Ok (audit a)) reads i (Err g, input, e) = absurd cc
 accepted_is_feasible (Ok (settle a)) reads i (Ok c, input, (Ok π, file, e)) =
     let same : c ≡ i = cc in
-    subst (λ (c : PlannedCase). IsFeasiblePlan c.market c.plan × (c.cost ≡ plan_cost c.market c.plan)) same (input_is_feasible reads c input)
+    subst (λ (c : PlannedCase). IsFeasiblePlan c.market c.plan × (c.cost ≡ plan_cost c.market c.plan)) same
+    (input_is_feasible reads c input)
 accepted_is_feasible (Ok (settle a)) reads i (Ok c, input, (Err g, file, e)) = absurd cc
 accepted_is_feasible (Ok (settle a)) reads i (Err g, input, e) = absurd cc
 accepted_is_feasible (Ok (certify a)) reads i (Ok c, input, (Ok d, (Ok π, prices, k), (Ok x, file, e))) =
     let same : c ≡ i = cc in
-    subst (λ (c : PlannedCase). IsFeasiblePlan c.market c.plan × (c.cost ≡ plan_cost c.market c.plan)) same (input_is_feasible reads c input)
+    subst (λ (c : PlannedCase). IsFeasiblePlan c.market c.plan × (c.cost ≡ plan_cost c.market c.plan)) same
+    (input_is_feasible reads c input)
 accepted_is_feasible (Ok (certify a)) reads i (Ok c, input, (Ok d, (Err g, prices, k), (Ok x, file, e))) = absurd cc
 accepted_is_feasible (Ok (certify a)) reads i (Ok c, input, (Ok d, priced, (Err g, file, e))) = absurd cc
 accepted_is_feasible (Ok (certify a)) reads i (Ok c, input, (Err g, priced, e)) = absurd cc
@@ -531,8 +626,10 @@ case_found m bytes (Ok n, is, e) = let same : n ≡ m = cc in subst (λ (x : Mar
 case_found m bytes (Err (text f), is, e) = absurd cc
 case_found m bytes (Err (value f), is, e) = absurd cc
 
-plan_found : (m : Market) (plan : List Schedule) (bytes : List ℕ) → IsPlan m bytes (Ok plan) → IsPlanOf m bytes (Ok plan)
-plan_found m plan bytes (Ok p, is, e) = let same : p ≡ plan = cc in subst (λ (x : List Schedule). IsPlanOf m bytes (Ok x)) same is
+plan_found : (m : Market) (plan : List Schedule) (bytes : List ℕ) → IsPlan m bytes (Ok plan) →
+    IsPlanOf m bytes (Ok plan)
+plan_found m plan bytes (Ok p, is, e) = let same : p ≡ plan = cc in
+    subst (λ (x : List Schedule). IsPlanOf m bytes (Ok x)) same is
 plan_found m plan bytes (Err (text f), is, e) = absurd cc
 plan_found m plan bytes (Err (value f), is, e) = absurd cc
 
@@ -546,7 +643,9 @@ pub record InputParts (reads : Reads) (c : PlannedCase) : Type 0 where
   pub is_plan : IsPlanOf c.market plan_bytes (Ok c.plan)
   pub feasible : IsFeasiblePlan c.market c.plan
 
-planned_parts : BytesAreThoseRead → (reads : Reads) (m : Market) (plan : List Schedule) (c : PlannedCase) → IsCaseFile (reads CaseFile) (Ok m) → IsPlanFile m (reads ScheduleFile) (Ok plan) → IsChecked m plan (Ok c) → InputParts reads c
+planned_parts : BytesAreThoseRead → (reads : Reads) (m : Market) (plan : List Schedule) (c : PlannedCase) →
+    IsCaseFile (reads CaseFile) (Ok m) → IsPlanFile m (reads ScheduleFile) (Ok plan) → IsChecked m plan (Ok c) →
+    InputParts reads c
 planned_parts got reads m plan c (Ok bytes, is_bytes, case_is) (Ok later, is_later, plan_is) (feasible, none, is) =
     subst (InputParts reads) (sym is) (record {
       case_bytes = bytes;
@@ -561,12 +660,15 @@ planned_parts got reads m plan c (Ok bytes, is_bytes, case_is) (Err g, is_later,
 planned_parts got reads m plan c (Err g, is_bytes, e) plan_is checked = absurd cc
 
 pub input_parts : BytesAreThoseRead → (reads : Reads) (c : PlannedCase) → IsInput reads (Ok c) → InputParts reads c
-input_parts got reads c (Ok m, case_is, (Ok plan, plan_is, checked)) = planned_parts got reads m plan c case_is plan_is checked
+input_parts got reads c (Ok m, case_is, (Ok plan, plan_is, checked)) =
+    planned_parts got reads m plan c case_is plan_is checked
 input_parts got reads c (Ok m, case_is, (Err g, plan_is, e)) = absurd cc
 input_parts got reads c (Err g, case_is, e) = absurd cc
 
-price_parts : BytesAreThoseRead → (a : PriceAsked) (reads : Reads) (i : PlannedCase) → (command_for (Ok (price a))).IsDue reads (Ok i) → InputParts reads i
-price_parts got a reads i (Ok c, input, work) = subst (InputParts reads) (same_input a.proposals c i work) (input_parts got reads c input)
+price_parts : BytesAreThoseRead → (a : PriceAsked) (reads : Reads) (i : PlannedCase) →
+    (command_for (Ok (price a))).IsDue reads (Ok i) → InputParts reads i
+price_parts got a reads i (Ok c, input, work) =
+    subst (InputParts reads) (same_input a.proposals c i work) (input_parts got reads c input)
 price_parts got a reads i (Err g, input, e) = absurd cc
 
 -- what each unit of a right report is paid, and what the surplus is worth
@@ -574,12 +676,17 @@ pub record PaysNoneBack (r : Report) : Type 0 where
   pub payments : All (λ (l : UnitLine). pos 0 ≤ℤ l.payment) (unit_lines r)
   pub surplus : pos 0 ≤ℤ r.surplus
 
-pub pays_none_back : RunPricesAreWithin → NothingIsPaidBack → (m : Market) (plan : List Schedule) (budget ahead : ℕ) (r : Report) → 1 ≤ ahead → IsFeasiblePlan m plan → IsRightReport m plan budget ahead r → PaysNoneBack r
+pub pays_none_back : RunPricesAreWithin → NothingIsPaidBack →
+    (m : Market) (plan : List Schedule) (budget ahead : ℕ) (r : Report) → 1 ≤ ahead → IsFeasiblePlan m plan →
+    IsRightReport m plan budget ahead r → PaysNoneBack r
 pays_none_back priced nothing m plan budget ahead r some feasible right =
-    let prices = priced m (plan_cost m plan) budget ahead r.rows (r.chosen - 1) right.row some right.run right.is_chosen in
+    let prices = priced m (plan_cost m plan) budget ahead r.rows (r.chosen - 1) right.row some right.run
+    right.is_chosen in
     let length = prices.reserve_horizon in
-    let low : (k : ℕ) → k < m.periods → pos 0 ≤ℤ int_at right.row.prices.reserve k = λ k lt. (prices.reserve k (pos 0) (omega (arith, lt, length))).at_least in
-    let paid = nothing m plan right.row.prices _ _ r.surplus r.payments feasible (record { horizon = prices.horizon; reserve = low }) right.settled in
+    let low : (k : ℕ) → k < m.periods → pos 0 ≤ℤ int_at right.row.prices.reserve k =
+    λ k lt. (prices.reserve k (pos 0) (omega (arith, lt, length))).at_least in
+    let paid = nothing m plan right.row.prices _ _ r.surplus r.payments feasible
+    (record { horizon = prices.horizon; reserve = low }) right.settled in
     let payment : UnitLine → ℤ = λ l. l.payment in
     record {
       payments = λ k l lt.
@@ -588,8 +695,11 @@ pays_none_back priced nothing m plan budget ahead r some feasible right =
       surplus = paid.1;
     }
 
-module _ (words_have_sizes : WordsHaveSizes) (got : BytesAreThoseRead) (gap : ReportPaymentsMakeUpTheGap) (priced : RunPricesAreWithin) (nothing : NothingIsPaidBack) (a : PriceAsked) (told : List ℕ → Option (List ℕ)) (rose gained short : List ℕ → Type 0) where
-  promised : (reads : Reads) → 1 ≤ a.ahead → AreReads told rose (case_and_schedule a.case_name a.schedule_name) reads → HasText (command_for (Ok (price a))) reads gained → IsPromised a told gained
+module _ (words_have_sizes : WordsHaveSizes) (got : BytesAreThoseRead) (gap : ReportPaymentsMakeUpTheGap)
+    (priced : RunPricesAreWithin) (nothing : NothingIsPaidBack) (a : PriceAsked) (told : List ℕ → Option (List ℕ))
+    (rose gained short : List ℕ → Type 0) where
+  promised : (reads : Reads) → 1 ≤ a.ahead → AreReads told rose (case_and_schedule a.case_name a.schedule_name) reads →
+      HasText (command_for (Ok (price a))) reads gained → IsPromised a told gained
   promised reads some are (i, due, shown, (r, right, is), printed) =
       let parts = price_parts got a reads i due in
       let made_up = gap i.market i.plan a.proposals a.ahead r parts.feasible right in
@@ -598,7 +708,8 @@ module _ (words_have_sizes : WordsHaveSizes) (got : BytesAreThoseRead) (gap : Re
         case_bytes = parts.case_bytes;
         case_told = subst (IsReadOf (told a.case_name) (rose a.case_name)) parts.case_read (are CaseFile);
         schedule_bytes = parts.plan_bytes;
-        schedule_told = subst (IsReadOf (told a.schedule_name) (rose a.schedule_name)) parts.plan_read (are ScheduleFile);
+        schedule_told = subst (IsReadOf (told a.schedule_name) (rose a.schedule_name)) parts.plan_read
+            (are ScheduleFile);
         market = i.market;
         is_case = parts.is_case;
         plan = i.plan;
@@ -613,9 +724,13 @@ module _ (words_have_sizes : WordsHaveSizes) (got : BytesAreThoseRead) (gap : Re
         surplus_from_0 = paid.surplus;
       }
 
-  pub promised_at_0 : (words : List (List ℕ)) (n : ℕ) (reads : Reads) (e : End) → AreReads told rose (command_for (words_of words)).name_of reads → Ends (command_for (words_of words)) reads gained short e → n ≡ status_at e
+  pub promised_at_0 : (words : List (List ℕ)) (n : ℕ) (reads : Reads) (e : End) →
+      AreReads told rose (command_for (words_of words)).name_of reads →
+      Ends (command_for (words_of words)) reads gained short e → n ≡ status_at e
       → words_of words ≡ Ok (price a) → n ≡ 0 → IsPromised a told gained
   promised_at_0 words n reads Done are ends is same z =
-      promised reads (words_have_sizes words (price a) same).ahead_in.at_least (subst (λ (v : Result Asked WordFault). AreReads told rose (command_for v).name_of reads) same are) (subst (λ (v : Result Asked WordFault). HasText (command_for v) reads gained) same ends)
+      promised reads (words_have_sizes words (price a) same).ahead_in.at_least
+      (subst (λ (v : Result Asked WordFault). AreReads told rose (command_for v).name_of reads) same are)
+      (subst (λ (v : Result Asked WordFault). HasText (command_for v) reads gained) same ends)
   promised_at_0 words n reads Cut are ends is same z = absurd (omega (arith, is, z))
   promised_at_0 words n reads (Refused f) are ends is same z = absurd (omega (arith, is, z, (status_within f).0))

@@ -1,5 +1,13 @@
 -- Two runs of the same words over the same bytes print the same.
-use Rattle.law_outcome.proofs.Common.{◌≡◌, ℕ, inl, inr, List, Option, None, Some, Result, Ok, Err, refl, sym, ap, ◌∙◌, subst, arith, IfSome, Asked, check, price, try, bound, fixed, audit, settle, certify, status_of, fault_line, CaseFile, ScheduleFile, ReportFile, PricesFile, MixtureFile, TopFault, End, Done, Cut, Refused, Reads, Then, IsCaseFile, IsPlanFile, IsChecked, IsInput, IsWithinWork, IsReportFile, IsJudged, IsPricesFile, IsMixtureFile, MixtureLists, IsAuditText, IsSettlementText, IsCertificateText, Report, PriceLists, PlannedCase, command_for, IsReadOf, AreReads, HasText, Ends, status_at, with_workers, TellTheSame, BytesAreThoseRead, ReportBytesAreItsText, report_text}
+use Rattle.law_outcome.proofs.Common.{◌≡◌, ℕ, inl, inr, List, Option, None, Some, Result, Ok, Err, refl, sym, ap, ◌∙◌}
+use Rattle.law_outcome.proofs.Common.{subst, arith, IfSome, Asked, check, price, try, bound, fixed, audit, settle}
+use Rattle.law_outcome.proofs.Common.{certify, status_of, fault_line, CaseFile, ScheduleFile, ReportFile, PricesFile}
+use Rattle.law_outcome.proofs.Common.{MixtureFile, TopFault, End, Done, Cut, Refused, Reads, Then, IsCaseFile}
+use Rattle.law_outcome.proofs.Common.{IsPlanFile, IsChecked, IsInput, IsWithinWork, IsReportFile, IsJudged}
+use Rattle.law_outcome.proofs.Common.{IsPricesFile, IsMixtureFile, MixtureLists, IsAuditText, IsSettlementText}
+use Rattle.law_outcome.proofs.Common.{IsCertificateText, Report, PriceLists, PlannedCase, command_for, IsReadOf}
+use Rattle.law_outcome.proofs.Common.{AreReads, HasText, Ends, status_at, with_workers, TellTheSame, BytesAreThoseRead}
+use Rattle.law_outcome.proofs.Common.{ReportBytesAreItsText, report_text}
 use Rattle.hull_report.specs.declared.fault.FileKind.{FileKind}
 use Rattle.law_outcome.proofs.OutcomeLaws.{status_within, same_fault, InputParts, input_parts}
 use Rattle.law_outcome.proofs.SettlePromise.{prices_parts}
@@ -27,28 +35,38 @@ module _ (reads other : Reads) where
   abbrev pub Agree : Asked → Type 0
   Agree a = (file : FileKind) → IfSome ((command_for (Ok a)).name_of file) (λ name. reads file ≡ other file)
 
-  input_over : (next : PlannedCase → Result PlannedCase TopFault → Type 0) (found : Result PlannedCase TopFault) → reads CaseFile ≡ other CaseFile → reads ScheduleFile ≡ other ScheduleFile → Then (IsInput reads) next found → Then (IsInput other) next found
+  input_over : (next : PlannedCase → Result PlannedCase TopFault → Type 0) (found : Result PlannedCase TopFault) →
+      reads CaseFile ≡ other CaseFile → reads ScheduleFile ≡ other ScheduleFile → Then (IsInput reads) next found →
+      Then (IsInput other) next found
   input_over next found p q due =
       subst (λ (o : Option (List ℕ)). Then (InputOf o (other ScheduleFile)) next found) p
       (subst (λ (o : Option (List ℕ)). Then (InputOf (reads CaseFile) o) next found) q due)
 
-  due_over : (a : Asked) (found : Result PlannedCase TopFault) → Agree a → (command_for (Ok a)).IsDue reads found → (command_for (Ok a)).IsDue other found
+  due_over : (a : Asked) (found : Result PlannedCase TopFault) → Agree a → (command_for (Ok a)).IsDue reads found →
+      (command_for (Ok a)).IsDue other found
   due_over (check x) found same due =
-      subst (λ (o : Option (List ℕ)). InputOf o (other ScheduleFile) found) (same CaseFile) (subst (λ (o : Option (List ℕ)). InputOf (reads CaseFile) o found) (same ScheduleFile) due)
-  due_over (price x) found same due = input_over (IsWithinWork x.proposals) found (same CaseFile) (same ScheduleFile) due
+      subst (λ (o : Option (List ℕ)). InputOf o (other ScheduleFile) found) (same CaseFile)
+      (subst (λ (o : Option (List ℕ)). InputOf (reads CaseFile) o found) (same ScheduleFile) due)
+  due_over (price x) found same due =
+      input_over (IsWithinWork x.proposals) found (same CaseFile) (same ScheduleFile) due
   due_over (try x) found same due = due
-  due_over (bound x) found same due = input_over (IsWithinWork x.run.proposals) found (same CaseFile) (same ScheduleFile) due
-  due_over (fixed x) found same due = input_over (IsWithinWork x.proposals) found (same CaseFile) (same ScheduleFile) due
+  due_over (bound x) found same due =
+      input_over (IsWithinWork x.run.proposals) found (same CaseFile) (same ScheduleFile) due
+  due_over (fixed x) found same due =
+      input_over (IsWithinWork x.proposals) found (same CaseFile) (same ScheduleFile) due
   due_over (audit x) found same due =
-      subst (λ (o : Option (List ℕ)). Then (IsInput other) (AuditOf o) found) (same ReportFile) (input_over (AuditOf (reads ReportFile)) found (same CaseFile) (same ScheduleFile) due)
+      subst (λ (o : Option (List ℕ)). Then (IsInput other) (AuditOf o) found) (same ReportFile)
+      (input_over (AuditOf (reads ReportFile)) found (same CaseFile) (same ScheduleFile) due)
   due_over (settle x) found same due =
-      subst (λ (o : Option (List ℕ)). Then (IsInput other) (PricedOf o) found) (same PricesFile) (input_over (PricedOf (reads PricesFile)) found (same CaseFile) (same ScheduleFile) due)
+      subst (λ (o : Option (List ℕ)). Then (IsInput other) (PricedOf o) found) (same PricesFile)
+      (input_over (PricedOf (reads PricesFile)) found (same CaseFile) (same ScheduleFile) due)
   due_over (certify x) found same due =
       subst (λ (o : Option (List ℕ)). Then (IsInput other) (CertifiedOf o (other MixtureFile)) found) (same PricesFile)
       (subst (λ (o : Option (List ℕ)). Then (IsInput other) (CertifiedOf (reads PricesFile) o) found) (same MixtureFile)
       (input_over (CertifiedOf (reads PricesFile) (reads MixtureFile)) found (same CaseFile) (same ScheduleFile) due))
 
-  text_over : (a : Asked) (i : PlannedCase) (text : List ℕ) → Agree a → (command_for (Ok a)).IsText reads i text → (command_for (Ok a)).IsText other i text
+  text_over : (a : Asked) (i : PlannedCase) (text : List ℕ) → Agree a → (command_for (Ok a)).IsText reads i text →
+      (command_for (Ok a)).IsText other i text
   text_over (check x) i text same is = is
   text_over (price x) i text same is = is
   text_over (try x) i text same is = is
@@ -63,7 +81,8 @@ module _ (reads other : Reads) where
 -- ---- the files of an accepted input were read
 
 abbrev AllRead : Asked → Reads → Type 0
-AllRead a reads = (file : FileKind) → IfSome ((command_for (Ok a)).name_of file) (λ name. (bytes : List ℕ) × (reads file ≡ Some bytes))
+AllRead a reads = (file : FileKind) →
+    IfSome ((command_for (Ok a)).name_of file) (λ name. (bytes : List ℕ) × (reads file ≡ Some bytes))
 
 module _ (got : BytesAreThoseRead) (text_read : ReportBytesAreItsText) (reads : Reads) where
   check_read : (x : _) (i : PlannedCase) → InputParts reads i → AllRead (check x) reads
@@ -94,27 +113,33 @@ module _ (got : BytesAreThoseRead) (text_read : ReportBytesAreItsText) (reads : 
   fixed_read x i p PricesFile = tt
   fixed_read x i p MixtureFile = tt
 
-  audit_read : (x : _) (i : PlannedCase) (r : Report) → InputParts reads i → IsReportFile (reads ReportFile) (Ok r) → AllRead (audit x) reads
+  audit_read : (x : _) (i : PlannedCase) (r : Report) → InputParts reads i → IsReportFile (reads ReportFile) (Ok r) →
+      AllRead (audit x) reads
   audit_read x i r p file CaseFile = (p.case_bytes, p.case_read)
   audit_read x i r p file ScheduleFile = (p.plan_bytes, p.plan_read)
   audit_read x i r p file ReportFile = (report_text r, text_read (reads ReportFile) r file)
   audit_read x i r p file PricesFile = tt
   audit_read x i r p file MixtureFile = tt
 
-  settle_read : (x : _) (i : PlannedCase) (π : PriceLists) → InputParts reads i → IsPricesFile i.market.periods (reads PricesFile) (Ok π) → AllRead (settle x) reads
+  settle_read : (x : _) (i : PlannedCase) (π : PriceLists) → InputParts reads i →
+      IsPricesFile i.market.periods (reads PricesFile) (Ok π) → AllRead (settle x) reads
   settle_read x i π p file CaseFile = (p.case_bytes, p.case_read)
   settle_read x i π p file ScheduleFile = (p.plan_bytes, p.plan_read)
   settle_read x i π p file ReportFile = tt
-  settle_read x i π p file PricesFile = let prices = prices_parts got reads i.market.periods π file in (prices.bytes, prices.is_read)
+  settle_read x i π p file PricesFile = let prices = prices_parts got reads i.market.periods π file in
+      (prices.bytes, prices.is_read)
   settle_read x i π p file MixtureFile = tt
 
-  certify_read : (x : _) (i : PlannedCase) (π : PriceLists) (mixture : MixtureLists) → InputParts reads i → IsPricesFile i.market.periods (reads PricesFile) (Ok π)
+  certify_read : (x : _) (i : PlannedCase) (π : PriceLists) (mixture : MixtureLists) → InputParts reads i →
+      IsPricesFile i.market.periods (reads PricesFile) (Ok π)
       → IsMixtureFile i.market (reads MixtureFile) (Ok mixture) → AllRead (certify x) reads
   certify_read x i π mixture p file mixed CaseFile = (p.case_bytes, p.case_read)
   certify_read x i π mixture p file mixed ScheduleFile = (p.plan_bytes, p.plan_read)
   certify_read x i π mixture p file mixed ReportFile = tt
-  certify_read x i π mixture p file mixed PricesFile = let prices = prices_parts got reads i.market.periods π file in (prices.bytes, prices.is_read)
-  certify_read x i π mixture p file mixed MixtureFile = let parts = mixture_parts got reads i.market mixture mixed in (parts.bytes, parts.is_read)
+  certify_read x i π mixture p file mixed PricesFile = let prices = prices_parts got reads i.market.periods π file in
+      (prices.bytes, prices.is_read)
+  certify_read x i π mixture p file mixed MixtureFile = let parts = mixture_parts got reads i.market mixture mixed in
+      (parts.bytes, parts.is_read)
 
   try_read : (x : _) → AllRead (try x) reads
   try_read x CaseFile = tt
@@ -140,27 +165,34 @@ module _ (got : BytesAreThoseRead) (text_read : ReportBytesAreItsText) (reads : 
   all_read (settle x) i (Err g, input, e) = absurd cc
   all_read (certify x) i (Ok c, input, (Ok d, (Ok π, file, k), (Ok mixture, mixed, e))) =
       let same : d ≡ c = cc in
-      certify_read x c π mixture (input_parts got reads c input) file (subst (λ (j : PlannedCase). IsMixtureFile j.market (reads MixtureFile) (Ok mixture)) same mixed)
+      certify_read x c π mixture (input_parts got reads c input) file
+      (subst (λ (j : PlannedCase). IsMixtureFile j.market (reads MixtureFile) (Ok mixture)) same mixed)
   all_read (certify x) i (Ok c, input, (Ok d, (Err g, file, k), (Ok mixture, mixed, e))) = absurd cc
   all_read (certify x) i (Ok c, input, (Ok d, priced, (Err g, mixed, e))) = absurd cc
   all_read (certify x) i (Ok c, input, (Err g, priced, e)) = absurd cc
   all_read (certify x) i (Err g, input, e) = absurd cc
 
 -- where no count rose, each file was read
-quiet_read : (o : Option (List ℕ)) (told : List ℕ → Option (List ℕ)) (rose : List ℕ → Type 0) (read : Option (List ℕ)) → IfSome o (λ name. IsReadOf (told name) (rose name) read) → IfSome o (λ name. ¬ rose name)
+quiet_read : (o : Option (List ℕ)) (told : List ℕ → Option (List ℕ)) (rose : List ℕ → Type 0) (read : Option (List ℕ)) →
+    IfSome o (λ name. IsReadOf (told name) (rose name) read) → IfSome o (λ name. ¬ rose name)
     → IfSome o (λ name. (bytes : List ℕ) × (read ≡ Some bytes))
 quiet_read None told rose read is quiet = tt
 quiet_read (Some name) told rose None is quiet = absurd (quiet is)
 quiet_read (Some name) told rose (Some bytes) is quiet = (bytes, refl)
 
 -- what was read of a file is what both tell of it
-told_bytes : (told : Option (List ℕ)) (rose : Type 0) (read : Option (List ℕ)) (bytes all : List ℕ) → told ≡ Some all → read ≡ Some bytes → IsReadOf told rose read → bytes ≡ all
-told_bytes told rose read bytes all t e is = subst (λ (o : Option (List ℕ)). IfSome o (λ x. bytes ≡ x)) t (subst (IsReadOf told rose) e is)
+told_bytes : (told : Option (List ℕ)) (rose : Type 0) (read : Option (List ℕ)) (bytes all : List ℕ) → told ≡ Some all →
+    read ≡ Some bytes → IsReadOf told rose read → bytes ≡ all
+told_bytes told rose read bytes all t e is =
+    subst (λ (o : Option (List ℕ)). IfSome o (λ x. bytes ≡ x)) t (subst (IsReadOf told rose) e is)
 
-both_read : (o : Option (List ℕ)) (told told_other : List ℕ → Option (List ℕ)) (rose rose_other : List ℕ → Type 0) (read other : Option (List ℕ))
+both_read : (o : Option (List ℕ)) (told told_other : List ℕ → Option (List ℕ)) (rose rose_other : List ℕ → Type 0)
+    (read other : Option (List ℕ))
     → IfSome o (λ name. (bytes : List ℕ) × (told name ≡ Some bytes) × (told_other name ≡ Some bytes))
-    → IfSome o (λ name. IsReadOf (told name) (rose name) read) → IfSome o (λ name. IsReadOf (told_other name) (rose_other name) other)
-    → IfSome o (λ name. (bytes : List ℕ) × (read ≡ Some bytes)) → IfSome o (λ name. (bytes : List ℕ) × (other ≡ Some bytes)) → IfSome o (λ name. read ≡ other)
+    → IfSome o (λ name. IsReadOf (told name) (rose name) read) →
+    IfSome o (λ name. IsReadOf (told_other name) (rose_other name) other)
+    → IfSome o (λ name. (bytes : List ℕ) × (read ≡ Some bytes)) →
+    IfSome o (λ name. (bytes : List ℕ) × (other ≡ Some bytes)) → IfSome o (λ name. read ≡ other)
 both_read None told told_other rose rose_other read other same is is_other some some_other = tt
 both_read (Some name) told told_other rose rose_other read other (all, t, u) is is_other (bytes, e) (more, f) =
     let p = told_bytes (told name) (rose name) read bytes all t e is in
@@ -169,7 +201,9 @@ both_read (Some name) told told_other rose rose_other read other (all, t, u) is 
 
 -- ---- the number of workers is free
 
-free_reads : (a : Asked) (workers : ℕ) (told : List ℕ → Option (List ℕ)) (rose : List ℕ → Type 0) (reads : Reads) → AreReads told rose (command_for (Ok (with_workers workers a))).name_of reads → AreReads told rose (command_for (Ok a)).name_of reads
+free_reads : (a : Asked) (workers : ℕ) (told : List ℕ → Option (List ℕ)) (rose : List ℕ → Type 0) (reads : Reads) →
+    AreReads told rose (command_for (Ok (with_workers workers a))).name_of reads →
+    AreReads told rose (command_for (Ok a)).name_of reads
 free_reads (check x) workers told rose reads are = are
 free_reads (price x) workers told rose reads are = are
 free_reads (try x) workers told rose reads are = are
@@ -179,7 +213,9 @@ free_reads (audit x) workers told rose reads are = are
 free_reads (settle x) workers told rose reads are = are
 free_reads (certify x) workers told rose reads are = are
 
-free_ends : (a : Asked) (workers : ℕ) (reads : Reads) (gained short : List ℕ → Type 0) (e : End) → Ends (command_for (Ok (with_workers workers a))) reads gained short e → Ends (command_for (Ok a)) reads gained short e
+free_ends : (a : Asked) (workers : ℕ) (reads : Reads) (gained short : List ℕ → Type 0) (e : End) →
+    Ends (command_for (Ok (with_workers workers a))) reads gained short e →
+    Ends (command_for (Ok a)) reads gained short e
 free_ends (check x) workers reads gained short e ends = ends
 free_ends (price x) workers reads gained short e ends = ends
 free_ends (try x) workers reads gained short e ends = ends
@@ -189,7 +225,8 @@ free_ends (audit x) workers reads gained short e ends = ends
 free_ends (settle x) workers reads gained short e ends = ends
 free_ends (certify x) workers reads gained short e ends = ends
 
-free_names : (a : Asked) (workers : ℕ) (rose : List ℕ → Type 0) → ((file : FileKind) → IfSome ((command_for (Ok (with_workers workers a))).name_of file) (λ name. ¬ rose name))
+free_names : (a : Asked) (workers : ℕ) (rose : List ℕ → Type 0) →
+    ((file : FileKind) → IfSome ((command_for (Ok (with_workers workers a))).name_of file) (λ name. ¬ rose name))
     → (file : FileKind) → IfSome ((command_for (Ok a)).name_of file) (λ name. ¬ rose name)
 free_names (check x) workers rose quiet = quiet
 free_names (price x) workers rose quiet = quiet
@@ -203,14 +240,16 @@ free_names (certify x) workers rose quiet = quiet
 -- ---- one output
 
 -- what a run of such words shows: what was read, and how it ended
-pub record Shows (a : Asked) (told : List ℕ → Option (List ℕ)) (rose gained short : List ℕ → Type 0) (n : ℕ) : Type 0 where
+pub record Shows (a : Asked) (told : List ℕ → Option (List ℕ)) (rose gained short : List ℕ → Type 0) (n : ℕ) : Type
+    0 where
   pub reads : Reads
   pub are : AreReads told rose (command_for (Ok a)).name_of reads
   pub end : End
   pub ends : Ends (command_for (Ok a)) reads gained short end
   pub status_is : n ≡ status_at end
 
-pub free_shows : (a : Asked) (workers : ℕ) (told : List ℕ → Option (List ℕ)) (rose gained short : List ℕ → Type 0) (n : ℕ) → Shows (with_workers workers a) told rose gained short n → Shows a told rose gained short n
+pub free_shows : (a : Asked) (workers : ℕ) (told : List ℕ → Option (List ℕ)) (rose gained short : List ℕ → Type 0)
+    (n : ℕ) → Shows (with_workers workers a) told rose gained short n → Shows a told rose gained short n
 free_shows a workers told rose gained short n s = record {
   reads = s.reads;
   are = free_reads a workers told rose s.reads s.are;
@@ -219,41 +258,52 @@ free_shows a workers told rose gained short n s = record {
   status_is = s.status_is;
 }
 
-pub free_quiet : (a : Asked) (workers : ℕ) (rose : List ℕ → Type 0) → ((file : FileKind) → IfSome ((command_for (Ok (with_workers workers a))).name_of file) (λ name. ¬ rose name))
+pub free_quiet : (a : Asked) (workers : ℕ) (rose : List ℕ → Type 0) →
+    ((file : FileKind) → IfSome ((command_for (Ok (with_workers workers a))).name_of file) (λ name. ¬ rose name))
     → (file : FileKind) → IfSome ((command_for (Ok a)).name_of file) (λ name. ¬ rose name)
 free_quiet = free_names
 
 -- at 0 a text was gained
-whole : (a : Asked) (reads : Reads) (gained short : List ℕ → Type 0) (e : End) (n : ℕ) → Ends (command_for (Ok a)) reads gained short e → n ≡ status_at e → n ≡ 0 → HasText (command_for (Ok a)) reads gained
+whole : (a : Asked) (reads : Reads) (gained short : List ℕ → Type 0) (e : End) (n : ℕ) →
+    Ends (command_for (Ok a)) reads gained short e → n ≡ status_at e → n ≡ 0 → HasText (command_for (Ok a)) reads gained
 whole a reads gained short Done n ends is z = ends
 whole a reads gained short Cut n ends is z = absurd (omega (arith, is, z))
 whole a reads gained short (Refused f) n ends is z = absurd (omega (arith, is, z, (status_within f).0))
 
 -- at 8 the line of a fault that is due was gained, where no count of the sink rose
-refused : (a : Asked) (reads : Reads) (gained short : List ℕ → Type 0) (e : End) (n : ℕ) → Ends (command_for (Ok a)) reads gained short e → n ≡ status_at e → n ≡ 8 → ((text : List ℕ) → ¬ short text)
+refused : (a : Asked) (reads : Reads) (gained short : List ℕ → Type 0) (e : End) (n : ℕ) →
+    Ends (command_for (Ok a)) reads gained short e → n ≡ status_at e → n ≡ 8 → ((text : List ℕ) → ¬ short text)
     → (f : TopFault) × (command_for (Ok a)).IsDue reads (Err f) × gained (fault_line f)
 refused a reads gained short Done n ends is z quiet = absurd (omega (arith, is, z))
 refused a reads gained short Cut n ends is z quiet = absurd (omega (arith, is, z))
 refused a reads gained short (Refused f) n (inl due, inl line) is z quiet = (f, due, line)
 refused a reads gained short (Refused f) n (inl due, inr line) is z quiet = absurd (quiet (fault_line f) line)
-refused a reads gained short (Refused f) n (inr memory, line) is z quiet = let seven : status_of f ≡ 7 = ap status_of memory in absurd (omega (arith, is, z, seven))
+refused a reads gained short (Refused f) n (inr memory, line) is z quiet =
+    let seven : status_of f ≡ 7 = ap status_of memory in absurd (omega (arith, is, z, seven))
 
 module _ (got : BytesAreThoseRead) (text_read : ReportBytesAreItsText) (a : Asked)
-    (one_due : (reads : Reads) (due other : Result PlannedCase TopFault) → (command_for (Ok a)).IsDue reads due → (command_for (Ok a)).IsDue reads other → due ≡ other)
-    (one_text : (reads : Reads) (i : PlannedCase) (text other : List ℕ) → (command_for (Ok a)).IsText reads i text → (command_for (Ok a)).IsText reads i other → text ≡ other)
-    (told told_other : List ℕ → Option (List ℕ)) (same : TellTheSame a told told_other) (rose rose_other gained gained_other short short_other : List ℕ → Type 0) (n n_other : ℕ)
+    (one_due : (reads : Reads) (due other : Result PlannedCase TopFault) → (command_for (Ok a)).IsDue reads due →
+    (command_for (Ok a)).IsDue reads other → due ≡ other)
+    (one_text : (reads : Reads) (i : PlannedCase) (text other : List ℕ) → (command_for (Ok a)).IsText reads i text →
+    (command_for (Ok a)).IsText reads i other → text ≡ other)
+    (told told_other : List ℕ → Option (List ℕ)) (same : TellTheSame a told told_other)
+    (rose rose_other gained gained_other short short_other : List ℕ → Type 0) (n n_other : ℕ)
     (s : Shows a told rose gained short n) (t : Shows a told_other rose_other gained_other short_other n_other) where
   abbrev Both : Type 0
   Both = (text : List ℕ) × gained text × gained_other text
 
   agree : AllRead a s.reads → AllRead a t.reads → Agree t.reads s.reads a
-  agree some some_other file = both_read ((command_for (Ok a)).name_of file) told_other told rose_other rose (t.reads file) (s.reads file) (turned file) (t.are file) (s.are file) (some_other file) (some file)
+  agree some some_other file = both_read ((command_for (Ok a)).name_of file) told_other told rose_other rose
+      (t.reads file) (s.reads file) (turned file) (t.are file) (s.are file) (some_other file) (some file)
     where
-      turn : (o : Option (List ℕ)) → IfSome o (λ name. (bytes : List ℕ) × (told name ≡ Some bytes) × (told_other name ≡ Some bytes)) → IfSome o (λ name. (bytes : List ℕ) × (told_other name ≡ Some bytes) × (told name ≡ Some bytes))
+      turn : (o : Option (List ℕ)) →
+          IfSome o (λ name. (bytes : List ℕ) × (told name ≡ Some bytes) × (told_other name ≡ Some bytes)) →
+          IfSome o (λ name. (bytes : List ℕ) × (told_other name ≡ Some bytes) × (told name ≡ Some bytes))
       turn None h = tt
       turn (Some name) (bytes, p, q) = (bytes, q, p)
 
-      turned : (file : FileKind) → IfSome ((command_for (Ok a)).name_of file) (λ name. (bytes : List ℕ) × (told_other name ≡ Some bytes) × (told name ≡ Some bytes))
+      turned : (file : FileKind) → IfSome ((command_for (Ok a)).name_of file)
+          (λ name. (bytes : List ℕ) × (told_other name ≡ Some bytes) × (told name ≡ Some bytes))
       turned file = turn ((command_for (Ok a)).name_of file) (same file)
 
   same_texts : HasText (command_for (Ok a)) s.reads gained → HasText (command_for (Ok a)) t.reads gained_other → Both
@@ -261,21 +311,30 @@ module _ (got : BytesAreThoseRead) (text_read : ReportBytesAreItsText) (a : Aske
       let reads_agree = agree (all_read got text_read s.reads a i due) (all_read got text_read t.reads a j due_other) in
       let found = one_due s.reads (Ok i) (Ok j) due (due_over t.reads s.reads a (Ok j) reads_agree due_other) in
       let input : j ≡ i = cc in
-      let shown = subst (λ (c : PlannedCase). (command_for (Ok a)).IsText s.reads c other) input (text_over t.reads s.reads a j other reads_agree is_other) in
+      let shown = subst (λ (c : PlannedCase). (command_for (Ok a)).IsText s.reads c other) input
+      (text_over t.reads s.reads a j other reads_agree is_other) in
       (text, p, subst gained_other (one_text s.reads i other text shown is) q)
 
   pub same_at_0 : n ≡ 0 → n_other ≡ 0 → Both
-  same_at_0 z z_other = same_texts (whole a s.reads gained short s.end n s.ends s.status_is z) (whole a t.reads gained_other short_other t.end n_other t.ends t.status_is z_other)
+  same_at_0 z z_other = same_texts (whole a s.reads gained short s.end n s.ends s.status_is z)
+      (whole a t.reads gained_other short_other t.end n_other t.ends t.status_is z_other)
 
-  same_lines : AllRead a s.reads → AllRead a t.reads → (f : TopFault) × (command_for (Ok a)).IsDue s.reads (Err f) × gained (fault_line f) → (f : TopFault) × (command_for (Ok a)).IsDue t.reads (Err f) × gained_other (fault_line f) → Both
+  same_lines : AllRead a s.reads → AllRead a t.reads → (f : TopFault) × (command_for (Ok a)).IsDue s.reads (Err f) ×
+      gained (fault_line f) → (f : TopFault) × (command_for (Ok a)).IsDue t.reads (Err f) ×
+      gained_other (fault_line f) → Both
   same_lines some some_other (f, due, p) (g, due_other, q) =
-      let found = one_due s.reads (Err f) (Err g) due (due_over t.reads s.reads a (Err g) (agree some some_other) due_other) in
+      let found = one_due s.reads (Err f) (Err g) due
+      (due_over t.reads s.reads a (Err g) (agree some some_other) due_other) in
       (fault_line f, p, subst gained_other (ap fault_line (sym (same_fault f g found))) q)
 
-  pub same_at_8 : n ≡ 8 → n_other ≡ 8 → ((file : FileKind) → IfSome ((command_for (Ok a)).name_of file) (λ name. ¬ rose name)) → ((file : FileKind) → IfSome ((command_for (Ok a)).name_of file) (λ name. ¬ rose_other name))
+  pub same_at_8 : n ≡ 8 → n_other ≡ 8 →
+      ((file : FileKind) → IfSome ((command_for (Ok a)).name_of file) (λ name. ¬ rose name)) →
+      ((file : FileKind) → IfSome ((command_for (Ok a)).name_of file) (λ name. ¬ rose_other name))
       → ((text : List ℕ) → ¬ short text) → ((text : List ℕ) → ¬ short_other text) → Both
   same_at_8 z z_other quiet quiet_other sink sink_other =
-      same_lines (λ file. quiet_read ((command_for (Ok a)).name_of file) told rose (s.reads file) (s.are file) (quiet file))
-      (λ file. quiet_read ((command_for (Ok a)).name_of file) told_other rose_other (t.reads file) (t.are file) (quiet_other file))
+      same_lines (λ file. quiet_read ((command_for (Ok a)).name_of file) told rose (s.reads file) (s.are file)
+      (quiet file))
+      (λ file. quiet_read ((command_for (Ok a)).name_of file) told_other rose_other (t.reads file) (t.are file)
+      (quiet_other file))
       (refused a s.reads gained short s.end n s.ends s.status_is z sink)
       (refused a t.reads gained_other short_other t.end n_other t.ends t.status_is z_other sink_other)

@@ -1,11 +1,17 @@
 -- The least of the values is the least of the function.
-use Rattle.level_table.proofs.Common.{◌≡◌, ℕ, ◌+◌, ◌-◌, ◌<◌, ◌≤◌, List, length, get_or, take, drop, None, refl, sym, ap, ◌∙◌, arith, inl, inr, get_or-take, get_or-drop, length-take, length-drop, ℤ, pos, ◌+ℤ◌, ◌≤ℤ◌, ◌<ℤ◌, ◌⊎◌, ints, cases_lt, value_of, HasNone, IsLeast, IsLeastIn, IsAt-from_value, value-from_is_at, value_of-at, value_of-below, power_split, slice_get_past, table, IsLeastOf}
+use Rattle.level_table.proofs.Common.{◌≡◌, ℕ, ◌+◌, ◌-◌, ◌<◌, ◌≤◌, List, length, get_or, take, drop, None, refl, sym, ap}
+use Rattle.level_table.proofs.Common.{◌∙◌, arith, inl, inr, get_or-take, get_or-drop, length-take, length-drop, ℤ, pos}
+use Rattle.level_table.proofs.Common.{◌+ℤ◌, ◌≤ℤ◌, ◌<ℤ◌, ◌⊎◌, ints, cases_lt, value_of, HasNone, IsLeast, IsLeastIn}
+use Rattle.level_table.proofs.Common.{IsAt-from_value, value-from_is_at, value_of-at, value_of-below, power_split}
+use Rattle.level_table.proofs.Common.{slice_get_past, table, IsLeastOf}
 
-pub IsLeast-from_list : (lo : ℤ) (xs : List ℤ) (v : ℤ) (i : ℕ) → IsLeastOf xs v i → IsLeast (table lo xs) v (lo +ℤ pos i)
+pub IsLeast-from_list : (lo : ℤ) (xs : List ℤ) (v : ℤ) (i : ℕ) → IsLeastOf xs v i →
+    IsLeast (table lo xs) v (lo +ℤ pos i)
 IsLeast-from_list lo xs v i is =
     let f = table lo xs in
     record {
-      there = value-from_is_at f (lo +ℤ pos i) v (record { offset = i; power = refl; inside = is.inside; there = is.there });
+      there = value-from_is_at f (lo +ℤ pos i) v
+          (record { offset = i; power = refl; inside = is.inside; there = is.there });
       least = λ y w h.
           let a = IsAt-from_value f y w h in
           let l = is.least a.offset a.inside in
@@ -23,13 +29,16 @@ IsLeast-from_list lo xs v i is =
 
 -- the powers from `from` to `to` have the indices from start on and below end
 module _ (values : List ℤ) (lo from to : ℤ) (start end : ℕ)
-    (below : (k : ℕ) → k < start → (lo +ℤ pos k) <ℤ from) (above : (k : ℕ) → end ≤ k → k < length values → to <ℤ (lo +ℤ pos k)) where
-  none_by : end ≤ start → (x : ℤ) → from ≤ℤ x → x ≤ℤ to → ((k : ℕ) × (x ≡ lo +ℤ pos k)) ⊎ (x <ℤ lo) → value_of (table lo values) x ≡ None
+    (below : (k : ℕ) → k < start → (lo +ℤ pos k) <ℤ from)
+    (above : (k : ℕ) → end ≤ k → k < length values → to <ℤ (lo +ℤ pos k)) where
+  none_by : end ≤ start → (x : ℤ) → from ≤ℤ x → x ≤ℤ to → ((k : ℕ) × (x ≡ lo +ℤ pos k)) ⊎ (x <ℤ lo) →
+      value_of (table lo values) x ≡ None
   none_by order x h l (inr under) = value_of-below (table lo values) x under
   none_by order x h l (inl p) =
       let power = p.1 in
       elim (cases_lt p.0 (length values)) [
-        | inr past ↦ ap (value_of (table lo values)) power ∙ value_of-at (table lo values) p.0 ∙ slice_get_past values p.0 past
+        | inr past ↦ ap (value_of (table lo values)) power ∙ value_of-at (table lo values) p.0 ∙
+            slice_get_past values p.0 past
         | inl inside ↦ elim (cases_lt p.0 start) [
           | inl before ↦ let b = below p.0 before in absurd (omega (arith, ints))
           | inr after ↦ let a = above p.0 (omega arith) inside in absurd (omega (arith, ints))
@@ -39,11 +48,13 @@ module _ (values : List ℤ) (lo from to : ℤ) (start end : ℕ)
   pub none_between : end ≤ start → HasNone from to (table lo values)
   none_between order x h l = none_by order x h l (power_split lo x)
 
-  part_at : (k : ℕ) → k < end - start → get_or (take (end - start) (drop start values)) k (pos 0) ≡ get_or values (start + k) (pos 0)
+  part_at : (k : ℕ) → k < end - start →
+      get_or (take (end - start) (drop start values)) k (pos 0) ≡ get_or values (start + k) (pos 0)
   part_at k h = rw (get_or-take, get_or-drop)
 
   module _ (v : ℤ) (i : ℕ) (order : start < end) (within : end ≤ length values)
-      (first : (k : ℕ) → start ≤ k → k < length values → from ≤ℤ (lo +ℤ pos k)) (last : (k : ℕ) → k < end → (lo +ℤ pos k) ≤ℤ to)
+      (first : (k : ℕ) → start ≤ k → k < length values → from ≤ℤ (lo +ℤ pos k))
+      (last : (k : ℕ) → k < end → (lo +ℤ pos k) ≤ℤ to)
       (is : IsLeastOf (take (end - start) (drop start values)) v i) where
     part_length : length (take (end - start) (drop start values)) ≡ end - start
     part_length = omega (arith, length-take (end - start) (drop start values), length-drop start values)
@@ -65,14 +76,22 @@ module _ (values : List ℤ) (lo from to : ℤ) (start end : ℕ)
         let inside : i < end - start = omega (arith, is.inside, part_length) in
         record {
           inside = (first (start + i) (omega arith) (omega arith), last (start + i) (omega arith));
-          there = value-from_is_at f (lo +ℤ pos (start + i)) v (record { offset = start + i; power = refl; inside = omega arith; there = sym (part_at i inside) ∙ is.there });
+          there = value-from_is_at f (lo +ℤ pos (start + i)) v
+              (record {
+                offset = start + i;
+                power = refl;
+                inside = omega arith;
+                there =
+                    sym (part_at i inside) ∙ is.there;
+              });
           least = λ y w h l m.
               let a = IsAt-from_value f y w h in
               let b = between a.offset y a.power a.inside l m in
               let low = b.0 in
               let high = b.1 in
               let least = is.least (a.offset - start) (omega (arith, part_length)) in
-              let e : get_or (take (end - start) (drop start values)) (a.offset - start) (pos 0) ≡ get_or values a.offset (pos 0) =
+              let e : get_or (take (end - start) (drop start values)) (a.offset - start) (pos 0) ≡ get_or values
+              a.offset (pos 0) =
               part_at (a.offset - start) (omega arith) ∙ ap (λ j. get_or values j (pos 0)) (omega arith) in
               let t = a.there in
               omega (arith, ints);
@@ -86,8 +105,10 @@ module _ (values : List ℤ) (lo from to : ℤ) (start end : ℕ)
                 | inr after ↦ omega (arith, ints)
                 | inl before ↦
                     let s = is.first (a.offset - start) (omega arith) in
-                    let e : get_or (take (end - start) (drop start values)) (a.offset - start) (pos 0) ≡ get_or values a.offset (pos 0) =
-                    part_at (a.offset - start) (omega (arith, inside)) ∙ ap (λ j. get_or values j (pos 0)) (omega arith) in
+                    let e : get_or (take (end - start) (drop start values)) (a.offset - start) (pos 0) ≡ get_or values
+                    a.offset (pos 0) =
+                    part_at (a.offset - start) (omega (arith, inside)) ∙
+                    ap (λ j. get_or values j (pos 0)) (omega arith) in
                     absurd (omega (arith, ints))
               ];
         }

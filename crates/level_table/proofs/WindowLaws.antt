@@ -1,30 +1,44 @@
 -- The least values in reach of the powers between the two ends are the window.
-use Rattle.level_table.proofs.Common.{◌≡◌, ℕ, ◌-◌, ◌<◌, List, length, get_or, Some, refl, ◌∙◌, arith, inl, inr, ℤ, pos, ◌+ℤ◌, ◌-ℤ◌, ◌≤ℤ◌, ◌<ℤ◌, ◌⊎◌, int_max, int_min, ints, clamps, value_of, IsPlace, IsWindow, IsLeastIn, Reaches, IsAt-from_value, value-from_is_at, power_split, table, AreWithin}
+use Rattle.level_table.proofs.Common.{◌≡◌, ℕ, ◌-◌, ◌<◌, List, length, get_or, Some, refl, ◌∙◌, arith, inl, inr, ℤ, pos}
+use Rattle.level_table.proofs.Common.{◌+ℤ◌, ◌-ℤ◌, ◌≤ℤ◌, ◌<ℤ◌, ◌⊎◌, int_max, int_min, ints, clamps, value_of, IsPlace}
+use Rattle.level_table.proofs.Common.{IsWindow, IsLeastIn, Reaches, IsAt-from_value, value-from_is_at, power_split}
+use Rattle.level_table.proofs.Common.{table, AreWithin}
 
 module _ (values : List ℤ) (own last up down lo hi from to : ℤ) (count : ℕ)
     (some : 0 < length values) (is_up : pos 0 ≤ℤ up) (is_down : pos 0 ≤ℤ down)
     (last_is : (last +ℤ pos 1) ≡ (own +ℤ pos (length values)))
-    (from_is : from ≡ int_max lo (own -ℤ down)) (to_is : to ≡ int_min hi (last +ℤ up)) (count_is : pos count ≡ int_max (pos 0) ((to +ℤ pos 1) -ℤ from)) where
+    (from_is : from ≡ int_max lo (own -ℤ down)) (to_is : to ≡ int_min hi (last +ℤ up))
+    (count_is : pos count ≡ int_max (pos 0) ((to +ℤ pos 1) -ℤ from)) where
   pub power_inside : (k : ℕ) → k < count → (lo ≤ℤ (from +ℤ pos k)) × ((from +ℤ pos k) ≤ℤ hi)
   power_inside k h = (omega (arith, ints, clamps), omega (arith, ints, clamps))
 
   -- the old power nearest to x - up is in reach of x
-  nearest : (x : ℤ) → (own -ℤ down) ≤ℤ x → x ≤ℤ (last +ℤ up) → (y : ℤ) → y ≡ int_max own (x -ℤ up) → ((k : ℕ) × (y ≡ own +ℤ pos k)) ⊎ (y <ℤ own)
+  nearest : (x : ℤ) → (own -ℤ down) ≤ℤ x → x ≤ℤ (last +ℤ up) → (y : ℤ) → y ≡ int_max own (x -ℤ up) →
+      ((k : ℕ) × (y ≡ own +ℤ pos k)) ⊎ (y <ℤ own)
       → (y w : ℤ) × (value_of (table own values) y ≡ Some w) × Reaches up down x y
   nearest x low high y is (inr below) = absurd (omega (arith, ints, clamps))
   nearest x low high y is (inl p) =
       let power = p.1 in
-      let inside : p.0 < length values = omega (arith, ints, clamps) in
-      (y, get_or values p.0 (pos 0), value-from_is_at (table own values) y (get_or values p.0 (pos 0)) (record { offset = p.0; power = power; inside = inside; there = refl }), (omega (arith, ints, clamps), omega (arith, ints, clamps)))
+      let inside : p.0 < length values = omega (arith, ints, clamps) in (
+        y,
+        get_or values p.0 (pos 0),
+        value-from_is_at (table own values) y (get_or values p.0 (pos 0))
+            (record { offset = p.0; power = power; inside = inside; there = refl }),
+        (omega (arith, ints, clamps), omega (arith, ints, clamps)),
+      )
 
-  pub some_in_reach : (k : ℕ) → k < count → (y w : ℤ) × (value_of (table own values) y ≡ Some w) × Reaches up down (from +ℤ pos k) y
+  pub some_in_reach : (k : ℕ) → k < count → (y w : ℤ) × (value_of (table own values) y ≡ Some w) ×
+      Reaches up down (from +ℤ pos k) y
   some_in_reach k h =
       let x = from +ℤ pos k in
-      nearest x (omega (arith, ints, clamps)) (omega (arith, ints, clamps)) (int_max own (x -ℤ up)) refl (power_split own (int_max own (x -ℤ up)))
+      nearest x (omega (arith, ints, clamps)) (omega (arith, ints, clamps)) (int_max own (x -ℤ up)) refl
+      (power_split own (int_max own (x -ℤ up)))
 
   module _ (out : List ℤ) (len : length out ≡ count)
-      (each : (k : ℕ) → k < count → (y : ℤ) × IsLeastIn ((from +ℤ pos k) -ℤ up) ((from +ℤ pos k) +ℤ down) (table own values) (get_or out k (pos 0)) y) where
-    new_value : (x y w : ℤ) → value_of (table own values) y ≡ Some w → from ≤ℤ x → x ≤ℤ to → Reaches up down x y → ((k : ℕ) × (x ≡ from +ℤ pos k)) ⊎ (x <ℤ from)
+      (each : (k : ℕ) → k < count → (y : ℤ) ×
+      IsLeastIn ((from +ℤ pos k) -ℤ up) ((from +ℤ pos k) +ℤ down) (table own values) (get_or out k (pos 0)) y) where
+    new_value : (x y w : ℤ) → value_of (table own values) y ≡ Some w → from ≤ℤ x → x ≤ℤ to → Reaches up down x y →
+        ((k : ℕ) × (x ≡ from +ℤ pos k)) ⊎ (x <ℤ from)
         → (v : ℤ) × (value_of (table from out) x ≡ Some v) × (v ≤ℤ w)
     new_value x y w h low high reach (inr below) = absurd (omega (arith, ints))
     new_value x y w h low high reach (inl p) =
@@ -33,7 +47,8 @@ module _ (values : List ℤ) (own last up down lo hi from to : ℤ) (count : ℕ
         let a = reach.0 in
         let b = reach.1 in (
           get_or out p.0 (pos 0),
-          value-from_is_at (table from out) x (get_or out p.0 (pos 0)) (record { offset = p.0; power = power; inside = omega arith; there = refl }),
+          value-from_is_at (table from out) x (get_or out p.0 (pos 0))
+              (record { offset = p.0; power = power; inside = omega arith; there = refl }),
           (each p.0 inside).1.least y w h (omega (arith, ints)) (omega (arith, ints)),
         )
 
@@ -68,7 +83,8 @@ module _ (values : List ℤ) (own last up down lo hi from to : ℤ) (count : ℕ
     }
 
 -- the first and the last old power are within the limits
-pub ends_are_powers : (own : ℤ) (values : List ℤ) → AreWithin own values → 0 < length values → IsPlace own × IsPlace ((own +ℤ pos (length values)) -ℤ pos 1)
+pub ends_are_powers : (own : ℤ) (values : List ℤ) → AreWithin own values → 0 < length values →
+    IsPlace own × IsPlace ((own +ℤ pos (length values)) -ℤ pos 1)
 ends_are_powers own values within some =
     let first = within.powers 0 some in
     let last = within.powers (length values - 1) (omega arith) in

@@ -1,5 +1,9 @@
 -- Of numbers that rise by less and less, the greatest is where they stop to rise.
-use Rattle.mixture_bound.proofs.Common.{◌≡◌, ℕ, zero, suc, ◌+◌, ◌-◌, ◌<◌, ◌≤◌, Bool, true, false, ℤ, pos, ◌+ℤ◌, ◌-ℤ◌, ◌*ℤ◌, ◌≤ℤ◌, ◌<ℤ◌, List, [], ◌∷◌, map, ap, sym, ◌∙◌, subst, arith, ints, clamps, by_lt_z, inl, inr, cases_lt, int_max, All, head_of, tail_of, mul-add, mul-mono_of, Block, NamedRenewableUnit, NamedBidUnit, Market, IsMarket, IsBlock, blocks_at, int_at, total, best_sold, best_bought, flat, greatest, added}
+use Rattle.mixture_bound.proofs.Common.{◌≡◌, ℕ, zero, suc, ◌+◌, ◌-◌, ◌<◌, ◌≤◌, Bool, true, false, ℤ, pos, ◌+ℤ◌, ◌-ℤ◌}
+use Rattle.mixture_bound.proofs.Common.{◌*ℤ◌, ◌≤ℤ◌, ◌<ℤ◌, List, [], ◌∷◌, map, ap, sym, ◌∙◌, subst, arith, ints, clamps}
+use Rattle.mixture_bound.proofs.Common.{by_lt_z, inl, inr, cases_lt, int_max, All, head_of, tail_of, mul-add}
+use Rattle.mixture_bound.proofs.Common.{mul-mono_of, Block, NamedRenewableUnit, NamedBidUnit, Market, IsMarket, IsBlock}
+use Rattle.mixture_bound.proofs.Common.{blocks_at, int_at, total, best_sold, best_bought, flat, greatest, added}
 use Rattle.std.proofs.lemmas.Bool.{false≢true}
 use Rattle.std.specs.Prelude.{IsTrue, ◌↔◌}
 use Rattle.gap_proof.proofs.Mean.{add-mul, one_mul}
@@ -71,18 +75,32 @@ all_between f n = record {
   above = λ i low high. let e : i ≡ n = omega (arith, low, high) in let same = ap f e in omega (arith, ints, same);
 }
 
-pub between_above : (f : ℕ → ℤ) (n first last middle : ℕ) → IsConcave f → IsBetweenPlaces f n first last → middle < last → f middle <ℤ f (suc middle) → IsBetweenPlaces f n (middle + 1) last
+pub between_above : (f : ℕ → ℤ) (n first last middle : ℕ) → IsConcave f → IsBetweenPlaces f n first last →
+    middle < last → f middle <ℤ f (suc middle) → IsBetweenPlaces f n (middle + 1) last
 between_above f n first last middle h b low rising =
     let one : middle + 1 ≡ suc middle = omega arith in
     subst (λ (j : ℕ). IsBetweenPlaces f n j last) (let back : suc middle ≡ middle + 1 = omega arith in back)
-    (record { ordered = omega (arith, low); within = b.within; below = λ i up. below_next f h i middle up rising; above = b.above })
+    (record {
+      ordered = omega (arith, low);
+      within = b.within;
+      below = λ i up. below_next f h i middle up rising;
+      above = b.above;
+    })
 
-pub between_below : (f : ℕ → ℤ) (n first last middle : ℕ) → IsConcave f → IsBetweenPlaces f n first last → first ≤ middle → middle < last → f (suc middle) ≤ℤ f middle → IsBetweenPlaces f n first middle
+pub between_below : (f : ℕ → ℤ) (n first last middle : ℕ) → IsConcave f → IsBetweenPlaces f n first last →
+    first ≤ middle → middle < last → f (suc middle) ≤ℤ f middle → IsBetweenPlaces f n first middle
 between_below f n first last middle h b low high falling =
     let top = b.within in
-    record { ordered = low; within = omega (arith, high, top); below = b.below; above = λ i up most. not_above f h i middle up falling }
+    record {
+      ordered = low;
+      within = omega (arith, high, top);
+      below = b.below;
+      above =
+          λ i up most. not_above f h i middle up falling;
+    }
 
-pub between_one : (f : ℕ → ℤ) (n first last : ℕ) → IsBetweenPlaces f n first last → last ≤ first → f first ≡ greatest n f
+pub between_one : (f : ℕ → ℤ) (n first last : ℕ) → IsBetweenPlaces f n first last → last ≤ first →
+    f first ≡ greatest n f
 between_one f n first last b low =
     let order = b.ordered in
     let top = b.within in
@@ -122,13 +140,15 @@ sold_convex a b z =
 gain_convex : (width price : ℤ) → pos 0 ≤ℤ width → IsConvex (λ (z : ℤ). width *ℤ int_max (pos 0) (price -ℤ z))
 gain_convex width price wide z =
     let g : ℤ → ℤ = λ (y : ℤ). int_max (pos 0) (price -ℤ y) in
-    let inner : (g (z +ℤ pos 1) +ℤ g (z +ℤ pos 1)) ≤ℤ (g z +ℤ g ((z +ℤ pos 1) +ℤ pos 1)) = omega (arith, ints, clamps) in
+    let inner : (g (z +ℤ pos 1) +ℤ g (z +ℤ pos 1)) ≤ℤ (g z +ℤ g ((z +ℤ pos 1) +ℤ pos 1)) =
+    omega (arith, ints, clamps) in
     let e = mul-mono_of width (g (z +ℤ pos 1) +ℤ g (z +ℤ pos 1)) (g z +ℤ g ((z +ℤ pos 1) +ℤ pos 1)) wide inner in
     let p = mul-add width (g (z +ℤ pos 1)) (g (z +ℤ pos 1)) in
     let q = mul-add width (g z) (g ((z +ℤ pos 1) +ℤ pos 1)) in
     omega (arith, ints, e, p, q)
 
-renewables_convex : (k : ℕ) (ns : List NamedRenewableUnit) → IsConvex (λ (z : ℤ). total (map (λ (n : NamedRenewableUnit). best_sold n.unit k z) ns))
+renewables_convex : (k : ℕ) (ns : List NamedRenewableUnit) →
+    IsConvex (λ (z : ℤ). total (map (λ (n : NamedRenewableUnit). best_sold n.unit k z) ns))
 renewables_convex k [] z = omega (arith, ints)
 renewables_convex k (n ∷ ns) z =
     let one = sold_convex (int_at n.unit.least k) (int_at n.unit.most k) z in
@@ -142,7 +162,8 @@ blocks_convex (b ∷ bs) h z =
     let rest = blocks_convex bs (tail_of IsBlock b bs h) z in
     omega (arith, ints, one, rest)
 
-bids_convex : (k : ℕ) (ns : List NamedBidUnit) → All (λ (n : NamedBidUnit). All IsBlock (blocks_at n.unit k)) ns → IsConvex (λ (z : ℤ). total (map (λ (n : NamedBidUnit). best_bought (blocks_at n.unit k) z) ns))
+bids_convex : (k : ℕ) (ns : List NamedBidUnit) → All (λ (n : NamedBidUnit). All IsBlock (blocks_at n.unit k)) ns →
+    IsConvex (λ (z : ℤ). total (map (λ (n : NamedBidUnit). best_bought (blocks_at n.unit k) z) ns))
 bids_convex k [] h z = omega (arith, ints)
 bids_convex k (n ∷ ns) h z =
     let HasBlocks : NamedBidUnit → Type 0 = λ (q : NamedBidUnit). All IsBlock (blocks_at q.unit k) in
@@ -153,10 +174,12 @@ bids_convex k (n ∷ ns) h z =
 flat_convex : (m : Market) (k : ℕ) → IsMarket m → k < m.periods → IsConvex (flat m k)
 flat_convex m k market lt z =
     let a = renewables_convex k m.flat z in
-    let b = bids_convex k m.bids (λ i d low. let bid = market.bids i d low in (bid.0.blocks k [] (let long = bid.1 in omega (arith, lt, long))).blocks) z in
+    let b = bids_convex k m.bids (λ i d low. let bid = market.bids i d low in
+    (bid.0.blocks k [] (let long = bid.1 in omega (arith, lt, long))).blocks) z in
     omega (arith, ints, a, b)
 
-pub added_concave : (m : Market) (whole lacking : ℤ) (k : ℕ) (low : ℤ) → IsMarket m → k < m.periods → pos 0 ≤ℤ whole → IsConcave (λ (i : ℕ). added m whole lacking k (low +ℤ pos i))
+pub added_concave : (m : Market) (whole lacking : ℤ) (k : ℕ) (low : ℤ) → IsMarket m → k < m.periods → pos 0 ≤ℤ whole →
+    IsConcave (λ (i : ℕ). added m whole lacking k (low +ℤ pos i))
 added_concave m whole lacking k low market lt some = record {
   falls = λ i.
       let z = low +ℤ pos i in
@@ -167,7 +190,8 @@ added_concave m whole lacking k low market lt some = record {
       let at_two = ap f two in
       let g : ℤ → ℤ = flat m k in
       let convex = flat_convex m k market lt z in
-      let scaled = mul-mono_of whole (g (z +ℤ pos 1) +ℤ g (z +ℤ pos 1)) (g z +ℤ g ((z +ℤ pos 1) +ℤ pos 1)) some convex in
+      let scaled = mul-mono_of whole (g (z +ℤ pos 1) +ℤ g (z +ℤ pos 1)) (g z +ℤ g ((z +ℤ pos 1) +ℤ pos 1)) some
+      convex in
       let p = mul-add whole (g (z +ℤ pos 1)) (g (z +ℤ pos 1)) in
       let q = mul-add whole (g z) (g ((z +ℤ pos 1) +ℤ pos 1)) in
       let r = next_times z lacking in

@@ -1,5 +1,14 @@
 -- No prices in the box have a dual value above the bound.
-use Rattle.mixture_bound.proofs.Common.{◌≡◌, ℕ, ◌+◌, ◌<◌, ◌≤◌, Bool, if◌then◌else◌, ℤ, pos, negsuc, neg_ℤ, ◌+ℤ◌, ◌-ℤ◌, ◌*ℤ◌, ◌≤ℤ◌, List, [], ◌∷◌, ◌++◌, map, length, unsigned_abs, refl, sym, ap, subst, ◌∙◌, arith, ints, clamps, *ℤ_comm, int_max, All, AllZip, mul-add, mul-sub, mul-mono_of, sum_below-le, sum_below-sub, AnyUnit, Thermal, Flat, Bid, NamedThermalUnit, NamedRenewableUnit, NamedBidUnit, PriceLists, Schedule, Market, IsTop, IsFrom, IsMarket, IsRenewableUnit, IsBidUnit, price_limit, blocks_at, int_at, total, sum_below, IsDualValue, worth_of_demand, IsSettled, IsFeasiblePlan, plan_cost, low_end, high_end, IsInBox, ArePriced, WeighedSchedule, MixtureLists, AreMixed, IsMixture, mixture_cost, lack, short, best_sold, best_bought, added, most_energy, most_reserve, mixture_bound}
+use Rattle.mixture_bound.proofs.Common.{◌≡◌, ℕ, ◌+◌, ◌<◌, ◌≤◌, Bool, if◌then◌else◌, ℤ, pos, negsuc, neg_ℤ, ◌+ℤ◌, ◌-ℤ◌}
+use Rattle.mixture_bound.proofs.Common.{◌*ℤ◌, ◌≤ℤ◌, List, [], ◌∷◌, ◌++◌, map, length, unsigned_abs, refl, sym, ap}
+use Rattle.mixture_bound.proofs.Common.{subst, ◌∙◌, arith, ints, clamps, *ℤ_comm, int_max, All, AllZip, mul-add}
+use Rattle.mixture_bound.proofs.Common.{mul-sub, mul-mono_of, sum_below-le, sum_below-sub, AnyUnit, Thermal, Flat, Bid}
+use Rattle.mixture_bound.proofs.Common.{NamedThermalUnit, NamedRenewableUnit, NamedBidUnit, PriceLists, Schedule}
+use Rattle.mixture_bound.proofs.Common.{Market, IsTop, IsFrom, IsMarket, IsRenewableUnit, IsBidUnit, price_limit}
+use Rattle.mixture_bound.proofs.Common.{blocks_at, int_at, total, sum_below, IsDualValue, worth_of_demand, IsSettled}
+use Rattle.mixture_bound.proofs.Common.{IsFeasiblePlan, plan_cost, low_end, high_end, IsInBox, ArePriced}
+use Rattle.mixture_bound.proofs.Common.{WeighedSchedule, MixtureLists, AreMixed, IsMixture, mixture_cost, lack, short}
+use Rattle.mixture_bound.proofs.Common.{best_sold, best_bought, added, most_energy, most_reserve, mixture_bound}
 use Rattle.gap_proof.proofs.Box.{priced_in_box}
 use Rattle.gap_proof.proofs.Mean.{sum_below-times, at_an_end, at_most_quotient, positive_is, positive_low}
 use Rattle.gap_proof.proofs.Subgradients.{energy_price, reserve_price, lt_true, lt_false}
@@ -18,7 +27,8 @@ record AreParts (π : PriceLists) (us vs : List AnyUnit) (tops : List ℤ) : Typ
   second_best : AllZip (λ (u : AnyUnit) (e : ℤ). IsTop u π e) vs second
   sum : total tops ≡ total first +ℤ total second
 
-parts : (π : PriceLists) (us vs : List AnyUnit) (tops : List ℤ) → AllZip (λ (u : AnyUnit) (e : ℤ). IsTop u π e) (us ++ vs) tops → AreParts π us vs tops
+parts : (π : PriceLists) (us vs : List AnyUnit) (tops : List ℤ) →
+    AllZip (λ (u : AnyUnit) (e : ℤ). IsTop u π e) (us ++ vs) tops → AreParts π us vs tops
 parts π [] vs tops h = record { first = []; second = tops; first_best = tt; second_best = h; sum = omega (arith, ints) }
 parts π (u ∷ us) vs [] h = absurd h
 parts π (u ∷ us) vs (e ∷ es) h =
@@ -70,7 +80,9 @@ module _ (m : Market) (x : MixtureLists) (π : PriceLists) where
       let g = mul-add x.whole (sold k) (bought k) in
       omega (arith, ints, a, b, c, d, e, f, g)
 
-  sum_of_terms : (n : ℕ) → sum_below n term ≡ (((x.whole *ℤ sum_below n worth) -ℤ sum_below n given) -ℤ (x.whole *ℤ sum_below n sold)) -ℤ (x.whole *ℤ sum_below n bought)
+  sum_of_terms : (n : ℕ) →
+      sum_below n term ≡ (((x.whole *ℤ sum_below n worth) -ℤ sum_below n given) -ℤ (x.whole *ℤ sum_below n sold))
+      -ℤ (x.whole *ℤ sum_below n bought)
   sum_of_terms n =
       let a : ℕ → ℤ = λ k. x.whole *ℤ worth k in
       let b : ℕ → ℤ = λ k. x.whole *ℤ sold k in
@@ -92,7 +104,8 @@ positive_or_none (negsuc n) h = absurd (omega (arith, ints, h))
 abbrev if_low : Bool → ℤ
 if_low b = if b then neg_ℤ price_limit else pos 0
 
-above_low : (low z high : ℤ) → IsFrom low high z → (unsigned_abs (z -ℤ low) ≤ unsigned_abs (high -ℤ low)) × (low +ℤ pos (unsigned_abs (z -ℤ low)) ≡ z)
+above_low : (low z high : ℤ) → IsFrom low high z →
+    (unsigned_abs (z -ℤ low) ≤ unsigned_abs (high -ℤ low)) × (low +ℤ pos (unsigned_abs (z -ℤ low)) ≡ z)
 above_low low z high h =
     let a = h.at_least in
     let b = h.at_most in
@@ -100,8 +113,10 @@ above_low low z high h =
     let d = positive_or_none (high -ℤ low) (omega (arith, ints, a, b)) in
     (omega (arith, ints, b, c, d), omega (arith, ints, c))
 
-module _ (m : Market) (x : MixtureLists) (centre : PriceLists) (radius : ℤ) (π : PriceLists) (box : IsInBox m centre radius π) where
-  energy_at_most : (k : ℕ) → k < m.periods → added m x.whole (lack m x k) k (int_at π.energy k) ≤ℤ most_energy m x centre radius k
+module _ (m : Market) (x : MixtureLists) (centre : PriceLists) (radius : ℤ) (π : PriceLists)
+    (box : IsInBox m centre radius π) where
+  energy_at_most : (k : ℕ) → k < m.periods →
+      added m x.whole (lack m x k) k (int_at π.energy k) ≤ℤ most_energy m x centre radius k
   energy_at_most k lt =
       let low = low_end m centre radius k in
       let high = high_end m centre radius k in
@@ -109,26 +124,30 @@ module _ (m : Market) (x : MixtureLists) (centre : PriceLists) (radius : ℤ) (�
       let inside = subst (IsFrom low high) (energy_price m π k lt) (box.inside k (omega (arith, lt))) in
       let place = above_low low (int_at π.energy k) high inside in
       let is = ap f place.1 in
-      let most = at_most_greatest (unsigned_abs (high -ℤ low)) (λ (i : ℕ). f (low +ℤ pos i)) (unsigned_abs (int_at π.energy k -ℤ low)) place.0 in
+      let most = at_most_greatest (unsigned_abs (high -ℤ low)) (λ (i : ℕ). f (low +ℤ pos i))
+      (unsigned_abs (int_at π.energy k -ℤ low)) place.0 in
       subst (λ (z : ℤ). z ≤ℤ most_energy m x centre radius k) is most
 
   reserve_at_most : (k : ℕ) → k < m.periods → (short m x k *ℤ int_at π.reserve k) ≤ℤ most_reserve m x centre radius k
   reserve_at_most k lt =
       let j = m.periods + k in
-      let inside = subst (IsFrom (low_end m centre radius j) (high_end m centre radius j)) (reserve_price m π k) (box.inside j (omega (arith, lt))) in
+      let inside = subst (IsFrom (low_end m centre radius j) (high_end m centre radius j)) (reserve_price m π k)
+      (box.inside j (omega (arith, lt))) in
       at_an_end (short m x k) (low_end m centre radius j) (high_end m centre radius j) (int_at π.reserve k) inside
 
   from_least : AreFromLeast π
   from_least k lt =
       let horizon = box.horizon in
       let below : k < m.periods = omega (arith, lt, horizon) in
-      let inside = subst (IsFrom (low_end m centre radius k) (high_end m centre radius k)) (energy_price m π k below) (box.inside k (omega (arith, below))) in
+      let inside = subst (IsFrom (low_end m centre radius k) (high_end m centre radius k)) (energy_price m π k below)
+      (box.inside k (omega (arith, below))) in
       let low = inside.at_least in
       let least = ap (λ b. if_low b) (lt_true k m.periods below) in
       omega (arith, ints, clamps, low, least)
 
   -- the sum over the periods is at most that of the worst prices
-  terms_at_most : sum_below m.periods (term m x π) ≤ℤ sum_below m.periods (λ k. most_energy m x centre radius k +ℤ most_reserve m x centre radius k)
+  terms_at_most : sum_below m.periods (term m x π) ≤ℤ sum_below m.periods
+      (λ k. most_energy m x centre radius k +ℤ most_reserve m x centre radius k)
   terms_at_most =
       sum_below-le m.periods (term m x π) (λ k. most_energy m x centre radius k +ℤ most_reserve m x centre radius k)
       (λ k lt.
@@ -139,7 +158,8 @@ module _ (m : Market) (x : MixtureLists) (centre : PriceLists) (radius : ℤ) (�
 
   -- as often as the whole says, a dual value is at most the cost and what the worst prices add
   whole_value : (value : ℤ) → IsMarket m → IsMixture m x → IsDualValue m π value →
-      (x.whole *ℤ value) ≤ℤ (mixture_cost m x +ℤ sum_below m.periods (λ k. most_energy m x centre radius k +ℤ most_reserve m x centre radius k))
+      (x.whole *ℤ value) ≤ℤ (mixture_cost m x +ℤ sum_below m.periods
+      (λ k. most_energy m x centre radius k +ℤ most_reserve m x centre radius k))
   whole_value value market mixture dual =
       let n = m.periods in
       let thermal = map (λ (u : NamedThermalUnit). Thermal u.unit) m.thermal in
@@ -148,9 +168,15 @@ module _ (m : Market) (x : MixtureLists) (centre : PriceLists) (radius : ℤ) (�
       let behind = parts π (thermal ++ flats) bids dual.tops dual.best in
       let front = parts π thermal flats behind.first behind.first_best in
       let back = sym box.horizon in
-      let mixed = subst (λ (t : ℕ). AllZip (λ (u : NamedThermalUnit) (es : List WeighedSchedule). AreMixed t x.whole u.unit es) m.thermal x.entries) back mixture.mixed in
-      let flat_sizes = subst (λ (t : ℕ). All (λ (u : NamedRenewableUnit). IsRenewableUnit u.unit × (length u.unit.least ≡ t)) m.flat) back market.flat in
-      let bid_sizes = subst (λ (t : ℕ). All (λ (u : NamedBidUnit). IsBidUnit u.unit × (length u.unit.blocks ≡ t)) m.bids) back market.bids in
+      let mixed =
+      subst (λ (t : ℕ). AllZip (λ (u : NamedThermalUnit) (es : List WeighedSchedule). AreMixed t x.whole u.unit
+      es) m.thermal x.entries) back mixture.mixed in
+      let flat_sizes =
+      subst (λ (t : ℕ). All (λ (u : NamedRenewableUnit). IsRenewableUnit u.unit × (length u.unit.least ≡ t))
+      m.flat) back market.flat in
+      let bid_sizes =
+      subst (λ (t : ℕ). All (λ (u : NamedBidUnit). IsBidUnit u.unit × (length u.unit.blocks ≡ t)) m.bids) back
+      market.bids in
       let a = mixture_earns π x.whole m.thermal x.entries front.first mixed front.first_best in
       let b = renewables_top π m.flat front.second flat_sizes front.second_best in
       let c = bids_top π m.bids behind.second bid_sizes from_least behind.second_best in
@@ -159,8 +185,10 @@ module _ (m : Market) (x : MixtureLists) (centre : PriceLists) (radius : ℤ) (�
       let over_bought = ap (λ (t : ℕ). sum_below t (bought m x π)) box.horizon in
       let some = mixture.some in
       let low : pos 0 ≤ℤ x.whole = omega (arith, ints, some) in
-      let d = mul-mono_of x.whole (sum_below n (sold m x π)) (total front.second) low (omega (arith, ints, b, over_sold)) in
-      let e = mul-mono_of x.whole (sum_below n (bought m x π)) (total behind.second) low (omega (arith, ints, c, over_bought)) in
+      let d = mul-mono_of x.whole (sum_below n (sold m x π)) (total front.second) low
+      (omega (arith, ints, b, over_sold)) in
+      let e = mul-mono_of x.whole (sum_below n (bought m x π)) (total behind.second) low
+      (omega (arith, ints, c, over_bought)) in
       let whole = ap (λ (z : ℤ). x.whole *ℤ z) dual.is ∙ mul-sub x.whole (worth_of_demand m π) (total dual.tops) in
       let tops = ap (λ (z : ℤ). x.whole *ℤ z) behind.sum ∙ mul-add x.whole (total behind.first) (total behind.second) in
       let fronts = ap (λ (z : ℤ). x.whole *ℤ z) front.sum ∙ mul-add x.whole (total front.first) (total front.second) in
@@ -169,35 +197,43 @@ module _ (m : Market) (x : MixtureLists) (centre : PriceLists) (radius : ℤ) (�
       omega (arith, ints, a, over_given, d, e, whole, tops, fronts, terms, most)
 
 pub bound_holds : (m : Market) (x : MixtureLists) (centre : PriceLists) (radius : ℤ) (π : PriceLists) (value : ℤ) →
-    IsMarket m → IsMixture m x → IsInBox m centre radius π → IsDualValue m π value → value ≤ℤ mixture_bound m x centre radius
+    IsMarket m → IsMixture m x → IsInBox m centre radius π → IsDualValue m π value →
+    value ≤ℤ mixture_bound m x centre radius
 unfolding mixture_bound
 bound_holds m x centre radius π value market mixture box dual =
     let whole = whole_value m x centre radius π box value market mixture dual in
     let some = mixture.some in
     let e = ap (λ (z : ℤ). z *ℤ value) (positive_is x.whole some) in
-    at_most_quotient value (mixture_cost m x +ℤ sum_below m.periods (λ k. most_energy m x centre radius k +ℤ most_reserve m x centre radius k)) (unsigned_abs x.whole) (positive_low x.whole some)
+    at_most_quotient value (mixture_cost m x +ℤ sum_below m.periods
+    (λ k. most_energy m x centre radius k +ℤ most_reserve m x centre radius k)) (unsigned_abs x.whole)
+    (positive_low x.whole some)
     (omega (arith, ints, whole, e))
 
 pub bound_reaches : (m : Market) (x : MixtureLists) (centre : PriceLists) (radius value : ℤ) →
-    IsMarket m → IsMixture m x → ArePriced m centre → pos 0 ≤ℤ radius → IsDualValue m centre value → value ≤ℤ mixture_bound m x centre radius
+    IsMarket m → IsMixture m x → ArePriced m centre → pos 0 ≤ℤ radius → IsDualValue m centre value →
+    value ≤ℤ mixture_bound m x centre radius
 bound_reaches m x centre radius value market mixture prices wide dual =
     bound_holds m x centre radius centre value market mixture (priced_in_box m centre radius prices wide) dual
 
 -- ---- payments and surplus
 
-reserves_from_zero : (m : Market) (centre : PriceLists) (radius : ℤ) (π : PriceLists) → IsInBox m centre radius π → ReserveFrom0 m π
+reserves_from_zero : (m : Market) (centre : PriceLists) (radius : ℤ) (π : PriceLists) → IsInBox m centre radius π →
+    ReserveFrom0 m π
 reserves_from_zero m centre radius π box = record {
   horizon = box.horizon;
   reserve = λ k lt.
       let j = m.periods + k in
-      let inside = subst (IsFrom (low_end m centre radius j) (high_end m centre radius j)) (reserve_price m π k) (box.inside j (omega (arith, lt))) in
+      let inside = subst (IsFrom (low_end m centre radius j) (high_end m centre radius j)) (reserve_price m π k)
+      (box.inside j (omega (arith, lt))) in
       let low = inside.at_least in
       let least = ap (λ b. if_low b) (lt_false j m.periods (omega arith)) in
       omega (arith, ints, clamps, low, least);
 }
 
-pub payments_reach : (m : Market) (plan : List Schedule) (x : MixtureLists) (centre : PriceLists) (radius : ℤ) (π : PriceLists) (scheduled payments : List ℤ) (surplus sum : ℤ) →
-    IsMarket m → IsFeasiblePlan m plan → IsMixture m x → IsInBox m centre radius π → IsSettled m plan π scheduled payments surplus sum →
+pub payments_reach : (m : Market) (plan : List Schedule) (x : MixtureLists) (centre : PriceLists) (radius : ℤ)
+    (π : PriceLists) (scheduled payments : List ℤ) (surplus sum : ℤ) →
+    IsMarket m → IsFeasiblePlan m plan → IsMixture m x → IsInBox m centre radius π →
+    IsSettled m plan π scheduled payments surplus sum →
     int_max (pos 0) (plan_cost m plan -ℤ mixture_bound m x centre radius) ≤ℤ (sum +ℤ surplus)
 payments_reach m plan x centre radius π scheduled payments surplus sum market feasible mixture box settled =
     let value = worth_of_demand m π -ℤ total settled.tops in

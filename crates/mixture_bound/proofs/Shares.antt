@@ -1,5 +1,10 @@
 -- What the entries of a mixture earn, as often as their weights say, is at most what best schedules earn as often.
-use Rattle.mixture_bound.proofs.Common.{◌≡◌, ℕ, suc, ℤ, pos, ◌+ℤ◌, ◌-ℤ◌, ◌*ℤ◌, ◌≤ℤ◌, List, [], ◌∷◌, map, length, sym, ap, ◌∙◌, arith, ints, *ℤ-zero, *ℤ_comm, zero-*ℤ, All, AllZip, head_of, tail_of, mul-add, mul-sub, mul-mono_of, sum_below-same, sum_below-add, sum_below-zero, AnyUnit, Thermal, ThermalUnit, NamedThermalUnit, PriceLists, Schedule, cost_of, supply_in, earnings, revenue, IsTop, reserve_in, IsThermalFeasible, int_at, total, sum_below, zip_with, WeighedSchedule, AreMixed, weighed}
+use Rattle.mixture_bound.proofs.Common.{◌≡◌, ℕ, suc, ℤ, pos, ◌+ℤ◌, ◌-ℤ◌, ◌*ℤ◌, ◌≤ℤ◌, List, [], ◌∷◌, map, length, sym}
+use Rattle.mixture_bound.proofs.Common.{ap, ◌∙◌, arith, ints, *ℤ-zero, *ℤ_comm, zero-*ℤ, All, AllZip, head_of, tail_of}
+use Rattle.mixture_bound.proofs.Common.{mul-add, mul-sub, mul-mono_of, sum_below-same, sum_below-add, sum_below-zero}
+use Rattle.mixture_bound.proofs.Common.{AnyUnit, Thermal, ThermalUnit, NamedThermalUnit, PriceLists, Schedule, cost_of}
+use Rattle.mixture_bound.proofs.Common.{supply_in, earnings, revenue, IsTop, reserve_in, IsThermalFeasible, int_at}
+use Rattle.mixture_bound.proofs.Common.{total, sum_below, zip_with, WeighedSchedule, AreMixed, weighed}
 use Rattle.gap_proof.proofs.Mean.{add-mul, mul_assoc, sum_below-times}
 
 -- a product's first two factors change places
@@ -10,7 +15,8 @@ swap_factors w l p = sym (mul_assoc w l p) ∙ ap (λ (z : ℤ). z *ℤ p) (*ℤ
 abbrev pub paid : PriceLists → ℤ → ℤ → ℕ → ℤ
 paid π power reserve k = (int_at π.energy k *ℤ power) +ℤ (int_at π.reserve k *ℤ reserve)
 
-paid_times : (π : PriceLists) (w power reserve : ℤ) (k : ℕ) → w *ℤ paid π power reserve k ≡ paid π (w *ℤ power) (w *ℤ reserve) k
+paid_times : (π : PriceLists) (w power reserve : ℤ) (k : ℕ) →
+    w *ℤ paid π power reserve k ≡ paid π (w *ℤ power) (w *ℤ reserve) k
 paid_times π w power reserve k =
     let e = mul-add w (int_at π.energy k *ℤ power) (int_at π.reserve k *ℤ reserve) in
     let f = swap_factors w (int_at π.energy k) power in
@@ -41,22 +47,27 @@ module _ (π : PriceLists) where
     reserve_at s k = reserve_in s (suc k)
 
     entry_earns : (w : ℤ) (s : Schedule) → pos 0 ≤ℤ w → IsThermalFeasible g horizon s →
-        (sum_below horizon (λ k. paid π (w *ℤ power_at s k) (w *ℤ reserve_at s k) k) -ℤ (w *ℤ cost_of (Thermal g) s)) ≤ℤ (w *ℤ earned)
+        (sum_below horizon (λ k. paid π (w *ℤ power_at s k) (w *ℤ reserve_at s k) k) -ℤ (w *ℤ cost_of (Thermal g) s))
+        ≤ℤ (w *ℤ earned)
     entry_earns w s low feasible =
         let most = top.best.greatest s feasible in
         let is = top.earns in
         let up : earnings (Thermal g) π s ≤ℤ earned = omega (arith, ints, most, is) in
         let times = mul-mono_of w (earnings (Thermal g) π s) earned low up in
         let pay : ℕ → ℤ = λ k. paid π (power_at s k) (reserve_at s k) k in
-        let over : revenue (Thermal g) π s ≡ sum_below horizon pay = ap (λ (n : ℕ). sum_below n pay) feasible.schedule.on in
+        let over : revenue (Thermal g) π s ≡ sum_below horizon pay =
+        ap (λ (n : ℕ). sum_below n pay) feasible.schedule.on in
         let apart = mul-sub w (revenue (Thermal g) π s) (cost_of (Thermal g) s) in
         let moved = ap (λ (z : ℤ). w *ℤ z) over in
         let inside = sum_below-times w horizon pay in
-        let same = sum_below-same horizon (λ k. w *ℤ pay k) (λ k. paid π (w *ℤ power_at s k) (w *ℤ reserve_at s k) k) (λ k lt. paid_times π w (power_at s k) (reserve_at s k) k) in
+        let same = sum_below-same horizon (λ k. w *ℤ pay k) (λ k. paid π (w *ℤ power_at s k) (w *ℤ reserve_at s k) k)
+        (λ k lt. paid_times π w (power_at s k) (reserve_at s k) k) in
         omega (arith, ints, times, apart, moved, inside, same)
 
-    entries_earn : (es : List WeighedSchedule) → All (λ (e : WeighedSchedule). pos 0 ≤ℤ e.weight) es → All (λ (e : WeighedSchedule). IsThermalFeasible g horizon e.schedule) es →
-        (sum_below horizon (λ k. paid π (weighed (λ s. power_at s k) es) (weighed (λ s. reserve_at s k) es) k) -ℤ weighed (cost_of (Thermal g)) es) ≤ℤ (total (map (λ (e : WeighedSchedule). e.weight) es) *ℤ earned)
+    entries_earn : (es : List WeighedSchedule) → All (λ (e : WeighedSchedule). pos 0 ≤ℤ e.weight) es →
+        All (λ (e : WeighedSchedule). IsThermalFeasible g horizon e.schedule) es →
+        (sum_below horizon (λ k. paid π (weighed (λ s. power_at s k) es) (weighed (λ s. reserve_at s k) es) k)
+        -ℤ weighed (cost_of (Thermal g)) es) ≤ℤ (total (map (λ (e : WeighedSchedule). e.weight) es) *ℤ earned)
     entries_earn [] low feasible =
         let a = sum_below-same horizon (λ k. paid π (pos 0) (pos 0) k) (λ k. pos 0) (λ k lt. paid_none π k) in
         let b = sum_below-zero horizon in
@@ -69,8 +80,11 @@ module _ (π : PriceLists) where
         let rest = entries_earn es (tail_of IsLow e es low) (tail_of Feasible e es feasible) in
         let here : ℕ → ℤ = λ k. paid π (e.weight *ℤ power_at e.schedule k) (e.weight *ℤ reserve_at e.schedule k) k in
         let behind : ℕ → ℤ = λ k. paid π (weighed (λ s. power_at s k) es) (weighed (λ s. reserve_at s k) es) k in
-        let same = sum_below-same horizon (λ k. paid π (weighed (λ s. power_at s k) (e ∷ es)) (weighed (λ s. reserve_at s k) (e ∷ es)) k) (λ k. here k +ℤ behind k)
-        (λ k lt. paid_add π (e.weight *ℤ power_at e.schedule k) (weighed (λ s. power_at s k) es) (e.weight *ℤ reserve_at e.schedule k) (weighed (λ s. reserve_at s k) es) k) in
+        let same = sum_below-same horizon
+        (λ k. paid π (weighed (λ s. power_at s k) (e ∷ es)) (weighed (λ s. reserve_at s k) (e ∷ es)) k)
+        (λ k. here k +ℤ behind k)
+        (λ k lt. paid_add π (e.weight *ℤ power_at e.schedule k) (weighed (λ s. power_at s k) es)
+        (e.weight *ℤ reserve_at e.schedule k) (weighed (λ s. reserve_at s k) es) k) in
         let sums = sum_below-add horizon here behind in
         let left = add-mul e.weight (total (map (λ (q : WeighedSchedule). q.weight) es)) earned in
         omega (arith, ints, one, rest, same, sums, left)
@@ -78,7 +92,8 @@ module _ (π : PriceLists) where
   -- ---- all thermal units
 
   abbrev pub over : (AnyUnit → Schedule → ℤ) → List NamedThermalUnit → List (List WeighedSchedule) → ℤ
-  over f ns ess = total (zip_with (λ (n : NamedThermalUnit) (es : List WeighedSchedule). weighed (f (Thermal n.unit)) es) ns ess)
+  over f ns ess =
+      total (zip_with (λ (n : NamedThermalUnit) (es : List WeighedSchedule). weighed (f (Thermal n.unit)) es) ns ess)
 
   abbrev pub powers : List NamedThermalUnit → List (List WeighedSchedule) → ℕ → ℤ
   powers ns ess k = over (λ u s. supply_in u s (suc k)) ns ess
@@ -89,7 +104,8 @@ module _ (π : PriceLists) where
   pub mixture_earns : (whole : ℤ) (ns : List NamedThermalUnit) (ess : List (List WeighedSchedule)) (tops : List ℤ) →
       AllZip (λ (n : NamedThermalUnit) (es : List WeighedSchedule). AreMixed horizon whole n.unit es) ns ess →
       AllZip (λ (u : AnyUnit) (e : ℤ). IsTop u π e) (map (λ (n : NamedThermalUnit). Thermal n.unit) ns) tops →
-      (sum_below horizon (λ k. paid π (powers ns ess k) (reserves ns ess k) k) -ℤ over cost_of ns ess) ≤ℤ (whole *ℤ total tops)
+      (sum_below horizon (λ k. paid π (powers ns ess k) (reserves ns ess k) k) -ℤ over cost_of ns ess)
+      ≤ℤ (whole *ℤ total tops)
   mixture_earns whole [] [] [] h t =
       let a = sum_below-same horizon (λ k. paid π (pos 0) (pos 0) k) (λ k. pos 0) (λ k lt. paid_none π k) in
       let b = sum_below-zero horizon in
@@ -104,10 +120,13 @@ module _ (π : PriceLists) where
       let one = entries_earn n.unit e t.0 es shares.from_zero h.0.feasible in
       let is = ap (λ (z : ℤ). z *ℤ e) shares.whole_is in
       let rest = mixture_earns whole ns ess tops h.1 t.1 in
-      let here : ℕ → ℤ = λ k. paid π (weighed (λ s. supply_in (Thermal n.unit) s (suc k)) es) (weighed (λ s. reserve_in s (suc k)) es) k in
+      let here : ℕ → ℤ = λ k. paid π (weighed (λ s. supply_in (Thermal n.unit) s (suc k)) es)
+      (weighed (λ s. reserve_in s (suc k)) es) k in
       let behind : ℕ → ℤ = λ k. paid π (powers ns ess k) (reserves ns ess k) k in
-      let same = sum_below-same horizon (λ k. paid π (powers (n ∷ ns) (es ∷ ess) k) (reserves (n ∷ ns) (es ∷ ess) k) k) (λ k. here k +ℤ behind k)
-      (λ k lt. paid_add π (weighed (λ s. supply_in (Thermal n.unit) s (suc k)) es) (powers ns ess k) (weighed (λ s. reserve_in s (suc k)) es) (reserves ns ess k) k) in
+      let same = sum_below-same horizon (λ k. paid π (powers (n ∷ ns) (es ∷ ess) k) (reserves (n ∷ ns) (es ∷ ess) k) k)
+      (λ k. here k +ℤ behind k)
+      (λ k lt. paid_add π (weighed (λ s. supply_in (Thermal n.unit) s (suc k)) es) (powers ns ess k)
+      (weighed (λ s. reserve_in s (suc k)) es) (reserves ns ess k) k) in
       let sums = sum_below-add horizon here behind in
       let apart = mul-add whole e (total tops) in
       omega (arith, ints, one, is, rest, same, sums, apart)

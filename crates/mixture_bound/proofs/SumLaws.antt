@@ -1,5 +1,8 @@
 -- Sums over lists, item by item, and how large they are.
-use Rattle.mixture_bound.proofs.Common.{◌≡◌, ℕ, zero, suc, ◌+◌, ◌*◌, ◌<◌, ℤ, pos, neg_ℤ, ◌+ℤ◌, ◌-ℤ◌, ◌*ℤ◌, ◌≤ℤ◌, Some, List, [], ◌∷◌, map, take, refl, sym, ap, subst, ◌∙◌, arith, ints, *ℤ_comm, *ℤ-zero, slice_get, All, AllZip, head_of, tail_of, mul-add, mul-mono_of, mul-sub, IsFrom, IsWithin, total, zip_with, WeighedSchedule}
+use Rattle.mixture_bound.proofs.Common.{◌≡◌, ℕ, zero, suc, ◌+◌, ◌*◌, ◌<◌, ℤ, pos, neg_ℤ, ◌+ℤ◌, ◌-ℤ◌, ◌*ℤ◌, ◌≤ℤ◌, Some}
+use Rattle.mixture_bound.proofs.Common.{List, [], ◌∷◌, map, take, refl, sym, ap, subst, ◌∙◌, arith, ints, *ℤ_comm}
+use Rattle.mixture_bound.proofs.Common.{*ℤ-zero, slice_get, All, AllZip, head_of, tail_of, mul-add, mul-mono_of}
+use Rattle.mixture_bound.proofs.Common.{mul-sub, IsFrom, IsWithin, total, zip_with, WeighedSchedule}
 use Rattle.std.proofs.Math.IntN.{pos-*ℤ-pos}
 use Rattle.mixture_bound.specs.Mixtures.{AreEntries, most_whole}
 use Rattle.mixture_bound.specs.Sizes.{AreWeights, AreBehind}
@@ -7,7 +10,8 @@ use Rattle.plain_lists.proofs.ListLaws.{none_some, same_item}
 
 -- ---- one item more
 
-pub total_more : {X : Type 0} → (f : X → ℤ) (xs : List X) (i : ℕ) (x : X) → slice_get xs i ≡ Some x → total (map f (take (i + 1) xs)) ≡ total (map f (take i xs)) +ℤ f x
+pub total_more : {X : Type 0} → (f : X → ℤ) (xs : List X) (i : ℕ) (x : X) → slice_get xs i ≡ Some x →
+    total (map f (take (i + 1) xs)) ≡ total (map f (take i xs)) +ℤ f x
 total_more f [] i x e = absurd (none_some x e)
 total_more f (y ∷ ys) zero x e = let a = ap f (same_item y x e) in omega (arith, ints, a)
 total_more f (y ∷ ys) (suc i) x e =
@@ -15,7 +19,8 @@ total_more f (y ∷ ys) (suc i) x e =
     let n = ap (λ (j : ℕ). total (map f (take j (y ∷ ys)))) next in
     omega (arith, ints, n, total_more f ys i x e)
 
-pub zip_more : {X Y : Type 0} → (f : X → Y → ℤ) (xs : List X) (ys : List Y) (i : ℕ) (x : X) (y : Y) → slice_get xs i ≡ Some x → slice_get ys i ≡ Some y →
+pub zip_more : {X Y : Type 0} → (f : X → Y → ℤ) (xs : List X) (ys : List Y) (i : ℕ) (x : X) (y : Y) →
+    slice_get xs i ≡ Some x → slice_get ys i ≡ Some y →
     total (zip_with f (take (i + 1) xs) ys) ≡ total (zip_with f (take i xs) ys) +ℤ f x y
 zip_more f [] ys i x y e g = absurd (none_some x e)
 zip_more f (a ∷ xs) [] i x y e g = absurd (none_some y g)
@@ -29,7 +34,8 @@ zip_more f (a ∷ xs) (b ∷ ys) (suc i) x y e g =
     omega (arith, ints, n, zip_more f xs ys i x y e g)
 
 -- beside an item of the second list stands one of the first
-pub pair_at : {X Y : Type 0} → (R : X → Y → Type 0) (xs : List X) (ys : List Y) (i : ℕ) (y : Y) → AllZip R xs ys → slice_get ys i ≡ Some y → (x : X) × (slice_get xs i ≡ Some x) × R x y
+pub pair_at : {X Y : Type 0} → (R : X → Y → Type 0) (xs : List X) (ys : List Y) (i : ℕ) (y : Y) → AllZip R xs ys →
+    slice_get ys i ≡ Some y → (x : X) × (slice_get xs i ≡ Some x) × R x y
 pair_at R [] [] i y z e = absurd (none_some y e)
 pair_at R [] (b ∷ ys) i y z e = absurd z
 pair_at R (a ∷ xs) [] i y z e = absurd z
@@ -39,12 +45,14 @@ pair_at R (a ∷ xs) (b ∷ ys) (suc i) y z e = pair_at R xs ys i y z.1 e
 -- ---- weights
 
 -- what is read of the entries of a unit says how large their weights are, and how long their schedules
-pub weights_of : (periods : ℕ) (whole : ℤ) (es : List WeighedSchedule) → whole ≤ℤ most_whole → AreEntries periods whole es → AreWeights es
+pub weights_of : (periods : ℕ) (whole : ℤ) (es : List WeighedSchedule) → whole ≤ℤ most_whole →
+    AreEntries periods whole es → AreWeights es
 weights_of periods whole es low h =
     let is = h.shares.whole_is in
     record { from_zero = h.shares.from_zero; whole = omega (arith, ints, is, low) }
 
-pub behind_of : (periods : ℕ) (whole : ℤ) (es : List WeighedSchedule) (place : ℕ) → place < periods → AreEntries periods whole es → AreBehind place es
+pub behind_of : (periods : ℕ) (whole : ℤ) (es : List WeighedSchedule) (place : ℕ) → place < periods →
+    AreEntries periods whole es → AreBehind place es
 behind_of periods whole es place lt h = λ k d low. let long = (h.over k d low).on in omega (arith, lt, long)
 
 abbrev pub weight_of : WeighedSchedule → ℤ
@@ -61,8 +69,10 @@ weights_low (e ∷ es) h =
     omega (arith, ints, one, rest)
 
 -- the first weights sum to no more than all
-pub first_weights : (i : ℕ) (es : List WeighedSchedule) → All IsLow es → IsFrom (pos 0) (total (map weight_of es)) (total (map weight_of (take i es)))
-first_weights zero es h = let a = weights_low es h in record { at_least = omega (arith, ints); at_most = omega (arith, ints, a) }
+pub first_weights : (i : ℕ) (es : List WeighedSchedule) → All IsLow es →
+    IsFrom (pos 0) (total (map weight_of es)) (total (map weight_of (take i es)))
+first_weights zero es h = let a = weights_low es h in
+    record { at_least = omega (arith, ints); at_most = omega (arith, ints, a) }
 first_weights (suc i) [] h = record { at_least = omega (arith, ints); at_most = omega (arith, ints) }
 first_weights (suc i) (e ∷ es) h =
     let one = head_of IsLow e es h in
@@ -72,7 +82,8 @@ first_weights (suc i) (e ∷ es) h =
     record { at_least = omega (arith, ints, one, a); at_most = omega (arith, ints, b) }
 
 -- a weight is no more than all
-pub one_weight : (i : ℕ) (es : List WeighedSchedule) (e : WeighedSchedule) → All IsLow es → slice_get es i ≡ Some e → IsFrom (pos 0) (total (map weight_of es)) e.weight
+pub one_weight : (i : ℕ) (es : List WeighedSchedule) (e : WeighedSchedule) → All IsLow es → slice_get es i ≡ Some e →
+    IsFrom (pos 0) (total (map weight_of es)) e.weight
 one_weight i [] e h at = absurd (none_some e at)
 one_weight zero (q ∷ es) e h at =
     let same = ap weight_of (same_item q e at) in
@@ -89,7 +100,8 @@ one_weight (suc i) (q ∷ es) e h at =
 -- ---- products
 
 -- so many times a number that isn't negative
-pub times_power : (w p : ℤ) (most : ℕ) → pos 0 ≤ℤ w → IsFrom (pos 0) (pos most) p → IsFrom (pos 0) (pos most *ℤ w) (w *ℤ p)
+pub times_power : (w p : ℤ) (most : ℕ) → pos 0 ≤ℤ w → IsFrom (pos 0) (pos most) p →
+    IsFrom (pos 0) (pos most *ℤ w) (w *ℤ p)
 times_power w p most low h =
     let a = mul-mono_of w (pos 0) p low h.at_least in
     let b = mul-mono_of w p (pos most) low h.at_most in
@@ -105,7 +117,8 @@ w_neg w most =
     omega (arith, ints, e, none)
 
 -- and one of any sign
-pub times_cost : (w p : ℤ) (most : ℕ) → pos 0 ≤ℤ w → IsWithin most p → IsFrom (pos 0 -ℤ (pos most *ℤ w)) (pos most *ℤ w) (w *ℤ p)
+pub times_cost : (w p : ℤ) (most : ℕ) → pos 0 ≤ℤ w → IsWithin most p →
+    IsFrom (pos 0 -ℤ (pos most *ℤ w)) (pos most *ℤ w) (w *ℤ p)
 times_cost w p most low h =
     let a = mul-mono_of w (neg_ℤ (pos most)) p low h.at_least in
     let b = mul-mono_of w p (pos most) low h.at_most in
@@ -114,7 +127,8 @@ times_cost w p most low h =
     record { at_least = omega (arith, ints, a, c, d); at_most = omega (arith, ints, b, c) }
 
 -- a share of the greatest whole, so many times
-pub most_of_whole : (most : ℕ) (w : ℤ) → IsFrom (pos 0) (pos 1000000000000) w → IsFrom (pos 0) (pos (most * 1000000000000)) (pos most *ℤ w)
+pub most_of_whole : (most : ℕ) (w : ℤ) → IsFrom (pos 0) (pos 1000000000000) w →
+    IsFrom (pos 0) (pos (most * 1000000000000)) (pos most *ℤ w)
 most_of_whole most w h =
     let a = mul-mono_of (pos most) (pos 0) w (omega (arith, ints)) h.at_least in
     let b = mul-mono_of (pos most) w (pos 1000000000000) (omega (arith, ints)) h.at_most in
@@ -123,21 +137,25 @@ most_of_whole most w h =
     record { at_least = omega (arith, ints, a, c); at_most = omega (arith, ints, b, d) }
 
 -- a share of the weights, so many times
-pub share_limit : (most i : ℕ) (es : List WeighedSchedule) → AreWeights es → IsFrom (pos 0) (pos (most * 1000000000000)) (pos most *ℤ total (map weight_of (take i es)))
+pub share_limit : (most i : ℕ) (es : List WeighedSchedule) → AreWeights es →
+    IsFrom (pos 0) (pos (most * 1000000000000)) (pos most *ℤ total (map weight_of (take i es)))
 share_limit most i es h =
     let first = first_weights i es h.from_zero in
     let a = first.at_least in
     let b = first.at_most in
     let whole = h.whole in
-    most_of_whole most (total (map weight_of (take i es))) (record { at_least = a; at_most = omega (arith, ints, b, whole) })
+    most_of_whole most (total (map weight_of (take i es)))
+    (record { at_least = a; at_most = omega (arith, ints, b, whole) })
 
 -- ---- what entries cost
 
 -- the first entries cost no more than their weights say, in magnitude
 abbrev pub IsShare : ℕ → ℕ → List WeighedSchedule → ℤ → Type 0
-IsShare most i es sum = IsFrom (pos 0 -ℤ (pos most *ℤ total (map weight_of (take i es)))) (pos most *ℤ total (map weight_of (take i es))) sum
+IsShare most i es sum = IsFrom (pos 0 -ℤ (pos most *ℤ total (map weight_of (take i es))))
+    (pos most *ℤ total (map weight_of (take i es))) sum
 
-pub share_more : (most i : ℕ) (es : List WeighedSchedule) (e : WeighedSchedule) (sum p : ℤ) → AreWeights es → slice_get es i ≡ Some e → IsWithin most p → IsShare most i es sum → IsShare most (i + 1) es (sum +ℤ (e.weight *ℤ p))
+pub share_more : (most i : ℕ) (es : List WeighedSchedule) (e : WeighedSchedule) (sum p : ℤ) → AreWeights es →
+    slice_get es i ≡ Some e → IsWithin most p → IsShare most i es sum → IsShare most (i + 1) es (sum +ℤ (e.weight *ℤ p))
 share_more most i es e sum p h at size so_far =
     let one = one_weight i es e h.from_zero at in
     let step = times_cost e.weight p most one.at_least size in
@@ -150,7 +168,8 @@ share_more most i es e sum p h at size so_far =
     let d = step.at_most in
     record { at_least = omega (arith, ints, a, c, scaled, apart); at_most = omega (arith, ints, b, d, scaled, apart) }
 
-pub share_within : (most i : ℕ) (es : List WeighedSchedule) (sum : ℤ) → AreWeights es → IsShare most i es sum → IsWithin (most * 1000000000000) sum
+pub share_within : (most i : ℕ) (es : List WeighedSchedule) (sum : ℤ) → AreWeights es → IsShare most i es sum →
+    IsWithin (most * 1000000000000) sum
 share_within most i es sum h so_far =
     let share = share_limit most i es h in
     let a = so_far.at_least in

@@ -1,5 +1,8 @@
 -- The names that the proofs of this crate take from its specs and from other crates, passed on from one place.
-pub use Rattle.std.proofs.Common.{◌≢◌, Option, ◌≡◌, ℕ, suc, ◌<◌, ◌≤◌, ◌⊎◌, inl, inr, Bool, true, false, cond, Some, None, ℤ, pos, ◌+ℤ◌, ◌-ℤ◌, ◌*ℤ◌, ◌≤ℤ◌, List, [], ◌∷◌, ◌++◌, map, length, refl, sym, ap, ◌∙◌, subst, arith, reverse, neg_ℤ, zero, ◌+◌, ◌^◌, negsuc, take, drop, get_or, append_assoc, ◌*◌, to_z, of_z, lit<, replicate}
+pub use Rattle.std.proofs.Common.{◌≢◌, Option, ◌≡◌, ℕ, suc, ◌<◌, ◌≤◌, ◌⊎◌, inl, inr, Bool, true, false, cond, Some}
+pub use Rattle.std.proofs.Common.{None, ℤ, pos, ◌+ℤ◌, ◌-ℤ◌, ◌*ℤ◌, ◌≤ℤ◌, List, [], ◌∷◌, ◌++◌, map, length, refl, sym, ap}
+pub use Rattle.std.proofs.Common.{◌∙◌, subst, arith, reverse, neg_ℤ, zero, ◌+◌, ◌^◌, negsuc, take, drop, get_or}
+pub use Rattle.std.proofs.Common.{append_assoc, ◌*◌, to_z, of_z, lit<, replicate}
 pub use Rattle.std.proofs.Math.IntN.{*ℤ_comm, *ℤ-zero, suc_ℤ-*ℤ, zero-*ℤ, +ℤ_one, pred_ℤ-*ℤ, -ℤ_one, ℤ_ind, pos-*ℤ-pos}
 pub use Rattle.std.proofs.Math.Nat.{mul-le-mul_left}
 pub use Rattle.std.proofs.lemmas.Int.{ints, clamps, fits_signed_from_abs, to_z-of_z}

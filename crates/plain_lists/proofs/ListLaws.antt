@@ -1,5 +1,9 @@
 -- Lists, and sums over them, item by item.
-use Rattle.plain_lists.proofs.Common.{◌≡◌, ℕ, zero, suc, ◌+◌, ◌<◌, ◌⊎◌, inl, inr, ℤ, ◌+ℤ◌, Bool, true, false, cond, Some, None, List, [], ◌∷◌, ◌++◌, map, length, reverse, take, drop, get_or, refl, sym, ap, ◌∙◌, subst, arith, append_assoc, ints, reverse-reverse, append-nil, take-append-drop, take_more, drop_more, slice_get, slice_index_or, All, AllZip, flat_map, option_map, total, sum_below, zip_with}
+use Rattle.plain_lists.proofs.Common.{◌≡◌, ℕ, zero, suc, ◌+◌, ◌<◌, ◌⊎◌, inl, inr, ℤ, ◌+ℤ◌, Bool, true, false, cond}
+use Rattle.plain_lists.proofs.Common.{Some, None, List, [], ◌∷◌, ◌++◌, map, length, reverse, take, drop, get_or, refl}
+use Rattle.plain_lists.proofs.Common.{sym, ap, ◌∙◌, subst, arith, append_assoc, ints, reverse-reverse, append-nil}
+use Rattle.plain_lists.proofs.Common.{take-append-drop, take_more, drop_more, slice_get, slice_index_or, All, AllZip}
+use Rattle.plain_lists.proofs.Common.{flat_map, option_map, total, sum_below, zip_with}
 use Rattle.plain_lists.proofs.Common.{◌≢◌, Option, IfSome, slice_set}
 use Rattle.std.proofs.lemmas.List.Concat.{flat_map-append}
 use Rattle.std.proofs.lemmas.Option.{slice_get-map}
@@ -36,19 +40,23 @@ item_of P (y ∷ ys) zero x h e = subst P (sym (same_item y x e)) (head_of P y y
 item_of P (y ∷ ys) (suc i) x h e = item_of P ys i x (tail_of P y ys h) e
 
 -- what holds of each item, and of the item past the end, holds at each place
-pub at_place : {X : Type 0} → (P : X → Type 0) (d : X) → P d → (xs : List X) → All P xs → (k : ℕ) → P (slice_index_or xs k d)
+pub at_place : {X : Type 0} → (P : X → Type 0) (d : X) → P d → (xs : List X) → All P xs → (k : ℕ) →
+    P (slice_index_or xs k d)
 at_place P d past [] h k = past
 at_place P d past (x ∷ xs) h zero = head_of P x xs h
 at_place P d past (x ∷ xs) h (suc k) = at_place P d past xs (tail_of P x xs h) k
 
 -- what holds of each pair of items holds of those at a place
-pub zip_item : {X Y : Type 0} → (R : X → Y → Type 0) (xs : List X) (ys : List Y) (i : ℕ) (x : X) (y : Y) → AllZip R xs ys → slice_get xs i ≡ Some x → slice_get ys i ≡ Some y → R x y
+pub zip_item : {X Y : Type 0} → (R : X → Y → Type 0) (xs : List X) (ys : List Y) (i : ℕ) (x : X) (y : Y) →
+    AllZip R xs ys → slice_get xs i ≡ Some x → slice_get ys i ≡ Some y → R x y
 zip_item R [] ys i x y z e f = absurd (none_some x e)
 zip_item R (a ∷ xs) [] i x y z e f = absurd z
-zip_item R (a ∷ xs) (b ∷ ys) zero x y z e f = subst (λ v. R v y) (sym (same_item a x e)) (subst (R a) (sym (same_item b y f)) z.0)
+zip_item R (a ∷ xs) (b ∷ ys) zero x y z e f =
+    subst (λ v. R v y) (sym (same_item a x e)) (subst (R a) (sym (same_item b y f)) z.0)
 zip_item R (a ∷ xs) (b ∷ ys) (suc i) x y z e f = zip_item R xs ys i x y z.1 e f
 
-pub length_same : {A B : Type 0} → (R : A → B → Type 0) (xs : List A) (ys : List B) → AllZip R xs ys → length xs ≡ length ys
+pub length_same : {A B : Type 0} → (R : A → B → Type 0) (xs : List A) (ys : List B) → AllZip R xs ys →
+    length xs ≡ length ys
 length_same R [] [] z = refl
 length_same R [] (y ∷ ys) z = absurd z
 length_same R (x ∷ xs) [] z = absurd z
@@ -56,17 +64,20 @@ length_same R (x ∷ xs) (y ∷ ys) z = ap suc (length_same R xs ys z.1)
 
 -- ---- the item at a place
 
-pub map_item : {X Y : Type 0} → (f : X → Y) (xs : List X) (i : ℕ) (x : X) → slice_get xs i ≡ Some x → slice_get (map f xs) i ≡ Some (f x)
+pub map_item : {X Y : Type 0} → (f : X → Y) (xs : List X) (i : ℕ) (x : X) → slice_get xs i ≡ Some x →
+    slice_get (map f xs) i ≡ Some (f x)
 map_item f xs i x e = slice_get-map f xs i ∙ ap (option_map f) e
 
-pub front_item : {X : Type 0} → (xs ys : List X) (i : ℕ) (x : X) → slice_get xs i ≡ Some x → slice_get (xs ++ ys) i ≡ Some x
+pub front_item : {X : Type 0} → (xs ys : List X) (i : ℕ) (x : X) → slice_get xs i ≡ Some x →
+    slice_get (xs ++ ys) i ≡ Some x
 front_item [] ys i x e = absurd (none_some x e)
 front_item (a ∷ xs) ys zero x e = e
 front_item (a ∷ xs) ys (suc i) x e = front_item xs ys i x e
 
 pub back_item : {X : Type 0} → (xs ys : List X) (i : ℕ) → slice_get (xs ++ ys) (length xs + i) ≡ slice_get ys i
 back_item [] ys i = ap (slice_get ys) (omega arith)
-back_item (x ∷ xs) ys i = let e : length (x ∷ xs) + i ≡ suc (length xs + i) = omega arith in ap (slice_get (x ∷ (xs ++ ys))) e ∙ back_item xs ys i
+back_item (x ∷ xs) ys i = let e : length (x ∷ xs) + i ≡ suc (length xs + i) = omega arith in
+    ap (slice_get (x ∷ (xs ++ ys))) e ∙ back_item xs ys i
 
 nothing : {X : Type 0} → (i : ℕ) → slice_get {X = X} [] i ≡ None
 nothing i = refl
@@ -93,23 +104,28 @@ map-map f g [] = refl
 map-map f g (x ∷ xs) = ap (λ zs. f (g x) ∷ zs) (map-map f g xs)
 
 -- the lists made of items, before a place, at it and after it
-pub flat_map_at : {X Y : Type 0} → (f : X → List Y) (xs : List X) (i : ℕ) (d : X) → i < length xs → flat_map f xs ≡ flat_map f (take i xs) ++ f (get_or xs i d) ++ flat_map f (drop (i + 1) xs)
+pub flat_map_at : {X Y : Type 0} → (f : X → List Y) (xs : List X) (i : ℕ) (d : X) → i < length xs →
+    flat_map f xs ≡ flat_map f (take i xs) ++ f (get_or xs i d) ++ flat_map f (drop (i + 1) xs)
 flat_map_at f xs i d h =
     ap (flat_map f) (sym (take-append-drop i xs)) ∙ flat_map-append f (take i xs) (drop i xs)
-    ∙ ap (λ t. flat_map f (take i xs) ++ flat_map f t) (drop_more xs i d h) ∙ sym (append_assoc (flat_map f (take i xs)) (f (get_or xs i d)) (flat_map f (drop (i + 1) xs)))
+    ∙ ap (λ t. flat_map f (take i xs) ++ flat_map f t) (drop_more xs i d h) ∙
+    sym (append_assoc (flat_map f (take i xs)) (f (get_or xs i d)) (flat_map f (drop (i + 1) xs)))
 
 -- and up to the place after it
-pub flat_map_up_to : {X Y : Type 0} → (f : X → List Y) (xs : List X) (i : ℕ) (d : X) → i < length xs → flat_map f (take (i + 1) xs) ≡ flat_map f (take i xs) ++ f (get_or xs i d)
+pub flat_map_up_to : {X Y : Type 0} → (f : X → List Y) (xs : List X) (i : ℕ) (d : X) → i < length xs →
+    flat_map f (take (i + 1) xs) ≡ flat_map f (take i xs) ++ f (get_or xs i d)
 flat_map_up_to f xs i d h =
     ap (flat_map f) (take_more xs i d h) ∙ flat_map-append f (take i xs) (get_or xs i d ∷ [])
     ∙ ap (λ t. flat_map f (take i xs) ++ t) (append-nil (f (get_or xs i d)))
 
 -- ---- two lists item by item
 
-pub zip_with_item : {A B C : Type 0} → (f : A → B → C) (xs : List A) (ys : List B) (i : ℕ) (x : A) (y : B) → slice_get xs i ≡ Some x → slice_get ys i ≡ Some y → slice_get (zip_with f xs ys) i ≡ Some (f x y)
+pub zip_with_item : {A B C : Type 0} → (f : A → B → C) (xs : List A) (ys : List B) (i : ℕ) (x : A) (y : B) →
+    slice_get xs i ≡ Some x → slice_get ys i ≡ Some y → slice_get (zip_with f xs ys) i ≡ Some (f x y)
 zip_with_item f [] ys i x y e g = absurd (none_some x e)
 zip_with_item f (a ∷ xs) [] i x y e g = absurd (none_some y g)
-zip_with_item f (a ∷ xs) (b ∷ ys) zero x y e g = ap (λ v. Some (f v b)) (sym (same_item a x e)) ∙ ap (λ v. Some (f x v)) (sym (same_item b y g))
+zip_with_item f (a ∷ xs) (b ∷ ys) zero x y e g =
+    ap (λ v. Some (f v b)) (sym (same_item a x e)) ∙ ap (λ v. Some (f x v)) (sym (same_item b y g))
 zip_with_item f (a ∷ xs) (b ∷ ys) (suc i) x y e g = zip_with_item f xs ys i x y e g
 
 zip_with-nil : {A B C : Type 0} → (f : A → B → C) (xs : List A) → zip_with f xs [] ≡ []
@@ -117,12 +133,15 @@ zip_with-nil f [] = refl
 zip_with-nil f (x ∷ xs) = refl
 
 -- one item more in the shorter list
-pub zip_with-push : {A B C : Type 0} → (f : A → B → C) (xs : List A) (ys : List B) (x : A) (y : B) → slice_get xs (length ys) ≡ Some x → zip_with f xs (ys ++ y ∷ []) ≡ zip_with f xs ys ++ f x y ∷ []
+pub zip_with-push : {A B C : Type 0} → (f : A → B → C) (xs : List A) (ys : List B) (x : A) (y : B) →
+    slice_get xs (length ys) ≡ Some x → zip_with f xs (ys ++ y ∷ []) ≡ zip_with f xs ys ++ f x y ∷ []
 zip_with-push f [] ys x y e = absurd (none_some x e)
-zip_with-push f (a ∷ xs) [] x y e = ap (λ l. f a y ∷ l) (zip_with-nil f xs) ∙ ap (λ v. f v y ∷ []) (sym (same_item a x e))
+zip_with-push f (a ∷ xs) [] x y e = ap (λ l. f a y ∷ l) (zip_with-nil f xs) ∙
+    ap (λ v. f v y ∷ []) (sym (same_item a x e))
 zip_with-push f (a ∷ xs) (b ∷ ys) x y e = ap (λ l. f a b ∷ l) (zip_with-push f xs ys x y e)
 
-pub length-zip_with : {A B C : Type 0} → (f : A → B → C) (xs : List A) (ys : List B) → length xs ≡ length ys → length (zip_with f xs ys) ≡ length xs
+pub length-zip_with : {A B C : Type 0} → (f : A → B → C) (xs : List A) (ys : List B) → length xs ≡ length ys →
+    length (zip_with f xs ys) ≡ length xs
 length-zip_with f [] ys e = refl
 length-zip_with f (x ∷ xs) [] e = absurd (omega (arith, e))
 length-zip_with f (x ∷ xs) (y ∷ ys) e = ap suc (length-zip_with f xs ys (omega (arith, e)))

@@ -1,5 +1,7 @@
 -- The last change, one period back; and the tests of the minimum times at the end of a run.
-use Rattle.plan_check.proofs.Common.{◌≡◌, ℕ, zero, suc, ◌+◌, ◌-◌, ◌<◌, Bool, true, false, cond, Some, None, refl, sym, ap, ◌∙◌, arith, ThermalUnit, Schedule, same_flag, changed_in, min_up_broken, min_down_broken, on_in, run_broken}
+use Rattle.plan_check.proofs.Common.{◌≡◌, ℕ, zero, suc, ◌+◌, ◌-◌, ◌<◌, Bool, true, false, cond, Some, None, refl, sym}
+use Rattle.plan_check.proofs.Common.{ap, ◌∙◌, arith, ThermalUnit, Schedule, same_flag, changed_in, min_up_broken}
+use Rattle.plan_check.proofs.Common.{min_down_broken, on_in, run_broken}
 use Rattle.plan_check.proofs.RunLaws.{same_refl, starts_from, stops_from}
 
 differs : (a b : Bool) → (a ≡ b → ⊥) → same_flag a b ≡ false
@@ -20,15 +22,20 @@ module _ (g : ThermalUnit) (s : Schedule) where
   changed_back zero some e = absurd (omega (arith, some))
   changed_back (suc m) some e =
       let before : suc m - 1 ≡ m = omega arith in
-      let same : same_flag (on_in g s m) (on_in g s (suc m)) ≡ true = ap (same_flag (on_in g s m)) (sym e ∙ ap (on_in g s) before) ∙ same_refl (on_in g s m) in
+      let same : same_flag (on_in g s m) (on_in g s (suc m)) ≡ true =
+      ap (same_flag (on_in g s m)) (sym e ∙ ap (on_in g s) before) ∙ same_refl (on_in g s m) in
       ap (λ b. cond b (changed_in g s m) (Some (suc m))) same ∙ ap (changed_in g s) (sym before)
 
-  pub min_up-ends : (k : ℕ) → on_in g s k ≡ true → on_in g s (suc k) ≡ false → min_up_broken g s k ≡ run_broken (changed_in g s k) (k + 1) g.min_up
+  pub min_up-ends : (k : ℕ) → on_in g s k ≡ true → on_in g s (suc k) ≡ false →
+      min_up_broken g s k ≡ run_broken (changed_in g s k) (k + 1) g.min_up
   min_up-ends k on off =
       let end : suc k ≡ k + 1 = omega arith in
-      ap (λ b. cond b (run_broken (changed_in g s k) (suc k) g.min_up) None) (stops_from g s k on off) ∙ ap (λ e. run_broken (changed_in g s k) e g.min_up) end
+      ap (λ b. cond b (run_broken (changed_in g s k) (suc k) g.min_up) None) (stops_from g s k on off) ∙
+      ap (λ e. run_broken (changed_in g s k) e g.min_up) end
 
-  pub min_down-ends : (k : ℕ) → on_in g s k ≡ false → on_in g s (suc k) ≡ true → min_down_broken g s k ≡ run_broken (changed_in g s k) (k + 1) g.min_down
+  pub min_down-ends : (k : ℕ) → on_in g s k ≡ false → on_in g s (suc k) ≡ true →
+      min_down_broken g s k ≡ run_broken (changed_in g s k) (k + 1) g.min_down
   min_down-ends k off on =
       let end : suc k ≡ k + 1 = omega arith in
-      ap (λ b. cond b (run_broken (changed_in g s k) (suc k) g.min_down) None) (starts_from g s k off on) ∙ ap (λ e. run_broken (changed_in g s k) e g.min_down) end
+      ap (λ b. cond b (run_broken (changed_in g s k) (suc k) g.min_down) None) (starts_from g s k off on) ∙
+      ap (λ e. run_broken (changed_in g s k) e g.min_down) end

@@ -1,5 +1,8 @@
 -- Lists of refusals: when one is empty, and what its first item is.
-use Rattle.plan_check.proofs.Common.{◌≡◌, ℕ, zero, suc, ◌+◌, ◌<◌, ◌≤◌, ◌⊎◌, inl, inr, ℤ, Bool, true, false, cond, Option, Some, None, List, [], ◌∷◌, ◌++◌, refl, sym, ap, ◌∙◌, arith, slice_get, filter_map, range_with_len, cons_option, option_map, Refusal, unless, or_else, told, none_some}
+use Rattle.plan_check.proofs.Common.{◌≡◌, ℕ, zero, suc, ◌+◌, ◌<◌, ◌≤◌, ◌⊎◌, inl, inr, ℤ, Bool, true, false, cond}
+use Rattle.plan_check.proofs.Common.{Option, Some, None, List, [], ◌∷◌, ◌++◌, refl, sym, ap, ◌∙◌, arith, slice_get}
+use Rattle.plan_check.proofs.Common.{filter_map, range_with_len, cons_option, option_map, Refusal, unless, or_else}
+use Rattle.plan_check.proofs.Common.{told, none_some}
 use Rattle.std.specs.Prelude.{⊤, Result, Ok, Err}
 use Rattle.plan_check.specs.Checks.{Finds, refusal_of}
 use Rattle.plan_check.specs.declared.RuleFault.{RuleFault}
@@ -23,14 +26,16 @@ pub first_left : {X : Type 0} → (xs ys : List X) (r : X) → slice_get xs 0 �
 first_left [] ys r e = absurd (none_some r e)
 first_left (x ∷ xs) ys r e = e
 
-pub first_right : {X : Type 0} → (xs ys : List X) (r : X) → xs ≡ [] → slice_get ys 0 ≡ Some r → slice_get (xs ++ ys) 0 ≡ Some r
+pub first_right : {X : Type 0} → (xs ys : List X) (r : X) → xs ≡ [] → slice_get ys 0 ≡ Some r →
+    slice_get (xs ++ ys) 0 ≡ Some r
 first_right xs ys r none e = ap (λ zs. slice_get (zs ++ ys) 0) none ∙ e
 
 pub some_first : {X : Type 0} → (xs : List X) (r : X) → slice_get xs 0 ≡ Some r → xs ≡ [] → ⊥
 some_first xs r e none = none_some r (sym (ap (λ zs. slice_get zs 0) none) ∙ e)
 
 -- a check finds the first of what its list has behind an empty one
-pub finds_right : (xs ys : List Refusal) (found : Result ⊤ RuleFault) → xs ≡ [] → Finds ys found → Finds (xs ++ ys) found
+pub finds_right : (xs ys : List Refusal) (found : Result ⊤ RuleFault) → xs ≡ [] → Finds ys found →
+    Finds (xs ++ ys) found
 finds_right xs ys (Ok u) none all = append_nil xs ys none all
 finds_right xs ys (Err f) none first = first_right xs ys (refusal_of f) none first
 
@@ -65,14 +70,18 @@ module _ (h : ℕ → Option Refusal) where
         | inr later ↦ filter_all (a + 1) n parts.1 k later (omega (arith, high))
       ]
 
-  filter_first : (a n i : ℕ) (r : Refusal) → a ≤ i → i < a + n → ((k : ℕ) → a ≤ k → k < i → h k ≡ None) → h i ≡ Some r → slice_get (filter_map h (range_with_len a n)) 0 ≡ Some r
+  filter_first : (a n i : ℕ) (r : Refusal) → a ≤ i → i < a + n → ((k : ℕ) → a ≤ k → k < i → h k ≡ None) → h i ≡ Some r →
+      slice_get (filter_map h (range_with_len a n)) 0 ≡ Some r
   filter_first a zero i r low high before here = absurd (omega (arith, low, high))
   filter_first a (suc n) i r low high before here =
       elim (at_or_after a i low) [
-        | inl now ↦ ap (λ xs. slice_get xs 0) (cons_some (h a) (filter_map h (range_with_len (a + 1) n)) r (ap h (sym now) ∙ here))
+        | inl now ↦ ap (λ xs. slice_get xs 0)
+            (cons_some (h a) (filter_map h (range_with_len (a + 1) n)) r (ap h (sym now) ∙ here))
         | inr later ↦
-            ap (λ xs. slice_get xs 0) (cons_none (h a) (filter_map h (range_with_len (a + 1) n)) (before a (omega arith) (omega (arith, later))))
-            ∙ filter_first (a + 1) n i r later (omega (arith, high)) (λ k k_low k_high. before k (omega (arith, k_low)) k_high) here
+            ap (λ xs. slice_get xs 0) (cons_none (h a) (filter_map h (range_with_len (a + 1) n))
+            (before a (omega arith) (omega (arith, later))))
+            ∙ filter_first (a + 1) n i r later (omega (arith, high))
+            (λ k k_low k_high. before k (omega (arith, k_low)) k_high) here
       ]
 
 map_none : {A B : Type 0} → (f : A → B) (o : Option A) → option_map f o ≡ None → o ≡ None
@@ -87,16 +96,20 @@ module _ (rule : RuleCode) (kind : Kind) (unit periods shift : ℕ) (broken : �
   told_at k = option_map (λ (p : ℤ × ℤ). refusal_at k p) (broken k)
 
   pub told_none : ((k : ℕ) → k < periods → broken k ≡ None) → told rule kind unit periods shift broken ≡ []
-  told_none none = filter_none told_at 0 periods (λ k low high. ap (option_map (λ (p : ℤ × ℤ). refusal_at k p)) (none k (omega (arith, high))))
+  told_none none = filter_none told_at 0 periods
+      (λ k low high. ap (option_map (λ (p : ℤ × ℤ). refusal_at k p)) (none k (omega (arith, high))))
 
   pub told_all : told rule kind unit periods shift broken ≡ [] → (k : ℕ) → k < periods → broken k ≡ None
-  told_all e k lt = map_none (λ (p : ℤ × ℤ). refusal_at k p) (broken k) (filter_all told_at 0 periods e k (omega arith) (omega (arith, lt)))
+  told_all e k lt = map_none (λ (p : ℤ × ℤ). refusal_at k p) (broken k)
+      (filter_all told_at 0 periods e k (omega arith) (omega (arith, lt)))
 
   pub told_first : (i : ℕ) (p : ℤ × ℤ) → i < periods → ((k : ℕ) → k < i → broken k ≡ None) → broken i ≡ Some p →
-      slice_get (told rule kind unit periods shift broken) 0 ≡ Some (record { rule = rule; kind = kind; unit = unit; period = i + shift; left = p.0; right = p.1 })
+      slice_get (told rule kind unit periods shift broken) 0 ≡ Some
+      (record { rule = rule; kind = kind; unit = unit; period = i + shift; left = p.0; right = p.1 })
   told_first i p lt before here =
       filter_first told_at 0 periods i (refusal_at i p) (omega arith) (omega (arith, lt))
-      (λ k low high. ap (option_map (λ (q : ℤ × ℤ). refusal_at k q)) (before k high)) (ap (option_map (λ (q : ℤ × ℤ). refusal_at i q)) here)
+      (λ k low high. ap (option_map (λ (q : ℤ × ℤ). refusal_at k q)) (before k high))
+      (ap (option_map (λ (q : ℤ × ℤ). refusal_at i q)) here)
 
 -- ---- tests
 

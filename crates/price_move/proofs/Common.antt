@@ -1,5 +1,9 @@
 -- The names that the proofs of this crate take from its specs and from other crates, passed on from one place.
-pub use Rattle.std.proofs.Common.{◌≡◌, ℕ, zero, suc, ◌+◌, ◌<◌, Bool, true, false, ◌&&◌, cond, if◌then◌else◌, nat_lt, int_le, int_lt, ℤ, pos, ◌≤ℤ◌, ◌<ℤ◌, Some, None, Option, unwrap_or, List, [], ◌∷◌, map, length, get_or, refl, ap, sym, ◌∙◌, subst, arith, below_more, ◌*◌, negsuc, ◌-ℤ◌, ◌*ℤ◌, int_div, ◌-◌, ◌/◌, ◌^◌, ◌≤◌, min, ◌+ℤ◌, slice_get, rules, FitsSigned, to_z, of_z, lit<, add-one, neg_ℤ}
+pub use Rattle.std.proofs.Common.{◌≡◌, ℕ, zero, suc, ◌+◌, ◌<◌, Bool, true, false, ◌&&◌, cond, if◌then◌else◌, nat_lt}
+pub use Rattle.std.proofs.Common.{int_le, int_lt, ℤ, pos, ◌≤ℤ◌, ◌<ℤ◌, Some, None, Option, unwrap_or, List, [], ◌∷◌, map}
+pub use Rattle.std.proofs.Common.{length, get_or, refl, ap, sym, ◌∙◌, subst, arith, below_more, ◌*◌, negsuc, ◌-ℤ◌, ◌*ℤ◌}
+pub use Rattle.std.proofs.Common.{int_div, ◌-◌, ◌/◌, ◌^◌, ◌≤◌, min, ◌+ℤ◌, slice_get, rules, FitsSigned, to_z, of_z}
+pub use Rattle.std.proofs.Common.{lit<, add-one, neg_ℤ}
 pub use Rattle.std.proofs.Math.IntN.{*ℤ_comm, *ℤ-zero, pos-*ℤ-pos}
 pub use Rattle.std.proofs.Math.Nat.{div-le_self, pow-le-pow_right}
 pub use Rattle.std.proofs.lemmas.Int.{ints, by_lt_z, to_z-of_z, quot_fits}
@@ -15,6 +19,7 @@ pub use Rattle.plain_lists.proofs.SignedLaws.{IsWithin, clamped_from, fits_withi
 pub use Rattle.plain_lists.specs.Ranges.{IsFrom}
 pub use Rattle.uc_model.specs.Limits.{price_limit}
 pub use Rattle.uc_model.specs.PlainCases.{proposal_of, market_of}
-pub use Rattle.uc_model.specs.PriceRule.{Proposal, first_greatest, chosen_number, squared_length, age, stepped_prices, next_prices, no_prices, is_settled, direction_at}
+pub use Rattle.uc_model.specs.PriceRule.{Proposal, first_greatest, chosen_number, squared_length, age, stepped_prices}
+pub use Rattle.uc_model.specs.PriceRule.{next_prices, no_prices, is_settled, direction_at}
 pub use Rattle.plain_lists.specs.Sums.{int_at, clamped, sum_below}
 pub use Rattle.uc_model.specs.declared.cases.Row.{Row}

@@ -1,5 +1,7 @@
 -- Sizes of squares and quotients.
-use Rattle.price_move.proofs.Common.{◌≡◌, ℕ, suc, ◌*◌, ℤ, pos, negsuc, ◌-ℤ◌, ◌*ℤ◌, ◌≤ℤ◌, ◌<ℤ◌, int_div, FitsSigned, to_z, of_z, ap, ◌∙◌, arith, ints, lit<, to_z-of_z, w64, w128, *ℤ_comm, *ℤ-zero, pos-*ℤ-pos, div-le_self, IsFrom, mul-sub, mul-mono_of, fits_within, IsWithin}
+use Rattle.price_move.proofs.Common.{◌≡◌, ℕ, suc, ◌*◌, ℤ, pos, negsuc, ◌-ℤ◌, ◌*ℤ◌, ◌≤ℤ◌, ◌<ℤ◌, int_div, FitsSigned}
+use Rattle.price_move.proofs.Common.{to_z, of_z, ap, ◌∙◌, arith, ints, lit<, to_z-of_z, w64, w128, *ℤ_comm, *ℤ-zero}
+use Rattle.price_move.proofs.Common.{pos-*ℤ-pos, div-le_self, IsFrom, mul-sub, mul-mono_of, fits_within, IsWithin}
 use Rattle.price_move.specs.Sizes.{IsEntry}
 
 -- the square of a number that isn't negative
@@ -58,4 +60,5 @@ entry_squared e entry =
     let square = square_within 20000000000000 e entry in
     let low = square.at_least in
     let high = square.at_most in
-    fits_within w128 400000000000000000000000000 (e *ℤ e) (record { at_least = omega (arith, ints, low); at_most = high }) (lit< tt)
+    fits_within w128 400000000000000000000000000 (e *ℤ e)
+    (record { at_least = omega (arith, ints, low); at_most = high }) (lit< tt)

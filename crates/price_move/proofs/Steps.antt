@@ -1,5 +1,9 @@
 -- The prices after a step are those of the price rule, and within their limits.
-use Rattle.price_move.proofs.Common.{◌≡◌, ℕ, ◌-◌, ◌/◌, ◌^◌, ◌≤◌, min, ℤ, pos, ◌+ℤ◌, ◌-ℤ◌, ◌*ℤ◌, ◌≤ℤ◌, int_div, false, Some, Option, List, map, length, slice_get, ap, sym, subst, ◌∙◌, arith, ints, All, range_with_len, option_map_or, IsFrom, price_limit, Proposal, squared_length, age, stepped_prices, next_prices, no_prices, is_settled, int_at, clamped_from, low_of, prices_on, direction_on, price_after, is_last_settled}
+use Rattle.price_move.proofs.Common.{◌≡◌, ℕ, ◌-◌, ◌/◌, ◌^◌, ◌≤◌, min, ℤ, pos, ◌+ℤ◌, ◌-ℤ◌, ◌*ℤ◌, ◌≤ℤ◌, int_div, false}
+use Rattle.price_move.proofs.Common.{Some, Option, List, map, length, slice_get, ap, sym, subst, ◌∙◌, arith, ints, All}
+use Rattle.price_move.proofs.Common.{range_with_len, option_map_or, IsFrom, price_limit, Proposal, squared_length, age}
+use Rattle.price_move.proofs.Common.{stepped_prices, next_prices, no_prices, is_settled, int_at, clamped_from, low_of}
+use Rattle.price_move.proofs.Common.{prices_on, direction_on, price_after, is_last_settled}
 use Rattle.std.proofs.lemmas.Option.{get_or_from_slice_get}
 use Rattle.price_move.specs.declared.entries.Product.{Product}
 use Rattle.price_move.specs.declared.entries.Product.TheVariants.{Energy, Reserve}
@@ -10,16 +14,20 @@ low_is_low : (product : Product) → low_of product ≤ℤ price_limit
 low_is_low Energy = omega (arith, ints)
 low_is_low Reserve = omega (arith, ints)
 
-pub price_limits : (m : Market) (r : Proposal) (gap scale : ℤ) (product : Product) (k : ℕ) → IsFrom (low_of product) price_limit (price_after m r gap scale product k)
+pub price_limits : (m : Market) (r : Proposal) (gap scale : ℤ) (product : Product) (k : ℕ) →
+    IsFrom (low_of product) price_limit (price_after m r gap scale product k)
 unfolding price_after
-price_limits m r gap scale product k = clamped_from (low_of product) price_limit (int_at (prices_on product r) k +ℤ int_div (gap *ℤ direction_on m r product k) scale) (low_is_low product)
+price_limits m r gap scale product k = clamped_from (low_of product) price_limit
+    (int_at (prices_on product r) k +ℤ int_div (gap *ℤ direction_on m r product k) scale) (low_is_low product)
 
 -- the scale of the rule
 abbrev scale_by_rule : Market → Proposal → ℕ → ℤ
 scale_by_rule m r count = squared_length m r *ℤ pos (2 ^ min 20 (count / 10))
 
-side_is : (m : Market) (r : Proposal) (cost gap scale : ℤ) (count : ℕ) (product : Product) (prices : List ℤ) → gap ≡ cost -ℤ r.value → scale ≡ scale_by_rule m r count →
-    prices ≡ map (price_after m r gap scale product) (range_with_len 0 m.periods) → prices ≡ map (price_after m r (cost -ℤ r.value) (scale_by_rule m r count) product) (range_with_len 0 m.periods)
+side_is : (m : Market) (r : Proposal) (cost gap scale : ℤ) (count : ℕ) (product : Product) (prices : List ℤ) →
+    gap ≡ cost -ℤ r.value → scale ≡ scale_by_rule m r count →
+    prices ≡ map (price_after m r gap scale product) (range_with_len 0 m.periods) →
+    prices ≡ map (price_after m r (cost -ℤ r.value) (scale_by_rule m r count) product) (range_with_len 0 m.periods)
 side_is m r cost gap scale count product prices gap_is scale_is is =
     is ∙ ap (λ (g : ℤ). map (price_after m r g scale product) (range_with_len 0 m.periods)) gap_is
     ∙ ap (λ (s : ℤ). map (price_after m r (cost -ℤ r.value) s product) (range_with_len 0 m.periods)) scale_is
@@ -31,9 +39,16 @@ rule_is : (m : Market) (r : Proposal) (cost : ℤ) (count : ℕ) (energy reserve
 unfolding price_after
 rule_is m r cost count energy reserve e f =
     ap (λ (es : List ℤ). let π : PriceLists = record { energy = es; reserve = reserve } in π) e
-    ∙ ap (λ (rs : List ℤ). let π : PriceLists = record { energy = map (price_after m r (cost -ℤ r.value) (scale_by_rule m r count) Energy) (range_with_len 0 m.periods); reserve = rs } in π) f
+    ∙ ap (λ (rs : List ℤ).
+    let π : PriceLists =
+    record {
+      energy = map (price_after m r (cost -ℤ r.value) (scale_by_rule m r count) Energy)
+          (range_with_len 0 m.periods);
+      reserve = rs;
+    } in π) f
 
-pub stepped_is : (m : Market) (rows : List Proposal) (r : Proposal) (cost gap scale : ℤ) (energy reserve : List ℤ) → slice_get rows (length rows - 1) ≡ Some r →
+pub stepped_is : (m : Market) (rows : List Proposal) (r : Proposal) (cost gap scale : ℤ) (energy reserve : List ℤ) →
+    slice_get rows (length rows - 1) ≡ Some r →
     gap ≡ cost -ℤ r.value → scale ≡ scale_by_rule m r (age rows) →
     energy ≡ map (price_after m r gap scale Energy) (range_with_len 0 m.periods) →
     reserve ≡ map (price_after m r gap scale Reserve) (range_with_len 0 m.periods) →
@@ -44,10 +59,12 @@ stepped_is m rows r cost gap scale energy reserve last gap_is scale_is e f =
     (side_is m r cost gap scale (age rows) Reserve reserve gap_is scale_is f)
     ∙ sym (ap (λ (o : Option Proposal). option_map_or (stepped_prices m cost (age rows)) o no_prices) last)
 
-pub settled_is : (m : Market) (rows : List Proposal) (r : Proposal) (cost : ℤ) → slice_get rows (length rows - 1) ≡ Some r → is_last_settled m cost rows ≡ is_settled m cost r
+pub settled_is : (m : Market) (rows : List Proposal) (r : Proposal) (cost : ℤ) →
+    slice_get rows (length rows - 1) ≡ Some r → is_last_settled m cost rows ≡ is_settled m cost r
 settled_is m rows r cost last = ap (λ (o : Option Proposal). option_map_or (is_settled m cost) o false) last
 
-pub last_below : (m : Market) (rows : List Proposal) (r : Proposal) (cost : ℤ) → All (IsRowBelow m cost) rows → 1 ≤ length rows → slice_get rows (length rows - 1) ≡ Some r → IsRowBelow m cost r
+pub last_below : (m : Market) (rows : List Proposal) (r : Proposal) (cost : ℤ) → All (IsRowBelow m cost) rows →
+    1 ≤ length rows → slice_get rows (length rows - 1) ≡ Some r → IsRowBelow m cost r
 last_below m rows r cost all_ some last =
     let is = get_or_from_slice_get rows (length rows - 1) r r last in
     subst (IsRowBelow m cost) is (all_ (length rows - 1) r (omega (arith, some)))

@@ -1,13 +1,17 @@
 -- The names that the proofs of this crate take from its specs and from other crates, passed on from one place.
-pub use Rattle.std.proofs.Common.{◌≡◌, ℕ, zero, suc, ◌+◌, ◌-◌, ◌*◌, ◌<◌, ◌≤◌, ℤ, pos, neg_ℤ, ◌+ℤ◌, ◌-ℤ◌, ◌≤ℤ◌, Some, List, [], ◌∷◌, ◌++◌, length, map, take, get_or, refl, sym, ap, ◌∙◌, subst, arith, rules, w64, FitsSigned, length-append}
+pub use Rattle.std.proofs.Common.{◌≡◌, ℕ, zero, suc, ◌+◌, ◌-◌, ◌*◌, ◌<◌, ◌≤◌, ℤ, pos, neg_ℤ, ◌+ℤ◌, ◌-ℤ◌, ◌≤ℤ◌, Some}
+pub use Rattle.std.proofs.Common.{List, [], ◌∷◌, ◌++◌, length, map, take, get_or, refl, sym, ap, ◌∙◌, subst, arith}
+pub use Rattle.std.proofs.Common.{rules, w64, FitsSigned, length-append}
 pub use Rattle.std.proofs.lemmas.Int.{ints, to_z-of_z}
 pub use Rattle.std.proofs.lemmas.List.{take_all, length-map, map_push}
 pub use Rattle.std.proofs.lemmas.List.Elements.{All-nil, All-push}
-pub use Rattle.std.proofs.lemmas.List.FromFn.{length-map-range_with_len, get_or-map-range_with_len, map-range_with_len_more}
+pub use Rattle.std.proofs.lemmas.List.FromFn.{length-map-range_with_len, get_or-map-range_with_len}
+pub use Rattle.std.proofs.lemmas.List.FromFn.{map-range_with_len_more}
 pub use Rattle.std.specs.Int.{w128}
 pub use Rattle.std.specs.List.{All, AllZip, range_with_len}
 pub use Rattle.std.specs.Prelude.{slice_get}
-pub use Rattle.plain_lists.proofs.ListLaws.{length_same, length-zip_with, all_nil, all_cons, none_some, same_item, head_of, tail_of, item_of, total-push}
+pub use Rattle.plain_lists.proofs.ListLaws.{length_same, length-zip_with, all_nil, all_cons, none_some, same_item}
+pub use Rattle.plain_lists.proofs.ListLaws.{head_of, tail_of, item_of, total-push}
 pub use Rattle.plain_lists.specs.Ranges.{IsFrom}
 pub use Rattle.plain_lists.specs.Sums.{int_at, total, zip_with}
 pub use Rattle.uc_model.specs.Data.{AnyUnit, PriceLists, Schedule, Market, units, unit_count}
@@ -20,7 +24,8 @@ pub use Rattle.uc_model.specs.PlanLaws.{UnitsAreNumbered, FeasiblePlansHaveShape
 pub use Rattle.uc_model.specs.PriceRule.{Proposal}
 pub use Rattle.uc_model.specs.Runs.{HasTotals, Fits}
 pub use Rattle.uc_model.specs.Schedules.{IsFeasible}
-pub use Rattle.uc_model.specs.Systems.{IsFeasiblePlan, plan_cost, worth_of_demand, IsDualValue, IsSettled, total_power, total_reserve}
+pub use Rattle.uc_model.specs.Systems.{IsFeasiblePlan, plan_cost, worth_of_demand, IsDualValue, IsSettled, total_power}
+pub use Rattle.uc_model.specs.Systems.{total_reserve}
 pub use Rattle.uc_model.specs.declared.units.Answered.{Answered}
 pub use Rattle.uc_model.specs.declared.units.Response.{Response}
 pub use Rattle.case_answers.specs.Answers.{IsAnswerAt}

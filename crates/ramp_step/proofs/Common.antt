@@ -1,5 +1,7 @@
 -- The names that the proofs of this crate take from its specs and from other crates, passed on from one place.
-pub use Rattle.std.proofs.Common.{◌≡◌, ℕ, zero, suc, ◌+◌, ◌-◌, ◌<◌, List, refl, sym, ap, ◌∙◌, arith, inl, inr, ◌≤◌, [], ◌∷◌, length, get_or, subst, to_z, of_z, Option, Some, None, true, false, ◌≢◌, get_or-set_same, get_or-set_other, take, drop, cond, rules, below_more}
+pub use Rattle.std.proofs.Common.{◌≡◌, ℕ, zero, suc, ◌+◌, ◌-◌, ◌<◌, List, refl, sym, ap, ◌∙◌, arith, inl, inr, ◌≤◌, []}
+pub use Rattle.std.proofs.Common.{◌∷◌, length, get_or, subst, to_z, of_z, Option, Some, None, true, false, ◌≢◌}
+pub use Rattle.std.proofs.Common.{get_or-set_same, get_or-set_other, take, drop, cond, rules, below_more}
 pub use Rattle.std.proofs.Math.IntN.{*ℤ-zero, *ℤ_comm, zero-*ℤ, *ℤ-one}
 unfoldable pub use Rattle.std.proofs.Math.IntN.{one}
 pub use Rattle.std.proofs.lemmas.Bool.{cases_lt}
@@ -7,11 +9,16 @@ pub use Rattle.std.proofs.lemmas.List.FromFn.{length-map-range_with_len, get_or-
 pub use Rattle.std.proofs.lemmas.Int.{ints, by_lt_z, clamps, quot-rem, rem_below, to_z-of_z, quot_is, quot_fits}
 pub use Rattle.std.specs.Int.{w64, int_min, int_max}
 pub use Rattle.std.specs.Option.{option_map}
-pub use Rattle.std.specs.Prelude.{ℤ, pos, ◌+ℤ◌, ◌-ℤ◌, ◌*ℤ◌, ◌≤ℤ◌, ◌<ℤ◌, int_lt, ◌⊎◌, negsuc, int_div, int_rem, unsigned_abs, slice_set, MatchOption, FitsSigned}
-pub use Rattle.ramp_step.specs.Curve.{rise_over, curve_term, block_end, AreBlocks, EndsOutside, IsRefined, AreLimitedBlocks, IsOver}
-pub use Rattle.ramp_step.specs.Cut.{IsSplit, IsOnLine, IsBetween, AreWithin, IsLimited, AreBelow, IsCut, AreDropped, IsInserted, IsPart}
-pub use Rattle.ramp_step.specs.Knots.{knot, power, height, IsStraight, IsConvex, StandFor, IsWide, IsShape, IsInside, CanAdd, HaveSameEnds, IsFar, AreRaised}
-pub use Rattle.ramp_step.specs.Laws.{IsRun, MovesParts, RunsStandBetween, SameKnotsAreSame, OneKnotIsPoint, TurnIsLeast, NearestIsLeast}
+pub use Rattle.std.specs.Prelude.{ℤ, pos, ◌+ℤ◌, ◌-ℤ◌, ◌*ℤ◌, ◌≤ℤ◌, ◌<ℤ◌, int_lt, ◌⊎◌, negsuc, int_div, int_rem}
+pub use Rattle.std.specs.Prelude.{unsigned_abs, slice_set, MatchOption, FitsSigned}
+pub use Rattle.ramp_step.specs.Curve.{rise_over, curve_term, block_end, AreBlocks, EndsOutside, IsRefined}
+pub use Rattle.ramp_step.specs.Curve.{AreLimitedBlocks, IsOver}
+pub use Rattle.ramp_step.specs.Cut.{IsSplit, IsOnLine, IsBetween, AreWithin, IsLimited, AreBelow, IsCut, AreDropped}
+pub use Rattle.ramp_step.specs.Cut.{IsInserted, IsPart}
+pub use Rattle.ramp_step.specs.Knots.{knot, power, height, IsStraight, IsConvex, StandFor, IsWide, IsShape, IsInside}
+pub use Rattle.ramp_step.specs.Knots.{CanAdd, HaveSameEnds, IsFar, AreRaised}
+pub use Rattle.ramp_step.specs.Laws.{IsRun, MovesParts, RunsStandBetween, SameKnotsAreSame, OneKnotIsPoint, TurnIsLeast}
+pub use Rattle.ramp_step.specs.Laws.{NearestIsLeast}
 pub use Rattle.ramp_step.specs.Raise.{line_from, CanRaise, AreRaisedUpto, AreRaisedSoFar}
 pub use Rattle.ramp_step.specs.Read.{IsLowest, HasNoPower, IsInsideWithin, IsValueAt}
 pub use Rattle.ramp_step.specs.Spaced.{spaced, AreMovedBack, IsMovedOn}
@@ -21,7 +28,8 @@ pub use Rattle.ramp_step.specs.Window.{IsLeastInReach, IsTurn, IsWindow, AreSpre
 pub use Rattle.ramp_step.specs.declared.breakpoint.Knot.{Knot}
 pub use Rattle.shape_law.specs.Curve.{rise_at, curve_value, end_of, reserve_term, IsLimitedCurve}
 pub use Rattle.shape_law.specs.Effect.{CanAddCurve, IsSame, IsPoint, IsSum, IsCurveSum, IsLeast, IsLeastIn}
-pub use Rattle.shape_law.specs.Table.{IsAmount, IsWithinLimits, value_of, Table, IsConvexList, IsEmpty, HasNone, IsPlace}
+pub use Rattle.shape_law.specs.Table.{IsAmount, IsWithinLimits, value_of, Table, IsConvexList, IsEmpty, HasNone}
+pub use Rattle.shape_law.specs.Table.{IsPlace}
 pub use Rattle.plain_lists.proofs.IntLaws.{mul-add, mul-mono_of, mul-sub}
 pub use Rattle.plain_lists.specs.Sums.{clamped}
 pub use Rattle.uc_model.specs.declared.units.Block.{Block}

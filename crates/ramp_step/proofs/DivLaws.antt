@@ -1,5 +1,7 @@
 -- Division without a remainder, and values along a line.
-use Rattle.ramp_step.proofs.Common.{◌≡◌, ℕ, ◌<◌, ap, ◌∙◌, arith, inl, inr, ℤ, pos, negsuc, ◌+ℤ◌, ◌-ℤ◌, ◌*ℤ◌, ◌≤ℤ◌, ◌<ℤ◌, ◌⊎◌, int_div, int_rem, unsigned_abs, ints, by_lt_z, quot-rem, rem_below, *ℤ_comm, *ℤ-zero, mul-add, mul-mono_of, IsAmount}
+use Rattle.ramp_step.proofs.Common.{◌≡◌, ℕ, ◌<◌, ap, ◌∙◌, arith, inl, inr, ℤ, pos, negsuc, ◌+ℤ◌, ◌-ℤ◌, ◌*ℤ◌, ◌≤ℤ◌, ◌<ℤ◌}
+use Rattle.ramp_step.proofs.Common.{◌⊎◌, int_div, int_rem, unsigned_abs, ints, by_lt_z, quot-rem, rem_below, *ℤ_comm}
+use Rattle.ramp_step.proofs.Common.{*ℤ-zero, mul-add, mul-mono_of, IsAmount}
 use Rattle.ramp_step.proofs.TimesLaws.{times_one, times_minus}
 
 abs_below : (r : ℤ) (n : ℕ) → unsigned_abs r < n → (r <ℤ pos n) × ((pos 0 -ℤ pos n) <ℤ r)
@@ -29,7 +31,8 @@ exact_div a s (pos n) h e =
 exact_div a s (negsuc n) h e = absurd (omega (arith, ints))
 
 -- part of the way is part of the rise
-pub part_of_rise : (s d e : ℤ) → pos 0 ≤ℤ d → d ≤ℤ e → ((pos 0 ≤ℤ (s *ℤ d)) × ((s *ℤ d) ≤ℤ (s *ℤ e))) ⊎ (((s *ℤ e) ≤ℤ (s *ℤ d)) × ((s *ℤ d) ≤ℤ pos 0))
+pub part_of_rise : (s d e : ℤ) → pos 0 ≤ℤ d → d ≤ℤ e →
+    ((pos 0 ≤ℤ (s *ℤ d)) × ((s *ℤ d) ≤ℤ (s *ℤ e))) ⊎ (((s *ℤ e) ≤ℤ (s *ℤ d)) × ((s *ℤ d) ≤ℤ pos 0))
 part_of_rise s d e h i =
     let z = *ℤ-zero d in
     let z' = *ℤ-zero (e -ℤ d) in
@@ -46,7 +49,8 @@ part_of_rise s d e h i =
     let m' = mul-mono_of (e -ℤ d) (pos 0) s (omega (arith, ints)) up in
     inl (omega (arith, ints), omega (arith, ints)))
 
-pub amount_part : (va vb s d e : ℤ) → vb ≡ va +ℤ s *ℤ e → pos 0 ≤ℤ d → d ≤ℤ e → IsAmount va → IsAmount vb → IsAmount (va +ℤ s *ℤ d)
+pub amount_part : (va vb s d e : ℤ) → vb ≡ va +ℤ s *ℤ e → pos 0 ≤ℤ d → d ≤ℤ e → IsAmount va → IsAmount vb →
+    IsAmount (va +ℤ s *ℤ d)
 amount_part va vb s d e whole low high a b =
     elim (part_of_rise s d e low high) [
       | inl p ↦ let p0 = p.0 in let p1 = p.1 in (omega (arith, ints), omega (arith, ints))

@@ -1,8 +1,10 @@
 -- The worth of the reserve is straight on both sides of its kink, and convex.
-use Rattle.ramp_step.proofs.Common.{◌≡◌, ap, arith, inl, inr, ℤ, pos, ◌+ℤ◌, ◌-ℤ◌, ◌*ℤ◌, ◌≤ℤ◌, ◌⊎◌, int_min, ints, clamps, IsStraight, IsConvex, reserve_term, mul-add, mul-mono_of}
+use Rattle.ramp_step.proofs.Common.{◌≡◌, ap, arith, inl, inr, ℤ, pos, ◌+ℤ◌, ◌-ℤ◌, ◌*ℤ◌, ◌≤ℤ◌, ◌⊎◌, int_min, ints}
+use Rattle.ramp_step.proofs.Common.{clamps, IsStraight, IsConvex, reserve_term, mul-add, mul-mono_of}
 use Rattle.ramp_step.proofs.TimesLaws.{times_next, times_prev}
 
-pub kink_straight : (mu cap up a b : ℤ) → (b ≤ℤ (cap -ℤ up)) ⊎ ((cap -ℤ up) ≤ℤ a) → IsStraight a b (reserve_term mu cap up)
+pub kink_straight : (mu cap up a b : ℤ) → (b ≤ℤ (cap -ℤ up)) ⊎ ((cap -ℤ up) ≤ℤ a) →
+    IsStraight a b (reserve_term mu cap up)
 kink_straight mu cap up a b (inl left) x low high =
     let m : int_min cap (up +ℤ x) ≡ up +ℤ x = omega (arith, ints, clamps) in
     let m0 : int_min cap (up +ℤ (x -ℤ pos 1)) ≡ (up +ℤ x) -ℤ pos 1 = omega (arith, ints, clamps) in

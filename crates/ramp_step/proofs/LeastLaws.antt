@@ -1,5 +1,7 @@
 -- Where a convex function is least.
-use Rattle.ramp_step.proofs.Common.{◌≡◌, ℕ, ◌-◌, List, sym, ap, subst, arith, ℤ, pos, ◌+ℤ◌, ◌-ℤ◌, ◌≤ℤ◌, ◌<ℤ◌, int_min, int_max, ints, clamps, by_lt_z, Knot, knot, power, IsConvex, StandFor, IsInside, clamped, IsLeastInReach, IsTurn, IsLowest, HasNoPower, IsInsideWithin, MovesParts}
+use Rattle.ramp_step.proofs.Common.{◌≡◌, ℕ, ◌-◌, List, sym, ap, subst, arith, ℤ, pos, ◌+ℤ◌, ◌-ℤ◌, ◌≤ℤ◌, ◌<ℤ◌, int_min}
+use Rattle.ramp_step.proofs.Common.{int_max, ints, clamps, by_lt_z, Knot, knot, power, IsConvex, StandFor, IsInside}
+use Rattle.ramp_step.proofs.Common.{clamped, IsLeastInReach, IsTurn, IsLowest, HasNoPower, IsInsideWithin, MovesParts}
 use Rattle.ramp_step.proofs.WindowLaws.{slopes, falls_to, rises_to, window_law}
 use Rattle.ramp_step.proofs.SpreadLaws.{turn_falls_strictly, turn_falls, turn_rises, turn_from_first, turn_to_last}
 
@@ -8,11 +10,13 @@ module _ (ks : List Knot) (n j : ℕ) (f : ℤ → ℤ) (s : StandFor ks n f) (t
   falls_below : (x y : ℤ) → power ks 0 ≤ℤ x → x <ℤ y → y ≤ℤ power ks j → f y <ℤ f x
   falls_below x y low order high =
       let step = turn_falls_strictly ks n j f s t x low (omega (arith, ints)) in
-      let rest = falls_to f (power ks 0) (power ks (n - 1)) (power ks j) (turn_falls ks n j f s t) (turn_rises ks n j f s t) (x +ℤ pos 1) y (omega (arith, ints)) (omega (arith, ints)) high in
+      let rest = falls_to f (power ks 0) (power ks (n - 1)) (power ks j) (turn_falls ks n j f s t)
+      (turn_rises ks n j f s t) (x +ℤ pos 1) y (omega (arith, ints)) (omega (arith, ints)) high in
       omega (arith, ints)
 
   rises_after : (x y : ℤ) → power ks j ≤ℤ x → x ≤ℤ y → y ≤ℤ power ks (n - 1) → f x ≤ℤ f y
-  rises_after = rises_to f (power ks 0) (power ks (n - 1)) (power ks j) (turn_falls ks n j f s t) (turn_rises ks n j f s t)
+  rises_after = rises_to f (power ks 0) (power ks (n - 1)) (power ks j) (turn_falls ks n j f s t)
+      (turn_rises ks n j f s t)
 
   -- the knot at the turn is the lowest
   pub IsLowest-turn : IsLowest (IsInside ks n) f (knot ks j)
@@ -20,7 +24,12 @@ module _ (ks : List Knot) (n j : ℕ) (f : ℤ → ℤ) (s : StandFor ks n f) (t
       let some = t.inside in
       let meet = s.meet j some in
       record {
-        inside = record { some = omega arith; from_first = turn_from_first ks n j f s t; to_last = turn_to_last ks n j f s t };
+        inside = record {
+          some = omega arith;
+          from_first = turn_from_first ks n j f s t;
+          to_last =
+              turn_to_last ks n j f s t;
+        };
         there = sym meet;
         least = λ y h.
             let low = h.from_first in
@@ -31,12 +40,14 @@ module _ (ks : List Knot) (n j : ℕ) (f : ℤ → ℤ) (s : StandFor ks n f) (t
         first = λ y h e.
             let low = h.from_first in
             by_lt_z y (power ks j)
-            (λ before. let d = falls_below y (power ks j) low before (omega (arith, ints)) in absurd (omega (arith, ints)))
+            (λ before. let d = falls_below y (power ks j) low before (omega (arith, ints)) in
+            absurd (omega (arith, ints)))
             (λ after. after);
       }
 
   -- where the turn is cut off, the nearest power to it that is left is the lowest
-  pub IsLowest-within : (lo hi v : ℤ) → lo ≤ℤ hi → IsInside ks n (int_max lo (int_min hi (power ks j))) → v ≡ f (int_max lo (int_min hi (power ks j)))
+  pub IsLowest-within : (lo hi v : ℤ) → lo ≤ℤ hi → IsInside ks n (int_max lo (int_min hi (power ks j))) →
+      v ≡ f (int_max lo (int_min hi (power ks j)))
       → IsLowest (IsInsideWithin lo hi ks n) f (record { at = int_max lo (int_min hi (power ks j)); value = v })
   IsLowest-within lo hi v order inside is = record {
     inside = record { inside = inside; from = omega (arith, ints, clamps); to = omega (arith, ints, clamps) };
@@ -59,15 +70,22 @@ module _ (ks : List Knot) (n j : ℕ) (f : ℤ → ℤ) (s : StandFor ks n f) (t
   }
 
   -- where there is a power left, that power is in the interval
-  pub HasNoPower-within : (lo hi : ℤ) → (IsInside ks n (int_max lo (int_min hi (power ks j))) → ⊥) → HasNoPower (IsInsideWithin lo hi ks n)
+  pub HasNoPower-within : (lo hi : ℤ) → (IsInside ks n (int_max lo (int_min hi (power ks j))) → ⊥) →
+      HasNoPower (IsInsideWithin lo hi ks n)
   HasNoPower-within lo hi outside y h =
       let a = turn_from_first ks n j f s t in
       let b = turn_to_last ks n j f s t in
-      outside (record { some = h.inside.some; from_first = omega (arith, ints, clamps); to_last = omega (arith, ints, clamps) })
+      outside (record {
+        some = h.inside.some;
+        from_first = omega (arith, ints, clamps);
+        to_last =
+            omega (arith, ints, clamps);
+      })
 
 -- ---- the law of the window, from convexity alone
 
-module _ (f : ℤ → ℤ) (a b m : ℤ) (convex : IsConvex a b f) (first : a ≤ℤ m) (last : m ≤ℤ b) (least : (y : ℤ) → a ≤ℤ y → y ≤ℤ b → f m ≤ℤ f y) where
+module _ (f : ℤ → ℤ) (a b m : ℤ) (convex : IsConvex a b f) (first : a ≤ℤ m) (last : m ≤ℤ b)
+    (least : (y : ℤ) → a ≤ℤ y → y ≤ℤ b → f m ≤ℤ f y) where
   falls_before : (x : ℤ) → a ≤ℤ x → x <ℤ m → f (x +ℤ pos 1) ≤ℤ f x
   falls_before x low high =
       let order = slopes f a b convex x (m -ℤ pos 1) low (omega (arith, ints)) (omega (arith, ints)) in
@@ -81,7 +99,8 @@ module _ (f : ℤ → ℤ) (a b m : ℤ) (convex : IsConvex a b f) (first : a �
       let l = least (m +ℤ pos 1) (omega (arith, ints)) (omega (arith, ints)) in
       omega (arith, ints)
 
-  at : (up down x y : ℤ) → pos 0 ≤ℤ up → pos 0 ≤ℤ down → clamped (x -ℤ up) (x +ℤ down) m ≡ y → a ≤ℤ (x +ℤ down) → (x -ℤ up) ≤ℤ b → IsLeastInReach f a b up down x (f y)
+  at : (up down x y : ℤ) → pos 0 ≤ℤ up → pos 0 ≤ℤ down → clamped (x -ℤ up) (x +ℤ down) m ≡ y → a ≤ℤ (x +ℤ down) →
+      (x -ℤ up) ≤ℤ b → IsLeastInReach f a b up down x (f y)
   at up down x y is_up is_down e low high =
       let P : ℤ → Type 0 = λ z. IsLeastInReach f a b up down x (f z) in
       subst P e (window_law f a b m falls_before rises_from up down x first last is_up is_down low high)
@@ -91,7 +110,8 @@ module _ (f : ℤ → ℤ) (a b m : ℤ) (convex : IsConvex a b f) (first : a �
     falling = λ x low high.
         let e : clamped (x -ℤ up) (x +ℤ down) m ≡ x +ℤ down = omega (arith, ints, clamps) in
         at up down x (x +ℤ down) is_up is_down e (omega (arith, ints)) (omega (arith, ints));
-    flat = λ x low high. let e : clamped (x -ℤ up) (x +ℤ down) m ≡ m = omega (arith, ints, clamps) in at up down x m is_up is_down e (omega (arith, ints)) (omega (arith, ints));
+    flat = λ x low high. let e : clamped (x -ℤ up) (x +ℤ down) m ≡ m = omega (arith, ints, clamps) in
+        at up down x m is_up is_down e (omega (arith, ints)) (omega (arith, ints));
     rising = λ x low high.
         let e : clamped (x -ℤ up) (x +ℤ down) m ≡ x -ℤ up = omega (arith, ints, clamps) in
         at up down x (x -ℤ up) is_up is_down e (omega (arith, ints)) (omega (arith, ints));

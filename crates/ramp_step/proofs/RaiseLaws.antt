@@ -1,5 +1,8 @@
 -- Heights are raised block by block.
-use Rattle.ramp_step.proofs.Common.{◌≡◌, ℕ, ◌+◌, ◌-◌, ◌<◌, List, length, get_or, sym, ap, ◌∙◌, subst, arith, inl, inr, ℤ, pos, ◌+ℤ◌, ◌-ℤ◌, ◌*ℤ◌, ◌≤ℤ◌, ◌<ℤ◌, ints, cases_lt, zero-*ℤ, Knot, Block, power, height, IsWide, AreRaised, IsAmount, block_end, curve_term, AreLimitedBlocks, line_from, CanRaise, AreRaisedUpto, AreRaisedSoFar}
+use Rattle.ramp_step.proofs.Common.{◌≡◌, ℕ, ◌+◌, ◌-◌, ◌<◌, List, length, get_or, sym, ap, ◌∙◌, subst, arith, inl, inr}
+use Rattle.ramp_step.proofs.Common.{ℤ, pos, ◌+ℤ◌, ◌-ℤ◌, ◌*ℤ◌, ◌≤ℤ◌, ◌<ℤ◌, ints, cases_lt, zero-*ℤ, Knot, Block, power}
+use Rattle.ramp_step.proofs.Common.{height, IsWide, AreRaised, IsAmount, block_end, curve_term, AreLimitedBlocks}
+use Rattle.ramp_step.proofs.Common.{line_from, CanRaise, AreRaisedUpto, AreRaisedSoFar}
 use Rattle.ramp_step.proofs.KnotLaws.{rises}
 use Rattle.ramp_step.proofs.CurveLaws.{block_end_next, on_block_is, curve_begins}
 
@@ -8,15 +11,20 @@ flat : (s v x : ℤ) → line_from s v (pos 0) x ≡ v
 flat s v x = let z = zero-*ℤ (x -ℤ s) in omega (arith, ints)
 
 -- the level at the next block's start
-pub next_level : (v : ℤ) (bs : List Block) (s : ℤ) (j : ℕ) (d : Block) → AreLimitedBlocks v bs s → j < length bs → block_end bs s j ≤ℤ block_end bs s (j + 1)
-    → curve_term v bs s (block_end bs s j) +ℤ (get_or bs j d).price *ℤ (get_or bs j d).width ≡ curve_term v bs s (block_end bs s (j + 1))
+pub next_level : (v : ℤ) (bs : List Block) (s : ℤ) (j : ℕ) (d : Block) → AreLimitedBlocks v bs s → j < length bs →
+    block_end bs s j ≤ℤ block_end bs s (j + 1)
+    → curve_term v bs s (block_end bs s j) +ℤ (get_or bs j d).price *ℤ (get_or bs j d).width ≡ curve_term v bs s
+    (block_end bs s (j + 1))
 next_level v bs s j d l h order =
     let next = block_end_next bs s j d h in
     let b = on_block_is v bs s j d (block_end bs s (j + 1)) l h order (omega (arith, ints)) in
-    let way : (get_or bs j d).price *ℤ (get_or bs j d).width ≡ (get_or bs j d).price *ℤ (block_end bs s (j + 1) -ℤ block_end bs s j) = ap (λ (z : ℤ). (get_or bs j d).price *ℤ z) (omega (arith, ints)) in
+    let way : (get_or bs j d).price *ℤ (get_or bs j d).width ≡ (get_or bs j d).price *ℤ
+    (block_end bs s (j + 1) -ℤ block_end bs s j) =
+    ap (λ (z : ℤ). (get_or bs j d).price *ℤ z) (omega (arith, ints)) in
     omega (arith, ints)
 
-pub CanRaise-begin : (v : ℤ) (bs : List Block) (s : ℤ) (q : Knot) → AreLimitedBlocks v bs s → s ≤ℤ q.at → q.at ≤ℤ s → IsAmount q.value → IsAmount (q.value +ℤ curve_term v bs s q.at) → CanRaise s v (pos 0) q
+pub CanRaise-begin : (v : ℤ) (bs : List Block) (s : ℤ) (q : Knot) → AreLimitedBlocks v bs s → s ≤ℤ q.at → q.at ≤ℤ s →
+    IsAmount q.value → IsAmount (q.value +ℤ curve_term v bs s q.at) → CanRaise s v (pos 0) q
 CanRaise-begin v bs s q l low high before after =
     let here : q.at ≡ s = omega (arith, ints) in
     let begins = curve_begins v bs s l in
@@ -28,8 +36,10 @@ CanRaise-begin v bs s q l low high before after =
       after = subst (λ (z : ℤ). IsAmount (q.value +ℤ z)) (e ∙ sym (flat s v q.at)) after;
     }
 
-pub CanRaise-on_block : (v : ℤ) (bs : List Block) (s : ℤ) (j : ℕ) (d : Block) (q : Knot) → AreLimitedBlocks v bs s → j < length bs → block_end bs s j <ℤ q.at → q.at ≤ℤ block_end bs s (j + 1)
-    → IsAmount q.value → IsAmount (q.value +ℤ curve_term v bs s q.at) → CanRaise (block_end bs s j) (curve_term v bs s (block_end bs s j)) (get_or bs j d).price q
+pub CanRaise-on_block : (v : ℤ) (bs : List Block) (s : ℤ) (j : ℕ) (d : Block) (q : Knot) → AreLimitedBlocks v bs s →
+    j < length bs → block_end bs s j <ℤ q.at → q.at ≤ℤ block_end bs s (j + 1)
+    → IsAmount q.value → IsAmount (q.value +ℤ curve_term v bs s q.at) →
+    CanRaise (block_end bs s j) (curve_term v bs s (block_end bs s j)) (get_or bs j d).price q
 CanRaise-on_block v bs s j d q l h low high before after =
     let b = on_block_is v bs s j d q.at l h (omega (arith, ints)) high in
     let a0 = (l.ends j (omega arith)).0 in
@@ -48,11 +58,16 @@ AreRaisedSoFar-begin v bs s n done ks ks' l rise low r =
     let to = r.to in
     record {
       order = to;
-      powers = λ k h. elim (cases_lt k done) [ inl early ↦ r.powers k (omega arith) early | inr later ↦ ap (λ (q : Knot). q.at) (r.after k later) ];
+      powers = λ k h. elim (cases_lt k done) [
+        | inl early ↦ r.powers k (omega arith) early
+        | inr later ↦
+            ap (λ (q : Knot). q.at) (r.after k later)
+      ];
       heights = λ k h.
           let a = low k (omega arith) in
           let b = r.upto k (omega arith) h in
-          let e : curve_term v bs s (power ks k) ≡ v = ap (curve_term v bs s) (omega (arith, ints)) ∙ curve_begins v bs s l in
+          let e : curve_term v bs s (power ks k) ≡ v =
+          ap (curve_term v bs s) (omega (arith, ints)) ∙ curve_begins v bs s l in
           let f = flat s v (power ks k) in
           let t = r.heights k (omega arith) h in
           omega (arith, ints);
@@ -63,9 +78,11 @@ AreRaisedSoFar-begin v bs s n done ks ks' l rise low r =
           omega (arith, ints);
     }
 
-pub AreRaisedSoFar-more : (v : ℤ) (bs : List Block) (s : ℤ) (j n done done' : ℕ) (d : Block) (ks k1 k2 : List Knot) → AreLimitedBlocks v bs s → j < length bs
+pub AreRaisedSoFar-more : (v : ℤ) (bs : List Block) (s : ℤ) (j n done done' : ℕ) (d : Block) (ks k1 k2 : List Knot) →
+    AreLimitedBlocks v bs s → j < length bs
     → ((k : ℕ) → k + 1 < n → power ks k <ℤ power ks (k + 1)) → AreRaisedSoFar v bs s j n done ks k1
-    → AreRaisedUpto (line_from (block_end bs s j) (curve_term v bs s (block_end bs s j)) (get_or bs j d).price) (block_end bs s (j + 1)) n done done' k1 k2
+    → AreRaisedUpto (line_from (block_end bs s j) (curve_term v bs s (block_end bs s j)) (get_or bs j d).price)
+    (block_end bs s (j + 1)) n done done' k1 k2
     → AreRaisedSoFar v bs s (j + 1) n done' ks k2
 AreRaisedSoFar-more v bs s j n done done' d ks k1 k2 l inside rise a r =
     let from = r.from in
@@ -89,8 +106,10 @@ AreRaisedSoFar-more v bs s j n done done' d ks k1 k2 l inside rise a r =
             let high = r.upto k past h in
             let b = on_block_is v bs s j d (power ks k) l inside (omega (arith, ints)) (omega (arith, ints)) in
             let t = r.heights k past h in
-            let line = ap (line_from (block_end bs s j) (curve_term v bs s (block_end bs s j)) (get_or bs j d).price) at in
-            t ∙ ap (λ (z : ℤ). z +ℤ line_from (block_end bs s j) (curve_term v bs s (block_end bs s j)) (get_or bs j d).price (power k1 k)) value
+            let line = ap (line_from (block_end bs s j) (curve_term v bs s (block_end bs s j)) (get_or bs j d).price)
+            at in
+            t ∙ ap (λ (z : ℤ). z +ℤ line_from (block_end bs s j) (curve_term v bs s (block_end bs s j))
+            (get_or bs j d).price (power k1 k)) value
             ∙ ap (λ (z : ℤ). height ks k +ℤ z) (line ∙ b.is)
       ];
       rest = λ k h. r.after k h ∙ a.rest k (omega arith);
@@ -101,7 +120,8 @@ AreRaisedSoFar-more v bs s j n done done' d ks k1 k2 l inside rise a r =
           omega (arith, ints);
     }
 
-pub AreRaised-so_far : (v : ℤ) (bs : List Block) (s : ℤ) (n done : ℕ) (ks ks' : List Knot) → ((k : ℕ) → k < n → power ks k ≤ℤ block_end bs s (length bs))
+pub AreRaised-so_far : (v : ℤ) (bs : List Block) (s : ℤ) (n done : ℕ) (ks ks' : List Knot) →
+    ((k : ℕ) → k < n → power ks k ≤ℤ block_end bs s (length bs))
     → AreRaisedSoFar v bs s (length bs) n done ks ks' → AreRaised (curve_term v bs s) n ks ks'
 AreRaised-so_far v bs s n done ks ks' high a = record {
   powers = a.powers;

@@ -1,16 +1,21 @@
 -- Knots of another list, one after another, stand for the same function.
-use Rattle.ramp_step.proofs.Common.{◌≡◌, ℕ, ◌+◌, ◌-◌, ◌<◌, List, sym, ap, ◌∙◌, subst, inl, inr, arith, ℤ, ◌≤ℤ◌, Some, None, cases_lt, ints, by_lt_z, IsSame, value_of, IsWithinLimits, Knot, knot, power, height, StandFor, IsShape, IsInside, IsRun, RunsStandBetween, SameKnotsAreSame, OneKnotIsPoint, table_of, AreBreaks, AreWithinLimits}
+use Rattle.ramp_step.proofs.Common.{◌≡◌, ℕ, ◌+◌, ◌-◌, ◌<◌, List, sym, ap, ◌∙◌, subst, inl, inr, arith, ℤ, ◌≤ℤ◌, Some}
+use Rattle.ramp_step.proofs.Common.{None, cases_lt, ints, by_lt_z, IsSame, value_of, IsWithinLimits, Knot, knot, power}
+use Rattle.ramp_step.proofs.Common.{height, StandFor, IsShape, IsInside, IsRun, RunsStandBetween, SameKnotsAreSame}
+use Rattle.ramp_step.proofs.Common.{OneKnotIsPoint, table_of, AreBreaks, AreWithinLimits}
 use Rattle.ramp_step.proofs.BreakpointLaws.{IsShape-breakpoints, AreBreakpoints-shape}
 use Rattle.ramp_step.proofs.KnotLaws.{power_at, first_at, first_power, last_power, StandFor-run}
 use Rattle.ramp_step.proofs.LimitLaws.{IsWithinLimits-from_knots}
-use Rattle.ramp_step.proofs.ShapeLaws.{value_inside, inside_value, none_outside, IsConvexList-from_knots, IsPoint-from_knots, StandFor-one}
+use Rattle.ramp_step.proofs.ShapeLaws.{value_inside, inside_value, none_outside, IsConvexList-from_knots}
+use Rattle.ramp_step.proofs.ShapeLaws.{IsPoint-from_knots, StandFor-one}
 use Rattle.ramp_step.proofs.SpacedLaws.{StandFor-same}
 
 pub shape_of : (ks : List Knot) (n : ℕ) → AreBreaks ks n → IsShape ks n
 shape_of ks n b = IsShape-breakpoints ks n b.points
 
 pub AreBreaks-from : (ks : List Knot) (n : ℕ) → IsShape ks n → IsWithinLimits (table_of ks n) → AreBreaks ks n
-AreBreaks-from ks n shape within = record { points = AreBreakpoints-shape ks n shape; convex = IsConvexList-from_knots ks n shape; within = within }
+AreBreaks-from ks n shape within =
+    record { points = AreBreakpoints-shape ks n shape; convex = IsConvexList-from_knots ks n shape; within = within }
 
 module _ (ks ks' : List Knot) (n from n' : ℕ) (run : IsRun ks n from ks' n') (f : ℤ → ℤ) (s : StandFor ks n f) where
   inside_all : (x : ℤ) → IsInside ks' n' x → IsInside ks n x
@@ -35,7 +40,8 @@ module _ (ks ks' : List Knot) (n from n' : ℕ) (run : IsRun ks n from ks' n') (
     to_last_of h =
         elim (cases_lt (from + n') n) [
           | inl more ↦ high more
-          | inr all ↦ let e : power ks (n - 1) ≡ power ks (from + (n' - 1)) = ap (power ks) (omega arith) in let a = power_at ks ks' n from n' run f s (n' - 1) (omega arith) in omega (arith, ints)
+          | inr all ↦ let e : power ks (n - 1) ≡ power ks (from + (n' - 1)) = ap (power ks) (omega arith) in
+              let a = power_at ks ks' n from n' run f s (n' - 1) (omega arith) in omega (arith, ints)
         ]
 
     -- inside both have the function's value, outside none
@@ -48,10 +54,12 @@ module _ (ks ks' : List Knot) (n from n' : ℕ) (run : IsRun ks n from ks' n') (
         (λ above. outside (λ h. let a = to_last_of h in omega (arith, ints)))
         (λ to_last.
         let h : IsInside ks' n' x = record { some = run.some; from_first = from_first; to_last = to_last } in
-        value_inside ks' n' f (StandFor-run ks ks' n from n' run f s) x h ∙ sym (value_inside ks n f s x (inside_all x h))))
+        value_inside ks' n' f (StandFor-run ks ks' n from n' run f s) x h ∙
+        sym (value_inside ks n f s x (inside_all x h))))
       where
         outside : (IsInside ks n x → ⊥) → value_of (table_of ks' n') x ≡ value_of (table_of ks n) x
-        outside out = none_outside ks' n' f (StandFor-run ks ks' n from n' run f s) x (λ h. out (inside_all x h)) ∙ sym (none_outside ks n f s x out)
+        outside out = none_outside ks' n' f (StandFor-run ks ks' n from n' run f s) x (λ h. out (inside_all x h)) ∙
+            sym (none_outside ks n f s x out)
 
   within_run : IsWithinLimits (table_of ks n) → IsWithinLimits (table_of ks' n')
   within_run within x v h =
@@ -61,7 +69,8 @@ module _ (ks ks' : List Knot) (n from n' : ℕ) (run : IsRun ks n from ks' n') (
 pub runs_stand_between : RunsStandBetween
 runs_stand_between ks ks' n from n' run b =
     let shape = shape_of ks n b in (
-      AreBreaks-from ks' n' (shape.0, StandFor-run ks ks' n from n' run shape.0 shape.1) (within_run ks ks' n from n' run shape.0 shape.1 b.within),
+      AreBreaks-from ks' n' (shape.0, StandFor-run ks ks' n from n' run shape.0 shape.1)
+          (within_run ks ks' n from n' run shape.0 shape.1 b.within),
       value_same ks ks' n from n' run shape.0 shape.1,
     )
 
@@ -74,20 +83,23 @@ module _ (ks ks' : List Knot) (n : ℕ) (same : (k : ℕ) → k < n → knot ks'
   begun : AreBreaks ks' n × IsSame (table_of ks n) (table_of ks' n)
   begun = elim (cases_lt 0 n) [
     | inl some ↦
-        let run : IsRun ks n 0 ks' n = record { inside = omega arith; some = some; knots = λ k h. same k h ∙ ap (knot ks) (omega arith) } in
+        let run : IsRun ks n 0 ks' n =
+        record { inside = omega arith; some = some; knots = λ k h. same k h ∙ ap (knot ks) (omega arith) } in
         let r = runs_stand_between ks ks' n 0 n run b in
         (r.0, λ x. r.1 x (λ h. absurd (omega arith)) (λ h. absurd (omega arith)))
     | inr none ↦
         let shape = shape_of ks n b in
         let s : StandFor ks' n shape.0 = StandFor-same ks ks' n same shape.0 shape.1 in
-        let empty : (x : ℤ) → value_of (table_of ks' n) x ≡ None = λ x. none_outside ks' n shape.0 s x (none_in (omega arith) ks' x) in (
+        let empty : (x : ℤ) → value_of (table_of ks' n) x ≡ None =
+        λ x. none_outside ks' n shape.0 s x (none_in (omega arith) ks' x) in (
           AreBreaks-from ks' n (shape.0, s) (λ x v h. let e = empty x in absurd (let q = sym e ∙ h in (cc))),
           λ x. empty x ∙ sym (none_outside ks n shape.0 shape.1 x (none_in (omega arith) ks x)),
         )
   ]
 
 pub same_knots_are_same : SameKnotsAreSame
-same_knots_are_same ks ks' n n' e same b = subst (λ (m : ℕ). AreBreaks ks' m × IsSame (table_of ks n) (table_of ks' m)) (sym e) (begun ks ks' n same b)
+same_knots_are_same ks ks' n n' e same b =
+    subst (λ (m : ℕ). AreBreaks ks' m × IsSame (table_of ks n) (table_of ks' m)) (sym e) (begun ks ks' n same b)
 
 pub one_knot_is_point : OneKnotIsPoint
 one_knot_is_point ks at amount =

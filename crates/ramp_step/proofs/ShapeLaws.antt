@@ -1,5 +1,10 @@
 -- A step on knots is the step on the table that they stand for.
-use Rattle.ramp_step.proofs.Common.{◌≡◌, ℕ, ◌+◌, ◌-◌, List, Option, Some, None, refl, sym, ap, ◌∙◌, subst, arith, inl, inr, ℤ, pos, ◌+ℤ◌, ◌-ℤ◌, ◌⊎◌, MatchOption, option_map, ints, value_of, IsConvexList, HasNone, IsWithinLimits, IsAmount, IsPoint, IsSum, IsCurveSum, IsLeast, IsLeastIn, Knot, power, height, StandFor, IsShape, IsInside, HaveSameEnds, CanAdd, IsWindow, IsLowest, HasNoPower, IsInsideWithin, IsValueAt, values_of, table_of, AreWithinLimits}
+use Rattle.ramp_step.proofs.Common.{◌≡◌, ℕ, ◌+◌, ◌-◌, List, Option, Some, None, refl, sym, ap, ◌∙◌, subst, arith, inl}
+use Rattle.ramp_step.proofs.Common.{inr, ℤ, pos, ◌+ℤ◌, ◌-ℤ◌, ◌⊎◌, MatchOption, option_map, ints, value_of, IsConvexList}
+use Rattle.ramp_step.proofs.Common.{HasNone, IsWithinLimits, IsAmount, IsPoint, IsSum, IsCurveSum, IsLeast, IsLeastIn}
+use Rattle.ramp_step.proofs.Common.{Knot, power, height, StandFor, IsShape, IsInside, HaveSameEnds, CanAdd, IsWindow}
+use Rattle.ramp_step.proofs.Common.{IsLowest, HasNoPower, IsInsideWithin, IsValueAt, values_of, table_of}
+use Rattle.ramp_step.proofs.Common.{AreWithinLimits}
 use Rattle.shape_law.specs.Table as tables
 use Rattle.shape_law.specs.Effect as effects
 use Rattle.shape_law.proofs.Lookup.{IsAt-from_value, value-from_is_at}
@@ -7,18 +12,21 @@ use Rattle.ramp_step.proofs.ValueLaws.{values_of_is}
 use Rattle.ramp_step.proofs.KnotLaws.{inside_same, is_inside, HaveSameEnds-back}
 
 -- inside the interval the table has the function's value
-pub value_inside : (ks : List Knot) (n : ℕ) (f : ℤ → ℤ) → StandFor ks n f → (x : ℤ) → IsInside ks n x → value_of (table_of ks n) x ≡ Some (f x)
+pub value_inside : (ks : List Knot) (n : ℕ) (f : ℤ → ℤ) → StandFor ks n f → (x : ℤ) → IsInside ks n x →
+    value_of (table_of ks n) x ≡ Some (f x)
 value_inside ks n f s x h =
     let v = values_of_is ks n f s in
     let b = v.back x h in
-    value-from_is_at (table_of ks n) x (f x) (record { offset = b.0; power = b.2; inside = b.1; there = v.each b.0 b.1 ∙ ap f (sym b.2) })
+    value-from_is_at (table_of ks n) x (f x)
+    (record { offset = b.0; power = b.2; inside = b.1; there = v.each b.0 b.1 ∙ ap f (sym b.2) })
 
 pub record IsValue (ks : List Knot) (n : ℕ) (f : ℤ → ℤ) (x v : ℤ) : Type 0 where
   pub inside : IsInside ks n x
   pub is : f x ≡ v
 
 -- and a value of the table is one of the function's, inside
-pub inside_value : (ks : List Knot) (n : ℕ) (f : ℤ → ℤ) → StandFor ks n f → (x v : ℤ) → value_of (table_of ks n) x ≡ Some v → IsValue ks n f x v
+pub inside_value : (ks : List Knot) (n : ℕ) (f : ℤ → ℤ) → StandFor ks n f → (x v : ℤ) →
+    value_of (table_of ks n) x ≡ Some v → IsValue ks n f x v
 inside_value ks n f s x v h =
     let values = values_of_is ks n f s in
     let a = IsAt-from_value (table_of ks n) x v h in
@@ -32,7 +40,8 @@ option_cases None = inl refl
 option_cases (Some v) = inr (v, refl)
 
 -- outside there is no value
-pub none_outside : (ks : List Knot) (n : ℕ) (f : ℤ → ℤ) → StandFor ks n f → (x : ℤ) → (IsInside ks n x → ⊥) → value_of (table_of ks n) x ≡ None
+pub none_outside : (ks : List Knot) (n : ℕ) (f : ℤ → ℤ) → StandFor ks n f → (x : ℤ) → (IsInside ks n x → ⊥) →
+    value_of (table_of ks n) x ≡ None
 none_outside ks n f s x out = elim (option_cases (value_of (table_of ks n) x)) [
   | inl none ↦ none
   | inr some ↦ absurd (out (inside_value ks n f s x some.0 some.1).inside)
@@ -42,7 +51,8 @@ none_outside ks n f s x out = elim (option_cases (value_of (table_of ks n) x)) [
 
 -- a term that is added to the function is added to the table
 pub IsSum-from_knots : (term : ℤ → ℤ) (ks ks' : List Knot) (n n' : ℕ) → IsShape ks n → HaveSameEnds ks n ks' n'
-    → ((f : ℤ → ℤ) → StandFor ks n f → StandFor ks' n' (λ x. f x +ℤ term x)) → IsSum term (table_of ks n) (table_of ks' n')
+    → ((f : ℤ → ℤ) → StandFor ks n f → StandFor ks' n' (λ x. f x +ℤ term x)) →
+    IsSum term (table_of ks n) (table_of ks' n')
 IsSum-from_knots term ks ks' n n' shape ends step x =
     let f = shape.0 in
     let s = shape.1 in
@@ -50,7 +60,8 @@ IsSum-from_knots term ks ks' n n' shape ends step x =
     elim (option_cases (value_of (table_of ks n) x)) [
       | inr some ↦
           let v = inside_value ks n f s x some.0 some.1 in
-          let new = value_inside ks' n' (λ z. f z +ℤ term z) s' x (inside_same ks' ks n' n x (HaveSameEnds-back ks ks' n n' ends) v.inside) in
+          let new = value_inside ks' n' (λ z. f z +ℤ term z) s' x
+          (inside_same ks' ks n' n x (HaveSameEnds-back ks ks' n n' ends) v.inside) in
           new ∙ ap (λ z. Some (z +ℤ term x)) v.is ∙ sym (ap (option_map (λ z. z +ℤ term x)) some.1)
       | inl none ↦ elim (option_cases (value_of (table_of ks' n') x)) [
         | inl none' ↦ none' ∙ sym (ap (option_map (λ z. z +ℤ term x)) none)
@@ -62,7 +73,8 @@ IsSum-from_knots term ks ks' n n' shape ends step x =
     ]
 
 -- a term that may be added to the table may be added to the function
-pub CanAdd-from_table : (term : ℤ → ℤ) (ks : List Knot) (n : ℕ) → IsWithinLimits (table_of ks n) → tables.CanAdd term (table_of ks n)
+pub CanAdd-from_table : (term : ℤ → ℤ) (ks : List Knot) (n : ℕ) → IsWithinLimits (table_of ks n) →
+    tables.CanAdd term (table_of ks n)
     → (f : ℤ → ℤ) → StandFor ks n f → CanAdd term ks n f
 CanAdd-from_table term ks n within fits f s x h =
     let v = value_inside ks n f s x h in
@@ -70,24 +82,29 @@ CanAdd-from_table term ks n within fits f s x h =
 
 -- ---- a curve, which is the term where it is defined
 
-pub IsCurveSum-from_knots : (curve : ℤ → Option ℤ) (shift : ℤ) (term : ℤ → ℤ) (ks ks' : List Knot) (n n' : ℕ) → IsShape ks n → HaveSameEnds ks n ks' n'
+pub IsCurveSum-from_knots : (curve : ℤ → Option ℤ) (shift : ℤ) (term : ℤ → ℤ) (ks ks' : List Knot) (n n' : ℕ) →
+    IsShape ks n → HaveSameEnds ks n ks' n'
     → ((x : ℤ) → IsInside ks n x → curve (x +ℤ shift) ≡ Some (term x))
-    → ((f : ℤ → ℤ) → StandFor ks n f → StandFor ks' n' (λ x. f x +ℤ term x)) → IsCurveSum curve shift (table_of ks n) (table_of ks' n')
+    → ((f : ℤ → ℤ) → StandFor ks n f → StandFor ks' n' (λ x. f x +ℤ term x)) →
+    IsCurveSum curve shift (table_of ks n) (table_of ks' n')
 IsCurveSum-from_knots curve shift term ks ks' n n' shape ends on step x =
     let sum = IsSum-from_knots term ks ks' n n' shape ends step x in
     elim (option_cases (value_of (table_of ks n) x)) [
       | inl none ↦
-          let P : Option ℤ → Type 0 = λ o. MatchOption o (value_of (table_of ks' n') x ≡ None) (λ v. (c : ℤ) × (curve (x +ℤ shift) ≡ Some c) × (value_of (table_of ks' n') x ≡ Some (v +ℤ c))) in
+          let P : Option ℤ → Type 0 = λ o. MatchOption o (value_of (table_of ks' n') x ≡ None)
+          (λ v. (c : ℤ) × (curve (x +ℤ shift) ≡ Some c) × (value_of (table_of ks' n') x ≡ Some (v +ℤ c))) in
           subst P (sym none) (sum ∙ ap (option_map (λ z. z +ℤ term x)) none)
       | inr some ↦
-          let P : Option ℤ → Type 0 = λ o. MatchOption o (value_of (table_of ks' n') x ≡ None) (λ v. (c : ℤ) × (curve (x +ℤ shift) ≡ Some c) × (value_of (table_of ks' n') x ≡ Some (v +ℤ c))) in
+          let P : Option ℤ → Type 0 = λ o. MatchOption o (value_of (table_of ks' n') x ≡ None)
+          (λ v. (c : ℤ) × (curve (x +ℤ shift) ≡ Some c) × (value_of (table_of ks' n') x ≡ Some (v +ℤ c))) in
           let v = inside_value ks n shape.0 shape.1 x some.0 some.1 in
           subst P (sym some.1) (term x, on x v.inside, sum ∙ ap (option_map (λ z. z +ℤ term x)) some.1)
     ]
 
 -- ---- the window
 
-pub IsWindow-from_knots : (ks ks' : List Knot) (n n' : ℕ) (up down lo hi : ℤ) → IsShape ks n → IsWindow up down lo hi ks n ks' n' → effects.IsWindow up down lo hi (table_of ks n) (table_of ks' n')
+pub IsWindow-from_knots : (ks ks' : List Knot) (n n' : ℕ) (up down lo hi : ℤ) → IsShape ks n →
+    IsWindow up down lo hi ks n ks' n' → effects.IsWindow up down lo hi (table_of ks n) (table_of ks' n')
 IsWindow-from_knots ks ks' n n' up down lo hi shape w =
     let f = shape.0 in
     let s = shape.1 in
@@ -113,17 +130,22 @@ IsWindow-from_knots ks ks' n n' up down lo hi shape w =
 
 -- ---- what is read
 
-pub IsLeast-from_knots : (ks : List Knot) (n : ℕ) (q : Knot) → (shape : IsShape ks n) → IsLowest (IsInside ks n) shape.0 q → IsLeast (table_of ks n) q.value q.at
+pub IsLeast-from_knots : (ks : List Knot) (n : ℕ) (q : Knot) → (shape : IsShape ks n) →
+    IsLowest (IsInside ks n) shape.0 q → IsLeast (table_of ks n) q.value q.at
 IsLeast-from_knots ks n q shape l = record {
   there = value_inside ks n shape.0 shape.1 q.at l.inside ∙ ap Some l.there;
-  least = λ y w h. let v = inside_value ks n shape.0 shape.1 y w h in let is = v.is in let a = l.least y v.inside in omega (arith, ints);
+  least = λ y w h. let v = inside_value ks n shape.0 shape.1 y w h in let is = v.is in let a = l.least y v.inside in
+      omega (arith, ints);
   first = λ y h. let v = inside_value ks n shape.0 shape.1 y q.value h in l.first y v.inside v.is;
 }
 
-pub HasNone-from_knots : (ks : List Knot) (n : ℕ) (lo hi : ℤ) → IsShape ks n → HasNoPower (IsInsideWithin lo hi ks n) → HasNone lo hi (table_of ks n)
-HasNone-from_knots ks n lo hi shape none x from to = none_outside ks n shape.0 shape.1 x (λ i. none x (record { inside = i; from = from; to = to }))
+pub HasNone-from_knots : (ks : List Knot) (n : ℕ) (lo hi : ℤ) → IsShape ks n → HasNoPower (IsInsideWithin lo hi ks n) →
+    HasNone lo hi (table_of ks n)
+HasNone-from_knots ks n lo hi shape none x from to =
+    none_outside ks n shape.0 shape.1 x (λ i. none x (record { inside = i; from = from; to = to }))
 
-pub IsLeastIn-from_knots : (ks : List Knot) (n : ℕ) (lo hi : ℤ) (q : Knot) → (shape : IsShape ks n) → IsLowest (IsInsideWithin lo hi ks n) shape.0 q → IsLeastIn lo hi (table_of ks n) q.value q.at
+pub IsLeastIn-from_knots : (ks : List Knot) (n : ℕ) (lo hi : ℤ) (q : Knot) → (shape : IsShape ks n) →
+    IsLowest (IsInsideWithin lo hi ks n) shape.0 q → IsLeastIn lo hi (table_of ks n) q.value q.at
 IsLeastIn-from_knots ks n lo hi q shape l = record {
   inside = (l.inside.from, l.inside.to);
   there = value_inside ks n shape.0 shape.1 q.at l.inside.inside ∙ ap Some l.there;
@@ -136,9 +158,11 @@ IsLeastIn-from_knots ks n lo hi q shape l = record {
       l.first y (record { inside = v.inside; from = from; to = to }) v.is;
 }
 
-pub value_of-from_knots : (ks : List Knot) (n : ℕ) (x : ℤ) (o : Option ℤ) → (shape : IsShape ks n) → MatchOption o (IsInside ks n x → ⊥) (IsValueAt shape.0 ks n x) → o ≡ value_of (table_of ks n) x
+pub value_of-from_knots : (ks : List Knot) (n : ℕ) (x : ℤ) (o : Option ℤ) → (shape : IsShape ks n) →
+    MatchOption o (IsInside ks n x → ⊥) (IsValueAt shape.0 ks n x) → o ≡ value_of (table_of ks n) x
 value_of-from_knots ks n x None shape none = sym (none_outside ks n shape.0 shape.1 x none)
-value_of-from_knots ks n x (Some v) shape some = ap Some some.value ∙ sym (value_inside ks n shape.0 shape.1 x some.inside)
+value_of-from_knots ks n x (Some v) shape some =
+    ap Some some.value ∙ sym (value_inside ks n shape.0 shape.1 x some.inside)
 
 -- ---- convexity, and limits
 
@@ -160,13 +184,16 @@ IsConvexList-from_knots ks n shape k h =
     omega (arith, ints)
 
 -- limits of the table are limits of the knots
-pub AreWithinLimits-from_table : (ks : List Knot) (n : ℕ) → IsShape ks n → IsWithinLimits (table_of ks n) → AreWithinLimits ks n
+pub AreWithinLimits-from_table : (ks : List Knot) (n : ℕ) → IsShape ks n → IsWithinLimits (table_of ks n) →
+    AreWithinLimits ks n
 AreWithinLimits-from_table ks n shape within =
     let f = shape.0 in
     let s = shape.1 in
     record {
-      powers = λ k h. (within (power ks k) (f (power ks k)) (value_inside ks n f s (power ks k) (is_inside ks n f k s h))).0;
-      amounts = λ k h. subst IsAmount (sym (s.meet k h)) ((within (power ks k) (f (power ks k)) (value_inside ks n f s (power ks k) (is_inside ks n f k s h))).1);
+      powers = λ k h. (within (power ks k) (f (power ks k))
+          (value_inside ks n f s (power ks k) (is_inside ks n f k s h))).0;
+      amounts = λ k h. subst IsAmount (sym (s.meet k h))
+          ((within (power ks k) (f (power ks k)) (value_inside ks n f s (power ks k) (is_inside ks n f k s h))).1);
     }
 
 -- one knot
@@ -175,12 +202,19 @@ StandFor-one ks = record {
   rise = λ k h. absurd (omega arith);
   meet = λ k h. ap (height ks) (omega arith);
   straight = λ k h. absurd (omega arith);
-  convex = λ x from to. let e : power ks (1 - 1) ≡ power ks 0 = ap (power ks) (omega arith) in absurd (omega (arith, ints));
+  convex = λ x from to. let e : power ks (1 - 1) ≡ power ks 0 = ap (power ks) (omega arith) in
+      absurd (omega (arith, ints));
 }
 
 pub IsPoint-from_knots : (ks : List Knot) → IsPoint (power ks 0) (height ks 0) (table_of ks 1)
 IsPoint-from_knots ks = record {
-  there = value_inside ks 1 (λ x. height ks 0) (StandFor-one ks) (power ks 0) (record { some = omega arith; from_first = omega (arith, ints); to_last = let e : power ks (1 - 1) ≡ power ks 0 = ap (power ks) (omega arith) in omega (arith, ints) });
+  there = value_inside ks 1 (λ x. height ks 0) (StandFor-one ks) (power ks 0)
+      (record {
+        some = omega arith;
+        from_first = omega (arith, ints);
+        to_last =
+            let e : power ks (1 - 1) ≡ power ks 0 = ap (power ks) (omega arith) in omega (arith, ints);
+      });
   only = λ x v h.
       let i = (inside_value ks 1 (λ z. height ks 0) (StandFor-one ks) x v h).inside in
       let e : power ks (1 - 1) ≡ power ks 0 = ap (power ks) (omega arith) in

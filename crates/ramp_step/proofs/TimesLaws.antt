@@ -1,5 +1,6 @@
 -- Products with the next number, the one before, and with 1 and -1.
-use Rattle.ramp_step.proofs.Common.{◌≡◌, ap, arith, ℤ, pos, negsuc, ◌+ℤ◌, ◌-ℤ◌, ◌*ℤ◌, ints, one, *ℤ-zero, *ℤ-one, mul-add, mul-sub}
+use Rattle.ramp_step.proofs.Common.{◌≡◌, ap, arith, ℤ, pos, negsuc, ◌+ℤ◌, ◌-ℤ◌, ◌*ℤ◌, ints, one, *ℤ-zero, *ℤ-one}
+use Rattle.ramp_step.proofs.Common.{mul-add, mul-sub}
 
 pub times_one : (s : ℤ) → s *ℤ pos 1 ≡ s
 unfolding one
@@ -17,7 +18,8 @@ times_minus s =
     omega (arith, ints, e, mul-sub s (pos 0) (pos 1), times_one s, *ℤ-zero s)
 
 -- a product with the way from s is straight
-pub straight_product : (p s x : ℤ) → ((p *ℤ (x -ℤ s)) +ℤ (p *ℤ (x -ℤ s))) ≡ ((p *ℤ ((x -ℤ pos 1) -ℤ s)) +ℤ (p *ℤ ((x +ℤ pos 1) -ℤ s)))
+pub straight_product : (p s x : ℤ) →
+    ((p *ℤ (x -ℤ s)) +ℤ (p *ℤ (x -ℤ s))) ≡ ((p *ℤ ((x -ℤ pos 1) -ℤ s)) +ℤ (p *ℤ ((x +ℤ pos 1) -ℤ s)))
 straight_product p s x =
     let before : (x -ℤ pos 1) -ℤ s ≡ (x -ℤ s) -ℤ pos 1 = omega (arith, ints) in
     let after : (x +ℤ pos 1) -ℤ s ≡ (x -ℤ s) +ℤ pos 1 = omega (arith, ints) in

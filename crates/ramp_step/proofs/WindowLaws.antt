@@ -1,5 +1,7 @@
 -- The window of a convex function: the falling part moves by -down, the rising part by up, the flat part is between.
-use Rattle.ramp_step.proofs.Common.{◌≡◌, ℕ, zero, suc, refl, ap, ◌∙◌, arith, inl, inr, ℤ, pos, negsuc, ◌+ℤ◌, ◌-ℤ◌, ◌*ℤ◌, ◌≤ℤ◌, ◌<ℤ◌, ◌⊎◌, ints, clamps, by_lt_z, IsStraight, IsConvex, clamped, IsLeastInReach, *ℤ-zero, *ℤ_comm, mul-mono_of}
+use Rattle.ramp_step.proofs.Common.{◌≡◌, ℕ, zero, suc, refl, ap, ◌∙◌, arith, inl, inr, ℤ, pos, negsuc, ◌+ℤ◌, ◌-ℤ◌, ◌*ℤ◌}
+use Rattle.ramp_step.proofs.Common.{◌≤ℤ◌, ◌<ℤ◌, ◌⊎◌, ints, clamps, by_lt_z, IsStraight, IsConvex, clamped}
+use Rattle.ramp_step.proofs.Common.{IsLeastInReach, *ℤ-zero, *ℤ_comm, mul-mono_of}
 use Rattle.ramp_step.proofs.TimesLaws.{times_next, times_minus}
 
 -- ---- slopes
@@ -27,7 +29,8 @@ slopes_steps f a b convex x (suc d) low high =
     let e' : f ((x +ℤ pos d) +ℤ pos 1) ≡ f y = ap f (omega (arith, ints)) in
     omega (arith, ints)
 
-pub slopes : (f : ℤ → ℤ) (a b : ℤ) → IsConvex a b f → (x y : ℤ) → a ≤ℤ x → x ≤ℤ y → y <ℤ b → (f (x +ℤ pos 1) -ℤ f x) ≤ℤ (f (y +ℤ pos 1) -ℤ f y)
+pub slopes : (f : ℤ → ℤ) (a b : ℤ) → IsConvex a b f → (x y : ℤ) → a ≤ℤ x → x ≤ℤ y → y <ℤ b →
+    (f (x +ℤ pos 1) -ℤ f x) ≤ℤ (f (y +ℤ pos 1) -ℤ f y)
 slopes f a b convex x y low order high =
     let s = steps x y order in
     let h = slopes_steps f a b convex x s.0 low (omega (arith, ints, s.1)) in
@@ -36,7 +39,8 @@ slopes f a b convex x y low order high =
     omega (arith, ints)
 
 -- a straight part has one slope
-straight_steps : (f : ℤ → ℤ) (a b : ℤ) → IsStraight a b f → (d : ℕ) → (a +ℤ pos d) <ℤ b → f ((a +ℤ pos d) +ℤ pos 1) ≡ f (a +ℤ pos d) +ℤ (f (a +ℤ pos 1) -ℤ f a)
+straight_steps : (f : ℤ → ℤ) (a b : ℤ) → IsStraight a b f → (d : ℕ) → (a +ℤ pos d) <ℤ b →
+    f ((a +ℤ pos d) +ℤ pos 1) ≡ f (a +ℤ pos d) +ℤ (f (a +ℤ pos 1) -ℤ f a)
 straight_steps f a b straight zero high =
     let e : f (a +ℤ pos 0) ≡ f a = ap f (omega (arith, ints)) in
     let e' : f ((a +ℤ pos 0) +ℤ pos 1) ≡ f (a +ℤ pos 1) = ap f (omega (arith, ints)) in
@@ -50,7 +54,8 @@ straight_steps f a b straight (suc d) high =
     omega (arith, ints)
 
 -- the values of a straight part
-line_steps : (f : ℤ → ℤ) (a b : ℤ) → IsStraight a b f → (d : ℕ) → (a +ℤ pos d) ≤ℤ b → f (a +ℤ pos d) ≡ f a +ℤ (f (a +ℤ pos 1) -ℤ f a) *ℤ pos d
+line_steps : (f : ℤ → ℤ) (a b : ℤ) → IsStraight a b f → (d : ℕ) → (a +ℤ pos d) ≤ℤ b →
+    f (a +ℤ pos d) ≡ f a +ℤ (f (a +ℤ pos 1) -ℤ f a) *ℤ pos d
 line_steps f a b straight zero high =
     let e : f (a +ℤ pos 0) ≡ f a = ap f (omega (arith, ints)) in
     let z = *ℤ-zero (f (a +ℤ pos 1) -ℤ f a) in
@@ -63,15 +68,18 @@ line_steps f a b straight (suc d) high =
     let p : s *ℤ pos (suc d) ≡ s *ℤ pos d +ℤ s = ap (λ z. s *ℤ z) (omega (arith, ints)) ∙ times_next s (pos d) in
     omega (arith, ints)
 
-pub straight_line : (f : ℤ → ℤ) (a b : ℤ) → IsStraight a b f → (x : ℤ) → a ≤ℤ x → x ≤ℤ b → f x ≡ f a +ℤ (f (a +ℤ pos 1) -ℤ f a) *ℤ (x -ℤ a)
+pub straight_line : (f : ℤ → ℤ) (a b : ℤ) → IsStraight a b f → (x : ℤ) → a ≤ℤ x → x ≤ℤ b →
+    f x ≡ f a +ℤ (f (a +ℤ pos 1) -ℤ f a) *ℤ (x -ℤ a)
 straight_line f a b straight x low high =
     let s = steps a x low in
     let h = line_steps f a b straight s.0 (omega (arith, ints, s.1)) in
     let e : f x ≡ f (a +ℤ pos s.0) = ap f s.1 in
-    let e' : (f (a +ℤ pos 1) -ℤ f a) *ℤ (x -ℤ a) ≡ (f (a +ℤ pos 1) -ℤ f a) *ℤ pos s.0 = ap (λ z. (f (a +ℤ pos 1) -ℤ f a) *ℤ z) (omega (arith, ints, s.1)) in
+    let e' : (f (a +ℤ pos 1) -ℤ f a) *ℤ (x -ℤ a) ≡ (f (a +ℤ pos 1) -ℤ f a) *ℤ pos s.0 =
+    ap (λ z. (f (a +ℤ pos 1) -ℤ f a) *ℤ z) (omega (arith, ints, s.1)) in
     omega (arith, ints)
 
-pub straight_slope : (f : ℤ → ℤ) (a b : ℤ) → IsStraight a b f → (x : ℤ) → a ≤ℤ x → x <ℤ b → f (x +ℤ pos 1) -ℤ f x ≡ f (a +ℤ pos 1) -ℤ f a
+pub straight_slope : (f : ℤ → ℤ) (a b : ℤ) → IsStraight a b f → (x : ℤ) → a ≤ℤ x → x <ℤ b →
+    f (x +ℤ pos 1) -ℤ f x ≡ f (a +ℤ pos 1) -ℤ f a
 straight_slope f a b straight x low high =
     let s = steps a x low in
     let h = straight_steps f a b straight s.0 (omega (arith, ints, s.1)) in

@@ -1,25 +1,37 @@
 -- How the lines of each form are judged.
-use Rattle.report_compare.proofs.Common.{◌≡◌, ℕ, ℤ, Bool, List, [], ◌∷◌, refl, ap, arith, Decides, Kind, spaced, spaced_counts, spaced_flags, chosen_text, line, count_line, amount_line, kind_word, Judged}
+use Rattle.report_compare.proofs.Common.{◌≡◌, ℕ, ℤ, Bool, List, [], ◌∷◌, refl, ap, arith, Decides, Kind, spaced}
+use Rattle.report_compare.proofs.Common.{spaced_counts, spaced_flags, chosen_text, line, count_line, amount_line}
+use Rattle.report_compare.proofs.Common.{kind_word, Judged}
 use Rattle.uc_model.specs.declared.kinds.Kind.TheVariants as kinds
 use Rattle.report_compare.proofs.Comparing.{judged}
-use Rattle.report_compare.proofs.OneLine.{line_told, count_told, amount_told, choice_told, amounts_told, counts_told, flags_told, Titled, title_text}
+use Rattle.report_compare.proofs.OneLine.{line_told, count_told, amount_told, choice_told, amounts_told, counts_told}
+use Rattle.report_compare.proofs.OneLine.{flags_told, Titled, title_text}
 
-pub count_judged : (word : List ℕ) (b : Bool) (m n : ℕ) → Decides b (m ≡ n) → Judged b (count_line word m) (count_line word n)
+pub count_judged : (word : List ℕ) (b : Bool) (m n : ℕ) → Decides b (m ≡ n) →
+    Judged b (count_line word m) (count_line word n)
 count_judged word b m n h = judged (count_line word) (λ law x y e. count_told law x y (line_told word _ _ e)) b m n h
 
-pub amount_judged : (word : List ℕ) (b : Bool) (x y : ℤ) → Decides b (x ≡ y) → Judged b (amount_line word x) (amount_line word y)
+pub amount_judged : (word : List ℕ) (b : Bool) (x y : ℤ) → Decides b (x ≡ y) →
+    Judged b (amount_line word x) (amount_line word y)
 amount_judged word b x y h = judged (amount_line word) (λ law x y e. amount_told law x y (line_told word _ _ e)) b x y h
 
-pub amounts_judged : (word : List ℕ) (b : Bool) (xs ys : List ℤ) → Decides b (xs ≡ ys) → Judged b (line word (spaced xs)) (line word (spaced ys))
-amounts_judged word b xs ys h = judged (λ (zs : List ℤ). line word (spaced zs)) (λ law x y e. amounts_told law x y (line_told word _ _ e)) b xs ys h
+pub amounts_judged : (word : List ℕ) (b : Bool) (xs ys : List ℤ) → Decides b (xs ≡ ys) →
+    Judged b (line word (spaced xs)) (line word (spaced ys))
+amounts_judged word b xs ys h =
+    judged (λ (zs : List ℤ). line word (spaced zs)) (λ law x y e. amounts_told law x y (line_told word _ _ e)) b xs ys h
 
-pub counts_judged : (word : List ℕ) (b : Bool) (xs ys : List ℕ) → Decides b (xs ≡ ys) → Judged b (line word (spaced_counts xs)) (line word (spaced_counts ys))
-counts_judged word b xs ys h = judged (λ (zs : List ℕ). line word (spaced_counts zs)) (λ law x y e. counts_told law x y (line_told word _ _ e)) b xs ys h
+pub counts_judged : (word : List ℕ) (b : Bool) (xs ys : List ℕ) → Decides b (xs ≡ ys) →
+    Judged b (line word (spaced_counts xs)) (line word (spaced_counts ys))
+counts_judged word b xs ys h = judged (λ (zs : List ℕ). line word (spaced_counts zs))
+    (λ law x y e. counts_told law x y (line_told word _ _ e)) b xs ys h
 
-pub flags_judged : (word : List ℕ) (b : Bool) (xs ys : List Bool) → Decides b (xs ≡ ys) → Judged b (line word (spaced_flags xs)) (line word (spaced_flags ys))
-flags_judged word b xs ys h = judged (λ (zs : List Bool). line word (spaced_flags zs)) (λ law x y e. flags_told law x y (line_told word _ _ e)) b xs ys h
+pub flags_judged : (word : List ℕ) (b : Bool) (xs ys : List Bool) → Decides b (xs ≡ ys) →
+    Judged b (line word (spaced_flags xs)) (line word (spaced_flags ys))
+flags_judged word b xs ys h = judged (λ (zs : List Bool). line word (spaced_flags zs))
+    (λ law x y e. flags_told law x y (line_told word _ _ e)) b xs ys h
 
-pub choice_judged : (b : Bool) (m n : ℕ) (x y : ℤ) → Decides b ((m ≡ n) × (x ≡ y)) → Judged b (chosen_text m x) (chosen_text n y)
+pub choice_judged : (b : Bool) (m n : ℕ) (x y : ℤ) → Decides b ((m ≡ n) × (x ≡ y)) →
+    Judged b (chosen_text m x) (chosen_text n y)
 choice_judged b m n x y h =
     judged (λ (c : ℕ × ℤ). chosen_text c.0 c.1) choice_told b (m, x) (n, y) (
       λ is. let both = h.0 is in λ i. (both.0 i, both.1 i),

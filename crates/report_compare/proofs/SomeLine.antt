@@ -1,5 +1,8 @@
 -- Two texts that differ have a first line that does.
-use Rattle.report_compare.proofs.Common.{◌≡◌, ℕ, ◌+◌, ◌⊎◌, inl, inr, List, [], ◌∷◌, ◌++◌, length, length-append, refl, sym, ap, ◌∙◌, subst, arith, append_assoc, eqb_tells, concat, Market, Schedule, Report, report_text, report_lines, TextDeterminesReport, RightReportHasForm, IsRightReport, IsReport, DiffersAt, IsLine, AreLines, line_feeds}
+use Rattle.report_compare.proofs.Common.{◌≡◌, ℕ, ◌+◌, ◌⊎◌, inl, inr, List, [], ◌∷◌, ◌++◌, length, length-append, refl}
+use Rattle.report_compare.proofs.Common.{sym, ap, ◌∙◌, subst, arith, append_assoc, eqb_tells, concat, Market, Schedule}
+use Rattle.report_compare.proofs.Common.{Report, report_text, report_lines, TextDeterminesReport, RightReportHasForm}
+use Rattle.report_compare.proofs.Common.{IsRightReport, IsReport, DiffersAt, IsLine, AreLines, line_feeds}
 use Rattle.uc_model.specs.Systems.{IsFeasiblePlan}
 use Rattle.right_report.specs.Existence.{RightReportsExist}
 use Rattle.report_compare.specs.Right.{DiffersFromRight, SomeDifference}

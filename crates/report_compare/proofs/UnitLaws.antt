@@ -1,16 +1,23 @@
 -- The title and the lines of the unit of a number.
-use Rattle.report_compare.proofs.Common.{◌≡◌, ℕ, zero, suc, ◌+◌, ◌<◌, ◌≤◌, Some, List, [], ◌∷◌, ◌++◌, map, drop, length, sym, ap, ◌∙◌, subst, refl, arith, length-append, slice_get, slice_index_or, AllZip, length-map, none-some, slice_get_read, append_assoc, AnyUnit, Thermal, Flat, Bid, kind_of, units, unit_names, NamedThermalUnit, NamedRenewableUnit, NamedBidUnit, Market, unit_count, thermal_names, renewable_names, bid_names, Kind, Title, titles_of, titles}
+use Rattle.report_compare.proofs.Common.{◌≡◌, ℕ, zero, suc, ◌+◌, ◌<◌, ◌≤◌, Some, List, [], ◌∷◌, ◌++◌, map, drop, length}
+use Rattle.report_compare.proofs.Common.{sym, ap, ◌∙◌, subst, refl, arith, length-append, slice_get, slice_index_or}
+use Rattle.report_compare.proofs.Common.{AllZip, length-map, none-some, slice_get_read, append_assoc, AnyUnit, Thermal}
+use Rattle.report_compare.proofs.Common.{Flat, Bid, kind_of, units, unit_names, NamedThermalUnit, NamedRenewableUnit}
+use Rattle.report_compare.proofs.Common.{NamedBidUnit, Market, unit_count, thermal_names, renewable_names, bid_names}
+use Rattle.report_compare.proofs.Common.{Kind, Title, titles_of, titles}
 use Rattle.uc_model.specs.declared.kinds.Kind.TheVariants as kinds
 
 pub same_item : {X : Type 0} → (x y : X) → Some x ≡ Some y → x ≡ y
 same_item x y e = cc
 
-pub map_item : {X Y : Type 0} → (f : X → Y) (xs : List X) (k : ℕ) (x : X) → slice_get xs k ≡ Some x → slice_get (map f xs) k ≡ Some (f x)
+pub map_item : {X Y : Type 0} → (f : X → Y) (xs : List X) (k : ℕ) (x : X) → slice_get xs k ≡ Some x →
+    slice_get (map f xs) k ≡ Some (f x)
 map_item f [] k x e = absurd (none-some x e)
 map_item f (y ∷ xs) zero x e = ap (λ z. Some (f z)) (same_item y x e)
 map_item f (y ∷ xs) (suc k) x e = map_item f xs k x e
 
-pub zip_at : {A B : Type 0} (Q : A → B → Type 0) (us : List A) (ys : List B) (k : ℕ) (u : A) (d : B) → AllZip Q us ys → slice_get us k ≡ Some u → Q u (slice_index_or ys k d)
+pub zip_at : {A B : Type 0} (Q : A → B → Type 0) (us : List A) (ys : List B) (k : ℕ) (u : A) (d : B) → AllZip Q us ys →
+    slice_get us k ≡ Some u → Q u (slice_index_or ys k d)
 zip_at Q [] ys k u d h e = absurd (none-some u e)
 zip_at Q (x ∷ us) [] k u d h e = absurd h
 zip_at Q (x ∷ us) (y ∷ ys) zero u d h e = subst (λ z. Q z y) (same_item x u e) h.0
@@ -19,7 +26,8 @@ zip_at Q (x ∷ us) (y ∷ ys) (suc k) u d h e = zip_at Q us ys k u d h.1 e
 pub drop_item : {X : Type 0} → (xs : List X) (k : ℕ) (x : X) → slice_get xs k ≡ Some x → drop k xs ≡ x ∷ drop (k + 1) xs
 drop_item [] k x e = absurd (none-some x e)
 drop_item (y ∷ xs) zero x e = ap (λ z. z ∷ xs) (same_item y x e)
-drop_item (y ∷ xs) (suc k) x e = let n : suc k + 1 ≡ suc (k + 1) = omega arith in drop_item xs k x e ∙ ap (λ (i : ℕ). x ∷ drop i (y ∷ xs)) (sym n)
+drop_item (y ∷ xs) (suc k) x e = let n : suc k + 1 ≡ suc (k + 1) = omega arith in
+    drop_item xs k x e ∙ ap (λ (i : ℕ). x ∷ drop i (y ∷ xs)) (sym n)
 
 pub drop_all : {X : Type 0} → (xs : List X) (k : ℕ) → length xs ≤ k → drop k xs ≡ []
 drop_all [] zero h = refl
@@ -28,7 +36,8 @@ drop_all (x ∷ xs) zero h = absurd (omega (arith, h))
 drop_all (x ∷ xs) (suc k) h = drop_all xs k (omega (arith, h))
 
 -- the item that indexing gave
-pub read_item : {X Y : Type 0} → (f : X → Y) (xs : List X) (k : ℕ) (x : X) → k < length xs → x ≡ slice_index_or xs k x → slice_get (map f xs) k ≡ Some (f x)
+pub read_item : {X Y : Type 0} → (f : X → Y) (xs : List X) (k : ℕ) (x : X) → k < length xs → x ≡ slice_index_or xs k x →
+    slice_get (map f xs) k ≡ Some (f x)
 read_item f xs k x h e = map_item f xs k x (slice_get_read xs (length xs) k x refl h e)
 
 -- ---- titles

@@ -1,5 +1,8 @@
 -- A number is read back from its digits, and the digits are those that std writes.
-use Rattle.report_form.proofs.Common.{◌≡◌, ℕ, zero, suc, ◌+◌, ◌-◌, ◌*◌, ◌<◌, ◌≤◌, ◌^◌, ◌/◌, ◌%◌, ℤ, pos, negsuc, Bool, true, false, cond, inl, inr, nat_lt, List, [], ◌∷◌, ◌++◌, refl, sym, ap, ◌∙◌, subst, arith, decimal, Fits, FitsSigned, w32, w64, w128, nat_tests, digits_up_to, numeral, signed_numeral}
+use Rattle.report_form.proofs.Common.{◌≡◌, ℕ, zero, suc, ◌+◌, ◌-◌, ◌*◌, ◌<◌, ◌≤◌, ◌^◌, ◌/◌, ◌%◌, ℤ, pos, negsuc, Bool}
+use Rattle.report_form.proofs.Common.{true, false, cond, inl, inr, nat_lt, List, [], ◌∷◌, ◌++◌, refl, sym, ap, ◌∙◌}
+use Rattle.report_form.proofs.Common.{subst, arith, decimal, Fits, FitsSigned, w32, w64, w128, nat_tests, digits_up_to}
+use Rattle.report_form.proofs.Common.{numeral, signed_numeral}
 use Rattle.std.specs.Fmt.{signed_decimal}
 use Rattle.std.proofs.lemmas.Bool.{cases_lt}
 use Rattle.std.proofs.lemmas.Fmt.{decimal_by_steps_wide}
@@ -11,10 +14,12 @@ large : (n : ℕ) → 10 ≤ n → nat_lt n 10 ≡ false
 large n h = grind (arith, nat_tests)
 
 one_digit : (most n : ℕ) → n < 10 → digits_up_to (suc most) n ≡ (48 + n) ∷ []
-one_digit most n h = ap (λ (b : Bool). cond b ((48 + n) ∷ []) (digits_up_to most (n / 10) ++ (48 + n % 10) ∷ [])) (small n h)
+one_digit most n h = ap (λ (b : Bool). cond b ((48 + n) ∷ []) (digits_up_to most (n / 10) ++ (48 + n % 10) ∷ []))
+    (small n h)
 
 more_digits : (most n : ℕ) → 10 ≤ n → digits_up_to (suc most) n ≡ digits_up_to most (n / 10) ++ (48 + n % 10) ∷ []
-more_digits most n h = ap (λ (b : Bool). cond b ((48 + n) ∷ []) (digits_up_to most (n / 10) ++ (48 + n % 10) ∷ [])) (large n h)
+more_digits most n h = ap (λ (b : Bool). cond b ((48 + n) ∷ []) (digits_up_to most (n / 10) ++ (48 + n % 10) ∷ []))
+    (large n h)
 
 -- ---- digits
 
@@ -31,7 +36,8 @@ digits_are zero n = tt
 digits_are (suc most) n =
     elim (cases_lt n 10) [
       | inl low ↦ subst AreDigits (sym (one_digit most n low)) (omega arith, tt)
-      | inr high ↦ subst AreDigits (sym (more_digits most n high)) (digits_push (digits_up_to most (n / 10)) (48 + n % 10) (digits_are most (n / 10)) (omega arith))
+      | inr high ↦ subst AreDigits (sym (more_digits most n high))
+          (digits_push (digits_up_to most (n / 10)) (48 + n % 10) (digits_are most (n / 10)) (omega arith))
     ]
 
 pub numeral_digits : (n : ℕ) → AreDigits (numeral n)
@@ -73,14 +79,17 @@ enough (suc j) zero n p q = absurd (omega arith)
 enough (suc j) (suc k) n p q =
     elim (cases_lt n 10) [
       | inl low ↦ one_digit j n low ∙ sym (one_digit k n low)
-      | inr high ↦ more_digits j n high ∙ ap (λ (ds : List ℕ). ds ++ (48 + n % 10) ∷ []) (enough j k (n / 10) (omega arith) (omega arith)) ∙ sym (more_digits k n high)
+      | inr high ↦ more_digits j n high ∙ ap (λ (ds : List ℕ). ds ++ (48 + n % 10) ∷ [])
+          (enough j k (n / 10) (omega arith) (omega arith)) ∙ sym (more_digits k n high)
     ]
 
 decimal_is : (n : ℕ) → n < 10 ^ 64 → decimal n ≡ numeral n
 unfolding numeral
 decimal_is n h =
-    decimal_by_steps_wide (λ (k : ℕ) (ds : List ℕ). ds ≡ digits_up_to (suc k) k) (λ k low. sym (one_digit k k low)) (λ k ds high e.
-    ap (λ (cs : List ℕ). cs ++ (48 + k % 10) ∷ []) (e ∙ enough (suc (k / 10)) k (k / 10) (omega arith) (omega arith)) ∙ sym (more_digits k k high)) n h
+    decimal_by_steps_wide (λ (k : ℕ) (ds : List ℕ). ds ≡ digits_up_to (suc k) k) (λ k low. sym (one_digit k k low))
+    (λ k ds high e.
+    ap (λ (cs : List ℕ). cs ++ (48 + k % 10) ∷ []) (e ∙ enough (suc (k / 10)) k (k / 10) (omega arith) (omega arith)) ∙
+    sym (more_digits k k high)) n h
 
 pub count_is : (n : ℕ) → Fits w32 n → decimal n ≡ numeral n
 count_is n h = decimal_is n (omega arith)

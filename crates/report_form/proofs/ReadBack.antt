@@ -1,5 +1,8 @@
 -- A text is read back from the left: a part of it ends at a byte that the part doesn't hold.
-use Rattle.report_form.proofs.Common.{◌≡◌, ℕ, suc, ◌<◌, ◌≤◌, ◌/◌, ◌%◌, ℤ, pos, negsuc, Bool, true, false, nat_lt, ◌==◌, List, [], ◌∷◌, ◌++◌, refl, sym, ap, ◌∙◌, subst, arith, append_assoc, flat_map, nat_tests, append_cancel_left, numeral, signed_numeral, hex_of, stands_as_is, escaped, spaced_flags}
+use Rattle.report_form.proofs.Common.{◌≡◌, ℕ, suc, ◌<◌, ◌≤◌, ◌/◌, ◌%◌, ℤ, pos, negsuc, Bool, true, false, nat_lt, ◌==◌}
+use Rattle.report_form.proofs.Common.{List, [], ◌∷◌, ◌++◌, refl, sym, ap, ◌∙◌, subst, arith, append_assoc, flat_map}
+use Rattle.report_form.proofs.Common.{nat_tests, append_cancel_left, numeral, signed_numeral, hex_of, stands_as_is}
+use Rattle.report_form.proofs.Common.{escaped, spaced_flags}
 use Rattle.report_form.proofs.NumeralLaws.{AreDigits, numeral_digits, numeral_same}
 use Rattle.report_form.proofs.NameLemmas.{escaped-plain, escaped-control, escaped-behind}
 
@@ -51,7 +54,8 @@ no_sign m n u v p q e =
     let low = d.0 in
     omega arith
 
-pub read_amount : (y z : ℤ) (u v : List ℕ) → Ends u → Ends v → signed_numeral y ++ u ≡ signed_numeral z ++ v → (y ≡ z) × (u ≡ v)
+pub read_amount : (y z : ℤ) (u v : List ℕ) → Ends u → Ends v → signed_numeral y ++ u ≡ signed_numeral z ++ v →
+    (y ≡ z) × (u ≡ v)
 read_amount (pos m) (pos n) u v p q e = let r = read_count m n u v p q e in (ap pos r.0, r.1)
 read_amount (pos m) (negsuc n) u v p q e = absurd (no_sign m (suc n) u v p q e)
 read_amount (negsuc m) (pos n) u v p q e = absurd (no_sign n (suc m) v u q p (sym e))
@@ -85,7 +89,8 @@ read_list f reads (x ∷ xs) (y ∷ ys) u v e =
     let rest = read_list f reads xs ys u v first.1 in
     (ap (λ z. z ∷ xs) first.0 ∙ ap (λ zs. y ∷ zs) rest.0, rest.1)
 
-pub read_flags : (xs ys : List Bool) (u v : List ℕ) → spaced_flags xs ++ 10 ∷ u ≡ spaced_flags ys ++ 10 ∷ v → (xs ≡ ys) × (u ≡ v)
+pub read_flags : (xs ys : List Bool) (u v : List ℕ) → spaced_flags xs ++ 10 ∷ u ≡ spaced_flags ys ++ 10 ∷ v →
+    (xs ≡ ys) × (u ≡ v)
 read_flags [] [] u v e = let tail : u ≡ v = cc in (refl, tail)
 read_flags [] (true ∷ ys) u v e = absurd (bytes_apart 10 32 _ _ refl e)
 read_flags [] (false ∷ ys) u v e = absurd (bytes_apart 10 32 _ _ refl e)
@@ -114,7 +119,11 @@ way : (b : ℕ) → Way b
 way b =
     elim (stands_as_is b) as (λ s. stands_as_is b ≡ s → Way b) [
       | true ↦ λ h. Plain h
-      | false ↦ λ h. elim (nat_lt b 32) as (λ s. nat_lt b 32 ≡ s → Way b) [ true ↦ λ l. Control h (grind (arith, nat_tests)) | false ↦ λ l. Behind h (grind (arith, nat_tests)) ] refl
+      | false ↦ λ h. elim (nat_lt b 32) as (λ s. nat_lt b 32 ≡ s → Way b) [
+        | true ↦
+            λ l. Control h (grind (arith, nat_tests))
+        | false ↦ λ l. Behind h (grind (arith, nat_tests))
+      ] refl
     ] refl
 
 not_plain : (b c : ℕ) → stands_as_is b ≡ true → stands_as_is c ≡ false → b ≡ c → ⊥
@@ -123,7 +132,9 @@ not_plain b c h k e = let both : true ≡ false = sym h ∙ ap stands_as_is e �
 hex_same : (j k : ℕ) → j < 16 → k < 16 → hex_of j ≡ hex_of k → j ≡ k
 hex_same j k p q e = grind (arith, nat_tests)
 
-read_control : (a b : ℕ) (u v : List ℕ) → a < 32 → b < 32 → 92 ∷ 117 ∷ 48 ∷ 48 ∷ hex_of (a / 16) ∷ hex_of (a % 16) ∷ u ≡ 92 ∷ 117 ∷ 48 ∷ 48 ∷ hex_of (b / 16) ∷ hex_of (b % 16) ∷ v → (a ≡ b) × (u ≡ v)
+read_control : (a b : ℕ) (u v : List ℕ) → a < 32 → b < 32 →
+    92 ∷ 117 ∷ 48 ∷ 48 ∷ hex_of (a / 16) ∷ hex_of (a % 16) ∷ u ≡ 92 ∷ 117 ∷ 48 ∷ 48 ∷ hex_of (b / 16) ∷ hex_of
+    (b % 16) ∷ v → (a ≡ b) × (u ≡ v)
 read_control a b u v p q e =
     let high : hex_of (a / 16) ≡ hex_of (b / 16) = cc in
     let low : hex_of (a % 16) ≡ hex_of (b % 16) = cc in
@@ -159,13 +170,17 @@ read_ways a b u v (Behind p k) (Plain q) e =
     let head : b ≡ 92 = cc in
     absurd (not_plain b 92 q refl head)
 read_ways a b u v (Control p k) (Control q l) e =
-    read_control a b u v k l (sym (ap (λ t. t ++ u) (escaped-control a p k)) ∙ e ∙ ap (λ t. t ++ v) (escaped-control b q l))
+    read_control a b u v k l (sym (ap (λ t. t ++ u) (escaped-control a p k)) ∙ e ∙
+    ap (λ t. t ++ v) (escaped-control b q l))
 read_ways a b u v (Control p k) (Behind q l) e =
-    absurd (no_letter b _ v q (sym (ap (λ t. t ++ u) (escaped-control a p k)) ∙ e ∙ ap (λ t. t ++ v) (escaped-behind b q l)))
+    absurd (no_letter b _ v q (sym (ap (λ t. t ++ u) (escaped-control a p k)) ∙ e ∙
+    ap (λ t. t ++ v) (escaped-behind b q l)))
 read_ways a b u v (Behind p k) (Control q l) e =
-    absurd (no_letter a _ u p (sym (ap (λ t. t ++ v) (escaped-control b q l)) ∙ sym e ∙ ap (λ t. t ++ u) (escaped-behind a p k)))
+    absurd (no_letter a _ u p (sym (ap (λ t. t ++ v) (escaped-control b q l)) ∙ sym e ∙
+    ap (λ t. t ++ u) (escaped-behind a p k)))
 read_ways a b u v (Behind p k) (Behind q l) e =
-    let texts : 92 ∷ a ∷ u ≡ 92 ∷ b ∷ v = sym (ap (λ t. t ++ u) (escaped-behind a p k)) ∙ e ∙ ap (λ t. t ++ v) (escaped-behind b q l) in
+    let texts : 92 ∷ a ∷ u ≡ 92 ∷ b ∷ v = sym (ap (λ t. t ++ u) (escaped-behind a p k)) ∙ e ∙
+    ap (λ t. t ++ v) (escaped-behind b q l) in
     let head : a ≡ b = cc in
     let tail : u ≡ v = cc in
     (head, tail)
@@ -180,36 +195,47 @@ no_quote a u v (Control p k) e = bytes_apart 92 34 _ _ refl (sym (ap (λ t. t ++
 no_quote a u v (Behind p k) e = bytes_apart 92 34 _ _ refl (sym (ap (λ t. t ++ u) (escaped-behind a p k)) ∙ e)
 
 -- a name to its closing quote
-pub read_name : (xs ys u v : List ℕ) → flat_map escaped xs ++ 34 ∷ u ≡ flat_map escaped ys ++ 34 ∷ v → (xs ≡ ys) × (u ≡ v)
+pub read_name : (xs ys u v : List ℕ) → flat_map escaped xs ++ 34 ∷ u ≡ flat_map escaped ys ++ 34 ∷ v →
+    (xs ≡ ys) × (u ≡ v)
 read_name [] [] u v e = let tail : u ≡ v = cc in (refl, tail)
 read_name [] (y ∷ ys) u v e =
-    absurd (no_quote y (flat_map escaped ys ++ 34 ∷ v) u (way y) (sym (append_assoc (escaped y) (flat_map escaped ys) (34 ∷ v)) ∙ sym e))
+    absurd (no_quote y (flat_map escaped ys ++ 34 ∷ v) u (way y)
+    (sym (append_assoc (escaped y) (flat_map escaped ys) (34 ∷ v)) ∙ sym e))
 read_name (x ∷ xs) [] u v e =
-    absurd (no_quote x (flat_map escaped xs ++ 34 ∷ u) v (way x) (sym (append_assoc (escaped x) (flat_map escaped xs) (34 ∷ u)) ∙ e))
+    absurd (no_quote x (flat_map escaped xs ++ 34 ∷ u) v (way x)
+    (sym (append_assoc (escaped x) (flat_map escaped xs) (34 ∷ u)) ∙ e))
 read_name (x ∷ xs) (y ∷ ys) u v e =
-    let nested = sym (append_assoc (escaped x) (flat_map escaped xs) (34 ∷ u)) ∙ e ∙ append_assoc (escaped y) (flat_map escaped ys) (34 ∷ v) in
+    let nested = sym (append_assoc (escaped x) (flat_map escaped xs) (34 ∷ u)) ∙ e ∙
+    append_assoc (escaped y) (flat_map escaped ys) (34 ∷ v) in
     let first = read_ways x y _ _ (way x) (way y) nested in
     let rest = read_name xs ys u v first.1 in
     (ap (λ z. z ∷ xs) first.0 ∙ ap (λ zs. y ∷ zs) rest.0, rest.1)
 
 -- ---- the same behind a word
 
-pub after_count : (p : List ℕ) (m n : ℕ) (u v : List ℕ) → p ++ (numeral m ++ u) ≡ p ++ (numeral n ++ v) → Ends u → Ends v → (m ≡ n) × (u ≡ v)
+pub after_count : (p : List ℕ) (m n : ℕ) (u v : List ℕ) → p ++ (numeral m ++ u) ≡ p ++ (numeral n ++ v) → Ends u →
+    Ends v → (m ≡ n) × (u ≡ v)
 after_count p m n u v e a b = read_count m n u v a b (append_cancel_left p (numeral m ++ u) (numeral n ++ v) e)
 
-pub after_amount : (p : List ℕ) (y z : ℤ) (u v : List ℕ) → p ++ (signed_numeral y ++ u) ≡ p ++ (signed_numeral z ++ v) → Ends u → Ends v → (y ≡ z) × (u ≡ v)
-after_amount p y z u v e a b = read_amount y z u v a b (append_cancel_left p (signed_numeral y ++ u) (signed_numeral z ++ v) e)
+pub after_amount : (p : List ℕ) (y z : ℤ) (u v : List ℕ) → p ++ (signed_numeral y ++ u) ≡ p ++ (signed_numeral z ++ v) →
+    Ends u → Ends v → (y ≡ z) × (u ≡ v)
+after_amount p y z u v e a b =
+    read_amount y z u v a b (append_cancel_left p (signed_numeral y ++ u) (signed_numeral z ++ v) e)
 
 pub after_amounts : (p : List ℕ) (xs ys : List ℤ) (u v : List ℕ)
-    → p ++ (flat_map (λ x. 32 ∷ signed_numeral x) xs ++ 10 ∷ u) ≡ p ++ (flat_map (λ x. 32 ∷ signed_numeral x) ys ++ 10 ∷ v) → (xs ≡ ys) × (u ≡ v)
+    → p ++ (flat_map (λ x. 32 ∷ signed_numeral x) xs ++ 10 ∷ u) ≡ p
+    ++ (flat_map (λ x. 32 ∷ signed_numeral x) ys ++ 10 ∷ v) → (xs ≡ ys) × (u ≡ v)
 after_amounts p xs ys u v e = read_list signed_numeral read_amount xs ys u v (append_cancel_left p _ _ e)
 
 pub after_counts : (p : List ℕ) (xs ys : List ℕ) (u v : List ℕ)
-    → p ++ (flat_map (λ n. 32 ∷ numeral n) xs ++ 10 ∷ u) ≡ p ++ (flat_map (λ n. 32 ∷ numeral n) ys ++ 10 ∷ v) → (xs ≡ ys) × (u ≡ v)
+    → p ++ (flat_map (λ n. 32 ∷ numeral n) xs ++ 10 ∷ u) ≡ p ++ (flat_map (λ n. 32 ∷ numeral n) ys ++ 10 ∷ v) →
+    (xs ≡ ys) × (u ≡ v)
 after_counts p xs ys u v e = read_list numeral read_count xs ys u v (append_cancel_left p _ _ e)
 
-pub after_flags : (p : List ℕ) (xs ys : List Bool) (u v : List ℕ) → p ++ (spaced_flags xs ++ 10 ∷ u) ≡ p ++ (spaced_flags ys ++ 10 ∷ v) → (xs ≡ ys) × (u ≡ v)
+pub after_flags : (p : List ℕ) (xs ys : List Bool) (u v : List ℕ) →
+    p ++ (spaced_flags xs ++ 10 ∷ u) ≡ p ++ (spaced_flags ys ++ 10 ∷ v) → (xs ≡ ys) × (u ≡ v)
 after_flags p xs ys u v e = read_flags xs ys u v (append_cancel_left p _ _ e)
 
-pub after_name : (p xs ys u v : List ℕ) → p ++ (flat_map escaped xs ++ 34 ∷ u) ≡ p ++ (flat_map escaped ys ++ 34 ∷ v) → (xs ≡ ys) × (u ≡ v)
+pub after_name : (p xs ys u v : List ℕ) → p ++ (flat_map escaped xs ++ 34 ∷ u) ≡ p ++ (flat_map escaped ys ++ 34 ∷ v) →
+    (xs ≡ ys) × (u ≡ v)
 after_name p xs ys u v e = read_name xs ys u v (append_cancel_left p _ _ e)

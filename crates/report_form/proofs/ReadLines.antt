@@ -1,7 +1,11 @@
 -- The blocks of a report, read back from its text.
-use Rattle.report_form.proofs.Common.{◌≡◌, ℕ, suc, ℤ, true, List, [], ◌∷◌, ◌++◌, length, replicate, get_or, drop, codes, refl, sym, ap, ◌∙◌, arith, append_assoc, All, flat_map, append_cancel_left, Proposal, UnitLine, head_text, row_text, rows_text, chosen_text, thermal_text, flat_text, renewable_text, bid_text, foot_text, IsFlatLine}
+use Rattle.report_form.proofs.Common.{◌≡◌, ℕ, suc, ℤ, true, List, [], ◌∷◌, ◌++◌, length, replicate, get_or, drop, codes}
+use Rattle.report_form.proofs.Common.{refl, sym, ap, ◌∙◌, arith, append_assoc, All, flat_map, append_cancel_left}
+use Rattle.report_form.proofs.Common.{Proposal, UnitLine, head_text, row_text, rows_text, chosen_text, thermal_text}
+use Rattle.report_form.proofs.Common.{flat_text, renewable_text, bid_text, foot_text, IsFlatLine}
 use Rattle.std.proofs.lemmas.List.Elements.{All-head, All-tail}
-use Rattle.report_form.proofs.ReadBack.{bytes_apart, after_count, after_amount, after_amounts, after_counts, after_flags, after_name}
+use Rattle.report_form.proofs.ReadBack.{bytes_apart, after_count, after_amount, after_amounts, after_counts}
+use Rattle.report_form.proofs.ReadBack.{after_flags, after_name}
 
 -- the numbers of the first lines
 pub record AreHeads (p g b a n : ℕ) (c : ℤ) (q h d e m : ℕ) (k : ℤ) : Type 0 where
@@ -12,7 +16,8 @@ pub record AreHeads (p g b a n : ℕ) (c : ℤ) (q h d e m : ℕ) (k : ℤ) : Ty
   pub cost : c ≡ k
   pub proposals : n ≡ m
 
-pub read_head : (p g b a n : ℕ) (c : ℤ) (q h d e m : ℕ) (k : ℤ) (u v : List ℕ) → head_text p g b a c n ++ u ≡ head_text q h d e k m ++ v → AreHeads p g b a n c q h d e m k × (u ≡ v)
+pub read_head : (p g b a n : ℕ) (c : ℤ) (q h d e m : ℕ) (k : ℤ) (u v : List ℕ) →
+    head_text p g b a c n ++ u ≡ head_text q h d e k m ++ v → AreHeads p g b a n c q h d e m k × (u ≡ v)
 unfolding head_text
 read_head p g b a n c q h d e m k u v same =
     let text = simp append_assoc at same in
@@ -21,8 +26,10 @@ read_head p g b a n c q h d e m k u v same =
     let r2 = after_count (codes "\nbudget ") b d _ _ r1.1 refl refl in
     let r3 = after_count (codes "\nahead ") a e _ _ r2.1 refl refl in
     let r4 = after_amount (codes "\ncost ") c k _ _ r3.1 refl refl in
-    let r5 = after_count (codes "\nproposals ") n m _ _ r4.1 refl refl in
-    (record { periods = r0.0; units = r1.0; budget = r2.0; ahead = r3.0; cost = r4.0; proposals = r5.0 }, append_cancel_left (codes "\n") u v r5.1)
+    let r5 = after_count (codes "\nproposals ") n m _ _ r4.1 refl refl in (
+      record { periods = r0.0; units = r1.0; budget = r2.0; ahead = r3.0; cost = r4.0; proposals = r5.0 },
+      append_cancel_left (codes "\n") u v r5.1,
+    )
 
 -- ---- proposals
 
@@ -35,20 +42,31 @@ read_row n r s u v same =
     let energy = after_amounts (codes "\nenergy") r.prices.energy s.prices.energy _ _ value.1 in
     let reserve = after_amounts (codes "reserve") r.prices.reserve s.prices.reserve _ _ energy.1 in
     let supplied = after_amounts (codes "supplied") r.supply s.supply _ _ reserve.1 in
-    let reserved = after_amounts (codes "reserved") r.reserve s.reserve u v supplied.1 in
-    (λ i. record { prices = record { energy = energy.0 i; reserve = reserve.0 i }; value = value.0 i; supply = supplied.0 i; reserve = reserved.0 i }, reserved.1)
+    let reserved = after_amounts (codes "reserved") r.reserve s.reserve u v supplied.1 in (
+      λ i. record {
+        prices = record { energy = energy.0 i; reserve = reserve.0 i };
+        value = value.0 i;
+        supply =
+            supplied.0 i;
+        reserve = reserved.0 i;
+      },
+      reserved.1,
+    )
 
-pub read_rows : (n : ℕ) (rs ss : List Proposal) (u v : List ℕ) → length rs ≡ length ss → rows_text n rs ++ u ≡ rows_text n ss ++ v → (rs ≡ ss) × (u ≡ v)
+pub read_rows : (n : ℕ) (rs ss : List Proposal) (u v : List ℕ) → length rs ≡ length ss →
+    rows_text n rs ++ u ≡ rows_text n ss ++ v → (rs ≡ ss) × (u ≡ v)
 read_rows n [] [] u v l e = (refl, e)
 read_rows n [] (s ∷ ss) u v l e = absurd (omega arith)
 read_rows n (r ∷ rs) [] u v l e = absurd (omega arith)
 read_rows n (r ∷ rs) (s ∷ ss) u v l e =
-    let nested = sym (append_assoc (row_text n r) (rows_text (suc n) rs) u) ∙ e ∙ append_assoc (row_text n s) (rows_text (suc n) ss) v in
+    let nested = sym (append_assoc (row_text n r) (rows_text (suc n) rs) u) ∙ e ∙
+    append_assoc (row_text n s) (rows_text (suc n) ss) v in
     let first = read_row n r s _ _ nested in
     let rest = read_rows (suc n) rs ss u v (omega arith) first.1 in
     (ap (λ z. z ∷ rs) first.0 ∙ ap (λ zs. s ∷ zs) rest.0, rest.1)
 
-pub read_chosen : (m n : ℕ) (y z : ℤ) (u v : List ℕ) → chosen_text m y ++ u ≡ chosen_text n z ++ v → (m ≡ n) × (y ≡ z) × (u ≡ v)
+pub read_chosen : (m n : ℕ) (y z : ℤ) (u v : List ℕ) → chosen_text m y ++ u ≡ chosen_text n z ++ v →
+    (m ≡ n) × (y ≡ z) × (u ≡ v)
 unfolding chosen_text
 read_chosen m n y z u v same =
     let text = simp append_assoc at same in
@@ -70,7 +88,8 @@ abbrev pub ReadsLine : (UnitLine → Type 0) → (UnitLine → List ℕ) → Typ
 ReadsLine P f = (l m : UnitLine) (u v : List ℕ) → P l → P m → f l ++ u ≡ f m ++ v → (l ≡ m) × (u ≡ v)
 
 pub read_lines : (P : UnitLine → Type 0) (f : UnitLine → List ℕ) (p : List ℕ) → ReadsLine P f → Begins p f
-    → (ls ms : List UnitLine) (u v : List ℕ) → All P ls → All P ms → BeginsOther p u → BeginsOther p v → flat_map f ls ++ u ≡ flat_map f ms ++ v → (ls ≡ ms) × (u ≡ v)
+    → (ls ms : List UnitLine) (u v : List ℕ) → All P ls → All P ms → BeginsOther p u → BeginsOther p v →
+    flat_map f ls ++ u ≡ flat_map f ms ++ v → (ls ≡ ms) × (u ≡ v)
 read_lines P f p reads begins [] [] u v i j a b e = (refl, e)
 read_lines P f p reads begins [] (m ∷ ms) u v i j a b e =
     let first = begins m (flat_map f ms ++ v) in
@@ -106,7 +125,8 @@ read_thermal l m u v i j same =
     )
 
 -- the power of a flat line tells its on flags and its reserve
-flat_same : (l m : UnitLine) → IsFlatLine l → IsFlatLine m → l.name ≡ m.name → l.earned ≡ m.earned → l.scheduled ≡ m.scheduled → l.payment ≡ m.payment → l.response.power ≡ m.response.power → l ≡ m
+flat_same : (l m : UnitLine) → IsFlatLine l → IsFlatLine m → l.name ≡ m.name → l.earned ≡ m.earned →
+    l.scheduled ≡ m.scheduled → l.payment ≡ m.payment → l.response.power ≡ m.response.power → l ≡ m
 flat_same l m h k name earned scheduled payment power =
     let on = h.on ∙ ap (λ (ps : List ℕ). replicate (length ps) true) power ∙ sym k.on in
     let reserve = h.reserve ∙ ap (λ (ps : List ℕ). replicate (length ps) 0) power ∙ sym k.reserve in
@@ -122,7 +142,8 @@ read_flat : (kind : List ℕ) → ReadsLine IsFlatLine (flat_text kind)
 unfolding flat_text
 read_flat kind l m u v i j same =
     let text = simp append_assoc at same in
-    let name = after_name [] l.name m.name _ _ (append_cancel_left (codes "\"") _ _ (append_cancel_left kind _ _ text)) in
+    let name = after_name [] l.name m.name _ _
+    (append_cancel_left (codes "\"") _ _ (append_cancel_left kind _ _ text)) in
     let earned = after_amount (codes " earned ") l.earned m.earned _ _ name.1 refl refl in
     let scheduled = after_amount (codes " scheduled ") l.scheduled m.scheduled _ _ earned.1 refl refl in
     let payment = after_amount (codes " payment ") l.payment m.payment _ _ scheduled.1 refl refl in
@@ -157,16 +178,22 @@ foot_is_no_unit x y z (c ∷ p) begins rest e = let first : 115 ≡ c = cc in om
 pub foot_behind_bids : (x y z : ℤ) → BeginsOther (codes "unit bid ") (foot_text x y z)
 foot_behind_bids x y z = foot_is_no_unit x y z (codes "unit bid ") refl
 
-pub bids_behind_renewables : (bids : List UnitLine) (x y z : ℤ) → BeginsOther (codes "unit renewable ") (flat_map bid_text bids ++ foot_text x y z)
+pub bids_behind_renewables : (bids : List UnitLine) (x y z : ℤ) →
+    BeginsOther (codes "unit renewable ") (flat_map bid_text bids ++ foot_text x y z)
 unfolding flat_text
 bids_behind_renewables [] x y z = foot_is_no_unit x y z (codes "unit renewable ") refl
-bids_behind_renewables (b ∷ bids) x y z = λ rest e. bytes_apart 98 114 _ _ refl (append_cancel_left (codes "unit ") _ _ e)
+bids_behind_renewables (b ∷ bids) x y z =
+    λ rest e. bytes_apart 98 114 _ _ refl (append_cancel_left (codes "unit ") _ _ e)
 
-pub flat_behind_thermal : (renewables bids : List UnitLine) (x y z : ℤ) → BeginsOther (codes "unit thermal ") (flat_map renewable_text renewables ++ (flat_map bid_text bids ++ foot_text x y z))
+pub flat_behind_thermal : (renewables bids : List UnitLine) (x y z : ℤ) →
+    BeginsOther (codes "unit thermal ")
+    (flat_map renewable_text renewables ++ (flat_map bid_text bids ++ foot_text x y z))
 unfolding flat_text
 flat_behind_thermal [] [] x y z = foot_is_no_unit x y z (codes "unit thermal ") refl
-flat_behind_thermal [] (b ∷ bids) x y z = λ rest e. bytes_apart 98 116 _ _ refl (append_cancel_left (codes "unit ") _ _ e)
-flat_behind_thermal (r ∷ renewables) bids x y z = λ rest e. bytes_apart 114 116 _ _ refl (append_cancel_left (codes "unit ") _ _ e)
+flat_behind_thermal [] (b ∷ bids) x y z =
+    λ rest e. bytes_apart 98 116 _ _ refl (append_cancel_left (codes "unit ") _ _ e)
+flat_behind_thermal (r ∷ renewables) bids x y z =
+    λ rest e. bytes_apart 114 116 _ _ refl (append_cancel_left (codes "unit ") _ _ e)
 
 -- ---- the last lines
 

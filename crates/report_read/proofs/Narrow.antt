@@ -1,5 +1,9 @@
 -- A number within narrower limits, and numbers with a sign from those without.
-use Rattle.report_read.proofs.Common.{◌≡◌, ◌≢◌, ℕ, zero, suc, ◌<◌, ◌≤◌, ℤ, pos, negsuc, true, false, cond, nat_le, ◌==◌, ◌&&◌, List, [], ◌∷◌, get_or, Some, None, refl, sym, ap, ◌∙◌, subst, arith, int_le, neg_ℤ, ◌≤ℤ◌, ◌<ℤ◌, le_z_yes, ints, T_from_true, ne_eqb, nat_tests, Found, ◌>>=◌, numeral_at, count_between, count_at, negative, signed_at, integer_between, integer_at}
+use Rattle.report_read.proofs.Common.{◌≡◌, ◌≢◌, ℕ, zero, suc, ◌<◌, ◌≤◌, ℤ, pos, negsuc, true, false, cond, nat_le, ◌==◌}
+use Rattle.report_read.proofs.Common.{◌&&◌, List, [], ◌∷◌, get_or, Some, None, refl, sym, ap, ◌∙◌, subst, arith, int_le}
+use Rattle.report_read.proofs.Common.{neg_ℤ, ◌≤ℤ◌, ◌<ℤ◌, le_z_yes, ints, T_from_true, ne_eqb, nat_tests, Found, ◌>>=◌}
+use Rattle.report_read.proofs.Common.{numeral_at, count_between, count_at, negative, signed_at, integer_between}
+use Rattle.report_read.proofs.Common.{integer_at}
 
 -- ---- without a sign
 
@@ -35,19 +39,23 @@ none_wide wide x e =
       | false ↦ λ t f. grind (arith, nat_tests)
     ] refl (sym (from_zero wide x) ∙ e)
 
-none_by : (least most wide : ℕ) (r : Found ℕ) → most ≤ wide → (r >>= count_between 0 wide) ≡ None → (r >>= count_between least most) ≡ None
+none_by : (least most wide : ℕ) (r : Found ℕ) → most ≤ wide → (r >>= count_between 0 wide) ≡ None →
+    (r >>= count_between least most) ≡ None
 none_by least most wide None h e = refl
 none_by least most wide (Some x) h e = above_most least most x (omega (arith, none_wide wide x e))
 
-some_by : (least most wide : ℕ) (r : Found ℕ) (y : ℕ × List ℕ) → (r >>= count_between 0 wide) ≡ Some y → (r >>= count_between least most) ≡ count_between least most y
+some_by : (least most wide : ℕ) (r : Found ℕ) (y : ℕ × List ℕ) → (r >>= count_between 0 wide) ≡ Some y →
+    (r >>= count_between least most) ≡ count_between least most y
 some_by least most wide None y e = absurd cc
 some_by least most wide (Some x) y e = ap (count_between least most) (found_wide wide x y e).0
 
-pub count_none : (least most wide : ℕ) (bytes : List ℕ) → most ≤ wide → count_at 0 wide bytes ≡ None → count_at least most bytes ≡ None
+pub count_none : (least most wide : ℕ) (bytes : List ℕ) → most ≤ wide → count_at 0 wide bytes ≡ None →
+    count_at least most bytes ≡ None
 unfolding count_at
 count_none least most wide bytes h e = none_by least most wide (numeral_at bytes) h e
 
-pub count_some : (least most wide : ℕ) (bytes : List ℕ) (y : ℕ × List ℕ) → count_at 0 wide bytes ≡ Some y → count_at least most bytes ≡ count_between least most y
+pub count_some : (least most wide : ℕ) (bytes : List ℕ) (y : ℕ × List ℕ) → count_at 0 wide bytes ≡ Some y →
+    count_at least most bytes ≡ count_between least most y
 unfolding count_at
 count_some least most wide bytes y e = some_by least most wide (numeral_at bytes) y e
 
@@ -74,7 +82,8 @@ pub int_below : (least most : ℤ) (x : ℤ × List ℕ) → x.0 <ℤ least → 
 int_below least most x h = rw (int_isnt least x.0 h) refl
 
 pub int_above : (least most : ℤ) (x : ℤ × List ℕ) → most <ℤ x.0 → integer_between least most x ≡ None
-int_above least most x h = rw (int_isnt x.0 most h) (elim (int_le least x.0) as (λ b. cond (b && false) (Some x) None ≡ None) [ true ↦ refl | false ↦ refl ])
+int_above least most x h = rw (int_isnt x.0 most h)
+    (elim (int_le least x.0) as (λ b. cond (b && false) (Some x) None ≡ None) [ true ↦ refl | false ↦ refl ])
 
 pub int_within : (least most : ℤ) (x : ℤ × List ℕ) → least ≤ℤ x.0 → x.0 ≤ℤ most → integer_between least most x ≡ Some x
 int_within least most x p q = rw (int_is least x.0 p, int_is x.0 most q) refl
@@ -86,15 +95,18 @@ int_found least most x y e =
       | false ↦ λ f. absurd cc
     ] e
 
-int_some_by : (low high least most : ℤ) (r : Found ℤ) (y : ℤ × List ℕ) → (r >>= integer_between low high) ≡ Some y → (r >>= integer_between least most) ≡ integer_between least most y
+int_some_by : (low high least most : ℤ) (r : Found ℤ) (y : ℤ × List ℕ) → (r >>= integer_between low high) ≡ Some y →
+    (r >>= integer_between least most) ≡ integer_between least most y
 int_some_by low high least most None y e = absurd cc
 int_some_by low high least most (Some x) y e = ap (integer_between least most) (int_found low high x y e)
 
-pub integer_some : (low high least most : ℤ) (bytes : List ℕ) (y : ℤ × List ℕ) → integer_at low high bytes ≡ Some y → integer_at least most bytes ≡ integer_between least most y
+pub integer_some : (low high least most : ℤ) (bytes : List ℕ) (y : ℤ × List ℕ) → integer_at low high bytes ≡ Some y →
+    integer_at least most bytes ≡ integer_between least most y
 unfolding integer_at
 integer_some low high least most bytes y e = int_some_by low high least most (signed_at bytes) y e
 
-int_none : (low high least most : ℤ) (x : ℤ × List ℕ) → low ≤ℤ least → most ≤ℤ high → integer_between low high x ≡ None → integer_between least most x ≡ None
+int_none : (low high least most : ℤ) (x : ℤ × List ℕ) → low ≤ℤ least → most ≤ℤ high →
+    integer_between low high x ≡ None → integer_between least most x ≡ None
 int_none low high least most x p q e =
     elim (int_le least x.0) as (λ t. int_le least x.0 ≡ t → cond (t && int_le x.0 most) (Some x) None ≡ None) [
       | false ↦ λ t. refl
@@ -108,11 +120,13 @@ int_none low high least most x p q e =
       ] refl
     ] refl
 
-int_none_by : (low high least most : ℤ) (r : Found ℤ) → low ≤ℤ least → most ≤ℤ high → (r >>= integer_between low high) ≡ None → (r >>= integer_between least most) ≡ None
+int_none_by : (low high least most : ℤ) (r : Found ℤ) → low ≤ℤ least → most ≤ℤ high →
+    (r >>= integer_between low high) ≡ None → (r >>= integer_between least most) ≡ None
 int_none_by low high least most None p q e = refl
 int_none_by low high least most (Some x) p q e = int_none low high least most x p q e
 
-pub integer_none : (low high least most : ℤ) (bytes : List ℕ) → low ≤ℤ least → most ≤ℤ high → integer_at low high bytes ≡ None → integer_at least most bytes ≡ None
+pub integer_none : (low high least most : ℤ) (bytes : List ℕ) → low ≤ℤ least → most ≤ℤ high →
+    integer_at low high bytes ≡ None → integer_at least most bytes ≡ None
 unfolding integer_at
 integer_none low high least most bytes p q e = int_none_by low high least most (signed_at bytes) p q e
 
@@ -121,56 +135,76 @@ integer_none low high least most bytes p q e = int_none_by low high least most (
 not_zero : (n : ℕ) → (suc n == 0) ≡ false
 not_zero n = ne_eqb (suc n) 0 (λ e. omega arith)
 
-minus_by : (wide : ℕ) (high : ℤ) (r : Found ℕ) → (r >>= count_between 0 wide) ≡ None → ((r >>= negative) >>= integer_between (neg_ℤ (pos wide)) high) ≡ None
+minus_by : (wide : ℕ) (high : ℤ) (r : Found ℕ) → (r >>= count_between 0 wide) ≡ None →
+    ((r >>= negative) >>= integer_between (neg_ℤ (pos wide)) high) ≡ None
 minus_by wide high None e = refl
 minus_by wide high (Some (zero, rest)) e = refl
 minus_by wide high (Some (suc n, rest)) e =
     let large = none_wide wide (suc n, rest) e in
     rw (not_zero n) (int_below (neg_ℤ (pos wide)) high (negsuc n, rest) (omega (arith, ints, large)))
 
-pub minus_none : (wide : ℕ) (high : ℤ) (bytes : List ℕ) → count_at 0 wide bytes ≡ None → integer_at (neg_ℤ (pos wide)) high (45 ∷ bytes) ≡ None
+pub minus_none : (wide : ℕ) (high : ℤ) (bytes : List ℕ) → count_at 0 wide bytes ≡ None →
+    integer_at (neg_ℤ (pos wide)) high (45 ∷ bytes) ≡ None
 unfolding count_at integer_at signed_at
 minus_none wide high bytes e = minus_by wide high (numeral_at bytes) e
 
-minus_some_by : (wide : ℕ) (high : ℤ) (r : Found ℕ) (y : ℕ × List ℕ) → (r >>= count_between 0 wide) ≡ Some y → ((r >>= negative) >>= integer_between (neg_ℤ (pos wide)) high) ≡ (negative y >>= integer_between (neg_ℤ (pos wide)) high)
+minus_some_by : (wide : ℕ) (high : ℤ) (r : Found ℕ) (y : ℕ × List ℕ) → (r >>= count_between 0 wide) ≡ Some y →
+    ((r >>= negative) >>= integer_between (neg_ℤ (pos wide)) high)
+    ≡ (negative y >>= integer_between (neg_ℤ (pos wide)) high)
 minus_some_by wide high None y e = absurd cc
-minus_some_by wide high (Some x) y e = ap (λ (w : ℕ × List ℕ). negative w >>= integer_between (neg_ℤ (pos wide)) high) (found_wide wide x y e).0
+minus_some_by wide high (Some x) y e =
+    ap (λ (w : ℕ × List ℕ). negative w >>= integer_between (neg_ℤ (pos wide)) high) (found_wide wide x y e).0
 
-pub minus_zero : (wide : ℕ) (high : ℤ) (bytes : List ℕ) (n : ℕ) (rest : List ℕ) → count_at 0 wide bytes ≡ Some (n, rest) → n ≡ 0 → integer_at (neg_ℤ (pos wide)) high (45 ∷ bytes) ≡ None
+pub minus_zero : (wide : ℕ) (high : ℤ) (bytes : List ℕ) (n : ℕ) (rest : List ℕ) →
+    count_at 0 wide bytes ≡ Some (n, rest) → n ≡ 0 → integer_at (neg_ℤ (pos wide)) high (45 ∷ bytes) ≡ None
 unfolding count_at integer_at signed_at
 minus_zero wide high bytes n rest e z = minus_some_by wide high (numeral_at bytes) (n, rest) e ∙ rw z refl
 
-pub minus_some : (wide m : ℕ) (bytes : List ℕ) (n : ℕ) (rest : List ℕ) → count_at 0 wide bytes ≡ Some (n, rest) → n ≢ 0 → integer_at (neg_ℤ (pos wide)) (pos m) (45 ∷ bytes) ≡ Some (neg_ℤ (pos n), rest)
+pub minus_some : (wide m : ℕ) (bytes : List ℕ) (n : ℕ) (rest : List ℕ) → count_at 0 wide bytes ≡ Some (n, rest) →
+    n ≢ 0 → integer_at (neg_ℤ (pos wide)) (pos m) (45 ∷ bytes) ≡ Some (neg_ℤ (pos n), rest)
 unfolding count_at integer_at signed_at
 minus_some wide m bytes zero rest e ne = absurd (ne refl)
 minus_some wide m bytes (suc n) rest e ne =
     let most = count_most wide bytes (suc n, rest) e in
-    minus_some_by wide (pos m) (numeral_at bytes) (suc n, rest) e ∙ rw (not_zero n) (int_within (neg_ℤ (pos wide)) (pos m) (negsuc n, rest) (omega (arith, ints, most)) (omega (arith, ints)))
+    minus_some_by wide (pos m) (numeral_at bytes) (suc n, rest) e ∙
+    rw (not_zero n) (int_within (neg_ℤ (pos wide)) (pos m) (negsuc n, rest) (omega (arith, ints, most))
+    (omega (arith, ints)))
 
 -- ---- with no `-`
 
-plus_by : (low : ℤ) (wide m : ℕ) (r : Found ℕ) → m ≤ wide → (r >>= count_between 0 wide) ≡ None → ((r >>= λ n. Some (pos n.0, n.1)) >>= integer_between low (pos m)) ≡ None
+plus_by : (low : ℤ) (wide m : ℕ) (r : Found ℕ) → m ≤ wide → (r >>= count_between 0 wide) ≡ None →
+    ((r >>= λ n. Some (pos n.0, n.1)) >>= integer_between low (pos m)) ≡ None
 plus_by low wide m None h e = refl
-plus_by low wide m (Some x) h e = let large = none_wide wide x e in int_above low (pos m) (pos x.0, x.1) (omega (arith, ints, large))
+plus_by low wide m (Some x) h e = let large = none_wide wide x e in
+    int_above low (pos m) (pos x.0, x.1) (omega (arith, ints, large))
 
-plus_some_by : (low : ℤ) (wide m : ℕ) (r : Found ℕ) (y : ℕ × List ℕ) → (r >>= count_between 0 wide) ≡ Some y → ((r >>= λ n. Some (pos n.0, n.1)) >>= integer_between low (pos m)) ≡ integer_between low (pos m) (pos y.0, y.1)
+plus_some_by : (low : ℤ) (wide m : ℕ) (r : Found ℕ) (y : ℕ × List ℕ) → (r >>= count_between 0 wide) ≡ Some y →
+    ((r >>= λ n. Some (pos n.0, n.1)) >>= integer_between low (pos m)) ≡ integer_between low (pos m) (pos y.0, y.1)
 plus_some_by low wide m None y e = absurd cc
-plus_some_by low wide m (Some x) y e = ap (λ (w : ℕ × List ℕ). integer_between low (pos m) (pos w.0, w.1)) (found_wide wide x y e).0
+plus_some_by low wide m (Some x) y e =
+    ap (λ (w : ℕ × List ℕ). integer_between low (pos m) (pos w.0, w.1)) (found_wide wide x y e).0
 
-plus_signed : (bytes : List ℕ) → get_or bytes 0 0 ≢ 45 → signed_at bytes ≡ (numeral_at bytes >>= λ n. Some (pos n.0, n.1))
+plus_signed : (bytes : List ℕ) → get_or bytes 0 0 ≢ 45 →
+    signed_at bytes ≡ (numeral_at bytes >>= λ n. Some (pos n.0, n.1))
 unfolding signed_at numeral_at
 plus_signed [] ne = refl
 plus_signed (b ∷ bs) ne = let t : (b == 45) ≡ false = ne_eqb b 45 ne in rw t refl
 
-pub plus_none : (low : ℤ) (wide m : ℕ) (bytes : List ℕ) → get_or bytes 0 0 ≢ 45 → m ≤ wide → count_at 0 wide bytes ≡ None → integer_at low (pos m) bytes ≡ None
+pub plus_none : (low : ℤ) (wide m : ℕ) (bytes : List ℕ) → get_or bytes 0 0 ≢ 45 → m ≤ wide →
+    count_at 0 wide bytes ≡ None → integer_at low (pos m) bytes ≡ None
 unfolding count_at integer_at
 plus_none low wide m bytes ne h e = rw (plus_signed bytes ne) (plus_by low wide m (numeral_at bytes) h e)
 
-pub plus_above : (low : ℤ) (wide m : ℕ) (bytes : List ℕ) (n : ℕ) (rest : List ℕ) → get_or bytes 0 0 ≢ 45 → m < n → count_at 0 wide bytes ≡ Some (n, rest) → integer_at low (pos m) bytes ≡ None
+pub plus_above : (low : ℤ) (wide m : ℕ) (bytes : List ℕ) (n : ℕ) (rest : List ℕ) → get_or bytes 0 0 ≢ 45 → m < n →
+    count_at 0 wide bytes ≡ Some (n, rest) → integer_at low (pos m) bytes ≡ None
 unfolding count_at integer_at
-plus_above low wide m bytes n rest ne h e = rw (plus_signed bytes ne) (plus_some_by low wide m (numeral_at bytes) (n, rest) e ∙ int_above low (pos m) (pos n, rest) (omega (arith, ints, h)))
+plus_above low wide m bytes n rest ne h e =
+    rw (plus_signed bytes ne) (plus_some_by low wide m (numeral_at bytes) (n, rest) e ∙
+    int_above low (pos m) (pos n, rest) (omega (arith, ints, h)))
 
-pub plus_some : (k wide m : ℕ) (bytes : List ℕ) (n : ℕ) (rest : List ℕ) → get_or bytes 0 0 ≢ 45 → n ≤ m → count_at 0 wide bytes ≡ Some (n, rest) → integer_at (neg_ℤ (pos k)) (pos m) bytes ≡ Some (pos n, rest)
+pub plus_some : (k wide m : ℕ) (bytes : List ℕ) (n : ℕ) (rest : List ℕ) → get_or bytes 0 0 ≢ 45 → n ≤ m →
+    count_at 0 wide bytes ≡ Some (n, rest) → integer_at (neg_ℤ (pos k)) (pos m) bytes ≡ Some (pos n, rest)
 unfolding count_at integer_at
 plus_some k wide m bytes n rest ne h e =
-    rw (plus_signed bytes ne) (plus_some_by (neg_ℤ (pos k)) wide m (numeral_at bytes) (n, rest) e ∙ int_within (neg_ℤ (pos k)) (pos m) (pos n, rest) (omega (arith, ints)) (omega (arith, ints, h)))
+    rw (plus_signed bytes ne) (plus_some_by (neg_ℤ (pos k)) wide m (numeral_at bytes) (n, rest) e ∙
+    int_within (neg_ℤ (pos k)) (pos m) (pos n, rest) (omega (arith, ints)) (omega (arith, ints, h)))

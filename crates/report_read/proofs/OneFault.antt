@@ -1,5 +1,7 @@
 -- A file has at most one line in fault, and two texts differ first at one line.
-use Rattle.report_read.proofs.Common.{◌≡◌, ℕ, suc, List, [], ◌∷◌, ◌++◌, length, refl, sym, ap, ◌∙◌, subst, arith, append_assoc, length-append, inl, inr, eqb_tells, report_text, IsLine, AreLines, line_feeds, IsFault}
+use Rattle.report_read.proofs.Common.{◌≡◌, ℕ, suc, List, [], ◌∷◌, ◌++◌, length, refl, sym, ap, ◌∙◌, subst, arith}
+use Rattle.report_read.proofs.Common.{append_assoc, length-append, inl, inr, eqb_tells, report_text, IsLine, AreLines}
+use Rattle.report_read.proofs.Common.{line_feeds, IsFault}
 use Rattle.report_read.specs.Differences.{DiffersAt}
 
 -- ---- of two fronts of one list one is a front of the other
@@ -35,16 +37,28 @@ with_byte : (b : ℕ) (bytes : List ℕ) → (b ≡ 10 → ⊥) → HasLine byte
 with_byte b bytes ne h = record {
   here = b ∷ h.here;
   after = h.after;
-  line = record { inside = b ∷ h.line.inside; unbroken = (ne, h.line.unbroken); ends = ap (λ (z : List ℕ). b ∷ z) h.line.ends };
+  line = record {
+    inside = b ∷ h.line.inside;
+    unbroken = (ne, h.line.unbroken);
+    ends =
+        ap (λ (z : List ℕ). b ∷ z) h.line.ends;
+  };
   cut = ap (λ (z : List ℕ). b ∷ z) h.cut;
 }
 
 -- bytes to a line feed begin with a line
 first_line : (front rest : List ℕ) → HasLine (front ++ 10 ∷ rest)
-first_line [] rest = record { here = 10 ∷ []; after = rest; line = record { inside = []; unbroken = tt; ends = refl }; cut = refl }
+first_line [] rest =
+    record { here = 10 ∷ []; after = rest; line = record { inside = []; unbroken = tt; ends = refl }; cut = refl }
 first_line (b ∷ bs) rest =
     elim (eqb_tells b 10) [
-      | inl same ↦ record { here = 10 ∷ []; after = bs ++ 10 ∷ rest; line = record { inside = []; unbroken = tt; ends = refl }; cut = ap (λ (k : ℕ). k ∷ (bs ++ 10 ∷ rest)) same.1 }
+      | inl same ↦ record {
+        here = 10 ∷ [];
+        after = bs ++ 10 ∷ rest;
+        line =
+            record { inside = []; unbroken = tt; ends = refl };
+        cut = ap (λ (k : ℕ). k ∷ (bs ++ 10 ∷ rest)) same.1;
+      }
       | inr other ↦ with_byte b (bs ++ 10 ∷ rest) other.1 (first_line bs rest)
     ]
 
@@ -52,7 +66,8 @@ no_tail : (x : List ℕ) (b : ℕ) (more : List ℕ) → [] ≡ x ++ b ∷ more 
 no_tail x b more e = let n = ap length e in let m = length-append x (b ∷ more) in omega arith
 
 -- the last byte of lines is a line feed
-last_of : (x : List ℕ) (b : ℕ) (more front : List ℕ) → x ++ b ∷ more ≡ front ++ 10 ∷ [] → (inside : List ℕ) × (b ∷ more ≡ inside ++ 10 ∷ [])
+last_of : (x : List ℕ) (b : ℕ) (more front : List ℕ) → x ++ b ∷ more ≡ front ++ 10 ∷ [] →
+    (inside : List ℕ) × (b ∷ more ≡ inside ++ 10 ∷ [])
 last_of [] b more front e = (front, e)
 last_of (c ∷ x) b more [] e = absurd (let tail : x ++ b ∷ more ≡ [] = cc in no_tail x b more (sym tail))
 last_of (c ∷ x) b more (d ∷ front) e = let tail : x ++ b ∷ more ≡ front ++ 10 ∷ [] = cc in last_of x b more front tail
@@ -70,16 +85,20 @@ cancel [] u v e = e
 cancel (c ∷ x) u v e = let tail : x ++ u ≡ x ++ v = cc in cancel x u v tail
 
 -- where the lines before one fault are a front of those before another, they begin with the line of the first
-not_before : (bytes : List ℕ) (k l : ℕ) (f : IsFault bytes k) (g : IsFault bytes l) (b : ℕ) (more : List ℕ) → g.before ≡ f.before ++ b ∷ more → ⊥
+not_before : (bytes : List ℕ) (k l : ℕ) (f : IsFault bytes k) (g : IsFault bytes l) (b : ℕ) (more : List ℕ) →
+    g.before ≡ f.before ++ b ∷ more → ⊥
 not_before bytes k l f g b more e =
     let lines : AreLines (f.before ++ b ∷ more) = subst AreLines e g.lines in
     let h = line_behind f.before b more lines in
-    let front : g.before ≡ (f.before ++ h.here) ++ h.after = e ∙ ap (λ (z : List ℕ). f.before ++ z) h.cut ∙ sym (append_assoc f.before h.here h.after) in
+    let front : g.before ≡ (f.before ++ h.here) ++ h.after =
+    e ∙ ap (λ (z : List ℕ). f.before ++ z) h.cut ∙ sym (append_assoc f.before h.here h.after) in
     let whole : f.before ++ f.rest ≡ f.before ++ (h.here ++ (h.after ++ g.rest)) =
-    sym f.cut ∙ g.cut ∙ ap (λ (z : List ℕ). z ++ g.rest) front ∙ append_assoc (f.before ++ h.here) h.after g.rest ∙ append_assoc f.before h.here (h.after ++ g.rest) in
+    sym f.cut ∙ g.cut ∙ ap (λ (z : List ℕ). z ++ g.rest) front ∙ append_assoc (f.before ++ h.here) h.after g.rest ∙
+    append_assoc f.before h.here (h.after ++ g.rest) in
     let rest : f.rest ≡ h.here ++ (h.after ++ g.rest) = cancel f.before f.rest (h.here ++ (h.after ++ g.rest)) whole in
     let r = g.begins in
-    let text : report_text r.0 ≡ (f.before ++ h.here) ++ (h.after ++ r.2) = r.3 ∙ ap (λ (z : List ℕ). z ++ r.2) front ∙ append_assoc (f.before ++ h.here) h.after r.2 in
+    let text : report_text r.0 ≡ (f.before ++ h.here) ++ (h.after ++ r.2) =
+    r.3 ∙ ap (λ (z : List ℕ). z ++ r.2) front ∙ append_assoc (f.before ++ h.here) h.after r.2 in
     f.fails h.here (h.after ++ g.rest) h.line rest (r.0, r.1, h.after ++ r.2, text)
 
 pub one_fault : (bytes : List ℕ) (k l : ℕ) → IsFault bytes k → IsFault bytes l → k ≡ l
@@ -92,15 +111,21 @@ one_fault bytes k l f g =
 
 -- ---- the first line that differs
 
-not_same : (text other : List ℕ) (k l : ℕ) (f : DiffersAt text other k) (g : DiffersAt text other l) (b : ℕ) (more : List ℕ) → g.same ≡ f.same ++ b ∷ more → ⊥
+not_same : (text other : List ℕ) (k l : ℕ) (f : DiffersAt text other k) (g : DiffersAt text other l) (b : ℕ)
+    (more : List ℕ) → g.same ≡ f.same ++ b ∷ more → ⊥
 not_same text other k l f g b more e =
     let lines : AreLines (f.same ++ b ∷ more) = subst AreLines e g.lines in
     let h = line_behind f.same b more lines in
-    let front : g.same ≡ (f.same ++ h.here) ++ h.after = e ∙ ap (λ (z : List ℕ). f.same ++ z) h.cut ∙ sym (append_assoc f.same h.here h.after) in
+    let front : g.same ≡ (f.same ++ h.here) ++ h.after =
+    e ∙ ap (λ (z : List ℕ). f.same ++ z) h.cut ∙ sym (append_assoc f.same h.here h.after) in
     let regrouped = λ (rest : List ℕ). let made : g.same ++ rest ≡ f.same ++ (h.here ++ (h.after ++ rest)) =
-    ap (λ (z : List ℕ). z ++ rest) front ∙ append_assoc (f.same ++ h.here) h.after rest ∙ append_assoc f.same h.here (h.after ++ rest) in made in
-    let one : f.rest ≡ h.here ++ (h.after ++ g.rest) = cancel f.same f.rest (h.here ++ (h.after ++ g.rest)) (sym f.cut ∙ g.cut ∙ regrouped g.rest) in
-    let two : f.other_rest ≡ h.here ++ (h.after ++ g.other_rest) = cancel f.same f.other_rest (h.here ++ (h.after ++ g.other_rest)) (sym f.other_cut ∙ g.other_cut ∙ regrouped g.other_rest) in
+    ap (λ (z : List ℕ). z ++ rest) front ∙ append_assoc (f.same ++ h.here) h.after rest ∙
+    append_assoc f.same h.here (h.after ++ rest) in made in
+    let one : f.rest ≡ h.here ++ (h.after ++ g.rest) =
+    cancel f.same f.rest (h.here ++ (h.after ++ g.rest)) (sym f.cut ∙ g.cut ∙ regrouped g.rest) in
+    let two : f.other_rest ≡ h.here ++ (h.after ++ g.other_rest) =
+    cancel f.same f.other_rest (h.here ++ (h.after ++ g.other_rest))
+    (sym f.other_cut ∙ g.other_cut ∙ regrouped g.other_rest) in
     f.fails h.here (h.after ++ g.rest) (h.after ++ g.other_rest) h.line one two
 
 pub one_difference : (text other : List ℕ) (k l : ℕ) → DiffersAt text other k → DiffersAt text other l → k ≡ l

@@ -1,12 +1,23 @@
 -- The lines of units and bids: they are the texts that are written.
-use Rattle.report_read.proofs.Common.{◌≡◌, ℕ, zero, suc, ◌≤◌, Bool, true, false, cond, nat_le, ◌==◌, ◌⊎◌, ℤ, pos, List, [], ◌∷◌, ◌++◌, length, replicate, codes, Option, Some, None, Ok, refl, sym, ap, ◌∙◌, subst, arith, append_assoc, inl, inr, rules, neg_ℤ, IsUtf8, flat_map, AllByRecursion, nil_from_length, nat_tests, Kind, numeral, signed_numeral, spaced_counts, spaced_flags, escaped, UnitLine, thermal_text, flat_text, renewable_text, bid_text, Told, rank, IsCount, IsNumber, IsList, IsTold, Found, ◌>>=◌, behind, count_at, spaced, flag_at, name_at, of_kind, or_else, kind_at, number_at, after, both, in_order, opening_at, owed_at, Title, title_line, line, then_lines, list_line, power_at, made_response, always_on, thermal_at, other_at, response_at, made_unit, unit_at, joined, units_at}
+use Rattle.report_read.proofs.Common.{◌≡◌, ℕ, zero, suc, ◌≤◌, Bool, true, false, cond, nat_le, ◌==◌, ◌⊎◌, ℤ, pos, List}
+use Rattle.report_read.proofs.Common.{[], ◌∷◌, ◌++◌, length, replicate, codes, Option, Some, None, Ok, refl, sym, ap}
+use Rattle.report_read.proofs.Common.{◌∙◌, subst, arith, append_assoc, inl, inr, rules, neg_ℤ, IsUtf8, flat_map}
+use Rattle.report_read.proofs.Common.{AllByRecursion, nil_from_length, nat_tests, Kind, numeral, signed_numeral}
+use Rattle.report_read.proofs.Common.{spaced_counts, spaced_flags, escaped, UnitLine, thermal_text, flat_text}
+use Rattle.report_read.proofs.Common.{renewable_text, bid_text, Told, rank, IsCount, IsNumber, IsList, IsTold, Found}
+use Rattle.report_read.proofs.Common.{◌>>=◌, behind, count_at, spaced, flag_at, name_at, of_kind, or_else, kind_at}
+use Rattle.report_read.proofs.Common.{number_at, after, both, in_order, opening_at, owed_at, Title, title_line, line}
+use Rattle.report_read.proofs.Common.{then_lines, list_line, power_at, made_response, always_on, thermal_at, other_at}
+use Rattle.report_read.proofs.Common.{response_at, made_unit, unit_at, joined, units_at}
 use Rattle.uc_model.specs.declared.kinds.Kind.TheVariants as kinds
 use Rattle.uc_model.specs.Data.{Schedule}
-use Rattle.report_read.proofs.Parts.{bind_some, if_some, some_is, behind_takes, behind_again, is_inline, inline_append, Part, after_part, both_parts, both_behind, spaced_part}
+use Rattle.report_read.proofs.Parts.{bind_some, if_some, some_is, behind_takes, behind_again, is_inline, inline_append}
+use Rattle.report_read.proofs.Parts.{Part, after_part, both_parts, both_behind, spaced_part}
 use Rattle.report_read.proofs.Numerals.{IsBetween, count_part, integer_part}
 use Rattle.report_read.proofs.NameParts.{name_part}
 use Rattle.report_read.proofs.Forms.{part_ended, Form, line_form, then_form, making_form}
-use Rattle.report_read.proofs.RowForms.{word_text, list_form, same_items, pair_form, no_lines, first_or, first_is, line_step}
+use Rattle.report_read.proofs.RowForms.{word_text, list_form, same_items, pair_form, no_lines, first_or, first_is}
+use Rattle.report_read.proofs.RowForms.{line_step}
 
 pub length-replicate : {A : Type 0} (n : ℕ) (x : A) → length (replicate n x) ≡ n
 length-replicate zero x = refl
@@ -21,7 +32,8 @@ as_between : (n : ℕ) → IsCount n → IsBetween 0 4294967295 n
 as_between n h = record { at_least = omega arith; at_most = omega arith }
 
 -- the same part, its values told otherwise
-pub part_with : {A : Type 0} (text : A → List ℕ) (P Q : A → Type 0) (read : List ℕ → Found A) → ((x : A) → P x → Q x) → ((x : A) → Q x → P x) → Part text P read → Part text Q read
+pub part_with : {A : Type 0} (text : A → List ℕ) (P Q : A → Type 0) (read : List ℕ → Found A) → ((x : A) → P x → Q x) →
+    ((x : A) → Q x → P x) → Part text P read → Part text Q read
 part_with text P Q read f g p = record {
   takes = λ bytes x rest e. (let t = p.takes bytes x rest e in (t.0, f x t.1));
   again = λ x rest h stops. p.again x rest (g x h) stops;
@@ -29,13 +41,16 @@ part_with text P Q read f g p = record {
 }
 
 number_part : Part numeral IsCount (count_at 0 4294967295)
-number_part = part_with numeral (IsBetween 0 4294967295) IsCount (count_at 0 4294967295) as_count as_between (count_part 0 4294967295)
+number_part = part_with numeral (IsBetween 0 4294967295) IsCount (count_at 0 4294967295) as_count as_between
+    (count_part 0 4294967295)
 
 abbrev spaced_number : ℕ → List ℕ
 spaced_number n = 32 ∷ numeral n
 
-pub powers_form : (word : List ℕ) (periods : ℕ) → is_inline word ≡ true → Form (word_text word spaced_counts) (IsList IsCount periods) (list_line word power_at periods)
-powers_form word periods plain = list_form word spaced_number IsCount power_at 0 periods plain (omega arith) (spaced_part numeral IsCount (count_at 0 4294967295) number_part) (λ x r. refl)
+pub powers_form : (word : List ℕ) (periods : ℕ) → is_inline word ≡ true →
+    Form (word_text word spaced_counts) (IsList IsCount periods) (list_line word power_at periods)
+powers_form word periods plain = list_form word spaced_number IsCount power_at 0 periods plain (omega arith)
+    (spaced_part numeral IsCount (count_at 0 4294967295) number_part) (λ x r. refl)
 
 abbrev Anything : Bool → Type 0
 Anything b = Unit {0}
@@ -48,14 +63,17 @@ bit_takes : (bytes : List ℕ) (x : Bool × List ℕ) → flag_at bytes ≡ Some
 unfolding flag_at
 bit_takes [] x e = absurd cc
 bit_takes (b ∷ bs) x e =
-    elim (b == 49) as (λ t. (b == 49) ≡ t → cond {A = Found Bool} t (Some (true, bs)) (cond {A = Found Bool} (b == 48) (Some (false, bs)) None) ≡ Some x → b ∷ bs ≡ flag_byte x.0 ++ x.1) [
+    elim (b == 49) as (λ t. (b == 49) ≡ t → cond {A = Found Bool} t (Some (true, bs))
+    (cond {A = Found Bool} (b == 48) (Some (false, bs)) None) ≡ Some x → b ∷ bs ≡ flag_byte x.0 ++ x.1) [
       | true ↦ λ t f.
           let one : b ≡ 49 = grind (arith, nat_tests) in
-          subst (λ (w : Bool × List ℕ). b ∷ bs ≡ flag_byte w.0 ++ w.1) (some_is (true, bs) x f) (ap (λ (k : ℕ). k ∷ bs) one)
+          subst (λ (w : Bool × List ℕ). b ∷ bs ≡ flag_byte w.0 ++ w.1) (some_is (true, bs) x f)
+          (ap (λ (k : ℕ). k ∷ bs) one)
       | false ↦ λ t f.
           let g = if_some (b == 48) (Some (false, bs)) x f in
           let none : b ≡ 48 = grind (arith, nat_tests, g.0) in
-          subst (λ (w : Bool × List ℕ). b ∷ bs ≡ flag_byte w.0 ++ w.1) (some_is (false, bs) x g.1) (ap (λ (k : ℕ). k ∷ bs) none)
+          subst (λ (w : Bool × List ℕ). b ∷ bs ≡ flag_byte w.0 ++ w.1) (some_is (false, bs) x g.1)
+          (ap (λ (k : ℕ). k ∷ bs) none)
     ] refl e
 
 bit_again : (b : Bool) (rest : List ℕ) → flag_at (flag_byte b ++ rest) ≡ Some (b, rest)
@@ -83,13 +101,17 @@ flags_written (false ∷ bs) = ap (λ (z : List ℕ). 32 ∷ 48 ∷ z) (flags_wr
 abbrev flag_bytes : List Bool → List ℕ
 flag_bytes = flat_map (λ b. 32 ∷ flag_byte b)
 
-pub flags_form : (word : List ℕ) (periods : ℕ) → is_inline word ≡ true → Form (word_text word flag_bytes) (IsList Anything periods) (list_line word (spaced flag_at) periods)
-flags_form word periods plain = list_form word (λ b. 32 ∷ flag_byte b) Anything (spaced flag_at) true periods plain tt (spaced_part flag_byte Anything flag_at bit_part) (λ x r. refl)
+pub flags_form : (word : List ℕ) (periods : ℕ) → is_inline word ≡ true →
+    Form (word_text word flag_bytes) (IsList Anything periods) (list_line word (spaced flag_at) periods)
+flags_form word periods plain = list_form word (λ b. 32 ∷ flag_byte b) Anything (spaced flag_at) true periods plain tt
+    (spaced_part flag_byte Anything flag_at bit_part) (λ x r. refl)
 
-pub powers_are : (word : List ℕ) (periods : ℕ) (bytes : List ℕ) (xs : List ℕ) (rest : List ℕ) → is_inline word ≡ true → list_line word power_at periods bytes ≡ Ok (xs, rest) → IsList IsCount periods xs
+pub powers_are : (word : List ℕ) (periods : ℕ) (bytes : List ℕ) (xs : List ℕ) (rest : List ℕ) → is_inline word ≡ true →
+    list_line word power_at periods bytes ≡ Ok (xs, rest) → IsList IsCount periods xs
 powers_are word periods bytes xs rest plain e = ((powers_form word periods plain).takes bytes xs rest e).1
 
-pub flags_are : (word : List ℕ) (periods : ℕ) (bytes : List ℕ) (xs : List Bool) (rest : List ℕ) → is_inline word ≡ true → list_line word (spaced flag_at) periods bytes ≡ Ok (xs, rest) → IsList Anything periods xs
+pub flags_are : (word : List ℕ) (periods : ℕ) (bytes : List ℕ) (xs : List Bool) (rest : List ℕ) →
+    is_inline word ≡ true → list_line word (spaced flag_at) periods bytes ≡ Ok (xs, rest) → IsList Anything periods xs
 flags_are word periods bytes xs rest plain e = ((flags_form word periods plain).takes bytes xs rest e).1
 
 -- ---- the first line of a unit
@@ -100,8 +122,10 @@ kind_text kinds.Renewable = codes "renewable "
 kind_text kinds.Bid = codes "bid "
 kind_text kinds.Case = []
 
-some_kind : (kind : Kind) (r : Option (List ℕ)) (x : Kind × List ℕ) → of_kind kind r ≡ Some x → (bytes : List ℕ) × (r ≡ Some bytes) × (kind ≡ x.0) × (bytes ≡ x.1)
-some_kind kind (Some bytes) x e = let same = some_is (kind, bytes) x e in (bytes, refl, ap (λ (w : Kind × List ℕ). w.0) same, ap (λ (w : Kind × List ℕ). w.1) same)
+some_kind : (kind : Kind) (r : Option (List ℕ)) (x : Kind × List ℕ) → of_kind kind r ≡ Some x →
+    (bytes : List ℕ) × (r ≡ Some bytes) × (kind ≡ x.0) × (bytes ≡ x.1)
+some_kind kind (Some bytes) x e = let same = some_is (kind, bytes) x e in
+    (bytes, refl, ap (λ (w : Kind × List ℕ). w.0) same, ap (λ (w : Kind × List ℕ). w.1) same)
 some_kind kind None x e = absurd cc
 
 either : {A : Type 0} (a b : Option A) (x : A) → or_else a b ≡ Some x → (a ≡ Some x) ⊎ (b ≡ Some x)
@@ -113,7 +137,8 @@ pub record IsKind (bytes : List ℕ) (k : Kind) (rest : List ℕ) : Type 0 where
   pub parts : bytes ≡ kind_text k ++ rest
   pub told : rank k ≤ 2
 
-found_kind : (kind : Kind) (bytes : List ℕ) (x : Kind × List ℕ) → rank kind ≤ 2 → of_kind kind (behind (kind_text kind) bytes) ≡ Some x → IsKind bytes x.0 x.1
+found_kind : (kind : Kind) (bytes : List ℕ) (x : Kind × List ℕ) → rank kind ≤ 2 →
+    of_kind kind (behind (kind_text kind) bytes) ≡ Some x → IsKind bytes x.0 x.1
 found_kind kind bytes x h e =
     let s = some_kind kind (behind (kind_text kind) bytes) x e in
     let parts : bytes ≡ kind_text kind ++ s.0 = behind_takes (kind_text kind) bytes s.0 s.1 in
@@ -125,12 +150,16 @@ found_kind kind bytes x h e =
 kind_takes : (bytes : List ℕ) (x : Kind × List ℕ) → kind_at bytes ≡ Some x → IsKind bytes x.0 x.1
 unfolding kind_at
 kind_takes bytes x e =
-    elim (either (of_kind kinds.Thermal (behind (codes "thermal ") bytes)) (or_else (of_kind kinds.Renewable (behind (codes "renewable ") bytes)) (of_kind kinds.Bid (behind (codes "bid ") bytes))) x e) [
+    elim (either (of_kind kinds.Thermal (behind (codes "thermal ") bytes))
+    (or_else (of_kind kinds.Renewable (behind (codes "renewable ") bytes))
+    (of_kind kinds.Bid (behind (codes "bid ") bytes))) x e) [
       | inl first ↦ found_kind kinds.Thermal bytes x (omega arith) first
-      | inr others ↦ elim (either (of_kind kinds.Renewable (behind (codes "renewable ") bytes)) (of_kind kinds.Bid (behind (codes "bid ") bytes)) x others) [
-        | inl second ↦ found_kind kinds.Renewable bytes x (omega arith) second
-        | inr third ↦ found_kind kinds.Bid bytes x (omega arith) third
-      ]
+      | inr others ↦
+          elim (either (of_kind kinds.Renewable (behind (codes "renewable ") bytes))
+          (of_kind kinds.Bid (behind (codes "bid ") bytes)) x others) [
+            | inl second ↦ found_kind kinds.Renewable bytes x (omega arith) second
+            | inr third ↦ found_kind kinds.Bid bytes x (omega arith) third
+          ]
     ]
 
 other_word : (c d : ℕ) (cs ds : List ℕ) → (d == c) ≡ false → behind (c ∷ cs) (d ∷ ds) ≡ None
@@ -170,29 +199,41 @@ pub record MayCome (least : ℕ) (k : Kind) : Type 0 where
 abbrev pub opening_text : Kind → List ℕ
 opening_text k = codes "unit " ++ (kind_text k ++ codes "\"")
 
-opening_takes : (least : ℕ) (bytes : List ℕ) (k : Kind) (rest : List ℕ) → opening_at least bytes ≡ Some (k, rest) → (bytes ≡ opening_text k ++ rest) × MayCome least k
+opening_takes : (least : ℕ) (bytes : List ℕ) (k : Kind) (rest : List ℕ) → opening_at least bytes ≡ Some (k, rest) →
+    (bytes ≡ opening_text k ++ rest) × MayCome least k
 unfolding opening_at
 opening_takes least bytes k rest e =
-    let a = bind_some (after (codes "unit ") kind_at bytes) (λ found. in_order least found >>= λ kind. behind (codes "\"") kind.1 >>= λ rest. Some (kind.0, rest)) (k, rest) e in
-    let b = bind_some (in_order least a.0) (λ kind. behind (codes "\"") kind.1 >>= λ rest. Some (kind.0, rest)) (k, rest) a.2 in
+    let a = bind_some (after (codes "unit ") kind_at bytes)
+    (λ found. in_order least found >>= λ kind. behind
+    (codes "\"") kind.1 >>= λ rest. Some (kind.0, rest)) (k, rest) e in
+    let b = bind_some (in_order least a.0)
+    (λ kind. behind (codes "\"") kind.1 >>= λ rest. Some (kind.0, rest)) (k, rest) a.2 in
     let d = bind_some (behind (codes "\"") b.0.1) (λ rest. Some (b.0.0, rest)) (k, rest) b.2 in
-    let s = (after_part kind_text (λ k. rank k ≤ 2) kind_at (codes "unit ") refl kind_part).takes bytes a.0.0 a.0.1 a.1 in
+    let s = (after_part kind_text (λ k. rank k ≤ 2) kind_at (codes "unit ") refl kind_part).takes bytes a.0.0 a.0.1
+    a.1 in
     let t = if_some (nat_le least (rank a.0.0)) (Some a.0) b.0 b.1 in
     let same : a.0 ≡ b.0 = some_is a.0 b.0 t.1 in
     let test = t.0 in
     let order : least ≤ rank a.0.0 = grind (arith, nat_tests) in
     let quote = behind_takes (codes "\"") b.0.1 d.0 d.1 in
     let whole : bytes ≡ (codes "unit " ++ kind_text b.0.0) ++ (codes "\"" ++ d.0) =
-    s.0 ∙ ap (λ (w : Kind × List ℕ). (codes "unit " ++ kind_text w.0) ++ w.1) same ∙ ap (λ (z : List ℕ). (codes "unit " ++ kind_text b.0.0) ++ z) quote in
-    let parts : bytes ≡ opening_text b.0.0 ++ d.0 = whole ∙ append_assoc (codes "unit ") (kind_text b.0.0) (codes "\"" ++ d.0) ∙ ap (λ (z : List ℕ). codes "unit " ++ z) (sym (append_assoc (kind_text b.0.0) (codes "\"") d.0)) in
-    let may : MayCome least b.0.0 = subst (λ (w : Kind × List ℕ). MayCome least w.0) same (record { in_order = order; told = s.1 }) in
-    subst (λ (w : Kind × List ℕ). (bytes ≡ opening_text w.0 ++ w.1) × MayCome least w.0) (some_is (b.0.0, d.0) (k, rest) d.2) (parts, may)
+    s.0 ∙ ap (λ (w : Kind × List ℕ). (codes "unit " ++ kind_text w.0) ++ w.1) same ∙
+    ap (λ (z : List ℕ). (codes "unit " ++ kind_text b.0.0) ++ z) quote in
+    let parts : bytes ≡ opening_text b.0.0 ++ d.0 =
+    whole ∙ append_assoc (codes "unit ") (kind_text b.0.0) (codes "\"" ++ d.0) ∙
+    ap (λ (z : List ℕ). codes "unit " ++ z) (sym (append_assoc (kind_text b.0.0) (codes "\"") d.0)) in
+    let may : MayCome least b.0.0 =
+    subst (λ (w : Kind × List ℕ). MayCome least w.0) same (record { in_order = order; told = s.1 }) in
+    subst (λ (w : Kind × List ℕ). (bytes ≡ opening_text w.0 ++ w.1) × MayCome least w.0)
+    (some_is (b.0.0, d.0) (k, rest) d.2) (parts, may)
 
-opening_again : (least : ℕ) (k : Kind) (rest : List ℕ) → MayCome least k → opening_at least (opening_text k ++ rest) ≡ Some (k, rest)
+opening_again : (least : ℕ) (k : Kind) (rest : List ℕ) → MayCome least k →
+    opening_at least (opening_text k ++ rest) ≡ Some (k, rest)
 unfolding opening_at
 opening_again least k rest h =
     let regrouped : opening_text k ++ rest ≡ (codes "unit " ++ kind_text k) ++ (34 ∷ rest) =
-    ap (λ (z : List ℕ). codes "unit " ++ z) (append_assoc (kind_text k) (codes "\"") rest) ∙ sym (append_assoc (codes "unit ") (kind_text k) (34 ∷ rest)) in
+    ap (λ (z : List ℕ). codes "unit " ++ z)
+    (append_assoc (kind_text k) (codes "\"") rest) ∙ sym (append_assoc (codes "unit ") (kind_text k) (34 ∷ rest)) in
     let found : after (codes "unit ") kind_at ((codes "unit " ++ kind_text k) ++ (34 ∷ rest)) ≡ Some (k, 34 ∷ rest) =
     (after_part kind_text (λ k. rank k ≤ 2) kind_at (codes "unit ") refl kind_part).again k (34 ∷ rest) h.told refl in
     let t : nat_le least (rank k) ≡ true = (let o = h.in_order in grind (arith, nat_tests)) in
@@ -202,7 +243,8 @@ opening_part : (least : ℕ) → Part opening_text (MayCome least) (opening_at l
 opening_part least = record {
   takes = opening_takes least;
   again = λ k rest h stops. opening_again least k rest h;
-  inline = λ k h. inline_append (codes "unit ") (kind_text k ++ codes "\"") refl (inline_append (kind_text k) (codes "\"") (kind_inline k) refl);
+  inline = λ k h. inline_append (codes "unit ")
+      (kind_text k ++ codes "\"") refl (inline_append (kind_text k) (codes "\"") (kind_inline k) refl);
 }
 
 signed_part : Part signed_numeral IsNumber number_at
@@ -212,20 +254,25 @@ abbrev Owed : Type 0
 Owed = ℤ × (ℤ × ℤ)
 
 abbrev pub owed_text : Owed → List ℕ
-owed_text o = (codes " earned " ++ signed_numeral o.0) ++ ((codes " scheduled " ++ signed_numeral o.1.0) ++ (codes " payment " ++ signed_numeral o.1.1))
+owed_text o = (codes " earned " ++ signed_numeral o.0)
+    ++ ((codes " scheduled " ++ signed_numeral o.1.0) ++ (codes " payment " ++ signed_numeral o.1.1))
 
 abbrev IsOwed : Owed → Type 0
 IsOwed o = IsNumber o.0 × (IsNumber o.1.0 × IsNumber o.1.1)
 
-money_part : (word : List ℕ) → is_inline word ≡ true → Part (λ x. word ++ signed_numeral x) IsNumber (after word number_at)
+money_part : (word : List ℕ) → is_inline word ≡ true →
+    Part (λ x. word ++ signed_numeral x) IsNumber (after word number_at)
 money_part word plain = after_part signed_numeral IsNumber number_at word plain signed_part
 
 owed_part : Part owed_text IsOwed owed_at
 owed_part =
     both_parts (λ x. codes " earned " ++ signed_numeral x) IsNumber (after (codes " earned ") number_at)
-    (λ (y : ℤ × ℤ). (codes " scheduled " ++ signed_numeral y.0) ++ (codes " payment " ++ signed_numeral y.1)) (λ (y : ℤ × ℤ). IsNumber y.0 × IsNumber y.1)
-    (both (after (codes " scheduled ") number_at) (after (codes " payment ") number_at)) (money_part (codes " earned ") refl)
-    (both_parts (λ x. codes " scheduled " ++ signed_numeral x) IsNumber (after (codes " scheduled ") number_at) (λ x. codes " payment " ++ signed_numeral x) IsNumber (after (codes " payment ") number_at)
+    (λ (y : ℤ × ℤ). (codes " scheduled " ++ signed_numeral y.0) ++ (codes " payment " ++ signed_numeral y.1))
+    (λ (y : ℤ × ℤ). IsNumber y.0 × IsNumber y.1)
+    (both (after (codes " scheduled ") number_at) (after (codes " payment ") number_at))
+    (money_part (codes " earned ") refl)
+    (both_parts (λ x. codes " scheduled " ++ signed_numeral x) IsNumber (after (codes " scheduled ") number_at)
+    (λ x. codes " payment " ++ signed_numeral x) IsNumber (after (codes " payment ") number_at)
     (money_part (codes " scheduled ") refl) (money_part (codes " payment ") refl) (λ y rest. refl)) (λ y rest. refl)
 
 abbrev pub closed_text : List ℕ → List ℕ
@@ -237,12 +284,15 @@ title_text t = opening_text t.0 ++ (closed_text t.1.0 ++ owed_text t.1.1)
 abbrev IsTitle : ℕ → Title → Type 0
 IsTitle least t = MayCome least t.0 × (IsUtf8 t.1.0 × IsOwed t.1.1)
 
-name_owed_part : Part (λ (y : List ℕ × Owed). closed_text y.0 ++ owed_text y.1) (λ (y : List ℕ × Owed). IsUtf8 y.0 × IsOwed y.1) (both name_at owed_at)
+name_owed_part : Part (λ (y : List ℕ × Owed). closed_text y.0 ++ owed_text y.1)
+    (λ (y : List ℕ × Owed). IsUtf8 y.0 × IsOwed y.1) (both name_at owed_at)
 name_owed_part = both_parts closed_text IsUtf8 name_at owed_text IsOwed owed_at name_part owed_part (λ y rest. refl)
 
 title_part : (least : ℕ) → Part title_text (IsTitle least) (both (opening_at least) (both name_at owed_at))
 title_part least =
-    both_behind opening_text (MayCome least) (opening_at least) (λ (y : List ℕ × Owed). closed_text y.0 ++ owed_text y.1) (λ (y : List ℕ × Owed). IsUtf8 y.0 × IsOwed y.1) (both name_at owed_at)
+    both_behind opening_text (MayCome least) (opening_at least)
+    (λ (y : List ℕ × Owed). closed_text y.0 ++ owed_text y.1) (λ (y : List ℕ × Owed). IsUtf8 y.0 × IsOwed y.1)
+    (both name_at owed_at)
     (opening_part least) name_owed_part (λ k rest h. opening_again least k rest h)
 
 abbrev pub title_line_text : Title → List ℕ
@@ -266,14 +316,16 @@ bid_may_come least h = record { in_order = h; told = omega arith }
 
 title_form : (least : ℕ) → least ≤ 2 → Form title_line_text (IsTitle least) (line (title_line least))
 title_form least h =
-    line_form title_line_text (IsTitle least) (title_line least) (zero_title kinds.Bid) (zero_title_fits least kinds.Bid (bid_may_come least h))
+    line_form title_line_text (IsTitle least) (title_line least) (zero_title kinds.Bid)
+    (zero_title_fits least kinds.Bid (bid_may_come least h))
     (part_ended title_text (IsTitle least) (both (opening_at least) (both name_at owed_at)) (title_part least))
 
 -- ---- responses
 
 -- a response of a unit of that kind
 abbrev pub response_text : Kind → Schedule → List ℕ
-response_text kinds.Thermal s = word_text (codes "on") flag_bytes s.on ++ (word_text (codes "power") spaced_counts s.power ++ word_text (codes "reserve") spaced_counts s.reserve)
+response_text kinds.Thermal s = word_text (codes "on") flag_bytes
+    s.on ++ (word_text (codes "power") spaced_counts s.power ++ word_text (codes "reserve") spaced_counts s.reserve)
 response_text kinds.Renewable s = word_text (codes "power") spaced_counts s.power
 response_text kinds.Bid s = word_text (codes "power") spaced_counts s.power
 response_text kinds.Case s = word_text (codes "power") spaced_counts s.power
@@ -298,7 +350,8 @@ abbrev ThermalParts : Type 0
 ThermalParts = List Bool × (List ℕ × List ℕ)
 
 abbrev thermal_parts_text : ThermalParts → List ℕ
-thermal_parts_text x = word_text (codes "on") flag_bytes x.0 ++ (word_text (codes "power") spaced_counts x.1.0 ++ word_text (codes "reserve") spaced_counts x.1.1)
+thermal_parts_text x = word_text (codes "on") flag_bytes
+    x.0 ++ (word_text (codes "power") spaced_counts x.1.0 ++ word_text (codes "reserve") spaced_counts x.1.1)
 
 all_flags : (bs : List Bool) → AllByRecursion Anything bs
 all_flags [] = tt
@@ -309,9 +362,12 @@ unfolding thermal_at
 thermal_form periods =
     let numbers = same_items IsCount periods 0 (omega arith) in
     let zeros = replicate periods 0 in
-    let f1 = pair_form _ _ _ _ _ _ zeros numbers (powers_form (codes "power") periods refl) (powers_form (codes "reserve") periods refl) in
+    let f1 = pair_form _ _ _ _ _ _ zeros numbers (powers_form (codes "power") periods refl)
+    (powers_form (codes "reserve") periods refl) in
     let lines = pair_form _ _ _ _ _ _ (zeros, zeros) (numbers, numbers) (flags_form (codes "on") periods refl) f1 in
-    making_form thermal_parts_text (λ (x : ThermalParts). IsList Anything periods x.0 × (IsList IsCount periods x.1.0 × IsList IsCount periods x.1.1)) _ (response_text kinds.Thermal) (IsThermalResponse periods) made_response lines (record {
+    making_form thermal_parts_text (λ (x : ThermalParts). IsList Anything periods x.0 ×
+    (IsList IsCount periods x.1.0 × IsList IsCount periods x.1.1)) _ (response_text kinds.Thermal)
+    (IsThermalResponse periods) made_response lines (record {
       fits = λ x h. record { on = h.0.length_is; power = h.1.0; reserve = h.1.1 };
       same = λ x h. refl;
       back = λ s. (s.on, (s.power, s.reserve));
@@ -322,7 +378,8 @@ thermal_form periods =
 other_form : (periods : ℕ) → Form (response_text kinds.Bid) (IsOtherResponse periods) (other_at periods)
 unfolding other_at
 other_form periods =
-    making_form (word_text (codes "power") spaced_counts) (IsList IsCount periods) _ (response_text kinds.Bid) (IsOtherResponse periods) always_on (powers_form (codes "power") periods refl) (record {
+    making_form (word_text (codes "power") spaced_counts) (IsList IsCount periods) _ (response_text kinds.Bid)
+    (IsOtherResponse periods) always_on (powers_form (codes "power") periods refl) (record {
       fits = λ x h. record { on = refl; reserve = refl; power = h };
       same = λ x h. refl;
       back = λ s. s.power;
@@ -342,7 +399,12 @@ zero_other periods = record { on = refl; reserve = refl; power = same_items IsCo
 some_response : (periods : ℕ) (k : Kind) → (s : Schedule) × IsResponse periods k s
 some_response periods kinds.Thermal = (
   record { on = replicate periods true; power = replicate periods 0; reserve = replicate periods 0 },
-  record { on = length-replicate periods true; power = same_items IsCount periods 0 (omega arith); reserve = same_items IsCount periods 0 (omega arith) },
+  record {
+    on = length-replicate periods true;
+    power = same_items IsCount periods 0 (omega arith);
+    reserve =
+        same_items IsCount periods 0 (omega arith);
+  },
 )
 some_response periods kinds.Renewable = (always_on (replicate periods 0), zero_other periods)
 some_response periods kinds.Bid = (always_on (replicate periods 0), zero_other periods)
@@ -352,7 +414,8 @@ some_response periods kinds.Case = (always_on (replicate periods 0), zero_other 
 
 -- the lines of a unit or bid
 abbrev pub told_text : Told → List ℕ
-told_text t = title_line_text (t.kind, (t.line.name, (t.line.earned, (t.line.scheduled, t.line.payment)))) ++ response_text t.kind t.line.response
+told_text t = title_line_text
+    (t.kind, (t.line.name, (t.line.earned, (t.line.scheduled, t.line.payment)))) ++ response_text t.kind t.line.response
 
 pub record IsUnit (periods least : ℕ) (t : Told) : Type 0 where
   pub kind : MayCome least t.kind
@@ -362,10 +425,19 @@ pub record IsUnit (periods least : ℕ) (t : Told) : Type 0 where
 unit_form : (periods least : ℕ) → least ≤ 2 → Form told_text (IsUnit periods least) (unit_at periods least)
 unfolding unit_at
 unit_form periods least h =
-    let lines = then_form title_line_text (IsTitle least) (line (title_line least)) (λ t s. response_text t.0 s) (λ t s. IsResponse periods t.0 s) (λ t. response_at periods t.0)
+    let lines = then_form title_line_text (IsTitle least) (line (title_line least)) (λ t s. response_text t.0 s)
+    (λ t s. IsResponse periods t.0 s) (λ t. response_at periods t.0)
     (title_form least h) (λ t fits. response_form periods t.0) (λ t fits. some_response periods t.0) in
-    making_form (λ (z : Title × Schedule). title_line_text z.0 ++ response_text z.0.0 z.1) (λ (z : Title × Schedule). IsTitle least z.0 × IsResponse periods z.0.0 z.1) _ told_text (IsUnit periods least) made_unit lines (record {
-      fits = λ x h. record { kind = h.0.0; told = record { name = h.0.1.0; earned = h.0.1.1.0; scheduled = h.0.1.1.1.0; payment = h.0.1.1.1.1 }; response = h.1 };
+    making_form (λ (z : Title × Schedule). title_line_text z.0 ++ response_text z.0.0 z.1)
+    (λ (z : Title × Schedule). IsTitle least z.0 × IsResponse periods z.0.0 z.1) _ told_text (IsUnit periods least)
+    made_unit lines (record {
+      fits = λ x h. record {
+        kind = h.0.0;
+        told =
+            record { name = h.0.1.0; earned = h.0.1.1.0; scheduled = h.0.1.1.1.0; payment = h.0.1.1.1.1 };
+        response =
+            h.1;
+      };
       same = λ x h. refl;
       back = λ t. ((t.kind, (t.line.name, (t.line.earned, (t.line.scheduled, t.line.payment)))), t.line.response);
       back_fits = λ t h. ((h.kind, (h.told.name, (h.told.earned, (h.told.scheduled, h.told.payment)))), h.response);
@@ -387,7 +459,14 @@ told_texts = flat_map told_text
 pub zero_unit : ℕ → Told
 zero_unit periods = record {
   kind = kinds.Bid;
-  line = record { name = []; earned = pos 0; scheduled = pos 0; payment = pos 0; response = always_on (replicate periods 0) };
+  line = record {
+    name = [];
+    earned = pos 0;
+    scheduled = pos 0;
+    payment = pos 0;
+    response =
+        always_on (replicate periods 0);
+  };
 }
 
 zero_unit_fits : (periods least : ℕ) → least ≤ 2 → IsUnit periods least (zero_unit periods)
@@ -401,32 +480,44 @@ zero_unit_fits periods least h = record {
 zero_units_are : (periods least count : ℕ) → least ≤ 2 → AreUnits periods least (replicate count (zero_unit periods))
 unfolding zero_unit
 zero_units_are periods least zero h = tt
-zero_units_are periods least (suc count) h = (zero_unit_fits periods least h, zero_units_are periods 2 count (omega arith))
+zero_units_are periods least (suc count) h =
+    (zero_unit_fits periods least h, zero_units_are periods 2 count (omega arith))
 
-pub zero_units : (periods least count : ℕ) → least ≤ 2 → AreSomeUnits periods least count (replicate count (zero_unit periods))
-zero_units periods least count h = record { length_is = length-replicate count (zero_unit periods); units = zero_units_are periods least count h }
+pub zero_units : (periods least count : ℕ) → least ≤ 2 →
+    AreSomeUnits periods least count (replicate count (zero_unit periods))
+zero_units periods least count h =
+    record { length_is = length-replicate count (zero_unit periods); units = zero_units_are periods least count h }
 
 no_units : (periods least : ℕ) → Form told_texts (AreSomeUnits periods least 0) (units_at periods least 0)
 unfolding units_at
 no_units periods least =
-    no_lines told_texts (AreSomeUnits periods least 0) (units_at periods least 0) refl (record { length_is = refl; units = tt }) (λ xs h. nil_from_length xs h.length_is) (λ bytes. refl)
+    no_lines told_texts (AreSomeUnits periods least 0) (units_at periods least 0) refl
+    (record { length_is = refl; units = tt }) (λ xs h. nil_from_length xs h.length_is) (λ bytes. refl)
 
-first_fits : (periods least count : ℕ) (ts : List Told) → AreSomeUnits periods least (suc count) ts → IsUnit periods least (first_or (zero_unit periods) ts).0
+first_fits : (periods least count : ℕ) (ts : List Told) → AreSomeUnits periods least (suc count) ts →
+    IsUnit periods least (first_or (zero_unit periods) ts).0
 first_fits periods least count [] h = absurd (let e = h.length_is in omega arith)
 first_fits periods least count (t ∷ ts) h = h.units.0
 
-others_fit : (periods least count : ℕ) (ts : List Told) → AreSomeUnits periods least (suc count) ts → AreSomeUnits periods (rank (first_or (zero_unit periods) ts).0.kind) count (first_or (zero_unit periods) ts).1
+others_fit : (periods least count : ℕ) (ts : List Told) → AreSomeUnits periods least (suc count) ts →
+    AreSomeUnits periods (rank (first_or (zero_unit periods) ts).0.kind) count (first_or (zero_unit periods) ts).1
 others_fit periods least count [] h = absurd (let e = h.length_is in omega arith)
-others_fit periods least count (t ∷ ts) h = record { length_is = (let e = h.length_is in omega arith); units = h.units.1 }
+others_fit periods least count (t ∷ ts) h =
+    record { length_is = (let e = h.length_is in omega arith); units = h.units.1 }
 
-pub units_form : (periods least count : ℕ) → least ≤ 2 → Form told_texts (AreSomeUnits periods least count) (units_at periods least count)
+pub units_form : (periods least count : ℕ) → least ≤ 2 →
+    Form told_texts (AreSomeUnits periods least count) (units_at periods least count)
 unfolding units_at
 units_form periods least zero h = no_units periods least
 units_form periods least (suc count) h =
-    let lines = then_form told_text (IsUnit periods least) (unit_at periods least) (λ u ts. told_texts ts) (λ u ts. AreSomeUnits periods (rank u.kind) count ts) (λ u. units_at periods (rank u.kind) count)
-    (unit_form periods least h) (λ u fits. units_form periods (rank u.kind) count fits.kind.told) (λ u fits. (replicate count (zero_unit periods), zero_units periods (rank u.kind) count fits.kind.told)) in
-    making_form (λ (z : Told × List Told). told_text z.0 ++ told_texts z.1) (λ (z : Told × List Told). IsUnit periods least z.0 × AreSomeUnits periods (rank z.0.kind) count z.1)
-    (then_lines (unit_at periods least) (λ u. units_at periods (rank u.kind) count)) told_texts (AreSomeUnits periods least (suc count)) joined lines (record {
+    let lines = then_form told_text (IsUnit periods least) (unit_at periods least) (λ u ts. told_texts ts)
+    (λ u ts. AreSomeUnits periods (rank u.kind) count ts) (λ u. units_at periods (rank u.kind) count)
+    (unit_form periods least h) (λ u fits. units_form periods (rank u.kind) count fits.kind.told)
+    (λ u fits. (replicate count (zero_unit periods), zero_units periods (rank u.kind) count fits.kind.told)) in
+    making_form (λ (z : Told × List Told). told_text z.0 ++ told_texts z.1)
+    (λ (z : Told × List Told). IsUnit periods least z.0 × AreSomeUnits periods (rank z.0.kind) count z.1)
+    (then_lines (unit_at periods least) (λ u. units_at periods (rank u.kind) count)) told_texts
+    (AreSomeUnits periods least (suc count)) joined lines (record {
       fits = λ x h. record { length_is = ap suc h.1.length_is; units = (h.0, h.1.units) };
       same = λ x h. refl;
       back = first_or (zero_unit periods);
@@ -437,7 +528,8 @@ units_form periods least (suc count) h =
 -- ---- the same lines as they are written
 
 regrouped : (a b c d e f g h n rest : List ℕ)
-    → a ++ (b ++ (c ++ (d ++ (e ++ (f ++ (g ++ (h ++ (n ++ rest)))))))) ≡ ((a ++ (b ++ ((c ++ d) ++ ((e ++ f) ++ (g ++ h))))) ++ n) ++ rest
+    → a ++ (b ++ (c ++ (d ++ (e ++ (f ++ (g ++ (h ++ (n ++ rest))))))))
+    ≡ ((a ++ (b ++ ((c ++ d) ++ ((e ++ f) ++ (g ++ h))))) ++ n) ++ rest
 regrouped a b c d e f g h n rest = simp append_assoc
 
 abbrev line_told : Kind → UnitLine → Told
@@ -448,20 +540,35 @@ title_of k l = (k, (l.name, (l.earned, (l.scheduled, l.payment))))
 
 -- the first line of a unit before others
 title_step : (k : Kind) (l : UnitLine) (rest : List ℕ)
-    → opening_text k ++ (closed_text l.name ++ (codes " earned " ++ (signed_numeral l.earned ++ (codes " scheduled " ++ (signed_numeral l.scheduled ++ (codes " payment " ++ (signed_numeral l.payment ++ 10 ∷ rest)))))))
+    → opening_text
+    k ++ (closed_text
+    l.name ++ (codes " earned " ++ (signed_numeral
+    l.earned ++ (codes " scheduled " ++ (signed_numeral
+    l.scheduled ++ (codes " payment " ++ (signed_numeral l.payment ++ 10 ∷ rest)))))))
     ≡ title_line_text (title_of k l) ++ rest
 title_step k l rest =
-    regrouped (opening_text k) (closed_text l.name) (codes " earned ") (signed_numeral l.earned) (codes " scheduled ") (signed_numeral l.scheduled) (codes " payment ") (signed_numeral l.payment) (10 ∷ []) rest
+    regrouped (opening_text k) (closed_text l.name) (codes " earned ") (signed_numeral l.earned) (codes " scheduled ")
+    (signed_numeral l.scheduled) (codes " payment ") (signed_numeral l.payment) (10 ∷ []) rest
 
 pub thermal_told : (l : UnitLine) → told_text (line_told kinds.Thermal l) ≡ thermal_text l
 unfolding thermal_text
 thermal_told l =
-    let last : codes "reserve" ++ (spaced_counts l.response.reserve ++ 10 ∷ []) ≡ word_text (codes "reserve") spaced_counts l.response.reserve = refl in
-    let lists = line_step (codes "on") (spaced_flags l.response.on) (line_step (codes "power") (spaced_counts l.response.power) last) in
-    let flags : word_text (codes "on") flag_bytes l.response.on ≡ (codes "on" ++ spaced_flags l.response.on) ++ 10 ∷ [] = ap (λ (z : List ℕ). (codes "on" ++ z) ++ 10 ∷ []) (flags_written l.response.on) in
-    ap (λ (z : List ℕ). title_line_text (title_of kinds.Thermal l) ++ (z ++ (word_text (codes "power") spaced_counts l.response.power ++ word_text (codes "reserve") spaced_counts l.response.reserve))) flags
+    let last : codes "reserve" ++ (spaced_counts l.response.reserve ++ 10 ∷ []) ≡ word_text (codes "reserve")
+    spaced_counts l.response.reserve = refl in
+    let lists = line_step (codes "on") (spaced_flags l.response.on)
+    (line_step (codes "power") (spaced_counts l.response.power) last) in
+    let flags : word_text (codes "on") flag_bytes
+    l.response.on ≡ (codes "on" ++ spaced_flags l.response.on) ++ 10 ∷ [] =
+    ap (λ (z : List ℕ). (codes "on" ++ z) ++ 10 ∷ []) (flags_written l.response.on) in
+    ap (λ (z : List ℕ). title_line_text
+    (title_of kinds.Thermal l)
+    ++ (z ++ (word_text (codes "power") spaced_counts l.response.power ++ word_text (codes "reserve") spaced_counts
+    l.response.reserve))) flags
     ∙ ap (λ (z : List ℕ). title_line_text (title_of kinds.Thermal l) ++ z) (sym lists)
-    ∙ sym (title_step kinds.Thermal l (codes "on" ++ (spaced_flags l.response.on ++ 10 ∷ (codes "power" ++ (spaced_counts l.response.power ++ 10 ∷ (codes "reserve" ++ (spaced_counts l.response.reserve ++ 10 ∷ [])))))))
+    ∙ sym (title_step kinds.Thermal l
+    (codes "on" ++ (spaced_flags
+    l.response.on ++ 10 ∷ (codes "power" ++ (spaced_counts
+    l.response.power ++ 10 ∷ (codes "reserve" ++ (spaced_counts l.response.reserve ++ 10 ∷ [])))))))
 
 pub renewable_told : (l : UnitLine) → told_text (line_told kinds.Renewable l) ≡ renewable_text l
 unfolding flat_text

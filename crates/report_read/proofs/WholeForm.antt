@@ -1,11 +1,23 @@
--- The whole report: a report within the bounds is read from its text and from nothing else, and where reading stops stands
+-- The whole report: a report within the bounds is read from its text and from nothing else, and where reading stops
+-- stands
 -- the first line in fault.
-use Rattle.report_read.proofs.Common.{◌≡◌, ℕ, suc, ◌+◌, ◌-◌, ◌≤◌, ◌⊎◌, true, false, cond, ℤ, pos, List, [], ◌∷◌, ◌++◌, length, map, take, replicate, codes, Ok, Err, refl, sym, ap, ◌∙◌, subst, arith, append_assoc, length-append, inl, inr, flat_map, AllByRecursion, append-nil, take_at, All-from_recursion, Kind, Proposal, Head, UnitLine, Report, head_text, rows_text, chosen_text, thermal_text, renewable_text, bid_text, foot_text, report_text, Foot, Told, rank, same_kind, lines_of, IsList, IsProposal, IsTold, IsThermalLine, IsOtherLine, IsReport, AreInOrder, IsLine, AreLines, line_feeds, Begins, IsFault, value_line, line, then_lines, head_at, rows_at, units_at, foot_at, made_report, report_at, if_no_more, all_of}
+use Rattle.report_read.proofs.Common.{◌≡◌, ℕ, suc, ◌+◌, ◌-◌, ◌≤◌, ◌⊎◌, true, false, cond, ℤ, pos, List, [], ◌∷◌, ◌++◌}
+use Rattle.report_read.proofs.Common.{length, map, take, replicate, codes, Ok, Err, refl, sym, ap, ◌∙◌, subst, arith}
+use Rattle.report_read.proofs.Common.{append_assoc, length-append, inl, inr, flat_map, AllByRecursion, append-nil}
+use Rattle.report_read.proofs.Common.{take_at, All-from_recursion, Kind, Proposal, Head, UnitLine, Report, head_text}
+use Rattle.report_read.proofs.Common.{rows_text, chosen_text, thermal_text, renewable_text, bid_text, foot_text}
+use Rattle.report_read.proofs.Common.{report_text, Foot, Told, rank, same_kind, lines_of, IsList, IsProposal, IsTold}
+use Rattle.report_read.proofs.Common.{IsThermalLine, IsOtherLine, IsReport, AreInOrder, IsLine, AreLines, line_feeds}
+use Rattle.report_read.proofs.Common.{Begins, IsFault, value_line, line, then_lines, head_at, rows_at, units_at}
+use Rattle.report_read.proofs.Common.{foot_at, made_report, report_at, if_no_more, all_of}
 use Rattle.uc_model.specs.declared.kinds.Kind.TheVariants as kinds
 use Rattle.report_form.specs.Laws.{HasForm, IsFlatLine}
 use Rattle.report_read.proofs.Forms.{bind_ok, bind_err, good, ok_is, Form, then_form, making_form}
-use Rattle.report_read.proofs.RowForms.{amount_zero, value_form, value_text, word_text, IsValued, IsHead, told_head, head_form, rows_form, zero_rows, chosen_same, told_foot, IsFoot, foot_form, pair_form}
-use Rattle.report_read.proofs.UnitForms.{IsResponse, AreUnits, AreSomeUnits, told_text, told_texts, units_form, zero_unit, zero_units, thermal_told, renewable_told, bid_told}
+use Rattle.report_read.proofs.RowForms.{amount_zero, value_form, value_text, word_text, IsValued, IsHead, told_head}
+use Rattle.report_read.proofs.RowForms.{head_form, rows_form, zero_rows, chosen_same, told_foot, IsFoot, foot_form}
+use Rattle.report_read.proofs.RowForms.{pair_form}
+use Rattle.report_read.proofs.UnitForms.{IsResponse, AreUnits, AreSomeUnits, told_text, told_texts, units_form}
+use Rattle.report_read.proofs.UnitForms.{zero_unit, zero_units, thermal_told, renewable_told, bid_told}
 
 -- ---- the lines of each kind
 
@@ -19,7 +31,8 @@ all_told r = tell kinds.Thermal r.thermal ++ (tell kinds.Renewable r.renewable +
 lines_append : (k : Kind) (xs ys : List Told) → lines_of k (xs ++ ys) ≡ lines_of k xs ++ lines_of k ys
 lines_append k [] ys = refl
 lines_append k (x ∷ xs) ys =
-    elim (same_kind k x.kind) as (λ t. cond t (x.line ∷ lines_of k (xs ++ ys)) (lines_of k (xs ++ ys)) ≡ cond t (x.line ∷ lines_of k xs) (lines_of k xs) ++ lines_of k ys) [
+    elim (same_kind k x.kind) as (λ t. cond t (x.line ∷ lines_of k (xs ++ ys)) (lines_of k (xs ++ ys)) ≡ cond t
+    (x.line ∷ lines_of k xs) (lines_of k xs) ++ lines_of k ys) [
       | true ↦ ap (λ (z : List UnitLine). x.line ∷ z) (lines_append k xs ys)
       | false ↦ lines_append k xs ys
     ]
@@ -38,45 +51,67 @@ lines_other : (j k : Kind) (ls : List UnitLine) → same_kind j k ≡ false → 
 lines_other j k [] h = refl
 lines_other j k (l ∷ ls) h = rw h (lines_other j k ls h)
 
-lines_three : (j : Kind) (r : Report) → lines_of j (all_told r) ≡ lines_of j (tell kinds.Thermal r.thermal) ++ (lines_of j (tell kinds.Renewable r.renewable) ++ lines_of j (tell kinds.Bid r.bids))
+lines_three : (j : Kind) (r : Report) →
+    lines_of j (all_told r) ≡ lines_of j (tell kinds.Thermal r.thermal)
+    ++ (lines_of j (tell kinds.Renewable r.renewable) ++ lines_of j (tell kinds.Bid r.bids))
 lines_three j r =
     lines_append j (tell kinds.Thermal r.thermal) (tell kinds.Renewable r.renewable ++ tell kinds.Bid r.bids)
-    ∙ ap (λ (z : List UnitLine). lines_of j (tell kinds.Thermal r.thermal) ++ z) (lines_append j (tell kinds.Renewable r.renewable) (tell kinds.Bid r.bids))
+    ∙ ap (λ (z : List UnitLine). lines_of j (tell kinds.Thermal r.thermal) ++ z)
+    (lines_append j (tell kinds.Renewable r.renewable) (tell kinds.Bid r.bids))
 
 thermal_lines : (r : Report) → lines_of kinds.Thermal (all_told r) ≡ r.thermal
 thermal_lines r =
-    lines_three kinds.Thermal r ∙ rw (lines_own kinds.Thermal r.thermal, lines_other kinds.Thermal kinds.Renewable r.renewable refl, lines_other kinds.Thermal kinds.Bid r.bids refl) (append-nil r.thermal)
+    lines_three kinds.Thermal r ∙
+    rw (
+      lines_own kinds.Thermal r.thermal,
+      lines_other kinds.Thermal kinds.Renewable r.renewable refl,
+      lines_other kinds.Thermal kinds.Bid r.bids refl,
+    ) (append-nil r.thermal)
 
 renewable_lines : (r : Report) → lines_of kinds.Renewable (all_told r) ≡ r.renewable
 renewable_lines r =
-    lines_three kinds.Renewable r ∙ rw (lines_other kinds.Renewable kinds.Thermal r.thermal refl, lines_own kinds.Renewable r.renewable, lines_other kinds.Renewable kinds.Bid r.bids refl) (append-nil r.renewable)
+    lines_three kinds.Renewable r ∙
+    rw (
+      lines_other kinds.Renewable kinds.Thermal r.thermal refl,
+      lines_own kinds.Renewable r.renewable,
+      lines_other kinds.Renewable kinds.Bid r.bids refl,
+    ) (append-nil r.renewable)
 
 bid_lines : (r : Report) → lines_of kinds.Bid (all_told r) ≡ r.bids
 bid_lines r =
-    lines_three kinds.Bid r ∙ rw (lines_other kinds.Bid kinds.Thermal r.thermal refl, lines_other kinds.Bid kinds.Renewable r.renewable refl, lines_own kinds.Bid r.bids) refl
+    lines_three kinds.Bid r ∙ rw (
+      lines_other kinds.Bid kinds.Thermal r.thermal refl,
+      lines_other kinds.Bid kinds.Renewable r.renewable refl,
+      lines_own kinds.Bid r.bids,
+    ) refl
 
 -- ---- units in order: their texts are those of the three kinds, one after the other
 
 -- the three texts
 abbrev kinds_text : List Told → List ℕ
-kinds_text ts = flat_map thermal_text (lines_of kinds.Thermal ts) ++ (flat_map renewable_text (lines_of kinds.Renewable ts) ++ flat_map bid_text (lines_of kinds.Bid ts))
+kinds_text ts = flat_map thermal_text (lines_of kinds.Thermal ts)
+    ++ (flat_map renewable_text (lines_of kinds.Renewable ts) ++ flat_map bid_text (lines_of kinds.Bid ts))
 
-no_thermal : (periods least : ℕ) (ts : List Told) → 1 ≤ least → AreUnits periods least ts → lines_of kinds.Thermal ts ≡ []
+no_thermal : (periods least : ℕ) (ts : List Told) → 1 ≤ least → AreUnits periods least ts →
+    lines_of kinds.Thermal ts ≡ []
 no_thermal periods least [] h a = refl
 no_thermal periods least (t ∷ ts) h a =
     let order = a.0.kind.in_order in
-    elim t.kind as (λ k. least ≤ rank k → AreUnits periods (rank k) ts → cond (same_kind kinds.Thermal k) (t.line ∷ lines_of kinds.Thermal ts) (lines_of kinds.Thermal ts) ≡ []) [
+    elim t.kind as (λ k. least ≤ rank k → AreUnits periods (rank k) ts →
+    cond (same_kind kinds.Thermal k) (t.line ∷ lines_of kinds.Thermal ts) (lines_of kinds.Thermal ts) ≡ []) [
       | kinds.Thermal ↦ λ o b. absurd (omega arith)
       | kinds.Renewable ↦ λ o b. no_thermal periods 1 ts (omega arith) b
       | kinds.Bid ↦ λ o b. no_thermal periods 2 ts (omega arith) b
       | kinds.Case ↦ λ o b. no_thermal periods 3 ts (omega arith) b
     ] order a.1
 
-no_renewable : (periods least : ℕ) (ts : List Told) → 2 ≤ least → AreUnits periods least ts → lines_of kinds.Renewable ts ≡ []
+no_renewable : (periods least : ℕ) (ts : List Told) → 2 ≤ least → AreUnits periods least ts →
+    lines_of kinds.Renewable ts ≡ []
 no_renewable periods least [] h a = refl
 no_renewable periods least (t ∷ ts) h a =
     let order = a.0.kind.in_order in
-    elim t.kind as (λ k. least ≤ rank k → AreUnits periods (rank k) ts → cond (same_kind kinds.Renewable k) (t.line ∷ lines_of kinds.Renewable ts) (lines_of kinds.Renewable ts) ≡ []) [
+    elim t.kind as (λ k. least ≤ rank k → AreUnits periods (rank k) ts →
+    cond (same_kind kinds.Renewable k) (t.line ∷ lines_of kinds.Renewable ts) (lines_of kinds.Renewable ts) ≡ []) [
       | kinds.Thermal ↦ λ o b. absurd (omega arith)
       | kinds.Renewable ↦ λ o b. absurd (omega arith)
       | kinds.Bid ↦ λ o b. no_renewable periods 2 ts (omega arith) b
@@ -84,61 +119,100 @@ no_renewable periods least (t ∷ ts) h a =
     ] order a.1
 
 -- the texts of units in order are those of the three kinds
-texts_by : (periods : ℕ) (k : Kind) (l : UnitLine) (ts : List Told) → rank k ≤ 2 → AreUnits periods (rank k) ts → told_texts ts ≡ kinds_text ts
+texts_by : (periods : ℕ) (k : Kind) (l : UnitLine) (ts : List Told) → rank k ≤ 2 → AreUnits periods (rank k) ts →
+    told_texts ts ≡ kinds_text ts
     → told_text (record { kind = k; line = l }) ++ told_texts ts ≡ kinds_text (record { kind = k; line = l } ∷ ts)
 texts_by periods kinds.Thermal l ts h a e =
     let rest = flat_map renewable_text (lines_of kinds.Renewable ts) ++ flat_map bid_text (lines_of kinds.Bid ts) in
-    ap (λ (z : List ℕ). z ++ told_texts ts) (thermal_told l) ∙ ap (λ (z : List ℕ). thermal_text l ++ z) e ∙ sym (append_assoc (thermal_text l) (flat_map thermal_text (lines_of kinds.Thermal ts)) rest)
+    ap (λ (z : List ℕ). z ++ told_texts ts) (thermal_told l) ∙ ap (λ (z : List ℕ). thermal_text l ++ z) e ∙
+    sym (append_assoc (thermal_text l) (flat_map thermal_text (lines_of kinds.Thermal ts)) rest)
 texts_by periods kinds.Renewable l ts h a e =
     let none = no_thermal periods 1 ts (omega arith) a in
     let bids = flat_map bid_text (lines_of kinds.Bid ts) in
     let others : told_texts ts ≡ flat_map renewable_text (lines_of kinds.Renewable ts) ++ bids =
-    e ∙ ap (λ (z : List UnitLine). flat_map thermal_text z ++ (flat_map renewable_text (lines_of kinds.Renewable ts) ++ bids)) none in
-    let made : told_text (record { kind = kinds.Renewable; line = l }) ++ told_texts ts ≡ (renewable_text l ++ flat_map renewable_text (lines_of kinds.Renewable ts)) ++ bids =
-    ap (λ (z : List ℕ). z ++ told_texts ts) (renewable_told l) ∙ ap (λ (z : List ℕ). renewable_text l ++ z) others ∙ sym (append_assoc (renewable_text l) (flat_map renewable_text (lines_of kinds.Renewable ts)) bids) in
-    made ∙ ap (λ (z : List UnitLine). flat_map thermal_text z ++ ((renewable_text l ++ flat_map renewable_text (lines_of kinds.Renewable ts)) ++ bids)) (sym none)
+    e ∙ ap (λ (z : List UnitLine). flat_map thermal_text
+    z ++ (flat_map renewable_text (lines_of kinds.Renewable ts) ++ bids)) none in
+    let made : told_text (record { kind = kinds.Renewable; line = l }) ++ told_texts
+    ts ≡ (renewable_text l ++ flat_map renewable_text (lines_of kinds.Renewable ts)) ++ bids =
+    ap (λ (z : List ℕ). z ++ told_texts ts) (renewable_told l) ∙ ap (λ (z : List ℕ). renewable_text l ++ z) others ∙
+    sym (append_assoc (renewable_text l) (flat_map renewable_text (lines_of kinds.Renewable ts)) bids) in
+    made ∙ ap (λ (z : List UnitLine). flat_map thermal_text
+    z ++ ((renewable_text l ++ flat_map renewable_text (lines_of kinds.Renewable ts)) ++ bids)) (sym none)
 texts_by periods kinds.Bid l ts h a e =
     let no_t = no_thermal periods 2 ts (omega arith) a in
     let no_r = no_renewable periods 2 ts (omega arith) a in
     let bids = flat_map bid_text (lines_of kinds.Bid ts) in
-    let others : told_texts ts ≡ bids = e ∙ ap (λ (z : List UnitLine). flat_map thermal_text z ++ (flat_map renewable_text (lines_of kinds.Renewable ts) ++ bids)) no_t ∙ ap (λ (z : List UnitLine). flat_map renewable_text z ++ bids) no_r in
-    let made : told_text (record { kind = kinds.Bid; line = l }) ++ told_texts ts ≡ bid_text l ++ bids = ap (λ (z : List ℕ). z ++ told_texts ts) (bid_told l) ∙ ap (λ (z : List ℕ). bid_text l ++ z) others in
+    let others : told_texts ts ≡ bids =
+    e ∙ ap (λ (z : List UnitLine). flat_map thermal_text
+    z ++ (flat_map renewable_text (lines_of kinds.Renewable ts) ++ bids)) no_t ∙
+    ap (λ (z : List UnitLine). flat_map renewable_text z ++ bids) no_r in
+    let made : told_text (record { kind = kinds.Bid; line = l }) ++ told_texts ts ≡ bid_text l ++ bids =
+    ap (λ (z : List ℕ). z ++ told_texts ts) (bid_told l) ∙ ap (λ (z : List ℕ). bid_text l ++ z) others in
     made ∙ ap (λ (z : List UnitLine). flat_map renewable_text z ++ (bid_text l ++ bids)) (sym no_r)
-    ∙ ap (λ (z : List UnitLine). flat_map thermal_text z ++ (flat_map renewable_text (lines_of kinds.Renewable ts) ++ (bid_text l ++ bids))) (sym no_t)
+    ∙ ap (λ (z : List UnitLine). flat_map thermal_text
+    z ++ (flat_map renewable_text (lines_of kinds.Renewable ts) ++ (bid_text l ++ bids))) (sym no_t)
 texts_by periods kinds.Case l ts h a e = absurd (omega arith)
 
 texts_same : (periods least : ℕ) (ts : List Told) → AreUnits periods least ts → told_texts ts ≡ kinds_text ts
 texts_same periods least [] a = refl
-texts_same periods least (t ∷ ts) a = texts_by periods t.kind t.line ts a.0.kind.told a.1 (texts_same periods (rank t.kind) ts a.1)
+texts_same periods least (t ∷ ts) a =
+    texts_by periods t.kind t.line ts a.0.kind.told a.1 (texts_same periods (rank t.kind) ts a.1)
 
 -- ---- what is known of the lines of each kind
 
 count_by_kind : (k : Kind) (l : UnitLine) (ts : List Told) → rank k ≤ 2
-    → length (lines_of kinds.Thermal ts) + (length (lines_of kinds.Renewable ts) + length (lines_of kinds.Bid ts)) ≡ length ts
-    → length (lines_of kinds.Thermal (record { kind = k; line = l } ∷ ts)) + (length (lines_of kinds.Renewable (record { kind = k; line = l } ∷ ts)) + length (lines_of kinds.Bid (record { kind = k; line = l } ∷ ts))) ≡ suc (length ts)
+    → length (lines_of kinds.Thermal ts) + (length (lines_of kinds.Renewable ts) + length (lines_of kinds.Bid ts))
+    ≡ length ts
+    → length (lines_of kinds.Thermal (record { kind = k; line = l } ∷ ts))
+    + (length (lines_of kinds.Renewable (record { kind = k; line = l } ∷ ts)) + length
+    (lines_of kinds.Bid (record { kind = k; line = l } ∷ ts))) ≡ suc (length ts)
 count_by_kind kinds.Thermal l ts h e = omega arith
 count_by_kind kinds.Renewable l ts h e = omega arith
 count_by_kind kinds.Bid l ts h e = omega arith
 count_by_kind kinds.Case l ts h e = absurd (omega arith)
 
-kinds_count : (periods least : ℕ) (ts : List Told) → AreUnits periods least ts → length (lines_of kinds.Thermal ts) + (length (lines_of kinds.Renewable ts) + length (lines_of kinds.Bid ts)) ≡ length ts
+kinds_count : (periods least : ℕ) (ts : List Told) → AreUnits periods least ts →
+    length (lines_of kinds.Thermal ts) + (length (lines_of kinds.Renewable ts) + length (lines_of kinds.Bid ts))
+    ≡ length ts
 kinds_count periods least [] a = omega arith
-kinds_count periods least (t ∷ ts) a = count_by_kind t.kind t.line ts a.0.kind.told (kinds_count periods (rank t.kind) ts a.1)
+kinds_count periods least (t ∷ ts) a =
+    count_by_kind t.kind t.line ts a.0.kind.told (kinds_count periods (rank t.kind) ts a.1)
 
 pub record AreLinesOf (periods : ℕ) (ts : List Told) : Type 0 where
   pub thermal : AllByRecursion (IsThermalLine periods) (lines_of kinds.Thermal ts)
   pub renewable : AllByRecursion (IsOtherLine periods) (lines_of kinds.Renewable ts)
   pub bids : AllByRecursion (IsOtherLine periods) (lines_of kinds.Bid ts)
 
-lines_by : (periods : ℕ) (k : Kind) (l : UnitLine) (ts : List Told) → rank k ≤ 2 → IsTold l → IsResponse periods k l.response → AreLinesOf periods ts → AreLinesOf periods (record { kind = k; line = l } ∷ ts)
-lines_by periods kinds.Thermal l ts h t r a = record { thermal = (record { told = t; on = r.on; power = r.power; reserve = r.reserve }, a.thermal); renewable = a.renewable; bids = a.bids }
-lines_by periods kinds.Renewable l ts h t r a = record { thermal = a.thermal; renewable = (record { told = t; flat = record { on = r.on; reserve = r.reserve }; power = r.power }, a.renewable); bids = a.bids }
-lines_by periods kinds.Bid l ts h t r a = record { thermal = a.thermal; renewable = a.renewable; bids = (record { told = t; flat = record { on = r.on; reserve = r.reserve }; power = r.power }, a.bids) }
+lines_by : (periods : ℕ) (k : Kind) (l : UnitLine) (ts : List Told) → rank k ≤ 2 → IsTold l →
+    IsResponse periods k l.response → AreLinesOf periods ts → AreLinesOf periods (record { kind = k; line = l } ∷ ts)
+lines_by periods kinds.Thermal l ts h t r a =
+    record {
+      thermal = (record { told = t; on = r.on; power = r.power; reserve = r.reserve }, a.thermal);
+      renewable =
+          a.renewable;
+      bids = a.bids;
+    }
+lines_by periods kinds.Renewable l ts h t r a =
+    record {
+      thermal = a.thermal;
+      renewable =
+          (record { told = t; flat = record { on = r.on; reserve = r.reserve }; power = r.power }, a.renewable);
+      bids =
+          a.bids;
+    }
+lines_by periods kinds.Bid l ts h t r a =
+    record {
+      thermal = a.thermal;
+      renewable = a.renewable;
+      bids =
+          (record { told = t; flat = record { on = r.on; reserve = r.reserve }; power = r.power }, a.bids);
+    }
 lines_by periods kinds.Case l ts h t r a = absurd (omega arith)
 
 lines_known : (periods least : ℕ) (ts : List Told) → AreUnits periods least ts → AreLinesOf periods ts
 lines_known periods least [] a = record { thermal = tt; renewable = tt; bids = tt }
-lines_known periods least (t ∷ ts) a = lines_by periods t.kind t.line ts a.0.kind.told a.0.told a.0.response (lines_known periods (rank t.kind) ts a.1)
+lines_known periods least (t ∷ ts) a =
+    lines_by periods t.kind t.line ts a.0.kind.told a.0.told a.0.response (lines_known periods (rank t.kind) ts a.1)
 
 pub order_known : (periods least : ℕ) (ts : List Told) → AreUnits periods least ts → AreInOrder least ts
 order_known periods least [] a = tt
@@ -149,22 +223,46 @@ order_known periods least (t ∷ ts) a = (a.0.kind.in_order, a.0.kind.told, orde
 other_response : (periods : ℕ) (l : UnitLine) → IsOtherLine periods l → IsResponse periods kinds.Bid l.response
 other_response periods l h = record { on = h.flat.on; reserve = h.flat.reserve; power = h.power }
 
-bids_are : (periods least : ℕ) (ls : List UnitLine) → least ≤ 2 → AllByRecursion (IsOtherLine periods) ls → AreUnits periods least (tell kinds.Bid ls)
+bids_are : (periods least : ℕ) (ls : List UnitLine) → least ≤ 2 → AllByRecursion (IsOtherLine periods) ls →
+    AreUnits periods least (tell kinds.Bid ls)
 bids_are periods least [] h a = tt
-bids_are periods least (l ∷ ls) h a =
-    (record { kind = record { in_order = h; told = omega arith }; told = a.0.told; response = other_response periods l a.0 }, bids_are periods 2 ls (omega arith) a.1)
+bids_are periods least (l ∷ ls) h a = (
+  record {
+    kind = record { in_order = h; told = omega arith };
+    told = a.0.told;
+    response =
+        other_response periods l a.0;
+  },
+  bids_are periods 2 ls (omega arith) a.1,
+)
 
-renewables_are : (periods least : ℕ) (ls bids : List UnitLine) → least ≤ 1 → AllByRecursion (IsOtherLine periods) ls → AllByRecursion (IsOtherLine periods) bids
+renewables_are : (periods least : ℕ) (ls bids : List UnitLine) → least ≤ 1 → AllByRecursion (IsOtherLine periods) ls →
+    AllByRecursion (IsOtherLine periods) bids
     → AreUnits periods least (tell kinds.Renewable ls ++ tell kinds.Bid bids)
 renewables_are periods least [] bids h a b = bids_are periods least bids (omega arith) b
-renewables_are periods least (l ∷ ls) bids h a b =
-    (record { kind = record { in_order = h; told = omega arith }; told = a.0.told; response = other_response periods l a.0 }, renewables_are periods 1 ls bids (omega arith) a.1 b)
+renewables_are periods least (l ∷ ls) bids h a b = (
+  record {
+    kind = record { in_order = h; told = omega arith };
+    told = a.0.told;
+    response =
+        other_response periods l a.0;
+  },
+  renewables_are periods 1 ls bids (omega arith) a.1 b,
+)
 
-thermals_are : (periods : ℕ) (ls renewables bids : List UnitLine) → AllByRecursion (IsThermalLine periods) ls → AllByRecursion (IsOtherLine periods) renewables → AllByRecursion (IsOtherLine periods) bids
+thermals_are : (periods : ℕ) (ls renewables bids : List UnitLine) → AllByRecursion (IsThermalLine periods) ls →
+    AllByRecursion (IsOtherLine periods) renewables → AllByRecursion (IsOtherLine periods) bids
     → AreUnits periods 0 (tell kinds.Thermal ls ++ (tell kinds.Renewable renewables ++ tell kinds.Bid bids))
 thermals_are periods [] renewables bids a b d = renewables_are periods 0 renewables bids (omega arith) b d
-thermals_are periods (l ∷ ls) renewables bids a b d =
-    (record { kind = record { in_order = omega arith; told = omega arith }; told = a.0.told; response = record { on = a.0.on; power = a.0.power; reserve = a.0.reserve } }, thermals_are periods ls renewables bids a.1 b d)
+thermals_are periods (l ∷ ls) renewables bids a b d = (
+  record {
+    kind = record { in_order = omega arith; told = omega arith };
+    told = a.0.told;
+    response =
+        record { on = a.0.on; power = a.0.power; reserve = a.0.reserve };
+  },
+  thermals_are periods ls renewables bids a.1 b d,
+)
 
 tell_length : (k : Kind) (ls : List UnitLine) → length (tell k ls) ≡ length ls
 tell_length k [] = refl
@@ -188,10 +286,12 @@ abbrev chosen_line : ℕ × ℤ → List ℕ
 chosen_line = word_text (codes "chosen ") value_text
 
 abbrev whole_text : Whole → List ℕ
-whole_text x = told_head x.0 ++ (rows_text 1 x.1.0 ++ (chosen_line x.1.1.0 ++ (told_texts x.1.1.1.0 ++ told_foot x.1.1.1.1)))
+whole_text x =
+    told_head x.0 ++ (rows_text 1 x.1.0 ++ (chosen_line x.1.1.0 ++ (told_texts x.1.1.1.0 ++ told_foot x.1.1.1.1)))
 
 abbrev IsWhole : Whole → Type 0
-IsWhole x = IsHead x.0 × (IsList (IsProposal x.0.periods) x.0.proposals x.1.0 × (IsValued 0 4294967295 x.1.1.0 × (AreSomeUnits x.0.periods 0 x.0.units x.1.1.1.0 × IsFoot x.1.1.1.1)))
+IsWhole x = IsHead x.0 × (IsList (IsProposal x.0.periods) x.0.proposals x.1.0 ×
+    (IsValued 0 4294967295 x.1.1.0 × (AreSomeUnits x.0.periods 0 x.0.units x.1.1.1.0 × IsFoot x.1.1.1.1)))
 
 zero_foot : Foot
 zero_foot = record { surplus = pos 0; payments = pos 0; gap = pos 0 }
@@ -208,15 +308,27 @@ whole_lines : Form whole_text IsWhole (then_lines head_at (λ h.
     then_lines (line (value_line (codes "chosen ") 0 4294967295)) (λ _.
     then_lines (units_at h.periods 0 h.units) (λ _. foot_at)))))
 whole_lines =
-    let units = λ (h : Head). pair_form told_texts (AreSomeUnits h.periods 0 h.units) (units_at h.periods 0 h.units) told_foot IsFoot foot_at zero_foot zero_foot_fits (units_form h.periods 0 h.units (omega arith)) foot_form in
+    let units = λ (h : Head). pair_form told_texts (AreSomeUnits h.periods 0 h.units) (units_at h.periods 0 h.units)
+    told_foot IsFoot foot_at zero_foot zero_foot_fits (units_form h.periods 0 h.units (omega arith))
+    foot_form in
     let some_units = λ (h : Head). zero_units h.periods 0 h.units (omega arith) in
     let tolds = λ (h : Head). replicate h.units (zero_unit h.periods) in
-    let chosen = λ (h : Head). pair_form _ _ _ _ _ _ (tolds h, zero_foot) (some_units h, zero_foot_fits) (value_form (codes "chosen ") 0 4294967295 refl (omega arith)) (units h) in
-    let rows = λ (h : Head). pair_form _ _ _ _ _ _ ((0, pos 0), (tolds h, zero_foot)) (some_valued, (some_units h, zero_foot_fits)) (rows_form h.periods 1 h.proposals) (chosen h) in
-    then_form told_head IsHead head_at (λ h y. rows_text 1 y.0 ++ (chosen_line y.1.0 ++ (told_texts y.1.1.0 ++ told_foot y.1.1.1)))
-    (λ h y. IsList (IsProposal h.periods) h.proposals y.0 × (IsValued 0 4294967295 y.1.0 × (AreSomeUnits h.periods 0 h.units y.1.1.0 × IsFoot y.1.1.1)))
-    (λ h. then_lines (rows_at h.periods 1 h.proposals) (λ _. then_lines (line (value_line (codes "chosen ") 0 4294967295)) (λ _. then_lines (units_at h.periods 0 h.units) (λ _. foot_at))))
-    head_form (λ h fits. rows h) (λ h fits. (((zero_rows h.periods h.proposals).0, ((0, pos 0), (tolds h, zero_foot))), ((zero_rows h.periods h.proposals).1, (some_valued, (some_units h, zero_foot_fits)))))
+    let chosen = λ (h : Head). pair_form _ _ _ _ _ _ (tolds h, zero_foot) (some_units h, zero_foot_fits)
+    (value_form (codes "chosen ") 0 4294967295 refl (omega arith)) (units h) in
+    let rows = λ (h : Head). pair_form _ _ _ _ _ _ ((0, pos 0), (tolds h, zero_foot))
+    (some_valued, (some_units h, zero_foot_fits)) (rows_form h.periods 1 h.proposals) (chosen h) in
+    then_form told_head IsHead head_at
+    (λ h y. rows_text 1 y.0 ++ (chosen_line y.1.0 ++ (told_texts y.1.1.0 ++ told_foot y.1.1.1)))
+    (λ h y. IsList (IsProposal h.periods) h.proposals y.0 ×
+    (IsValued 0 4294967295 y.1.0 × (AreSomeUnits h.periods 0 h.units y.1.1.0 × IsFoot y.1.1.1)))
+    (λ h. then_lines (rows_at h.periods 1 h.proposals)
+    (λ _. then_lines (line (value_line (codes "chosen ") 0 4294967295))
+    (λ _. then_lines (units_at h.periods 0 h.units) (λ _. foot_at))))
+    head_form (λ h fits. rows h)
+    (λ h fits. (
+      ((zero_rows h.periods h.proposals).0, ((0, pos 0), (tolds h, zero_foot))),
+      ((zero_rows h.periods h.proposals).1, (some_valued, (some_units h, zero_foot_fits))),
+    ))
 
 whole_fits : (x : Whole) → IsWhole x → IsReport (made_report x)
 whole_fits x h =
@@ -248,23 +360,45 @@ whole_fits x h =
     }
 
 -- a report's text, its lines one after the other
-text_parts : (head rows chosen thermal renewable bids foot : List ℕ) → head ++ rows ++ chosen ++ thermal ++ renewable ++ bids ++ foot ≡ head ++ (rows ++ (chosen ++ ((thermal ++ (renewable ++ bids)) ++ foot)))
+text_parts : (head rows chosen thermal renewable bids foot : List ℕ) →
+    head ++ rows ++ chosen ++ thermal ++ renewable ++ bids ++ foot ≡ head
+    ++ (rows ++ (chosen ++ ((thermal ++ (renewable ++ bids)) ++ foot)))
 text_parts head rows chosen thermal renewable bids foot = simp append_assoc
 
 whole_same : (x : Whole) → IsWhole x → report_text (made_report x) ≡ whole_text x
 unfolding report_text
 whole_same x h =
     let r = made_report x in
-    let count : head_text r.periods r.units r.budget r.ahead r.cost (length r.rows) ≡ told_head x.0 = ap (λ (n : ℕ). head_text x.0.periods x.0.units x.0.budget x.0.ahead x.0.cost n) h.1.0.length_is in
-    let texts : flat_map thermal_text r.thermal ++ (flat_map renewable_text r.renewable ++ flat_map bid_text r.bids) ≡ told_texts x.1.1.1.0 = sym (texts_same x.0.periods 0 x.1.1.1.0 h.1.1.1.0.units) in
-    text_parts (head_text r.periods r.units r.budget r.ahead r.cost (length r.rows)) (rows_text 1 r.rows) (chosen_text r.chosen r.value) (flat_map thermal_text r.thermal) (flat_map renewable_text r.renewable) (flat_map bid_text r.bids) (foot_text r.surplus r.payments r.gap)
-    ∙ ap (λ (z : List ℕ). z ++ (rows_text 1 r.rows ++ (chosen_text r.chosen r.value ++ ((flat_map thermal_text r.thermal ++ (flat_map renewable_text r.renewable ++ flat_map bid_text r.bids)) ++ told_foot x.1.1.1.1)))) count
-    ∙ ap (λ (z : List ℕ). told_head x.0 ++ (rows_text 1 r.rows ++ (z ++ ((flat_map thermal_text r.thermal ++ (flat_map renewable_text r.renewable ++ flat_map bid_text r.bids)) ++ told_foot x.1.1.1.1)))) (chosen_same x.1.1.0)
-    ∙ ap (λ (z : List ℕ). told_head x.0 ++ (rows_text 1 r.rows ++ (chosen_line x.1.1.0 ++ (z ++ told_foot x.1.1.1.1)))) texts
+    let count : head_text r.periods r.units r.budget r.ahead r.cost (length r.rows) ≡ told_head x.0 =
+    ap (λ (n : ℕ). head_text x.0.periods x.0.units x.0.budget x.0.ahead x.0.cost n) h.1.0.length_is in
+    let texts : flat_map thermal_text r.thermal ++ (flat_map renewable_text r.renewable ++ flat_map bid_text r.bids)
+    ≡ told_texts x.1.1.1.0 = sym (texts_same x.0.periods 0 x.1.1.1.0 h.1.1.1.0.units) in
+    text_parts (head_text r.periods r.units r.budget r.ahead r.cost (length r.rows)) (rows_text 1 r.rows)
+    (chosen_text r.chosen r.value) (flat_map thermal_text r.thermal) (flat_map renewable_text r.renewable)
+    (flat_map bid_text r.bids) (foot_text r.surplus r.payments r.gap)
+    ∙ ap (λ (z : List ℕ).
+    z ++ (rows_text 1 r.rows ++ (chosen_text r.chosen
+    r.value ++ ((flat_map thermal_text
+    r.thermal ++ (flat_map renewable_text r.renewable ++ flat_map bid_text r.bids)) ++ told_foot x.1.1.1.1)))) count
+    ∙ ap (λ (z : List ℕ). told_head
+    x.0 ++ (rows_text 1
+    r.rows ++
+    (z ++ ((flat_map thermal_text r.thermal ++ (flat_map renewable_text r.renewable ++ flat_map bid_text r.bids))
+    ++ told_foot x.1.1.1.1)))) (chosen_same x.1.1.0)
+    ∙ ap (λ (z : List ℕ). told_head x.0 ++ (rows_text 1 r.rows ++ (chosen_line x.1.1.0 ++ (z ++ told_foot x.1.1.1.1))))
+    texts
 
 whole_back : Report → Whole
 whole_back r = (
-  record { periods = r.periods; units = r.units; budget = r.budget; ahead = r.ahead; cost = r.cost; proposals = length r.rows },
+  record {
+    periods = r.periods;
+    units = r.units;
+    budget = r.budget;
+    ahead = r.ahead;
+    cost = r.cost;
+    proposals =
+        length r.rows;
+  },
   (r.rows, ((r.chosen, r.value), (all_told r, record { surplus = r.surplus; payments = r.payments; gap = r.gap }))),
 )
 
@@ -284,7 +418,11 @@ back_fits r h = (
     (
       (record { at_least = omega arith; at_most = (let most = h.chosen in omega arith) }, h.value),
       (
-        record { length_is = all_length r ∙ h.lines; units = thermals_are r.periods r.thermal r.renewable r.bids h.thermal h.renewable h.bids },
+        record {
+          length_is = all_length r ∙ h.lines;
+          units =
+              thermals_are r.periods r.thermal r.renewable r.bids h.thermal h.renewable h.bids;
+        },
         record { surplus = h.surplus; payments = h.payments; gap = h.gap },
       ),
     ),
@@ -332,13 +470,15 @@ all_takes bytes r e =
     let a = bind_ok (report_at bytes) (λ x. if_no_more x.0 x.1) r e in
     let t = report_form.takes bytes a.0.0 a.0.1 a.1 in
     let n = more_or_none a.0.0 a.0.1 r a.2 in
-    let whole : bytes ≡ report_text a.0.0 = t.0 ∙ ap (λ (z : List ℕ). report_text a.0.0 ++ z) n.0 ∙ append-nil (report_text a.0.0) in
+    let whole : bytes ≡ report_text a.0.0 = t.0 ∙ ap (λ (z : List ℕ). report_text a.0.0 ++ z) n.0 ∙
+    append-nil (report_text a.0.0) in
     subst (λ (w : Report). (bytes ≡ report_text w) × IsReport w) n.1 (whole, t.1)
 
 pub all_again : (r : Report) → IsReport r → all_of (report_text r) ≡ Ok r
 unfolding all_of
 all_again r h =
-    let read : report_at (report_text r) ≡ Ok (r, []) = ap report_at (sym (append-nil (report_text r))) ∙ report_form.again r [] h in
+    let read : report_at (report_text r) ≡ Ok (r, []) =
+    ap report_at (sym (append-nil (report_text r))) ∙ report_form.again r [] h in
     rw read refl
 
 -- where reading stops
@@ -351,7 +491,8 @@ pub record StopsAt (bytes : List ℕ) (left : ℕ) : Type 0 where
   pub begins : Begins before
   pub fails : (here after : List ℕ) → IsLine here → rest ≡ here ++ after → Begins (before ++ here) → ⊥
 
-more_is : {A : Type 0} (r : A) (bytes : List ℕ) (left : ℕ) → if_no_more r bytes ≡ Err left → (length bytes ≡ left) × (1 ≤ length bytes)
+more_is : {A : Type 0} (r : A) (bytes : List ℕ) (left : ℕ) → if_no_more r bytes ≡ Err left →
+    (length bytes ≡ left) × (1 ≤ length bytes)
 more_is r [] left e = absurd cc
 more_is {A} r (b ∷ bs) left e = let same : length (b ∷ bs) ≡ left = cc in (same, omega arith)
 
@@ -376,7 +517,8 @@ all_stops bytes left e =
             left_is = s.left_is;
             lines = s.lines;
             begins = (s.begun, s.fits, s.more, s.begins);
-            fails = λ here after whole cut b. s.fails here after whole cut b.0 [] b.2 b.1 (append-nil (report_text b.0) ∙ b.3);
+            fails = λ here after whole cut b. s.fails here after whole cut b.0 [] b.2 b.1
+                (append-nil (report_text b.0) ∙ b.3);
           }
       | inr a ↦
           let t = report_form.takes bytes a.0.0 a.0.1 a.1 in
@@ -390,7 +532,9 @@ all_stops bytes left e =
             begins = (a.0.0, t.1, [], sym (append-nil (report_text a.0.0)));
             fails = λ here after whole cut b.
                 let one : good (b.0, []) ≡ good (a.0.0, here ++ b.2) =
-                sym (report_form.again b.0 [] b.1) ∙ ap report_at (append-nil (report_text b.0) ∙ b.3 ∙ append_assoc (report_text a.0.0) here b.2) ∙ report_form.again a.0.0 (here ++ b.2) t.1 in
+                sym (report_form.again b.0 [] b.1) ∙
+                ap report_at (append-nil (report_text b.0) ∙ b.3 ∙ append_assoc (report_text a.0.0) here b.2) ∙
+                report_form.again a.0.0 (here ++ b.2) t.1 in
                 let pair = ok_is (b.0, []) (a.0.0, here ++ b.2) one in
                 let nothing : [] ≡ here ++ b.2 = ap (λ (w : Report × List ℕ). w.1) pair in
                 line_is_some here b.2 whole nothing;
@@ -398,18 +542,22 @@ all_stops bytes left e =
     ]
 
 -- the line where so many bytes are left
-cut_is : (before rest : List ℕ) (left : ℕ) → length rest ≡ left → take (length (before ++ rest) - left) (before ++ rest) ≡ before
+cut_is : (before rest : List ℕ) (left : ℕ) → length rest ≡ left →
+    take (length (before ++ rest) - left) (before ++ rest) ≡ before
 cut_is before rest left h =
     let n = length-append before rest in
     let k : length (before ++ rest) - left ≡ length before = omega arith in
     rw k (take_at before rest (length before) refl)
 
-pub is_fault : (bytes : List ℕ) (left : ℕ) → all_of bytes ≡ Err left → IsFault bytes (suc (line_feeds (take (length bytes - left) bytes)))
+pub is_fault : (bytes : List ℕ) (left : ℕ) → all_of bytes ≡ Err left →
+    IsFault bytes (suc (line_feeds (take (length bytes - left) bytes)))
 is_fault bytes left e =
     let s = all_stops bytes left e in
-    let front : take (length bytes - left) bytes ≡ s.before = ap (λ (z : List ℕ). take (length z - left) z) s.cut ∙ cut_is s.before s.rest left s.left_is in
+    let front : take (length bytes - left) bytes ≡ s.before =
+    ap (λ (z : List ℕ). take (length z - left) z) s.cut ∙ cut_is s.before s.rest left s.left_is in
     record {
-      none = λ r h same. (let read = ap all_of same ∙ all_again r h in absurd (let both : Err left ≡ good r = sym e ∙ read in cc));
+      none = λ r h same. (let read = ap all_of same ∙ all_again r h in
+          absurd (let both : Err left ≡ good r = sym e ∙ read in cc));
       before = s.before;
       rest = s.rest;
       cut = s.cut;
@@ -420,9 +568,11 @@ is_fault bytes left e =
     }
 
 -- bytes are read or refused
-pub report_or_fault : (bytes : List ℕ) → ((r : Report) × IsReport r × (bytes ≡ report_text r)) ⊎ ((line : ℕ) × IsFault bytes line)
+pub report_or_fault : (bytes : List ℕ) →
+    ((r : Report) × IsReport r × (bytes ≡ report_text r)) ⊎ ((line : ℕ) × IsFault bytes line)
 report_or_fault bytes =
-    elim (all_of bytes) as (λ found. all_of bytes ≡ found → ((r : Report) × IsReport r × (bytes ≡ report_text r)) ⊎ ((line : ℕ) × IsFault bytes line)) [
+    elim (all_of bytes) as (λ found. all_of bytes ≡ found →
+    ((r : Report) × IsReport r × (bytes ≡ report_text r)) ⊎ ((line : ℕ) × IsFault bytes line)) [
       | Ok r ↦ λ read. (let t = all_takes bytes r read in inl (r, t.1, t.0))
       | Err left ↦ λ read. inr (suc (line_feeds (take (length bytes - left) bytes)), is_fault bytes left read)
     ] refl
@@ -452,18 +602,22 @@ has_form r h = record {
 pub head_is : (bytes : List ℕ) (h : Head) (rest : List ℕ) → head_at bytes ≡ Ok (h, rest) → IsHead h
 head_is bytes h rest e = (head_form.takes bytes h rest e).1
 
-pub head_shorter : (bytes : List ℕ) (h : Head) (rest : List ℕ) → head_at bytes ≡ Ok (h, rest) → length rest ≤ length bytes
+pub head_shorter : (bytes : List ℕ) (h : Head) (rest : List ℕ) → head_at bytes ≡ Ok (h, rest) →
+    length rest ≤ length bytes
 head_shorter bytes h rest e =
     let t = (head_form.takes bytes h rest e).0 in
     let n = ap length t in
     let m = length-append (told_head h) rest in
     omega arith
 
-pub units_order : (periods count : ℕ) (bytes : List ℕ) (ts : List Told) (rest : List ℕ) → units_at periods 0 count bytes ≡ Ok (ts, rest) → AreInOrder 0 ts
-units_order periods count bytes ts rest e = order_known periods 0 ts ((units_form periods 0 count (omega arith)).takes bytes ts rest e).1.units
+pub units_order : (periods count : ℕ) (bytes : List ℕ) (ts : List Told) (rest : List ℕ) →
+    units_at periods 0 count bytes ≡ Ok (ts, rest) → AreInOrder 0 ts
+units_order periods count bytes ts rest e =
+    order_known periods 0 ts ((units_form periods 0 count (omega arith)).takes bytes ts rest e).1.units
 
 -- bytes aren't both read and refused
-pub never_both : (bytes : List ℕ) (left : ℕ) (r : Report) → all_of bytes ≡ Err left → bytes ≡ report_text r → IsReport r → ⊥
+pub never_both : (bytes : List ℕ) (left : ℕ) (r : Report) → all_of bytes ≡ Err left → bytes ≡ report_text r →
+    IsReport r → ⊥
 never_both bytes left r e same h =
     let read : good r ≡ Err left = sym (ap all_of same ∙ all_again r h) ∙ e in
     absurd cc

@@ -1,5 +1,7 @@
 -- Among the items of a list that pass, one is first in a total order.
-use Rattle.right_report.proofs.Common.{◌≡◌, ◌⊎◌, inl, inr, true, false, List, [], ◌∷◌, refl, sym, ap, ◌∙◌, cases_Bool, false≢true, upto, tied_itself, IsTotalOrder, is_gt, ordering_reverse, Ordering, Less, Equal, Greater}
+use Rattle.right_report.proofs.Common.{◌≡◌, ◌⊎◌, inl, inr, true, false, List, [], ◌∷◌, refl, sym, ap, ◌∙◌, cases_Bool}
+use Rattle.right_report.proofs.Common.{false≢true, upto, tied_itself, IsTotalOrder, is_gt, ordering_reverse, Ordering}
+use Rattle.right_report.proofs.Common.{Less, Equal, Greater}
 use Rattle.right_report.proofs.Listing.{IsIn}
 
 turned : (o : Ordering) → is_gt (ordering_reverse o) ≡ true → is_gt o ≡ false
@@ -42,10 +44,16 @@ module _ {X : Type 0} (cmp : X → X → Ordering) (order : IsTotalOrder cmp) (P
 
   one_more : (z : X) (zs : List X) → Dec (Passes z) → NonePasses zs ⊎ First zs → NonePasses (z ∷ zs) ⊎ First (z ∷ zs)
   one_more z zs (no fails) (inl none) = inl (none_more z zs fails none)
-  one_more z zs (no fails) (inr first) = inr (first.0, first.1, behind_more first.0 z zs (λ p. absurd (fails p)) first.2)
+  one_more z zs (no fails) (inr first) =
+      inr (first.0, first.1, behind_more first.0 z zs (λ p. absurd (fails p)) first.2)
   one_more z zs (yes p) (inl none) = inr (z, p, behind_more z z zs (λ _. itself z z refl) (alone z zs none))
   one_more z zs (yes p) (inr first) = elim (cases_Bool (is_gt (cmp first.0 z))) [
-    | inl late ↦ inr (z, p, behind_more z z zs (λ _. itself z z refl) (behind_first first.0 z zs (before first.0 z late) first.2))
+    | inl late ↦ inr (
+      z,
+      p,
+      behind_more z z zs (λ _. itself z z refl)
+          (behind_first first.0 z zs (before first.0 z late) first.2),
+    )
     | inr early ↦ inr (first.0, first.1, behind_more first.0 z zs (λ _. early) first.2)
   ]
 

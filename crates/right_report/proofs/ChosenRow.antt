@@ -1,5 +1,8 @@
 -- Where there is a row, one is chosen.
-use Rattle.right_report.proofs.Common.{◌≡◌, ℕ, suc, ◌<◌, ◌≤◌, Bool, true, false, ◌&&◌, cond, ℤ, pos, Some, None, Option, List, [], ◌∷◌, map, length, get_or, inl, inr, refl, ap, arith, int_le, unwrap_or, list_all, position_or_len, option_map, lt-ltb, ints, length-map, Proposal, first_greatest, OneIsChosen}
+use Rattle.right_report.proofs.Common.{◌≡◌, ℕ, suc, ◌<◌, ◌≤◌, Bool, true, false, ◌&&◌, cond, ℤ, pos, Some, None, Option}
+use Rattle.right_report.proofs.Common.{List, [], ◌∷◌, map, length, get_or, inl, inr, refl, ap, arith, int_le, unwrap_or}
+use Rattle.right_report.proofs.Common.{list_all, position_or_len, option_map, lt-ltb, ints, length-map, Proposal}
+use Rattle.right_report.proofs.Common.{first_greatest, OneIsChosen}
 use Rattle.std.proofs.lemmas.Bool.Decides.{leb_tells}
 use Rattle.std.proofs.lemmas.List.Sums.{fails_before_first}
 
@@ -34,7 +37,8 @@ top_up (v ∷ vs) a b h le =
     both _ _ (le_up v a b (first_part _ _ h) le) (top_up vs a b (other_part _ _ h) le)
 
 -- one of the values is at least each
-some_top : (v : ℤ) (vs : List ℤ) → (k : ℕ) × (k < length (v ∷ vs)) × (is_top (v ∷ vs) (get_or (v ∷ vs) k (pos 0)) ≡ true)
+some_top : (v : ℤ) (vs : List ℤ) → (k : ℕ) × (k < length (v ∷ vs)) ×
+    (is_top (v ∷ vs) (get_or (v ∷ vs) k (pos 0)) ≡ true)
 some_top v [] = (0, omega arith, both _ _ (le_self v) refl)
 some_top v (w ∷ ws) = by_test (some_top w ws)
   where
@@ -42,12 +46,14 @@ some_top v (w ∷ ws) = by_test (some_top w ws)
         → (k : ℕ) × (k < length (v ∷ w ∷ ws)) × (is_top (v ∷ w ∷ ws) (get_or (v ∷ w ∷ ws) k (pos 0)) ≡ true)
     by_test (k, inside, top) = choose (int_le v (get_or (w ∷ ws) k (pos 0))) refl
       where
-        choose : (b : Bool) → int_le v (get_or (w ∷ ws) k (pos 0)) ≡ b → (k : ℕ) × (k < length (v ∷ w ∷ ws)) × (is_top (v ∷ w ∷ ws) (get_or (v ∷ w ∷ ws) k (pos 0)) ≡ true)
+        choose : (b : Bool) → int_le v (get_or (w ∷ ws) k (pos 0)) ≡ b →
+            (k : ℕ) × (k < length (v ∷ w ∷ ws)) × (is_top (v ∷ w ∷ ws) (get_or (v ∷ w ∷ ws) k (pos 0)) ≡ true)
         choose true e = (suc k, omega (arith, inside), both _ _ e top)
         choose false e = (0, omega arith, both _ _ (le_self v) (top_up (w ∷ ws) _ v top (le_other v _ e)))
 
 -- a place that passes isn't before the first
-not_before : (values : List ℤ) (k : ℕ) → is_top values (get_or values k (pos 0)) ≡ true → k < position_or_len (is_top values) values → ⊥
+not_before : (values : List ℤ) (k : ℕ) → is_top values (get_or values k (pos 0)) ≡ true →
+    k < position_or_len (is_top values) values → ⊥
 not_before values k top before = let fails = fails_before_first (is_top values) values k (pos 0) before in cc
 
 found : (values : List ℤ) → 1 ≤ length values → (k : ℕ) × (k < length values) × (first_greatest values ≡ Some k)

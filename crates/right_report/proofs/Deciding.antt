@@ -1,5 +1,6 @@
 -- What is made of parts that are decided is decided.
-use Rattle.right_report.proofs.Common.{◌≡◌, ℕ, zero, suc, ◌<◌, inl, inr, ℤ, ◌≤ℤ◌, Bool, true, false, refl, subst, arith, cases_lt, true≢false, false≢true, ints, by_lt_z, IsTrue, IsFalse}
+use Rattle.right_report.proofs.Common.{◌≡◌, ℕ, zero, suc, ◌<◌, inl, inr, ℤ, ◌≤ℤ◌, Bool, true, false, refl, subst, arith}
+use Rattle.right_report.proofs.Common.{cases_lt, true≢false, false≢true, ints, by_lt_z, IsTrue, IsFalse}
 
 pub both : {P Q : Type 0} → Dec P → Dec Q → Dec (P × Q)
 both (yes p) (yes q) = yes (p, q)

@@ -32,7 +32,8 @@ abbrev pub response_in : UnitLine → Schedule
 response_in l = l.response
 
 -- these are the lines of the units with their names, their schedules in a plan and their responses
-pub record AreLines (π : PriceLists) (us : List AnyUnit) (plan responses : List Schedule) (names : List (List ℕ)) (ls : List UnitLine) : Type 0 where
+pub record AreLines (π : PriceLists) (us : List AnyUnit) (plan responses : List Schedule) (names : List (List ℕ))
+    (ls : List UnitLine) : Type 0 where
   pub names_are : map name_in ls ≡ names
   pub responses_are : map response_in ls ≡ responses
   pub fit : AllZip (λ (u : AnyUnit) (l : UnitLine). Fits u π l.response) us ls
@@ -42,9 +43,19 @@ pub record AreLines (π : PriceLists) (us : List AnyUnit) (plan responses : List
   pub payments : map payment_in ls ≡ zip_with (λ (e s : ℤ). e -ℤ s) (map earned_in ls) (map scheduled_in ls)
 
 none : (π : PriceLists) → AreLines π [] [] [] [] []
-none π = record { names_are = refl; responses_are = refl; fit = tt; tops = tt; earned = tt; scheduled = refl; payments = refl }
+none π = record {
+  names_are = refl;
+  responses_are = refl;
+  fit = tt;
+  tops = tt;
+  earned = tt;
+  scheduled = refl;
+  payments =
+      refl;
+}
 
-one_more : (π : PriceLists) (us : List AnyUnit) (plan responses : List Schedule) (names : List (List ℕ)) (ls : List UnitLine)
+one_more : (π : PriceLists) (us : List AnyUnit) (plan responses : List Schedule) (names : List (List ℕ))
+    (ls : List UnitLine)
     (name : List ℕ) (u : AnyUnit) (s r : Schedule) → Fits u π r → AreLines π us plan responses names ls
     → AreLines π (u ∷ us) (s ∷ plan) (r ∷ responses) (name ∷ names) (line_made π name u s r ∷ ls)
 one_more π us plan responses names ls name u s r fit h =
@@ -59,8 +70,10 @@ one_more π us plan responses names ls name u s r fit h =
       payments = ap (λ (xs : List ℤ). (earnings u π r -ℤ earnings u π s) ∷ xs) h.payments;
     }
 
-pub lines_exist : (π : PriceLists) (us : List AnyUnit) (plan responses : List Schedule) (names : List (List ℕ)) → length plan ≡ length us → length names ≡ length us
-    → AllZip (λ (u : AnyUnit) (s : Schedule). Fits u π s) us responses → (ls : List UnitLine) × AreLines π us plan responses names ls
+pub lines_exist : (π : PriceLists) (us : List AnyUnit) (plan responses : List Schedule) (names : List (List ℕ)) →
+    length plan ≡ length us → length names ≡ length us
+    → AllZip (λ (u : AnyUnit) (s : Schedule). Fits u π s) us responses →
+    (ls : List UnitLine) × AreLines π us plan responses names ls
 lines_exist π [] [] [] [] p n fit = ([], none π)
 lines_exist π [] [] [] (name ∷ names) p n fit = absurd (omega (arith, n))
 lines_exist π [] [] (r ∷ rs) names p n fit = absurd fit

@@ -1,9 +1,11 @@
 -- The report of a run.
-use Rattle.std.proofs.Common.{◌≡◌, ℕ, ◌-◌, ◌≤◌, inl, inr, ℤ, pos, ◌-ℤ◌, Some, List, [], ◌++◌, map, take, drop, length, get_or, slice_get, refl, sym, ap, ◌∙◌, subst, arith, length-append, append_assoc}
+use Rattle.std.proofs.Common.{◌≡◌, ℕ, ◌-◌, ◌≤◌, inl, inr, ℤ, pos, ◌-ℤ◌, Some, List, [], ◌++◌, map, take, drop, length}
+use Rattle.std.proofs.Common.{get_or, slice_get, refl, sym, ap, ◌∙◌, subst, arith, length-append, append_assoc}
 use Rattle.std.proofs.lemmas.List.{length-map, take_at, drop_at, take-map, drop-map, take-append-drop}
 use Rattle.std.proofs.lemmas.Option.{slice_get-get_or}
 use Rattle.std.specs.List.{AllZip}
-use Rattle.uc_model.specs.Data.{AnyUnit, NamedThermalUnit, NamedRenewableUnit, NamedBidUnit, Schedule, Market, units, unit_count, thermal_names, renewable_names, bid_names}
+use Rattle.uc_model.specs.Data.{AnyUnit, NamedThermalUnit, NamedRenewableUnit, NamedBidUnit, Schedule, Market, units}
+use Rattle.uc_model.specs.Data.{unit_count, thermal_names, renewable_names, bid_names}
 use Rattle.uc_model.specs.Earnings.{IsTop}
 use Rattle.uc_model.specs.PriceRule.{Proposal, no_prices, chosen_number}
 use Rattle.uc_model.specs.Runs.{Fits, HasTotals, IsRun}
@@ -16,7 +18,8 @@ use Rattle.report_form.specs.ReportText.{UnitLine, Report}
 use Rattle.right_report.specs.RightReport.{IsRightReport}
 use Rattle.right_report.specs.Existence.{RunsExist, RightReportsExist}
 use Rattle.right_report.proofs.UnitLines.{units_length}
-use Rattle.right_report.proofs.LinesExist.{AreLines, lines_exist, name_in, scheduled_in, payment_in, response_in, earned_in}
+use Rattle.right_report.proofs.LinesExist.{AreLines, lines_exist, name_in, scheduled_in, payment_in, response_in}
+use Rattle.right_report.proofs.LinesExist.{earned_in}
 
 -- ---- names
 
@@ -34,7 +37,15 @@ names_length m =
     let a = thermal_count m in
     let b = renewable_count m in
     let c = length-map m.bids (λ (n : NamedBidUnit). n.name) in
-    omega (arith, a, b, c, units_length m, length-append (thermal_names m) (renewable_names m ++ bid_names m), length-append (renewable_names m) (bid_names m))
+    omega (
+      arith,
+      a,
+      b,
+      c,
+      units_length m,
+      length-append (thermal_names m) (renewable_names m ++ bid_names m),
+      length-append (renewable_names m) (bid_names m),
+    )
 
 -- ---- the lines of each kind
 
@@ -54,32 +65,38 @@ module _ (m : Market) (ls : List UnitLine) where
   all_lines : thermal_lines ++ renewable_lines ++ bid_lines ≡ ls
   all_lines =
       append_assoc thermal_lines renewable_lines bid_lines
-      ∙ (ap (λ (rest : List UnitLine). thermal_lines ++ rest) (take-append-drop (length m.flat) other_lines) ∙ take-append-drop (length m.thermal) ls)
+      ∙ (ap (λ (rest : List UnitLine). thermal_lines ++ rest) (take-append-drop (length m.flat) other_lines) ∙
+      take-append-drop (length m.thermal) ls)
 
   module _ (are : map name_in ls ≡ all_names m) where
     other_names : map name_in other_lines ≡ renewable_names m ++ bid_names m
     other_names =
         sym (drop-map name_in (length m.thermal) ls)
-        ∙ (ap (drop (length m.thermal)) are ∙ drop_at (thermal_names m) (renewable_names m ++ bid_names m) (length m.thermal) (thermal_count m))
+        ∙ (ap (drop (length m.thermal)) are ∙
+        drop_at (thermal_names m) (renewable_names m ++ bid_names m) (length m.thermal) (thermal_count m))
 
     thermal_named : map name_in thermal_lines ≡ thermal_names m
     thermal_named =
         sym (take-map name_in (length m.thermal) ls)
-        ∙ (ap (take (length m.thermal)) are ∙ take_at (thermal_names m) (renewable_names m ++ bid_names m) (length m.thermal) (thermal_count m))
+        ∙ (ap (take (length m.thermal)) are ∙
+        take_at (thermal_names m) (renewable_names m ++ bid_names m) (length m.thermal) (thermal_count m))
 
     renewable_named : map name_in renewable_lines ≡ renewable_names m
     renewable_named =
         sym (take-map name_in (length m.flat) other_lines)
-        ∙ (ap (take (length m.flat)) other_names ∙ take_at (renewable_names m) (bid_names m) (length m.flat) (renewable_count m))
+        ∙ (ap (take (length m.flat)) other_names ∙
+        take_at (renewable_names m) (bid_names m) (length m.flat) (renewable_count m))
 
     bids_named : map name_in bid_lines ≡ bid_names m
     bids_named =
         sym (drop-map name_in (length m.flat) other_lines)
-        ∙ (ap (drop (length m.flat)) other_names ∙ drop_at (renewable_names m) (bid_names m) (length m.flat) (renewable_count m))
+        ∙ (ap (drop (length m.flat)) other_names ∙
+        drop_at (renewable_names m) (bid_names m) (length m.flat) (renewable_count m))
 
 -- ---- the report
 
-report_made : (m : Market) (plan : List Schedule) (budget ahead : ℕ) (rows : List Proposal) (row : Proposal) (ls : List UnitLine) → Report
+report_made : (m : Market) (plan : List Schedule) (budget ahead : ℕ) (rows : List Proposal) (row : Proposal)
+    (ls : List UnitLine) → Report
 report_made m plan budget ahead rows row ls = record {
   periods = m.periods;
   units = unit_count m;
@@ -103,7 +120,8 @@ record AreRightLines (m : Market) (plan : List Schedule) (row : Proposal) (ls : 
   totals : HasTotals m (map response_in ls) row
   earned : AllZip (λ (u : AnyUnit) (l : UnitLine). IsTop u row.prices l.earned) (units m) ls
 
-right_lines : (m : Market) (plan responses : List Schedule) (row : Proposal) (ls : List UnitLine) → HasTotals m responses row
+right_lines : (m : Market) (plan responses : List Schedule) (row : Proposal) (ls : List UnitLine) →
+    HasTotals m responses row
     → AreLines row.prices (units m) plan responses (all_names m) ls → AreRightLines m plan row ls
 right_lines m plan responses row ls totals h = record {
   fit = h.fit;
@@ -111,8 +129,10 @@ right_lines m plan responses row ls totals h = record {
   earned = h.tops;
 }
 
-settled : (m : Market) (plan responses : List Schedule) (row : Proposal) (ls : List UnitLine) → AreLines row.prices (units m) plan responses (all_names m) ls
-    → IsSettled m plan row.prices (map scheduled_in ls) (map payment_in ls) (surplus_value m plan row.prices) (total (map payment_in ls))
+settled : (m : Market) (plan responses : List Schedule) (row : Proposal) (ls : List UnitLine) →
+    AreLines row.prices (units m) plan responses (all_names m) ls
+    → IsSettled m plan row.prices (map scheduled_in ls) (map payment_in ls) (surplus_value m plan row.prices)
+    (total (map payment_in ls))
 settled m plan responses row ls h = record {
   tops = map earned_in ls;
   best = h.earned;
@@ -122,7 +142,8 @@ settled m plan responses row ls h = record {
   sum_is = refl;
 }
 
-module _ (m : Market) (plan : List Schedule) (budget ahead : ℕ) (rows : List Proposal) (run : IsRun Fits m (plan_cost m plan) budget ahead rows)
+module _ (m : Market) (plan : List Schedule) (budget ahead : ℕ) (rows : List Proposal)
+    (run : IsRun Fits m (plan_cost m plan) budget ahead rows)
     (row : Proposal) (chosen : slice_get rows (chosen_number rows - 1) ≡ Some row)
     (responses : List Schedule) (totals : HasTotals m responses row)
     (ls : List UnitLine) (lines : AreLines row.prices (units m) plan responses (all_names m) ls) where
@@ -151,14 +172,16 @@ module _ (m : Market) (plan : List Schedule) (budget ahead : ℕ) (rows : List P
         totals = right.totals;
         earned = right.earned;
         settled =
-            subst (λ (all_of : List UnitLine). IsSettled m plan row.prices (map scheduled_in all_of) (map payment_in all_of) (surplus_value m plan row.prices) (total (map payment_in ls))) all
+            subst (λ (all_of : List UnitLine). IsSettled m plan row.prices (map scheduled_in all_of)
+            (map payment_in all_of) (surplus_value m plan row.prices) (total (map payment_in ls))) all
             (settled m plan responses row ls lines);
         gap_is = refl;
       }
 
 -- ---- it exists
 
-some_row : (m : Market) (cost : ℤ) (budget ahead : ℕ) (rows : List Proposal) → 1 ≤ budget → IsRun Fits m cost budget ahead rows → 1 ≤ length rows
+some_row : (m : Market) (cost : ℤ) (budget ahead : ℕ) (rows : List Proposal) → 1 ≤ budget →
+    IsRun Fits m cost budget ahead rows → 1 ≤ length rows
 some_row m cost budget ahead rows some run = elim run.whole [
   | inl long ↦ omega (arith, some, long)
   | inr last ↦ let inside = last.2 in omega (arith, inside)
@@ -174,8 +197,13 @@ right_reports_exist runs one m plan budget ahead feasible some_budget some_ahead
     let top = one rows (some_row m (plan_cost m plan) budget ahead rows some_budget run.1) in
     let place : chosen_number rows - 1 ≡ top.0 = let is = top.2 in omega (arith, is) in
     let row = get_or rows top.0 no_row in
-    let chosen : slice_get rows (chosen_number rows - 1) ≡ Some row = ap (slice_get rows) place ∙ slice_get-get_or rows top.0 no_row top.1 in
+    let chosen : slice_get rows (chosen_number rows - 1) ≡ Some row =
+    ap (slice_get rows) place ∙ slice_get-get_or rows top.0 no_row top.1 in
     let next = run.1.right.each top.0 no_row top.1 in
-    let plans = length_same (λ (u : AnyUnit) (s : Schedule). IsFeasible u m.periods s) (units m) plan feasible.feasible in
-    let lines = lines_exist row.prices (units m) plan next.schedules (all_names m) (sym plans) (names_length m) next.answers in
-    (report_made m plan budget ahead rows row lines.0, report_is_right m plan budget ahead rows run.1 row chosen next.schedules next.totals lines.0 lines.1)
+    let plans = length_same (λ (u : AnyUnit) (s : Schedule). IsFeasible u m.periods s) (units m) plan
+    feasible.feasible in
+    let lines = lines_exist row.prices (units m) plan next.schedules (all_names m) (sym plans) (names_length m)
+    next.answers in (
+      report_made m plan budget ahead rows row lines.0,
+      report_is_right m plan budget ahead rows run.1 row chosen next.schedules next.totals lines.0 lines.1,
+    )

@@ -1,5 +1,10 @@
 -- Prices over the horizon have a dual value, and there is a row at those that follow any rows.
-use Rattle.right_report.proofs.Common.{◌≡◌, ℕ, suc, ◌-◌, ◌≤◌, Option, ℤ, ◌-ℤ◌, List, [], ◌∷◌, map, take, length, refl, sym, ap, ◌∙◌, subst, arith, cond_both, leb-false, length-map, length-take, AllZip, range_with_len, nat_le, AnyUnit, PriceLists, Schedule, Market, units, earnings, IsTop, Proposal, start_price, start_prices, opening_prices_of, stepped_prices, age, no_prices, next_prices, price_rule, Fits, IsNextRow, IsFeasible, total, AreFeasible, DualValuesExist}
+use Rattle.right_report.proofs.Common.{◌≡◌, ℕ, suc, ◌-◌, ◌≤◌, Option, ℤ, ◌-ℤ◌, List, [], ◌∷◌, map, take, length, refl}
+use Rattle.right_report.proofs.Common.{sym, ap, ◌∙◌, subst, arith, cond_both, leb-false, length-map, length-take}
+use Rattle.right_report.proofs.Common.{AllZip, range_with_len, nat_le, AnyUnit, PriceLists, Schedule, Market, units}
+use Rattle.right_report.proofs.Common.{earnings, IsTop, Proposal, start_price, start_prices, opening_prices_of}
+use Rattle.right_report.proofs.Common.{stepped_prices, age, no_prices, next_prices, price_rule, Fits, IsNextRow}
+use Rattle.right_report.proofs.Common.{IsFeasible, total, AreFeasible, DualValuesExist}
 use Rattle.std.proofs.lemmas.List.FromFn.{length-range_with_len}
 use Rattle.std.proofs.lemmas.Option.{slice_get-get_or}
 use Rattle.std.specs.Option.{option_map_or}
@@ -14,7 +19,8 @@ start_length m = length-map (range_with_len 0 m.periods) (start_price m) ∙ len
 opening_length : (m : Market) (n : ℕ) → length (opening_prices_of (start_prices m) n).energy ≡ m.periods
 opening_length m n = length-map (start_prices m) _ ∙ start_length m
 
-next_length : (m : Market) (cost : ℤ) (rows : List Proposal) → 1 ≤ length rows → length (next_prices m cost rows).energy ≡ m.periods
+next_length : (m : Market) (cost : ℤ) (rows : List Proposal) → 1 ≤ length rows →
+    length (next_prices m cost rows).energy ≡ m.periods
 next_length m cost [] some = absurd (omega (arith, some))
 next_length m cost (r ∷ rows) some =
     let last = slice_get-get_or (r ∷ rows) (length (r ∷ rows) - 1) r (omega arith) in
@@ -25,10 +31,12 @@ next_length m cost (r ∷ rows) some =
 abbrev pub proposed : Market → ℤ → ℕ → List Proposal → PriceLists
 proposed m cost ahead before = price_rule m cost ahead (take (suc (length before) - ahead) before) (suc (length before))
 
-pub proposed_length : (m : Market) (cost : ℤ) (ahead : ℕ) (before : List Proposal) → 1 ≤ ahead → length (proposed m cost ahead before).energy ≡ m.periods
+pub proposed_length : (m : Market) (cost : ℤ) (ahead : ℕ) (before : List Proposal) → 1 ≤ ahead →
+    length (proposed m cost ahead before).energy ≡ m.periods
 proposed_length m cost ahead before some =
     let past = take (suc (length before) - ahead) before in
-    cond_both (nat_le (suc (length before)) ahead) (opening_prices_of (start_prices m) (suc (length before))) (next_prices m cost past)
+    cond_both (nat_le (suc (length before)) ahead) (opening_prices_of (start_prices m) (suc (length before)))
+    (next_prices m cost past)
     (λ (π : PriceLists). length π.energy ≡ m.periods)
     (λ _. opening_length m (suc (length before)))
     (λ late.
@@ -47,7 +55,8 @@ Fit π us ss = AllZip (λ (u : AnyUnit) (s : Schedule). Fits u π s) us ss
 abbrev AreTops : PriceLists → List AnyUnit → List ℤ → Type 0
 AreTops π us es = AllZip (λ (u : AnyUnit) (e : ℤ). IsTop u π e) us es
 
-answers : (π : PriceLists) (n : ℕ) → length π.energy ≡ n → (us : List AnyUnit) (ss : List Schedule) → EachFeasible n us ss → (rs : List Schedule) × Fit π us rs
+answers : (π : PriceLists) (n : ℕ) → length π.energy ≡ n → (us : List AnyUnit) (ss : List Schedule) →
+    EachFeasible n us ss → (rs : List Schedule) × Fit π us rs
 answers π n long [] [] h = ([], tt)
 answers π n long [] (s ∷ ss) h = absurd h
 answers π n long (u ∷ us) [] h = absurd h
@@ -73,7 +82,8 @@ dual_values_exist m π feasible long each =
     let es = tops π (units m) rs.0 rs.1 in
     (worth_of_demand m π -ℤ total es.0, record { tops = es.0; best = es.1; is = refl })
 
-pub next_row_exists : (m : Market) (cost : ℤ) (ahead : ℕ) (feasible : List Schedule) → 1 ≤ ahead → AreFeasible m feasible →
+pub next_row_exists : (m : Market) (cost : ℤ) (ahead : ℕ) (feasible : List Schedule) → 1 ≤ ahead →
+    AreFeasible m feasible →
     (before : List Proposal) → (r : Proposal) × IsNextRow Fits m cost ahead before r
 next_row_exists m cost ahead feasible some each before =
     let π = proposed m cost ahead before in

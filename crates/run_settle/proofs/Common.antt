@@ -1,8 +1,10 @@
 -- The names that the proofs of this crate take from its specs and from other crates, passed on from one place.
-pub use Rattle.std.proofs.Common.{◌≡◌, ◌-◌, ◌<◌, ℤ, pos, ◌≤ℤ◌, true, [], length, get_or, refl, arith, ℕ, ◌+◌, Some, List, subst, sym, ap, ◌∙◌, suc, ◌≤◌, map, slice_get, rules}
+pub use Rattle.std.proofs.Common.{◌≡◌, ◌-◌, ◌<◌, ℤ, pos, ◌≤ℤ◌, true, [], length, get_or, refl, arith, ℕ, ◌+◌, Some}
+pub use Rattle.std.proofs.Common.{List, subst, sym, ap, ◌∙◌, suc, ◌≤◌, map, slice_get, rules}
 pub use Rattle.std.proofs.lemmas.Int.{ints, to_z-of_z}
 pub use Rattle.std.proofs.lemmas.List.{length-replicate, length-map}
-pub use Rattle.std.proofs.lemmas.Option.{slice_get-get_or, same_Some, slice_get-map, slice_get_within, get_or_from_slice_get}
+pub use Rattle.std.proofs.lemmas.Option.{slice_get-get_or, same_Some, slice_get-map, slice_get_within}
+pub use Rattle.std.proofs.lemmas.Option.{get_or_from_slice_get}
 pub use Rattle.std.specs.Int.{w64}
 pub use Rattle.std.specs.List.{All, AllZip}
 pub use Rattle.board_core.specs.Boards.{kept_answer}

@@ -1,5 +1,8 @@
 -- The sum of a convex function and a curve is convex.
-use Rattle.shape_law.proofs.Common.{◌≡◌, ℕ, suc, ◌<◌, List, [], ◌∷◌, length, get_or, Option, Some, None, refl, sym, ap, ◌∙◌, arith, true, false, ℤ, pos, ◌+ℤ◌, ◌-ℤ◌, ◌*ℤ◌, ◌≤ℤ◌, ◌<ℤ◌, int_lt, MatchOption, option_map, by_lt_z, ints, *ℤ-zero, rise_at, curve_value, end_of, CurveKeepsConvexity, CurvePlacesAreLimited, CurvesHaveValues, value_of}
+use Rattle.shape_law.proofs.Common.{◌≡◌, ℕ, suc, ◌<◌, List, [], ◌∷◌, length, get_or, Option, Some, None, refl, sym, ap}
+use Rattle.shape_law.proofs.Common.{◌∙◌, arith, true, false, ℤ, pos, ◌+ℤ◌, ◌-ℤ◌, ◌*ℤ◌, ◌≤ℤ◌, ◌<ℤ◌, int_lt, MatchOption}
+use Rattle.shape_law.proofs.Common.{option_map, by_lt_z, ints, *ℤ-zero, rise_at, curve_value, end_of}
+use Rattle.shape_law.proofs.Common.{CurveKeepsConvexity, CurvePlacesAreLimited, CurvesHaveValues, value_of}
 use Rattle.std.specs.List.{All}
 use Rattle.uc_model.specs.declared.units.Block.{Block}
 use Rattle.uc_model.specs.declared.units.Curve.{Curve}
@@ -14,7 +17,8 @@ not_lt_is : (a b : ℤ) → b ≤ℤ a → int_lt a b ≡ false
 not_lt_is a b h = grind (arith, ints)
 
 -- past the first block, and within it
-pub rise_at-past : (b : Block) (bs : List Block) (x : ℤ) → b.width <ℤ x → rise_at (b ∷ bs) x ≡ option_map (λ v. v +ℤ (b.price *ℤ b.width)) (rise_at bs (x -ℤ b.width))
+pub rise_at-past : (b : Block) (bs : List Block) (x : ℤ) → b.width <ℤ x →
+    rise_at (b ∷ bs) x ≡ option_map (λ v. v +ℤ (b.price *ℤ b.width)) (rise_at bs (x -ℤ b.width))
 rise_at-past b bs x h = rw (lt_is b.width x h)
 
 pub rise_at-inside : (b : Block) (bs : List Block) (x : ℤ) → x ≤ℤ b.width → rise_at (b ∷ bs) x ≡ Some (b.price *ℤ x)
@@ -25,11 +29,16 @@ abbrev RiseFrom : ℤ → List Block → Type 0
 RiseFrom p [] = Unit {0}
 RiseFrom p (b ∷ bs) = (p ≤ℤ b.price) × (pos 0 ≤ℤ b.width) × RiseFrom b.price bs
 
-rise_from : (p : ℤ) (bs : List Block) → All (λ b. pos 0 ≤ℤ b.width) bs → ((k : ℕ) (d : Block) → suc k < length bs → (get_or bs k d).price ≤ℤ (get_or bs (suc k) d).price)
+rise_from : (p : ℤ) (bs : List Block) → All (λ b. pos 0 ≤ℤ b.width) bs →
+    ((k : ℕ) (d : Block) → suc k < length bs → (get_or bs k d).price ≤ℤ (get_or bs (suc k) d).price)
     → ((d : Block) → 0 < length bs → p ≤ℤ (get_or bs 0 d).price) → RiseFrom p bs
 rise_from p [] widths rising first = tt
-rise_from p (b ∷ bs) widths rising first =
-    (first b (omega arith), widths 0 b (omega arith), rise_from b.price bs (λ k d h. widths (suc k) d (omega arith)) (λ k d h. rising (suc k) d (omega arith)) (λ d h. rising 0 d (omega arith)))
+rise_from p (b ∷ bs) widths rising first = (
+  first b (omega arith),
+  widths 0 b (omega arith),
+  rise_from b.price bs (λ k d h. widths (suc k) d (omega arith)) (λ k d h. rising (suc k) d (omega arith))
+      (λ d h. rising 0 d (omega arith)),
+)
 
 -- what stands before a number was added
 mapped : (k v : ℤ) (o : Option ℤ) → option_map (λ u. u +ℤ k) o ≡ Some v → (u : ℤ) × (o ≡ Some u) × (v ≡ u +ℤ k)
@@ -41,7 +50,8 @@ at_start p [] h = refl
 at_start p (b ∷ bs) h = rise_at-inside b bs (pos 0) h.1 ∙ ap Some (*ℤ-zero b.price)
 
 -- a value past a block comes from the blocks after it
-past_value : (b : Block) (bs : List Block) (x y v : ℤ) → b.width <ℤ x → x -ℤ b.width ≡ y → rise_at (b ∷ bs) x ≡ Some v → (u : ℤ) × (rise_at bs y ≡ Some u) × (v ≡ u +ℤ (b.price *ℤ b.width))
+past_value : (b : Block) (bs : List Block) (x y v : ℤ) → b.width <ℤ x → x -ℤ b.width ≡ y → rise_at (b ∷ bs) x ≡ Some v →
+    (u : ℤ) × (rise_at bs y ≡ Some u) × (v ≡ u +ℤ (b.price *ℤ b.width))
 past_value b bs x y v h e is =
     let m = mapped (b.price *ℤ b.width) v (rise_at bs (x -ℤ b.width)) (sym (rise_at-past b bs x h) ∙ is) in
     (m.0, ap (rise_at bs) (sym e) ∙ m.1, m.2)
@@ -53,7 +63,8 @@ none_past_end : (x v : ℤ) → pos 0 <ℤ x → rise_at [] x ≡ Some v → ⊥
 none_past_end x v h is = let n : rise_at [] x ≡ None = rw (lt_is (pos 0) x h) in cc
 
 -- each step to the right adds at least the least price
-steps : (p : ℤ) (bs : List Block) → RiseFrom p bs → (x a b : ℤ) → pos 0 ≤ℤ x → rise_at bs x ≡ Some a → rise_at bs (x +ℤ pos 1) ≡ Some b → (a +ℤ p) ≤ℤ b
+steps : (p : ℤ) (bs : List Block) → RiseFrom p bs → (x a b : ℤ) → pos 0 ≤ℤ x → rise_at bs x ≡ Some a →
+    rise_at bs (x +ℤ pos 1) ≡ Some b → (a +ℤ p) ≤ℤ b
 steps p [] h x a b low is next = absurd (none_past_end (x +ℤ pos 1) b (omega (arith, ints)) next)
 steps p (c ∷ bs) h x a b low is next =
     let at_least = h.0 in
@@ -80,7 +91,8 @@ steps p (c ∷ bs) h x a b low is next =
     omega (arith, ints)))
 
 -- and no step adds less than the one before it
-rises : (p : ℤ) (bs : List Block) → RiseFrom p bs → (x a b c : ℤ) → pos 0 ≤ℤ x → rise_at bs x ≡ Some a → rise_at bs (x +ℤ pos 1) ≡ Some b → rise_at bs (x +ℤ pos 2) ≡ Some c → (b +ℤ b) ≤ℤ (a +ℤ c)
+rises : (p : ℤ) (bs : List Block) → RiseFrom p bs → (x a b c : ℤ) → pos 0 ≤ℤ x → rise_at bs x ≡ Some a →
+    rise_at bs (x +ℤ pos 1) ≡ Some b → rise_at bs (x +ℤ pos 2) ≡ Some c → (b +ℤ b) ≤ℤ (a +ℤ c)
 rises p [] h x a b c low is next last = absurd (none_past_end (x +ℤ pos 1) b (omega (arith, ints)) next)
 rises p (k ∷ bs) h x a b c low is next last =
     by_lt_z k.width x
@@ -116,7 +128,8 @@ rises p (k ∷ bs) h x a b c low is next last =
     omega (arith, ints))
     (λ (m : (x +ℤ pos 2) ≤ℤ k.width).
     let f = inside_value k bs (x +ℤ pos 2) c m last in
-    let s : k.price *ℤ (x +ℤ pos 2) ≡ k.price *ℤ (x +ℤ pos 1) +ℤ k.price = ap (λ z. k.price *ℤ z) (omega (arith, ints)) ∙ times_next k.price (x +ℤ pos 1) in
+    let s : k.price *ℤ (x +ℤ pos 2) ≡ k.price *ℤ (x +ℤ pos 1) +ℤ k.price =
+    ap (λ z. k.price *ℤ z) (omega (arith, ints)) ∙ times_next k.price (x +ℤ pos 1) in
     omega (arith, ints))))
 
 -- ---- the curve
@@ -131,7 +144,8 @@ pub IsOnCurve-from_value : (c : Curve) (x v : ℤ) → curve_value c x ≡ Some 
 IsOnCurve-from_value c x v h = by_lt_z x c.at
     (λ (l : x <ℤ c.at). let n : curve_value c x ≡ None = rw (lt_is x c.at l) in cc)
     (λ (l : c.at ≤ℤ x).
-    let e : curve_value c x ≡ option_map (λ u. u +ℤ c.value) (rise_at c.blocks.items (x -ℤ c.at)) = rw (not_lt_is x c.at l) in
+    let e : curve_value c x ≡ option_map (λ u. u +ℤ c.value) (rise_at c.blocks.items (x -ℤ c.at)) =
+    rw (not_lt_is x c.at l) in
     let m = mapped c.value v (rise_at c.blocks.items (x -ℤ c.at)) (sym e ∙ h) in
     record { from = l; rise = m.0; there = m.1; is = m.2 })
 
@@ -143,7 +157,8 @@ rise_from_first : (bs : List Block) → limits.IsCurve bs → RiseFrom (first_pr
 rise_from_first [] is = tt
 rise_from_first (b ∷ bs) is = rise_from b.price (b ∷ bs) is.widths is.rising (λ d h. omega (arith, ints))
 
-curve_rises : (c : Curve) → limits.IsCurve c.blocks.items → (x u v w : ℤ) → curve_value c x ≡ Some u → curve_value c (x +ℤ pos 1) ≡ Some v → curve_value c (x +ℤ pos 2) ≡ Some w → (v +ℤ v) ≤ℤ (u +ℤ w)
+curve_rises : (c : Curve) → limits.IsCurve c.blocks.items → (x u v w : ℤ) → curve_value c x ≡ Some u →
+    curve_value c (x +ℤ pos 1) ≡ Some v → curve_value c (x +ℤ pos 2) ≡ Some w → (v +ℤ v) ≤ℤ (u +ℤ w)
 curve_rises c is x u v w p q r =
     let bs = c.blocks.items in
     let a = IsOnCurve-from_value c x u p in
@@ -152,7 +167,8 @@ curve_rises c is x u v w p q r =
     let next : (x +ℤ pos 1) -ℤ c.at ≡ (x -ℤ c.at) +ℤ pos 1 = omega (arith, ints) in
     let last : (x +ℤ pos 2) -ℤ c.at ≡ (x -ℤ c.at) +ℤ pos 2 = omega (arith, ints) in
     let from = a.from in
-    let i = rises (first_price bs) bs (rise_from_first bs is) (x -ℤ c.at) a.rise b.rise d.rise (omega (arith, ints)) a.there (ap (rise_at bs) (sym next) ∙ b.there) (ap (rise_at bs) (sym last) ∙ d.there) in
+    let i = rises (first_price bs) bs (rise_from_first bs is) (x -ℤ c.at) a.rise b.rise d.rise (omega (arith, ints))
+    a.there (ap (rise_at bs) (sym next) ∙ b.there) (ap (rise_at bs) (sym last) ∙ d.there) in
     omega (arith, ints, a.is, b.is, d.is)
 
 -- ---- where it ends
@@ -171,8 +187,10 @@ end_after_start (b ∷ bs) from widths =
     let i = end_after_start bs (from +ℤ b.width) (later b bs widths) in
     omega (arith, ints)
 
-up_to_end : (bs : List Block) (from x v : ℤ) → All (λ b. pos 0 ≤ℤ b.width) bs → rise_at bs x ≡ Some v → (from +ℤ x) ≤ℤ end_of from bs
-up_to_end [] from x v widths h = by_lt_z (pos 0) x (λ (l : pos 0 <ℤ x). absurd (none_past_end x v l h)) (λ (l : x ≤ℤ pos 0). omega (arith, ints))
+up_to_end : (bs : List Block) (from x v : ℤ) → All (λ b. pos 0 ≤ℤ b.width) bs → rise_at bs x ≡ Some v →
+    (from +ℤ x) ≤ℤ end_of from bs
+up_to_end [] from x v widths h =
+    by_lt_z (pos 0) x (λ (l : pos 0 <ℤ x). absurd (none_past_end x v l h)) (λ (l : x ≤ℤ pos 0). omega (arith, ints))
 up_to_end (b ∷ bs) from x v widths h =
     by_lt_z b.width x
     (λ (l : b.width <ℤ x).
@@ -194,19 +212,24 @@ IsPlace-on_curve c is x v h =
     (omega (arith, ints), omega (arith, ints))
 
 -- up to its end it has values
-rise_there : (bs : List Block) (from x : ℤ) → All (λ b. pos 0 ≤ℤ b.width) bs → pos 0 ≤ℤ x → (from +ℤ x) ≤ℤ end_of from bs → (v : ℤ) × (rise_at bs x ≡ Some v)
-rise_there [] from x widths low high = let none : x ≤ℤ pos 0 = omega (arith, ints, high) in (pos 0, rw (not_lt_is (pos 0) x none))
+rise_there : (bs : List Block) (from x : ℤ) → All (λ b. pos 0 ≤ℤ b.width) bs → pos 0 ≤ℤ x →
+    (from +ℤ x) ≤ℤ end_of from bs → (v : ℤ) × (rise_at bs x ≡ Some v)
+rise_there [] from x widths low high = let none : x ≤ℤ pos 0 = omega (arith, ints, high) in
+    (pos 0, rw (not_lt_is (pos 0) x none))
 rise_there (b ∷ bs) from x widths low high =
     by_lt_z b.width x
     (λ (l : b.width <ℤ x).
-    let r = rise_there bs (from +ℤ b.width) (x -ℤ b.width) (later b bs widths) (omega (arith, ints, l)) (omega (arith, ints, high)) in
+    let r = rise_there bs (from +ℤ b.width) (x -ℤ b.width) (later b bs widths) (omega (arith, ints, l))
+    (omega (arith, ints, high)) in
     (r.0 +ℤ (b.price *ℤ b.width), rise_at-past b bs x l ∙ ap (option_map (λ v. v +ℤ (b.price *ℤ b.width))) r.1))
     (λ (l : x ≤ℤ b.width). (b.price *ℤ x, rise_at-inside b bs x l))
 
 pub curve_value-there : CurvesHaveValues
 curve_value-there c is x low high =
-    let r = rise_there c.blocks.items c.at (x -ℤ c.at) is.blocks.widths (omega (arith, ints, low)) (omega (arith, ints, high)) in
-    let e : curve_value c x ≡ option_map (λ u. u +ℤ c.value) (rise_at c.blocks.items (x -ℤ c.at)) = rw (not_lt_is x c.at low) in
+    let r = rise_there c.blocks.items c.at (x -ℤ c.at) is.blocks.widths (omega (arith, ints, low))
+    (omega (arith, ints, high)) in
+    let e : curve_value c x ≡ option_map (λ u. u +ℤ c.value) (rise_at c.blocks.items (x -ℤ c.at)) =
+    rw (not_lt_is x c.at low) in
     (r.0 +ℤ c.value, e ∙ ap (option_map (λ u. u +ℤ c.value)) r.1)
 
 -- what the curve added at a power with a value
@@ -217,17 +240,22 @@ pub record IsRaised (curve : ℤ → Option ℤ) (y : ℤ) (o : Option ℤ) (v :
   pub on : curve y ≡ Some rise
   pub is : v ≡ old +ℤ rise
 
-pub raised_by : (curve : ℤ → Option ℤ) (y v : ℤ) (o o' : Option ℤ) → MatchOption o (o' ≡ None) (λ u. (k : ℤ) × (curve y ≡ Some k) × (o' ≡ Some (u +ℤ k))) → o' ≡ Some v → IsRaised curve y o v
+pub raised_by : (curve : ℤ → Option ℤ) (y v : ℤ) (o o' : Option ℤ) →
+    MatchOption o (o' ≡ None) (λ u. (k : ℤ) × (curve y ≡ Some k) × (o' ≡ Some (u +ℤ k))) → o' ≡ Some v →
+    IsRaised curve y o v
 raised_by curve y v None o' m h = let n : o' ≡ None = m in cc
 raised_by curve y v (Some u) o' m h = record { old = u; rise = m.0; there = refl; on = m.1; is = same_some o' h m.2 }
 
 pub IsConvex-curve_sum : CurveKeepsConvexity
 IsConvex-curve_sum c shift f g is sum h = IsConvex-from_places g (λ x a b d p q r.
     let u = raised_by (curve_value c) (x +ℤ shift) a (value_of f x) (value_of g x) (sum x) p in
-    let v = raised_by (curve_value c) ((x +ℤ pos 1) +ℤ shift) b (value_of f (x +ℤ pos 1)) (value_of g (x +ℤ pos 1)) (sum (x +ℤ pos 1)) q in
-    let w = raised_by (curve_value c) ((x +ℤ pos 2) +ℤ shift) d (value_of f (x +ℤ pos 2)) (value_of g (x +ℤ pos 2)) (sum (x +ℤ pos 2)) r in
+    let v = raised_by (curve_value c) ((x +ℤ pos 1) +ℤ shift) b (value_of f (x +ℤ pos 1)) (value_of g (x +ℤ pos 1))
+    (sum (x +ℤ pos 1)) q in
+    let w = raised_by (curve_value c) ((x +ℤ pos 2) +ℤ shift) d (value_of f (x +ℤ pos 2)) (value_of g (x +ℤ pos 2))
+    (sum (x +ℤ pos 2)) r in
     let next : (x +ℤ pos 1) +ℤ shift ≡ (x +ℤ shift) +ℤ pos 1 = omega (arith, ints) in
     let last : (x +ℤ pos 2) +ℤ shift ≡ (x +ℤ shift) +ℤ pos 2 = omega (arith, ints) in
     let l = convex_at f h x u.old v.old w.old u.there v.there w.there in
-    let k = curve_rises c is (x +ℤ shift) u.rise v.rise w.rise u.on (ap (curve_value c) (sym next) ∙ v.on) (ap (curve_value c) (sym last) ∙ w.on) in
+    let k = curve_rises c is (x +ℤ shift) u.rise v.rise w.rise u.on (ap (curve_value c) (sym next) ∙ v.on)
+    (ap (curve_value c) (sym last) ∙ w.on) in
     omega (arith, ints, u.is, v.is, w.is))

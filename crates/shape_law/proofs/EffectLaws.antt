@@ -1,5 +1,8 @@
 -- Each effect fixes the new function, and is that of any function with the same values.
-use Rattle.shape_law.proofs.Common.{◌≡◌, Option, Some, None, refl, sym, ap, ◌∙◌, subst, arith, ℤ, ◌+ℤ◌, ◌≤ℤ◌, MatchOption, option_map, ints, Table, value_of, IsPoint, IsWindow, PointIsExact, SumIsExact, CurveSumIsExact, WindowIsExact, SumIsOfValues, CurveSumIsOfValues, WindowIsOfValues}
+use Rattle.shape_law.proofs.Common.{◌≡◌, Option, Some, None, refl, sym, ap, ◌∙◌, subst, arith, ℤ, ◌+ℤ◌, ◌≤ℤ◌}
+use Rattle.shape_law.proofs.Common.{MatchOption, option_map, ints, Table, value_of, IsPoint, IsWindow, PointIsExact}
+use Rattle.shape_law.proofs.Common.{SumIsExact, CurveSumIsExact, WindowIsExact, SumIsOfValues, CurveSumIsOfValues}
+use Rattle.shape_law.proofs.Common.{WindowIsOfValues}
 use Rattle.shape_law.proofs.ConvexLaws.{same_some}
 
 -- two look-ups agree where each value of one is a value of the other
@@ -11,7 +14,8 @@ same_by (Some v) p there back = there v refl
 pub point_is_exact : PointIsExact
 point_is_exact power value g g' is is' x = same_by (value_of g x) (value_of g' x) (at g g' is is') (at g' g is' is)
   where
-    at : (h h' : Table) → IsPoint power value h → IsPoint power value h' → (v : ℤ) → value_of h x ≡ Some v → value_of h' x ≡ Some v
+    at : (h h' : Table) → IsPoint power value h → IsPoint power value h' → (v : ℤ) → value_of h x ≡ Some v →
+        value_of h' x ≡ Some v
     at h h' a a' v p =
         let e = a.only x v p in
         let s : v ≡ value = same_some (value_of h power) (ap (value_of h) (sym e) ∙ p) a.there in
@@ -20,7 +24,8 @@ point_is_exact power value g g' is is' x = same_by (value_of g x) (value_of g' x
 pub sum_is_exact : SumIsExact
 sum_is_exact term f g g' is is' x = is' x ∙ sym (is x)
 
-curve_by : (curve : ℤ → Option ℤ) (y : ℤ) (o p p' : Option ℤ) → MatchOption o (p ≡ None) (λ v. (c : ℤ) × (curve y ≡ Some c) × (p ≡ Some (v +ℤ c)))
+curve_by : (curve : ℤ → Option ℤ) (y : ℤ) (o p p' : Option ℤ) →
+    MatchOption o (p ≡ None) (λ v. (c : ℤ) × (curve y ≡ Some c) × (p ≡ Some (v +ℤ c)))
     → MatchOption o (p' ≡ None) (λ v. (c : ℤ) × (curve y ≡ Some c) × (p' ≡ Some (v +ℤ c))) → p' ≡ p
 curve_by curve y None p p' m m' = m' ∙ sym m
 curve_by curve y (Some v) p p' m m' =
@@ -28,10 +33,12 @@ curve_by curve y (Some v) p p' m m' =
     m'.2 ∙ ap (λ c. Some (v +ℤ c)) e ∙ sym m.2
 
 pub curve_sum_is_exact : CurveSumIsExact
-curve_sum_is_exact curve shift f g g' is is' x = curve_by curve (x +ℤ shift) (value_of f x) (value_of g x) (value_of g' x) (is x) (is' x)
+curve_sum_is_exact curve shift f g g' is is' x =
+    curve_by curve (x +ℤ shift) (value_of f x) (value_of g x) (value_of g' x) (is x) (is' x)
 
 -- of two windows of one function, each value of one is a value of the other
-window_value : (up down lo hi : ℤ) (f g g' : Table) → IsWindow up down lo hi f g → IsWindow up down lo hi f g' → (x v : ℤ) → value_of g x ≡ Some v → value_of g' x ≡ Some v
+window_value : (up down lo hi : ℤ) (f g g' : Table) → IsWindow up down lo hi f g → IsWindow up down lo hi f g' →
+    (x v : ℤ) → value_of g x ≡ Some v → value_of g' x ≡ Some v
 window_value up down lo hi f g g' w w' x v p =
     let r = w.reached x v p in
     let s = w'.least x r.0 v r.1 r.2 r.3 in
@@ -45,7 +52,8 @@ window_value up down lo hi f g g' w w' x v p =
 
 pub window_is_exact : WindowIsExact
 window_is_exact up down lo hi f g g' w w' x =
-    same_by (value_of g x) (value_of g' x) (window_value up down lo hi f g g' w w' x) (window_value up down lo hi f g' g w' w x)
+    same_by (value_of g x) (value_of g' x) (window_value up down lo hi f g g' w w' x)
+    (window_value up down lo hi f g' g w' w x)
 
 -- ---- the effects of a function that has the same values as another
 
@@ -54,8 +62,10 @@ sum_is_of_values term f f' g g' same new sum x = new x ∙ sum x ∙ ap (option_
 
 pub curve_sum_is_of_values : CurveSumIsOfValues
 curve_sum_is_of_values curve shift f f' g g' same new sum x =
-    subst (λ o. MatchOption o (value_of g' x ≡ None) (λ v. (c : ℤ) × (curve (x +ℤ shift) ≡ Some c) × (value_of g' x ≡ Some (v +ℤ c)))) (sym (same x))
-    (subst (λ p. MatchOption (value_of f x) (p ≡ None) (λ v. (c : ℤ) × (curve (x +ℤ shift) ≡ Some c) × (p ≡ Some (v +ℤ c)))) (sym (new x)) (sum x))
+    subst (λ o. MatchOption o (value_of g' x ≡ None)
+    (λ v. (c : ℤ) × (curve (x +ℤ shift) ≡ Some c) × (value_of g' x ≡ Some (v +ℤ c)))) (sym (same x))
+    (subst (λ p. MatchOption (value_of f x) (p ≡ None)
+    (λ v. (c : ℤ) × (curve (x +ℤ shift) ≡ Some c) × (p ≡ Some (v +ℤ c)))) (sym (new x)) (sum x))
 
 pub window_is_of_values : WindowIsOfValues
 window_is_of_values up down lo hi f f' g g' same new w = record {

@@ -1,5 +1,7 @@
 -- Each effect keeps powers and values within the limits.
-use Rattle.shape_law.proofs.Common.{◌≡◌, sym, ap, ◌∙◌, subst, arith, ◌+ℤ◌, ints, value_of, IsPlace, IsAmount, PointIsWithinLimits, CopyIsWithinLimits, SumIsWithinLimits, CurveSumIsWithinLimits, WindowIsWithinLimits}
+use Rattle.shape_law.proofs.Common.{◌≡◌, sym, ap, ◌∙◌, subst, arith, ◌+ℤ◌, ints, value_of, IsPlace, IsAmount}
+use Rattle.shape_law.proofs.Common.{PointIsWithinLimits, CopyIsWithinLimits, SumIsWithinLimits, CurveSumIsWithinLimits}
+use Rattle.shape_law.proofs.Common.{WindowIsWithinLimits}
 use Rattle.shape_law.proofs.ConvexLaws.{same_some, added}
 use Rattle.shape_law.proofs.CurveLaws.{raised_by}
 

@@ -78,7 +78,8 @@ pub same_some : {a b : ℤ} → (o : Option ℤ) → o ≡ Some a → o ≡ Some
 same_some o p q = cc
 
 -- a table is within the limits where its powers and values are, index by index
-pub within_by_index : (f : Table) → ((k : ℕ) → k < length f.values → IsPlace (f.lo +ℤ pos k)) → ((k : ℕ) → k < length f.values → IsAmount (get_or f.values k (pos 0))) → IsWithinLimits f
+pub within_by_index : (f : Table) → ((k : ℕ) → k < length f.values → IsPlace (f.lo +ℤ pos k)) →
+    ((k : ℕ) → k < length f.values → IsAmount (get_or f.values k (pos 0))) → IsWithinLimits f
 within_by_index f powers amounts x v e =
     let a = IsAt-from_value f x v e in
     (subst IsPlace (sym a.power) (powers a.offset a.inside), subst IsAmount a.there (amounts a.offset a.inside))

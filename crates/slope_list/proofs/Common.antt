@@ -1,5 +1,6 @@
 -- The names that the proofs of this crate take from its specs and from other crates, passed on from one place.
-pub use Rattle.std.proofs.Common.{◌≡◌, [], true, false, Option, Some, None, refl, sym, ap, ◌∙◌, subst, length, vec_capacity, take, rules, List, ◌≤◌, arith}
+pub use Rattle.std.proofs.Common.{◌≡◌, [], true, false, Option, Some, None, refl, sym, ap, ◌∙◌, subst, length}
+pub use Rattle.std.proofs.Common.{vec_capacity, take, rules, List, ◌≤◌, arith}
 pub use Rattle.std.proofs.lemmas.Int.{to_z-of_z}
 pub use Rattle.std.proofs.lemmas.List.{with_items_is, places, length-take}
 pub use Rattle.std.specs.Bool.{OnTrue}

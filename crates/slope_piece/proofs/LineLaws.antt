@@ -1,5 +1,6 @@
 -- Lines: functions of one slope from one power to another.
-use Rattle.slope_piece.proofs.Common.{◌≡◌, ap, ◌∙◌, arith, true, false, ℤ, pos, ◌+ℤ◌, ◌-ℤ◌, ◌*ℤ◌, ◌≤ℤ◌, ◌<ℤ◌, int_lt, ints, one, *ℤ-one, *ℤ-zero, zero-*ℤ, *ℤ_comm, mul-add, mul-sub, IsLine}
+use Rattle.slope_piece.proofs.Common.{◌≡◌, ap, ◌∙◌, arith, true, false, ℤ, pos, ◌+ℤ◌, ◌-ℤ◌, ◌*ℤ◌, ◌≤ℤ◌, ◌<ℤ◌, int_lt}
+use Rattle.slope_piece.proofs.Common.{ints, one, *ℤ-one, *ℤ-zero, zero-*ℤ, *ℤ_comm, mul-add, mul-sub, IsLine}
 
 pub lt_is : (a b : ℤ) → a <ℤ b → int_lt a b ≡ true
 lt_is a b h = grind (arith, ints)
@@ -33,7 +34,8 @@ pub line_step : (f : ℤ → ℤ) (a b s x : ℤ) → IsLine f a b s → a ≤�
 line_step f a b s x l low high =
     let p = l.line x low (omega (arith, ints)) in
     let q = l.line (x +ℤ pos 1) (omega (arith, ints)) (omega (arith, ints)) in
-    let e : s *ℤ ((x +ℤ pos 1) -ℤ a) ≡ s *ℤ (x -ℤ a) +ℤ s = ap (λ (z : ℤ). s *ℤ z) (omega (arith, ints)) ∙ times_next s (x -ℤ a) in
+    let e : s *ℤ ((x +ℤ pos 1) -ℤ a) ≡ s *ℤ (x -ℤ a) +ℤ s =
+    ap (λ (z : ℤ). s *ℤ z) (omega (arith, ints)) ∙ times_next s (x -ℤ a) in
     omega (arith, ints)
 
 pub line_part : (f : ℤ → ℤ) (a b s c d : ℤ) → IsLine f a b s → a ≤ℤ c → c <ℤ d → d ≤ℤ b → IsLine f c d s
@@ -46,7 +48,8 @@ line_part f a b s c d l low rise high = record {
       omega (arith, ints);
 }
 
-pub line_moved : (f : ℤ → ℤ) (a b s d a' b' : ℤ) → IsLine f a b s → a' +ℤ d ≡ a → b' +ℤ d ≡ b → IsLine (λ x. f (x +ℤ d)) a' b' s
+pub line_moved : (f : ℤ → ℤ) (a b s d a' b' : ℤ) → IsLine f a b s → a' +ℤ d ≡ a → b' +ℤ d ≡ b →
+    IsLine (λ x. f (x +ℤ d)) a' b' s
 line_moved f a b s d a' b' l ea eb =
     record {
       rise = omega (arith, ints);

@@ -10,7 +10,8 @@ in_order start ps slopes = ends_rise_to start.first ps slopes 0 (length ps) (ome
 
 pub pieces_begin : PiecesBegin
 pieces_begin start ps slopes = record {
-  there = on_inside (function_of start ps) start.first (last_power start.first ps) start.first (omega (arith, ints)) (in_order start ps slopes)
+  there = on_inside (function_of start ps) start.first (last_power start.first ps) start.first (omega (arith, ints))
+      (in_order start ps slopes)
       ∙ ap Some (along_first start.first start.level ps slopes);
   first = λ y w h. (on_back (function_of start ps) start.first (last_power start.first ps) y w h).from;
 }
@@ -18,6 +19,7 @@ pieces_begin start ps slopes = record {
 pub pieces_end : PiecesEnd
 pieces_end start ps slopes = record {
   value = function_of start ps (last_power start.first ps);
-  there = on_inside (function_of start ps) start.first (last_power start.first ps) (last_power start.first ps) (in_order start ps slopes) (omega (arith, ints));
+  there = on_inside (function_of start ps) start.first (last_power start.first ps) (last_power start.first ps)
+      (in_order start ps slopes) (omega (arith, ints));
   last = λ y w h. (on_back (function_of start ps) start.first (last_power start.first ps) y w h).to;
 }

@@ -61,6 +61,7 @@ module _ (f : ℤ → ℤ) (a b m : ℤ) (v : IsValley f a b m) where
       let to = v.to in
       record {
         there = on_inside f a b m from to;
-        least = λ y w h. let o = on_back f a b y w h in let e = o.value in let l = valley_least y o.from o.to in omega (arith, ints);
+        least = λ y w h. let o = on_back f a b y w h in let e = o.value in let l = valley_least y o.from o.to in
+            omega (arith, ints);
         first = λ y h. let o = on_back f a b y (f m) h in valley_first y o.from o.to (sym o.value);
       }

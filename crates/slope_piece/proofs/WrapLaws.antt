@@ -1,5 +1,7 @@
 -- Numbers that fit 64 bits are those that the code computes with.
-use Rattle.slope_piece.proofs.Common.{◌≡◌, true, false, arith, neg_ℤ, to_z, of_z, ℤ, pos, ◌+ℤ◌, ◌-ℤ◌, ◌≤ℤ◌, ◌<ℤ◌, FitsSigned, w64, int_min, ints, clamps, to_z-of_z, IsFrom, IsOutput, IsPower, Step, IsFairStep, lt_z}
+use Rattle.slope_piece.proofs.Common.{◌≡◌, true, false, arith, neg_ℤ, to_z, of_z, ℤ, pos, ◌+ℤ◌, ◌-ℤ◌, ◌≤ℤ◌, ◌<ℤ◌}
+use Rattle.slope_piece.proofs.Common.{FitsSigned, w64, int_min, ints, clamps, to_z-of_z, IsFrom, IsOutput, IsPower}
+use Rattle.slope_piece.proofs.Common.{Step, IsFairStep, lt_z}
 
 -- a number as the code has it
 abbrev pub coded : ℤ → ℤ
@@ -56,10 +58,12 @@ pub test_false : (a b x y : ℤ) → x ≡ a → y ≡ b → lt_z x y ≡ false 
 test_false a b x y p q h = rw (p, q) at (ge_of x y h)
 
 pub fits_sum : (a b : ℤ) → IsOutput a → IsPower b → FitsSigned w64 (coded a +ℤ coded b)
-fits_sum a b h i = rw (coded_is a (output_near a h), coded_is b (power_near b i)) (near_fits (a +ℤ b) (sum_near a b h i))
+fits_sum a b h i = rw (coded_is a (output_near a h), coded_is b (power_near b i))
+    (near_fits (a +ℤ b) (sum_near a b h i))
 
 pub fits_less : (a b : ℤ) → IsOutput a → IsPower b → FitsSigned w64 (coded a -ℤ coded b)
-fits_less a b h i = rw (coded_is a (output_near a h), coded_is b (power_near b i)) (near_fits (a -ℤ b) (less_near a b h i))
+fits_less a b h i = rw (coded_is a (output_near a h), coded_is b (power_near b i))
+    (near_fits (a -ℤ b) (less_near a b h i))
 
 -- ---- the numbers of a step
 
@@ -81,7 +85,8 @@ module _ (s : Step) (fair : IsFairStep s) where
     coded_up = coded_add s.ramp_up x (power_near s.ramp_up fair.ramp_up) (output_near x o) up_near
 
     pub fits_up : FitsSigned w64 (coded s.ramp_up +ℤ coded x)
-    fits_up = rw (coded_is s.ramp_up (power_near s.ramp_up fair.ramp_up), coded_is x (output_near x o)) (near_fits (s.ramp_up +ℤ x) up_near)
+    fits_up = rw (coded_is s.ramp_up (power_near s.ramp_up fair.ramp_up), coded_is x (output_near x o))
+        (near_fits (s.ramp_up +ℤ x) up_near)
 
     pub most_near : (m : ℤ) → m ≡ int_min s.cap (s.ramp_up +ℤ x) → IsNear m
     most_near m is =

@@ -1,5 +1,9 @@
 -- One function below another one, piece by piece.
-use Rattle.slope_read.proofs.Common.{◌≡◌, ℕ, suc, ◌+◌, ◌-◌, ◌<◌, ◌≤◌, ◌⊎◌, List, length, sym, ap, ◌∙◌, subst, inl, inr, arith, ℤ, pos, ◌+ℤ◌, ◌-ℤ◌, ◌*ℤ◌, ◌≤ℤ◌, ◌<ℤ◌, int_min, ints, clamps, by_lt_z, IsAmount, *ℤ-zero, mul-mono_of, Piece, Start, CanGo, piece, end_at, last_power, function_of, table_of, AreSlopes, IsLine, AreWithin, IsPlaced, IsReached, IsUnder, IsUnderTo, IsNowhereAbove}
+use Rattle.slope_read.proofs.Common.{◌≡◌, ℕ, suc, ◌+◌, ◌-◌, ◌<◌, ◌≤◌, ◌⊎◌, List, length, sym, ap, ◌∙◌, subst, inl, inr}
+use Rattle.slope_read.proofs.Common.{arith, ℤ, pos, ◌+ℤ◌, ◌-ℤ◌, ◌*ℤ◌, ◌≤ℤ◌, ◌<ℤ◌, int_min, ints, clamps, by_lt_z}
+use Rattle.slope_read.proofs.Common.{IsAmount, *ℤ-zero, mul-mono_of, Piece, Start, CanGo, piece, end_at, last_power}
+use Rattle.slope_read.proofs.Common.{function_of, table_of, AreSlopes, IsLine, AreWithin, IsPlaced, IsReached, IsUnder}
+use Rattle.slope_read.proofs.Common.{IsUnderTo, IsNowhereAbove}
 use Rattle.slope_piece.specs.declared.cursor.Reached.{Reached}
 use Rattle.slope_piece.proofs.LineLaws.{add-mul, line_part}
 use Rattle.slope_piece.proofs.PieceLaws.{ends_rise_to, along_line}
@@ -9,7 +13,8 @@ use Rattle.slope_piece.proofs.CursorLaws.{placed_within, placed_inside}
 -- a slope that isn't below another one goes at least as far up
 more : (s q d : ℤ) → s ≤ℤ q → pos 0 ≤ℤ d → (s *ℤ d) ≤ℤ (q *ℤ d)
 more s q d up long =
-    let e : q *ℤ d ≡ s *ℤ d +ℤ (q -ℤ s) *ℤ d = ap (λ (z : ℤ). z *ℤ d) {x = q} {y = s +ℤ (q -ℤ s)} (omega (arith, ints)) ∙ add-mul s (q -ℤ s) d in
+    let e : q *ℤ d ≡ s *ℤ d +ℤ (q -ℤ s) *ℤ d =
+    ap (λ (z : ℤ). z *ℤ d) {x = q} {y = s +ℤ (q -ℤ s)} (omega (arith, ints)) ∙ add-mul s (q -ℤ s) d in
     let m = mul-mono_of (q -ℤ s) (pos 0) d (omega (arith, ints)) long in
     let z = *ℤ-zero (q -ℤ s) in
     omega (arith, ints)
@@ -18,7 +23,8 @@ more s q d up long =
 less : (s q d e : ℤ) → q ≤ℤ s → d ≤ℤ e → ((s *ℤ d) -ℤ (q *ℤ d)) ≤ℤ ((s *ℤ e) -ℤ (q *ℤ e))
 less s q d e down short =
     let n = s -ℤ q in
-    let split : (z : ℤ) → s *ℤ z ≡ q *ℤ z +ℤ n *ℤ z = λ z. ap (λ (y : ℤ). y *ℤ z) {x = s} {y = q +ℤ n} (omega (arith, ints)) ∙ add-mul q n z in
+    let split : (z : ℤ) → s *ℤ z ≡ q *ℤ z +ℤ n *ℤ z =
+    λ z. ap (λ (y : ℤ). y *ℤ z) {x = s} {y = q +ℤ n} (omega (arith, ints)) ∙ add-mul q n z in
     let ed = split d in
     let ee = split e in
     let m = mul-mono_of n d e (omega (arith, ints)) short in
@@ -33,29 +39,35 @@ between f g a b s q shift l m here there x from to =
     let fb = l.line b (omega (arith, ints)) (omega (arith, ints)) in
     let gb = m.line b (omega (arith, ints)) (omega (arith, ints)) in
     by_lt_z q s
-    (λ (above : q <ℤ s). let h = less s q (x -ℤ a) (b -ℤ a) (omega (arith, ints)) (omega (arith, ints)) in omega (arith, ints))
+    (λ (above : q <ℤ s). let h = less s q (x -ℤ a) (b -ℤ a) (omega (arith, ints)) (omega (arith, ints)) in
+    omega (arith, ints))
     (λ (under : s ≤ℤ q). let h = more s q (x -ℤ a) under (omega (arith, ints)) in omega (arith, ints))
 
 -- up to the end of two lines
 pub under_on : (start : Start) (ps : List Piece) (other : Start) (qs : List Piece) (shift at end s q : ℤ)
     → IsLine (function_of start ps) at end s → IsLine (function_of other qs) at end q
-    → other.first ≤ℤ at → IsUnderTo start ps other qs shift at → (function_of start ps end +ℤ shift) ≤ℤ function_of other qs end
+    → other.first ≤ℤ at → IsUnderTo start ps other qs shift at →
+    (function_of start ps end +ℤ shift) ≤ℤ function_of other qs end
     → IsUnderTo start ps other qs shift end
 under_on start ps other qs shift at end s q l m from under there x low high =
     by_lt_z x at
     (λ (before : x <ℤ at). under x low (omega (arith, ints)))
-    (λ (past : at ≤ℤ x). between (function_of start ps) (function_of other qs) at end s q shift l m (under at from (omega (arith, ints))) there x past high)
+    (λ (past : at ≤ℤ x). between (function_of start ps) (function_of other qs) at end s q shift l m
+    (under at from (omega (arith, ints))) there x past high)
 
 -- ---- to another power of one piece
 
-module _ (start : Start) (ps : List Piece) (slopes : AreSlopes start.first ps) (within : AreWithin start ps) (at : ℤ) (r : Reached) (reached : IsReached start ps at r) (inside : r.next < length ps)
+module _ (start : Start) (ps : List Piece) (slopes : AreSlopes start.first ps) (within : AreWithin start ps) (at : ℤ)
+    (r : Reached) (reached : IsReached start ps at r) (inside : r.next < length ps)
     (end : ℤ) (rise : at <ℤ end) (to : end ≤ℤ (piece ps r.next).end) where
   pub part : IsLine (function_of start ps) at end (piece ps r.next).slope
-  part = line_part (function_of start ps) (end_at start.first ps r.next) (end_at start.first ps (suc r.next)) (piece ps r.next).slope at end
+  part = line_part (function_of start ps) (end_at start.first ps r.next) (end_at start.first ps (suc r.next))
+      (piece ps r.next).slope at end
       (along_line start.first start.level ps slopes r.next inside) reached.placed.from rise to
 
   pub part_value : function_of start ps end ≡ r.value +ℤ (piece ps r.next).slope *ℤ (end -ℤ at)
-  part_value = let e = part.line end (omega (arith, ints)) (omega (arith, ints)) in let v = reached.value in omega (arith, ints)
+  part_value = let e = part.line end (omega (arith, ints)) (omega (arith, ints)) in let v = reached.value in
+      omega (arith, ints)
 
   pub part_goes : CanGo r.value (piece ps r.next).slope at end
   part_goes =
@@ -72,14 +84,16 @@ module _ (start : Start) (ps : List Piece) (slopes : AreSlopes start.first ps) (
       }
 
   -- within the piece, or to its end
-  pub placed_on : (next : ℕ) → (end <ℤ (piece ps r.next).end → next ≡ r.next) → ((piece ps r.next).end ≤ℤ end → next ≡ suc r.next) → IsPlaced start.first ps (record { at = end; next = next })
+  pub placed_on : (next : ℕ) → (end <ℤ (piece ps r.next).end → next ≡ r.next) →
+      ((piece ps r.next).end ≤ℤ end → next ≡ suc r.next) → IsPlaced start.first ps (record { at = end; next = next })
   placed_on next stays goes =
       let from = reached.placed.from in
       by_lt_z end (piece ps r.next).end
       (λ (before : end <ℤ (piece ps r.next).end).
       let e = stays before in
       let same : end_at start.first ps next ≡ end_at start.first ps r.next = ap (end_at start.first ps) e in
-      let then : end_at start.first ps (suc next) ≡ end_at start.first ps (suc r.next) = ap (λ (k : ℕ). end_at start.first ps (suc k)) e in
+      let then : end_at start.first ps (suc next) ≡ end_at start.first ps (suc r.next) =
+      ap (λ (k : ℕ). end_at start.first ps (suc k)) e in
       record {
         some = omega arith;
         from = omega (arith, ints);
@@ -102,14 +116,17 @@ module _ (start : Start) (ps : List Piece) (slopes : AreSlopes start.first ps) (
 
 -- ---- two functions at one power
 
-pub reached_amount : (start : Start) (ps : List Piece) → AreSlopes start.first ps → AreWithin start ps → (at : ℤ) (r : Reached) → IsReached start ps at r → IsAmount r.value
+pub reached_amount : (start : Start) (ps : List Piece) → AreSlopes start.first ps → AreWithin start ps →
+    (at : ℤ) (r : Reached) → IsReached start ps at r → IsAmount r.value
 reached_amount start ps slopes within at r reached =
     let w = placed_within start.first ps (record { at = at; next = r.next }) slopes reached.placed in
     subst IsAmount (sym reached.value) (within at w.0 w.1).1
 
 -- where a piece of the other function goes on, so does one of this one
-module _ (start : Start) (ps : List Piece) (other : Start) (qs : List Piece) (slopes : AreSlopes other.first qs) (last : last_power other.first qs ≤ℤ last_power start.first ps)
-    (at : ℤ) (r : Reached) (reached : IsReached start ps at r) (t : Reached) (there : IsReached other qs at t) (inside : t.next < length qs) where
+module _ (start : Start) (ps : List Piece) (other : Start) (qs : List Piece) (slopes : AreSlopes other.first qs)
+    (last : last_power other.first qs ≤ℤ last_power start.first ps)
+    (at : ℤ) (r : Reached) (reached : IsReached start ps at r) (t : Reached) (there : IsReached other qs at t)
+    (inside : t.next < length qs) where
   pub goes_on : r.next < length ps
   goes_on =
       let up = there.placed.to inside in
@@ -129,13 +146,18 @@ end_of_one a b end is =
     (λ (l : a <ℤ b). inl (omega (arith, ints, clamps)))
     (λ (l : b ≤ℤ a). inr (omega (arith, ints, clamps)))
 
-pub fewer : (n m h h' t t' : ℕ) → h < n → t < m → h ≤ h' → t ≤ t' → h' ≤ n → t' ≤ m → (h' ≡ suc h) ⊎ (t' ≡ suc t) → ((n - h') + (m - t')) < ((n - h) + (m - t))
+pub fewer : (n m h h' t t' : ℕ) → h < n → t < m → h ≤ h' → t ≤ t' → h' ≤ n → t' ≤ m → (h' ≡ suc h) ⊎ (t' ≡ suc t) →
+    ((n - h') + (m - t')) < ((n - h) + (m - t))
 fewer n m h h' t t' a b c d e f (inl k) = omega arith
 fewer n m h h' t t' a b c d e f (inr k) = omega arith
 
 -- as the tables show it
-pub shown_under : (start : Start) (ps : List Piece) (other : Start) (qs : List Piece) (shift : ℤ) → IsUnder start ps other qs shift → IsNowhereAbove (table_of start ps) (table_of other qs) shift
+pub shown_under : (start : Start) (ps : List Piece) (other : Start) (qs : List Piece) (shift : ℤ) →
+    IsUnder start ps other qs shift → IsNowhereAbove (table_of start ps) (table_of other qs) shift
 shown_under start ps other qs shift under x v h =
     let o = on_back (function_of other qs) other.first (last_power other.first qs) x v h in
-    let u = under x o.from o.to in
-    (function_of start ps x, on_inside (function_of start ps) start.first (last_power start.first ps) x u.0 u.1, omega (arith, ints))
+    let u = under x o.from o.to in (
+      function_of start ps x,
+      on_inside (function_of start ps) start.first (last_power start.first ps) x u.0 u.1,
+      omega (arith, ints),
+    )

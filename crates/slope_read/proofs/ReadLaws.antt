@@ -16,19 +16,28 @@ pub record HasFallen (start : Start) (ps : List Piece) (k : ℕ) (at value : ℤ
 
 module _ (start : Start) (ps : List Piece) (slopes : AreSlopes start.first ps) where
   pub fallen_none : HasFallen start ps 0 start.first start.level
-  fallen_none = record { at_is = refl; value_is = sym (along_first start.first start.level ps slopes); falls = λ j h. absurd (omega arith) }
+  fallen_none = record {
+    at_is = refl;
+    value_is = sym (along_first start.first start.level ps slopes);
+    falls =
+        λ j h. absurd (omega arith);
+  }
 
   module _ (k : ℕ) (at value : ℤ) (w : HasFallen start ps k at value) where
     module _ (within : AreWithin start ps) (inside : k < length ps) where
       pub fallen_goes : CanGo value (piece ps k).slope at (piece ps k).end
-      fallen_goes = let rise = slopes.rise k inside in can_go start ps slopes within k inside (piece ps k).end (omega (arith, ints)) (omega (arith, ints)) value at w.at_is w.value_is
+      fallen_goes = let rise = slopes.rise k inside in
+          can_go start ps slopes within k inside (piece ps k).end (omega (arith, ints)) (omega (arith, ints)) value at
+          w.at_is w.value_is
 
-      pub fallen_on : (next : ℤ) → next ≡ value +ℤ (piece ps k).slope *ℤ ((piece ps k).end -ℤ at) → (piece ps k).slope <ℤ pos 0 → HasFallen start ps (k + 1) (piece ps k).end next
+      pub fallen_on : (next : ℤ) → next ≡ value +ℤ (piece ps k).slope *ℤ ((piece ps k).end -ℤ at) →
+          (piece ps k).slope <ℤ pos 0 → HasFallen start ps (k + 1) (piece ps k).end next
       fallen_on next is down =
           let rise = slopes.rise k inside in
           record {
             at_is = sym (ap (end_at start.first ps) {x = k + 1} {y = suc k} (omega arith));
-            value_is = is ∙ sym (level_from start ps slopes within k inside (piece ps k).end (omega (arith, ints)) (omega (arith, ints)) value at w.at_is w.value_is);
+            value_is = is ∙ sym (level_from start ps slopes within k inside (piece ps k).end (omega (arith, ints))
+                (omega (arith, ints)) value at w.at_is w.value_is);
             falls = below_more _ _ w.falls down;
           }
 
@@ -39,20 +48,29 @@ module _ (start : Start) (ps : List Piece) (slopes : AreSlopes start.first ps) w
         let e = w.at_is in
         subst IsAmount (sym w.value_is) (within at (omega (arith, ints)) (omega (arith, ints))).1
 
-    pub fallen_valley : k ≤ length ps → (k < length ps → pos 0 ≤ℤ (piece ps k).slope) → IsValley (function_of start ps) start.first (last_power start.first ps) at
-    fallen_valley upto rises = subst (IsValley (function_of start ps) start.first (last_power start.first ps)) (sym w.at_is) (valley_at start ps slopes k upto w.falls rises)
+    pub fallen_valley : k ≤ length ps → (k < length ps → pos 0 ≤ℤ (piece ps k).slope) →
+        IsValley (function_of start ps) start.first (last_power start.first ps) at
+    fallen_valley upto rises = subst (IsValley (function_of start ps) start.first (last_power start.first ps))
+        (sym w.at_is) (valley_at start ps slopes k upto w.falls rises)
 
 -- above a limit at the least power, above it everywhere
-pub above_all : (f : ℤ → ℤ) (a b m : ℤ) → IsValley f a b m → (shift limit : ℤ) → limit <ℤ (f m +ℤ shift) → IsAbove (table_on f a b) shift limit
+pub above_all : (f : ℤ → ℤ) (a b m : ℤ) → IsValley f a b m → (shift limit : ℤ) → limit <ℤ (f m +ℤ shift) →
+    IsAbove (table_on f a b) shift limit
 above_all f a b m v shift limit h x w there =
     let o = on_back f a b x w there in
     let l = valley_least f a b m v x o.from o.to in
     omega (arith, ints)
 
 -- the least value of some powers is at the one nearest to the least power
-module _ (f : ℤ → ℤ) (a b m : ℤ) (v : IsValley f a b m) (lo hi low high at : ℤ) (low_is : low ≡ int_max lo a) (high_is : high ≡ int_min hi b) (some : low ≤ℤ high) (at_is : at ≡ int_max low (int_min high m)) where
+module _ (f : ℤ → ℤ) (a b m : ℤ) (v : IsValley f a b m) (lo hi low high at : ℤ) (low_is : low ≡ int_max lo a)
+    (high_is : high ≡ int_min hi b) (some : low ≤ℤ high) (at_is : at ≡ int_max low (int_min high m)) where
   pub at_inside : (a ≤ℤ at) × (at ≤ℤ b) × (lo ≤ℤ at) × (at ≤ℤ hi)
-  at_inside = let p = v.from in let q = v.to in (omega (arith, ints, clamps), omega (arith, ints, clamps), omega (arith, ints, clamps), omega (arith, ints, clamps))
+  at_inside = let p = v.from in let q = v.to in (
+    omega (arith, ints, clamps),
+    omega (arith, ints, clamps),
+    omega (arith, ints, clamps),
+    omega (arith, ints, clamps),
+  )
 
   least_at : (y : ℤ) → a ≤ℤ y → y ≤ℤ b → lo ≤ℤ y → y ≤ℤ hi → f at ≤ℤ f y
   least_at y from to l h =
@@ -61,7 +79,8 @@ module _ (f : ℤ → ℤ) (a b m : ℤ) (v : IsValley f a b m) (lo hi low high 
       (λ (below : at <ℤ m). falls_to f a b m v y at from (omega (arith, ints, clamps)) (omega (arith, ints)))
       (λ (above : m ≤ℤ at). by_lt_z m at
       (λ (past : m <ℤ at). rises_to f a b m v at y above (omega (arith, ints, clamps)) to)
-      (λ (here : at ≤ℤ m). let e : f at ≡ f m = ap f (omega (arith, ints)) in let g = valley_least f a b m v y from to in omega (arith, ints)))
+      (λ (here : at ≤ℤ m). let e : f at ≡ f m = ap f (omega (arith, ints)) in
+      let g = valley_least f a b m v y from to in omega (arith, ints)))
 
   first_at : (y : ℤ) → a ≤ℤ y → y ≤ℤ b → lo ≤ℤ y → f y ≡ f at → at ≤ℤ y
   first_at y from to l e =
@@ -79,10 +98,12 @@ module _ (f : ℤ → ℤ) (a b m : ℤ) (v : IsValley f a b m) (lo hi low high 
       record {
         inside = (i.2, i.3);
         there = on_inside f a b at i.0 i.1 ∙ sym (ap (λ (z : ℤ). Some z) is);
-        least = λ y w h l r. let o = on_back f a b y w h in let e = o.value in let g = least_at y o.from o.to l r in omega (arith, ints);
+        least = λ y w h l r. let o = on_back f a b y w h in let e = o.value in let g = least_at y o.from o.to l r in
+            omega (arith, ints);
         first = λ y h l r. let o = on_back f a b y value h in first_at y o.from o.to l (sym o.value ∙ is);
       }
 
 -- no power is asked for
 pub HasNone-on : (f : ℤ → ℤ) (a b lo hi : ℤ) → int_min hi b <ℤ int_max lo a → HasNone lo hi (table_on f a b)
-HasNone-on f a b lo hi h x low high = by_power a b x (λ (l : a ≤ℤ x) (r : x ≤ℤ b). absurd (omega (arith, ints, clamps))) (λ none. none f)
+HasNone-on f a b lo hi h x low high =
+    by_power a b x (λ (l : a ≤ℤ x) (r : x ≤ℤ b). absurd (omega (arith, ints, clamps))) (λ none. none f)

@@ -15,21 +15,30 @@ gentle_slope w =
     let b = s.at_most in
     record { at_least = omega (arith, ints); at_most = omega (arith, ints) }
 
-module _ (w : Window) (y until : ℤ) (run : Run) (l : IsLowered w.step y (record { end = until; slope = w.step.slope }) (record { end = run.until; slope = run.slope })) (before : y <ℤ until) where
+module _ (w : Window) (y until : ℤ) (run : Run)
+    (l : IsLowered w.step y (record { end = until; slope = w.step.slope })
+    (record { end = run.until; slope = run.slope })) (before : y <ℤ until) where
   here : IsLeft w.step y (record { end = until; slope = w.step.slope }) (record { end = run.until; slope = run.slope })
-  here = left w.step w.valid.fair y (record { end = until; slope = w.step.slope }) (record { end = run.until; slope = run.slope }) before l
+  here = left w.step w.valid.fair y (record { end = until; slope = w.step.slope })
+      (record { end = run.until; slope = run.slope }) before l
 
-  lines_on : ((a b t : ℤ) → y ≤ℤ a → b ≤ℤ until → IsLine (kinked w.start w.pieces.now w.step) a b t → IsLine (moved w.start w.pieces.now w.step w.turn) (a +ℤ run.shift) (b +ℤ run.shift) t)
-      → (a b t : ℤ) → y ≤ℤ a → b ≤ℤ run.until → IsLine (function_of w.start w.pieces.now) a b t → IsLine (paid w.start w.pieces.now w.step w.turn) (a +ℤ run.shift) (b +ℤ run.shift) (t +ℤ run.slope)
+  lines_on : ((a b t : ℤ) → y ≤ℤ a → b ≤ℤ until → IsLine (kinked w.start w.pieces.now w.step) a b t →
+      IsLine (moved w.start w.pieces.now w.step w.turn) (a +ℤ run.shift) (b +ℤ run.shift) t)
+      → (a b t : ℤ) → y ≤ℤ a → b ≤ℤ run.until → IsLine (function_of w.start w.pieces.now) a b t →
+      IsLine (paid w.start w.pieces.now w.step w.turn) (a +ℤ run.shift) (b +ℤ run.shift) (t +ℤ run.slope)
   lines_on move a b t from to line =
       let within = here.within in
       let bent = here.lines (function_of w.start w.pieces.now) a b t from to line in
       let on = move a b (t +ℤ (run.slope -ℤ w.step.slope)) from (omega (arith, ints)) bent in
       let rise = on.rise in
-      subst (λ (z : ℤ). IsLine (paid w.start w.pieces.now w.step w.turn) (a +ℤ run.shift) (b +ℤ run.shift) z) (omega (arith, ints))
-      (line_sum (moved w.start w.pieces.now w.step w.turn) (λ x. w.step.slope *ℤ x) (a +ℤ run.shift) (b +ℤ run.shift) (t +ℤ (run.slope -ℤ w.step.slope)) w.step.slope on (line_product w.step.slope (a +ℤ run.shift) (b +ℤ run.shift) rise))
+      subst (λ (z : ℤ). IsLine (paid w.start w.pieces.now w.step w.turn) (a +ℤ run.shift) (b +ℤ run.shift) z)
+      (omega (arith, ints))
+      (line_sum (moved w.start w.pieces.now w.step w.turn) (λ x. w.step.slope *ℤ x) (a +ℤ run.shift) (b +ℤ run.shift)
+      (t +ℤ (run.slope -ℤ w.step.slope)) w.step.slope on
+      (line_product w.step.slope (a +ℤ run.shift) (b +ℤ run.shift) rise))
 
-  pub run_falls : y <ℤ w.turn → until ≡ int_min (w.high +ℤ w.step.ramp_down) w.turn → run.shift ≡ neg_ℤ w.step.ramp_down → IsRun w y run
+  pub run_falls : y <ℤ w.turn → until ≡ int_min (w.high +ℤ w.step.ramp_down) w.turn →
+      run.shift ≡ neg_ℤ w.step.ramp_down → IsRun w y run
   run_falls falls is shift =
       let up = w.valid.fair.ramp_up.at_least in
       let down = w.valid.fair.ramp_down.at_least in
@@ -43,11 +52,17 @@ module _ (w : Window) (y until : ℤ) (run : Run) (l : IsLowered w.step y (recor
         high = omega (arith, ints, clamps);
         near = omega (arith, ints, clamps);
         shift = record { at_least = omega (arith, ints); at_most = omega (arith, ints) };
-        steep = left_steep w.step w.valid.fair y (record { end = until; slope = w.step.slope }) (record { end = run.until; slope = run.slope }) before l (gentle_slope w);
-        lines = lines_on (λ a b t from to line. line_falling (kinked w.start w.pieces.now w.step) w.turn w.step.ramp_up w.step.ramp_down up down a b t (a +ℤ run.shift) (b +ℤ run.shift) line (omega (arith, ints, clamps)) (omega (arith, ints)) (omega (arith, ints)));
+        steep = left_steep w.step w.valid.fair y (record { end = until; slope = w.step.slope })
+            (record { end = run.until; slope = run.slope }) before l (gentle_slope w);
+        lines = lines_on (λ a b t from to line. line_falling (kinked w.start w.pieces.now w.step) w.turn w.step.ramp_up
+            w.step.ramp_down up down a b t (a +ℤ run.shift) (b +ℤ run.shift) line (omega (arith, ints, clamps))
+            (omega (arith, ints)) (omega (arith, ints)));
         fewer = λ short. by_lt_z run.until until
-            (λ (h : run.until <ℤ until). let b = here.bent h in fewer_bend w.step w.turn y (y +ℤ run.shift) run.until (run.until +ℤ run.shift) (omega (arith, ints)) run.shift refl refl b.0 b.1)
-            (λ (h : until ≤ℤ run.until). fewer_turn w.step w.turn y (y +ℤ run.shift) run.until (run.until +ℤ run.shift) (omega (arith, ints)) run.shift refl refl falls (omega (arith, ints, clamps)));
+            (λ (h : run.until <ℤ until). let b = here.bent h in
+            fewer_bend w.step w.turn y (y +ℤ run.shift) run.until (run.until +ℤ run.shift) (omega (arith, ints))
+            run.shift refl refl b.0 b.1)
+            (λ (h : until ≤ℤ run.until). fewer_turn w.step w.turn y (y +ℤ run.shift) run.until (run.until +ℤ run.shift)
+            (omega (arith, ints)) run.shift refl refl falls (omega (arith, ints, clamps)));
       }
 
   pub run_rises : w.turn ≤ℤ y → until ≡ w.high -ℤ w.step.ramp_up → run.shift ≡ w.step.ramp_up → IsRun w y run
@@ -64,10 +79,15 @@ module _ (w : Window) (y until : ℤ) (run : Run) (l : IsLowered w.step y (recor
         high = omega (arith, ints);
         near = omega (arith, ints, clamps);
         shift = record { at_least = omega (arith, ints); at_most = omega (arith, ints) };
-        steep = left_steep w.step w.valid.fair y (record { end = until; slope = w.step.slope }) (record { end = run.until; slope = run.slope }) before l (gentle_slope w);
-        lines = lines_on (λ a b t from to line. line_rising (kinked w.start w.pieces.now w.step) w.turn w.step.ramp_up w.step.ramp_down up down a b t (a +ℤ run.shift) (b +ℤ run.shift) line (omega (arith, ints)) (omega (arith, ints)) (omega (arith, ints)));
+        steep = left_steep w.step w.valid.fair y (record { end = until; slope = w.step.slope })
+            (record { end = run.until; slope = run.slope }) before l (gentle_slope w);
+        lines = lines_on (λ a b t from to line. line_rising (kinked w.start w.pieces.now w.step) w.turn w.step.ramp_up
+            w.step.ramp_down up down a b t (a +ℤ run.shift) (b +ℤ run.shift) line (omega (arith, ints))
+            (omega (arith, ints)) (omega (arith, ints)));
         fewer = λ short. by_lt_z run.until until
-            (λ (h : run.until <ℤ until). let b = here.bent h in fewer_bend w.step w.turn y (y +ℤ run.shift) run.until (run.until +ℤ run.shift) (omega (arith, ints)) run.shift refl refl b.0 b.1)
+            (λ (h : run.until <ℤ until). let b = here.bent h in
+            fewer_bend w.step w.turn y (y +ℤ run.shift) run.until (run.until +ℤ run.shift) (omega (arith, ints))
+            run.shift refl refl b.0 b.1)
             (λ (h : until ≤ℤ run.until). absurd (omega (arith, ints)));
       }
 
@@ -85,7 +105,8 @@ module _ (w : Window) (cursor : Cursor) (placed : IsPlaced w.start.first w.piece
   cursor_coded = coded_is cursor.at (output_near cursor.at cursor_in.out)
 
   pub turn_coded : coded w.turn ≡ w.turn
-  turn_coded = coded_is w.turn (output_near w.turn (end_of_valley w.start w.pieces.now w.valid.small w.step w.turn w.valid.valley))
+  turn_coded = coded_is w.turn
+      (output_near w.turn (end_of_valley w.start w.pieces.now w.valid.small w.step w.turn w.valid.valley))
 
   pub reach_coded : coded (coded cursor.at +ℤ coded w.step.ramp_up) ≡ cursor.at +ℤ w.step.ramp_up
   reach_coded = up_coded cursor.at w.step.ramp_up cursor_in.out w.valid.fair.ramp_up
@@ -102,15 +123,19 @@ module _ (w : Window) (cursor : Cursor) (placed : IsPlaced w.start.first w.piece
       let h = w.valid.high in
       let from = cursor_in.from in
       let to = cursor_in.to in
-      let last = (w.valid.small (last_power w.start.first w.pieces.now) (omega (arith, ints)) (omega (arith, ints))).0.at_most in
+      let last = (w.valid.small (last_power w.start.first w.pieces.now) (omega (arith, ints))
+      (omega (arith, ints))).0.at_most in
       record { at_least = omega (arith, ints); at_most = omega (arith, ints) }
 
-  pub last_coded : (cursor.at -ℤ w.step.ramp_down) ≤ℤ w.high → coded (coded w.high +ℤ coded w.step.ramp_down) ≡ w.high +ℤ w.step.ramp_down
+  pub last_coded : (cursor.at -ℤ w.step.ramp_down) ≤ℤ w.high →
+      coded (coded w.high +ℤ coded w.step.ramp_down) ≡ w.high +ℤ w.step.ramp_down
   last_coded low =
       let h = high_near low in
       let least = w.valid.fair.ramp_down.at_least in
       let most = w.valid.fair.ramp_down.at_most in
-      coded_add w.high w.step.ramp_down (record { at_least = omega (arith, ints); at_most = omega (arith, ints) }) (record { at_least = omega (arith, ints); at_most = omega (arith, ints) }) (record { at_least = omega (arith, ints); at_most = omega (arith, ints) })
+      coded_add w.high w.step.ramp_down (record { at_least = omega (arith, ints); at_most = omega (arith, ints) })
+      (record { at_least = omega (arith, ints); at_most = omega (arith, ints) })
+      (record { at_least = omega (arith, ints); at_most = omega (arith, ints) })
 
 pub before_both : (y a b u : ℤ) → y <ℤ a → y <ℤ b → u ≡ int_min a b → y <ℤ u
 before_both y a b u h i is = omega (arith, ints, clamps)

@@ -6,21 +6,28 @@ use Rattle.slope_piece.proofs.LineLaws.{lt_is, not_lt_is, line_moved, line_same,
 
 -- ---- lines that move
 
-module _ (k : ℤ → ℤ) (m up down : ℤ) (is_up : pos 0 ≤ℤ up) (is_down : pos 0 ≤ℤ down) (a b t a' b' : ℤ) (line : IsLine k a b t) where
+module _ (k : ℤ → ℤ) (m up down : ℤ) (is_up : pos 0 ≤ℤ up) (is_down : pos 0 ≤ℤ down) (a b t a' b' : ℤ)
+    (line : IsLine k a b t) where
   pub line_falling : b ≤ℤ m → a' +ℤ down ≡ a → b' +ℤ down ≡ b → IsLine (λ z. k (nearest up down m z)) a' b' t
-  line_falling high ea eb = line_same (λ z. k (z +ℤ down)) (λ z. k (nearest up down m z)) a' b' t (line_moved k a b t down a' b' line ea eb)
+  line_falling high ea eb = line_same (λ z. k (z +ℤ down)) (λ z. k (nearest up down m z)) a' b' t
+      (line_moved k a b t down a' b' line ea eb)
       (λ z from to. ap k {x = nearest up down m z} {y = z +ℤ down} (omega (arith, ints, clamps)))
 
   pub line_rising : m ≤ℤ a → a' ≡ a +ℤ up → b' ≡ b +ℤ up → IsLine (λ z. k (nearest up down m z)) a' b' t
-  line_rising low ea eb = line_same (λ z. k (z +ℤ (pos 0 -ℤ up))) (λ z. k (nearest up down m z)) a' b' t (line_moved k a b t (pos 0 -ℤ up) a' b' line (omega (arith, ints)) (omega (arith, ints)))
+  line_rising low ea eb = line_same (λ z. k (z +ℤ (pos 0 -ℤ up))) (λ z. k (nearest up down m z)) a' b' t
+      (line_moved k a b t (pos 0 -ℤ up) a' b' line (omega (arith, ints)) (omega (arith, ints)))
       (λ z from to. ap k {x = nearest up down m z} {y = z +ℤ (pos 0 -ℤ up)} (omega (arith, ints, clamps)))
 
 -- the powers that the least power is the nearest one to, and those up to e where the function is flat
-pub line_level_to : (k : ℤ → ℤ) (m up down x y e x' : ℤ) → pos 0 ≤ℤ up → pos 0 ≤ℤ down → y ≡ nearest up down m x → y ≡ m → IsFlat k y e → x <ℤ x' → x' ≤ℤ (e +ℤ up) → IsLine (λ z. k (nearest up down m z)) x x' (pos 0)
+pub line_level_to : (k : ℤ → ℤ) (m up down x y e x' : ℤ) → pos 0 ≤ℤ up → pos 0 ≤ℤ down → y ≡ nearest up down m x →
+    y ≡ m → IsFlat k y e → x <ℤ x' → x' ≤ℤ (e +ℤ up) → IsLine (λ z. k (nearest up down m z)) x x' (pos 0)
 line_level_to k m up down x y e x' is_up is_down near turn flat rise to =
     let long = flat.from in
-    let same : (z : ℤ) → x ≤ℤ z → z ≤ℤ x' → k (nearest up down m z) ≡ k y = λ z from upto. flat.same (nearest up down m z) (omega (arith, ints, clamps)) (omega (arith, ints, clamps)) in
-    line_flat (λ z. k (nearest up down m z)) x x' rise (λ z from upto. same z from upto ∙ sym (same x (omega (arith, ints)) (omega (arith, ints))))
+    let same : (z : ℤ) → x ≤ℤ z → z ≤ℤ x' → k (nearest up down m z) ≡ k y =
+    λ z from upto. flat.same (nearest up down m z) (omega (arith, ints, clamps))
+    (omega (arith, ints, clamps)) in
+    line_flat (λ z. k (nearest up down m z)) x x' rise
+    (λ z from upto. same z from upto ∙ sym (same x (omega (arith, ints)) (omega (arith, ints))))
 
 -- ---- how many runs are left
 
@@ -31,7 +38,8 @@ pub one_to : (m x : ℤ) → x <ℤ m → one_before m x ≡ 1
 one_to m x h = rw (lt_is x m h) refl
 
 pub one_at_most : (m x : ℤ) → one_before m x ≤ 1
-one_at_most m x = by_lt_z x m (λ (l : x <ℤ m). let e = one_to m x l in omega arith) (λ (l : m ≤ℤ x). let e = none_from m x l in omega arith)
+one_at_most m x = by_lt_z x m (λ (l : x <ℤ m). let e = one_to m x l in omega arith)
+    (λ (l : m ≤ℤ x). let e = none_from m x l in omega arith)
 
 pub no_more : (m m' x y : ℤ) → (x <ℤ m → y <ℤ m') → one_before m x ≤ one_before m' y
 no_more m m' x y h = by_lt_z x m
@@ -115,10 +123,12 @@ module _ (up down m x y : ℤ) (is_up : pos 0 ≤ℤ up) (is_down : pos 0 ≤ℤ
 
 -- ---- where a step begins
 
-pub nearest_inside : (a b m up down x : ℤ) → a ≤ℤ m → m ≤ℤ b → a ≤ℤ (x +ℤ down) → x ≤ℤ (b +ℤ up) → pos 0 ≤ℤ up → pos 0 ≤ℤ down → (a ≤ℤ nearest up down m x) × (nearest up down m x ≤ℤ b)
+pub nearest_inside : (a b m up down x : ℤ) → a ≤ℤ m → m ≤ℤ b → a ≤ℤ (x +ℤ down) → x ≤ℤ (b +ℤ up) → pos 0 ≤ℤ up →
+    pos 0 ≤ℤ down → (a ≤ℤ nearest up down m x) × (nearest up down m x ≤ℤ b)
 nearest_inside a b m up down x p q r s u d = (omega (arith, ints, clamps), omega (arith, ints, clamps))
 
-pub level_joined : (f term : ℤ → ℤ) (n n' v l k k' : ℤ) → v ≡ f n → n ≡ n' → k' ≡ k → ((v +ℤ term n) +ℤ l) +ℤ k ≡ ((f n' +ℤ term n') +ℤ l) +ℤ k'
+pub level_joined : (f term : ℤ → ℤ) (n n' v l k k' : ℤ) → v ≡ f n → n ≡ n' → k' ≡ k →
+    ((v +ℤ term n) +ℤ l) +ℤ k ≡ ((f n' +ℤ term n') +ℤ l) +ℤ k'
 level_joined f term n n' v l k k' value near cost =
     let a = ap f near in
     let b = ap term near in

@@ -33,11 +33,14 @@ module _ (f : ℤ → ℤ) (a b m : ℤ) (v : IsValley f a b m) where
 
   -- ---- the window
 
-  module _ (up down lo hi least most : ℤ) (is_up : pos 0 ≤ℤ up) (is_down : pos 0 ≤ℤ down) (lo_is : lo ≡ int_max least (a -ℤ down)) (hi_is : hi ≡ int_min most (b +ℤ up)) where
+  module _ (up down lo hi least most : ℤ) (is_up : pos 0 ≤ℤ up) (is_down : pos 0 ≤ℤ down)
+      (lo_is : lo ≡ int_max least (a -ℤ down)) (hi_is : hi ≡ int_min most (b +ℤ up)) where
     near_inside : (x : ℤ) → lo ≤ℤ x → x ≤ℤ hi → (a ≤ℤ nearest up down m x) × (nearest up down m x ≤ℤ b)
-    near_inside x low high = let from = v.from in let to = v.to in (omega (arith, ints, clamps), omega (arith, ints, clamps))
+    near_inside x low high = let from = v.from in let to = v.to in
+        (omega (arith, ints, clamps), omega (arith, ints, clamps))
 
-    near_least : (x y : ℤ) → lo ≤ℤ x → x ≤ℤ hi → a ≤ℤ y → y ≤ℤ b → (x -ℤ up) ≤ℤ y → y ≤ℤ (x +ℤ down) → f (nearest up down m x) ≤ℤ f y
+    near_least : (x y : ℤ) → lo ≤ℤ x → x ≤ℤ hi → a ≤ℤ y → y ≤ℤ b → (x -ℤ up) ≤ℤ y → y ≤ℤ (x +ℤ down) →
+        f (nearest up down m x) ≤ℤ f y
     near_least x y low high from to reach back =
         let q = nearest up down m x in
         let i = near_inside x low high in

@@ -1,5 +1,7 @@
 -- Two lists that weigh the same, however numbers are weighed, have the same numbers.
-use Rattle.task_deal.proofs.Common.{◌≡◌, ℕ, zero, suc, ◌+◌, ◌-◌, ◌<◌, ◌⊎◌, inl, inr, List, [], ◌∷◌, ◌++◌, sym, refl, ap, subst, ⊎_elim, arith, IsPermutation, IsPermutation-refl, IsPermutation-cons, IsPermutation-middle, IsPermutation-sym, IsPermutation-trans, sum_of}
+use Rattle.task_deal.proofs.Common.{◌≡◌, ℕ, zero, suc, ◌+◌, ◌-◌, ◌<◌, ◌⊎◌, inl, inr, List, [], ◌∷◌, ◌++◌, sym, refl, ap}
+use Rattle.task_deal.proofs.Common.{subst, ⊎_elim, arith, IsPermutation, IsPermutation-refl, IsPermutation-cons}
+use Rattle.task_deal.proofs.Common.{IsPermutation-middle, IsPermutation-sym, IsPermutation-trans, sum_of}
 use Rattle.task_deal.proofs.Sums.{sum_of-append}
 
 -- 1 at x, and 0 elsewhere
@@ -10,14 +12,17 @@ same_or_not : (x y : ℕ) → (x ≡ y) ⊎ (0 < (x - y) + (y - x))
 same_or_not zero zero = inl refl
 same_or_not zero (suc y) = inr (omega arith)
 same_or_not (suc x) zero = inr (omega arith)
-same_or_not (suc x) (suc y) = ⊎_elim (λ (e : x ≡ y). inl (ap suc e)) (λ (l : 0 < (x - y) + (y - x)). inr (omega (arith, l))) (same_or_not x y)
+same_or_not (suc x) (suc y) =
+    ⊎_elim (λ (e : x ≡ y). inl (ap suc e)) (λ (l : 0 < (x - y) + (y - x)). inr (omega (arith, l))) (same_or_not x y)
 
 -- a list that has the number, taken apart there
-split_at : (x : ℕ) (ys : List ℕ) → 0 < sum_of (times x) ys → (front : List ℕ) × (back : List ℕ) × (ys ≡ front ++ x ∷ back)
+split_at : (x : ℕ) (ys : List ℕ) → 0 < sum_of (times x) ys →
+    (front : List ℕ) × (back : List ℕ) × (ys ≡ front ++ x ∷ back)
 split_at x [] some = absurd (omega (arith, some))
 split_at x (y ∷ ys) some = ⊎_elim
     (λ (e : x ≡ y). ([], ys, ap (λ k. k ∷ ys) (sym e)))
-    (λ (l : 0 < (x - y) + (y - x)). let more = split_at x ys (omega (arith, some, l)) in (y ∷ more.0, more.1, ap (λ zs. y ∷ zs) more.2))
+    (λ (l : 0 < (x - y) + (y - x)). let more = split_at x ys (omega (arith, some, l)) in
+    (y ∷ more.0, more.1, ap (λ zs. y ∷ zs) more.2))
     (same_or_not x y)
 
 pub permutes : (xs ys : List ℕ) → ((h : ℕ → ℕ) → sum_of h xs ≡ sum_of h ys) → IsPermutation xs ys
@@ -27,8 +32,16 @@ permutes (x ∷ xs) ys same =
     let parts = split_at x ys (omega (arith, same (times x))) in
     let front = parts.0 in
     let back = parts.1 in
-    let rest : (h : ℕ → ℕ) → sum_of h xs ≡ sum_of h (front ++ back) = λ h. omega (arith, same h, ap (sum_of h) parts.2, sum_of-append h front (x ∷ back), sum_of-append h front back) in
-    let here : IsPermutation (x ∷ xs) (front ++ x ∷ back) = IsPermutation-trans (x ∷ xs) (x ∷ (front ++ back)) (front ++ x ∷ back)
+    let rest : (h : ℕ → ℕ) → sum_of h xs ≡ sum_of h (front ++ back) =
+    λ h. omega (
+      arith,
+      same h,
+      ap (sum_of h) parts.2,
+      sum_of-append h front (x ∷ back),
+      sum_of-append h front back,
+    ) in
+    let here : IsPermutation (x ∷ xs) (front ++ x ∷ back) =
+    IsPermutation-trans (x ∷ xs) (x ∷ (front ++ back)) (front ++ x ∷ back)
     (IsPermutation-cons x xs (front ++ back) (permutes xs (front ++ back) rest))
     (IsPermutation-sym (front ++ x ∷ back) (x ∷ (front ++ back)) (IsPermutation-middle front x back)) in
     subst (IsPermutation (x ∷ xs)) (sym parts.2) here

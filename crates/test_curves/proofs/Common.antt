@@ -1,5 +1,7 @@
 -- The names that the proofs of this crate take from its specs and from other crates, passed on from one place.
-pub use Rattle.std.proofs.Common.{◌≡◌, ◌+◌, inl, inr, ℤ, pos, ◌+ℤ◌, ◌-ℤ◌, ◌*ℤ◌, ◌≤ℤ◌, ◌<ℤ◌, Some, None, List, [], ◌∷◌, refl, sym, ap, ◌∙◌, subst, arith, w64, FitsSigned, Option, of_z, IsSome, rules, to_z, get_or, drop}
+pub use Rattle.std.proofs.Common.{◌≡◌, ◌+◌, inl, inr, ℤ, pos, ◌+ℤ◌, ◌-ℤ◌, ◌*ℤ◌, ◌≤ℤ◌, ◌<ℤ◌, Some, None, List, [], ◌∷◌}
+pub use Rattle.std.proofs.Common.{refl, sym, ap, ◌∙◌, subst, arith, w64, FitsSigned, Option, of_z, IsSome, rules, to_z}
+pub use Rattle.std.proofs.Common.{get_or, drop}
 pub use Rattle.std.proofs.Math.IntN.{*ℤ-zero}
 pub use Rattle.std.proofs.lemmas.Int.{ints, to_z-of_z}
 pub use Rattle.std.proofs.lemmas.List.{drop_more}

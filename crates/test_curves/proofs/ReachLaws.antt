@@ -1,5 +1,7 @@
 -- The value of a curve at a power, found block by block.
-use Rattle.test_curves.proofs.Common.{◌≡◌, inl, inr, ℤ, pos, ◌+ℤ◌, ◌-ℤ◌, ◌*ℤ◌, ◌≤ℤ◌, ◌<ℤ◌, Option, Some, None, IsSome, List, [], ◌∷◌, refl, sym, ap, ◌∙◌, subst, arith, ints, *ℤ-zero, option_map, Block, Curve, rise_at, curve_value, IsFrom, IsAmount, CanEvaluate}
+use Rattle.test_curves.proofs.Common.{◌≡◌, inl, inr, ℤ, pos, ◌+ℤ◌, ◌-ℤ◌, ◌*ℤ◌, ◌≤ℤ◌, ◌<ℤ◌, Option, Some, None, IsSome}
+use Rattle.test_curves.proofs.Common.{List, [], ◌∷◌, refl, sym, ap, ◌∙◌, subst, arith, ints, *ℤ-zero, option_map, Block}
+use Rattle.test_curves.proofs.Common.{Curve, rise_at, curve_value, IsFrom, IsAmount, CanEvaluate}
 use Rattle.cost_curve.proofs.CurveLaws.{AreWide, head_wide, tail_wide, end_is, rise_in, rise_past, in_or_past}
 use Rattle.cost_curve.proofs.ValueLaws.{some_inside, before_end, after_start, value_at, before_last}
 
@@ -35,11 +37,14 @@ module _ (c : Curve) (x : ℤ) (inside : IsSome (curve_value c x)) where
         amounts = λ y v y_least e.
             let z : ℤ = c.at +ℤ y in
             let off : z -ℤ c.at ≡ y = omega (arith, ints) in
-            let there = value_at c x inside z (omega (arith, ints, y_least)) ∙ ap (λ (d : ℤ). option_map (λ (u : ℤ). u +ℤ c.value) (rise_at c.blocks.items d)) off ∙ ap (option_map (λ (u : ℤ). u +ℤ c.value)) e in
+            let there = value_at c x inside z (omega (arith, ints, y_least)) ∙
+            ap (λ (d : ℤ). option_map (λ (u : ℤ). u +ℤ c.value) (rise_at c.blocks.items d)) off ∙
+            ap (option_map (λ (u : ℤ). u +ℤ c.value)) e in
             turned v c.value (can.values z (v +ℤ c.value) there);
       }
 
-module _ (found : Option ℤ) (b : Block) (bs : List Block) (value rest : ℤ) (known : IsReached found (b ∷ bs) value rest) where
+module _ (found : Option ℤ) (b : Block) (bs : List Block) (value rest : ℤ)
+    (known : IsReached found (b ∷ bs) value rest) where
   pub value_amount : IsAmount value
   value_amount =
       let h = known.amounts (pos 0) (pos 0) (omega (arith, ints)) (rise_zero (b ∷ bs) known.widths) in
@@ -57,12 +62,15 @@ module _ (found : Option ℤ) (b : Block) (bs : List Block) (value rest : ℤ) (
 
   -- or past it
   pub width_power : b.width <ℤ rest → IsFrom (pos 0) (pos 8000000000) b.width
-  width_power far = let h = head_wide b bs known.widths in let m = known.most in record { at_least = h; at_most = omega (arith, ints, far, m) }
+  width_power far = let h = head_wide b bs known.widths in let m = known.most in
+      record { at_least = h; at_most = omega (arith, ints, far, m) }
 
   pub far_amount : IsAmount (value +ℤ (b.price *ℤ b.width))
-  far_amount = known.amounts b.width (b.price *ℤ b.width) (head_wide b bs known.widths) (rise_in b bs b.width (omega (arith, ints)))
+  far_amount = known.amounts b.width (b.price *ℤ b.width) (head_wide b bs known.widths)
+      (rise_in b bs b.width (omega (arith, ints)))
 
-  twice : (o : Option ℤ) (g : ℤ) → option_map (λ (v : ℤ). v +ℤ value) (option_map (λ (v : ℤ). v +ℤ g) o) ≡ option_map (λ (v : ℤ). v +ℤ (value +ℤ g)) o
+  twice : (o : Option ℤ) (g : ℤ) → option_map (λ (v : ℤ). v +ℤ value) (option_map (λ (v : ℤ). v +ℤ g) o) ≡ option_map
+      (λ (v : ℤ). v +ℤ (value +ℤ g)) o
   twice None g = refl
   twice (Some u) g = let e : (u +ℤ g) +ℤ value ≡ u +ℤ (value +ℤ g) = omega (arith, ints) in ap Some e
 
@@ -72,15 +80,19 @@ module _ (found : Option ℤ) (b : Block) (bs : List Block) (value rest : ℤ) (
       elim (in_or_past (pos 0) y) [
         | inl low ↦
             let none : y ≡ pos 0 = omega (arith, ints, low, least) in
-            let zero_is : Some v ≡ Some (pos 0) = sym e ∙ ap (rise_at bs) none ∙ rise_zero bs (tail_wide b bs known.widths) in
+            let zero_is : Some v ≡ Some (pos 0) = sym e ∙ ap (rise_at bs) none ∙
+            rise_zero bs (tail_wide b bs known.widths) in
             let v_is : v ≡ pos 0 = cc in
             let sum : value +ℤ g ≡ (value +ℤ g) +ℤ v = omega (arith, ints, v_is) in
             subst IsAmount sum far_amount
         | inr up ↦
             let x : ℤ = b.width +ℤ y in
             let back : x -ℤ b.width ≡ y = omega (arith, ints) in
-            let there = rise_past b bs x (omega (arith, ints, up)) ∙ ap (λ (d : ℤ). option_map (λ (u : ℤ). u +ℤ g) (rise_at bs d)) back ∙ ap (option_map (λ (u : ℤ). u +ℤ g)) e in
-            let h = known.amounts x (v +ℤ g) (let w = head_wide b bs known.widths in omega (arith, ints, w, up)) there in
+            let there = rise_past b bs x (omega (arith, ints, up)) ∙
+            ap (λ (d : ℤ). option_map (λ (u : ℤ). u +ℤ g) (rise_at bs d)) back ∙
+            ap (option_map (λ (u : ℤ). u +ℤ g)) e in
+            let h = known.amounts x (v +ℤ g) (let w = head_wide b bs known.widths in omega (arith, ints, w, up))
+            there in
             let sum : value +ℤ (v +ℤ g) ≡ (value +ℤ g) +ℤ v = omega (arith, ints) in
             subst IsAmount sum h
       ]
@@ -93,7 +105,8 @@ module _ (found : Option ℤ) (b : Block) (bs : List Block) (value rest : ℤ) (
         least = omega (arith, ints, far);
         most = omega (arith, ints, w, m);
         widths = tail_wide b bs known.widths;
-        is = known.is ∙ ap (option_map (λ (v : ℤ). v +ℤ value)) (rise_past b bs rest far) ∙ twice (rise_at bs (rest -ℤ b.width)) (b.price *ℤ b.width);
+        is = known.is ∙ ap (option_map (λ (v : ℤ). v +ℤ value)) (rise_past b bs rest far) ∙
+            twice (rise_at bs (rest -ℤ b.width)) (b.price *ℤ b.width);
         amounts = far_amounts;
       }
 

@@ -1,5 +1,6 @@
 -- The names that the proofs of this crate take from other crates, passed on from one place.
-pub use Rattle.std.proofs.Common.{◌≡◌, ℕ, ◌≤◌, ℤ, pos, ◌≤ℤ◌, IsTrue, true, List, [], ◌∷◌, ◌++◌, length, map, drop, refl, sym, ap, ◌∙◌, subst, arith, length-append, rules, FitsSigned}
+pub use Rattle.std.proofs.Common.{◌≡◌, ℕ, ◌≤◌, ℤ, pos, ◌≤ℤ◌, IsTrue, true, List, [], ◌∷◌, ◌++◌, length, map, drop, refl}
+pub use Rattle.std.proofs.Common.{sym, ap, ◌∙◌, subst, arith, length-append, rules, FitsSigned}
 pub use Rattle.std.proofs.lemmas.List.Elements.{All-map, All-push, All-same, All-weaker}
 pub use Rattle.std.proofs.lemmas.Int.{ints, to_z-of_z}
 pub use Rattle.std.specs.Int.{w128}

@@ -1,19 +1,22 @@
 -- The cells of a chain of calls.
 use Rattle.test_shapes.proofs.Common.{◌≡◌, ℕ, ◌+◌, ◌-◌, ◌*◌, ◌≤◌, List, [], ◌∷◌, ap, arith, Table}
 use Rattle.std.proofs.Math.Nat.{mul-le-mul_right}
-use Rattle.test_shapes.specs.Chain.{Call, AddCurve, AddLine, AddReserve, Window, charge_of, charges_of, curves_in, kinks_in, windows_in, AreCurvesOf, CellsAreCharged, CellsAreBounded}
+use Rattle.test_shapes.specs.Chain.{Call, AddCurve, AddLine, AddReserve, Window, charge_of, charges_of, curves_in}
+use Rattle.test_shapes.specs.Chain.{kinks_in, windows_in, AreCurvesOf, CellsAreCharged, CellsAreBounded}
 
 -- the charges, where no curve has more than so many blocks
 charges_bounded : (points : ℕ) (calls : List Call) → AreCurvesOf points calls
     → charges_of calls ≤ curves_in calls * (2 * (points - 1)) + (kinks_in calls + 4 * windows_in calls)
 charges_bounded points [] few = omega arith
-charges_bounded points (AddCurve curve shift ∷ calls) few = let rest = charges_bounded points calls few.1 in let first = few.0 in omega arith
+charges_bounded points (AddCurve curve shift ∷ calls) few = let rest = charges_bounded points calls few.1 in
+    let first = few.0 in omega arith
 charges_bounded points (AddLine slope ∷ calls) few = let rest = charges_bounded points calls few in omega arith
 charges_bounded points (AddReserve mu most up ∷ calls) few = let rest = charges_bounded points calls few in omega arith
 charges_bounded points (Window up down lo hi ∷ calls) few = let rest = charges_bounded points calls few in omega arith
 
 module _ {H S : Type 0} (function : H → S → Table) (charged : ℕ → H → S → H → S → Type 0) (cells : S → ℕ)
-    (most : (charge : ℕ) (h : H) (s : S) (h' : H) (s' : S) → charged charge h s h' s' → cells s' ≤ cells s + charge) where
+    (most : (charge : ℕ) (h : H) (s : S) (h' : H) (s' : S) → charged charge h s h' s' →
+    cells s' ≤ cells s + charge) where
   pub charged_by : CellsAreCharged function charged cells
   charged_by [] h h' s s' made = let e : cells s' ≡ cells s = ap cells made.1 in omega arith
   charged_by (call ∷ calls) h h' s s' made =

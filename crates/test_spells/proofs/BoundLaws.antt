@@ -1,5 +1,9 @@
 -- The values of a shape through a step: each part of it may be added.
-use Rattle.test_spells.proofs.Common.{◌≡◌, ℕ, ◌+◌, ◌≤◌, ℤ, pos, neg_ℤ, ◌+ℤ◌, ◌*ℤ◌, Option, Some, None, refl, ap, ◌∙◌, subst, arith, option_map, int_min, ints, clamps, zero-*ℤ, curve_value, reserve_term, IsSum, IsWindow, CanAddCurve, Table, value_of, CanAdd, Curve, IsFrom, IsOutput, IsWithin, product_within, Step, IsFairStep, IsCostOf, IsKinked, IsSmall}
+use Rattle.test_spells.proofs.Common.{◌≡◌, ℕ, ◌+◌, ◌≤◌, ℤ, pos, neg_ℤ, ◌+ℤ◌, ◌*ℤ◌, Option, Some, None, refl, ap, ◌∙◌}
+use Rattle.test_spells.proofs.Common.{subst, arith, option_map, int_min, ints, clamps, zero-*ℤ, curve_value}
+use Rattle.test_spells.proofs.Common.{reserve_term, IsSum, IsWindow, CanAddCurve, Table, value_of, CanAdd, Curve}
+use Rattle.test_spells.proofs.Common.{IsFrom, IsOutput, IsWithin, product_within, Step, IsFairStep, IsCostOf, IsKinked}
+use Rattle.test_spells.proofs.Common.{IsSmall}
 use Rattle.spell_run.proofs.SumLaws.{added}
 
 -- powers are outputs, and values at most n in magnitude
@@ -23,12 +27,15 @@ pub kink_of_none : (s : Step) (f : Table) → s.reserve_price ≡ pos 0 → IsKi
 kink_of_none s f none x = same_map (reserve_term s.reserve_price s.cap s.ramp_up x) (no_worth s x none) (value_of f x)
 
 pub negated_within : (n : ℕ) (z : ℤ) → IsWithin n z → IsWithin n (neg_ℤ z)
-negated_within n z h = let a = h.at_least in let b = h.at_most in record { at_least = omega (arith, ints, b); at_most = omega (arith, ints, a) }
+negated_within n z h = let a = h.at_least in let b = h.at_most in
+    record { at_least = omega (arith, ints, b); at_most = omega (arith, ints, a) }
 
 module _ (s : Step) (fair : IsFairStep s) (x : ℤ) (out : IsOutput x) where
   pub kink_within : IsWithin 100000000000000 (reserve_term s.reserve_price s.cap s.ramp_up x)
   kink_within =
-      let price : IsWithin 10000000 s.reserve_price = (let a = fair.reserve_price.at_least in let b = fair.reserve_price.at_most in record { at_least = omega (arith, ints, a); at_most = b }) in
+      let price : IsWithin 10000000 s.reserve_price =
+      (let a = fair.reserve_price.at_least in let b = fair.reserve_price.at_most in
+      record { at_least = omega (arith, ints, a); at_most = b }) in
       let most : IsFrom (pos 0) (pos 10000000) (int_min s.cap (s.ramp_up +ℤ x)) = (
       let a = fair.cap.at_least in
       let b = fair.cap.at_most in
@@ -36,16 +43,20 @@ module _ (s : Step) (fair : IsFairStep s) (x : ℤ) (out : IsOutput x) where
       let l = out.at_least in
       record { at_least = omega (arith, ints, clamps, a, u, l); at_most = omega (arith, ints, clamps, b) }
       ) in
-      negated_within 100000000000000 (s.reserve_price *ℤ int_min s.cap (s.ramp_up +ℤ x)) (product_within 10000000 10000000 s.reserve_price (int_min s.cap (s.ramp_up +ℤ x)) price most)
+      negated_within 100000000000000 (s.reserve_price *ℤ int_min s.cap (s.ramp_up +ℤ x))
+      (product_within 10000000 10000000 s.reserve_price (int_min s.cap (s.ramp_up +ℤ x)) price most)
 
   pub slope_within : IsWithin 200000000000000 (s.slope *ℤ x)
   slope_within =
-      let slope : IsWithin 20000000 s.slope = (let a = fair.slope.at_least in let b = fair.slope.at_most in record { at_least = omega (arith, ints, a); at_most = b }) in
+      let slope : IsWithin 20000000 s.slope =
+      (let a = fair.slope.at_least in let b = fair.slope.at_most in
+      record { at_least = omega (arith, ints, a); at_most = b }) in
       product_within 20000000 10000000 s.slope x slope out
 
 -- ---- a term that is added
 
-module _ (n m : ℕ) (term : ℤ → ℤ) (f : Table) (bounded : IsBounded n f) (within : (x : ℤ) → IsOutput x → IsWithin m (term x)) where
+module _ (n m : ℕ) (term : ℤ → ℤ) (f : Table) (bounded : IsBounded n f)
+    (within : (x : ℤ) → IsOutput x → IsWithin m (term x)) where
   pub can_sum : n + m ≤ 1000000000000000000 → CanAdd term f
   can_sum few x v h =
       let b = bounded x v h in
@@ -71,7 +82,8 @@ module _ (n m : ℕ) (term : ℤ → ℤ) (f : Table) (bounded : IsBounded n f) 
 -- ---- through a step
 
 module _ (s : Step) (fair : IsFairStep s) where
-  pub bounded_window : (n : ℕ) (f g : Table) → IsBounded n f → IsWindow s.ramp_up s.ramp_down s.least s.most f g → IsBounded n g
+  pub bounded_window : (n : ℕ) (f g : Table) → IsBounded n f → IsWindow s.ramp_up s.ramp_down s.least s.most f g →
+      IsBounded n g
   bounded_window n f g bounded window x v h =
       let r = window.reached x v h in
       let low = fair.least.at_least in
@@ -81,12 +93,15 @@ module _ (s : Step) (fair : IsFairStep s) where
       (record { at_least = omega (arith, ints, low, a); at_most = omega (arith, ints, high, b) }, (bounded r.0 v r.1).1)
 
   pub can_kink : (f : Table) → IsSmall f → CanAdd (reserve_term s.reserve_price s.cap s.ramp_up) f
-  can_kink f small = can_sum 500000000000000000 100000000000000 (reserve_term s.reserve_price s.cap s.ramp_up) f small (kink_within s fair) (omega arith)
+  can_kink f small = can_sum 500000000000000000 100000000000000 (reserve_term s.reserve_price s.cap s.ramp_up) f small
+      (kink_within s fair) (omega arith)
 
   pub bounded_kink : (n : ℕ) (f g : Table) → IsBounded n f → IsKinked s f g → IsBounded (n + 100000000000000) g
-  bounded_kink n f g bounded kink = bounded_sum n 100000000000000 (reserve_term s.reserve_price s.cap s.ramp_up) f bounded (kink_within s fair) g kink
+  bounded_kink n f g bounded kink =
+      bounded_sum n 100000000000000 (reserve_term s.reserve_price s.cap s.ramp_up) f bounded (kink_within s fair) g kink
 
-  module _ (f g w : Table) (small : IsSmall f) (kink : IsKinked s f g) (window : IsWindow s.ramp_up s.ramp_down s.least s.most g w) where
+  module _ (f g w : Table) (small : IsSmall f) (kink : IsKinked s f g)
+      (window : IsWindow s.ramp_up s.ramp_down s.least s.most g w) where
     kinked_small : IsBounded 500100000000000000 g
     kinked_small x v h = bounded_kink 500000000000000000 f g small kink x v h
 
@@ -94,11 +109,13 @@ module _ (s : Step) (fair : IsFairStep s) where
     window_small = bounded_window 500100000000000000 g w kinked_small window
 
     pub can_line : CanAdd (λ x. s.slope *ℤ x) w
-    can_line = can_sum 500100000000000000 200000000000000 (λ x. s.slope *ℤ x) w window_small (slope_within s fair) (omega arith)
+    can_line = can_sum 500100000000000000 200000000000000 (λ x. s.slope *ℤ x) w window_small (slope_within s fair)
+        (omega arith)
 
     module _ (l : Table) (line : IsSum (λ x. s.slope *ℤ x) w l) (c : Curve) (cost : IsCostOf s c) where
       line_small : IsBounded 500300000000000000 l
-      line_small x v h = bounded_sum 500100000000000000 200000000000000 (λ x. s.slope *ℤ x) w window_small (slope_within s fair) l line x v h
+      line_small x v h = bounded_sum 500100000000000000 200000000000000 (λ x. s.slope *ℤ x) w window_small
+          (slope_within s fair) l line x v h
 
       pub can_curve : CanAddCurve (curve_value c) (pos 0) l
       can_curve x v h =
@@ -110,5 +127,8 @@ module _ (s : Step) (fair : IsFairStep s) where
           let p = b.at_least in
           let q = b.at_most in
           let d = k.2.at_least in
-          let e = k.2.at_most in
-          (k.0, subst (λ (y : ℤ). curve_value c y ≡ Some k.0) at k.1, (omega (arith, ints, p, d), omega (arith, ints, q, e)))
+          let e = k.2.at_most in (
+            k.0,
+            subst (λ (y : ℤ). curve_value c y ≡ Some k.0) at k.1,
+            (omega (arith, ints, p, d), omega (arith, ints, q, e)),
+          )

@@ -1,5 +1,8 @@
 -- The names that the proofs of this crate take from its specs and from other crates, passed on from one place.
-pub use Rattle.std.proofs.Common.{◌≡◌, ℕ, ◌+◌, ◌≤◌, ℤ, pos, neg_ℤ, ◌+ℤ◌, ◌*ℤ◌, Option, Some, None, refl, ap, ◌∙◌, subst, arith, ◌-ℤ◌, ◌≤ℤ◌, sym, w64, FitsSigned, zero, suc, ◌<◌, ◌⊎◌, inl, inr, Bool, true, false, List, [], ltb, eqb, length, IfSome, ◌-◌, ◌≢◌, get_or, set, get_or-set_same, get_or-set_other, cond, ◌*◌, length-set, Result, Ok, Err, IfOk, is_ok, IsOk, rules}
+pub use Rattle.std.proofs.Common.{◌≡◌, ℕ, ◌+◌, ◌≤◌, ℤ, pos, neg_ℤ, ◌+ℤ◌, ◌*ℤ◌, Option, Some, None, refl, ap, ◌∙◌, subst}
+pub use Rattle.std.proofs.Common.{arith, ◌-ℤ◌, ◌≤ℤ◌, sym, w64, FitsSigned, zero, suc, ◌<◌, ◌⊎◌, inl, inr, Bool, true}
+pub use Rattle.std.proofs.Common.{false, List, [], ltb, eqb, length, IfSome, ◌-◌, ◌≢◌, get_or, set, get_or-set_same}
+pub use Rattle.std.proofs.Common.{get_or-set_other, cond, ◌*◌, length-set, Result, Ok, Err, IfOk, is_ok, IsOk, rules}
 pub use Rattle.std.proofs.Math.IntN.{zero-*ℤ}
 pub use Rattle.std.proofs.lemmas.Bool.{lt-ltb, cases_lt, false≢true}
 pub use Rattle.std.proofs.lemmas.Int.{ints, clamps, to_z-of_z}
@@ -20,7 +23,8 @@ pub use Rattle.spell_run.specs.Frontier.{IsFrontier}
 pub use Rattle.spell_way.specs.Ways.{IsWritten, IsChosen, IsWayFrom, stops_at}
 pub use Rattle.spell_run.specs.Laws.{best_reserve}
 pub use Rattle.spell_run.specs.Spells.{IsSpellWithin, IsSpellAnswer, IsBestDispatch, IsFirstDispatch, HasNoDispatch}
-pub use Rattle.spell_run.specs.Steps.{IsFairStep, IsCostOf, IsKinked, IsSmall, cap_at, step_at, IsStepped, IsLeastCost, IsLeastCostIn}
+pub use Rattle.spell_run.specs.Steps.{IsFairStep, IsCostOf, IsKinked, IsSmall, cap_at, step_at, IsStepped, IsLeastCost}
+pub use Rattle.spell_run.specs.Steps.{IsLeastCostIn}
 pub use Rattle.test_spells.specs.declared.best.Found.{Found}
 pub use Rattle.plain_lists.proofs.SignedLaws.{IsWithin, product_within}
 pub use Rattle.uc_model.specs.Data.{Schedule, ThermalUnit, PriceLists}

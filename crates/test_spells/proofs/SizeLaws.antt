@@ -1,5 +1,6 @@
 -- How many cells the calls need.
-use Rattle.test_spells.proofs.Common.{◌≡◌, ℕ, ◌+◌, ◌-◌, ◌*◌, ◌≤◌, ◌<◌, is_ok, Result, Err, IsOk, sym, ap, ◌∙◌, arith, false≢true, cells_for}
+use Rattle.test_spells.proofs.Common.{◌≡◌, ℕ, ◌+◌, ◌-◌, ◌*◌, ◌≤◌, ◌<◌, is_ok, Result, Err, IsOk, sym, ap, ◌∙◌, arith}
+use Rattle.test_spells.proofs.Common.{false≢true, cells_for}
 use Rattle.std.proofs.Math.Nat.{mul-le-mul}
 
 pub never_both : {X E : Type 0} → (r : Result X E) (e : E) → r ≡ Err e → IsOk r → ⊥
@@ -49,7 +50,8 @@ module _ (periods points charge : ℕ) (some : 1 ≤ periods) (few : charge ≤ 
   way_most left low = let m = mono left periods charge charge low (omega arith) in omega (arith, m)
 
 -- what is left for the periods after the next one
-module _ (left charge most cells cells' sure sure' : ℕ) (some : 1 ≤ left) (room : cells + left * charge ≤ most) (enough : left * most ≤ sure) where
+module _ (left charge most cells cells' sure sure' : ℕ) (some : 1 ≤ left) (room : cells + left * charge ≤ most)
+    (enough : left * most ≤ sure) where
   abbrev rest : ℕ
   rest = left - 1
 

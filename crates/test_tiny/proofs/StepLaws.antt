@@ -1,5 +1,7 @@
 -- What the next list is: the places before the first that isn't at its last item begin again, and that one is one more.
-use Rattle.test_tiny.proofs.Common.{◌≡◌, ℕ, zero, suc, ◌+◌, ◌*◌, ◌<◌, ◌≤◌, Bool, true, false, List, [], ◌∷◌, ◌++◌, map, length, drop, set, replicate, refl, sym, ap, ◌∙◌, subst, arith, add-one, drop_all, slice_index_or, after_of, list_count, flag}
+use Rattle.test_tiny.proofs.Common.{◌≡◌, ℕ, zero, suc, ◌+◌, ◌*◌, ◌<◌, ◌≤◌, Bool, true, false, List, [], ◌∷◌, ◌++◌, map}
+use Rattle.test_tiny.proofs.Common.{length, drop, set, replicate, refl, sym, ap, ◌∙◌, subst, arith, add-one, drop_all}
+use Rattle.test_tiny.proofs.Common.{slice_index_or, after_of, list_count, flag}
 
 -- ---- lists that begin again up to a place
 
@@ -32,14 +34,17 @@ module _ {X : Type 0} (first last : X) where
     new_split : (x : X) → slice_index_or new p x ≡ x → new ≡ replicate p first ++ (x ∷ drop (suc p) old)
     new_split x is =
         let split = h.new_is ∙ ap (λ (zs : List X). replicate p first ++ zs) (rest_is p old x low) in
-        let same : slice_index_or old p x ≡ x = sym (at_front p first (slice_index_or old p x) x (drop (suc p) old)) ∙ ap (λ (zs : List X). slice_index_or zs p x) (sym split) ∙ is in
+        let same : slice_index_or old p x ≡ x = sym (at_front p first (slice_index_or old p x) x (drop (suc p) old)) ∙
+        ap (λ (zs : List X). slice_index_or zs p x) (sym split) ∙ is in
         split ∙ ap (λ (z : X). replicate p first ++ (z ∷ drop (suc p) old)) same
 
     pub old_split : (x : X) → slice_index_or new p x ≡ x → old ≡ replicate p last ++ (x ∷ drop (suc p) old)
     old_split x is =
         let split = h.new_is ∙ ap (λ (zs : List X). replicate p first ++ zs) (rest_is p old x low) in
-        let same : slice_index_or old p x ≡ x = sym (at_front p first (slice_index_or old p x) x (drop (suc p) old)) ∙ ap (λ (zs : List X). slice_index_or zs p x) (sym split) ∙ is in
-        h.old_is ∙ ap (λ (zs : List X). replicate p last ++ zs) (rest_is p old x low) ∙ ap (λ (z : X). replicate p last ++ (z ∷ drop (suc p) old)) same
+        let same : slice_index_or old p x ≡ x = sym (at_front p first (slice_index_or old p x) x (drop (suc p) old)) ∙
+        ap (λ (zs : List X). slice_index_or zs p x) (sym split) ∙ is in
+        h.old_is ∙ ap (λ (zs : List X). replicate p last ++ zs) (rest_is p old x low) ∙
+        ap (λ (z : X). replicate p last ++ (z ∷ drop (suc p) old)) same
 
     pub new_set : (x w : X) → slice_index_or new p x ≡ x → set new p w ≡ replicate p first ++ (w ∷ drop (suc p) old)
     new_set x w is = ap (λ (zs : List X). set zs p w) (new_split x is) ∙ set_front p first x w (drop (suc p) old)
@@ -50,10 +55,14 @@ module _ {X : Type 0} (first last : X) where
       old_is = old_split last is ∙ one_more p last (drop (suc p) old);
     })
 
-  pub turned_all : (p : ℕ) (old new : List X) → length old ≤ p → IsTurned p old new → (new ≡ replicate p first ++ []) × (old ≡ replicate p last ++ [])
+  pub turned_all : (p : ℕ) (old new : List X) → length old ≤ p → IsTurned p old new →
+      (new ≡ replicate p first ++ []) × (old ≡ replicate p last ++ [])
   turned_all p old new far h =
-      let none = drop_all p old far in
-      (h.new_is ∙ ap (λ (zs : List X). replicate p first ++ zs) none, h.old_is ∙ ap (λ (zs : List X). replicate p last ++ zs) none)
+      let none = drop_all p old far in (
+        h.new_is ∙ ap (λ (zs : List X). replicate p first ++ zs) none,
+        h.old_is ∙
+            ap (λ (zs : List X). replicate p last ++ zs) none,
+      )
 
 -- ---- their counts
 
@@ -61,12 +70,14 @@ lasts : (most p : ℕ) (xs : List ℕ) → after_of most (replicate p most ++ xs
 lasts most zero xs = omega arith
 lasts most (suc p) xs = let e = ap (λ (z : ℕ). suc most * z) (lasts most p xs) in omega (arith, e)
 
-firsts : (most p : ℕ) (xs : List ℕ) → suc (after_of most (replicate p 0 ++ xs)) ≡ list_count most p * suc (after_of most xs)
+firsts : (most p : ℕ) (xs : List ℕ) →
+    suc (after_of most (replicate p 0 ++ xs)) ≡ list_count most p * suc (after_of most xs)
 firsts most zero xs = omega arith
 firsts most (suc p) xs = let e = ap (λ (z : ℕ). suc most * z) (firsts most p xs) in omega (arith, e)
 
 -- one more at a place, and first items before it
-pub after-one_more : (most p x : ℕ) (xs : List ℕ) → x < most → suc (after_of most (replicate p 0 ++ (suc x ∷ xs))) ≡ after_of most (replicate p most ++ (x ∷ xs))
+pub after-one_more : (most p x : ℕ) (xs : List ℕ) → x < most →
+    suc (after_of most (replicate p 0 ++ (suc x ∷ xs))) ≡ after_of most (replicate p most ++ (x ∷ xs))
 after-one_more most p x xs h =
     let one : suc (after_of most (suc x ∷ xs)) ≡ after_of most (x ∷ xs) = omega (arith, h) in
     firsts most p (suc x ∷ xs) ∙ ap (λ (z : ℕ). list_count most p * z) one ∙ sym (lasts most p (x ∷ xs))
@@ -77,13 +88,17 @@ after-lasts most p = let e = lasts most p [] in omega (arith, e)
 pub after-firsts : (most p : ℕ) → suc (after_of most (replicate p 0 ++ [])) ≡ list_count most p
 after-firsts most p = let e = firsts most p [] in omega (arith, e)
 
-flags_replicated : (p : ℕ) (b : Bool) (bs : List Bool) → map flag (replicate p b ++ bs) ≡ replicate p (flag b) ++ map flag bs
+flags_replicated : (p : ℕ) (b : Bool) (bs : List Bool) →
+    map flag (replicate p b ++ bs) ≡ replicate p (flag b) ++ map flag bs
 flags_replicated zero b bs = refl
 flags_replicated (suc p) b bs = ap (λ (zs : List ℕ). flag b ∷ zs) (flags_replicated p b bs)
 
-pub flags-one_more : (p : ℕ) (bs : List Bool) → suc (after_of 1 (map flag (replicate p false ++ (true ∷ bs)))) ≡ after_of 1 (map flag (replicate p true ++ (false ∷ bs)))
+pub flags-one_more : (p : ℕ) (bs : List Bool) →
+    suc (after_of 1 (map flag (replicate p false ++ (true ∷ bs)))) ≡ after_of 1
+    (map flag (replicate p true ++ (false ∷ bs)))
 flags-one_more p bs =
-    ap (λ (zs : List ℕ). suc (after_of 1 zs)) (flags_replicated p false (true ∷ bs)) ∙ after-one_more 1 p 0 (map flag bs) (omega arith)
+    ap (λ (zs : List ℕ). suc (after_of 1 zs)) (flags_replicated p false (true ∷ bs)) ∙
+    after-one_more 1 p 0 (map flag bs) (omega arith)
     ∙ ap (after_of 1) (sym (flags_replicated p true (false ∷ bs)))
 
 pub flags-lasts : (p : ℕ) → after_of 1 (map flag (replicate p true ++ [])) ≡ 0
@@ -98,12 +113,14 @@ flags-firsts p = ap (λ (zs : List ℕ). suc (after_of 1 zs)) (flags_replicated 
 carry : (r z x y : ℕ) → suc r ≡ z → suc x ≡ y → suc (r + z * x) ≡ z * y
 carry r z x y h i = let e = ap (λ (n : ℕ). z * n) i in omega (arith, h, e)
 
-pub carry_power : (z r r' p p' f : ℕ) → r ≡ 0 → suc r' ≡ z → suc p' ≡ p → suc (r' + z * (p' + z * f)) ≡ r + z * (p + z * f)
+pub carry_power : (z r r' p p' f : ℕ) → r ≡ 0 → suc r' ≡ z → suc p' ≡ p →
+    suc (r' + z * (p' + z * f)) ≡ r + z * (p + z * f)
 carry_power z r r' p p' f none wrapped one =
     let e = carry r' z (p' + z * f) (p + z * f) wrapped (omega (arith, one)) in
     omega (arith, e, none)
 
-pub carry_flags : (z r r' p p' f f' : ℕ) → r ≡ 0 → suc r' ≡ z → p ≡ 0 → suc p' ≡ z → suc f' ≡ f → suc (r' + z * (p' + z * f')) ≡ r + z * (p + z * f)
+pub carry_flags : (z r r' p p' f f' : ℕ) → r ≡ 0 → suc r' ≡ z → p ≡ 0 → suc p' ≡ z → suc f' ≡ f →
+    suc (r' + z * (p' + z * f')) ≡ r + z * (p + z * f)
 carry_flags z r r' p p' f f' none wrapped last wrapped' one =
     let e = carry p' z f' f wrapped' one in
     let g : suc (p' + z * f') ≡ p + z * f = omega (arith, e, last) in

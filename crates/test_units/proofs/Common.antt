@@ -1,5 +1,7 @@
 -- The names that the proofs of this crate take from its specs and from other crates, passed on from one place.
-pub use Rattle.std.proofs.Common.{◌≡◌, ℕ, zero, suc, ◌+◌, ◌-◌, ◌<◌, ◌≤◌, ltb, ◌⊎◌, inl, inr, Option, Some, None, ℤ, pos, ◌+ℤ◌, ◌≤ℤ◌, List, length, refl, sym, ap, ◌∙◌, subst, arith, true, false, [], ◌*◌, ◌≢◌, rules, to_z, of_z}
+pub use Rattle.std.proofs.Common.{◌≡◌, ℕ, zero, suc, ◌+◌, ◌-◌, ◌<◌, ◌≤◌, ltb, ◌⊎◌, inl, inr, Option, Some, None, ℤ, pos}
+pub use Rattle.std.proofs.Common.{◌+ℤ◌, ◌≤ℤ◌, List, length, refl, sym, ap, ◌∙◌, subst, arith, true, false, [], ◌*◌, ◌≢◌}
+pub use Rattle.std.proofs.Common.{rules, to_z, of_z}
 pub use Rattle.std.proofs.lemmas.Bool.{cases_lt, cases_eq}
 pub use Rattle.std.proofs.lemmas.Int.{ints, to_z-of_z}
 pub use Rattle.std.proofs.lemmas.List.{length-replicate}
@@ -18,7 +20,8 @@ pub use Rattle.unit_rows.specs.declared.table.Entry.{Entry}
 pub use Rattle.test_spells.specs.Entries.{entry_of}
 pub use Rattle.spell_way.specs.Entries.{IsOnFromTo, IsSameOutside}
 pub use Rattle.test_spells.specs.Entries.{spell_first}
-pub use Rattle.spell_run.specs.Spells.{IsBestDispatch, IsFirstDispatch, HasNoDispatch, IsDispatch, IsLeastSpell, spell_cost, IsSpellAnswer}
+pub use Rattle.spell_run.specs.Spells.{IsBestDispatch, IsFirstDispatch, HasNoDispatch, IsDispatch, IsLeastSpell}
+pub use Rattle.spell_run.specs.Spells.{spell_cost, IsSpellAnswer}
 pub use Rattle.uc_model.specs.Data.{ThermalUnit, PriceLists, Schedule}
 pub use Rattle.uc_model.specs.PlainUnits.{thermal_of, prices_of, schedule_of}
 pub use Rattle.uc_model.specs.Schedules.{IsThermalFeasible, mark_in}

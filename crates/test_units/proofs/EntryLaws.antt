@@ -1,5 +1,8 @@
 -- The least entry among those after an ever later on period.
-use Rattle.test_units.proofs.Common.{◌≡◌, ℕ, suc, ◌+◌, ◌*◌, ◌<◌, ◌⊎◌, inl, inr, ◌≤◌, Option, Some, None, ℤ, pos, ◌+ℤ◌, ◌≤ℤ◌, refl, ap, ◌∙◌, subst, arith, IfSome, IfNone, ints, ThermalUnit, IsGap, start_cost_after, IsStarted, IsEntry, IsLeastEntry, Entry, HasEntryAtMost, IsWithinTimes}
+use Rattle.test_units.proofs.Common.{◌≡◌, ℕ, suc, ◌+◌, ◌*◌, ◌<◌, ◌⊎◌, inl, inr, ◌≤◌, Option, Some, None, ℤ, pos, ◌+ℤ◌}
+use Rattle.test_units.proofs.Common.{◌≤ℤ◌, refl, ap, ◌∙◌, subst, arith, IfSome, IfNone, ints, ThermalUnit, IsGap}
+use Rattle.test_units.proofs.Common.{start_cost_after, IsStarted, IsEntry, IsLeastEntry, Entry, HasEntryAtMost}
+use Rattle.test_units.proofs.Common.{IsWithinTimes}
 use Rattle.unit_program.proofs.EntryLaws.{if_some, if_none, IsLeastOf, one_more}
 
 module _ (g : ThermalUnit) (ends : ℕ → Option ℤ) (before : ℕ) where
@@ -21,7 +24,8 @@ module _ (g : ThermalUnit) (ends : ℕ → Option ℤ) (before : ℕ) where
       → IsLeastSoFar (last + 1) least'
   one_more_way last least least' o so_far some none bound from old added kept =
       let all_here : (e : ℤ) → Way last e → o ≡ Some e = λ e way. elim o as (λ p. o ≡ p → o ≡ Some e) [
-        | None ↦ λ is. absurd (if_none ((v : ℤ) → ends last ≡ Some v → IsGap g last before → ⊥) o is none way.0 way.1 way.2)
+        | None ↦ λ is. absurd
+            (if_none ((v : ℤ) → ends last ≡ Some v → IsGap g last before → ⊥) o is none way.0 way.1 way.2)
         | Some x ↦ λ is.
             let here = if_some (Way last) o x is some in
             let same : here.0 ≡ way.0 = cc in
@@ -29,16 +33,23 @@ module _ (g : ThermalUnit) (ends : ℕ → Option ℤ) (before : ℕ) where
             is ∙ ap Some z
       ] refl in
       record {
-        of_ways = one_more Way last least least' o so_far.of_ways (λ e is. if_some (Way last) o e is some) all_here from old added kept;
+        of_ways = one_more Way last least least' o so_far.of_ways (λ e is. if_some (Way last) o e is some) all_here from
+            old added kept;
         bound = λ r is. elim (from r is) [ inl h ↦ so_far.bound r h | inr h ↦ bound r.cost h.0 ];
       }
 
   way_of : (k : ℕ) (e : ℤ) → IsStarted g ends (suc before) k e → Way k e
   way_of k e h =
-      let z : h.before ≡ before = omega arith in
-      (h.value, h.ended, subst (λ (b : ℕ). IsGap g k b) z h.gap, h.cost ∙ ap (λ (b : ℕ). h.value +ℤ start_cost_after g k b) z)
+      let z : h.before ≡ before = omega arith in (
+        h.value,
+        h.ended,
+        subst (λ (b : ℕ). IsGap g k b) z h.gap,
+        h.cost ∙
+            ap (λ (b : ℕ). h.value +ℤ start_cost_after g k b) z,
+      )
 
-  pub least_of_all : (last : ℕ) (r : Entry) (least : Option Entry) → before < last → IsLeastSoFar last least → least ≡ Some r → IsLeastEntry g ends (suc before) r.last r.cost
+  pub least_of_all : (last : ℕ) (r : Entry) (least : Option Entry) → before < last → IsLeastSoFar last least →
+      least ≡ Some r → IsLeastEntry g ends (suc before) r.last r.cost
   least_of_all last r least all_ so_far is =
       let ways = so_far.of_ways in
       let way = ways.sound r is in
@@ -61,7 +72,8 @@ module _ (g : ThermalUnit) (ends : ℕ → Option ℤ) (before : ℕ) where
         ];
       }
 
-  pub none_of_all : (last : ℕ) (least : Option Entry) → before < last → IsLeastSoFar last least → least ≡ None → (e : ℤ) → IsEntry g ends (suc before) e → ⊥
+  pub none_of_all : (last : ℕ) (least : Option Entry) → before < last → IsLeastSoFar last least → least ≡ None →
+      (e : ℤ) → IsEntry g ends (suc before) e → ⊥
   none_of_all last least all_ so_far is e entry = elim (entry.1) [
     | inl h ↦ absurd (omega arith)
     | inr h ↦

@@ -1,13 +1,18 @@
 -- The spells from one first period on, as far as the window goes.
-use Rattle.test_units.proofs.Common.{◌≡◌, ℕ, zero, suc, ◌<◌, ◌≤◌, true, false, ltb, inl, inr, Option, None, ℤ, List, length, refl, subst, arith, IsTrue, max, ints, cases_lt, ThermalUnit, PriceLists, entry_of, spell_first, IsSpellAnswer, Ended, on_time, IsSpell, net_at, AreWithin, IsAdded, IsOpenUntil}
+use Rattle.test_units.proofs.Common.{◌≡◌, ℕ, zero, suc, ◌<◌, ◌≤◌, true, false, ltb, inl, inr, Option, None, ℤ, List}
+use Rattle.test_units.proofs.Common.{length, refl, subst, arith, IsTrue, max, ints, cases_lt, ThermalUnit, PriceLists}
+use Rattle.test_units.proofs.Common.{entry_of, spell_first, IsSpellAnswer, Ended, on_time, IsSpell, net_at, AreWithin}
+use Rattle.test_units.proofs.Common.{IsAdded, IsOpenUntil}
 use Rattle.std.proofs.lemmas.Bool.Decides.{nat_tests}
 
 on_time-at_most : (g : ThermalUnit) (first last until : ℕ) → last ≤ until → on_time g first last ≤ on_time g first until
 on_time-at_most g zero last until low = omega (arith, low)
 on_time-at_most g (suc k) last until low = omega (arith, low)
 
-module _ (g : ThermalUnit) (periods first until : ℕ) (horizon : periods ≡ length g.window) (span : IsOpenUntil g first until) where
-  pub spell_within : (last : ℕ) → (first ≡ 0 → IsTrue g.on0) → first ≤ last → last ≤ until → (last < periods → g.min_up ≤ on_time g first last) → IsSpell g periods first last
+module _ (g : ThermalUnit) (periods first until : ℕ) (horizon : periods ≡ length g.window)
+    (span : IsOpenUntil g first until) where
+  pub spell_within : (last : ℕ) → (first ≡ 0 → IsTrue g.on0) → first ≤ last → last ≤ until →
+      (last < periods → g.min_up ≤ on_time g first last) → IsSpell g periods first last
   spell_within last goes_on order low min_up =
       record {
         order = order;
@@ -23,7 +28,8 @@ module _ (g : ThermalUnit) (periods first until : ℕ) (horizon : periods ≡ le
       spell.marks (suc until) (omega arith) span.from (omega (arith, above)) (span.next (omega (arith, above, horizon)))
 
   -- where the longest one is too short, each is
-  pub none_long_enough : until < periods → on_time g first until < g.min_up → (last : ℕ) → IsSpell g periods first last → ⊥
+  pub none_long_enough : until < periods → on_time g first until < g.min_up → (last : ℕ) →
+      IsSpell g periods first last → ⊥
   none_long_enough inside short last spell = elim (cases_lt until last) [
     | inl above ↦ no_spell_after last above spell
     | inr low ↦
@@ -33,7 +39,8 @@ module _ (g : ThermalUnit) (periods first until : ℕ) (horizon : periods ≡ le
   ]
 
 -- so no spell is added
-pub added_none : (g : ThermalUnit) (π : PriceLists) (first before : ℕ) (e : ℤ) (rows : List (Option Ended)) → ((last : ℕ) → 1 ≤ last → IsSpell g (length π.energy) first last → ⊥) → AreWithin rows
+pub added_none : (g : ThermalUnit) (π : PriceLists) (first before : ℕ) (e : ℤ) (rows : List (Option Ended)) →
+    ((last : ℕ) → 1 ≤ last → IsSpell g (length π.energy) first last → ⊥) → AreWithin rows
     → IsAdded g π first before e rows rows
 added_none g π first before e rows no_spell within = record {
   nets = λ _. None;
@@ -62,4 +69,5 @@ pub answers_at : (g : ThermalUnit) (π : PriceLists) (periods first n : ℕ) (co
     → (l : ℕ) → 1 ≤ l → IsSpell g periods first l → IsSpellAnswer g π periods first l (net_at costs l)
 answers_at g π periods first n costs is told zero one spell = absurd (omega (arith, one))
 answers_at g π periods first n costs is told (suc k) one spell =
-    subst (λ (f : ℕ). IsSpellAnswer g π periods f (suc k) (entry_of costs (suc k))) (spell_first-is first n is) (told (suc k) (omega (arith, is)) spell.end)
+    subst (λ (f : ℕ). IsSpellAnswer g π periods f (suc k) (entry_of costs (suc k))) (spell_first-is first n is)
+    (told (suc k) (omega (arith, is)) spell.end)

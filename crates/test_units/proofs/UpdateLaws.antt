@@ -1,5 +1,7 @@
 -- The table after the spells from one first period to an ever later last one.
-use Rattle.test_units.proofs.Common.{◌≡◌, ◌≢◌, ℕ, ◌+◌, ◌<◌, ◌≤◌, ◌⊎◌, inl, inr, Option, Some, ℤ, ◌+ℤ◌, List, sym, ap, ◌∙◌, subst, arith, ints, cases_eq, cases_lt, ThermalUnit, Ended, IsSpell, HasAtMost, IsUpdate, row_at, cost_at, first_at, before_at, AreWithin}
+use Rattle.test_units.proofs.Common.{◌≡◌, ◌≢◌, ℕ, ◌+◌, ◌<◌, ◌≤◌, ◌⊎◌, inl, inr, Option, Some, ℤ, ◌+ℤ◌, List, sym, ap}
+use Rattle.test_units.proofs.Common.{◌∙◌, subst, arith, ints, cases_eq, cases_lt, ThermalUnit, Ended, IsSpell}
+use Rattle.test_units.proofs.Common.{HasAtMost, IsUpdate, row_at, cost_at, first_at, before_at, AreWithin}
 use Rattle.test_units.proofs.RowLaws.{cost-same, first-same, before-same}
 use Rattle.unit_program.proofs.RowLaws.{cost-is, first-is, before-is}
 
@@ -8,19 +10,24 @@ module _ (g : ThermalUnit) (periods first before : ℕ) (e : ℤ) (nets : ℕ �
   abbrev IsRowOf : List (Option Ended) → ℕ → ℤ → Type 0
   IsRowOf rows' l v =
       (row_at rows' l ≡ row_at rows l)
-      ⊎ ((first_at rows' l ≡ first) × (before_at rows' l ≡ before) × IsSpell g periods first l × ((c : ℤ) × (nets l ≡ Some c) × (v ≡ e +ℤ c)))
+      ⊎ ((first_at rows' l ≡ first) × (before_at rows' l ≡ before) × IsSpell g periods first l ×
+      ((c : ℤ) × (nets l ≡ Some c) × (v ≡ e +ℤ c)))
 
   -- the spells that end before period `last` are put
   pub record IsUpdateSoFar (last : ℕ) (rows' : List (Option Ended)) : Type 0 where
     pub same : (l : ℕ) → l < first → row_at rows' l ≡ row_at rows l
     pub keeps : (l : ℕ) (v : ℤ) → cost_at rows l ≡ Some v → HasAtMost (cost_at rows' l) v
-    pub adds : (l : ℕ) (c : ℤ) → l < last → IsSpell g periods first l → nets l ≡ Some c → HasAtMost (cost_at rows' l) (e +ℤ c)
-    pub takes : (l : ℕ) (c : ℤ) → l < last → IsSpell g periods first l → nets l ≡ Some c → cost_at rows' l ≡ Some (e +ℤ c) → first_at rows' l ≡ first
+    pub adds : (l : ℕ) (c : ℤ) → l < last → IsSpell g periods first l → nets l ≡ Some c →
+        HasAtMost (cost_at rows' l) (e +ℤ c)
+    pub takes : (l : ℕ) (c : ℤ) → l < last → IsSpell g periods first l → nets l ≡ Some c →
+        cost_at rows' l ≡ Some (e +ℤ c) → first_at rows' l ≡ first
     pub sound : (l : ℕ) (v : ℤ) → cost_at rows' l ≡ Some v → IsRowOf rows' l v
     pub within : AreWithin rows'
 
   -- no spell ends with period `last`
-  pub update_skip : (last : ℕ) (rows' : List (Option Ended)) → ((c : ℤ) → IsSpell g periods first last → nets last ≡ Some c → ⊥) → IsUpdateSoFar last rows' → IsUpdateSoFar (last + 1) rows'
+  pub update_skip : (last : ℕ) (rows' : List (Option Ended)) →
+      ((c : ℤ) → IsSpell g periods first last → nets last ≡ Some c → ⊥) → IsUpdateSoFar last rows' →
+      IsUpdateSoFar (last + 1) rows'
   update_skip last rows' none so_far = record {
     same = so_far.same;
     keeps = so_far.keeps;
@@ -57,7 +64,12 @@ module _ (g : ThermalUnit) (periods first before : ℕ) (e : ℤ) (nets : ℕ �
       | inl h ↦ from_before last v h is
       | inr h ↦
           let v_is : ended.cost ≡ v = (let a = cost-is rows'' last ended h in cc) in
-          inr (first-is rows'' last ended h ∙ begins, before-is rows'' last ended h ∙ after, spell, (c, net, sym v_is ∙ cost))
+          inr (
+            first-is rows'' last ended h ∙ begins,
+            before-is rows'' last ended h ∙ after,
+            spell,
+            (c, net, sym v_is ∙ cost),
+          )
     ]
 
     pub update_more : IsUpdateSoFar (last + 1) rows''
@@ -87,18 +99,22 @@ module _ (g : ThermalUnit) (periods first before : ℕ) (e : ℤ) (nets : ℕ �
             ap (first_at rows'') same ∙ first-is rows'' last ended row ∙ begins
         | inr other ↦
             let before = others l other in
-            first-same rows'' rows' l l before ∙ so_far.takes l d (omega (arith, low, other)) spell' net' (sym (cost-same rows'' rows' l l before) ∙ is)
+            first-same rows'' rows' l l before ∙
+            so_far.takes l d (omega (arith, low, other)) spell' net' (sym (cost-same rows'' rows' l l before) ∙ is)
       ];
       sound = λ l v is. elim (cases_eq l last) [
-        | inl same ↦ subst (λ (l : ℕ). IsRowOf rows'' l v) (sym same) (from_here v (ap (cost_at rows'') (sym same) ∙ is))
+        | inl same ↦ subst (λ (l : ℕ). IsRowOf rows'' l v) (sym same)
+            (from_here v (ap (cost_at rows'') (sym same) ∙ is))
         | inr other ↦ from_before l v (others l other) is
       ];
       within = within;
     }
 
   -- no spell ends later
-  pub update_all : (last : ℕ) (rows' : List (Option Ended)) → ((l : ℕ) → last ≤ l → IsSpell g periods first l → ⊥) → IsUpdateSoFar last rows'
-      → IsUpdate g periods first before e nets (cost_at rows) (cost_at rows') (first_at rows) (first_at rows') (before_at rows) (before_at rows')
+  pub update_all : (last : ℕ) (rows' : List (Option Ended)) → ((l : ℕ) → last ≤ l → IsSpell g periods first l → ⊥) →
+      IsUpdateSoFar last rows'
+      → IsUpdate g periods first before e nets (cost_at rows) (cost_at rows') (first_at rows) (first_at rows')
+      (before_at rows) (before_at rows')
   update_all last rows' none so_far = record {
     same = λ l low. cost-same rows' rows l l (so_far.same l low);
     keeps = so_far.keeps;
@@ -111,7 +127,11 @@ module _ (g : ThermalUnit) (periods first before : ℕ) (e : ℤ) (nets : ℕ �
       | inr most ↦ absurd (none l most spell)
     ];
     sound = λ l v is. elim (so_far.sound l v is) [
-      | inl same ↦ inl (sym (cost-same rows' rows l l same) ∙ is, first-same rows' rows l l same, before-same rows' rows l l same)
+      | inl same ↦ inl (
+        sym (cost-same rows' rows l l same) ∙ is,
+        first-same rows' rows l l same,
+        before-same rows' rows l l same,
+      )
       | inr h ↦ inr h
     ];
   }

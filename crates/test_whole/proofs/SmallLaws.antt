@@ -1,5 +1,9 @@
 -- What the tests check suffices for the conditions of the calls.
-use Rattle.test_whole.proofs.Common.{◌≡◌, ℕ, zero, suc, ◌+◌, ◌*◌, ◌<◌, List, [], ◌∷◌, length, get_or, Option, Some, None, refl, sym, ap, ◌∙◌, arith, inl, inr, ℤ, pos, neg_ℤ, ◌+ℤ◌, ◌-ℤ◌, ◌*ℤ◌, ◌≤ℤ◌, ◌<ℤ◌, int_lt, true, false, int_min, ints, clamps, by_lt_z, cases_lt, Block, rise_at, curve_value, end_of, reserve_term, IsLimitedCurve, IsSmall, IsModestAt, IsNear, AreFair}
+use Rattle.test_whole.proofs.Common.{◌≡◌, ℕ, zero, suc, ◌+◌, ◌*◌, ◌<◌, List, [], ◌∷◌, length, get_or, Option, Some}
+use Rattle.test_whole.proofs.Common.{None, refl, sym, ap, ◌∙◌, arith, inl, inr, ℤ, pos, neg_ℤ, ◌+ℤ◌, ◌-ℤ◌, ◌*ℤ◌, ◌≤ℤ◌}
+use Rattle.test_whole.proofs.Common.{◌<ℤ◌, int_lt, true, false, int_min, ints, clamps, by_lt_z, cases_lt, Block}
+use Rattle.test_whole.proofs.Common.{rise_at, curve_value, end_of, reserve_term, IsLimitedCurve, IsSmall, IsModestAt}
+use Rattle.test_whole.proofs.Common.{IsNear, AreFair}
 use Rattle.std.specs.Option.{option_map}
 use Rattle.std.proofs.Math.IntN.{*ℤ_comm, *ℤ-zero}
 use Rattle.uc_model.specs.declared.units.Curve.{Curve}
@@ -12,18 +16,22 @@ use Rattle.shape_law.specs.Laws.{CurvesHaveValues}
 use Rattle.shape_law.proofs.Lookup.{power_split}
 use Rattle.shape_law.specs.Table.{Table, value_of, IsWithinLimits, HasNone, CanAdd}
 
-near : (f : Table) → IsWithinLimits f → HasNone (neg_ℤ (pos 4000000000)) (neg_ℤ (pos 1001)) f → HasNone (pos 1001) (pos 4000000000) f → (x v : ℤ) → value_of f x ≡ Some v → IsNear x
+near : (f : Table) → IsWithinLimits f → HasNone (neg_ℤ (pos 4000000000)) (neg_ℤ (pos 1001)) f →
+    HasNone (pos 1001) (pos 4000000000) f → (x v : ℤ) → value_of f x ≡ Some v → IsNear x
 near f within before after x v h =
     let p = (within x v h).0 in
     let p0 = p.0 in
     let p1 = p.1 in
     record {
-      at_least = by_lt_z x (neg_ℤ (pos 1000)) (λ l. let none = before x (omega (arith, ints)) (omega (arith, ints)) in absurd (let q = sym none ∙ h in (cc))) (λ l. l);
-      at_most = by_lt_z (pos 1000) x (λ l. let none = after x (omega (arith, ints)) (omega (arith, ints)) in absurd (let q = sym none ∙ h in (cc))) (λ l. l);
+      at_least = by_lt_z x (neg_ℤ (pos 1000)) (λ l. let none = before x (omega (arith, ints)) (omega (arith, ints)) in
+          absurd (let q = sym none ∙ h in (cc))) (λ l. l);
+      at_most = by_lt_z (pos 1000) x (λ l. let none = after x (omega (arith, ints)) (omega (arith, ints)) in
+          absurd (let q = sym none ∙ h in (cc))) (λ l. l);
     }
 
 -- what is checked at each place, and beyond them
-pub IsSmall-from : (f : Table) → IsWithinLimits f → HasNone (neg_ℤ (pos 4000000000)) (neg_ℤ (pos 1001)) f → HasNone (pos 1001) (pos 4000000000) f
+pub IsSmall-from : (f : Table) → IsWithinLimits f → HasNone (neg_ℤ (pos 4000000000)) (neg_ℤ (pos 1001)) f →
+    HasNone (pos 1001) (pos 4000000000) f
     → ((j : ℕ) → j < 2001 → IsModestAt f (pos j -ℤ pos 1000)) → IsSmall f
 IsSmall-from f within before after modest = record {
   places = near f within before after;
@@ -47,8 +55,10 @@ same_at (b ∷ bs) zero d e h = refl
 same_at (b ∷ bs) (suc i) d e h = same_at bs i d e (omega arith)
 
 -- one more fair block
-module _ (bs : List Block) (j : ℕ) (last : ℤ) (d0 : Block) (inside : j < length bs) (fair : AreFair bs j) (before : (i : ℕ) (d : Block) → suc i ≡ j → last ≡ (get_or bs i d).price)
-    (w0 : pos 0 ≤ℤ (get_or bs j d0).width) (w1 : (get_or bs j d0).width ≤ℤ pos 1000) (rise : last ≤ℤ (get_or bs j d0).price)
+module _ (bs : List Block) (j : ℕ) (last : ℤ) (d0 : Block) (inside : j < length bs) (fair : AreFair bs j)
+    (before : (i : ℕ) (d : Block) → suc i ≡ j → last ≡ (get_or bs i d).price)
+    (w0 : pos 0 ≤ℤ (get_or bs j d0).width) (w1 : (get_or bs j d0).width ≤ℤ pos 1000)
+    (rise : last ≤ℤ (get_or bs j d0).price)
     (p0 : neg_ℤ (pos 1000000) ≤ℤ (get_or bs j d0).price) (p1 : (get_or bs j d0).price ≤ℤ pos 1000000) where
   pub last-more : (i : ℕ) (d : Block) → suc i ≡ j + 1 → (get_or bs j d0).price ≡ (get_or bs i d).price
   last-more i d e =
@@ -64,11 +74,13 @@ module _ (bs : List Block) (j : ℕ) (last : ℤ) (d0 : Block) (inside : j < len
   AreFair-more = record {
     widths = λ i d h. elim (cases_lt i j) [
       | inl early ↦ fair.widths i d early
-      | inr now ↦ let e = width-more i d (omega arith) in record { at_least = omega (arith, ints); at_most = omega (arith, ints) }
+      | inr now ↦ let e = width-more i d (omega arith) in
+          record { at_least = omega (arith, ints); at_most = omega (arith, ints) }
     ];
     prices = λ i d h. elim (cases_lt i j) [
       | inl early ↦ fair.prices i d early
-      | inr now ↦ let e = last-more i d (omega arith) in record { at_least = omega (arith, ints); at_most = omega (arith, ints) }
+      | inr now ↦ let e = last-more i d (omega arith) in
+          record { at_least = omega (arith, ints); at_most = omega (arith, ints) }
     ];
     rising = λ i d h. elim (cases_lt (suc i) j) [
       | inl early ↦ fair.rising i d early
@@ -84,7 +96,8 @@ near_product a x na nx =
     by_lt_z x (pos 0)
     (λ below.
     let y = pos 0 -ℤ x in
-    let w = product_within 1000 1000 a y na (record { at_least = omega (arith, ints); at_most = omega (arith, ints) }) in
+    let w = product_within 1000 1000 a y na
+    (record { at_least = omega (arith, ints); at_most = omega (arith, ints) }) in
     let w0 = w.at_least in
     let w1 = w.at_most in
     let e : a *ℤ x ≡ a *ℤ (pos 0 -ℤ y) = ap (λ (z : ℤ). a *ℤ z) (omega (arith, ints)) in
@@ -103,7 +116,8 @@ CanAdd-line f slope small near x v h =
     let w1 = w.at_most in
     (omega (arith, ints), omega (arith, ints))
 
-pub CanAdd-reserve : (f : Table) (mu cap up : ℤ) → IsSmall f → IsFrom (pos 0) (pos 1000) mu → IsNear cap → IsNear up → CanAdd (reserve_term mu cap up) f
+pub CanAdd-reserve : (f : Table) (mu cap up : ℤ) → IsSmall f → IsFrom (pos 0) (pos 1000) mu → IsNear cap → IsNear up →
+    CanAdd (reserve_term mu cap up) f
 CanAdd-reserve f mu cap up small m c u x v h =
     let n = small.places x v h in
     let n0 = n.at_least in
@@ -113,7 +127,8 @@ CanAdd-reserve f mu cap up small m c u x v h =
     let u0 = u.at_least in
     let u1 = u.at_most in
     let most = int_min cap (up +ℤ x) in
-    let p = product_within 2000 1000 most mu (record { at_least = omega (arith, ints, clamps); at_most = omega (arith, ints, clamps) }) m in
+    let p = product_within 2000 1000 most mu
+    (record { at_least = omega (arith, ints, clamps); at_most = omega (arith, ints, clamps) }) m in
     let p0 = p.at_least in
     let p1 = p.at_most in
     let turn = *ℤ_comm most mu in
@@ -140,7 +155,8 @@ lt_is a b h = grind (arith, ints)
 not_lt_is : (a b : ℤ) → b ≤ℤ a → int_lt a b ≡ false
 not_lt_is a b h = grind (arith, ints)
 
-rise_past : (b : Block) (bs : List Block) (x : ℤ) → b.width <ℤ x → rise_at (b ∷ bs) x ≡ option_map (λ v. v +ℤ (b.price *ℤ b.width)) (rise_at bs (x -ℤ b.width))
+rise_past : (b : Block) (bs : List Block) (x : ℤ) → b.width <ℤ x →
+    rise_at (b ∷ bs) x ≡ option_map (λ v. v +ℤ (b.price *ℤ b.width)) (rise_at bs (x -ℤ b.width))
 rise_past b bs x h = rw (lt_is b.width x h)
 
 rise_within : (b : Block) (bs : List Block) (x : ℤ) → x ≤ℤ b.width → rise_at (b ∷ bs) x ≡ Some (b.price *ℤ x)
@@ -153,7 +169,8 @@ mapped_sum k v (Some u) h = (u, refl, (cc))
 some_same : (a b : ℤ) → Some a ≡ Some b → a ≡ b
 some_same a b h = cc
 
-rise_bound : (bs : List Block) (x v : ℤ) → AreFair bs (length bs) → pos 0 ≤ℤ x → rise_at bs x ≡ Some v → IsWithin (length bs * 1000000000) v
+rise_bound : (bs : List Block) (x v : ℤ) → AreFair bs (length bs) → pos 0 ≤ℤ x → rise_at bs x ≡ Some v →
+    IsWithin (length bs * 1000000000) v
 rise_bound [] x v f low h =
     by_lt_z (pos 0) x
     (λ past. let n : rise_at [] x ≡ None = rw (lt_is (pos 0) x past) in absurd (let q = sym n ∙ h in (cc)))
@@ -184,7 +201,8 @@ rise_bound (b ∷ bs) x v f low h =
     let q1 = q.at_most in
     record { at_least = omega (arith, ints); at_most = omega (arith, ints) })
 
-pub end_bounds : (bs : List Block) (from : ℤ) → AreFair bs (length bs) → (from ≤ℤ end_of from bs) × (end_of from bs ≤ℤ (from +ℤ pos (length bs * 1000)))
+pub end_bounds : (bs : List Block) (from : ℤ) → AreFair bs (length bs) →
+    (from ≤ℤ end_of from bs) × (end_of from bs ≤ℤ (from +ℤ pos (length bs * 1000)))
 end_bounds [] from f = (omega (arith, ints), omega (arith, ints))
 end_bounds (b ∷ bs) from f =
     let w = f.widths 0 b (omega arith) in
@@ -195,7 +213,8 @@ end_bounds (b ∷ bs) from f =
     let r1 = r.1 in
     (omega (arith, ints), omega (arith, ints))
 
-module _ (c : Curve) (few : length c.blocks.items < 100) (fair : AreFair c.blocks.items (length c.blocks.items)) (at : IsNear c.at) (value : IsNear c.value) where
+module _ (c : Curve) (few : length c.blocks.items < 100) (fair : AreFair c.blocks.items (length c.blocks.items))
+    (at : IsNear c.at) (value : IsNear c.value) where
   value_bound : (x v : ℤ) → curve_value c x ≡ Some v → IsWithin 1000000000000 v
   value_bound x v h =
       let v0 = value.at_least in
@@ -203,7 +222,8 @@ module _ (c : Curve) (few : length c.blocks.items < 100) (fair : AreFair c.block
       by_lt_z x c.at
       (λ before. let n : curve_value c x ≡ None = rw (lt_is x c.at before) in absurd (let q = sym n ∙ h in (cc)))
       (λ from.
-      let e : curve_value c x ≡ option_map (λ u. u +ℤ c.value) (rise_at c.blocks.items (x -ℤ c.at)) = rw (not_lt_is x c.at from) in
+      let e : curve_value c x ≡ option_map (λ u. u +ℤ c.value) (rise_at c.blocks.items (x -ℤ c.at)) =
+      rw (not_lt_is x c.at from) in
       let u = mapped_sum c.value v (rise_at c.blocks.items (x -ℤ c.at)) (sym e ∙ h) in
       let r = rise_bound c.blocks.items (x -ℤ c.at) u.0 fair (omega (arith, ints)) u.1 in
       let r0 = r.at_least in
@@ -222,18 +242,26 @@ module _ (c : Curve) (few : length c.blocks.items < 100) (fair : AreFair c.block
         blocks = IsCurve-fair c.blocks.items fair;
         first_place = (omega (arith, ints), omega (arith, ints));
         last_place = (omega (arith, ints), omega (arith, ints));
-        values = λ x v h. let b = value_bound x v h in let b0 = b.at_least in let b1 = b.at_most in (omega (arith, ints), omega (arith, ints));
+        values = λ x v h. let b = value_bound x v h in let b0 = b.at_least in let b1 = b.at_most in
+            (omega (arith, ints), omega (arith, ints));
       }
 
-  pub CanAddCurve-fair : CurvesHaveValues → (f : Table) (shift : ℤ) → IsSmall f → IsNear shift → HasNone (neg_ℤ (pos 4000000000)) ((c.at -ℤ shift) -ℤ pos 1) f
-      → HasNone ((end_of c.at c.blocks.items -ℤ shift) +ℤ pos 1) (pos 4000000000) f → CanAddCurve (curve_value c) shift f
+  pub CanAddCurve-fair : CurvesHaveValues → (f : Table) (shift : ℤ) → IsSmall f → IsNear shift →
+      HasNone (neg_ℤ (pos 4000000000)) ((c.at -ℤ shift) -ℤ pos 1) f
+      → HasNone ((end_of c.at c.blocks.items -ℤ shift) +ℤ pos 1) (pos 4000000000) f →
+      CanAddCurve (curve_value c) shift f
   CanAddCurve-fair law f shift small near before after x v h =
       let bs = c.blocks.items in
       let n = small.places x v h in
       let n0 = n.at_least in
       let n1 = n.at_most in
-      let from : (c.at -ℤ shift) ≤ℤ x = by_lt_z x (c.at -ℤ shift) (λ l. let none = before x (omega (arith, ints)) (omega (arith, ints)) in absurd (let q = sym none ∙ h in (cc))) (λ l. l) in
-      let upto : x ≤ℤ (end_of c.at bs -ℤ shift) = by_lt_z (end_of c.at bs -ℤ shift) x (λ l. let none = after x (omega (arith, ints)) (omega (arith, ints)) in absurd (let q = sym none ∙ h in (cc))) (λ l. l) in
+      let from : (c.at -ℤ shift) ≤ℤ x =
+      by_lt_z x (c.at -ℤ shift) (λ l. let none = before x (omega (arith, ints)) (omega (arith, ints)) in
+      absurd (let q = sym none ∙ h in (cc))) (λ l. l) in
+      let upto : x ≤ℤ (end_of c.at bs -ℤ shift) =
+      by_lt_z (end_of c.at bs -ℤ shift) x
+      (λ l. let none = after x (omega (arith, ints)) (omega (arith, ints)) in
+      absurd (let q = sym none ∙ h in (cc))) (λ l. l) in
       let k = law c IsLimitedCurve-fair (x +ℤ shift) (omega (arith, ints)) (omega (arith, ints)) in
       let b = value_bound (x +ℤ shift) k.0 k.1 in
       let b0 = b.at_least in

@@ -1,5 +1,6 @@
 -- The string with nothing in it, which stands where no string is closed.
-use Rattle.text_tokens.proofs.Common.{◌≡◌, ℕ, List, [], ◌∷◌, refl, sym, ap, ◌∙◌, arith, Some, None, option_map, is_utf8-from_IsUtf8, string_of, said, text_or}
+use Rattle.text_tokens.proofs.Common.{◌≡◌, ℕ, List, [], ◌∷◌, refl, sym, ap, ◌∙◌, arith, Some, None, option_map}
+use Rattle.text_tokens.proofs.Common.{is_utf8-from_IsUtf8, string_of, said, text_or}
 use Rattle.std.proofs.lemmas.Str.{IsUtf8-nil}
 use Rattle.text_tokens.proofs.Texts.{closes, string_is}
 

@@ -1,5 +1,7 @@
 -- The names that the proofs of this crate take from its specs and from other crates, passed on from one place.
-pub use Rattle.std.proofs.Common.{◌≡◌, ℕ, zero, suc, ◌+◌, ◌-◌, ◌<◌, ◌≤◌, ◌^◌, List, [], ◌∷◌, ◌++◌, length, get_or, drop, drop-cons, add-one, refl, sym, ap, ap₂, subst, ◌∙◌, arith, inl, inr, append_assoc, Option, Some, None}
+pub use Rattle.std.proofs.Common.{◌≡◌, ℕ, zero, suc, ◌+◌, ◌-◌, ◌<◌, ◌≤◌, ◌^◌, List, [], ◌∷◌, ◌++◌, length, get_or, drop}
+pub use Rattle.std.proofs.Common.{drop-cons, add-one, refl, sym, ap, ap₂, subst, ◌∙◌, arith, inl, inr, append_assoc}
+pub use Rattle.std.proofs.Common.{Option, Some, None}
 pub use Rattle.std.proofs.lemmas.Bool.{cases_lt}
 pub use Rattle.std.proofs.lemmas.List.{drop-drop, length-drop, drop_all, append-nil, map_push}
 pub use Rattle.std.specs.Prelude.{min, map}

@@ -1,9 +1,12 @@
 -- A key looked for, member by member.
-use Rattle.uc_case.proofs.Common.{◌≡◌, ℕ, suc, ◌+◌, ◌<◌, List, ◌∷◌, length, get_or, drop, Some, cond, bytes_eq, refl, sym, ap, ◌∙◌, drop-cons, add-one, member_view, member_views, Member, value_of}
+use Rattle.uc_case.proofs.Common.{◌≡◌, ℕ, suc, ◌+◌, ◌<◌, List, ◌∷◌, length, get_or, drop, Some, cond, bytes_eq, refl}
+use Rattle.uc_case.proofs.Common.{sym, ap, ◌∙◌, drop-cons, add-one, member_view, member_views, Member, value_of}
 
 pub value_step : (key : List ℕ) (ms : List Member) (i : ℕ) (m : Member) → i < length ms → m ≡ get_or ms i m
-    → value_of key (member_views (drop i ms)) ≡ cond (bytes_eq (member_view m).name key) (Some (member_view m).value) (value_of key (member_views (drop (i + 1) ms)))
+    → value_of key (member_views (drop i ms)) ≡ cond (bytes_eq (member_view m).name key) (Some (member_view m).value)
+    (value_of key (member_views (drop (i + 1) ms)))
 unfolding value_of
 value_step key ms i m lt is =
-    let split : drop i ms ≡ m ∷ drop (suc i) ms = drop-cons ms i m lt ∙ ap (λ (x : Member). x ∷ drop (suc i) ms) (sym is) in
+    let split : drop i ms ≡ m ∷ drop (suc i) ms =
+    drop-cons ms i m lt ∙ ap (λ (x : Member). x ∷ drop (suc i) ms) (sym is) in
     rw (split, add-one i) refl

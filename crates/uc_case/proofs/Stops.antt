@@ -16,9 +16,13 @@ bind_fails : {A B F : Type 0} (e : Stop F) (r : Result A F) (f : A → Result B 
 bind_fails stops.Memory r f h = tt
 bind_fails (stops.Fault x) r f h = rw h refl
 
-pub window_fails : (e : Stop FieldFault) (periods : ℕ) (at : Site) (v : Value) (ms : List Pair) (o : Output) (r : Ramps) (p : Past) (lags : List Lag) (points : List Point)
-    → object at v ≡ Ok ms → output (keys at ms) ≡ Ok o → ramps (keys at ms) ≡ Ok r → past (keys at ms) ≡ Ok p → key (keys at ms) Startup startup ≡ Ok lags → key (keys at ms) PiecewiseProduction (piecewise o.least o.most) ≡ Ok points
+pub window_fails : (e : Stop FieldFault) (periods : ℕ) (at : Site) (v : Value) (ms : List Pair) (o : Output) (r : Ramps)
+    (p : Past) (lags : List Lag) (points : List Point)
+    → object at v ≡ Ok ms → output (keys at ms) ≡ Ok o → ramps (keys at ms) ≡ Ok r → past (keys at ms) ≡ Ok p →
+    key (keys at ms) Startup startup ≡ Ok lags →
+    key (keys at ms) PiecewiseProduction (piecewise o.least o.most) ≡ Ok points
     → Fails e (key_or_none (keys at ms) Commitment (commitment periods)) → Fails e (thermal_unit periods at v)
 unfolding thermal_unit
 window_fails e periods at v ms o r p lags points is_object has_output has_ramps has_past has_lags has_points fails =
-    rw (is_object, has_output, has_ramps, has_past, has_lags, has_points) (bind_fails e (key_or_none (keys at ms) Commitment (commitment periods)) _ fails)
+    rw (is_object, has_output, has_ramps, has_past, has_lags, has_points)
+    (bind_fails e (key_or_none (keys at ms) Commitment (commitment periods)) _ fails)

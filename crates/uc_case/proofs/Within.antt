@@ -1,10 +1,22 @@
 -- What a case file is read as is within the limits of a case.
-use Rattle.uc_case.proofs.Common.{◌≡◌, ℕ, ◌+◌, ◌≤◌, ◌==◌, ◌&&◌, false, List, [], length, map, Option, Some, None, Result, Ok, Err, refl, subst, ◌∙◌, arith, nat_tests, ltb-false, ℤ, codes, int_lt, nat_lt, replicate, length-replicate, All, All-nil, All-push, Lag, Point, Block, IsPower, IsLag, IsPoint, IsBlock, IsBlockList, IsThermalUnit, IsRenewableUnit, IsBidUnit, IsMarket, ThermalUnit, RenewableUnit, BidUnit, NamedThermalUnit, NamedRenewableUnit, NamedBidUnit, Market, Value, Pair, Keys, keys, key, key_or_none, part, amount, cost, time_within, flag, items, each, need, position, last_is, Site, item_at, IsRange, AreRamps, IsPast, AreLags, ArePoints, AreBlocks, IsPointList, lag, startup, point, piecewise, commitment, mark, output, ramps, past, at_least_one, thermal_unit, one_power, powers, first_crossed, renewable_unit, block, period_blocks, blocks, bid_unit, thermal, renewable, bid, units, bids, with_units, case_of, whole, reading_of, of_value, IsThermalOf, IsRenewableOf, IsBidOf}
+use Rattle.uc_case.proofs.Common.{◌≡◌, ℕ, ◌+◌, ◌≤◌, ◌==◌, ◌&&◌, false, List, [], length, map, Option, Some, None}
+use Rattle.uc_case.proofs.Common.{Result, Ok, Err, refl, subst, ◌∙◌, arith, nat_tests, ltb-false, ℤ, codes, int_lt}
+use Rattle.uc_case.proofs.Common.{nat_lt, replicate, length-replicate, All, All-nil, All-push, Lag, Point, Block}
+use Rattle.uc_case.proofs.Common.{IsPower, IsLag, IsPoint, IsBlock, IsBlockList, IsThermalUnit, IsRenewableUnit}
+use Rattle.uc_case.proofs.Common.{IsBidUnit, IsMarket, ThermalUnit, RenewableUnit, BidUnit, NamedThermalUnit}
+use Rattle.uc_case.proofs.Common.{NamedRenewableUnit, NamedBidUnit, Market, Value, Pair, Keys, keys, key, key_or_none}
+use Rattle.uc_case.proofs.Common.{part, amount, cost, time_within, flag, items, each, need, position, last_is, Site}
+use Rattle.uc_case.proofs.Common.{item_at, IsRange, AreRamps, IsPast, AreLags, ArePoints, AreBlocks, IsPointList, lag}
+use Rattle.uc_case.proofs.Common.{startup, point, piecewise, commitment, mark, output, ramps, past, at_least_one}
+use Rattle.uc_case.proofs.Common.{thermal_unit, one_power, powers, first_crossed, renewable_unit, block, period_blocks}
+use Rattle.uc_case.proofs.Common.{blocks, bid_unit, thermal, renewable, bid, units, bids, with_units, case_of, whole}
+use Rattle.uc_case.proofs.Common.{reading_of, of_value, IsThermalOf, IsRenewableOf, IsBidOf}
 use Rattle.plain_lists.specs.Sums.{total}
 use Rattle.text_tree.specs.Inside.{list_in}
 use Rattle.uc_text.specs.declared.fault.TextFault.{TextFault}
 use Rattle.uc_model.specs.declared.kinds.Kind.TheVariants as kinds
-use Rattle.uc_model.specs.declared.limits.TheConstants.{MOST_PERIODS, MOST_TIME, MOST_LAGS, MOST_POINTS, MOST_BLOCKS, MOST_OF_A_KIND, POWER_LIMIT}
+use Rattle.uc_model.specs.declared.limits.TheConstants.{MOST_PERIODS, MOST_TIME, MOST_LAGS, MOST_POINTS, MOST_BLOCKS}
+use Rattle.uc_model.specs.declared.limits.TheConstants.{MOST_OF_A_KIND, POWER_LIMIT}
 use Rattle.uc_model.specs.declared.units.Mark.{Mark}
 use Rattle.uc_model.specs.declared.units.Mark.TheVariants.{Free}
 use Rattle.uc_case.specs.Forms.{list, object}
@@ -13,13 +25,16 @@ use Rattle.uc_case.specs.declared.fault.Field.TheVariants as fields
 use Rattle.uc_case.specs.declared.parts.Output.{Output}
 use Rattle.uc_case.specs.declared.parts.Ramps.{Ramps}
 use Rattle.uc_case.specs.declared.parts.Past.{Past}
-use Rattle.uc_case.proofs.Passed.{ok_same, bind_ok, passed, same_count, each_keeps, each_count, items_count, part_ok, key_ok, amount_ok, power_ok, start_cost_ok, cost_ok, time_ok, units_ok}
+use Rattle.uc_case.proofs.Passed.{ok_same, bind_ok, passed, same_count, each_keeps, each_count, items_count, part_ok}
+use Rattle.uc_case.proofs.Passed.{key_ok, amount_ok, power_ok, start_cost_ok, cost_ok, time_ok, units_ok}
 use Rattle.uc_case.proofs.Limited.{thermal_fits, renewable_fits}
-use Rattle.uc_case.proofs.Ordered.{int_not_below, no_lags, lags_push, no_points, points_push, no_blocks, blocks_push, is_point_list}
+use Rattle.uc_case.proofs.Ordered.{int_not_below, no_lags, lags_push, no_points, points_push, no_blocks, blocks_push}
+use Rattle.uc_case.proofs.Ordered.{is_point_list}
 
 -- ---- start costs
 
-lag_ok : (at : Site) (before : List Lag) (v : Value) (l : Lag) → lag at before v ≡ Ok l → IsLag l × (last_is (λ (b : Lag). nat_lt l.lag b.lag) before ≡ false)
+lag_ok : (at : Site) (before : List Lag) (v : Value) (l : Lag) → lag at before v ≡ Ok l →
+    IsLag l × (last_is (λ (b : Lag). nat_lt l.lag b.lag) before ≡ false)
 unfolding lag
 lag_ok at before v l e =
     let o = bind_ok (object at v) _ l e in
@@ -39,12 +54,15 @@ startup_ok at v ls e =
     let count = items_count lag at vs.0 ls few.1 in
     let le = ltb-false MOST_LAGS (length vs.0) few.0 in (
       omega (arith, count, le),
-      each_keeps AreLags (λ before. lag (item_at at (position before)) before) (λ front w l kept is. (let h = lag_ok _ front w l is in lags_push front l kept h.0 h.1)) vs.0 [] ls no_lags few.1,
+      each_keeps AreLags (λ before. lag (item_at at (position before)) before)
+          (λ front w l kept is. (let h = lag_ok _ front w l is in lags_push front l kept h.0 h.1)) vs.0 [] ls no_lags
+          few.1,
     )
 
 -- ---- the points of a cost
 
-point_ok : (at : Site) (before : List Point) (v : Value) (p : Point) → point at before v ≡ Ok p → IsPoint p × (last_is (λ (b : Point). int_lt p.at b.at) before ≡ false)
+point_ok : (at : Site) (before : List Point) (v : Value) (p : Point) → point at before v ≡ Ok p →
+    IsPoint p × (last_is (λ (b : Point). int_lt p.at b.at) before ≡ false)
 unfolding point
 point_ok at before v p e =
     let o = bind_ok (object at v) _ p e in
@@ -56,7 +74,8 @@ point_ok at before v p e =
     subst (λ (q : Point). IsPoint q × (last_is (λ (b : Point). int_lt q.at b.at) before ≡ false)) (ok_same _ p order.1)
     (record { at = power_ok at power.0 mw.0 power.1; cost = cost_ok at money.0 d.0 money.1 }, order.0)
 
-piecewise_ok : (low high : ℤ) (at : Site) (v : Value) (ps : List Point) → piecewise low high at v ≡ Ok ps → IsPointList ps low high
+piecewise_ok : (low high : ℤ) (at : Site) (v : Value) (ps : List Point) → piecewise low high at v ≡ Ok ps →
+    IsPointList ps low high
 unfolding piecewise
 piecewise_ok low high at v ps e =
     let vs = bind_ok (list at v) _ ps e in
@@ -65,15 +84,19 @@ piecewise_ok low high at v ps e =
     let reached = passed _ _ _ ps read.2 in
     let count = items_count point at vs.0 read.0 read.1 in
     let le = ltb-false MOST_POINTS (length vs.0) few.0 in
-    let kept = each_keeps ArePoints (λ before. point (item_at at (position before)) before) (λ front w p old is. (let h = point_ok _ front w p is in points_push front p old h.0 h.1)) vs.0 [] read.0 no_points read.1 in
-    subst (λ (qs : List Point). IsPointList qs low high) (ok_same read.0 ps reached.1) (is_point_list low high read.0 (omega (arith, count, le)) kept reached.0)
+    let kept = each_keeps ArePoints (λ before. point (item_at at (position before)) before)
+    (λ front w p old is. (let h = point_ok _ front w p is in points_push front p old h.0 h.1)) vs.0 [] read.0
+    no_points read.1 in
+    subst (λ (qs : List Point). IsPointList qs low high) (ok_same read.0 ps reached.1)
+    (is_point_list low high read.0 (omega (arith, count, le)) kept reached.0)
 
 -- ---- windows
 
 all_free : (n : ℕ) → length (replicate n Free) ≡ n
 all_free n = length-replicate n Free
 
-commitment_ok : (periods : ℕ) (at : Site) (v : Option Value) (ms : List Mark) → commitment periods at v ≡ Ok ms → length ms ≡ periods
+commitment_ok : (periods : ℕ) (at : Site) (v : Option Value) (ms : List Mark) → commitment periods at v ≡ Ok ms →
+    length ms ≡ periods
 unfolding commitment
 commitment_ok periods at None ms e = subst (λ (l : List Mark). length l ≡ periods) (ok_same _ ms e) (all_free periods)
 commitment_ok periods at (Some v) ms e =
@@ -93,7 +116,12 @@ output_ok u o e =
     let low = key_ok u fields.PowerOutputMinimum (amount 3 most_power) least.0 least.1 in
     let high = key_ok u fields.PowerOutputMaximum (amount 3 most_output) most.0 most.1 in
     subst (λ (p : Output). IsRange p) (ok_same _ o order.1)
-    (record { least = power_ok _ low.0 least.0 low.1; most = amount_ok 3 most_output _ high.0 most.0 high.1; range = int_not_below most.0 least.0 order.0 })
+    (record {
+      least = power_ok _ low.0 least.0 low.1;
+      most = amount_ok 3 most_output _ high.0 most.0 high.1;
+      range =
+          int_not_below most.0 least.0 order.0;
+    })
 
 power_key : (u : Keys) (f : _) (n : ℤ) → key u f (amount 3 most_power) ≡ Ok n → IsPower n
 power_key u f n e = let at = key_ok u f (amount 3 most_power) n e in power_ok _ at.0 n at.1
@@ -143,7 +171,8 @@ past_ok u p e =
     })
 
 module _ (periods : ℕ) (some : 1 ≤ periods) (horizon : periods ≤ MOST_PERIODS) where
-  thermal_unit_ok : (at : Site) (v : Value) (g : ThermalUnit) → thermal_unit periods at v ≡ Ok g → IsThermalUnit g × (length g.window ≡ periods)
+  thermal_unit_ok : (at : Site) (v : Value) (g : ThermalUnit) → thermal_unit periods at v ≡ Ok g →
+      IsThermalUnit g × (length g.window ≡ periods)
   unfolding thermal_unit
   thermal_unit_ok at v g e =
       let ms = bind_ok (object at v) _ g e in
@@ -160,22 +189,27 @@ module _ (periods : ℕ) (some : 1 ≤ periods) (horizon : periods ≤ MOST_PERI
       let cost = piecewise_ok o.0.least o.0.most _ points_at.0 points.0 points_at.1 in
       let count = commitment_ok periods _ _ window.0 window.1 in
       subst (λ (h : ThermalUnit). IsThermalUnit h × (length h.window ≡ periods)) (ok_same _ g window.2) (
-        thermal_fits o.0 r.0 p.0 lags.0 points.0 window.0 periods (output_ok u o.0 o.1) (ramps_ok u r.0 r.1) (past_ok u p.0 p.1) starts.0 starts.1 cost.count cost.some cost.points cost.span count some horizon,
+        thermal_fits o.0 r.0 p.0 lags.0 points.0 window.0 periods (output_ok u o.0 o.1) (ramps_ok u r.0 r.1)
+            (past_ok u p.0 p.1) starts.0 starts.1 cost.count cost.some cost.points cost.span count some horizon,
         count,
       )
 
   -- ---- a renewable unit, and the lists of the case
 
-  pub powers_ok : (at : Site) (v : Value) (ns : List ℤ) → powers periods at v ≡ Ok ns → (length ns ≡ periods) × All IsPower ns
+  pub powers_ok : (at : Site) (v : Value) (ns : List ℤ) → powers periods at v ≡ Ok ns →
+      (length ns ≡ periods) × All IsPower ns
   unfolding powers
   powers_ok at v ns e =
       let vs = bind_ok (list at v) _ ns e in
       let sized = passed _ _ _ ns vs.2 in (
         items_count one_power at vs.0 ns sized.1 ∙ same_count (length vs.0) periods sized.0,
-        each_keeps (All IsPower) (λ before. one_power (item_at at (position before)) before) (λ front w n kept is. All-push IsPower front n kept (power_ok _ w n is)) vs.0 [] ns (All-nil IsPower) sized.1,
+        each_keeps (All IsPower) (λ before. one_power (item_at at (position before)) before)
+            (λ front w n kept is. All-push IsPower front n kept (power_ok _ w n is)) vs.0 [] ns (All-nil IsPower)
+            sized.1,
       )
 
-  renewable_unit_ok : (at : Site) (v : Value) (r : RenewableUnit) → renewable_unit periods at v ≡ Ok r → IsRenewableUnit r × (length r.least ≡ periods)
+  renewable_unit_ok : (at : Site) (v : Value) (r : RenewableUnit) → renewable_unit periods at v ≡ Ok r →
+      IsRenewableUnit r × (length r.least ≡ periods)
   unfolding renewable_unit
   renewable_unit_ok at v r e =
       let ms = bind_ok (object at v) _ r e in
@@ -187,12 +221,16 @@ module _ (periods : ℕ) (some : 1 ≤ periods) (horizon : periods ≤ MOST_PERI
       let most_at = key_ok u fields.PowerOutputMaximum (powers periods) most.0 most.1 in
       let low = powers_ok _ least_at.0 least.0 least_at.1 in
       let high = powers_ok _ most_at.0 most.0 most_at.1 in
-      subst (λ (s : RenewableUnit). IsRenewableUnit s × (length s.least ≡ periods)) (ok_same _ r order.1)
-      (renewable_fits least.0 most.0 periods (first_crossed 1 least.0 most.0) low.0 high.0 some horizon low.1 high.1 refl (ltb-false 0 _ order.0), low.0)
+      subst (λ (s : RenewableUnit). IsRenewableUnit s × (length s.least ≡ periods)) (ok_same _ r order.1) (
+        renewable_fits least.0 most.0 periods (first_crossed 1 least.0 most.0) low.0 high.0 some horizon low.1 high.1
+            refl (ltb-false 0 _ order.0),
+        low.0,
+      )
 
   -- ---- a bid
 
-  block_ok : (at : Site) (before : List Block) (v : Value) (b : Block) → block at before v ≡ Ok b → IsBlock b × (last_is (λ (a : Block). int_lt a.price b.price) before ≡ false)
+  block_ok : (at : Site) (before : List Block) (v : Value) (b : Block) → block at before v ≡ Ok b →
+      IsBlock b × (last_is (λ (a : Block). int_lt a.price b.price) before ≡ false)
   unfolding block
   block_ok at before v b e =
       let o = bind_ok (object at v) _ b e in
@@ -201,10 +239,14 @@ module _ (periods : ℕ) (some : 1 ≤ periods) (horizon : periods ≤ MOST_PERI
       let order = passed _ _ _ b d.2 in
       let power = part_ok at (codes "mw") (amount 3 most_power) o.0 mw.0 mw.1 in
       let money = part_ok at (codes "price") (amount 3 most_price) o.0 d.0 d.1 in
-      subst (λ (c : Block). IsBlock c × (last_is (λ (a : Block). int_lt a.price c.price) before ≡ false)) (ok_same _ b order.1)
-      (record { width = power_ok at power.0 mw.0 power.1; price = amount_ok 3 most_price at money.0 d.0 money.1 }, order.0)
+      subst (λ (c : Block). IsBlock c × (last_is (λ (a : Block). int_lt a.price c.price) before ≡ false))
+      (ok_same _ b order.1) (
+        record { width = power_ok at power.0 mw.0 power.1; price = amount_ok 3 most_price at money.0 d.0 money.1 },
+        order.0,
+      )
 
-  period_ok : (at : Site) (before : List (List Block)) (v : Value) (bs : List Block) → period_blocks at before v ≡ Ok bs → IsBlockList bs
+  period_ok : (at : Site) (before : List (List Block)) (v : Value) (bs : List Block) →
+      period_blocks at before v ≡ Ok bs → IsBlockList bs
   unfolding period_blocks
   period_ok at before v bs e =
       let vs = bind_ok (list at v) _ bs e in
@@ -213,20 +255,32 @@ module _ (periods : ℕ) (some : 1 ≤ periods) (horizon : periods ≤ MOST_PERI
       let wide = passed _ _ _ bs read.2 in
       let count = each_count (block at) vs.0 [] read.0 read.1 in
       let le = ltb-false MOST_BLOCKS (length vs.0) few.0 in
-      let kept = each_keeps AreBlocks (block at) (λ front w b old is. (let h = block_ok at front w b is in blocks_push front b old h.0 h.1)) vs.0 [] read.0 no_blocks read.1 in
+      let kept = each_keeps AreBlocks (block at)
+      (λ front w b old is. (let h = block_ok at front w b is in blocks_push front b old h.0 h.1)) vs.0 [] read.0
+      no_blocks read.1 in
       subst (λ (cs : List Block). IsBlockList cs) (ok_same read.0 bs wide.1)
-      (record { count = omega (arith, count, le); blocks = kept.blocks; width = int_not_below POWER_LIMIT (total (map (λ (b : Block). b.width) read.0)) wide.0; falling = kept.falling })
+      (record {
+        count = omega (arith, count, le);
+        blocks = kept.blocks;
+        width =
+            int_not_below POWER_LIMIT (total (map (λ (b : Block). b.width) read.0)) wide.0;
+        falling = kept.falling;
+      })
 
-  blocks_ok : (at : Site) (v : Value) (bs : List (List Block)) → blocks periods at v ≡ Ok bs → (length bs ≡ periods) × All IsBlockList bs
+  blocks_ok : (at : Site) (v : Value) (bs : List (List Block)) → blocks periods at v ≡ Ok bs →
+      (length bs ≡ periods) × All IsBlockList bs
   unfolding blocks
   blocks_ok at v bs e =
       let vs = bind_ok (list at v) _ bs e in
       let sized = passed _ _ _ bs vs.2 in (
         items_count period_blocks at vs.0 bs sized.1 ∙ same_count (length vs.0) periods sized.0,
-        each_keeps (All IsBlockList) (λ before. period_blocks (item_at at (position before)) before) (λ front w b kept is. All-push IsBlockList front b kept (period_ok _ front w b is)) vs.0 [] bs (All-nil IsBlockList) sized.1,
+        each_keeps (All IsBlockList) (λ before. period_blocks (item_at at (position before)) before)
+            (λ front w b kept is. All-push IsBlockList front b kept (period_ok _ front w b is)) vs.0 [] bs
+            (All-nil IsBlockList) sized.1,
       )
 
-  bid_unit_ok : (at : Site) (v : Value) (b : BidUnit) → bid_unit periods at v ≡ Ok b → IsBidUnit b × (length b.blocks ≡ periods)
+  bid_unit_ok : (at : Site) (v : Value) (b : BidUnit) → bid_unit periods at v ≡ Ok b →
+      IsBidUnit b × (length b.blocks ≡ periods)
   unfolding bid_unit
   bid_unit_ok at v b e =
       let ms = bind_ok (object at v) _ b e in
@@ -235,8 +289,13 @@ module _ (periods : ℕ) (some : 1 ≤ periods) (horizon : periods ≤ MOST_PERI
       let found = key_ok u fields.Blocks (blocks periods) all.0 all.1 in
       let h = blocks_ok _ found.0 all.0 found.1 in
       let count = h.0 in
-      subst (λ (c : BidUnit). IsBidUnit c × (length c.blocks ≡ periods)) (ok_same _ b all.2)
-      (record { horizon = record { at_least = omega (arith, count, some); at_most = omega (arith, count, horizon) }; blocks = h.1 }, count)
+      subst (λ (c : BidUnit). IsBidUnit c × (length c.blocks ≡ periods)) (ok_same _ b all.2) (
+        record {
+          horizon = record { at_least = omega (arith, count, some); at_most = omega (arith, count, horizon) };
+          blocks = h.1;
+        },
+        count,
+      )
 
   -- ---- the units by name
 
@@ -246,11 +305,13 @@ module _ (periods : ℕ) (some : 1 ≤ periods) (horizon : periods ≤ MOST_PERI
       let u = bind_ok (thermal_unit periods at m.value) _ n e in
       subst (λ (k : NamedThermalUnit). IsThermalOf periods k) (ok_same _ n u.2) (thermal_unit_ok at m.value u.0 u.1)
 
-  renewable_ok : (at : Site) (m : Pair) (n : NamedRenewableUnit) → renewable periods at m ≡ Ok n → IsRenewableOf periods n
+  renewable_ok : (at : Site) (m : Pair) (n : NamedRenewableUnit) → renewable periods at m ≡ Ok n →
+      IsRenewableOf periods n
   unfolding renewable
   renewable_ok at m n e =
       let u = bind_ok (renewable_unit periods at m.value) _ n e in
-      subst (λ (k : NamedRenewableUnit). IsRenewableOf periods k) (ok_same _ n u.2) (renewable_unit_ok at m.value u.0 u.1)
+      subst (λ (k : NamedRenewableUnit). IsRenewableOf periods k) (ok_same _ n u.2)
+      (renewable_unit_ok at m.value u.0 u.1)
 
   bid_ok : (at : Site) (m : Pair) (n : NamedBidUnit) → bid periods at m ≡ Ok n → IsBidOf periods n
   unfolding bid
@@ -258,9 +319,11 @@ module _ (periods : ℕ) (some : 1 ≤ periods) (horizon : periods ≤ MOST_PERI
       let u = bind_ok (bid_unit periods at m.value) _ n e in
       subst (λ (k : NamedBidUnit). IsBidOf periods k) (ok_same _ n u.2) (bid_unit_ok at m.value u.0 u.1)
 
-  bids_ok : (at : Site) (v : Option Value) (ns : List NamedBidUnit) → bids periods at v ≡ Ok ns → (length ns ≤ MOST_OF_A_KIND) × All (IsBidOf periods) ns
+  bids_ok : (at : Site) (v : Option Value) (ns : List NamedBidUnit) → bids periods at v ≡ Ok ns →
+      (length ns ≤ MOST_OF_A_KIND) × All (IsBidOf periods) ns
   unfolding bids
-  bids_ok at None ns e = subst (λ (ks : List NamedBidUnit). (length ks ≤ MOST_OF_A_KIND) × All (IsBidOf periods) ks) (ok_same [] ns e) (omega arith, All-nil (IsBidOf periods))
+  bids_ok at None ns e = subst (λ (ks : List NamedBidUnit). (length ks ≤ MOST_OF_A_KIND) × All (IsBidOf periods) ks)
+      (ok_same [] ns e) (omega arith, All-nil (IsBidOf periods))
   bids_ok at (Some v) ns e = units_ok (IsBidOf periods) fields.DemandBids kinds.Bid (bid periods) bid_ok at v ns e
 
   -- ---- the case
@@ -268,17 +331,24 @@ module _ (periods : ℕ) (some : 1 ≤ periods) (horizon : periods ≤ MOST_PERI
   some_unit : (a b : ℕ) → (a == 0 && b == 0) ≡ false → 1 ≤ a + b
   some_unit a b e = grind (arith, nat_tests)
 
-  with_units_ok : (c : Keys) (demand reserves : List ℤ) (m : Market) → length demand ≡ periods → All IsPower demand → length reserves ≡ periods → All IsPower reserves → with_units c periods demand reserves ≡ Ok m → IsMarket m
+  with_units_ok : (c : Keys) (demand reserves : List ℤ) (m : Market) → length demand ≡ periods → All IsPower demand →
+      length reserves ≡ periods → All IsPower reserves → with_units c periods demand reserves ≡ Ok m → IsMarket m
   unfolding with_units
   with_units_ok c demand reserves m demand_count demand_fits reserves_count reserves_fits e =
-      let g = bind_ok (key c fields.ThermalGenerators (units fields.ThermalGenerators kinds.Thermal (thermal periods))) _ m e in
-      let f = bind_ok (key c fields.RenewableGenerators (units fields.RenewableGenerators kinds.Renewable (renewable periods))) _ m g.2 in
+      let g = bind_ok (key c fields.ThermalGenerators (units fields.ThermalGenerators kinds.Thermal (thermal periods)))
+      _ m e in
+      let f = bind_ok (key c fields.RenewableGenerators
+      (units fields.RenewableGenerators kinds.Renewable (renewable periods))) _ m g.2 in
       let b = bind_ok (key_or_none c fields.DemandBids (bids periods)) _ m f.2 in
       let none = passed _ _ _ m b.2 in
-      let g_at = key_ok c fields.ThermalGenerators (units fields.ThermalGenerators kinds.Thermal (thermal periods)) g.0 g.1 in
-      let f_at = key_ok c fields.RenewableGenerators (units fields.RenewableGenerators kinds.Renewable (renewable periods)) f.0 f.1 in
-      let gs = units_ok (IsThermalOf periods) fields.ThermalGenerators kinds.Thermal (thermal periods) thermal_ok _ g_at.0 g.0 g_at.1 in
-      let fs = units_ok (IsRenewableOf periods) fields.RenewableGenerators kinds.Renewable (renewable periods) renewable_ok _ f_at.0 f.0 f_at.1 in
+      let g_at = key_ok c fields.ThermalGenerators (units fields.ThermalGenerators kinds.Thermal (thermal periods)) g.0
+      g.1 in
+      let f_at = key_ok c fields.RenewableGenerators
+      (units fields.RenewableGenerators kinds.Renewable (renewable periods)) f.0 f.1 in
+      let gs = units_ok (IsThermalOf periods) fields.ThermalGenerators kinds.Thermal (thermal periods) thermal_ok _
+      g_at.0 g.0 g_at.1 in
+      let fs = units_ok (IsRenewableOf periods) fields.RenewableGenerators kinds.Renewable (renewable periods)
+      renewable_ok _ f_at.0 f.0 f_at.1 in
       let bs = bids_ok _ _ b.0 b.1 in
       subst (λ (k : Market). IsMarket k) (ok_same _ m none.1)
       (record {

@@ -1,5 +1,7 @@
 -- The names that the proofs of this crate take from its specs and from other crates, passed on from one place.
-pub use Rattle.std.proofs.Common.{◌≡◌, ℕ, suc, ◌+◌, ◌*◌, ◌<◌, ◌≤◌, List, [], ◌∷◌, ◌++◌, length, map, get_or, drop, take, Result, Ok, Err, Option, Some, None, refl, sym, ap, ◌∙◌, arith, subst, Bool, true, false, true≢false, w64, to_z, of_z, rules, ◌&&◌, not}
+pub use Rattle.std.proofs.Common.{◌≡◌, ℕ, suc, ◌+◌, ◌*◌, ◌<◌, ◌≤◌, List, [], ◌∷◌, ◌++◌, length, map, get_or, drop, take}
+pub use Rattle.std.proofs.Common.{Result, Ok, Err, Option, Some, None, refl, sym, ap, ◌∙◌, arith, subst, Bool, true}
+pub use Rattle.std.proofs.Common.{false, true≢false, w64, to_z, of_z, rules, ◌&&◌, not}
 pub use Rattle.std.proofs.lemmas.Bool.{ltb-false}
 pub use Rattle.std.proofs.lemmas.Int.{ints, to_z-of_z}
 pub use Rattle.std.proofs.lemmas.Option.{slice_get-get_or}
@@ -8,8 +10,10 @@ pub use Rattle.std.proofs.lemmas.List.Elements.{All-nil, All-push}
 pub use Rattle.std.proofs.lemmas.Result.{err_from_is_err_and}
 pub use Rattle.std.specs.List.{All, AllZip}
 pub use Rattle.std.specs.Int.{cast_signed, w128}
-pub use Rattle.std.specs.Prelude.{ℤ, slice_get, pos, negsuc, neg_ℤ, ◌+ℤ◌, ◌≤ℤ◌, unsigned_abs, nat_lt, int_lt, int_le, FitsSigned}
-pub use Rattle.mixture_bound.specs.Mixtures.{WeighedSchedule, MixtureLists, entry_of, entries_of, mixture_of, AreShares, AreEntries, IsOver, HasMixtureShape, most_whole}
+pub use Rattle.std.specs.Prelude.{ℤ, slice_get, pos, negsuc, neg_ℤ, ◌+ℤ◌, ◌≤ℤ◌, unsigned_abs, nat_lt, int_lt, int_le}
+pub use Rattle.std.specs.Prelude.{FitsSigned}
+pub use Rattle.mixture_bound.specs.Mixtures.{WeighedSchedule, MixtureLists, entry_of, entries_of, mixture_of, AreShares}
+pub use Rattle.mixture_bound.specs.Mixtures.{AreEntries, IsOver, HasMixtureShape, most_whole}
 pub use Rattle.plain_lists.proofs.SignedLaws.{IsWithin, fits_within}
 pub use Rattle.plain_lists.specs.Ranges.{IsFrom}
 pub use Rattle.plain_lists.specs.Sums.{total}

@@ -3,7 +3,8 @@ use Rattle.uc_mixture.proofs.Common.{◌≡◌, List, [], ◌∷◌, length, ari
 use Rattle.plain_lists.proofs.ListLaws.{head_of, tail_of}
 
 -- P of each of as many items
-pub zipped : {A B : Type 0} (P : B → Type 0) (xs : List A) (ys : List B) → length ys ≡ length xs → All P ys → AllZip (λ (x : A) (y : B). P y) xs ys
+pub zipped : {A B : Type 0} (P : B → Type 0) (xs : List A) (ys : List B) → length ys ≡ length xs → All P ys →
+    AllZip (λ (x : A) (y : B). P y) xs ys
 zipped P [] [] count h = tt
 zipped P [] (y ∷ ys) count h = absurd (omega (arith, count))
 zipped P (x ∷ xs) [] count h = absurd (omega (arith, count))

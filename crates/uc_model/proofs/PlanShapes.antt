@@ -1,5 +1,10 @@
 -- Units by their numbers, and the lists of a feasible plan.
-use Rattle.uc_model.proofs.Common.{◌≡◌, ℕ, suc, ◌+◌, ◌<◌, false, IsTrue, List, [], ◌∷◌, ◌++◌, map, length, drop, sym, ap, ◌∙◌, subst, arith, length-append, append_assoc, length-map, get_or_default, All-append, All-map, All, AllZip, slice_get, Some, slice_index_or, AnyUnit, Thermal, Flat, Bid, NamedThermalUnit, NamedRenewableUnit, NamedBidUnit, Schedule, Market, units, unit_count, IsFeasible, thermal_names, renewable_names, bid_names, unit_names, horizon_of, IsMarket, IsThermalUnit, IsBidUnit}
+use Rattle.uc_model.proofs.Common.{◌≡◌, ℕ, suc, ◌+◌, ◌<◌, false, IsTrue, List, [], ◌∷◌, ◌++◌, map, length, drop, sym}
+use Rattle.uc_model.proofs.Common.{ap, ◌∙◌, subst, arith, length-append, append_assoc, length-map, get_or_default}
+use Rattle.uc_model.proofs.Common.{All-append, All-map, All, AllZip, slice_get, Some, slice_index_or, AnyUnit, Thermal}
+use Rattle.uc_model.proofs.Common.{Flat, Bid, NamedThermalUnit, NamedRenewableUnit, NamedBidUnit, Schedule, Market}
+use Rattle.uc_model.proofs.Common.{units, unit_count, IsFeasible, thermal_names, renewable_names, bid_names, unit_names}
+use Rattle.uc_model.proofs.Common.{horizon_of, IsMarket, IsThermalUnit, IsBidUnit}
 use Rattle.uc_model.specs.PlanLaws.{UnitsAreNumbered, FeasiblePlansHaveShape}
 use Rattle.uc_model.specs.Limits.{IsRenewableUnit}
 use Rattle.plain_lists.proofs.ListLaws.{item_of, map_item, front_item, back_item, length_same, all_nil, all_cons}
@@ -18,18 +23,32 @@ module _ (m : Market) where
   thermal_length = length-map m.thermal (λ (n : NamedThermalUnit). Thermal n.unit)
 
   producers_length : length (thermal ++ flat) ≡ length m.thermal + length m.flat
-  producers_length = omega (arith, length-append thermal flat, thermal_length, length-map m.flat (λ (n : NamedRenewableUnit). Flat n.unit))
+  producers_length = omega (
+    arith,
+    length-append thermal flat,
+    thermal_length,
+    length-map m.flat (λ (n : NamedRenewableUnit). Flat n.unit),
+  )
 
   pub length-units : length (units m) ≡ unit_count m
-  length-units = omega (arith, length-append (thermal ++ flat) bids, producers_length, length-map m.bids (λ (n : NamedBidUnit). Bid n.unit))
+  length-units = omega (
+    arith,
+    length-append (thermal ++ flat) bids,
+    producers_length,
+    length-map m.bids (λ (n : NamedBidUnit). Bid n.unit),
+  )
 
 pub units_numbered : UnitsAreNumbered
 units_numbered m = record {
   count = length-units m;
-  thermal = λ i n e. front_item (thermal m ++ flat m) (bids m) i (Thermal n.unit) (front_item (thermal m) (flat m) i (Thermal n.unit) (map_item (λ (x : NamedThermalUnit). Thermal x.unit) m.thermal i n e));
+  thermal = λ i n e. front_item (thermal m ++ flat m) (bids m) i (Thermal n.unit)
+      (front_item (thermal m) (flat m) i (Thermal n.unit)
+      (map_item (λ (x : NamedThermalUnit). Thermal x.unit) m.thermal i n e));
   flat = λ i n e. front_item (thermal m ++ flat m) (bids m) (length m.thermal + i) (Flat n.unit)
-      (ap (λ (j : ℕ). slice_get (thermal m ++ flat m) (j + i)) (sym (thermal_length m)) ∙ back_item (thermal m) (flat m) i ∙ map_item (λ (x : NamedRenewableUnit). Flat x.unit) m.flat i n e);
-  bids = λ i n e. ap (λ (j : ℕ). slice_get (units m) (j + i)) (sym (producers_length m)) ∙ back_item (thermal m ++ flat m) (bids m) i ∙ map_item (λ (x : NamedBidUnit). Bid x.unit) m.bids i n e;
+      (ap (λ (j : ℕ). slice_get (thermal m ++ flat m) (j + i)) (sym (thermal_length m)) ∙
+      back_item (thermal m) (flat m) i ∙ map_item (λ (x : NamedRenewableUnit). Flat x.unit) m.flat i n e);
+  bids = λ i n e. ap (λ (j : ℕ). slice_get (units m) (j + i)) (sym (producers_length m)) ∙
+      back_item (thermal m ++ flat m) (bids m) i ∙ map_item (λ (x : NamedBidUnit). Bid x.unit) m.bids i n e;
 }
 
 -- ---- the unit of a number, over the periods of its case, and its name
@@ -99,7 +118,8 @@ lengths_of (Thermal g) s n h = (h.schedule.on, h.schedule.power, h.schedule.rese
 lengths_of (Flat r) s n h = (h.schedule.on, h.schedule.power, h.schedule.reserve)
 lengths_of (Bid b) s n h = (h.schedule.on, h.schedule.power, h.schedule.reserve)
 
-all_lengths : (n : ℕ) (us : List AnyUnit) (ss : List Schedule) → AllZip (λ u s. IsFeasible u n s) us ss → All (HasLengths n) ss
+all_lengths : (n : ℕ) (us : List AnyUnit) (ss : List Schedule) → AllZip (λ u s. IsFeasible u n s) us ss →
+    All (HasLengths n) ss
 all_lengths n [] [] z = all_nil (HasLengths n)
 all_lengths n [] (s ∷ ss) z = absurd z
 all_lengths n (u ∷ us) [] z = absurd z
@@ -112,7 +132,9 @@ IsSteady s = All IsTrue s.on × All (λ r. r ≡ 0) s.reserve
 abbrev KeepsSteady : ℕ → AnyUnit → Type 0
 KeepsSteady n u = (s : Schedule) → IsFeasible u n s → IsSteady s
 
-steady : (n : ℕ) (s : Schedule) → length s.on ≡ n → length s.reserve ≡ n → ((k : ℕ) → k < n → IsTrue (slice_index_or s.on k false)) → ((k : ℕ) → k < n → slice_index_or s.reserve k 0 ≡ 0) → IsSteady s
+steady : (n : ℕ) (s : Schedule) → length s.on ≡ n → length s.reserve ≡ n →
+    ((k : ℕ) → k < n → IsTrue (slice_index_or s.on k false)) → ((k : ℕ) → k < n → slice_index_or s.reserve k 0 ≡ 0) →
+    IsSteady s
 steady n s on reserve each none = (
   λ k d lt. subst IsTrue (get_or_default s.on k false d lt) (each k (omega (arith, on, lt))),
   λ k d lt. sym (get_or_default s.reserve k 0 d lt) ∙ none k (omega (arith, reserve, lt)),
@@ -124,14 +146,17 @@ flat_steady n x s h = steady n s h.schedule.on h.schedule.reserve h.on h.reserve
 bid_steady : (n : ℕ) (x : NamedBidUnit) → KeepsSteady n (Bid x.unit)
 bid_steady n x s h = steady n s h.schedule.on h.schedule.reserve h.on h.reserve
 
-all_steady : (n : ℕ) (us : List AnyUnit) (ss : List Schedule) → All (KeepsSteady n) us → AllZip (λ u s. IsFeasible u n s) us ss → All IsSteady ss
+all_steady : (n : ℕ) (us : List AnyUnit) (ss : List Schedule) → All (KeepsSteady n) us →
+    AllZip (λ u s. IsFeasible u n s) us ss → All IsSteady ss
 all_steady n [] [] each z = all_nil IsSteady
 all_steady n [] (s ∷ ss) each z = absurd z
 all_steady n (u ∷ us) [] each z = absurd z
-all_steady n (u ∷ us) (s ∷ ss) each z = all_cons IsSteady s ss (each 0 u (omega arith) s z.0) (all_steady n us ss (λ k d lt. each (suc k) d (omega (arith, lt))) z.1)
+all_steady n (u ∷ us) (s ∷ ss) each z = all_cons IsSteady s ss (each 0 u (omega arith) s z.0)
+    (all_steady n us ss (λ k d lt. each (suc k) d (omega (arith, lt))) z.1)
 
 -- what holds behind the first units holds of the schedules behind as many
-zip_behind : {X Y : Type 0} → (R : X → Y → Type 0) (xs us : List X) (ys : List Y) → AllZip R (xs ++ us) ys → AllZip R us (drop (length xs) ys)
+zip_behind : {X Y : Type 0} → (R : X → Y → Type 0) (xs us : List X) (ys : List Y) → AllZip R (xs ++ us) ys →
+    AllZip R us (drop (length xs) ys)
 zip_behind R [] us ys z = z
 zip_behind R (x ∷ xs) us [] z = absurd z
 zip_behind R (x ∷ xs) us (y ∷ ys) z = zip_behind R xs us ys z.1
@@ -140,9 +165,13 @@ pub plan_shape : FeasiblePlansHaveShape
 plan_shape m plan h =
     let n = m.periods in
     let each : All (KeepsSteady n) (flat m ++ bids m) =
-    All-append (KeepsSteady n) (flat m) (bids m) (All-map (KeepsSteady n) (λ (x : NamedRenewableUnit). Flat x.unit) m.flat (λ k d lt. flat_steady n (slice_index_or m.flat k d)))
-    (All-map (KeepsSteady n) (λ (x : NamedBidUnit). Bid x.unit) m.bids (λ k d lt. bid_steady n (slice_index_or m.bids k d))) in
-    let whole = subst (λ us. AllZip (λ u s. IsFeasible u n s) us plan) (append_assoc (thermal m) (flat m) (bids m)) h.feasible in
+    All-append (KeepsSteady n) (flat m) (bids m)
+    (All-map (KeepsSteady n) (λ (x : NamedRenewableUnit). Flat x.unit) m.flat
+    (λ k d lt. flat_steady n (slice_index_or m.flat k d)))
+    (All-map (KeepsSteady n) (λ (x : NamedBidUnit). Bid x.unit) m.bids
+    (λ k d lt. bid_steady n (slice_index_or m.bids k d))) in
+    let whole = subst (λ us. AllZip (λ u s. IsFeasible u n s) us plan) (append_assoc (thermal m) (flat m) (bids m))
+    h.feasible in
     let behind = zip_behind (λ u s. IsFeasible u n s) (thermal m) (flat m ++ bids m) plan whole in
     let rest = all_steady n (flat m ++ bids m) (drop (length (thermal m)) plan) each behind in
     record {

@@ -1,5 +1,8 @@
 -- Bids and commitment windows, at numbers that were worked out by hand.
-use Rattle.uc_model.proofs.Common.{◌≡◌, ℕ, pos, neg_ℤ, true, false, List, [], ◌∷◌, refl, Mark, Free, MustOff, MustOn, ThermalUnit, BidUnit, Bid, Schedule, Market, earnings, worth_of, supply_in, envelope, start_prices, is_settled, Window, MustRun, BidRange, Balance, refusals, thermal_refusals, plan_cost, total_power, unit_numbers, units}
+use Rattle.uc_model.proofs.Common.{◌≡◌, ℕ, pos, neg_ℤ, true, false, List, [], ◌∷◌, refl, Mark, Free, MustOff, MustOn}
+use Rattle.uc_model.proofs.Common.{ThermalUnit, BidUnit, Bid, Schedule, Market, earnings, worth_of, supply_in, envelope}
+use Rattle.uc_model.proofs.Common.{start_prices, is_settled, Window, MustRun, BidRange, Balance, refusals}
+use Rattle.uc_model.proofs.Common.{thermal_refusals, plan_cost, total_power, unit_numbers, units}
 use Rattle.uc_model.specs.declared.kinds.Kind.TheVariants as kinds
 use Rattle.uc_model.proofs.WorkedSystems.{two_units, block_unit, one_period, energy_only}
 
@@ -14,7 +17,8 @@ with_buyer = record two_units { bids = record { name = 88 ∷ []; unit = buyer }
 abbrev met_plan : ℕ → List Schedule
 met_plan bought = one_period true 100 0 ∷ one_period true 100 0 ∷ one_period true bought 0 ∷ []
 
-pub buyer_worth : worth_of (record { width = pos 50; price = pos 40 } ∷ record { width = pos 10; price = pos 7 } ∷ []) (pos 53) ≡ pos 2021
+pub buyer_worth : worth_of (record { width = pos 50; price = pos 40 } ∷ record { width = pos 10; price = pos 7 } ∷ [])
+    (pos 53) ≡ pos 2021
 buyer_worth = refl
 
 pub buyer_earns : earnings (Bid buyer) (energy_only (pos 30)) (one_period true 50 0) ≡ pos 500
@@ -30,7 +34,8 @@ with_buyer_cost = refl
 pub with_buyer_total : total_power (units with_buyer) (met_plan 50) 0 ≡ pos 150
 with_buyer_total = refl
 
-pub met_is_settled : is_settled with_buyer (pos 2000) (record { prices = energy_only (pos 30); value = pos 2000; supply = pos 50 ∷ []; reserve = pos 0 ∷ [] }) ≡ true
+pub met_is_settled : is_settled with_buyer (pos 2000)
+    (record { prices = energy_only (pos 30); value = pos 2000; supply = pos 50 ∷ []; reserve = pos 0 ∷ [] }) ≡ true
 met_is_settled = refl
 
 -- bids don't change the start price

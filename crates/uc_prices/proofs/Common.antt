@@ -1,5 +1,7 @@
 -- The names that the proofs of this crate take from its specs and from other crates, passed on from one place.
-pub use Rattle.std.proofs.Common.{◌≡◌, ℕ, ◌+◌, ◌<◌, ◌≤◌, List, [], ◌∷◌, ◌++◌, length, map, get_or, drop, Result, Ok, Err, Some, None, refl, sym, ap, ◌∙◌, arith, subst, Bool, true, false, true≢false, w64, to_z, of_z, rules, ◌&&◌, zero, suc, Option, inl, inr}
+pub use Rattle.std.proofs.Common.{◌≡◌, ℕ, ◌+◌, ◌<◌, ◌≤◌, List, [], ◌∷◌, ◌++◌, length, map, get_or, drop, Result, Ok}
+pub use Rattle.std.proofs.Common.{Err, Some, None, refl, sym, ap, ◌∙◌, arith, subst, Bool, true, false, true≢false, w64}
+pub use Rattle.std.proofs.Common.{to_z, of_z, rules, ◌&&◌, zero, suc, Option, inl, inr}
 pub use Rattle.std.proofs.lemmas.Bool.{ltb-true, ltb-false}
 pub use Rattle.std.proofs.lemmas.Int.{ints, to_z-of_z}
 pub use Rattle.std.proofs.lemmas.List.Elements.{All-nil, All-push}

@@ -1,6 +1,8 @@
 -- No bytes are the token at the end.
-use Rattle.uc_text.proofs.Common.{◌≡◌, ℕ, Bool, true, false, cond, List, Option, Some, None, refl, rules, Token, Piece, string_of, string_token, string_at, Read, word_of, token_at, goes}
-use Rattle.text_tokens.specs.Numbers.{number_token, power_digits, power, behind_fraction, behind_whole, unsigned, number_of}
+use Rattle.uc_text.proofs.Common.{◌≡◌, ℕ, Bool, true, false, cond, List, Option, Some, None, refl, rules, Token, Piece}
+use Rattle.uc_text.proofs.Common.{string_of, string_token, string_at, Read, word_of, token_at, goes}
+use Rattle.text_tokens.specs.Numbers.{number_token, power_digits, power, behind_fraction, behind_whole, unsigned}
+use Rattle.text_tokens.specs.Numbers.{number_of}
 
 either : (b : Bool) (t u : Token) → goes t ≡ true → goes u ≡ true → goes (cond b t u) ≡ true
 either true t u h k = h
@@ -10,11 +12,13 @@ either_read : (b : Bool) (r s : Read) → goes r.0 ≡ true → goes s.0 ≡ tru
 either_read true r s h k = h
 either_read false r s h k = k
 
-goes-number_token : (negative : Bool) (whole fraction : List ℕ) (lowers : Bool) (written : List ℕ) → goes (number_token negative whole fraction lowers written) ≡ true
+goes-number_token : (negative : Bool) (whole fraction : List ℕ) (lowers : Bool) (written : List ℕ) →
+    goes (number_token negative whole fraction lowers written) ≡ true
 unfolding number_token
 goes-number_token negative whole fraction lowers written = search (rules, either)
 
-goes-power_digits : (negative : Bool) (whole fraction : List ℕ) (lowers : Bool) (bs : List ℕ) → goes (power_digits negative whole fraction lowers bs) ≡ true
+goes-power_digits : (negative : Bool) (whole fraction : List ℕ) (lowers : Bool) (bs : List ℕ) →
+    goes (power_digits negative whole fraction lowers bs) ≡ true
 unfolding power_digits
 goes-power_digits negative whole fraction lowers bs = search (rules, either, goes-number_token)
 
@@ -22,7 +26,8 @@ goes-power : (negative : Bool) (whole fraction bs : List ℕ) → goes (power ne
 unfolding power
 goes-power negative whole fraction bs = search (rules, either, goes-power_digits)
 
-goes-behind_fraction : (negative : Bool) (whole fraction bs : List ℕ) → goes (behind_fraction negative whole fraction bs) ≡ true
+goes-behind_fraction : (negative : Bool) (whole fraction bs : List ℕ) →
+    goes (behind_fraction negative whole fraction bs) ≡ true
 unfolding behind_fraction
 goes-behind_fraction negative whole fraction bs = search (rules, either, goes-number_token, goes-power)
 

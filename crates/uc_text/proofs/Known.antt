@@ -1,5 +1,7 @@
 -- Names that were met before, and a set of their hashes.
-use Rattle.uc_text.proofs.Common.{◌≡◌, ℕ, zero, suc, Bool, true, false, true≢false, not, cond, ◌||◌, ◌⊎◌, List, [], ◌∷◌, ◌++◌, bytes_eq, length, get_or, ◌<◌, refl, sym, ap, ap₂, ◌∙◌, arith, inl, inr, Contains, take, is_there, names_said, said, Name, IsNewName}
+use Rattle.uc_text.proofs.Common.{◌≡◌, ℕ, zero, suc, Bool, true, false, true≢false, not, cond, ◌||◌, ◌⊎◌, List, [], ◌∷◌}
+use Rattle.uc_text.proofs.Common.{◌++◌, bytes_eq, length, get_or, ◌<◌, refl, sym, ap, ap₂, ◌∙◌, arith, inl, inr}
+use Rattle.uc_text.proofs.Common.{Contains, take, is_there, names_said, said, Name, IsNewName}
 use Rattle.std.proofs.lemmas.Slice.Eq.{bytes_eq-Decides}
 
 pub equal_bytes : (xs ys : List ℕ) → bytes_eq xs ys ≡ true → xs ≡ ys
@@ -45,21 +47,29 @@ there_has q (k ∷ ks) e =
 pub there_new : (q : List ℕ) (ks : List (List ℕ)) → is_there q ks ≡ false → IsNewName ks q
 there_new q [] e i d lt same = absurd (omega arith)
 there_new q (k ∷ ks) e zero d lt same = unequal_bytes q k (or_false (bytes_eq q k) (is_there q ks) e).0 (sym same)
-there_new q (k ∷ ks) e (suc i) d lt same = there_new q ks (or_false (bytes_eq q k) (is_there q ks) e).1 i d (omega arith) same
+there_new q (k ∷ ks) e (suc i) d lt same =
+    there_new q ks (or_false (bytes_eq q k) (is_there q ks) e).1 i d (omega arith) same
 
 -- by the index of a name
-pub there_at : (q : List ℕ) (ks : List (List ℕ)) (k : ℕ) → k < length ks → bytes_eq q (get_or ks k []) ≡ true → is_there q ks ≡ true
+pub there_at : (q : List ℕ) (ks : List (List ℕ)) (k : ℕ) → k < length ks → bytes_eq q (get_or ks k []) ≡ true →
+    is_there q ks ≡ true
 there_at q [] k lt e = absurd (omega arith)
 there_at q (j ∷ ks) zero lt e = ap (λ (b : Bool). b || is_there q ks) e
-there_at q (j ∷ ks) (suc k) lt e = ap (λ (b : Bool). bytes_eq q j || b) (there_at q ks k (omega arith) e) ∙ or_with_true (bytes_eq q j)
+there_at q (j ∷ ks) (suc k) lt e = ap (λ (b : Bool). bytes_eq q j || b) (there_at q ks k (omega arith) e) ∙
+    or_with_true (bytes_eq q j)
 
-pub there_nowhere : (q : List ℕ) (ks : List (List ℕ)) → ((k : ℕ) → k < length ks → bytes_eq q (get_or ks k []) ≡ false) → is_there q ks ≡ false
+pub there_nowhere : (q : List ℕ) (ks : List (List ℕ)) →
+    ((k : ℕ) → k < length ks → bytes_eq q (get_or ks k []) ≡ false) → is_there q ks ≡ false
 there_nowhere q [] h = refl
-there_nowhere q (j ∷ ks) h = ap₂ (λ (a b : Bool). a || b) (h 0 (omega arith)) (there_nowhere q ks (λ k lt. h (suc k) (omega arith)))
+there_nowhere q (j ∷ ks) h =
+    ap₂ (λ (a b : Bool). a || b) (h 0 (omega arith)) (there_nowhere q ks (λ k lt. h (suc k) (omega arith)))
 
-pub there_push : (q : List ℕ) (ks : List (List ℕ)) (k : List ℕ) → is_there q (ks ++ k ∷ []) ≡ cond (bytes_eq k q) true (is_there q ks)
-there_push q [] k = ap (λ (b : Bool). b || false) (same_test q k (bytes_eq q k) (bytes_eq k q) refl refl) ∙ last_alone (bytes_eq k q)
-there_push q (j ∷ ks) k = ap (λ (b : Bool). bytes_eq q j || b) (there_push q ks k) ∙ or_last (bytes_eq q j) (is_there q ks) (bytes_eq k q)
+pub there_push : (q : List ℕ) (ks : List (List ℕ)) (k : List ℕ) →
+    is_there q (ks ++ k ∷ []) ≡ cond (bytes_eq k q) true (is_there q ks)
+there_push q [] k = ap (λ (b : Bool). b || false) (same_test q k (bytes_eq q k) (bytes_eq k q) refl refl) ∙
+    last_alone (bytes_eq k q)
+there_push q (j ∷ ks) k = ap (λ (b : Bool). bytes_eq q j || b) (there_push q ks k) ∙
+    or_last (bytes_eq q j) (is_there q ks) (bytes_eq k q)
 
 not_false : (b : Bool) → not b ≡ false → b ≡ true
 not_false true e = refl
@@ -69,7 +79,8 @@ not_true : (b : Bool) → not b ≡ true → b ≡ false
 not_true true e = absurd (true≢false (sym e))
 not_true false e = refl
 
-pub known_name : (ks : List (List ℕ)) (k : List ℕ) (new : Bool) → new ≡ not (is_there k ks) → new ≡ false → Contains ks k
+pub known_name : (ks : List (List ℕ)) (k : List ℕ) (new : Bool) → new ≡ not (is_there k ks) → new ≡ false →
+    Contains ks k
 known_name ks k new e off = there_has k ks (not_false _ (sym e ∙ off))
 
 pub new_name : (ks : List (List ℕ)) (k : List ℕ) (new : Bool) → new ≡ not (is_there k ks) → new ≡ true → IsNewName ks k
@@ -77,19 +88,22 @@ new_name ks k new e on = there_new k ks (not_true _ (sym e ∙ on))
 
 -- ---- what names say
 
-pub said_at : (ns : List Name) (k : ℕ) (d : Name) → k < length ns → get_or (names_said ns) k [] ≡ said (get_or ns k d).quoted.bytes.now
+pub said_at : (ns : List Name) (k : ℕ) (d : Name) → k < length ns →
+    get_or (names_said ns) k [] ≡ said (get_or ns k d).quoted.bytes.now
 said_at [] k d lt = absurd (omega arith)
 said_at (n ∷ ns) zero d lt = refl
 said_at (n ∷ ns) (suc k) d lt = said_at ns k d (omega arith)
 
-pub name_at : (ns : List Name) (k : ℕ) (n : Name) → k < length ns → n ≡ get_or ns k n → get_or (names_said ns) k [] ≡ said n.quoted.bytes.now
+pub name_at : (ns : List Name) (k : ℕ) (n : Name) → k < length ns → n ≡ get_or ns k n →
+    get_or (names_said ns) k [] ≡ said n.quoted.bytes.now
 name_at ns k n lt is = said_at ns k n lt ∙ ap (λ (m : Name). said m.quoted.bytes.now) (sym is)
 
 pub names_len : (ns : List Name) → length (names_said ns) ≡ length ns
 names_len [] = refl
 names_len (n ∷ ns) = ap suc (names_len ns)
 
-pub names_said-push : (ns : List Name) (n : Name) → names_said (ns ++ n ∷ []) ≡ names_said ns ++ said n.quoted.bytes.now ∷ []
+pub names_said-push : (ns : List Name) (n : Name) →
+    names_said (ns ++ n ∷ []) ≡ names_said ns ++ said n.quoted.bytes.now ∷ []
 names_said-push [] n = refl
 names_said-push (m ∷ ns) n = ap (λ (ks : List (List ℕ)). said m.quoted.bytes.now ∷ ks) (names_said-push ns n)
 

@@ -1,11 +1,13 @@
 -- Which token it isn't.
-use Rattle.uc_text.proofs.Common.{◌≡◌, ◌≢◌, ℕ, List, false, refl, Result, Ok, Err, IfFault, FaultIs, token_of, TextFault, TextError}
+use Rattle.uc_text.proofs.Common.{◌≡◌, ◌≢◌, ℕ, List, false, refl, Result, Ok, Err, IfFault, FaultIs, token_of}
+use Rattle.uc_text.proofs.Common.{TextFault, TextError}
 use Rattle.uc_text.specs.Grammar as grammar
 use Rattle.uc_text.proofs.Spellings.{is_start}
 use Rattle.uc_text.specs.declared.fault.TextError.TheVariants as errors
 use Rattle.text_tokens.specs.declared.token.Word.TheVariants.{Null, Flag, Number, LargeNumber, LongNumber}
 use Rattle.text_tokens.specs.declared.token.Token.{Token}
-use Rattle.text_tokens.specs.declared.token.Token.TheVariants.{OpenList, CloseList, OpenObject, CloseObject, Comma, Colon, Word, Text, End}
+use Rattle.text_tokens.specs.declared.token.Token.TheVariants.{OpenList, CloseList, OpenObject, CloseObject, Comma}
+use Rattle.text_tokens.specs.declared.token.Token.TheVariants.{Colon, Word, Text, End}
 
 pub not_close_list : (t : Token) → (t ≡ CloseList → ⊥) → token_of t ≢ grammar.close_list
 not_close_list CloseList n e = n refl
@@ -36,7 +38,8 @@ pub passes_on : (e : TextError) (P Q : TextFault → Type 0) → ((f : TextFault
 passes_on errors.Memory P Q g h = tt
 passes_on (errors.Fault f) P Q g h = g f h
 
-pub if_fault_then : {X : Type 0} (r : Result X TextError) (P Q : TextFault → Type 0) → ((f : TextFault) → P f → Q f) → IfFault r P → IfFault r Q
+pub if_fault_then : {X : Type 0} (r : Result X TextError) (P Q : TextFault → Type 0) → ((f : TextFault) → P f → Q f) →
+    IfFault r P → IfFault r Q
 if_fault_then (Ok x) P Q g h = tt
 if_fault_then (Err e) P Q g h = passes_on e P Q g h
 
@@ -49,7 +52,8 @@ not_text (Word (LargeNumber r)) n k e = cc
 not_text (Word LongNumber) n k e = cc
 not_text t n k e = cc
 
-pub not_start : (t : Token) → (t ≡ OpenList → ⊥) → (t ≡ OpenObject → ⊥) → ((w : _) → t ≡ Word w → ⊥) → ((q : _) → t ≡ Text q → ⊥) → is_start (token_of t) ≡ false
+pub not_start : (t : Token) → (t ≡ OpenList → ⊥) → (t ≡ OpenObject → ⊥) → ((w : _) → t ≡ Word w → ⊥) →
+    ((q : _) → t ≡ Text q → ⊥) → is_start (token_of t) ≡ false
 not_start OpenList a b c d = absurd (a refl)
 not_start OpenObject a b c d = absurd (b refl)
 not_start (Word w) a b c d = absurd (c w refl)

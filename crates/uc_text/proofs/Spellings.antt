@@ -1,5 +1,8 @@
 -- No value's tokens begin another's, and what stands before an item or a member.
-use Rattle.uc_text.proofs.Common.{◌≡◌, ℕ, Bool, true, false, List, [], ◌∷◌, ◌++◌, refl, sym, ap, ◌∙◌, append_assoc, true≢false, Value, scalar, list, object, Items, no_items, item, Members, no_members, member, Token, open_list, close_list, open_object, word, end, spell, spell_items, spell_more_items, spell_members, spell_more_members}
+use Rattle.uc_text.proofs.Common.{◌≡◌, ℕ, Bool, true, false, List, [], ◌∷◌, ◌++◌, refl, sym, ap, ◌∙◌, append_assoc}
+use Rattle.uc_text.proofs.Common.{true≢false, Value, scalar, list, object, Items, no_items, item, Members, no_members}
+use Rattle.uc_text.proofs.Common.{member, Token, open_list, close_list, open_object, word, end, spell, spell_items}
+use Rattle.uc_text.proofs.Common.{spell_more_items, spell_members, spell_more_members}
 
 abbrev pub is_start : Token → Bool
 is_start open_list = true
@@ -46,38 +49,46 @@ mutual
 
   one_items : (vs ws : Items) (a b : List Token) → spell_items vs ++ a ≡ spell_items ws ++ b → (vs ≡ ws) × (a ≡ b)
   one_items no_items no_items a b e = (refl, tails _ _ a b e)
-  one_items no_items (item w ws) a b e = absurd (not_close w _ a (sym (append_assoc (spell w) (spell_more_items ws) b) ∙ sym e))
-  one_items (item v vs) no_items a b e = absurd (not_close v _ b (sym (append_assoc (spell v) (spell_more_items vs) a) ∙ e))
+  one_items no_items (item w ws) a b e =
+      absurd (not_close w _ a (sym (append_assoc (spell w) (spell_more_items ws) b) ∙ sym e))
+  one_items (item v vs) no_items a b e =
+      absurd (not_close v _ b (sym (append_assoc (spell v) (spell_more_items vs) a) ∙ e))
   one_items (item v vs) (item w ws) a b e =
       let r = one_spelling v w (spell_more_items vs ++ a) (spell_more_items ws ++ b) (regroup _ _ a _ _ b e) in
       let s = one_more_items vs ws a b r.1 in
       (ap (λ (u : Value). item u vs) r.0 ∙ ap (item w) s.0, s.1)
 
-  one_more_items : (vs ws : Items) (a b : List Token) → spell_more_items vs ++ a ≡ spell_more_items ws ++ b → (vs ≡ ws) × (a ≡ b)
+  one_more_items : (vs ws : Items) (a b : List Token) → spell_more_items vs ++ a ≡ spell_more_items ws ++ b →
+      (vs ≡ ws) × (a ≡ b)
   one_more_items no_items no_items a b e = (refl, tails _ _ a b e)
   one_more_items no_items (item w ws) a b e = absurd cc
   one_more_items (item v vs) no_items a b e = absurd cc
   one_more_items (item v vs) (item w ws) a b e =
-      let r = one_spelling v w (spell_more_items vs ++ a) (spell_more_items ws ++ b) (regroup _ _ a _ _ b (tails _ _ _ _ e)) in
+      let r = one_spelling v w (spell_more_items vs ++ a) (spell_more_items ws ++ b)
+      (regroup _ _ a _ _ b (tails _ _ _ _ e)) in
       let s = one_more_items vs ws a b r.1 in
       (ap (λ (u : Value). item u vs) r.0 ∙ ap (item w) s.0, s.1)
 
-  one_members : (ms ns : Members) (a b : List Token) → spell_members ms ++ a ≡ spell_members ns ++ b → (ms ≡ ns) × (a ≡ b)
+  one_members : (ms ns : Members) (a b : List Token) → spell_members ms ++ a ≡ spell_members ns ++ b →
+      (ms ≡ ns) × (a ≡ b)
   one_members no_members no_members a b e = (refl, tails _ _ a b e)
   one_members no_members (member l w ns) a b e = absurd cc
   one_members (member k v ms) no_members a b e = absurd cc
   one_members (member k v ms) (member l w ns) a b e =
       let same : k ≡ l = cc in
-      let r = one_spelling v w (spell_more_members ms ++ a) (spell_more_members ns ++ b) (regroup _ _ a _ _ b (tails _ _ _ _ (tails _ _ _ _ e))) in
+      let r = one_spelling v w (spell_more_members ms ++ a) (spell_more_members ns ++ b)
+      (regroup _ _ a _ _ b (tails _ _ _ _ (tails _ _ _ _ e))) in
       let s = one_more_members ms ns a b r.1 in
       (ap (λ (u : List ℕ). member u v ms) same ∙ ap (λ (u : Value). member l u ms) r.0 ∙ ap (member l w) s.0, s.1)
 
-  one_more_members : (ms ns : Members) (a b : List Token) → spell_more_members ms ++ a ≡ spell_more_members ns ++ b → (ms ≡ ns) × (a ≡ b)
+  one_more_members : (ms ns : Members) (a b : List Token) → spell_more_members ms ++ a ≡ spell_more_members ns ++ b →
+      (ms ≡ ns) × (a ≡ b)
   one_more_members no_members no_members a b e = (refl, tails _ _ a b e)
   one_more_members no_members (member l w ns) a b e = absurd cc
   one_more_members (member k v ms) no_members a b e = absurd cc
   one_more_members (member k v ms) (member l w ns) a b e =
       let same : k ≡ l = cc in
-      let r = one_spelling v w (spell_more_members ms ++ a) (spell_more_members ns ++ b) (regroup _ _ a _ _ b (tails _ _ _ _ (tails _ _ _ _ (tails _ _ _ _ e)))) in
+      let r = one_spelling v w (spell_more_members ms ++ a) (spell_more_members ns ++ b)
+      (regroup _ _ a _ _ b (tails _ _ _ _ (tails _ _ _ _ (tails _ _ _ _ e)))) in
       let s = one_more_members ms ns a b r.1 in
       (ap (λ (u : List ℕ). member u v ms) same ∙ ap (λ (u : Value). member l u ms) r.0 ∙ ap (member l w) s.0, s.1)

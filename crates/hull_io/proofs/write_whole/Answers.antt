@@ -26,15 +26,24 @@ returns-then-n-eq0 g c = record {
     front = take (c.loop-at.at + c.in_ok-n.n) c.args.piece.now;
     rest = drop (c.loop-at.at + c.in_ok-n.n) c.args.piece.now;
     begins = sym (take-append-drop (c.loop-at.at + c.in_ok-n.n) c.args.piece.now);
-    gained = gains_next _ _ _ c.loop-at.at c.in_ok-n.n c.args.piece.now c.loop-at.invariant.gained c.in_ok-n.ensures.gains;
-    rose = rose_wider _ _ _ _ _ c.loop-at.invariant.later (c.in_ok-n.ensures.none (omega arith) (simp (length-take, length-drop) (omega arith))) (omega arith);
+    gained = gains_next _ _ _ c.loop-at.at c.in_ok-n.n c.args.piece.now c.loop-at.invariant.gained
+        c.in_ok-n.ensures.gains;
+    rose = rose_wider _ _ _ _ _ c.loop-at.invariant.later
+        (c.in_ok-n.ensures.none (omega arith) (simp (length-take, length-drop) (omega arith))) (omega arith);
     later = omega arith;
   };
 }
 
 pub loop-at-preserved : goal.loop-at-preserved
 loop-at-preserved g c = record {
-  within = omega (arith, c.in_ok-n.ensures.within, length-take (length c.args.piece.now - c.loop-at.at) (drop c.loop-at.at c.args.piece.now), length-drop c.loop-at.at c.args.piece.now);
-  gained = gains_next _ _ _ c.loop-at.at c.in_ok-n.n c.args.piece.now c.loop-at.invariant.gained c.in_ok-n.ensures.gains;
+  within = omega (
+    arith,
+    c.in_ok-n.ensures.within,
+    length-take (length c.args.piece.now - c.loop-at.at)
+        (drop c.loop-at.at c.args.piece.now),
+    length-drop c.loop-at.at c.args.piece.now,
+  );
+  gained = gains_next _ _ _ c.loop-at.at c.in_ok-n.n c.args.piece.now c.loop-at.invariant.gained
+      c.in_ok-n.ensures.gains;
   later = omega arith;
 }

@@ -1,4 +1,5 @@
-use Rattle.level_table.proofs.Common.{rules, ◌≡◌, ◌+◌, ◌<◌, length, arith, to_z, of_z, length-take, length-drop, ℤ, pos, ◌+ℤ◌, FitsSigned, w64, ints, to_z-of_z}
+use Rattle.level_table.proofs.Common.{rules, ◌≡◌, ◌+◌, ◌<◌, length, arith, to_z, of_z, length-take, length-drop, ℤ, pos}
+use Rattle.level_table.proofs.Common.{◌+ℤ◌, FitsSigned, w64, ints, to_z-of_z}
 use Rattle.level_table.proofs.Lemmas.{none_between, least_between_is}
 use Rattle.level_table.proofs.least_between.Goals as goal
 
@@ -9,7 +10,8 @@ returns-then-end-start c =
     let to : FitsSigned w64 c.args.to = c.ranges.to in
     let below = simp to_z-of_z at c.count_below-start.ensures.below in
     let above = simp to_z-of_z at c.count_up_to-end.ensures.above in
-    none_between c.args.values.now c.args.lo c.args.from c.args.to c.count_below-start.result c.count_up_to-end.result below above (omega arith)
+    none_between c.args.values.now c.args.lo c.args.from c.args.to c.count_below-start.result c.count_up_to-end.result
+    below above (omega arith)
 
 pub returns : goal.returns
 returns c =
@@ -30,7 +32,9 @@ returns c =
     let low = limit.0 in
     let high = limit.1 in
     let value : to_z w64 (of_z w64 c.in_ok-value.value) ≡ c.in_ok-value.value = to_z-of_z w64 _ value_fits in
-    let power : to_z w64 (of_z w64 (to_z w64 (of_z w64 c.args.lo) +ℤ to_z w64 at)) ≡ c.args.lo +ℤ pos at = omega (arith, ints) in
+    let power : to_z w64 (of_z w64 (to_z w64 (of_z w64 c.args.lo) +ℤ to_z w64 at)) ≡ c.args.lo +ℤ pos at =
+    omega (arith, ints) in
     rw (value, power)
-    (least_between_is c.args.values.now c.args.lo c.args.from c.args.to c.count_below-start.result c.count_up_to-end.result below above
+    (least_between_is c.args.values.now c.args.lo c.args.from c.args.to c.count_below-start.result
+    c.count_up_to-end.result below above
     c.in_ok-value.value c.in_ok-value.at (omega arith) within first last is)

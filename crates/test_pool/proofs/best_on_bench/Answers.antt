@@ -16,4 +16,5 @@ returns-in_default-clause-none c = λ no.
     let T = length c.args.prices.now.energy.items in
     let told = rw (c.len-periods.ensures, c.as_slice-2.ensures) at c.in_default.ensures.none in
     let filled = ok_then c.fill-filled.result _ c.fill-filled.ensures.filled c.if-is_err.ensures.negation in
-    c.no_end_is_no_schedule.ensures (thermal_of u) (prices_of c.args.prices.now) T (cost_at rows) refl u.valid.ramp_up.at_least u.valid.ramp_down.at_least filled.table.complete told
+    c.no_end_is_no_schedule.ensures (thermal_of u) (prices_of c.args.prices.now) T (cost_at rows) refl
+    u.valid.ramp_up.at_least u.valid.ramp_down.at_least filled.table.complete told

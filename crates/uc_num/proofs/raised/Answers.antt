@@ -5,7 +5,8 @@ use Rattle.uc_num.proofs.raised.Goals as goal
 pub returns-then-places-gt18 : goal.returns-then-places-gt18
 returns-then-places-gt18 c = λ le.
     let p = ten_up 19 c.args.places (omega arith) in
-    let one : 1 * 10 ^ c.args.places ≤ c.args.digits * 10 ^ c.args.places = mul-le-mul_right (10 ^ c.args.places) (omega arith) in
+    let one : 1 * 10 ^ c.args.places ≤ c.args.digits * 10 ^ c.args.places =
+    mul-le-mul_right (10 ^ c.args.places) (omega arith) in
     omega arith
 
 pub returns-then-digits-from : goal.returns-then-digits-from

@@ -3,7 +3,8 @@ use Rattle.unit_choice.proofs.least_on_bench.Goals as goal
 
 pub find_end-requires-clause-bench : goal.find_end-requires-clause-bench
 find_end-requires-clause-bench c =
-    c.recall.ensures.bench (length c.args.prices.now.energy.items) (length c.args.unit.now.points.items) c.requires.bench
+    c.recall.ensures.bench (length c.args.prices.now.energy.items) (length c.args.unit.now.points.items)
+    c.requires.bench
 
 pub returns-in_default-clause-bench : goal.returns-in_default-clause-bench
 returns-in_default-clause-bench c =

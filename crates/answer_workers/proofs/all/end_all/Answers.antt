@@ -12,7 +12,8 @@ loop-k-preserved g c =
     let inside : l.k < length now = omega (arith, below, same) in
     record {
       count = length-set now l.k y ∙ l.invariant.count;
-      worked = one_works c.args.workers.now now l.k y inside c.index-workers-k.result c.work.ensures.worked l.invariant.worked;
+      worked = one_works c.args.workers.now now l.k y inside c.index-workers-k.result c.work.ensures.worked
+          l.invariant.worked;
       finished = one_finishes c.args.workers.now now l.k y inside c.in-Finished.ensures.ended l.invariant.finished;
     }
 
@@ -37,13 +38,17 @@ returns-in-Halted-clause-ended g c =
     (y, one_there c.args.workers.now l.workers l.k y inside, c.in-Halted.ensures.ended)
 
 pub returns-in-Halted-clause-own : goal.returns-in-Halted-clause-own
-returns-in-Halted-clause-own g c = all_still c.args.board.now c.args.workers.now _ c.requires (returns-in-Halted-clause-worked g c)
+returns-in-Halted-clause-own g c =
+    all_still c.args.board.now c.args.workers.now _ c.requires (returns-in-Halted-clause-worked g c)
 
 pub returns-clause-worked : goal.returns-clause-worked
-returns-clause-worked g c = zip_worked c.args.workers.now c.loop-k.workers c.loop-k.invariant.count c.loop-k.invariant.worked
+returns-clause-worked g c = zip_worked c.args.workers.now c.loop-k.workers c.loop-k.invariant.count
+    c.loop-k.invariant.worked
 
 pub returns-clause-own : goal.returns-clause-own
-returns-clause-own g c = still_all_of c.args.board.now c.args.workers.now c.loop-k.workers c.loop-k.invariant.count c.requires c.loop-k.invariant.worked
+returns-clause-own g c = still_all_of c.args.board.now c.args.workers.now c.loop-k.workers c.loop-k.invariant.count
+    c.requires c.loop-k.invariant.worked
 
 pub returns-clause-ended : goal.returns-clause-ended
-returns-clause-ended g c = let past = c.loop-k-test.false in λ i d inside. c.loop-k.invariant.finished i d (omega (arith, past, inside))
+returns-clause-ended g c = let past = c.loop-k-test.false in
+    λ i d inside. c.loop-k.invariant.finished i d (omega (arith, past, inside))

@@ -9,5 +9,6 @@ returns-in-Flat-clause-response c =
     let t = c.args.task.now in
     let is = c.in-Flat.is in
     let flat : t.kind ≡ kinds.Flat = cc in
-    subst (λ (k : UnitKind). IsResponse (chosen_unit k t.thermal t.flat t.bid) (prices_of t.prices) c.best_flat.new.into) (sym flat)
+    subst (λ (k : UnitKind). IsResponse (chosen_unit k t.thermal t.flat t.bid) (prices_of t.prices)
+    c.best_flat.new.into) (sym flat)
     (record { fit = c.best_flat.ensures.least; earned = sym c.best_flat.ensures.earned })

@@ -7,13 +7,15 @@ pub post-requires-clause-fit : goal.post-requires-clause-fit
 post-requires-clause-fit g c =
     let held = c.index-held.result.now in
     let same : c.loop-k.worker.held.items ≡ c.args.worker.now.held.items = rw c.loop-k.invariant.held in
-    (answered_at c.args.worker.now c.args.answered c.loop-k.worker.held.items c.loop-k.k held c.requires.answered same c.loop-k-test.true c.index-held.ensures).fit
+    (answered_at c.args.worker.now c.args.answered c.loop-k.worker.held.items c.loop-k.k held c.requires.answered same
+    c.loop-k-test.true c.index-held.ensures).fit
 
 pub post-requires-clause-earned : goal.post-requires-clause-earned
 post-requires-clause-earned g c =
     let held = c.index-held.result.now in
     let same : c.loop-k.worker.held.items ≡ c.args.worker.now.held.items = rw c.loop-k.invariant.held in
-    (answered_at c.args.worker.now c.args.answered c.loop-k.worker.held.items c.loop-k.k held c.requires.answered same c.loop-k-test.true c.index-held.ensures).earned
+    (answered_at c.args.worker.now c.args.answered c.loop-k.worker.held.items c.loop-k.k held c.requires.answered same
+    c.loop-k-test.true c.index-held.ensures).earned
 
 pub loop-k-preserved : goal.loop-k-preserved
 loop-k-preserved g c =
@@ -23,7 +25,8 @@ loop-k-preserved g c =
     let seat = c.post.new.seat in
     let posted : HasWorked old (record old { seat = seat }) = record {
       board = c.post.ensures.board;
-      goes = post_goes _ held.task.proposal held.task.unit (prices_of held.task.prices) (task_unit held.task) (answer_of held.answer) (view_of old.seat) (view_of seat) c.post.ensures.call;
+      goes = post_goes _ held.task.proposal held.task.unit (prices_of held.task.prices) (task_unit held.task)
+          (answer_of held.answer) (view_of old.seat) (view_of seat) c.post.ensures.call;
       parts = parts_posted old seat c.post.ensures.board a.own.parts;
     } in
     record {

@@ -15,4 +15,6 @@ pub loop-init : goal.loop-init
 loop-init g c = (tt, tt, c.requires, rests c.args.worker.now c.requires.parts)
 
 pub returns-then-outcome-gt0-clause-worked : goal.returns-then-outcome-gt0-clause-worked
-returns-then-outcome-gt0-clause-worked g c = works_on c.args.worker.now c.loop.worker c.visit-outcome.new.worker c.loop.invariant.3 c.visit-outcome.ensures.worked
+returns-then-outcome-gt0-clause-worked g c =
+    works_on c.args.worker.now c.loop.worker c.visit-outcome.new.worker c.loop.invariant.3
+    c.visit-outcome.ensures.worked

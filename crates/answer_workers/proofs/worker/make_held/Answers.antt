@@ -1,4 +1,5 @@
-use Rattle.answer_workers.proofs.Common.{[], ◌∷◌, length, ap, subst, sym, arith, length-append, All, All-push, IsHeldFor, Held}
+use Rattle.answer_workers.proofs.Common.{[], ◌∷◌, length, ap, subst, sym, arith, length-append, All, All-push}
+use Rattle.answer_workers.proofs.Common.{IsHeldFor, Held}
 use Rattle.answer_workers.proofs.worker.make_held.Goals as goal
 
 pub loop-preserved : goal.loop-preserved
@@ -13,5 +14,6 @@ loop-preserved c =
     let same = c.push_reserved.ensures.capacity in record {
       count = omega (arith, long, more, count);
       room = omega (arith, room, same);
-      fits = λ m periods. subst (All (IsHeldFor m)) (sym pushed) (All-push (IsHeldFor m) c.loop.held.items held (a.fits m periods) (c.in_ok-make.ensures m periods));
+      fits = λ m periods. subst (All (IsHeldFor m)) (sym pushed)
+          (All-push (IsHeldFor m) c.loop.held.items held (a.fits m periods) (c.in_ok-make.ensures m periods));
     }

@@ -1,11 +1,17 @@
-use Rattle.audit_check.proofs.Common.{ℕ, ◌+◌, sym, ap, ◌∙◌, arith, min, w128, to_z-of_z, length-map, market_of, schedules_of, proposal_of, report_of}
+use Rattle.audit_check.proofs.Common.{ℕ, ◌+◌, sym, ap, ◌∙◌, arith, min, w128, to_z-of_z, length-map, market_of}
+use Rattle.audit_check.proofs.Common.{schedules_of, proposal_of, report_of}
 use Rattle.audit_check.proofs.audit.rows_right.Goals as goal
 
 pub jobs_for-requires-clause-schedules : goal.jobs_for-requires-clause-schedules
 jobs_for-requires-clause-schedules g c = (schedules_of c.args.plan.now, c.requires.feasible.feasible)
 
 pub right_rows-requires-clause-cost : goal.right_rows-requires-clause-cost
-right_rows-requires-clause-cost g c = λ κs out. (schedules_of c.args.plan.now, c.requires.feasible, rw (to_z-of_z w128 c.args.cost c.ranges.cost) (sym c.requires.cost))
+right_rows-requires-clause-cost g c =
+    λ κs out. (
+      schedules_of c.args.plan.now,
+      c.requires.feasible,
+      rw (to_z-of_z w128 c.args.cost c.ranges.cost) (sym c.requires.cost),
+    )
 
 pub right_rows-requires-clause-budget : goal.right_rows-requires-clause-budget
 unfolding report_of

@@ -3,6 +3,8 @@ use Rattle.audit_rows.proofs.row.begin_all.Given as goal
 
 abbrev pub invariant-loop-job : goal.invariant-loop-job
 invariant-loop-job l = record {
-  begun : (k : ℕ) (d : Answerer) → k < l.job-index → HasBegun (market_of l.case) (prices_of l.prices) (slice_index_or l.jobs k d);
-  waiting : (k : ℕ) (d : Answerer) → l.job-index ≤ k → k < length l.jobs → market_of (slice_index_or l.jobs k d).case.now ≡ market_of l.case;
+  begun : (k : ℕ) (d : Answerer) → k < l.job-index →
+      HasBegun (market_of l.case) (prices_of l.prices) (slice_index_or l.jobs k d);
+  waiting : (k : ℕ) (d : Answerer) → l.job-index ≤ k → k < length l.jobs →
+      market_of (slice_index_or l.jobs k d).case.now ≡ market_of l.case;
 }

@@ -1,9 +1,11 @@
-use Rattle.board_core.proofs.Common.{◌≡◌, ◌≤◌, ◌-◌, length, unit_count, prices_of, IsLedger, sums_of, fronts_of, IsRound, setup_of}
+use Rattle.board_core.proofs.Common.{◌≡◌, ◌≤◌, ◌-◌, length, unit_count, prices_of, IsLedger, sums_of, fronts_of}
+use Rattle.board_core.proofs.Common.{IsRound, setup_of}
 use Rattle.board_core.proofs.advance.advance.Given as goal
 
 abbrev pub invariant-loop-ledger : goal.invariant-loop-ledger
 invariant-loop-ledger l = record {
-  round : IsRound (setup_of l.terms) (unit_count (setup_of l.terms).market) l.counts (sums_of l.ledger) (fronts_of l.ledger);
+  round : IsRound (setup_of l.terms) (unit_count (setup_of l.terms).market) l.counts (sums_of l.ledger)
+      (fronts_of l.ledger);
   sums : sums_of l.ledger ≡ sums_of l.initial.ledger;
   ledger : IsLedger (setup_of l.terms) l.ledger;
   opened : l.initial.ledger.opened ≤ l.ledger.opened;

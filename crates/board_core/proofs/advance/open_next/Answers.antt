@@ -1,5 +1,9 @@
-use Rattle.board_core.proofs.Common.{◌≡◌, ◌≤◌, ℕ, List, true, get_or, length, map, take, sym, ap, subst, ◌∙◌, arith, All, IsRowBelow, length-map, length-take, not, IsFirstUpTo, is_last_settled, values_of, proposal_of, prices_of, Proposal, next_prices, blank, with_prices, fronts_of, is_due, setup_of}
-use Rattle.board_core.proofs.Lemmas.{IsWritten, due_says, opens_it, is_early, is_over, with_one, with_none, opened_fronts, opened_sums, opened_ledger}
+use Rattle.board_core.proofs.Common.{◌≡◌, ◌≤◌, ℕ, List, true, get_or, length, map, take, sym, ap, subst, ◌∙◌, arith}
+use Rattle.board_core.proofs.Common.{All, IsRowBelow, length-map, length-take, not, IsFirstUpTo, is_last_settled}
+use Rattle.board_core.proofs.Common.{values_of, proposal_of, prices_of, Proposal, next_prices, blank, with_prices}
+use Rattle.board_core.proofs.Common.{fronts_of, is_due, setup_of}
+use Rattle.board_core.proofs.Lemmas.{IsWritten, due_says, opens_it, is_early, is_over, with_one, with_none}
+use Rattle.board_core.proofs.Lemmas.{opened_fronts, opened_sums, opened_ledger}
 use Rattle.board_core.proofs.advance.open_next.Goals as goal
 
 pub propose-requires-clause-best : goal.propose-requires-clause-best
@@ -7,9 +11,19 @@ propose-requires-clause-best c =
     let l = c.args.ledger.now in
     let within = c.requires.ledger.closed in
     let counted = c.requires.ledger.count in
-    let taken : length (map proposal_of c.rows.result.now) ≡ length (take l.closed l.proposals) = ap (λ (ps : List Proposal). length ps) c.rows.ensures in
-    let rows : length c.rows.result.now ≡ l.closed = omega (arith, taken, length-map c.rows.result.now proposal_of, length-take l.closed l.proposals, within, counted) in
-    subst (λ (ps : List Proposal). IsFirstUpTo (values_of ps) (length c.rows.result.now) c.best.result) (sym c.rows.ensures)
+    let taken : length (map proposal_of c.rows.result.now) ≡ length (take l.closed l.proposals) =
+    ap (λ (ps : List Proposal). length ps) c.rows.ensures in
+    let rows : length c.rows.result.now ≡ l.closed =
+    omega (
+      arith,
+      taken,
+      length-map c.rows.result.now proposal_of,
+      length-take l.closed l.proposals,
+      within,
+      counted,
+    ) in
+    subst (λ (ps : List Proposal). IsFirstUpTo (values_of ps) (length c.rows.result.now) c.best.result)
+    (sym c.rows.ensures)
     (subst (λ (n : ℕ). IsFirstUpTo (values_of (take l.closed l.proposals)) n c.best.result) (sym rows) c.best.ensures)
 
 pub returns-then-not-is_due-clause-fronts : goal.returns-then-not-is_due-clause-fronts
@@ -28,7 +42,8 @@ returns-then-not-propose-clause-fronts c =
     let b = setup_of c.args.terms.now in
     let l = c.args.ledger.now in
     let due : is_due b l.closed l.opened ≡ true = sym c.is_due.ensures ∙ c.if-not-is_due.false in
-    let settled = ap (λ (xs : List Proposal). not (is_last_settled b.market b.cost xs)) (sym c.rows.ensures) ∙ sym c.propose.ensures.settled ∙ c.if-not-propose.true in
+    let settled = ap (λ (xs : List Proposal). not (is_last_settled b.market b.cost xs)) (sym c.rows.ensures) ∙
+    sym c.propose.ensures.settled ∙ c.if-not-propose.true in
     with_none b (fronts_of l) (is_over b l c.requires.ledger due settled)
 
 pub open-requires-clause-place : goal.open-requires-clause-place
@@ -45,7 +60,8 @@ open-requires-clause-horizon c = λ d.
     let l = c.args.ledger.now in
     let due : is_due b l.closed l.opened ≡ true = sym c.is_due.ensures ∙ c.if-not-is_due.false in
     let counted = c.requires.ledger.count in
-    c.propose.ensures.horizon ∙ sym (c.requires.ledger.horizon l.opened d (omega (arith, (due_says b l.closed l.opened due).1, counted)))
+    c.propose.ensures.horizon ∙
+    sym (c.requires.ledger.horizon l.opened d (omega (arith, (due_says b l.closed l.opened due).1, counted)))
 
 pub returns : goal.returns
 returns c =
@@ -59,16 +75,20 @@ returns c =
     let more = say.0 in
     let some = c.requires.setup.some_ahead in
     let before : l.closed ≤ l.opened = omega (arith, more, some) in
-    let W : IsWritten l l2 l.opened (with_prices (get_or l.proposals l.opened d) π) = record { proposals = c.open.ensures.proposals d; earned = c.open.ensures.earned } in
+    let W : IsWritten l l2 l.opened (with_prices (get_or l.proposals l.opened d) π) =
+    record { proposals = c.open.ensures.proposals d; earned = c.open.ensures.earned } in
     let settled = sym c.propose.ensures.settled ∙ c.if-not-propose.false in
     let free = ap (λ (xs : List Proposal). not (is_last_settled b.market b.cost xs)) (sym c.rows.ensures) ∙ settled in
     let next = c.propose.ensures.prices c.if-not-propose.false ∙ ap (next_prices b.market b.cost) c.rows.ensures in
     let opened = c.open.ensures.opened in
     record {
-      fronts = opened_fronts b l l2 c.requires.ledger π d say.1 before W c.open.ensures.closed opened c.propose.ensures.horizon
+      fronts = opened_fronts b l l2 c.requires.ledger π d say.1 before W c.open.ensures.closed opened
+          c.propose.ensures.horizon
           ∙ with_one b (fronts_of l) π (opens_it b l c.requires.ledger due free) next;
-      sums = opened_sums b l l2 c.requires.ledger π d say.1 before W c.open.ensures.closed opened c.propose.ensures.horizon;
-      ledger = opened_ledger b l l2 c.requires.ledger π d say.1 before W c.open.ensures.closed opened c.propose.ensures.horizon;
+      sums = opened_sums b l l2 c.requires.ledger π d say.1 before W c.open.ensures.closed opened
+          c.propose.ensures.horizon;
+      ledger = opened_ledger b l l2 c.requires.ledger π d say.1 before W c.open.ensures.closed opened
+          c.propose.ensures.horizon;
       closed = c.open.ensures.closed;
       opened = omega (arith, opened);
       horizon = c.propose.ensures.horizon;

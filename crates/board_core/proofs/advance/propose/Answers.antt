@@ -1,4 +1,5 @@
-use Rattle.board_core.proofs.Common.{rules, map, sym, subst, arith, FitsSigned, ints, to_z-of_z, length-map, w128, IsWorth, market_of, proposal_of, prices_of, setup_of}
+use Rattle.board_core.proofs.Common.{rules, map, sym, subst, arith, FitsSigned, ints, to_z-of_z, length-map, w128}
+use Rattle.board_core.proofs.Common.{IsWorth, market_of, proposal_of, prices_of, setup_of}
 use Rattle.board_core.proofs.Lemmas.{moved_over}
 use Rattle.board_core.proofs.advance.propose.Goals as goal
 
@@ -9,7 +10,8 @@ next_prices_from-moved-requires-clause-cost c =
     let b = setup_of c.args.terms.now in
     let sum = c.plan_costs_are_within.ensures b.market b.plan S.market S.feasible in
     let low = sum.at_least in let high = sum.at_most in let same = S.cost in
-    let worth : IsWorth b.cost = record { at_least = omega (arith, ints, low, same); at_most = omega (arith, ints, high, same) } in
+    let worth : IsWorth b.cost =
+    record { at_least = omega (arith, ints, low, same); at_most = omega (arith, ints, high, same) } in
     subst IsWorth (sym (to_z-of_z w128 c.args.terms.now.cost f)) worth
 
 pub returns-clause-horizon : goal.returns-clause-horizon
@@ -17,5 +19,7 @@ returns-clause-horizon c =
     let f : FitsSigned w128 c.args.terms.now.cost = search rules in
     let some = c.requires.best.within in
     let made = simp to_z-of_z at c.next_prices_from-moved.ensures.made in
-    moved_over c.next_prices_from-moved.result (market_of c.args.terms.now.case) c.args.terms.now.cost (map proposal_of c.args.rows.now) (prices_of c.next_prices_from-moved.new.into) (prices_of c.args.into.now)
-    made c.next_prices_from-moved.ensures.unchanged (omega (arith, some, length-map c.args.rows.now proposal_of)) c.requires.horizon
+    moved_over c.next_prices_from-moved.result (market_of c.args.terms.now.case) c.args.terms.now.cost
+    (map proposal_of c.args.rows.now) (prices_of c.next_prices_from-moved.new.into) (prices_of c.args.into.now)
+    made c.next_prices_from-moved.ensures.unchanged (omega (arith, some, length-map c.args.rows.now proposal_of))
+    c.requires.horizon

@@ -1,4 +1,6 @@
-use Rattle.board_core.proofs.Common.{◌≡◌, suc, ◌+◌, length, get_or, sym, ap, ◌∙◌, subst, arith, set, length-map, PriceLists, prices_of, opening_prices_of, LedgerValue, blank, with_prices, with_opening, with_openings}
+use Rattle.board_core.proofs.Common.{◌≡◌, suc, ◌+◌, length, get_or, sym, ap, ◌∙◌, subst, arith, set, length-map}
+use Rattle.board_core.proofs.Common.{PriceLists, prices_of, opening_prices_of, LedgerValue, blank, with_prices}
+use Rattle.board_core.proofs.Common.{with_opening, with_openings}
 use Rattle.board_core.proofs.Lemmas.{IsOpened, opened, same_ledger}
 use Rattle.board_core.proofs.opening.open_first.Goals as goal
 
@@ -13,7 +15,8 @@ open-requires-clause-place c =
     let within = c.requires.within in
     let old : IsOpened start B k l =
     subst (IsOpened start B k) (sym c.loop-k.invariant.ledger)
-    (subst (λ (z : LedgerValue). IsOpened start B k (with_openings start z k)) (sym c.requires.blank) (opened start B k (omega (arith, test, within)))) in
+    (subst (λ (z : LedgerValue). IsOpened start B k (with_openings start z k)) (sym c.requires.blank)
+    (opened start B k (omega (arith, test, within)))) in
     let n = old.count in
     let o = old.opened in
     omega (arith, n, o, test, within)
@@ -29,7 +32,8 @@ open-requires-clause-horizon c =
     let within = c.requires.within in
     let old : IsOpened start B k l =
     subst (IsOpened start B k) (sym c.loop-k.invariant.ledger)
-    (subst (λ (z : LedgerValue). IsOpened start B k (with_openings start z k)) (sym c.requires.blank) (opened start B k (omega (arith, test, within)))) in
+    (subst (λ (z : LedgerValue). IsOpened start B k (with_openings start z k)) (sym c.requires.blank)
+    (opened start B k (omega (arith, test, within)))) in
     let n = old.count in
     let o = old.opened in
     λ d.
@@ -47,14 +51,16 @@ loop-k-preserved c =
     let within = c.requires.within in
     let old : IsOpened start B k l =
     subst (IsOpened start B k) (sym c.loop-k.invariant.ledger)
-    (subst (λ (z : LedgerValue). IsOpened start B k (with_openings start z k)) (sym c.requires.blank) (opened start B k (omega (arith, test, within)))) in
+    (subst (λ (z : LedgerValue). IsOpened start B k (with_openings start z k)) (sym c.requires.blank)
+    (opened start B k (omega (arith, test, within)))) in
     let n = old.count in
     let o = old.opened in
     let new = c.open.new.self in
     let π = prices_of c.opening_prices.new.into in
     let e : k + 1 ≡ suc k = omega arith in
     let same : new ≡ with_opening π l =
-    same_ledger new.proposals (set l.proposals l.opened (with_prices (get_or l.proposals l.opened (blank 0)) π)) new.earned l.earned new.closed l.closed new.opened (l.opened + 1)
+    same_ledger new.proposals (set l.proposals l.opened (with_prices (get_or l.proposals l.opened (blank 0)) π))
+    new.earned l.earned new.closed l.closed new.opened (l.opened + 1)
     (c.open.ensures.proposals (blank 0)) c.open.ensures.earned c.open.ensures.closed c.open.ensures.opened in
     record {
       ledger = same

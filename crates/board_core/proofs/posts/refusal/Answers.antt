@@ -1,7 +1,10 @@
-use Rattle.board_core.proofs.Common.{◌≡◌, ◌⊎◌, inl, inr, ℕ, ◌-◌, ◌<◌, ◌≤◌, length, sym, ap, ◌∙◌, subst, arith, differs_from, unit_count, task_unit, prices_of, task_number, own_prices_in, held_refusal, setup_of}
+use Rattle.board_core.proofs.Common.{◌≡◌, ◌⊎◌, inl, inr, ℕ, ◌-◌, ◌<◌, ◌≤◌, length, sym, ap, ◌∙◌, subst, arith}
+use Rattle.board_core.proofs.Common.{differs_from, unit_count, task_unit, prices_of, task_number, own_prices_in}
+use Rattle.board_core.proofs.Common.{held_refusal, setup_of}
 use Rattle.board_core.proofs.Lemmas.{differing, not_differing, unopened, no_unit, past_tests}
 use Rattle.board_core.proofs.posts.refusal.Goals as goal
-use Rattle.board_core.proofs.posts.refusal.Goals.{then-task-eq0-via-then-task-eq0, then-task-eq0-via-else-task-eq0+then-opened-task}
+use Rattle.board_core.proofs.posts.refusal.Goals.{then-task-eq0-via-then-task-eq0}
+use Rattle.board_core.proofs.posts.refusal.Goals.{then-task-eq0-via-else-task-eq0+then-opened-task}
 
 pub returns-in-Some-clause-refused : goal.returns-in-Some-clause-refused
 returns-in-Some-clause-refused c =
@@ -16,8 +19,11 @@ returns-in-Some-clause-refused c =
     let o = c.opened-opened.ensures in
     let early = c.if-opened-task.false in
     let within : n ≤ l.opened = omega (arith, o, early) in
-    let inside : u < unit_count b.market = subst (λ (m : ℕ). u < m) c.unit_count-units.ensures.value c.if-units-task.false in
-    differing (differs_from b u ρ v (own_prices_in l n)) c.in-Some.differs (held_refusal c.args.marks.now c.args.takers.now (task_number (unit_count b.market) n u) c.args.caller) (sym c.content.ensures.differs ∙ c.in-Some.is)
+    let inside : u < unit_count b.market =
+    subst (λ (m : ℕ). u < m) c.unit_count-units.ensures.value c.if-units-task.false in
+    differing (differs_from b u ρ v (own_prices_in l n)) c.in-Some.differs
+    (held_refusal c.args.marks.now c.args.takers.now (task_number (unit_count b.market) n u) c.args.caller)
+    (sym c.content.ensures.differs ∙ c.in-Some.is)
     ∙ sym (past_tests b l c.args.marks.now c.args.takers.now c.args.caller n u ρ v one within inside)
 
 pub refusal_at-requires-clause-marks : goal.refusal_at-requires-clause-marks
@@ -33,7 +39,8 @@ refusal_at-requires-clause-marks c =
     let o = c.opened-opened.ensures in
     let early = c.if-opened-task.false in
     let within : n ≤ l.opened = omega (arith, o, early) in
-    let inside : u < unit_count b.market = subst (λ (m : ℕ). u < m) c.unit_count-units.ensures.value c.if-units-task.false in
+    let inside : u < unit_count b.market =
+    subst (λ (m : ℕ). u < m) c.unit_count-units.ensures.value c.if-units-task.false in
     let i = c.task_number-at.ensures ∙ ap (λ (m : ℕ). task_number m n u) c.unit_count-units.ensures.value in
     subst (λ (j : ℕ). j < length c.args.marks.now) (sym i) (c.requires.marks n u one within inside)
 
@@ -50,10 +57,13 @@ returns-clause-refused c =
     let o = c.opened-opened.ensures in
     let early = c.if-opened-task.false in
     let within : n ≤ l.opened = omega (arith, o, early) in
-    let inside : u < unit_count b.market = subst (λ (m : ℕ). u < m) c.unit_count-units.ensures.value c.if-units-task.false in
+    let inside : u < unit_count b.market =
+    subst (λ (m : ℕ). u < m) c.unit_count-units.ensures.value c.if-units-task.false in
     let i = c.task_number-at.ensures ∙ ap (λ (m : ℕ). task_number m n u) c.unit_count-units.ensures.value in
     c.refusal_at.ensures ∙ ap (λ (j : ℕ). held_refusal c.args.marks.now c.args.takers.now j c.args.caller) i
-    ∙ sym (not_differing (differs_from b u ρ v (own_prices_in l n)) (held_refusal c.args.marks.now c.args.takers.now (task_number (unit_count b.market) n u) c.args.caller) (sym c.content.ensures.differs ∙ c.in_default.is))
+    ∙ sym (not_differing (differs_from b u ρ v (own_prices_in l n))
+    (held_refusal c.args.marks.now c.args.takers.now (task_number (unit_count b.market) n u) c.args.caller)
+    (sym c.content.ensures.differs ∙ c.in_default.is))
     ∙ sym (past_tests b l c.args.marks.now c.args.takers.now c.args.caller n u ρ v one within inside)
 
 pub returns-then-task-eq0-clause-refused : goal.returns-then-task-eq0-clause-refused
@@ -64,14 +74,18 @@ returns-then-task-eq0-clause-refused c =
       | then-task-eq0-via-then-task-eq0 w ↦ inl w.if-task-eq0.true
       | then-task-eq0-via-else-task-eq0+then-opened-task w ↦ inr w.if-opened-task.true
     ] in
-    unopened b c.args.ledger.now c.args.marks.now c.args.takers.now c.args.caller t.proposal t.unit (prices_of t.prices) (task_unit t) c.opened-opened.result c.opened-opened.ensures early
+    unopened b c.args.ledger.now c.args.marks.now c.args.takers.now c.args.caller t.proposal t.unit (prices_of t.prices)
+    (task_unit t) c.opened-opened.result c.opened-opened.ensures early
 
 pub returns-then-units-task-clause-refused : goal.returns-then-units-task-clause-refused
 returns-then-units-task-clause-refused c =
     let b = setup_of c.args.terms.now in
     let t = c.args.task.now in
-    no_unit b c.args.ledger.now c.args.marks.now c.args.takers.now c.args.caller t.proposal t.unit (prices_of t.prices) (task_unit t) c.unit_count-units.result
-    (omega (arith, c.if-task-eq0.false)) (omega (arith, c.if-opened-task.false, c.opened-opened.ensures)) c.unit_count-units.ensures.value c.if-units-task.true
+    no_unit b c.args.ledger.now c.args.marks.now c.args.takers.now c.args.caller t.proposal t.unit (prices_of t.prices)
+    (task_unit t) c.unit_count-units.result
+    (omega (arith, c.if-task-eq0.false)) (omega (arith, c.if-opened-task.false, c.opened-opened.ensures))
+    c.unit_count-units.ensures.value c.if-units-task.true
 
 pub content-requires-clause-horizon : goal.content-requires-clause-horizon
-content-requires-clause-horizon c = λ d. c.requires.horizon (c.args.task.now.proposal - 1) d (omega (arith, c.if-task-eq0.false, c.if-opened-task.false, c.opened-opened.ensures))
+content-requires-clause-horizon c = λ d. c.requires.horizon (c.args.task.now.proposal - 1) d
+    (omega (arith, c.if-task-eq0.false, c.if-opened-task.false, c.opened-opened.ensures))

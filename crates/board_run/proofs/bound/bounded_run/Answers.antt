@@ -1,4 +1,5 @@
-use Rattle.board_run.proofs.Common.{rules, ◌*◌, length, length-replicate, ap, sym, ◌∙◌, subst, w64, to_z-of_z, Setup, IsEnded}
+use Rattle.board_run.proofs.Common.{rules, ◌*◌, length, length-replicate, ap, sym, ◌∙◌, subst, w64, to_z-of_z, Setup}
+use Rattle.board_run.proofs.Common.{IsEnded}
 use Rattle.board_run.proofs.bound.bounded_run.Goals as goal
 
 pub returns : goal.returns
@@ -13,4 +14,5 @@ pub certify-certified-requires-clause-finished : goal.certify-certified-requires
 certify-certified-requires-clause-finished g c = c.run_board-done.ensures.settled.finished
 
 pub certify-certified-requires-clause-work : goal.certify-certified-requires-clause-work
-certify-certified-requires-clause-work g c = ap length c.in_ok-work.ensures ∙ length-replicate _ _ ∙ ap (λ (b : Setup). 2 * b.market.periods) (sym (c.run_board-done.ensures.setup ∙ c.in_ok-opened.ensures))
+certify-certified-requires-clause-work g c = ap length c.in_ok-work.ensures ∙ length-replicate _ _ ∙
+    ap (λ (b : Setup). 2 * b.market.periods) (sym (c.run_board-done.ensures.setup ∙ c.in_ok-opened.ensures))

@@ -43,7 +43,8 @@ loop-preserved c =
     let same = p.capacity in
     record {
       hired =
-          hired_again b c.args.board.now l.owner c.split.new.seat c.in-Some.seat l.counter l.workers.items _ c.in_ok-make.field-0 l.invariant.hired split.board split.given split.owner made.seat
+          hired_again b c.args.board.now l.owner c.split.new.seat c.in-Some.seat l.counter l.workers.items _
+          c.in_ok-make.field-0 l.invariant.hired split.board split.given split.owner made.seat
           (made.parts b.market c.requires.horizon c.requires.points) p.items;
       room = omega (arith, room, same);
     }
@@ -64,6 +65,8 @@ returns c =
     let last = c.loop.auto.counter-end c.requires.some in
     record {
       crew =
-          crew_all b c.args.board.now c.loop.owner c.loop.counter c.loop.workers.items _ c.in_ok-make-2.field-0 (omega (arith, callers, last)) c.loop.invariant.hired made.seat (made.parts b.market c.requires.horizon c.requires.points)
+          crew_all b c.args.board.now c.loop.owner c.loop.counter c.loop.workers.items _ c.in_ok-make-2.field-0
+          (omega (arith, callers, last)) c.loop.invariant.hired made.seat
+          (made.parts b.market c.requires.horizon c.requires.points)
           c.push_reserved-2.ensures.items;
     }

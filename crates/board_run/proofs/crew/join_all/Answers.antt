@@ -1,4 +1,5 @@
-use Rattle.board_run.proofs.Common.{rules, ◌≡◌, List, [], ◌∷◌, ◌++◌, Some, refl, All-pop, ap, ◌∙◌, subst, View, Worker, AreOut}
+use Rattle.board_run.proofs.Common.{rules, ◌≡◌, List, [], ◌∷◌, ◌++◌, Some, refl, All-pop, ap, ◌∙◌, subst, View, Worker}
+use Rattle.board_run.proofs.Common.{AreOut}
 use Rattle.board_run.specs.Crews.{IsCalmWorker}
 use Rattle.board_run.proofs.Lemmas.{join_one}
 use Rattle.board_run.proofs.crew.join_all.Goals as goal
@@ -9,7 +10,8 @@ loop-worker-preserved c =
     let board = c.args.board.now in
     let out = subst (λ (ws : List Worker). AreOut board l.owner ws) c.in-Some.ensures.items l.invariant.0 in
     let join = c.join.ensures in (
-      join_one board l.owner c.join.new.seat c.pop.new.self.items c.in-Some.worker out join.board.0 join.board.1 (ap (λ (v : View). v.out) join.view) join.joined,
+      join_one board l.owner c.join.new.seat c.pop.new.self.items c.in-Some.worker out join.board.0 join.board.1
+          (ap (λ (v : View). v.out) join.view) join.joined,
       join.board.0.1 ∙ l.invariant.1,
     )
 
@@ -23,5 +25,6 @@ join-requires c =
     let l = c.loop-worker in
     let rest = c.pop.new.self.items in
     let out = subst (λ (ws : List Worker). AreOut c.args.board.now l.owner ws) c.in-Some.ensures.items l.invariant.0 in
-    let mine = (All-pop (IsCalmWorker l.owner) (rest ++ c.in-Some.worker ∷ []) rest (Some c.in-Some.worker) refl out.others).1 in
+    let mine = (All-pop (IsCalmWorker l.owner) (rest ++ c.in-Some.worker ∷ []) rest (Some c.in-Some.worker) refl
+    out.others).1 in
     record { own = (out.own.0, out.own.1, mine.same) }

@@ -9,6 +9,8 @@ returns g c =
       setup = e.setup ∙ named;
       row = c.settle_chosen.ensures.0;
       settled = c.settle_chosen.ensures.1;
-      buffer = subst (λ (b : Setup). length (schedule_of c.run.inside.buffer.response).on ≡ b.market.periods) named c.run.invariant.1.horizon;
-      bench = subst (λ (b : Setup). IsBenchOver b.market c.answer_board-closed.result.1) named (bench_over (named_by c.run.inside.workers.items).market c.answer_board-closed.result.1 e.bench);
+      buffer = subst (λ (b : Setup). length (schedule_of c.run.inside.buffer.response).on ≡ b.market.periods) named
+          c.run.invariant.1.horizon;
+      bench = subst (λ (b : Setup). IsBenchOver b.market c.answer_board-closed.result.1) named
+          (bench_over (named_by c.run.inside.workers.items).market c.answer_board-closed.result.1 e.bench);
     }

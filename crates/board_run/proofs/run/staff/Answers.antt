@@ -1,4 +1,5 @@
-use Rattle.board_run.proofs.Common.{◌≡◌, sym, ap, ◌∙◌, length, subst, ◌≤◌, All, Setup, Content, view_of, View, NamedThermalUnit, IsCrew, setup_of}
+use Rattle.board_run.proofs.Common.{◌≡◌, sym, ap, ◌∙◌, length, subst, ◌≤◌, All, Setup, Content, view_of, View}
+use Rattle.board_run.proofs.Common.{NamedThermalUnit, IsCrew, setup_of}
 use Rattle.board_run.proofs.run.staff.Goals as goal
 
 pub hire-requires-clause-points : goal.hire-requires-clause-points

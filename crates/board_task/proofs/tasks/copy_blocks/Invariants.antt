@@ -6,5 +6,6 @@ abbrev pub invariant-loop-k : goal.invariant-loop-k
 invariant-loop-k l = record {
   count : length l.into.items ≡ length l.from.items;
   room : All (λ bs. 8 ≤ room_of bs) l.into.items;
-  so_far : (k : ℕ) (d : Reserved Block) → k < l.k → items_in (get_or l.into.items k d) ≡ items_in (get_or l.from.items k d);
+  so_far : (k : ℕ) (d : Reserved Block) → k < l.k →
+      items_in (get_or l.into.items k d) ≡ items_in (get_or l.from.items k d);
 }

@@ -1,4 +1,5 @@
-use Rattle.case_answers.proofs.Common.{◌≡◌, ◌<◌, ◌≤◌, List, length, get_or, refl, ap, subst, arith, slice_get_read, NamedUnit}
+use Rattle.case_answers.proofs.Common.{◌≡◌, ◌<◌, ◌≤◌, List, length, get_or, refl, ap, subst, arith, slice_get_read}
+use Rattle.case_answers.proofs.Common.{NamedUnit}
 use Rattle.case_answers.proofs.Lemmas.{greater, greater_within, few_more, all_few}
 use Rattle.case_answers.proofs.bench.most_points.Goals as goal
 
@@ -18,12 +19,15 @@ loop-named-preserved c =
     let most = greater c.loop-named.most c.len.result c.max-most.result c.max-most.ensures in
     let second = most.1 in
     record {
-      limit = greater_within c.loop-named.most c.len.result c.max-most.result 32 c.max-most.ensures c.loop-named.invariant.limit (omega (arith, count, few));
-      each = few_more units k c.loop-named.most c.max-most.result u at most.0 (omega (arith, second, count)) c.loop-named.invariant.each;
+      limit = greater_within c.loop-named.most c.len.result c.max-most.result 32 c.max-most.ensures
+          c.loop-named.invariant.limit (omega (arith, count, few));
+      each = few_more units k c.loop-named.most c.max-most.result u at most.0 (omega (arith, second, count))
+          c.loop-named.invariant.each;
     }
 
 pub returns-clause-each : goal.returns-clause-each
 returns-clause-each c =
     let past = c.loop-named-test.false in
     let lengths = ap (length {A = NamedUnit}) c.as_slice-named-items.ensures in
-    all_few c.args.case.now.thermal.items c.loop-named.named-index c.loop-named.most (omega (arith, past, lengths)) c.loop-named.invariant.each
+    all_few c.args.case.now.thermal.items c.loop-named.named-index c.loop-named.most (omega (arith, past, lengths))
+    c.loop-named.invariant.each

@@ -14,7 +14,8 @@ loop-number-preserved c =
     let spare = c.push.ensures.spare in
     record {
       tops = tops_pushed m π number c.loop-number.into.items c.push.new.self.items at.unit a.earned
-          c.loop-number.invariant.tops at.is (answer_top m π number c.answer_at.result a at) (rw (to_z-of_z w64 a.earned (search rules)) at c.push.ensures.items);
+          c.loop-number.invariant.tops at.is (answer_top m π number c.answer_at.result a at)
+          (rw (to_z-of_z w64 a.earned (search rules)) at c.push.ensures.items);
       bench = c.answer_at.ensures.bench;
       buffer = c.answer_at.ensures.into;
       room = omega (arith, room, spare);

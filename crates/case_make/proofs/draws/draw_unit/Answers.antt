@@ -3,7 +3,8 @@ use Rattle.case_make.proofs.Lemmas.{word_after, one_more}
 use Rattle.case_make.proofs.draws.draw_unit.Goals as goal
 
 -- a draw after so many words
-later : (low high a x : ℕ) (g h : Lcg) → h ≡ moved_on a g → x ≡ draw low high (word_at h 0) → x ≡ draw low high (word_at g (a + 0))
+later : (low high a x : ℕ) (g h : Lcg) → h ≡ moved_on a g → x ≡ draw low high (word_at h 0) →
+    x ≡ draw low high (word_at g (a + 0))
 later low high a x g h e is = is ∙ ap (draw low high) (word_after a g h e)
 
 pub returns-clause-draws : goal.returns-clause-draws

@@ -1,5 +1,7 @@
-use Rattle.case_make.proofs.Common.{◌+◌, ◌*◌, ap, sym, subst, map, arith, append-nil, named_renewable_of, IsSmall, plan_of, named_renewable, renewable_plan, renewable_units, renewable_plans}
-use Rattle.case_make.proofs.Lemmas.{renewable_named, renewable_planned, pushed_after, viewed, grown_small, not_moved, then_moved}
+use Rattle.case_make.proofs.Common.{◌+◌, ◌*◌, ap, sym, subst, map, arith, append-nil, named_renewable_of, IsSmall}
+use Rattle.case_make.proofs.Common.{plan_of, named_renewable, renewable_plan, renewable_units, renewable_plans}
+use Rattle.case_make.proofs.Lemmas.{renewable_named, renewable_planned, pushed_after, viewed, grown_small, not_moved}
+use Rattle.case_make.proofs.Lemmas.{then_moved}
 use Rattle.case_make.proofs.make.add_renewables.Goals as goal
 
 pub loop-j-init : goal.loop-j-init
@@ -15,7 +17,8 @@ loop-j-init c = record {
 
 pub add_flat-requires-clause-small : goal.add_flat-requires-clause-small
 add_flat-requires-clause-small c =
-    subst (IsSmall 100000000) (sym c.loop-j.invariant.planned) (grown_small _ c.args.random.now 0 c.loop-j.j c.requires.small (omega arith))
+    subst (IsSmall 100000000) (sym c.loop-j.invariant.planned)
+    (grown_small _ c.args.random.now 0 c.loop-j.j c.requires.small (omega arith))
 
 pub loop-j-preserved : goal.loop-j-preserved
 unfolding renewable_units renewable_plans
@@ -25,8 +28,10 @@ loop-j-preserved c =
     let kept = c.loop-j.invariant in
     let next = c.in_ok-unit.ensures in
     record {
-      named = viewed named_renewable_of (named_renewable g 0) j _ _ _ c.push.ensures.items kept.named (renewable_named j g c.loop-j.random _ kept.moved next.unit);
-      planned = pushed_after (renewable_plan g 0) j (plan_of c.args.plan.now) _ _ _ next.plan kept.planned (renewable_planned j g c.loop-j.random kept.moved);
+      named = viewed named_renewable_of (named_renewable g 0) j _ _ _ c.push.ensures.items kept.named
+          (renewable_named j g c.loop-j.random _ kept.moved next.unit);
+      planned = pushed_after (renewable_plan g 0) j (plan_of c.args.plan.now) _ _ _ next.plan kept.planned
+          (renewable_planned j g c.loop-j.random kept.moved);
       summed = next.summed;
       moved = then_moved (49 * j) 49 (49 * (j + 1)) g _ _ kept.moved next.moved (omega arith);
       room = omega (arith, kept.room, c.push.ensures.spare);

@@ -1,4 +1,5 @@
-use Rattle.case_make.proofs.Common.{◌≡◌, ◌+◌, ◌*◌, ◌≤◌, ◌++◌, map, named_renewable_of, plan_of, IsSummed, renewable_units, renewable_plans, moved_on}
+use Rattle.case_make.proofs.Common.{◌≡◌, ◌+◌, ◌*◌, ◌≤◌, ◌++◌, map, named_renewable_of, plan_of, IsSummed}
+use Rattle.case_make.proofs.Common.{renewable_units, renewable_plans, moved_on}
 use Rattle.case_make.proofs.make.add_renewables.Given as goal
 
 abbrev pub invariant-loop-j : goal.invariant-loop-j

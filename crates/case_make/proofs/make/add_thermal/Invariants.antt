@@ -1,4 +1,5 @@
-use Rattle.case_make.proofs.Common.{◌≡◌, ◌+◌, ◌*◌, ◌≤◌, map, named_thermal_of, plan_of, IsSummed, thermal_units, thermal_plan, moved_on}
+use Rattle.case_make.proofs.Common.{◌≡◌, ◌+◌, ◌*◌, ◌≤◌, map, named_thermal_of, plan_of, IsSummed, thermal_units}
+use Rattle.case_make.proofs.Common.{thermal_plan, moved_on}
 use Rattle.case_make.proofs.make.add_thermal.Given as goal
 
 abbrev pub invariant-loop-i : goal.invariant-loop-i

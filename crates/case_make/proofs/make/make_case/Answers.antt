@@ -1,4 +1,5 @@
-use Rattle.case_make.proofs.Common.{ap, sym, ◌∙◌, subst, map, arith, IsMarket, named_bid_of, IsSmall, market_from, plan_from, start_of}
+use Rattle.case_make.proofs.Common.{ap, sym, ◌∙◌, subst, map, arith, IsMarket, named_bid_of, IsSmall, market_from}
+use Rattle.case_make.proofs.Common.{plan_from, start_of}
 use Rattle.case_make.proofs.MadeLaws.{plan_made, demand_made, requirement_made, market_made, reserve_low}
 use Rattle.case_make.proofs.MarketLaws.{feasible_for, made_limited, plan_small}
 use Rattle.case_make.proofs.Lemmas.{thermal_small}
@@ -21,8 +22,11 @@ invariant_of-case c =
     let sums = c.in_ok-flat.ensures.summed in
     let plan = plan_made g _ _ _ c.in_ok-thermal.ensures.plan c.in_ok-flat.ensures.plan moved in
     record {
-      valid = subst IsMarket (sym (market_made g _ _ _ _ _ _ _ plan moved (demand_made _ _ _ sums) (requirement_made _ _ _ _ sums c.in_ok-reserves.ensures)
-          c.in_ok-thermal.ensures.units c.in_ok-flat.ensures.units (ap (map named_bid_of) c.in_ok-bids.ensures.empty))) (made_limited g);
+      valid = subst IsMarket
+          (sym (market_made g _ _ _ _ _ _ _ plan moved (demand_made _ _ _ sums)
+          (requirement_made _ _ _ _ sums c.in_ok-reserves.ensures)
+          c.in_ok-thermal.ensures.units c.in_ok-flat.ensures.units (ap (map named_bid_of) c.in_ok-bids.ensures.empty)))
+          (made_limited g);
     }
 
 pub returns-clause-case : goal.returns-clause-case
@@ -32,14 +36,16 @@ returns-clause-case c =
     let moved = c.in_ok-thermal.ensures.moved in
     let sums = c.in_ok-flat.ensures.summed in
     let plan = plan_made g _ _ _ c.in_ok-thermal.ensures.plan c.in_ok-flat.ensures.plan moved in
-    market_made g _ _ _ _ _ _ _ plan moved (demand_made _ _ _ sums) (requirement_made _ _ _ _ sums c.in_ok-reserves.ensures)
+    market_made g _ _ _ _ _ _ _ plan moved (demand_made _ _ _ sums)
+    (requirement_made _ _ _ _ sums c.in_ok-reserves.ensures)
     c.in_ok-thermal.ensures.units c.in_ok-flat.ensures.units (ap (map named_bid_of) c.in_ok-bids.ensures.empty)
     ∙ ap market_from c.new-random.ensures
 
 pub returns-clause-plan : goal.returns-clause-plan
 unfolding start_of
 returns-clause-plan c =
-    plan_made c.new-random.result _ _ _ c.in_ok-thermal.ensures.plan c.in_ok-flat.ensures.plan c.in_ok-thermal.ensures.moved ∙ ap plan_from c.new-random.ensures
+    plan_made c.new-random.result _ _ _ c.in_ok-thermal.ensures.plan c.in_ok-flat.ensures.plan
+    c.in_ok-thermal.ensures.moved ∙ ap plan_from c.new-random.ensures
 
 pub returns-clause-feasible : goal.returns-clause-feasible
 returns-clause-feasible c =
@@ -47,6 +53,7 @@ returns-clause-feasible c =
     let moved = c.in_ok-thermal.ensures.moved in
     let sums = c.in_ok-flat.ensures.summed in
     let plan = plan_made g _ _ _ c.in_ok-thermal.ensures.plan c.in_ok-flat.ensures.plan moved in
-    let market = market_made g _ _ _ _ _ _ _ plan moved (demand_made _ _ _ sums) (requirement_made _ _ _ _ sums c.in_ok-reserves.ensures)
+    let market = market_made g _ _ _ _ _ _ _ plan moved (demand_made _ _ _ sums)
+    (requirement_made _ _ _ _ sums c.in_ok-reserves.ensures)
     c.in_ok-thermal.ensures.units c.in_ok-flat.ensures.units (ap (map named_bid_of) c.in_ok-bids.ensures.empty) in
     feasible_for g _ _ market plan

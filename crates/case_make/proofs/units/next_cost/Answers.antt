@@ -3,7 +3,8 @@ use Rattle.case_make.proofs.Lemmas.{at_rises, at_most, max_range, cost_range}
 use Rattle.case_make.proofs.units.next_cost.Goals as goal
 
 pub overflow_sub-width : goal.overflow_sub-width
-overflow_sub-width c = let r = at_rises c.args.draws.now c.args.place (c.args.place + 1) (omega arith) in omega (arith, r)
+overflow_sub-width c = let r = at_rises c.args.draws.now c.args.place (c.args.place + 1) (omega arith) in
+    omega (arith, r)
 
 pub overflow_add-result : goal.overflow_add-result
 overflow_add-result c =

@@ -1,4 +1,5 @@
-use Rattle.case_make.proofs.Common.{◌+◌, [], ◌∷◌, ◌++◌, List, map, ap, sym, ◌∙◌, arith, map-range_with_len_more, range_with_len, Point, point_of}
+use Rattle.case_make.proofs.Common.{◌+◌, [], ◌∷◌, ◌++◌, List, map, ap, sym, ◌∙◌, arith, map-range_with_len_more}
+use Rattle.case_make.proofs.Common.{range_with_len, Point, point_of}
 use Rattle.case_make.proofs.units.points.Goals as goal
 
 pub loop-place-preserved : goal.loop-place-preserved

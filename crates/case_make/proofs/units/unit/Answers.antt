@@ -20,7 +20,8 @@ invariant_of-result c =
           (kept _ _ _ c.from-5.ensures limit (omega (arith, r)))
           (kept _ _ _ c.from-6.ensures limit (omega (arith, r)))
           (kept _ _ _ c.from-7.ensures c.first_power.ensures (first_power_low d c.requires))
-          c.is_on.ensures c.first_up.ensures c.first_down.ensures c.in_ok-lags.ensures c.in_ok-points.ensures c.in_ok-window.ensures))
+          c.is_on.ensures c.first_up.ensures c.first_down.ensures c.in_ok-lags.ensures c.in_ok-points.ensures
+          c.in_ok-window.ensures))
           (unit_limited d c.requires);
     }
 
@@ -37,4 +38,5 @@ returns c =
     (kept _ _ _ c.from-5.ensures limit (omega (arith, r)))
     (kept _ _ _ c.from-6.ensures limit (omega (arith, r)))
     (kept _ _ _ c.from-7.ensures c.first_power.ensures (first_power_low d c.requires))
-    c.is_on.ensures c.first_up.ensures c.first_down.ensures c.in_ok-lags.ensures c.in_ok-points.ensures c.in_ok-window.ensures
+    c.is_on.ensures c.first_up.ensures c.first_down.ensures c.in_ok-lags.ensures c.in_ok-points.ensures
+    c.in_ok-window.ensures

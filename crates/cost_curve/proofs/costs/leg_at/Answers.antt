@@ -17,7 +17,8 @@ walk-init c =
     record {
       within = lt;
       price = neg_ℤ (pos 20000000000001);
-      vertex = IsVertex-start (point_at ps i) ps (are.points i no_point lt) (λ k k_in. are.points k no_point k_in) start;
+      vertex = IsVertex-start (point_at ps i) ps (are.points i no_point lt) (λ k k_in. are.points k no_point k_in)
+          start;
       reached = omega (arith, ints, low, first);
     }
 
@@ -29,6 +30,8 @@ walk-preserved c =
     record {
       within = lead.within;
       price = c.in-Some.edge.slope.price;
-      vertex = IsVertex-next (point_at c.args.points.now c.walk.from) c.args.points.now (point_at c.args.points.now c.in-Some.edge.place) known.price _ _ known.vertex lead.edge c.in-Some.edge.place lead.within refl;
+      vertex = IsVertex-next (point_at c.args.points.now c.walk.from) c.args.points.now
+          (point_at c.args.points.now c.in-Some.edge.place) known.price _ _ known.vertex lead.edge c.in-Some.edge.place
+          lead.within refl;
       reached = omega (arith, ints, above);
     }

@@ -1,5 +1,7 @@
-use Rattle.cost_curve.proofs.Common.{pos, neg_ℤ, ◌-ℤ◌, List, [], length, refl, sym, ap, subst, w64, to_z, of_z, arith, ints, to_z-of_z, Block, IsPoint, extended, IsBuilt, point_at, IsWayOn, fits64}
-use Rattle.cost_curve.proofs.Lemmas.{IsBuilt-start, IsBuilt-edge, IsCostCurve-built, CanEvaluate-curve, length-extended, ordered_powers, IsVertex-start, IsVertex-next}
+use Rattle.cost_curve.proofs.Common.{pos, neg_ℤ, ◌-ℤ◌, List, [], length, refl, sym, ap, subst, w64, to_z, of_z, arith}
+use Rattle.cost_curve.proofs.Common.{ints, to_z-of_z, Block, IsPoint, extended, IsBuilt, point_at, IsWayOn, fits64}
+use Rattle.cost_curve.proofs.Lemmas.{IsBuilt-start, IsBuilt-edge, IsCostCurve-built, CanEvaluate-curve, length-extended}
+use Rattle.cost_curve.proofs.Lemmas.{ordered_powers, IsVertex-start, IsVertex-next}
 use Rattle.cost_curve.proofs.curves.curve_into.Goals as goal
 
 pub walk-init : goal.walk-init
@@ -14,22 +16,28 @@ walk-init c =
     let at_most = hq.at.at_most in
     let cost_least = hq.cost.at_least in
     let cost_most = hq.cost.at_most in
-    let at_is = to_z-of_z w64 (point_at ps i).at (fits64 (point_at ps i).at (omega (arith, ints, at_least)) (omega (arith, ints, at_most))) in
-    let cost_is = to_z-of_z w64 (point_at ps i).cost (fits64 (point_at ps i).cost (omega (arith, ints, cost_least)) (omega (arith, ints, cost_most))) in
+    let at_is = to_z-of_z w64 (point_at ps i).at
+    (fits64 (point_at ps i).at (omega (arith, ints, at_least)) (omega (arith, ints, at_most))) in
+    let cost_is = to_z-of_z w64 (point_at ps i).cost
+    (fits64 (point_at ps i).cost (omega (arith, ints, cost_least)) (omega (arith, ints, cost_most))) in
     let v = IsVertex-start (point_at ps i) ps hq (λ k k_in. are.points k _ k_in) start in
     let empty = c.clear.ensures.items in
     let none = ap (λ (bs : List Block). length bs) empty in
     let spare = c.clear.ensures.spare in
-    let b = IsBuilt-start c.envelope_is_greatest.ensures c.power_costs_are_within.ensures ps are (neg_ℤ (pos 20000000000001)) i lt v in
+    let b = IsBuilt-start c.envelope_is_greatest.ensures c.power_costs_are_within.ensures ps are
+    (neg_ℤ (pos 20000000000001)) i lt v in
     let low = start.least 0 (omega (arith, lt)) in
     let high = ordered_powers ps are.ordered 0 i (omega arith) lt in
     record {
       within = lt;
       price = neg_ℤ (pos 20000000000001);
       vertex = v;
-      built = subst (λ bs. IsBuilt ps (to_z w64 (of_z w64 (point_at ps i).at)) (to_z w64 (of_z w64 (point_at ps i).cost)) bs (point_at ps i).at (neg_ℤ (pos 20000000000001))) (sym empty)
-          (subst (λ z. IsBuilt ps z (to_z w64 (of_z w64 (point_at ps i).cost)) [] (point_at ps i).at (neg_ℤ (pos 20000000000001))) (sym at_is)
-          (subst (λ z. IsBuilt ps (point_at ps i).at z [] (point_at ps i).at (neg_ℤ (pos 20000000000001))) (sym cost_is) b));
+      built = subst (λ bs. IsBuilt ps (to_z w64 (of_z w64 (point_at ps i).at))
+          (to_z w64 (of_z w64 (point_at ps i).cost)) bs (point_at ps i).at (neg_ℤ (pos 20000000000001))) (sym empty)
+          (subst (λ z. IsBuilt ps z (to_z w64 (of_z w64 (point_at ps i).cost)) [] (point_at ps i).at
+          (neg_ℤ (pos 20000000000001))) (sym at_is)
+          (subst (λ z. IsBuilt ps (point_at ps i).at z [] (point_at ps i).at (neg_ℤ (pos 20000000000001))) (sym cost_is)
+          b));
       starts = omega (arith, ints, at_is, low, high);
       few = omega (arith, none);
       room = omega (arith, none, spare);
@@ -57,9 +65,12 @@ walk-preserved c =
     record {
       within = lead.within;
       price = t;
-      vertex = IsVertex-next (point_at ps i) ps (point_at ps j) known.price t w known.vertex lead.edge j lead.within refl;
+      vertex = IsVertex-next (point_at ps i) ps (point_at ps j) known.price t w known.vertex lead.edge j lead.within
+          refl;
       built = subst (λ x. IsBuilt ps c.walk.into.at c.walk.into.value x (point_at ps j).at t) (sym items)
-          (IsBuilt-edge c.envelope_is_greatest.ensures c.power_costs_are_within.ensures ps c.requires.points i j known.within lead.within known.price t w known.vertex lead.edge c.walk.into.at c.walk.into.value c.walk.into.blocks.items known.built);
+          (IsBuilt-edge c.envelope_is_greatest.ensures c.power_costs_are_within.ensures ps c.requires.points i j
+          known.within lead.within known.price t w known.vertex lead.edge c.walk.into.at c.walk.into.value
+          c.walk.into.blocks.items known.built);
       starts = known.starts;
       few = omega (arith, count, few, one, two, later);
       room = omega (arith, room, had);
@@ -70,11 +81,14 @@ returns-clause-curve c =
     let ps = c.args.points.now in
     let known = c.walk.invariant in
     let last = subst (λ way. IsWayOn ps c.walk.from (length ps) way) c.in_default.is c.way_on.ensures in
-    IsCostCurve-built c.envelope_is_greatest.ensures c.power_costs_are_within.ensures ps c.requires.points c.walk.into c.walk.from known.price known.within last known.starts known.built known.few
+    IsCostCurve-built c.envelope_is_greatest.ensures c.power_costs_are_within.ensures ps c.requires.points c.walk.into
+    c.walk.from known.price known.within last known.starts known.built known.few
 
 pub returns-clause-evaluates : goal.returns-clause-evaluates
 returns-clause-evaluates c =
     let ps = c.args.points.now in
     let known = c.walk.invariant in
     let last = subst (λ way. IsWayOn ps c.walk.from (length ps) way) c.in_default.is c.way_on.ensures in
-    CanEvaluate-curve c.envelope_is_greatest.ensures c.power_costs_are_within.ensures ps c.requires.points c.walk.into (IsCostCurve-built c.envelope_is_greatest.ensures c.power_costs_are_within.ensures ps c.requires.points c.walk.into c.walk.from known.price known.within last known.starts known.built known.few)
+    CanEvaluate-curve c.envelope_is_greatest.ensures c.power_costs_are_within.ensures ps c.requires.points c.walk.into
+    (IsCostCurve-built c.envelope_is_greatest.ensures c.power_costs_are_within.ensures ps c.requires.points
+    c.walk.into c.walk.from known.price known.within last known.starts known.built known.few)

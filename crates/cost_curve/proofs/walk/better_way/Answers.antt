@@ -4,7 +4,8 @@ use Rattle.cost_curve.proofs.walk.better_way.Goals as goal
 
 pub returns-then-end-start : goal.returns-then-end-start
 returns-then-end-start c =
-    let low : (point_at c.args.points.now c.args.place).at ≤ℤ (point_at c.args.points.now c.args.from).at = search rules in
+    let low : (point_at c.args.points.now c.args.place).at ≤ℤ (point_at c.args.points.now c.args.from).at =
+    search rules in
     IsWayOn-passes c.args.points.now c.args.from c.args.place c.args.found c.requires.found low
 
 pub slope_of-slope-requires-clause-from_limits : goal.slope_of-slope-requires-clause-from_limits
@@ -15,17 +16,27 @@ slope_of-slope-requires-clause-to_limits c = c.requires.points.points c.args.pla
 
 pub returns-in-None : goal.returns-in-None
 returns-in-None c =
-    let up : (point_at c.args.points.now c.args.from).at <ℤ (point_at c.args.points.now c.args.place).at = search rules in
-    LeadsOn-first c.args.points.now c.args.from c.args.place c.requires.later _ c.slope_of-slope.ensures up c.args.found c.requires.found c.in-None.is
+    let up : (point_at c.args.points.now c.args.from).at <ℤ (point_at c.args.points.now c.args.place).at =
+    search rules in
+    LeadsOn-first c.args.points.now c.args.from c.args.place c.requires.later _ c.slope_of-slope.ensures up c.args.found
+    c.requires.found c.in-None.is
 
 pub returns-then-is_better : goal.returns-then-is_better
 returns-then-is_better c =
-    let up : (point_at c.args.points.now c.args.from).at <ℤ (point_at c.args.points.now c.args.place).at = let most = c.slope_of-slope.ensures.most in let least = c.slope_of-slope.ensures.least in omega (arith, ints, most, least) in
-    let better : IsBetter c.in-Some.edge.slope.price c.in-Some.edge.slope.width c.slope_of-slope.result.price c.slope_of-slope.result.width = search rules in
-    LeadsOn-takes c.args.points.now c.args.from c.args.place c.requires.later _ c.slope_of-slope.ensures up c.args.found c.requires.found _ c.in-Some.is c.requires.points c.requires.within better
+    let up : (point_at c.args.points.now c.args.from).at <ℤ (point_at c.args.points.now c.args.place).at =
+    let most = c.slope_of-slope.ensures.most in let least = c.slope_of-slope.ensures.least in
+    omega (arith, ints, most, least) in
+    let better : IsBetter c.in-Some.edge.slope.price c.in-Some.edge.slope.width c.slope_of-slope.result.price
+    c.slope_of-slope.result.width = search rules in
+    LeadsOn-takes c.args.points.now c.args.from c.args.place c.requires.later _ c.slope_of-slope.ensures up c.args.found
+    c.requires.found _ c.in-Some.is c.requires.points c.requires.within better
 
 pub returns-else-is_better : goal.returns-else-is_better
 returns-else-is_better c =
-    let up : (point_at c.args.points.now c.args.from).at <ℤ (point_at c.args.points.now c.args.place).at = let most = c.slope_of-slope.ensures.most in let least = c.slope_of-slope.ensures.least in omega (arith, ints, most, least) in
-    let worse : IsWorse c.in-Some.edge.slope.price c.in-Some.edge.slope.width c.slope_of-slope.result.price c.slope_of-slope.result.width = search rules in
-    LeadsOn-keeps c.args.points.now c.args.from c.args.place c.requires.later c.slope_of-slope.result c.slope_of-slope.ensures up c.args.found c.requires.found _ c.in-Some.is worse
+    let up : (point_at c.args.points.now c.args.from).at <ℤ (point_at c.args.points.now c.args.place).at =
+    let most = c.slope_of-slope.ensures.most in let least = c.slope_of-slope.ensures.least in
+    omega (arith, ints, most, least) in
+    let worse : IsWorse c.in-Some.edge.slope.price c.in-Some.edge.slope.width c.slope_of-slope.result.price
+    c.slope_of-slope.result.width = search rules in
+    LeadsOn-keeps c.args.points.now c.args.from c.args.place c.requires.later c.slope_of-slope.result
+    c.slope_of-slope.ensures up c.args.found c.requires.found _ c.in-Some.is worse

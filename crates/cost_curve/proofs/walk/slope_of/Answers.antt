@@ -4,25 +4,31 @@ use Rattle.cost_curve.proofs.Common.{arith, ints}
 use Rattle.cost_curve.proofs.walk.slope_of.Goals as goal
 
 pub overflow_add-result : goal.overflow_add-result
-overflow_add-result c = next_fits c.args.from.now c.args.to.now c.requires.from_limits c.requires.to_limits c.requires.rising _ _ c.div_euclid-price.ensures c.rem_euclid-rest.ensures.value
+overflow_add-result c = next_fits c.args.from.now c.args.to.now c.requires.from_limits c.requires.to_limits
+    c.requires.rising _ _ c.div_euclid-price.ensures c.rem_euclid-rest.ensures.value
 
 pub invariant_of-result : goal.invariant_of-result
 invariant_of-result c = record {
-  price_limit = even_price c.args.from.now c.args.to.now c.requires.from_limits c.requires.to_limits c.requires.rising _ _ c.div_euclid-price.ensures c.rem_euclid-rest.ensures.value;
+  price_limit = even_price c.args.from.now c.args.to.now c.requires.from_limits c.requires.to_limits c.requires.rising _
+      _ c.div_euclid-price.ensures c.rem_euclid-rest.ensures.value;
   width_limit = record { at_least = omega (arith, ints); at_most = omega (arith, ints) };
 }
 
 pub returns-then-rest-eq0 : goal.returns-then-rest-eq0
-returns-then-rest-eq0 c = even_slope c.args.from.now c.args.to.now c.requires.from_limits c.requires.to_limits c.requires.rising _ _ c.div_euclid-price.ensures c.rem_euclid-rest.ensures.value c.if-rest-eq0.true
+returns-then-rest-eq0 c = even_slope c.args.from.now c.args.to.now c.requires.from_limits c.requires.to_limits
+    c.requires.rising _ _ c.div_euclid-price.ensures c.rem_euclid-rest.ensures.value c.if-rest-eq0.true
 
 pub invariant_of-result-2 : goal.invariant_of-result-2
 invariant_of-result-2 c = record {
-  price_limit = up_price c.args.from.now c.args.to.now c.requires.from_limits c.requires.to_limits c.requires.rising _ _ c.div_euclid-price.ensures c.rem_euclid-rest.ensures.value c.if-rest-eq0.false;
-  width_limit = up_width c.args.from.now c.args.to.now c.requires.from_limits c.requires.to_limits c.requires.rising _ _ c.div_euclid-price.ensures c.rem_euclid-rest.ensures.value c.if-rest-eq0.false;
+  price_limit = up_price c.args.from.now c.args.to.now c.requires.from_limits c.requires.to_limits c.requires.rising _ _
+      c.div_euclid-price.ensures c.rem_euclid-rest.ensures.value c.if-rest-eq0.false;
+  width_limit = up_width c.args.from.now c.args.to.now c.requires.from_limits c.requires.to_limits c.requires.rising _ _
+      c.div_euclid-price.ensures c.rem_euclid-rest.ensures.value c.if-rest-eq0.false;
 }
 
 pub returns : goal.returns
-returns c = up_slope c.args.from.now c.args.to.now c.requires.from_limits c.requires.to_limits c.requires.rising _ _ c.div_euclid-price.ensures c.rem_euclid-rest.ensures.value c.if-rest-eq0.false
+returns c = up_slope c.args.from.now c.args.to.now c.requires.from_limits c.requires.to_limits c.requires.rising _ _
+    c.div_euclid-price.ensures c.rem_euclid-rest.ensures.value c.if-rest-eq0.false
 
 -- (found at once by this search alone, and slowly by all that is tried without an answer)
 pub overflow_sub-run : goal.overflow_sub-run

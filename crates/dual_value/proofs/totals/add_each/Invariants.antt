@@ -6,7 +6,8 @@ use Rattle.dual_value.proofs.totals.add_each.Given as goal
 abbrev pub invariant-loop-k : goal.invariant-loop-k
 invariant-loop-k l = record {
   same_length : length l.totals.items ≡ length l.initial.totals.items;
-  counted : (j : ℕ) → j < l.k → int_at l.totals.items j ≡ int_at l.initial.totals.items j +ℤ amount_of l.flow (slice_index l.powers j);
+  counted : (j : ℕ) → j < l.k →
+      int_at l.totals.items j ≡ int_at l.initial.totals.items j +ℤ amount_of l.flow (slice_index l.powers j);
   waiting : (j : ℕ) → l.k ≤ j → int_at l.totals.items j ≡ int_at l.initial.totals.items j;
   spare : l.totals.spare ≡ l.initial.totals.spare;
 }

@@ -10,5 +10,6 @@ copied-requires c =
     let lt : c.loop-place.place < length c.args.bid.now.blocks.items = omega arith in
     let mapped = length-map c.args.bid.now.blocks.items items_in in
     let few = (c.args.bid.now.valid.blocks k [] (omega (arith, lt, mapped))).count in
-    let item = ap (λ (b : List Block). length b) (mapped_at items_in bs k c.get.result.now [] lt ∙ ap items_in c.get.ensures.value) in
+    let item = ap (λ (b : List Block). length b)
+    (mapped_at items_in bs k c.get.result.now [] lt ∙ ap items_in c.get.ensures.value) in
     omega (arith, few, item)

@@ -12,5 +12,6 @@ invariant_of-result c =
     let f5 : FitsSigned w64 c.args.unit.now.start_limit = search rules in
     let f6 : FitsSigned w64 c.args.unit.now.stop_limit = search rules in
     let f7 : FitsSigned w64 c.args.unit.now.power0 = search rules in
-    let base = held_limits (thermal_of c.args.unit.now) (schedule_of c.args.response.now) _ c.args.unit.now.valid refl c.requires in
+    let base = held_limits (thermal_of c.args.unit.now) (schedule_of c.args.response.now) _ c.args.unit.now.valid refl
+    c.requires in
     record { valid = simp to_z-of_z (rw (c.in_ok-lags.ensures, c.in_ok-points.ensures, c.in_ok-window.ensures) base) }

@@ -1,5 +1,8 @@
-use Rattle.fixed_price.proofs.Common.{◌<◌, ◌≤◌, List, [], ◌∷◌, ◌++◌, map, take, length, sym, ap, ◌∙◌, arith, length-map, NamedThermalUnit, market_of, schedules_of, named_thermal_of, schedule_of, zip_with, held_named}
-use Rattle.fixed_price.proofs.Lemmas.{others, plan_apart, window_length, map_item, map_push, zip_more, zip_whole, plan_count, on_length}
+use Rattle.fixed_price.proofs.Common.{◌<◌, ◌≤◌, List, [], ◌∷◌, ◌++◌, map, take, length, sym, ap, ◌∙◌, arith, length-map}
+use Rattle.fixed_price.proofs.Common.{NamedThermalUnit, market_of, schedules_of, named_thermal_of, schedule_of}
+use Rattle.fixed_price.proofs.Common.{zip_with, held_named}
+use Rattle.fixed_price.proofs.Lemmas.{others, plan_apart, window_length, map_item, map_push, zip_more, zip_whole}
+use Rattle.fixed_price.proofs.Lemmas.{plan_count, on_length}
 use Rattle.fixed_price.proofs.fix.held_units.Goals as goal
 
 pub held_unit_of-requires : goal.held_unit_of-requires
@@ -8,8 +11,10 @@ held_unit_of-requires c =
     let plan = schedules_of c.args.plan.now in
     let k = c.loop-place.place in
     let t = map_item named_thermal_of c.args.case.now.thermal.items k c.get.result.now c.get.ensures.item in
-    let s = map_item schedule_of c.args.plan.now.responses.items k c.get-in-loop-place.result.now c.get-in-loop-place.ensures.item in
-    let on = on_length m.periods m.thermal (others m) plan k (named_thermal_of c.get.result.now) (schedule_of c.get-in-loop-place.result.now) (plan_apart m m.periods plan c.requires.feasible) t s in
+    let s = map_item schedule_of c.args.plan.now.responses.items k c.get-in-loop-place.result.now
+    c.get-in-loop-place.ensures.item in
+    let on = on_length m.periods m.thermal (others m) plan k (named_thermal_of c.get.result.now)
+    (schedule_of c.get-in-loop-place.result.now) (plan_apart m m.periods plan c.requires.feasible) t s in
     on ∙ sym (window_length m c.args.case.now.valid k (named_thermal_of c.get.result.now) t)
 
 pub loop-place-preserved : goal.loop-place-preserved
@@ -19,14 +24,16 @@ loop-place-preserved c =
     let k = c.loop-place.place in
     let u = c.in_ok-unit.unit in
     let t = map_item named_thermal_of c.args.case.now.thermal.items k c.get.result.now c.get.ensures.item in
-    let s = map_item schedule_of c.args.plan.now.responses.items k c.get-in-loop-place.result.now c.get-in-loop-place.ensures.item in
+    let s = map_item schedule_of c.args.plan.now.responses.items k c.get-in-loop-place.result.now
+    c.get-in-loop-place.ensures.item in
     let room = c.loop-place.invariant.room in
     let spare = c.push.ensures.spare in
     record {
       held = ap (map named_thermal_of) c.push.ensures.items ∙ map_push named_thermal_of c.loop-place.units.items u
           ∙ ap (λ (l : List NamedThermalUnit). l ++ named_thermal_of u ∷ []) c.loop-place.invariant.held
           ∙ ap (λ (x : NamedThermalUnit). take k (zip_with held_named m.thermal plan) ++ x ∷ []) c.in_ok-unit.ensures
-          ∙ sym (zip_more held_named m.thermal plan k (named_thermal_of c.get.result.now) (schedule_of c.get-in-loop-place.result.now) t s);
+          ∙ sym (zip_more held_named m.thermal plan k (named_thermal_of c.get.result.now)
+          (schedule_of c.get-in-loop-place.result.now) t s);
       room = omega (arith, room, spare);
     }
 

@@ -4,21 +4,27 @@ use Rattle.flat_answer.proofs.bids.best_bid.Goals as goal
 
 pub loop-k-preserved : goal.loop-k-preserved
 loop-k-preserved c =
-    answered_next (length c.args.prices.now.energy.items) (bid_can (bid_of c.args.bid.now)) (bid_earns (bid_of c.args.bid.now) (prices_of c.args.prices.now)) c.loop-k.k
-    (schedule_of c.loop-k.into.response) c.loop-k.into.earned c.choice_in-choice.result.power c.choice_in-choice.result.earned
+    answered_next (length c.args.prices.now.energy.items) (bid_can (bid_of c.args.bid.now))
+    (bid_earns (bid_of c.args.bid.now) (prices_of c.args.prices.now)) c.loop-k.k
+    (schedule_of c.loop-k.into.response) c.loop-k.into.earned c.choice_in-choice.result.power
+    c.choice_in-choice.result.earned
     (schedule_of c.keep.new.into.response) c.keep.new.into.earned
     c.loop-k.invariant (omega arith) c.choice_in-choice.ensures c.keep.ensures.schedule c.keep.ensures.earned
 
 pub returns-clause-least : goal.returns-clause-least
 returns-clause-least c =
-    (answered_all (Bid (bid_of c.args.bid.now)) (prices_of c.args.prices.now) (bid_can (bid_of c.args.bid.now)) (bid_earns (bid_of c.args.bid.now) (prices_of c.args.prices.now)) c.loop-k.k
-    (schedule_of c.loop-k.into.response) c.loop-k.into.earned (bid_by_place (bid_of c.args.bid.now) (prices_of c.args.prices.now))
+    (answered_all (Bid (bid_of c.args.bid.now)) (prices_of c.args.prices.now) (bid_can (bid_of c.args.bid.now))
+    (bid_earns (bid_of c.args.bid.now) (prices_of c.args.prices.now)) c.loop-k.k
+    (schedule_of c.loop-k.into.response) c.loop-k.into.earned
+    (bid_by_place (bid_of c.args.bid.now) (prices_of c.args.prices.now))
     (omega arith) c.loop-k.invariant).least
 
 pub returns-clause-earned : goal.returns-clause-earned
 returns-clause-earned c =
-    (answered_all (Bid (bid_of c.args.bid.now)) (prices_of c.args.prices.now) (bid_can (bid_of c.args.bid.now)) (bid_earns (bid_of c.args.bid.now) (prices_of c.args.prices.now)) c.loop-k.k
-    (schedule_of c.loop-k.into.response) c.loop-k.into.earned (bid_by_place (bid_of c.args.bid.now) (prices_of c.args.prices.now))
+    (answered_all (Bid (bid_of c.args.bid.now)) (prices_of c.args.prices.now) (bid_can (bid_of c.args.bid.now))
+    (bid_earns (bid_of c.args.bid.now) (prices_of c.args.prices.now)) c.loop-k.k
+    (schedule_of c.loop-k.into.response) c.loop-k.into.earned
+    (bid_by_place (bid_of c.args.bid.now) (prices_of c.args.prices.now))
     (omega arith) c.loop-k.invariant).earned_is
 
 pub keep-requires-clause-so_far : goal.keep-requires-clause-so_far

@@ -6,7 +6,8 @@ pub choice_with-choice-requires-clause-power : goal.choice_with-choice-requires-
 choice_with-choice-requires-clause-power c =
     let a = c.ranges.price in
     let part = simp to_z-of_z at c.loop-block.invariant in
-    let step = part_step c.args.price c.args.blocks.now c.loop-block.block-index c.loop-block.choice.power c.loop-block.choice.earned (record { width = pos 0; price = pos 0 })
+    let step = part_step c.args.price c.args.blocks.now c.loop-block.block-index c.loop-block.choice.power
+    c.loop-block.choice.earned (record { width = pos 0; price = pos 0 })
     c.requires.blocks c.requires.price.at_least c.loop-block-test.true part in
     simp to_z-of_z step.power_room
 
@@ -14,18 +15,21 @@ pub choice_with-choice-requires-clause-earned : goal.choice_with-choice-requires
 choice_with-choice-requires-clause-earned c =
     let a = c.ranges.price in
     let part = simp to_z-of_z at c.loop-block.invariant in
-    let step = part_step c.args.price c.args.blocks.now c.loop-block.block-index c.loop-block.choice.power c.loop-block.choice.earned (record { width = pos 0; price = pos 0 })
+    let step = part_step c.args.price c.args.blocks.now c.loop-block.block-index c.loop-block.choice.power
+    c.loop-block.choice.earned (record { width = pos 0; price = pos 0 })
     c.requires.blocks c.requires.price.at_least c.loop-block-test.true part in
     simp to_z-of_z step.earned_room
 
 pub loop-block-init : goal.loop-block-init
-loop-block-init c = record { power_is = omega (arith, ints); earned_is = omega (arith, ints); low = omega (arith, ints) }
+loop-block-init c =
+    record { power_is = omega (arith, ints); earned_is = omega (arith, ints); low = omega (arith, ints) }
 
 pub loop-block-preserved : goal.loop-block-preserved
 loop-block-preserved c =
     let a = c.ranges.price in
     let part = simp to_z-of_z at c.loop-block.invariant in
-    let step = part_step c.args.price c.args.blocks.now c.loop-block.block-index c.loop-block.choice.power c.loop-block.choice.earned (record { width = pos 0; price = pos 0 })
+    let step = part_step c.args.price c.args.blocks.now c.loop-block.block-index c.loop-block.choice.power
+    c.loop-block.choice.earned (record { width = pos 0; price = pos 0 })
     c.requires.blocks c.requires.price.at_least c.loop-block-test.true part in
     let power = simp to_z-of_z at c.choice_with-choice.ensures.power in
     let earned = simp to_z-of_z at c.choice_with-choice.ensures.earned in
@@ -35,5 +39,6 @@ pub returns : goal.returns
 returns c =
     let a = c.ranges.price in
     let part = simp to_z-of_z at c.loop-block.invariant in
-    part_is_choice c.args.blocks.now c.args.price c.loop-block.block-index c.loop-block.choice.power c.loop-block.choice.earned
+    part_is_choice c.args.blocks.now c.args.price c.loop-block.block-index c.loop-block.choice.power
+    c.loop-block.choice.earned
     c.requires.blocks c.requires.price.at_least c.loop-block-test.false part

@@ -1,4 +1,5 @@
-use Rattle.flat_answer.proofs.Common.{rules, ◌≡◌, ◌+ℤ◌, ◌-ℤ◌, ◌<ℤ◌, FitsSigned, sym, ap, ◌∙◌, arith, ints, to_z-of_z, w64, fits_within, IsWithin, added_gain}
+use Rattle.flat_answer.proofs.Common.{rules, ◌≡◌, ◌+ℤ◌, ◌-ℤ◌, ◌<ℤ◌, FitsSigned, sym, ap, ◌∙◌, arith, ints, to_z-of_z}
+use Rattle.flat_answer.proofs.Common.{w64, fits_within, IsWithin, added_gain}
 use Rattle.flat_answer.proofs.Lemmas.{counts}
 use Rattle.flat_answer.proofs.bids.choice_with.Goals as goal
 
@@ -18,7 +19,8 @@ gained c =
     let high = c.requires.price.at_most in
     let cheap = c.requires.block.price.at_least in
     let dear = c.requires.block.price.at_most in
-    let within : IsWithin 20000000 (c.args.block.now.price -ℤ c.args.price) = record { at_least = omega (arith, ints, high, cheap); at_most = omega (arith, ints, low, dear) } in
+    let within : IsWithin 20000000 (c.args.block.now.price -ℤ c.args.price) =
+    record { at_least = omega (arith, ints, high, cheap); at_most = omega (arith, ints, low, dear) } in
     let f = fits_within w64 20000000 (c.args.block.now.price -ℤ c.args.price) within (omega arith) in
     let e = simp to_z-of_z at c.earned_at.ensures.value in
     e ∙ sym (counts c.args.price c.args.block.now (above c)).won
@@ -28,7 +30,8 @@ sum_fits c =
     let e = gained c in
     let low = c.requires.earned.at_least in
     let high = c.requires.earned.at_most in
-    let within : IsWithin 20000000000000000 (c.args.so_far.earned +ℤ c.earned_at.result) = record { at_least = omega (arith, ints, e, low); at_most = omega (arith, ints, e, high) } in
+    let within : IsWithin 20000000000000000 (c.args.so_far.earned +ℤ c.earned_at.result) =
+    record { at_least = omega (arith, ints, e, low); at_most = omega (arith, ints, e, high) } in
     fits_within w64 20000000000000000 (c.args.so_far.earned +ℤ c.earned_at.result) within (omega arith)
 
 pub overflow_add-result-2 : goal.overflow_add-result-2

@@ -13,19 +13,25 @@ keep-requires-clause-so_far c =
 
 pub loop-k-preserved : goal.loop-k-preserved
 loop-k-preserved c =
-    answered_next (length c.args.prices.now.energy.items) (flat_can (renewable_of c.args.flat.now)) (flat_earns (prices_of c.args.prices.now)) c.loop-k.k
-    (schedule_of c.loop-k.into.response) c.loop-k.into.earned c.choice_in-choice.result.power c.choice_in-choice.result.earned
+    answered_next (length c.args.prices.now.energy.items) (flat_can (renewable_of c.args.flat.now))
+    (flat_earns (prices_of c.args.prices.now)) c.loop-k.k
+    (schedule_of c.loop-k.into.response) c.loop-k.into.earned c.choice_in-choice.result.power
+    c.choice_in-choice.result.earned
     (schedule_of c.keep.new.into.response) c.keep.new.into.earned
     c.loop-k.invariant (omega arith) c.choice_in-choice.ensures c.keep.ensures.schedule c.keep.ensures.earned
 
 pub returns-clause-least : goal.returns-clause-least
 returns-clause-least c =
-    (answered_all (Flat (renewable_of c.args.flat.now)) (prices_of c.args.prices.now) (flat_can (renewable_of c.args.flat.now)) (flat_earns (prices_of c.args.prices.now)) c.loop-k.k
-    (schedule_of c.loop-k.into.response) c.loop-k.into.earned (flat_by_place (renewable_of c.args.flat.now) (prices_of c.args.prices.now))
+    (answered_all (Flat (renewable_of c.args.flat.now)) (prices_of c.args.prices.now)
+    (flat_can (renewable_of c.args.flat.now)) (flat_earns (prices_of c.args.prices.now)) c.loop-k.k
+    (schedule_of c.loop-k.into.response) c.loop-k.into.earned
+    (flat_by_place (renewable_of c.args.flat.now) (prices_of c.args.prices.now))
     (omega arith) c.loop-k.invariant).least
 
 pub returns-clause-earned : goal.returns-clause-earned
 returns-clause-earned c =
-    (answered_all (Flat (renewable_of c.args.flat.now)) (prices_of c.args.prices.now) (flat_can (renewable_of c.args.flat.now)) (flat_earns (prices_of c.args.prices.now)) c.loop-k.k
-    (schedule_of c.loop-k.into.response) c.loop-k.into.earned (flat_by_place (renewable_of c.args.flat.now) (prices_of c.args.prices.now))
+    (answered_all (Flat (renewable_of c.args.flat.now)) (prices_of c.args.prices.now)
+    (flat_can (renewable_of c.args.flat.now)) (flat_earns (prices_of c.args.prices.now)) c.loop-k.k
+    (schedule_of c.loop-k.into.response) c.loop-k.into.earned
+    (flat_by_place (renewable_of c.args.flat.now) (prices_of c.args.prices.now))
     (omega arith) c.loop-k.invariant).earned_is

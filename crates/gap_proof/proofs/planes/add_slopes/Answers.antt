@@ -1,4 +1,5 @@
-use Rattle.gap_proof.proofs.Common.{rules, ◌≡◌, ℤ, pos, ◌+ℤ◌, ◌*ℤ◌, FitsSigned, sym, ap, subst, ◌∙◌, arith, to_z-of_z, w64, w128, market_of, proposal_of, int_at, slope_at, IsSlopeSum}
+use Rattle.gap_proof.proofs.Common.{rules, ◌≡◌, ℤ, pos, ◌+ℤ◌, ◌*ℤ◌, FitsSigned, sym, ap, subst, ◌∙◌, arith, to_z-of_z}
+use Rattle.gap_proof.proofs.Common.{w64, w128, market_of, proposal_of, int_at, slope_at, IsSlopeSum}
 use Rattle.gap_proof.proofs.Lemmas.{before_turn, added_more}
 use Rattle.gap_proof.proofs.planes.add_slopes.Goals as goal
 
@@ -7,7 +8,11 @@ sum_with-requires-clause-sum c =
     let f : FitsSigned w128 c.get.result.now = search rules in
     let test = c.loop-place-test.true in
     let length_is = c.requires.length in
-    let size = subst IsSlopeSum (sym (before_turn c.args.slopes.now.items c.loop-place.slopes.items _ c.loop-place.place c.get.result.now c.loop-place.invariant.added c.get.ensures.item)) (c.requires.sums c.loop-place.place (pos 0) (omega (arith, test, length_is))) in
+    let size =
+    subst IsSlopeSum
+    (sym (before_turn c.args.slopes.now.items c.loop-place.slopes.items _ c.loop-place.place c.get.result.now
+    c.loop-place.invariant.added c.get.ensures.item))
+    (c.requires.sums c.loop-place.place (pos 0) (omega (arith, test, length_is))) in
     simp to_z-of_z size
 
 pub loop-place-preserved : goal.loop-place-preserved
@@ -23,11 +28,15 @@ loop-place-preserved c =
     let is = simp to_z-of_z at c.set.ensures.items in
     let called = simp to_z-of_z at c.sum_with.ensures in
     let value : c.sum_with.result ≡ int_at c.args.slopes.now.items k +ℤ (c.args.weight *ℤ slope_at m r k) =
-    called ∙ ap (λ (z : ℤ). z +ℤ (c.args.weight *ℤ c.slope.result)) (before_turn c.args.slopes.now.items c.loop-place.slopes.items _ k c.get.result.now known c.get.ensures.item) ∙ ap (λ (z : ℤ). int_at c.args.slopes.now.items k +ℤ (c.args.weight *ℤ z)) c.slope.ensures.value in
+    called ∙ ap (λ (z : ℤ). z +ℤ (c.args.weight *ℤ c.slope.result))
+    (before_turn c.args.slopes.now.items c.loop-place.slopes.items _ k c.get.result.now known c.get.ensures.item) ∙
+    ap (λ (z : ℤ). int_at c.args.slopes.now.items k +ℤ (c.args.weight *ℤ z)) c.slope.ensures.value in
     let test = c.loop-place-test.true in
     let length_is = c.requires.length in
     let same = known.same_length in
-    let next = added_more c.args.slopes.now.items c.loop-place.slopes.items c.set.new.self.items (λ j. c.args.weight *ℤ slope_at m r j) k c.sum_with.result known (omega (arith, test, length_is, same)) is value in
+    let next = added_more c.args.slopes.now.items c.loop-place.slopes.items c.set.new.self.items
+    (λ j. c.args.weight *ℤ slope_at m r j) k c.sum_with.result known (omega (arith, test, length_is, same)) is
+    value in
     let spare = c.set.ensures.spare in
     let held = c.loop-place.invariant.spare in
     record { added = simp to_z-of_z next; spare = spare ∙ held }

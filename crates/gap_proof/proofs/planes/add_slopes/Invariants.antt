@@ -4,6 +4,7 @@ use Rattle.gap_proof.proofs.planes.add_slopes.Given as goal
 
 abbrev pub invariant-loop-place : goal.invariant-loop-place
 invariant-loop-place l = record {
-  added : IsAddedUpTo l.initial.slopes.items l.slopes.items (λ j. l.weight *ℤ slope_at (market_of l.case) (proposal_of l.row) j) l.place;
+  added : IsAddedUpTo l.initial.slopes.items l.slopes.items
+      (λ j. l.weight *ℤ slope_at (market_of l.case) (proposal_of l.row) j) l.place;
   spare : l.slopes.spare ≡ l.initial.slopes.spare;
 }

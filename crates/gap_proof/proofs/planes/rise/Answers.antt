@@ -11,6 +11,7 @@ returns-clause-bound c =
     let e = simp to_z-of_z at c.from.ensures in
     let f = simp to_z-of_z at c.from-2.ensures in
     let within : IsWithin 200000000000000000000 (c.from.result *ℤ c.from-2.result) =
-    rw (e, f) (signed_product_within 20000000000000 10000000 c.args.slope c.args.price c.requires.slope c.requires.price) in
+    rw (e, f) (signed_product_within 20000000000000 10000000 c.args.slope c.args.price c.requires.slope
+    c.requires.price) in
     let fits = fits_within w128 200000000000000000000 (c.from.result *ℤ c.from-2.result) within (omega arith) in
     simp to_z-of_z within

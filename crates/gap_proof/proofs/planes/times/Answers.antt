@@ -11,6 +11,7 @@ returns-clause-bound c =
     let e = simp to_z-of_z at c.from.ensures in
     let f = simp to_z-of_z at c.from-2.ensures in
     let within : IsWithin 20000000000000000000 (c.from.result *ℤ c.from-2.result) =
-    rw (e, f) (signed_product_within 1000000 20000000000000 c.args.weight c.args.slope (within_both 1000000 c.args.weight c.requires.weight) c.requires.slope) in
+    rw (e, f) (signed_product_within 1000000 20000000000000 c.args.weight c.args.slope
+    (within_both 1000000 c.args.weight c.requires.weight) c.requires.slope) in
     let fits = fits_within w128 20000000000000000000 (c.from.result *ℤ c.from-2.result) within (omega arith) in
     simp to_z-of_z within

@@ -16,9 +16,12 @@ returns-then-trailing-alone-clause-best c =
     let least = simp to_z-of_z at c.trailing-trailing.ensures.least in
     let earlier = simp to_z-of_z at c.trailing-trailing.ensures.earlier in
     let better = simp to_z-of_z at c.if-trailing-alone.true in
-    back_chosen m rows c.args.centre c.args.radius r.prices (length c.args.rows.now) (row_prices rows c.args.centre r c.row_at-middle.ensures) (length-map c.args.rows.now proposal_of)
-    c.trailing-trailing.result.first c.trailing-trailing.result.last c.trailing-trailing.result.bound c.alone-alone.result.bound there
-    c.trailing-trailing.ensures.from_one c.trailing-trailing.ensures.to_last c.trailing-trailing.ensures.last is least earlier (less_from_test c.trailing-trailing.result.bound c.alone-alone.result.bound better)
+    back_chosen m rows c.args.centre c.args.radius r.prices (length c.args.rows.now)
+    (row_prices rows c.args.centre r c.row_at-middle.ensures) (length-map c.args.rows.now proposal_of)
+    c.trailing-trailing.result.first c.trailing-trailing.result.last c.trailing-trailing.result.bound
+    c.alone-alone.result.bound there
+    c.trailing-trailing.ensures.from_one c.trailing-trailing.ensures.to_last c.trailing-trailing.ensures.last is least
+    earlier (less_from_test c.trailing-trailing.result.bound c.alone-alone.result.bound better)
 
 pub returns-clause-best : goal.returns-clause-best
 returns-clause-best c =
@@ -31,5 +34,8 @@ returns-clause-best c =
     let is = simp to_z-of_z at c.alone-alone.ensures.bound in
     let least = simp to_z-of_z at c.trailing-trailing.ensures.least in
     let low = simp to_z-of_z at c.if-trailing-alone.false in
-    centre_chosen m rows c.args.centre c.args.radius r.prices (length c.args.rows.now) (row_prices rows c.args.centre r c.row_at-middle.ensures) (length-map c.args.rows.now proposal_of)
-    c.alone-alone.result.first c.alone-alone.result.last c.alone-alone.result.bound c.trailing-trailing.result.bound c.alone-alone.ensures.first c.alone-alone.ensures.last is least (least_from_test c.trailing-trailing.result.bound c.alone-alone.result.bound low)
+    centre_chosen m rows c.args.centre c.args.radius r.prices (length c.args.rows.now)
+    (row_prices rows c.args.centre r c.row_at-middle.ensures) (length-map c.args.rows.now proposal_of)
+    c.alone-alone.result.first c.alone-alone.result.last c.alone-alone.result.bound c.trailing-trailing.result.bound
+    c.alone-alone.ensures.first c.alone-alone.ensures.last is least
+    (least_from_test c.trailing-trailing.result.bound c.alone-alone.result.bound low)

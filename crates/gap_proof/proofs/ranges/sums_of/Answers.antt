@@ -6,14 +6,18 @@ pub add_row-requires-clause-slopes : goal.add_row-requires-clause-slopes
 add_row-requires-clause-slopes c =
     let m = market_of c.args.case.now in
     let wide = c.requires.length in
-    let none = sums_none m c.clear_slopes.new.slopes.items (c.clear_slopes.ensures.length ∙ wide) (λ j lt. c.clear_slopes.ensures.zeros j (omega (arith, lt, wide))) in
+    let none = sums_none m c.clear_slopes.new.slopes.items (c.clear_slopes.ensures.length ∙ wide)
+    (λ j lt. c.clear_slopes.ensures.zeros j (omega (arith, lt, wide))) in
     slope_sizes m [] [] (pos 0) (pos 0) c.clear_slopes.new.slopes.items none (omega arith)
 
 pub returns-clause-sums : goal.returns-clause-sums
 returns-clause-sums c =
     let m = market_of c.args.case.now in
     let wide = c.requires.length in
-    let none = sums_none m c.clear_slopes.new.slopes.items (c.clear_slopes.ensures.length ∙ wide) (λ j lt. c.clear_slopes.ensures.zeros j (omega (arith, lt, wide))) in
-    sums_more m [] [] (pos 0) (pos 0) c.clear_slopes.new.slopes.items none (pos 1) (proposal_of c.args.row.now) c.add_row.result.height c.add_row.result.weight c.add_row.new.slopes.items
+    let none = sums_none m c.clear_slopes.new.slopes.items (c.clear_slopes.ensures.length ∙ wide)
+    (λ j lt. c.clear_slopes.ensures.zeros j (omega (arith, lt, wide))) in
+    sums_more m [] [] (pos 0) (pos 0) c.clear_slopes.new.slopes.items none (pos 1) (proposal_of c.args.row.now)
+    c.add_row.result.height c.add_row.result.weight c.add_row.new.slopes.items
     c.args.case.now.valid c.requires.row.row (record { at_least = omega (arith, ints); at_most = omega (arith, ints) })
-    c.add_row.ensures.height c.add_row.ensures.step c.add_row.ensures.weight c.add_row.ensures.length c.add_row.ensures.slopes
+    c.add_row.ensures.height c.add_row.ensures.step c.add_row.ensures.weight c.add_row.ensures.length
+    c.add_row.ensures.slopes

@@ -1,5 +1,8 @@
-use Rattle.gap_proof.proofs.Common.{rules, ◌≡◌, ◌+◌, ◌-◌, pos, FitsSigned, [], ◌∷◌, length, map, refl, sym, ap, ◌∙◌, arith, ints, to_z-of_z, length-map, w128, market_of, proposal_of, prices_of, IsRowWithin}
-use Rattle.gap_proof.proofs.BackSums.{back_first, back_more, back_height, back_weight, back_slopes, back_some, back_value}
+use Rattle.gap_proof.proofs.Common.{rules, ◌≡◌, ◌+◌, ◌-◌, pos, FitsSigned, [], ◌∷◌, length, map, refl, sym, ap, ◌∙◌}
+use Rattle.gap_proof.proofs.Common.{arith, ints, to_z-of_z, length-map, w128, market_of, proposal_of, prices_of}
+use Rattle.gap_proof.proofs.Common.{IsRowWithin}
+use Rattle.gap_proof.proofs.BackSums.{back_first, back_more, back_height, back_weight, back_slopes, back_some}
+use Rattle.gap_proof.proofs.BackSums.{back_value}
 use Rattle.gap_proof.proofs.Lemmas.{least_one, least_more, back_bounds, item_of, height_size, slope_sizes}
 use Rattle.gap_proof.proofs.ranges.trailing.Goals as goal
 
@@ -7,7 +10,8 @@ pub sums_of-sums-requires-clause-row : goal.sums_of-sums-requires-clause-row
 sums_of-sums-requires-clause-row c =
     let mapped = length-map c.args.rows.now proposal_of in
     let some = c.requires.some in
-    item_of (IsRowWithin (market_of c.args.case.now)) (map proposal_of c.args.rows.now) (length c.args.rows.now - 1) (proposal_of c.row_at.result.now) c.requires.rows (omega (arith, mapped, some)) c.row_at.ensures
+    item_of (IsRowWithin (market_of c.args.case.now)) (map proposal_of c.args.rows.now) (length c.args.rows.now - 1)
+    (proposal_of c.row_at.result.now) c.requires.rows (omega (arith, mapped, some)) c.row_at.ensures
 
 pub bound_by-requires : goal.bound_by-requires
 bound_by-requires c =
@@ -19,10 +23,12 @@ bound_by-requires c =
     record {
       horizon = c.requires.horizon;
       radius = simp to_z-of_z c.requires.radius;
-      heights = height_size m (pos 1 ∷ []) (r ∷ []) c.sums_of-sums.result.height c.sums_of-sums.result.weight c.sums_of-sums.new.slopes.items sums (omega arith);
+      heights = height_size m (pos 1 ∷ []) (r ∷ []) c.sums_of-sums.result.height c.sums_of-sums.result.weight
+          c.sums_of-sums.new.slopes.items sums (omega arith);
       weights = record { at_least = omega (arith, ints, is); at_most = omega (arith, ints, is) };
       length = sums.same_length;
-      slopes = slope_sizes m (pos 1 ∷ []) (r ∷ []) c.sums_of-sums.result.height c.sums_of-sums.result.weight c.sums_of-sums.new.slopes.items sums (omega arith);
+      slopes = slope_sizes m (pos 1 ∷ []) (r ∷ []) c.sums_of-sums.result.height c.sums_of-sums.result.weight
+          c.sums_of-sums.new.slopes.items sums (omega arith);
     }
 
 pub loop-place-init : goal.loop-place-init
@@ -35,11 +41,15 @@ loop-place-init c =
     let f : FitsSigned w128 c.bound_by.result = search rules in
     let mapped = length-map c.args.rows.now proposal_of in
     let some = c.requires.some in
-    let first = back_first m rows n (proposal_of c.row_at.result.now) c.sums_of-sums.result.height c.sums_of-sums.result.weight c.sums_of-sums.new.slopes.items some (sym mapped) c.row_at.ensures c.sums_of-sums.ensures.sums in
+    let first = back_first m rows n (proposal_of c.row_at.result.now) c.sums_of-sums.result.height
+    c.sums_of-sums.result.weight c.sums_of-sums.new.slopes.items some (sym mapped) c.row_at.ensures
+    c.sums_of-sums.ensures.sums in
     let e = simp to_z-of_z at c.bound_by.ensures.value in
-    let value = back_value m rows n (n - 1) c.sums_of-sums.result.height c.sums_of-sums.result.weight c.sums_of-sums.new.slopes.items (sym mapped) (omega arith) first π c.args.radius in
+    let value = back_value m rows n (n - 1) c.sums_of-sums.result.height c.sums_of-sums.result.weight
+    c.sums_of-sums.new.slopes.items (sym mapped) (omega arith) first π c.args.radius in
     let back : (length c.args.rows.now - 1) + 1 ≡ length c.args.rows.now = omega (arith, some) in
-    let least = least_one (back_bounds m rows π c.args.radius n) (n - 1) n c.bound_by.result (sym back) (e ∙ value ∙ ap (back_bounds m rows π c.args.radius n) back) in
+    let least = least_one (back_bounds m rows π c.args.radius n) (n - 1) n c.bound_by.result (sym back)
+    (e ∙ value ∙ ap (back_bounds m rows π c.args.radius n) back) in
     record {
       sums = first;
       best = simp to_z-of_z least;
@@ -59,12 +69,16 @@ add_row-sums-requires c =
     let few = c.requires.count in
     let sums = c.loop-place.invariant.sums in
     record {
-      row = item_of (IsRowWithin m) rows (i - 1) (proposal_of c.row_at-in-loop-place.result.now) c.requires.rows (omega (arith, mapped, low, end)) c.row_at-in-loop-place.ensures;
+      row = item_of (IsRowWithin m) rows (i - 1) (proposal_of c.row_at-in-loop-place.result.now) c.requires.rows
+          (omega (arith, mapped, low, end)) c.row_at-in-loop-place.ensures;
       weight = record { at_least = omega (arith, ints); at_most = omega (arith, ints) };
-      heights = back_height m rows n i c.loop-place.sums.height c.loop-place.sums.weight c.loop-place.work.items (sym mapped) (omega (arith, end)) sums few;
-      weights = back_weight m rows n i c.loop-place.sums.height c.loop-place.sums.weight c.loop-place.work.items (sym mapped) (omega (arith, end)) sums few;
+      heights = back_height m rows n i c.loop-place.sums.height c.loop-place.sums.weight c.loop-place.work.items
+          (sym mapped) (omega (arith, end)) sums few;
+      weights = back_weight m rows n i c.loop-place.sums.height c.loop-place.sums.weight c.loop-place.work.items
+          (sym mapped) (omega (arith, end)) sums few;
       length = sums.same_length;
-      slopes = back_slopes m rows n i c.loop-place.sums.height c.loop-place.sums.weight c.loop-place.work.items (sym mapped) (omega (arith, end)) sums few;
+      slopes = back_slopes m rows n i c.loop-place.sums.height c.loop-place.sums.weight c.loop-place.work.items
+          (sym mapped) (omega (arith, end)) sums few;
     }
 
 pub bound_by-bound-requires : goal.bound_by-bound-requires
@@ -79,17 +93,24 @@ bound_by-bound-requires c =
     let end = c.loop-place.auto.place in
     let few = c.requires.count in
     let some = c.requires.some in
-    let row = item_of (IsRowWithin m) rows (i - 1) (proposal_of c.row_at-in-loop-place.result.now) c.requires.rows (omega (arith, mapped, low, end)) c.row_at-in-loop-place.ensures in
-    let next = back_more m rows n i c.loop-place.sums.height c.loop-place.sums.weight c.loop-place.work.items (sym mapped) (omega (arith, end)) c.loop-place.invariant.sums
-    (proposal_of c.row_at-in-loop-place.result.now) c.add_row-sums.result.height c.add_row-sums.result.weight c.add_row-sums.new.slopes.items low c.row_at-in-loop-place.ensures c.args.case.now.valid row.row
-    c.add_row-sums.ensures.height c.add_row-sums.ensures.step c.add_row-sums.ensures.weight c.add_row-sums.ensures.length c.add_row-sums.ensures.slopes in
+    let row = item_of (IsRowWithin m) rows (i - 1) (proposal_of c.row_at-in-loop-place.result.now) c.requires.rows
+    (omega (arith, mapped, low, end)) c.row_at-in-loop-place.ensures in
+    let next = back_more m rows n i c.loop-place.sums.height c.loop-place.sums.weight c.loop-place.work.items
+    (sym mapped) (omega (arith, end)) c.loop-place.invariant.sums
+    (proposal_of c.row_at-in-loop-place.result.now) c.add_row-sums.result.height c.add_row-sums.result.weight
+    c.add_row-sums.new.slopes.items low c.row_at-in-loop-place.ensures c.args.case.now.valid row.row
+    c.add_row-sums.ensures.height c.add_row-sums.ensures.step c.add_row-sums.ensures.weight
+    c.add_row-sums.ensures.length c.add_row-sums.ensures.slopes in
     record {
       horizon = c.requires.horizon;
       radius = simp to_z-of_z c.requires.radius;
-      heights = back_height m rows n (i - 1) c.add_row-sums.result.height c.add_row-sums.result.weight c.add_row-sums.new.slopes.items (sym mapped) (omega (arith, end)) next few;
-      weights = back_some m rows n (i - 1) c.add_row-sums.result.height c.add_row-sums.result.weight c.add_row-sums.new.slopes.items (sym mapped) (omega (arith, end)) next (omega (arith, end, low, some)) few;
+      heights = back_height m rows n (i - 1) c.add_row-sums.result.height c.add_row-sums.result.weight
+          c.add_row-sums.new.slopes.items (sym mapped) (omega (arith, end)) next few;
+      weights = back_some m rows n (i - 1) c.add_row-sums.result.height c.add_row-sums.result.weight
+          c.add_row-sums.new.slopes.items (sym mapped) (omega (arith, end)) next (omega (arith, end, low, some)) few;
       length = next.same_length;
-      slopes = back_slopes m rows n (i - 1) c.add_row-sums.result.height c.add_row-sums.result.weight c.add_row-sums.new.slopes.items (sym mapped) (omega (arith, end)) next few;
+      slopes = back_slopes m rows n (i - 1) c.add_row-sums.result.height c.add_row-sums.result.weight
+          c.add_row-sums.new.slopes.items (sym mapped) (omega (arith, end)) next few;
     }
 
 pub loop-place-preserved : goal.loop-place-preserved
@@ -104,16 +125,23 @@ loop-place-preserved c =
     let mapped = length-map c.args.rows.now proposal_of in
     let low = c.loop-place-test.true in
     let end = c.loop-place.auto.place in
-    let row = item_of (IsRowWithin m) rows (i - 1) (proposal_of c.row_at-in-loop-place.result.now) c.requires.rows (omega (arith, mapped, low, end)) c.row_at-in-loop-place.ensures in
-    let next = back_more m rows n i c.loop-place.sums.height c.loop-place.sums.weight c.loop-place.work.items (sym mapped) (omega (arith, end)) c.loop-place.invariant.sums
-    (proposal_of c.row_at-in-loop-place.result.now) c.add_row-sums.result.height c.add_row-sums.result.weight c.add_row-sums.new.slopes.items low c.row_at-in-loop-place.ensures c.args.case.now.valid row.row
-    c.add_row-sums.ensures.height c.add_row-sums.ensures.step c.add_row-sums.ensures.weight c.add_row-sums.ensures.length c.add_row-sums.ensures.slopes in
+    let row = item_of (IsRowWithin m) rows (i - 1) (proposal_of c.row_at-in-loop-place.result.now) c.requires.rows
+    (omega (arith, mapped, low, end)) c.row_at-in-loop-place.ensures in
+    let next = back_more m rows n i c.loop-place.sums.height c.loop-place.sums.weight c.loop-place.work.items
+    (sym mapped) (omega (arith, end)) c.loop-place.invariant.sums
+    (proposal_of c.row_at-in-loop-place.result.now) c.add_row-sums.result.height c.add_row-sums.result.weight
+    c.add_row-sums.new.slopes.items low c.row_at-in-loop-place.ensures c.args.case.now.valid row.row
+    c.add_row-sums.ensures.height c.add_row-sums.ensures.step c.add_row-sums.ensures.weight
+    c.add_row-sums.ensures.length c.add_row-sums.ensures.slopes in
     let e = simp to_z-of_z at c.bound_by-bound.ensures.value in
-    let value = back_value m rows n (i - 1) c.add_row-sums.result.height c.add_row-sums.result.weight c.add_row-sums.new.slopes.items (sym mapped) (omega (arith, end)) next π c.args.radius in
+    let value = back_value m rows n (i - 1) c.add_row-sums.result.height c.add_row-sums.result.weight
+    c.add_row-sums.new.slopes.items (sym mapped) (omega (arith, end)) next π c.args.radius in
     let taken = simp to_z-of_z at c.better-best.ensures.taken in
     let kept = simp to_z-of_z at c.better-best.ensures.kept in
     let known = simp to_z-of_z at c.loop-place.invariant.best in
-    let least = least_more (back_bounds m rows π c.args.radius n) i n c.loop-place.best.first c.better-best.result.first c.loop-place.best.bound c.bound_by-bound.result c.better-best.result.bound low known (e ∙ value) taken kept in
+    let least = least_more (back_bounds m rows π c.args.radius n) i n c.loop-place.best.first c.better-best.result.first
+    c.loop-place.best.bound c.bound_by-bound.result c.better-best.result.bound low known (e ∙ value) taken
+    kept in
     let last = c.better-best.ensures.last in
     let spare = c.add_row-sums.ensures.spare in
     record {

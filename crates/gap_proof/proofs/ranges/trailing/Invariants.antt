@@ -1,11 +1,14 @@
-use Rattle.gap_proof.proofs.Common.{◌≡◌, ◌-◌, pos, length, drop, map, replicate, market_of, proposal_of, prices_of, AreSums}
+use Rattle.gap_proof.proofs.Common.{◌≡◌, ◌-◌, pos, length, drop, map, replicate, market_of, proposal_of, prices_of}
+use Rattle.gap_proof.proofs.Common.{AreSums}
 use Rattle.gap_proof.proofs.Lemmas.{IsLeastBehind, back_bounds}
 use Rattle.gap_proof.proofs.ranges.trailing.Given as goal
 
 abbrev pub invariant-loop-place : goal.invariant-loop-place
 invariant-loop-place l = record {
-  sums : AreSums (market_of l.case) (replicate (length l.rows - l.place) (pos 1)) (drop l.place (map proposal_of l.rows)) l.sums.height l.sums.weight l.work.items;
-  best : IsLeastBehind (back_bounds (market_of l.case) (map proposal_of l.rows) (prices_of l.centre) l.radius (length l.rows)) l.place (length l.rows) l.best.first l.best.bound;
+  sums : AreSums (market_of l.case) (replicate (length l.rows - l.place) (pos 1))
+      (drop l.place (map proposal_of l.rows)) l.sums.height l.sums.weight l.work.items;
+  best : IsLeastBehind (back_bounds (market_of l.case) (map proposal_of l.rows) (prices_of l.centre) l.radius
+      (length l.rows)) l.place (length l.rows) l.best.first l.best.bound;
   last : l.best.last ≡ length l.rows;
   spare : l.work.spare ≡ l.fn.work.spare;
 }

@@ -9,7 +9,8 @@ overflow_mul-result c =
     let a : FitsSigned w128 c.from.result = search rules in
     let e = simp to_z-of_z at c.from.ensures in
     let within : IsWithin 2000000000000000000000000000000 (c.from.result *ℤ c.args.height) =
-    rw e (signed_product_within 1000000 2000000000000000000000000 c.args.weight c.args.height (within_both 1000000 c.args.weight c.requires.weight) c.requires.height) in
+    rw e (signed_product_within 1000000 2000000000000000000000000 c.args.weight c.args.height
+    (within_both 1000000 c.args.weight c.requires.weight) c.requires.height) in
     let fits = fits_within w128 2000000000000000000000000000000 (c.from.result *ℤ c.args.height) within (omega arith) in
     simp to_z-of_z fits
 
@@ -20,7 +21,8 @@ returns-clause-bound c =
     let a : FitsSigned w128 c.from.result = search rules in
     let e = simp to_z-of_z at c.from.ensures in
     let within : IsWithin 2000000000000000000000000000000 (c.from.result *ℤ c.args.height) =
-    rw e (signed_product_within 1000000 2000000000000000000000000 c.args.weight c.args.height (within_both 1000000 c.args.weight c.requires.weight) c.requires.height) in
+    rw e (signed_product_within 1000000 2000000000000000000000000 c.args.weight c.args.height
+    (within_both 1000000 c.args.weight c.requires.weight) c.requires.height) in
     let fits = fits_within w128 2000000000000000000000000000000 (c.from.result *ℤ c.args.height) within (omega arith) in
     simp to_z-of_z within
 
@@ -31,6 +33,7 @@ returns-clause-value c =
     let a : FitsSigned w128 c.from.result = search rules in
     let e = simp to_z-of_z at c.from.ensures in
     let within : IsWithin 2000000000000000000000000000000 (c.from.result *ℤ c.args.height) =
-    rw e (signed_product_within 1000000 2000000000000000000000000 c.args.weight c.args.height (within_both 1000000 c.args.weight c.requires.weight) c.requires.height) in
+    rw e (signed_product_within 1000000 2000000000000000000000000 c.args.weight c.args.height
+    (within_both 1000000 c.args.weight c.requires.weight) c.requires.height) in
     let fits = fits_within w128 2000000000000000000000000000000 (c.from.result *ℤ c.args.height) within (omega arith) in
     simp to_z-of_z (ap (λ (z : ℤ). z *ℤ c.args.height) e)

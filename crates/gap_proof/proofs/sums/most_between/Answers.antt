@@ -11,5 +11,10 @@ returns-clause-bound c =
     let q = c.rise.ensures.bound.at_most in
     let r = c.rise-2.ensures.bound.at_least in
     let s = c.rise-2.ensures.bound.at_most in
-    let within : IsWithin 10000000000000000000000000000000 c.max.result = record { at_least = omega (arith, ints, clamps, e, p, r); at_most = omega (arith, ints, clamps, e, q, s) } in
+    let within : IsWithin 10000000000000000000000000000000 c.max.result =
+    record {
+      at_least = omega (arith, ints, clamps, e, p, r);
+      at_most =
+          omega (arith, ints, clamps, e, q, s);
+    } in
     simp to_z-of_z within

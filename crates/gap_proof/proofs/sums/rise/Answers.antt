@@ -9,7 +9,8 @@ overflow_mul-result c =
     let a : FitsSigned w128 c.from.result = search rules in
     let e = simp to_z-of_z at c.from.ensures in
     let within : IsWithin 10000000000000000000000000000000 (c.args.slope *ℤ c.from.result) =
-    rw e (signed_product_within 1000000000000000000000000 10000000 c.args.slope c.args.price c.requires.slope c.requires.price) in
+    rw e (signed_product_within 1000000000000000000000000 10000000 c.args.slope c.args.price c.requires.slope
+    c.requires.price) in
     let fits = fits_within w128 10000000000000000000000000000000 (c.args.slope *ℤ c.from.result) within (omega arith) in
     simp to_z-of_z fits
 
@@ -20,7 +21,8 @@ returns-clause-bound c =
     let a : FitsSigned w128 c.from.result = search rules in
     let e = simp to_z-of_z at c.from.ensures in
     let within : IsWithin 10000000000000000000000000000000 (c.args.slope *ℤ c.from.result) =
-    rw e (signed_product_within 1000000000000000000000000 10000000 c.args.slope c.args.price c.requires.slope c.requires.price) in
+    rw e (signed_product_within 1000000000000000000000000 10000000 c.args.slope c.args.price c.requires.slope
+    c.requires.price) in
     let fits = fits_within w128 10000000000000000000000000000000 (c.args.slope *ℤ c.from.result) within (omega arith) in
     simp to_z-of_z within
 
@@ -31,6 +33,7 @@ returns-clause-value c =
     let a : FitsSigned w128 c.from.result = search rules in
     let e = simp to_z-of_z at c.from.ensures in
     let within : IsWithin 10000000000000000000000000000000 (c.args.slope *ℤ c.from.result) =
-    rw e (signed_product_within 1000000000000000000000000 10000000 c.args.slope c.args.price c.requires.slope c.requires.price) in
+    rw e (signed_product_within 1000000000000000000000000 10000000 c.args.slope c.args.price c.requires.slope
+    c.requires.price) in
     let fits = fits_within w128 10000000000000000000000000000000 (c.args.slope *ℤ c.from.result) within (omega arith) in
     simp to_z-of_z (ap (λ (z : ℤ). c.args.slope *ℤ z) e)

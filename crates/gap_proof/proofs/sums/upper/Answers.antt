@@ -1,4 +1,5 @@
-use Rattle.gap_proof.proofs.Common.{rules, ℤ, ◌+ℤ◌, ap, ◌∙◌, arith, FitsSigned, ints, clamps, to_z-of_z, w64, int_min, price_limit, fits_within, IsWithin}
+use Rattle.gap_proof.proofs.Common.{rules, ℤ, ◌+ℤ◌, ap, ◌∙◌, arith, FitsSigned, ints, clamps, to_z-of_z, w64, int_min}
+use Rattle.gap_proof.proofs.Common.{price_limit, fits_within, IsWithin}
 use Rattle.gap_proof.proofs.sums.upper.Goals as goal
 
 pub returns-clause-value : goal.returns-clause-value
@@ -10,7 +11,8 @@ returns-clause-value c =
     let r = c.price.ensures.limits.at_most in
     let s = c.requires.radius.at_least in
     let t = c.requires.radius.at_most in
-    let within : IsWithin 40000000 (c.price.result +ℤ c.args.radius) = record { at_least = omega (arith, ints, p, s); at_most = omega (arith, ints, r, t) } in
+    let within : IsWithin 40000000 (c.price.result +ℤ c.args.radius) =
+    record { at_least = omega (arith, ints, p, s); at_most = omega (arith, ints, r, t) } in
     let fits = fits_within w64 40000000 (c.price.result +ℤ c.args.radius) within (omega arith) in
     let e = simp to_z-of_z at c.min.ensures in
     simp to_z-of_z (e.value ∙ ap (λ (z : ℤ). int_min price_limit (z +ℤ c.args.radius)) c.price.ensures.value)
@@ -24,8 +26,10 @@ returns-clause-limits c =
     let r = c.price.ensures.limits.at_most in
     let s = c.requires.radius.at_least in
     let t = c.requires.radius.at_most in
-    let within : IsWithin 40000000 (c.price.result +ℤ c.args.radius) = record { at_least = omega (arith, ints, p, s); at_most = omega (arith, ints, r, t) } in
+    let within : IsWithin 40000000 (c.price.result +ℤ c.args.radius) =
+    record { at_least = omega (arith, ints, p, s); at_most = omega (arith, ints, r, t) } in
     let fits = fits_within w64 40000000 (c.price.result +ℤ c.args.radius) within (omega arith) in
     let e = simp to_z-of_z at c.min.ensures in
-    let limits : IsWithin 10000000 c.min.result = record { at_least = omega (arith, ints, clamps, e, p, s); at_most = omega (arith, ints, clamps, e) } in
+    let limits : IsWithin 10000000 c.min.result =
+    record { at_least = omega (arith, ints, clamps, e, p, s); at_most = omega (arith, ints, clamps, e) } in
     simp to_z-of_z limits

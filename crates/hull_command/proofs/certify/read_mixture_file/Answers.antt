@@ -12,5 +12,9 @@ returns-in_err-mixture-clause-answers g c =
 pub returns-clause-answers : goal.returns-clause-answers
 returns-clause-answers g c =
     let h = c.in_ok-mixture.ensures.answers in
-    let m = market_of c.args.case.now in
-    (h.0, h.1, answer_then (IsSharesFile m h.0) (IsMixed m) (mixture_of c.in_ok-mixture.mixture) mixture_of c.checked_mixture.result h.2 c.checked_mixture.ensures.answers)
+    let m = market_of c.args.case.now in (
+      h.0,
+      h.1,
+      answer_then (IsSharesFile m h.0) (IsMixed m) (mixture_of c.in_ok-mixture.mixture) mixture_of
+          c.checked_mixture.result h.2 c.checked_mixture.ensures.answers,
+    )

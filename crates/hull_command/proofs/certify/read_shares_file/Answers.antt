@@ -13,6 +13,7 @@ returns-clause-answers g c =
     let h = c.in_ok-bytes.ensures.answers in (
       h.0,
       h.1,
-      answer_then (IsBytes MixtureFile h.0) (IsShares (market_of c.args.case.now)) c.in_ok-bytes.bytes.items mixture_of c.shares_in.result h.2
+      answer_then (IsBytes MixtureFile h.0) (IsShares (market_of c.args.case.now)) c.in_ok-bytes.bytes.items mixture_of
+          c.shares_in.result h.2
           (rw c.as_slice.ensures.value at c.shares_in.ensures.answers),
     )

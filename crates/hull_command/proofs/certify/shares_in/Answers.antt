@@ -5,7 +5,9 @@ pub returns-in-Ok-clause-answers : goal.returns-in-Ok-clause-answers
 returns-in-Ok-clause-answers c = (Ok (mixture_of c.in-Ok.mixture), c.in-Ok.ensures.answer, refl)
 
 pub returns-in-Err-Text-clause-answers : goal.returns-in-Err-Text-clause-answers
-returns-in-Err-Text-clause-answers c = inl (Err (text c.in-Err-Text.fault), rw c.in-Err-Text.field-0-is at c.in-Err-Text.ensures.answer, refl)
+returns-in-Err-Text-clause-answers c =
+    inl (Err (text c.in-Err-Text.fault), rw c.in-Err-Text.field-0-is at c.in-Err-Text.ensures.answer, refl)
 
 pub returns-in-Err-Share-clause-answers : goal.returns-in-Err-Share-clause-answers
-returns-in-Err-Share-clause-answers c = inl (Err (value c.in-Err-Share.fault), rw c.in-Err-Share.field-0-is at c.in-Err-Share.ensures.answer, refl)
+returns-in-Err-Share-clause-answers c =
+    inl (Err (value c.in-Err-Share.fault), rw c.in-Err-Share.field-0-is at c.in-Err-Share.ensures.answer, refl)

@@ -1,4 +1,5 @@
-use Rattle.hull_command.proofs.Common.{rules, refl, w64, w128, to_z-of_z, unsigned_abs, market_of, told_of, fixed_text, try_text}
+use Rattle.hull_command.proofs.Common.{rules, refl, w64, w128, to_z-of_z, unsigned_abs, market_of, told_of, fixed_text}
+use Rattle.hull_command.proofs.Common.{try_text}
 use Rattle.hull_report.specs.CertifiedText.{certificate_of}
 use Rattle.report_form.specs.CertificateText.{certificate_text}
 use Rattle.hull_report.specs.SettledText.{settlement_of}
@@ -22,7 +23,8 @@ returns-in-Certify g c =
     let x = c.in-Certify.certified in
     let input = x.settled.input in
     rw c.in-Certify.is (
-      certificate_text (certificate_of (market_of input.case) input.cost (settled_of x.settled.settled) (unsigned_abs x.within.radius) x.within.bound),
+      certificate_text (certificate_of (market_of input.case) input.cost (settled_of x.settled.settled)
+          (unsigned_abs x.within.radius) x.within.bound),
       refl,
       rw (to_z-of_z w128 input.cost (search rules)) at c.write_certificate.ensures,
     )
@@ -30,8 +32,13 @@ returns-in-Certify g c =
 pub returns-in-Try : goal.returns-in-Try
 returns-in-Try g c =
     let done = c.in-Try.done in
-    let right = run_text c.record_report_is_right.ensures (try_text c.in-Try.number) done (rw c.in-Try.is at c.requires) in
-    rw c.in-Try.is (try_text c.in-Try.number (report_of done.closed done.settlement), right, c.write_try-written.ensures)
+    let right = run_text c.record_report_is_right.ensures (try_text c.in-Try.number) done
+    (rw c.in-Try.is at c.requires) in
+    rw c.in-Try.is (
+      try_text c.in-Try.number (report_of done.closed done.settlement),
+      right,
+      c.write_try-written.ensures,
+    )
 
 pub returns-in-Bound : goal.returns-in-Bound
 returns-in-Bound g c =

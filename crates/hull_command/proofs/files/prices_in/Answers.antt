@@ -6,7 +6,9 @@ pub returns-in-Ok-clause-answers : goal.returns-in-Ok-clause-answers
 returns-in-Ok-clause-answers c = (Ok (prices_of c.in-Ok.prices), c.in-Ok.ensures.answer, refl)
 
 pub returns-in-Err-Text-clause-answers : goal.returns-in-Err-Text-clause-answers
-returns-in-Err-Text-clause-answers c = inl (Err (text c.in-Err-Text.fault), rw c.in-Err-Text.field-0-is at c.in-Err-Text.ensures.answer, refl)
+returns-in-Err-Text-clause-answers c =
+    inl (Err (text c.in-Err-Text.fault), rw c.in-Err-Text.field-0-is at c.in-Err-Text.ensures.answer, refl)
 
 pub returns-in-Err-Price-clause-answers : goal.returns-in-Err-Price-clause-answers
-returns-in-Err-Price-clause-answers c = inl (Err (value c.in-Err-Price.fault), rw c.in-Err-Price.field-0-is at c.in-Err-Price.ensures.answer, refl)
+returns-in-Err-Price-clause-answers c =
+    inl (Err (value c.in-Err-Price.fault), rw c.in-Err-Price.field-0-is at c.in-Err-Price.ensures.answer, refl)

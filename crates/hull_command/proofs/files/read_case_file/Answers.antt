@@ -10,5 +10,9 @@ returns-in_err-bytes-clause-answers g c =
 
 pub returns-clause-answers : goal.returns-clause-answers
 returns-clause-answers g c =
-    let h = c.in_ok-bytes.ensures.answers in
-    (h.0, h.1, answer_then (IsBytes CaseFile h.0) IsCase c.in_ok-bytes.bytes.items market_of c.case_in.result h.2 (rw c.as_slice.ensures.value at c.case_in.ensures))
+    let h = c.in_ok-bytes.ensures.answers in (
+      h.0,
+      h.1,
+      answer_then (IsBytes CaseFile h.0) IsCase c.in_ok-bytes.bytes.items market_of c.case_in.result h.2
+          (rw c.as_slice.ensures.value at c.case_in.ensures),
+    )

@@ -1,5 +1,7 @@
-use Rattle.hull_command.proofs.Common.{err_from_is_err_and, arith, Market, market_of, planned_of, Then, IsCaseFile, IsPlanFile, IsChecked}
-use Rattle.hull_command.proofs.Lemmas.{unread, unread_is, read_wider, two_reads, are_two_reads, refused_then, answer_then}
+use Rattle.hull_command.proofs.Common.{err_from_is_err_and, arith, Market, market_of, planned_of, Then, IsCaseFile}
+use Rattle.hull_command.proofs.Common.{IsPlanFile, IsChecked}
+use Rattle.hull_command.proofs.Lemmas.{unread, unread_is, read_wider, two_reads, are_two_reads, refused_then}
+use Rattle.hull_command.proofs.Lemmas.{answer_then}
 use Rattle.hull_command.proofs.files.read_input.Goals as goal
 
 pub returns-in_err-case-clause-answers : goal.returns-in_err-case-clause-answers
@@ -10,7 +12,8 @@ returns-in_err-case-clause-answers g c =
     let other = unread (told c.args.schedule_name.now) in
     rw (p.1, p.2) (
       two_reads h.0 other,
-      are_two_reads told _ c.args.case_name.now c.args.schedule_name.now h.0 other h.1 (unread_is (told c.args.schedule_name.now) _),
+      are_two_reads told _ c.args.case_name.now c.args.schedule_name.now h.0 other h.1
+          (unread_is (told c.args.schedule_name.now) _),
       refused_then (IsCaseFile h.0) (λ (m : Market). Then (IsPlanFile m other) (IsChecked m)) _ h.2,
     )
 
@@ -23,7 +26,11 @@ returns-clause-answers g c =
     let schedule_name = c.args.schedule_name.now in (
       two_reads first.0 later.0,
       are_two_reads told _ case_name schedule_name first.0 later.0
-          (read_wider (told case_name) g.F.Shelf.last _ _ _ _ first.0 (omega arith) (c.read_schedule.ensures.shelf.later case_name) first.1)
-          (read_wider (told schedule_name) g.F.Shelf.last _ _ _ _ later.0 (c.in_ok-case.ensures.shelf.later schedule_name) (omega arith) (rw c.in_ok-case.ensures.shelf.told_same at later.1)),
-      answer_then (IsCaseFile first.0) (λ (m : Market). Then (IsPlanFile m later.0) (IsChecked m)) (market_of c.in_ok-case.case) planned_of c.read_schedule.result first.2 later.2,
+          (read_wider (told case_name) g.F.Shelf.last _ _ _ _ first.0 (omega arith)
+          (c.read_schedule.ensures.shelf.later case_name) first.1)
+          (read_wider (told schedule_name) g.F.Shelf.last _ _ _ _ later.0
+          (c.in_ok-case.ensures.shelf.later schedule_name) (omega arith)
+          (rw c.in_ok-case.ensures.shelf.told_same at later.1)),
+      answer_then (IsCaseFile first.0) (λ (m : Market). Then (IsPlanFile m later.0) (IsChecked m))
+          (market_of c.in_ok-case.case) planned_of c.read_schedule.result first.2 later.2,
     )

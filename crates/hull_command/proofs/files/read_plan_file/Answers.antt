@@ -13,6 +13,7 @@ returns-clause-answers g c =
     let h = c.in_ok-bytes.ensures.answers in (
       h.0,
       h.1,
-      answer_then (IsBytes ScheduleFile h.0) (IsPlan (market_of c.args.case.now)) c.in_ok-bytes.bytes.items schedules_of c.plan_in.result h.2
+      answer_then (IsBytes ScheduleFile h.0) (IsPlan (market_of c.args.case.now)) c.in_ok-bytes.bytes.items schedules_of
+          c.plan_in.result h.2
           (rw c.as_slice.ensures.value at c.plan_in.ensures.answers),
     )

@@ -14,6 +14,7 @@ returns-clause-answers g c =
     let h = c.in_ok-bytes.ensures.answers in (
       h.0,
       h.1,
-      answer_then (IsBytes PricesFile h.0) (IsPrices (market_of c.args.case.now).periods) c.in_ok-bytes.bytes.items prices_of c.prices_in.result h.2
+      answer_then (IsBytes PricesFile h.0) (IsPrices (market_of c.args.case.now).periods) c.in_ok-bytes.bytes.items
+          prices_of c.prices_in.result h.2
           (rw c.as_slice.ensures.value at c.prices_in.ensures.answers),
     )

@@ -10,5 +10,9 @@ returns-in_err-bytes-clause-answers g c =
 
 pub returns-clause-answers : goal.returns-clause-answers
 returns-clause-answers g c =
-    let h = c.in_ok-bytes.ensures.answers in
-    (h.0, h.1, answer_then (IsBytes ReportFile h.0) IsReportIn c.in_ok-bytes.bytes.items report_of c.report_in.result h.2 (rw c.as_slice.ensures.value at c.report_in.ensures.answers))
+    let h = c.in_ok-bytes.ensures.answers in (
+      h.0,
+      h.1,
+      answer_then (IsBytes ReportFile h.0) IsReportIn c.in_ok-bytes.bytes.items report_of c.report_in.result
+          h.2 (rw c.as_slice.ensures.value at c.report_in.ensures.answers),
+    )

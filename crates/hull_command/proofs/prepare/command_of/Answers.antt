@@ -7,7 +7,8 @@ returns-in-Ok-clause-sizes c = words_have_sizes (texts c.args.words.now) (asked 
 
 pub returns-in-Err-Fault-clause-refused : goal.returns-in-Err-Fault-clause-refused
 returns-in-Err-Fault-clause-refused c reads =
-    inl (refused_words (words_of (texts c.args.words.now)) c.in-Err-Fault.fault (rw c.in-Err-Fault.field-0-is at c.in-Err-Fault.ensures) reads)
+    inl (refused_words (words_of (texts c.args.words.now)) c.in-Err-Fault.fault
+    (rw c.in-Err-Fault.field-0-is at c.in-Err-Fault.ensures) reads)
 
 pub returns-in-Err-Memory-clause-refused : goal.returns-in-Err-Memory-clause-refused
 returns-in-Err-Memory-clause-refused c reads = inr refl

@@ -7,7 +7,11 @@ returns-in_err-command-clause-prepared g c =
     let p = err_from_is_err_and c.from_residual.result c.from_residual.ensures.1 in
     let told = g.F.Shelf.told c.args.shelf.now in
     let names = (command_for (words_of (texts c.args.words.now))).name_of in
-    rw (p.1, p.2) (any_reads told names, are_any_reads told _ names, c.in_err-command.ensures.refused (any_reads told names))
+    rw (p.1, p.2) (
+      any_reads told names,
+      are_any_reads told _ names,
+      c.in_err-command.ensures.refused (any_reads told names),
+    )
 
 pub returns-clause-prepared : goal.returns-clause-prepared
 returns-clause-prepared g c = rw c.in_ok-command.ensures.given c.prepare_command.ensures.prepared

@@ -10,4 +10,5 @@ returns-in_err-terms-clause-prepared g c =
 pub returns-clause-prepared : goal.returns-clause-prepared
 returns-clause-prepared g c =
     let h = c.in_ok-terms.ensures.answers in
-    rw (to_z-of_z w64 c.args.words.now.radius (search rules)) (h.0, h.1, completes_bound c.in_ok-terms.terms c.args.words.now h.0 c.in_ok-terms.ensures.numbers h.2)
+    rw (to_z-of_z w64 c.args.words.now.radius (search rules))
+    (h.0, h.1, completes_bound c.in_ok-terms.terms c.args.words.now h.0 c.in_ok-terms.ensures.numbers h.2)

@@ -1,5 +1,7 @@
-use Rattle.hull_command.proofs.Common.{arith, rules, inr, refl, w64, to_z-of_z, ◌∙◌, err_from_is_err_and, planned_of, prices_of, mixture_of, settle_asked}
-use Rattle.hull_command.proofs.Lemmas.{priced_refused, mixture_refused, answers_certify, unread, unread_is, mixture_added, are_mixture_added}
+use Rattle.hull_command.proofs.Common.{arith, rules, inr, refl, w64, to_z-of_z, ◌∙◌, err_from_is_err_and, planned_of}
+use Rattle.hull_command.proofs.Common.{prices_of, mixture_of, settle_asked}
+use Rattle.hull_command.proofs.Lemmas.{priced_refused, mixture_refused, answers_certify, unread, unread_is}
+use Rattle.hull_command.proofs.Lemmas.{mixture_added, are_mixture_added}
 use Rattle.hull_command.proofs.prepare.prepare_certify.Goals as goal
 
 pub returns-in_err-priced-clause-prepared : goal.returns-in_err-priced-clause-prepared
@@ -23,7 +25,8 @@ returns-in_err-mixture-clause-prepared g c =
     let p = err_from_is_err_and c.from_residual-in_err-mixture.result c.from_residual-in_err-mixture.ensures.1 in
     let priced = c.in_ok-priced.priced in
     let h = c.in_ok-priced.ensures.answers in
-    let k = rw (c.as_str-mixture_name.ensures, c.in_ok-priced.ensures.shelf.told_same) at c.in_err-mixture.ensures.answers in
+    let k = rw (c.as_str-mixture_name.ensures, c.in_ok-priced.ensures.shelf.told_same) at
+    c.in_err-mixture.ensures.answers in
     rw (p.1, p.2) (
       mixture_added h.0 k.0,
       are_mixture_added told g.F.Shelf.last _ _ _ (settle_asked words.names) words.mixture_name.items h.0 k.0
@@ -37,7 +40,8 @@ returns-in_err-certified-clause-prepared g c =
     let told = g.F.Shelf.told c.args.shelf.now in
     let p = err_from_is_err_and c.from_residual-in_err-certified.result c.from_residual-in_err-certified.ensures.1 in
     let h = c.in_ok-priced.ensures.answers in
-    let k = rw (c.as_str-mixture_name.ensures, c.in_ok-priced.ensures.shelf.told_same) at c.in_ok-mixture.ensures.answers in
+    let k = rw (c.as_str-mixture_name.ensures, c.in_ok-priced.ensures.shelf.told_same) at
+    c.in_ok-mixture.ensures.answers in
     rw (p.1, p.2) (
       mixture_added h.0 k.0,
       are_mixture_added told g.F.Shelf.last _ _ _ (settle_asked words.names) words.mixture_name.items h.0 k.0
@@ -52,11 +56,14 @@ returns-clause-prepared g c =
     let priced = c.in_ok-priced.priced in
     let h = c.in_ok-priced.ensures.answers in
     let certified = rw (to_z-of_z w64 words.radius (search rules)) at c.in_ok-certified.ensures.certified in
-    let k = rw (c.as_str-mixture_name.ensures, c.in_ok-priced.ensures.shelf.told_same) at c.in_ok-mixture.ensures.answers in (
+    let k = rw (c.as_str-mixture_name.ensures, c.in_ok-priced.ensures.shelf.told_same) at
+    c.in_ok-mixture.ensures.answers in (
       mixture_added h.0 k.0,
       are_mixture_added told g.F.Shelf.last _ _ _ (settle_asked words.names) words.mixture_name.items h.0 k.0
           c.in_ok-priced.ensures.shelf.later c.in_ok-mixture.ensures.shelf.later h.1 k.1,
-      answers_certify words priced.input c.in_ok-certified.certified c.in_ok-certified.ensures.input (prices_of priced.prices) (mixture_of c.in_ok-mixture.mixture) certified (mixture_added h.0 k.0) h.2.0 h.2.1 k.2,
+      answers_certify words priced.input c.in_ok-certified.certified c.in_ok-certified.ensures.input
+          (prices_of priced.prices) (mixture_of c.in_ok-mixture.mixture) certified (mixture_added h.0 k.0) h.2.0 h.2.1
+          k.2,
     )
 
 pub returns-in_err-certified-clause-shelf : goal.returns-in_err-certified-clause-shelf

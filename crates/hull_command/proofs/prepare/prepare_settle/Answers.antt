@@ -19,5 +19,6 @@ returns-clause-prepared g c =
     let priced = c.in_ok-priced.priced in (
       h.0,
       h.1,
-      answers_settle priced.input c.in_ok-settled.settled c.in_ok-settled.ensures.input (prices_of priced.prices) c.in_ok-settled.ensures.settled c.args.words.now h.0 h.2.0 h.2.1,
+      answers_settle priced.input c.in_ok-settled.settled c.in_ok-settled.ensures.input (prices_of priced.prices)
+          c.in_ok-settled.ensures.settled c.args.words.now h.0 h.2.0 h.2.1,
     )

@@ -1,4 +1,5 @@
-use Rattle.hull_command.proofs.Common.{Result, Ok, Err, inr, refl, err_from_is_err_and, TopFault, Terms, planned_of, planned_run, IsMade, IsWithinWork}
+use Rattle.hull_command.proofs.Common.{Result, Ok, Err, inr, refl, err_from_is_err_and, TopFault, Terms, planned_of}
+use Rattle.hull_command.proofs.Common.{planned_run, IsMade, IsWithinWork}
 use Rattle.hull_command.proofs.Lemmas.{completes_try, answer_then}
 use Rattle.hull_command.proofs.prepare.prepare_try.Goals as goal
 
@@ -10,7 +11,8 @@ returns-in_err-terms-clause-prepared c reads =
     let words = c.args.words.now in
     let p = err_from_is_err_and c.from_residual.result c.from_residual.ensures.1 in
     let run : Result Terms TopFault = Err c.in_err-terms.field-0.0 in
-    rw (p.1, p.2) (answer_then (IsMade words.number) (IsWithinWork words.proposals) (planned_of c.in-Ok.input) planned_run run
+    rw (p.1, p.2) (answer_then (IsMade words.number) (IsWithinWork words.proposals) (planned_of c.in-Ok.input)
+    planned_run run
     (c.in-Ok.ensures.planned.feasible, c.in-Ok.ensures.made) c.in_err-terms.ensures.answers)
 
 pub returns-clause-prepared : goal.returns-clause-prepared

@@ -13,5 +13,6 @@ returns-clause-answers g c =
     let h = rw (c.as_str-case_name.ensures, c.as_str-schedule_name.ensures) at c.in_ok-input.ensures.answers in (
       h.0,
       h.1,
-      answer_then (IsInput h.0) (IsWithinWork c.args.words.now.proposals) (planned_of c.in_ok-input.input) planned_run c.within_work.result h.2 c.within_work.ensures.answers,
+      answer_then (IsInput h.0) (IsWithinWork c.args.words.now.proposals) (planned_of c.in_ok-input.input) planned_run
+          c.within_work.result h.2 c.within_work.ensures.answers,
     )

@@ -11,7 +11,10 @@ returns-clause-told c =
     let planned = c.requires.planned in
     let is = c.in_ok-settled.ensures.settled in
     record {
-      cost = subst IsSum (sym planned.cost) (c.plan_costs_are_within.ensures m plan c.args.priced.input.case.valid planned.feasible);
-      value = c.dual_values_are_within.ensures m (prices_of c.args.priced.prices) _ c.args.priced.input.case.valid c.args.priced.prices.valid c.requires.horizon is.value;
-      each = c.settlements_have_each_unit.ensures m plan (prices_of c.args.priced.prices) (settled_of c.in_ok-settled.settled) planned.feasible c.requires.horizon is;
+      cost = subst IsSum (sym planned.cost)
+          (c.plan_costs_are_within.ensures m plan c.args.priced.input.case.valid planned.feasible);
+      value = c.dual_values_are_within.ensures m (prices_of c.args.priced.prices) _ c.args.priced.input.case.valid
+          c.args.priced.prices.valid c.requires.horizon is.value;
+      each = c.settlements_have_each_unit.ensures m plan (prices_of c.args.priced.prices)
+          (settled_of c.in_ok-settled.settled) planned.feasible c.requires.horizon is;
     }

@@ -12,6 +12,7 @@ returns-clause-answers g c =
     let b = c.in_ok-bounded_run in (
       planned_run c.args.terms,
       refl,
-      bound_texts c.args.terms b.field-0.done.closed.setup c.args.terms.budget c.args.terms.ahead b.field-0.radius c.args.radius b.ensures.ended.setup refl refl
+      bound_texts c.args.terms b.field-0.done.closed.setup c.args.terms.budget c.args.terms.ahead b.field-0.radius
+          c.args.radius b.ensures.ended.setup refl refl
           (rw (to_z-of_z w64 c.args.radius (search rules)) at b.ensures.radius_is),
     )

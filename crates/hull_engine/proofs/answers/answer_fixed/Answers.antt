@@ -11,7 +11,8 @@ pub returns-clause-answers : goal.returns-clause-answers
 returns-clause-answers g c = (
   planned_run c.args.terms,
   refl,
-  fixed_texts c.args.terms c.in_ok-compared_runs.field-0 c.args.terms.budget c.args.terms.ahead c.in_ok-compared_runs.ensures refl refl,
+  fixed_texts c.args.terms c.in_ok-compared_runs.field-0 c.args.terms.budget c.args.terms.ahead
+      c.in_ok-compared_runs.ensures refl refl,
 )
 
 pub returns-clause-answered : goal.returns-clause-answered

@@ -12,8 +12,10 @@ pub returns-clause-answers : goal.returns-clause-answers
 returns-clause-answers g c = (
   planned_run c.args.terms,
   refl,
-  run_texts (try_text c.args.number) c.args.terms c.run_board.result.closed.setup c.args.terms.budget c.args.terms.ahead (c.run_board.ensures.setup ∙ c.in_ok-opened.ensures) refl refl,
+  run_texts (try_text c.args.number) c.args.terms c.run_board.result.closed.setup c.args.terms.budget c.args.terms.ahead
+      (c.run_board.ensures.setup ∙ c.in_ok-opened.ensures) refl refl,
 )
 
 pub returns-clause-answered : goal.returns-clause-answered
-returns-clause-answered g c = subst (λ (b : Setup). IsEnded b c.run_board.result) (sym c.run_board.ensures.setup) c.run_board.ensures
+returns-clause-answered g c =
+    subst (λ (b : Setup). IsEnded b c.run_board.result) (sym c.run_board.ensures.setup) c.run_board.ensures

@@ -1,4 +1,5 @@
-use Rattle.hull_engine.proofs.Common.{◌≡◌, List, [], ◌∷◌, ◌++◌, length, length-append, sym, ap, ◌∙◌, subst, arith, All, All-push, market_of, IsBenchOver}
+use Rattle.hull_engine.proofs.Common.{◌≡◌, List, [], ◌∷◌, ◌++◌, length, length-append, sym, ap, ◌∙◌, subst, arith, All}
+use Rattle.hull_engine.proofs.Common.{All-push, market_of, IsBenchOver}
 use Rattle.unit_program.specs.declared.bench.Bench.{Bench}
 use Rattle.hull_engine.proofs.audit.benches_for.Goals as goal
 
@@ -15,5 +16,6 @@ loop-preserved c =
     record {
       count = omega (arith, long, was);
       within = omega (arith, test);
-      benches = subst (λ (xs : List Bench). All (IsBenchOver m) xs) (sym pushed) (All-push (IsBenchOver m) c.loop.benches.items bench known.benches over);
+      benches = subst (λ (xs : List Bench). All (IsBenchOver m) xs) (sym pushed)
+          (All-push (IsBenchOver m) c.loop.benches.items bench known.benches over);
     }

@@ -28,4 +28,9 @@ returns-in-Ok-Right-clause-count g c = c.len.ensures ∙ sym (length-map c.args.
 pub returns-in-Ok-Wrong-clause-answers : goal.returns-in-Ok-Wrong-clause-answers
 returns-in-Ok-Wrong-clause-answers g c =
     let is = c.in-Ok-Wrong.field-0-is in
-    inl (c.in-Ok-Wrong.line, λ right. never_both _ c.in-Ok-Wrong.line is (c.in-Ok-Wrong.ensures.right.1 right), rw is at c.in-Ok-Wrong.ensures.wrong, refl)
+    inl (
+      c.in-Ok-Wrong.line,
+      λ right. never_both _ c.in-Ok-Wrong.line is (c.in-Ok-Wrong.ensures.right.1 right),
+      rw is at c.in-Ok-Wrong.ensures.wrong,
+      refl,
+    )

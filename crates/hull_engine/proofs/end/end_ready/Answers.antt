@@ -14,8 +14,10 @@ returns-in-Try g c =
 pub returns-in-Bound : goal.returns-in-Bound
 returns-in-Bound g c =
     let terms = c.args.ready.terms in
-    let answers = rw (to_z-of_z w64 c.in-Bound.radius (search rules), c.manned-terms.ensures.same) at c.answer_bound.ensures.answers in
-    rw c.in-Bound.is (c.finish-in-Bound.ensures.ends (Bound c.in-Bound.radius) (planned_run terms) terms.budget terms.ahead answers)
+    let answers = rw (to_z-of_z w64 c.in-Bound.radius (search rules), c.manned-terms.ensures.same) at
+    c.answer_bound.ensures.answers in
+    rw c.in-Bound.is (c.finish-in-Bound.ensures.ends (Bound c.in-Bound.radius) (planned_run terms) terms.budget
+    terms.ahead answers)
 
 pub returns-in-Fixed : goal.returns-in-Fixed
 returns-in-Fixed g c =
@@ -27,4 +29,5 @@ pub returns-in-Audit : goal.returns-in-Audit
 returns-in-Audit g c =
     let terms = c.args.ready.terms in
     let answers = rw c.manned-terms.ensures.same at c.answer_audit.ensures.answers in
-    rw c.in-Audit.is (c.finish-in-Audit.ensures.ends (Audit c.in-Audit.report) (planned_run terms) terms.budget terms.ahead answers)
+    rw c.in-Audit.is (c.finish-in-Audit.ensures.ends (Audit c.in-Audit.report) (planned_run terms) terms.budget
+    terms.ahead answers)

@@ -11,8 +11,11 @@ returns-then-status-eq0 g c =
     let h = e.report in
     let closed = c.finish_run-status.result.1 in
     let right = report_of closed h.0 in
-    let is = run_texts report_text terms closed.setup terms.budget terms.ahead (e.setup ∙ c.in-Ok.ensures) refl refl (report_text right) (right, c.record_report_is_right.ensures closed h.0 h.1 h.2, refl) in
-    price_done (planned_run terms) terms.budget terms.ahead _ (FallsShort g.S.Sink.held g.S.Sink.faults g.S.Sink.last c.args.out.now c.finish_run-status.new.out) (report_text right) is
+    let is = run_texts report_text terms closed.setup terms.budget terms.ahead (e.setup ∙ c.in-Ok.ensures) refl refl
+    (report_text right) (right, c.record_report_is_right.ensures closed h.0 h.1 h.2, refl) in
+    price_done (planned_run terms) terms.budget terms.ahead _
+    (FallsShort g.S.Sink.held g.S.Sink.faults g.S.Sink.last c.args.out.now c.finish_run-status.new.out)
+    (report_text right) is
     (done_status _ _ _ h.3 c.if-status-eq0.true)
 
 pub returns-in-Ok : goal.returns-in-Ok
@@ -22,8 +25,10 @@ returns-in-Ok g c =
     let h = e.report in
     let closed = c.finish_run-status.result.1 in
     let right = report_of closed h.0 in
-    let is = run_texts report_text terms closed.setup terms.budget terms.ahead (e.setup ∙ c.in-Ok.ensures) refl refl (report_text right) (right, c.record_report_is_right.ensures closed h.0 h.1 h.2, refl) in
-    price_cut (planned_run terms) terms.budget terms.ahead (Gains g.S.Sink.held g.S.Sink.faults c.args.out.now c.finish_run-status.new.out) _ (report_text right) is
+    let is = run_texts report_text terms closed.setup terms.budget terms.ahead (e.setup ∙ c.in-Ok.ensures) refl refl
+    (report_text right) (right, c.record_report_is_right.ensures closed h.0 h.1 h.2, refl) in
+    price_cut (planned_run terms) terms.budget terms.ahead
+    (Gains g.S.Sink.held g.S.Sink.faults c.args.out.now c.finish_run-status.new.out) _ (report_text right) is
     (cut_status _ _ _ h.3 c.if-status-eq0.false)
 
 pub returns : goal.returns

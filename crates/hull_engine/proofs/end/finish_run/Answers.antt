@@ -10,5 +10,6 @@ returns-clause-report g c =
       d.settlement,
       e.row,
       e.settled,
-      status_written c.write_done-written.result c.status_of.result _ _ w.text.ok w.text.err c.status_of.ensures.whole c.status_of.ensures.cut,
+      status_written c.write_done-written.result c.status_of.result _ _ w.text.ok w.text.err c.status_of.ensures.whole
+          c.status_of.ensures.cut,
     )

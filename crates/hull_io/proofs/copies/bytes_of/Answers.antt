@@ -8,4 +8,5 @@ returns-in_err-file c =
     rw c.from_residual.ensures (sym told)
 
 pub returns : goal.returns
-returns c = let told = told_by_first c.args.files.now c.args.name.now (Some c.in_ok-file.file.now) c.in_ok-file.ensures in cc
+returns c =
+    let told = told_by_first c.args.files.now c.args.name.now (Some c.in_ok-file.file.now) c.in_ok-file.ensures in cc

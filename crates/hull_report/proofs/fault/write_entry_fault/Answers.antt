@@ -3,4 +3,8 @@ use Rattle.hull_report.proofs.fault.write_entry_fault.Goals as goal
 
 pub returns : goal.returns
 unfolding entry_told
-returns g c = rw (← c.number-code.ensures) (rw (to_z-of_z w128 c.args.fault.now.fault.left (search rules), to_z-of_z w128 c.args.fault.now.fault.right (search rules)) at c.write_at_unit.ensures)
+returns g c = rw (← c.number-code.ensures)
+    (rw (
+      to_z-of_z w128 c.args.fault.now.fault.left (search rules),
+      to_z-of_z w128 c.args.fault.now.fault.right (search rules),
+    ) at c.write_at_unit.ensures)

@@ -5,21 +5,29 @@ use Rattle.hull_words.proofs.Lemmas.{texts-drop, past_value, past_word, at_fault
 use Rattle.hull_words.proofs.reading.pass_word.Goals as goal
 
 pub returns-then-is_value-clause-ok : goal.returns-then-is_value-clause-ok
-returns-then-is_value-clause-ok c = rw c.if-is_value.true (past_value c.args.command c.args.words.now c.args.index (found_so_far c.args.given) c.requires.within)
+returns-then-is_value-clause-ok c = rw c.if-is_value.true
+    (past_value c.args.command c.args.words.now c.args.index (found_so_far c.args.given) c.requires.within)
 
 pub returns-in-Ok-clause-ok : goal.returns-in-Ok-clause-ok
 returns-in-Ok-clause-ok c =
-    rw c.if-is_value.false (past_word c.args.command (drop c.args.index (texts c.args.words.now)) (drop (c.args.index + 1) (texts c.args.words.now)) (string_bytes c.index-words-index.result) c.as_str.result.now
-    (option_copied c.word_at-next.result) c.args.index c.in-Ok.read.1 (found_so_far c.args.given) (found_so_far c.in-Ok.read.0)
-    (texts-drop c.args.words.now c.args.index c.index-words-index.result c.requires.within c.index-words-index.is) c.as_str.ensures.value c.word_at-next.ensures c.in-Ok.ensures.step c.in-Ok.ensures.next)
+    rw c.if-is_value.false (past_word c.args.command (drop c.args.index (texts c.args.words.now))
+    (drop (c.args.index + 1) (texts c.args.words.now)) (string_bytes c.index-words-index.result) c.as_str.result.now
+    (option_copied c.word_at-next.result) c.args.index c.in-Ok.read.1 (found_so_far c.args.given)
+    (found_so_far c.in-Ok.read.0)
+    (texts-drop c.args.words.now c.args.index c.index-words-index.result c.requires.within c.index-words-index.is)
+    c.as_str.ensures.value c.word_at-next.ensures c.in-Ok.ensures.step c.in-Ok.ensures.next)
 
 pub returns-in-Ok-clause-few : goal.returns-in-Ok-clause-few
 returns-in-Ok-clause-few c =
-    few_more c.args.index (set_count (found_so_far c.args.given)) (set_count (found_so_far c.in-Ok.read.0)) c.args.is_value c.in-Ok.read.1 c.if-is_value.false c.requires.few
-    (word_step-count c.args.command c.as_str.result.now (option_copied c.word_at-next.result) (found_so_far c.args.given) (found_so_far c.in-Ok.read.0) (sym c.in-Ok.ensures.step))
+    few_more c.args.index (set_count (found_so_far c.args.given)) (set_count (found_so_far c.in-Ok.read.0))
+    c.args.is_value c.in-Ok.read.1 c.if-is_value.false c.requires.few
+    (word_step-count c.args.command c.as_str.result.now (option_copied c.word_at-next.result)
+    (found_so_far c.args.given) (found_so_far c.in-Ok.read.0) (sym c.in-Ok.ensures.step))
 
 pub returns-in-Err-clause-err : goal.returns-in-Err-clause-err
 returns-in-Err-clause-err c =
-    rw c.if-is_value.false (at_fault c.args.command (drop c.args.index (texts c.args.words.now)) (drop (c.args.index + 1) (texts c.args.words.now)) (string_bytes c.index-words-index.result) c.as_str.result.now
+    rw c.if-is_value.false (at_fault c.args.command (drop c.args.index (texts c.args.words.now))
+    (drop (c.args.index + 1) (texts c.args.words.now)) (string_bytes c.index-words-index.result) c.as_str.result.now
     (option_copied c.word_at-next.result) c.args.index (found_so_far c.args.given) c.in-Err.code
-    (texts-drop c.args.words.now c.args.index c.index-words-index.result c.requires.within c.index-words-index.is) c.as_str.ensures.value c.word_at-next.ensures c.in-Err.ensures.step)
+    (texts-drop c.args.words.now c.args.index c.index-words-index.result c.requires.within c.index-words-index.is)
+    c.as_str.ensures.value c.word_at-next.ensures c.in-Err.ensures.step)

@@ -1,4 +1,5 @@
-use Rattle.hull_words.proofs.Common.{◌≡◌, ◌+◌, ◌*◌, ◌≤◌, false, drop, Found, texts, flag, set_count, found_so_far, nothing, read_from}
+use Rattle.hull_words.proofs.Common.{◌≡◌, ◌+◌, ◌*◌, ◌≤◌, false, drop, Found, texts, flag, set_count, found_so_far}
+use Rattle.hull_words.proofs.Common.{nothing, read_from}
 use Rattle.hull_words.proofs.reading.read_later.Given as goal
 
 abbrev pub invariant-loop-index : goal.invariant-loop-index
@@ -16,6 +17,7 @@ invariant-loop-index l =
       number = l.given.1.1.1.1.1.1.1.1.1.0;
     }) in
     record {
-      rest : read_from l.command (l.index + 2) l.is_value (drop l.index (texts l.words)) found ≡ read_from l.command 2 false (texts l.words) nothing;
+      rest : read_from l.command (l.index + 2) l.is_value (drop l.index (texts l.words)) found ≡ read_from l.command 2
+          false (texts l.words) nothing;
       few : l.index + flag l.is_value ≤ 2 * set_count found;
     }

@@ -11,4 +11,6 @@ returns g c words old new before after n h a same =
       reaches = c.mixture_bound_reaches_centre.ensures;
       least = c.payments_reach_least.ensures;
     } in
-    certificate_holds c.bytes_are_those_read.ensures c.words_have_sizes.ensures holds c.one_prices.ensures c.one_mixture.ensures c.mixtures_break_no_rule.ensures a _ _ _ _ words n h.reads h.end h.are_reads h.ends h.status_is same
+    certificate_holds c.bytes_are_those_read.ensures c.words_have_sizes.ensures holds c.one_prices.ensures
+    c.one_mixture.ensures c.mixtures_break_no_rule.ensures a _ _ _ _ words n h.reads h.end h.are_reads h.ends
+    h.status_is same

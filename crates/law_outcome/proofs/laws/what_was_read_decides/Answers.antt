@@ -13,5 +13,9 @@ returns g c words old new before after n h quiet =
       difference = c.one_line_differs.ensures;
       prices = c.one_prices.ensures;
       mixture = c.one_mixture.ensures;
-    } in
-    (h.reads, h.are_reads, is_decided (words_of words) _ _ _ _ ones n h.reads h.end h.are_reads quiet h.ends h.status_is)
+    } in (
+      h.reads,
+      h.are_reads,
+      is_decided (words_of words) _ _ _ _ ones n h.reads h.end h.are_reads quiet h.ends
+          h.status_is,
+    )

@@ -1,4 +1,6 @@
-use Rattle.level_table.proofs.Common.{rules, ◌≡◌, ℕ, ◌<◌, length, arith, ap, to_z, of_z, get_or, ◌++◌, List, take, drop, Option, Some, ℤ, pos, ◌+ℤ◌, w64, to_z-of_z, take_at, curve_value, IsCurveSum, value-from_index, table, within_limits}
+use Rattle.level_table.proofs.Common.{rules, ◌≡◌, ℕ, ◌<◌, length, arith, ap, to_z, of_z, get_or, ◌++◌, List, take, drop}
+use Rattle.level_table.proofs.Common.{Option, Some, ℤ, pos, ◌+ℤ◌, w64, to_z-of_z, take_at, curve_value, IsCurveSum}
+use Rattle.level_table.proofs.Common.{value-from_index, table, within_limits}
 use Rattle.level_table.proofs.Lemmas.{AreWithin-from_limits, added_at}
 use Rattle.level_table.proofs.LevelsShape.add_curve.Goals as goal
 use Rattle.level_table.proofs.LevelsShape.add_curve.Goals.{After-add_term}
@@ -16,9 +18,13 @@ add_term-requires-clause-fits c = λ k h.
 record Raised (lo : ℤ) (added : ℤ → Option ℤ) (old new written : List ℤ) : Type 0 where
   same : written ≡ new
   len : length new ≡ length old
-  each : (k : ℕ) → k < length old → (t : ℤ) × (added (lo +ℤ pos k) ≡ Some t) × (get_or new k (pos 0) ≡ get_or old k (pos 0) +ℤ t)
+  each : (k : ℕ) → k < length old → (t : ℤ) × (added (lo +ℤ pos k) ≡ Some t) ×
+      (get_or new k (pos 0) ≡ get_or old k (pos 0) +ℤ t)
 
-raised : (c : After-add_term) → Raised c.args.self.now.lo (λ x. curve_value c.args.curve.now (x +ℤ c.args.shift)) c.args.self.now.values.items c.add_term.new.values (take c.args.self.now.values.len (c.add_term.new.values ++ drop (length c.add_term.new.values) c.args.self.now.values.items))
+raised : (c : After-add_term) → Raised c.args.self.now.lo (λ x. curve_value c.args.curve.now (x +ℤ c.args.shift))
+    c.args.self.now.values.items c.add_term.new.values
+    (take c.args.self.now.values.len
+    (c.add_term.new.values ++ drop (length c.add_term.new.values) c.args.self.now.values.items))
 raised c =
     let own : to_z w64 (of_z w64 c.args.self.now.lo) ≡ c.args.self.now.lo = to_z-of_z w64 _ (search rules) in
     let shift : to_z w64 (of_z w64 c.args.shift) ≡ c.args.shift = to_z-of_z w64 _ c.ranges.shift in
@@ -30,19 +36,24 @@ raised c =
       each = rw (own, shift, items) at c.add_term.ensures;
     }
 
-sum : (c : After-add_term) → IsCurveSum (curve_value c.args.curve.now) c.args.shift (table c.args.self.now.lo c.args.self.now.values.items) (table c.args.self.now.lo c.add_term.new.values)
-sum c = let r = raised c in added_at (λ x. curve_value c.args.curve.now (x +ℤ c.args.shift)) c.args.self.now.lo c.args.self.now.values.items c.add_term.new.values r.len r.each
+sum : (c : After-add_term) → IsCurveSum (curve_value c.args.curve.now) c.args.shift
+    (table c.args.self.now.lo c.args.self.now.values.items) (table c.args.self.now.lo c.add_term.new.values)
+sum c = let r = raised c in added_at (λ x. curve_value c.args.curve.now (x +ℤ c.args.shift)) c.args.self.now.lo
+    c.args.self.now.values.items c.add_term.new.values r.len r.each
 
 pub invariant_of-self-clause-convex : goal.invariant_of-self-clause-convex
 invariant_of-self-clause-convex c =
     let after = (goal.at.invariant_of-self-clause-convex c).After-add_term in
-    rw (raised after).same (c.effects_keep_convexity.ensures.curve c.args.curve.now c.args.shift _ _ c.requires.limited.blocks (sum after) c.args.self.now.convex)
+    rw (raised after).same (c.effects_keep_convexity.ensures.curve c.args.curve.now c.args.shift _ _
+    c.requires.limited.blocks (sum after) c.args.self.now.convex)
 
 pub invariant_of-self-clause-within : goal.invariant_of-self-clause-within
 invariant_of-self-clause-within c =
     let after = (goal.at.invariant_of-self-clause-within c).After-add_term in
     let old = within_limits c.args.self.now.lo c.args.self.now.values.items c.args.self.now.within in
-    rw (raised after).same (AreWithin-from_limits c.args.self.now.lo c.add_term.new.values (c.effects_keep_limits.ensures.curve (curve_value c.args.curve.now) c.args.shift _ _ (sum after) c.requires.fits old))
+    rw (raised after).same (AreWithin-from_limits c.args.self.now.lo c.add_term.new.values
+    (c.effects_keep_limits.ensures.curve (curve_value c.args.curve.now) c.args.shift _ _ (sum after) c.requires.fits
+    old))
 
 pub returns-clause-ok : goal.returns-clause-ok
 returns-clause-ok c =

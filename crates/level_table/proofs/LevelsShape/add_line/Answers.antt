@@ -1,4 +1,6 @@
-use Rattle.level_table.proofs.Common.{rules, ◌≡◌, ℕ, ◌<◌, length, arith, ap, to_z, of_z, get_or, ◌++◌, List, take, drop, Option, Some, refl, ℤ, pos, ◌+ℤ◌, ◌*ℤ◌, w64, to_z-of_z, take_at, IsSum, value-from_index, table, within_limits}
+use Rattle.level_table.proofs.Common.{rules, ◌≡◌, ℕ, ◌<◌, length, arith, ap, to_z, of_z, get_or, ◌++◌, List, take, drop}
+use Rattle.level_table.proofs.Common.{Option, Some, refl, ℤ, pos, ◌+ℤ◌, ◌*ℤ◌, w64, to_z-of_z, take_at, IsSum}
+use Rattle.level_table.proofs.Common.{value-from_index, table, within_limits}
 use Rattle.level_table.proofs.Lemmas.{AreWithin-from_limits, IsSum-from_index}
 use Rattle.level_table.proofs.LevelsShape.add_line.Goals as goal
 use Rattle.level_table.proofs.LevelsShape.add_line.Goals.{After-add_term}
@@ -16,9 +18,12 @@ add_term-requires-clause-fits c = λ k h.
 record Raised (lo : ℤ) (added : ℤ → Option ℤ) (old new written : List ℤ) : Type 0 where
   same : written ≡ new
   len : length new ≡ length old
-  each : (k : ℕ) → k < length old → (t : ℤ) × (added (lo +ℤ pos k) ≡ Some t) × (get_or new k (pos 0) ≡ get_or old k (pos 0) +ℤ t)
+  each : (k : ℕ) → k < length old → (t : ℤ) × (added (lo +ℤ pos k) ≡ Some t) ×
+      (get_or new k (pos 0) ≡ get_or old k (pos 0) +ℤ t)
 
-raised : (c : After-add_term) → Raised c.args.self.now.lo (λ x. Some (c.args.slope *ℤ x)) c.args.self.now.values.items c.add_term.new.values (take c.args.self.now.values.len (c.add_term.new.values ++ drop (length c.add_term.new.values) c.args.self.now.values.items))
+raised : (c : After-add_term) → Raised c.args.self.now.lo (λ x. Some (c.args.slope *ℤ x)) c.args.self.now.values.items
+    c.add_term.new.values (take c.args.self.now.values.len
+    (c.add_term.new.values ++ drop (length c.add_term.new.values) c.args.self.now.values.items))
 raised c =
     let own : to_z w64 (of_z w64 c.args.self.now.lo) ≡ c.args.self.now.lo = to_z-of_z w64 _ (search rules) in
     let slope : to_z w64 (of_z w64 c.args.slope) ≡ c.args.slope = to_z-of_z w64 _ c.ranges.slope in
@@ -30,8 +35,10 @@ raised c =
       each = rw (own, slope, items) at c.add_term.ensures;
     }
 
-sum : (c : After-add_term) → IsSum (λ x. c.args.slope *ℤ x) (table c.args.self.now.lo c.args.self.now.values.items) (table c.args.self.now.lo c.add_term.new.values)
-sum c = let r = raised c in IsSum-from_index (λ x. c.args.slope *ℤ x) c.args.self.now.lo c.args.self.now.values.items c.add_term.new.values r.len r.each
+sum : (c : After-add_term) → IsSum (λ x. c.args.slope *ℤ x) (table c.args.self.now.lo c.args.self.now.values.items)
+    (table c.args.self.now.lo c.add_term.new.values)
+sum c = let r = raised c in IsSum-from_index (λ x. c.args.slope *ℤ x) c.args.self.now.lo c.args.self.now.values.items
+    c.add_term.new.values r.len r.each
 
 pub invariant_of-self-clause-convex : goal.invariant_of-self-clause-convex
 invariant_of-self-clause-convex c =
@@ -42,7 +49,8 @@ pub invariant_of-self-clause-within : goal.invariant_of-self-clause-within
 invariant_of-self-clause-within c =
     let after = (goal.at.invariant_of-self-clause-within c).After-add_term in
     let old = within_limits c.args.self.now.lo c.args.self.now.values.items c.args.self.now.within in
-    rw (raised after).same (AreWithin-from_limits c.args.self.now.lo c.add_term.new.values (c.effects_keep_limits.ensures.sum (λ x. c.args.slope *ℤ x) _ _ (sum after) c.requires.fits old))
+    rw (raised after).same (AreWithin-from_limits c.args.self.now.lo c.add_term.new.values
+    (c.effects_keep_limits.ensures.sum (λ x. c.args.slope *ℤ x) _ _ (sum after) c.requires.fits old))
 
 pub returns-clause-line : goal.returns-clause-line
 returns-clause-line c =

@@ -1,9 +1,11 @@
-use Rattle.level_table.proofs.Common.{rules, ◌≡◌, ◌∙◌, Some, refl, arith, to_z, of_z, ℤ, neg_ℤ, ◌+ℤ◌, ◌-ℤ◌, ◌*ℤ◌, FitsSigned, w64, int_min, ints, to_z-of_z, same_some}
+use Rattle.level_table.proofs.Common.{rules, ◌≡◌, ◌∙◌, Some, refl, arith, to_z, of_z, ℤ, neg_ℤ, ◌+ℤ◌, ◌-ℤ◌, ◌*ℤ◌}
+use Rattle.level_table.proofs.Common.{FitsSigned, w64, int_min, ints, to_z-of_z, same_some}
 use Rattle.level_table.proofs.ReserveTerm.plus.Goals as goal
 use Rattle.level_table.proofs.ReserveTerm.plus.Goals.{After-min}
 
 -- the most reserve at plain numbers
-most_is : (c : After-min) → to_z w64 (of_z w64 c.min.result) ≡ int_min c.args.self.now.cap (c.args.self.now.up +ℤ c.args.x)
+most_is : (c : After-min) → to_z w64 (of_z w64 c.min.result) ≡ int_min c.args.self.now.cap
+    (c.args.self.now.up +ℤ c.args.x)
 most_is c =
     let cap_power = c.requires.limited.0 in
     let up_power = c.requires.limited.1 in
@@ -11,7 +13,8 @@ most_is c =
     let high = up_power.1 in
     let cap_fits : FitsSigned w64 c.args.self.now.cap = search rules in
     let cap : to_z w64 (of_z w64 c.args.self.now.cap) ≡ c.args.self.now.cap = to_z-of_z w64 _ cap_fits in
-    let sum : to_z w64 (of_z w64 (to_z w64 (of_z w64 c.args.self.now.up) +ℤ to_z w64 (of_z w64 c.args.x))) ≡ c.args.self.now.up +ℤ c.args.x = omega (arith, ints) in
+    let sum : to_z w64 (of_z w64 (to_z w64 (of_z w64 c.args.self.now.up) +ℤ to_z w64 (of_z w64 c.args.x)))
+    ≡ c.args.self.now.up +ℤ c.args.x = omega (arith, ints) in
     to_z-of_z w64 _ (record { sfits = c.min.type_inv }) ∙ rw (cap, sum) at c.min.ensures.value
 
 -- the worth of the most reserve, and what is left, fit their type
@@ -19,7 +22,8 @@ record Loss (value lost : ℤ) : Type 0 where
   fits : FitsSigned w64 lost
   left : FitsSigned w64 (value -ℤ lost)
 
-loss : (c : After-min) → Loss c.args.value (c.args.self.now.mu *ℤ int_min c.args.self.now.cap (c.args.self.now.up +ℤ c.args.x))
+loss : (c : After-min) →
+    Loss c.args.value (c.args.self.now.mu *ℤ int_min c.args.self.now.cap (c.args.self.now.up +ℤ c.args.x))
 loss c =
     let lost = c.args.self.now.mu *ℤ int_min c.args.self.now.cap (c.args.self.now.up +ℤ c.args.x) in
     let fit = c.requires.fits in

@@ -1,9 +1,12 @@
-use Rattle.mixture_bound.proofs.Common.{◌≡◌, ◌+◌, ◌*◌, ◌+ℤ◌, sum_below, IsWithin, market_of, prices_of, mixture_cost, most_energy, most_reserve}
+use Rattle.mixture_bound.proofs.Common.{◌≡◌, ◌+◌, ◌*◌, ◌+ℤ◌, sum_below, IsWithin, market_of, prices_of, mixture_cost}
+use Rattle.mixture_bound.proofs.Common.{most_energy, most_reserve}
 use Rattle.mixture_bound.specs.Mixtures.{mixture_of}
 use Rattle.mixture_bound.proofs.bound.bound_of.Given as goal
 
 abbrev pub invariant-loop-place : goal.invariant-loop-place
 invariant-loop-place l = record {
-  is : l.sum ≡ mixture_cost (market_of l.case) (mixture_of l.mixture) +ℤ sum_below l.place (λ k. most_energy (market_of l.case) (mixture_of l.mixture) (prices_of l.centre) l.radius k +ℤ most_reserve (market_of l.case) (mixture_of l.mixture) (prices_of l.centre) l.radius k);
+  is : l.sum ≡ mixture_cost (market_of l.case) (mixture_of l.mixture) +ℤ sum_below l.place
+      (λ k. most_energy (market_of l.case) (mixture_of l.mixture) (prices_of l.centre) l.radius k +ℤ most_reserve
+      (market_of l.case) (mixture_of l.mixture) (prices_of l.centre) l.radius k);
   limit : IsWithin (7000000000000000000000000000000000 + 500000000000000000000000000000000 * l.place) l.sum;
 }

@@ -1,16 +1,23 @@
-use Rattle.mixture_bound.proofs.Common.{rules, ◌≡◌, ℕ, ◌+◌, ℤ, pos, ◌+ℤ◌, ◌-ℤ◌, ◌*ℤ◌, ap, ◌∙◌, unsigned_abs, FitsSigned, arith, ints, to_z-of_z, int_max, w64, w128, IsFrom, IsWithin, fits_within, PriceLists, Market, MixtureLists, market_of, prices_of, low_end, high_end, greatest, added, lack, short, most_energy, most_reserve}
+use Rattle.mixture_bound.proofs.Common.{rules, ◌≡◌, ℕ, ◌+◌, ℤ, pos, ◌+ℤ◌, ◌-ℤ◌, ◌*ℤ◌, ap, ◌∙◌, unsigned_abs, FitsSigned}
+use Rattle.mixture_bound.proofs.Common.{arith, ints, to_z-of_z, int_max, w64, w128, IsFrom, IsWithin, fits_within}
+use Rattle.mixture_bound.proofs.Common.{PriceLists, Market, MixtureLists, market_of, prices_of, low_end, high_end}
+use Rattle.mixture_bound.proofs.Common.{greatest, added, lack, short, most_energy, most_reserve}
 use Rattle.mixture_bound.specs.Mixtures.{mixture_of}
 use Rattle.mixture_bound.proofs.bound.most_at.Goals as goal
 
 -- the most that prices of an interval add, where the ends and what is lacking are known
-energy_is : (m : Market) (x : MixtureLists) (π : PriceLists) (radius : ℤ) (k : ℕ) (low high lacking : ℤ) → low ≡ low_end m π radius k → high ≡ high_end m π radius k → lacking ≡ lack m x k →
+energy_is : (m : Market) (x : MixtureLists) (π : PriceLists) (radius : ℤ) (k : ℕ) (low high lacking : ℤ) →
+    low ≡ low_end m π radius k → high ≡ high_end m π radius k → lacking ≡ lack m x k →
     greatest (unsigned_abs (high -ℤ low)) (λ i. added m x.whole lacking k (low +ℤ pos i)) ≡ most_energy m x π radius k
 energy_is m x π radius k low high lacking e f g =
     ap (λ (z : ℤ). greatest (unsigned_abs (z -ℤ low)) (λ i. added m x.whole lacking k (low +ℤ pos i))) f
-    ∙ ap (λ (z : ℤ). greatest (unsigned_abs (high_end m π radius k -ℤ z)) (λ i. added m x.whole lacking k (z +ℤ pos i))) e
-    ∙ ap (λ (z : ℤ). greatest (unsigned_abs (high_end m π radius k -ℤ low_end m π radius k)) (λ i. added m x.whole z k (low_end m π radius k +ℤ pos i))) g
+    ∙ ap (λ (z : ℤ). greatest (unsigned_abs (high_end m π radius k -ℤ z)) (λ i. added m x.whole lacking k (z +ℤ pos i)))
+    e
+    ∙ ap (λ (z : ℤ). greatest (unsigned_abs (high_end m π radius k -ℤ low_end m π radius k))
+    (λ i. added m x.whole z k (low_end m π radius k +ℤ pos i))) g
 
-reserve_is : (m : Market) (x : MixtureLists) (π : PriceLists) (radius : ℤ) (k : ℕ) (low high lacking : ℤ) → low ≡ low_end m π radius (m.periods + k) → high ≡ high_end m π radius (m.periods + k) → lacking ≡ short m x k →
+reserve_is : (m : Market) (x : MixtureLists) (π : PriceLists) (radius : ℤ) (k : ℕ) (low high lacking : ℤ) →
+    low ≡ low_end m π radius (m.periods + k) → high ≡ high_end m π radius (m.periods + k) → lacking ≡ short m x k →
     int_max (lacking *ℤ low) (lacking *ℤ high) ≡ most_reserve m x π radius k
 reserve_is m x π radius k low high lacking e f g =
     ap (λ (z : ℤ). int_max (lacking *ℤ low) (lacking *ℤ z)) f
@@ -21,7 +28,8 @@ pub most_energy-requires-clause-weight : goal.most_energy-requires-clause-weight
 most_energy-requires-clause-weight c =
     let qw : FitsSigned w64 c.args.mixture.now.weight = search rules in
     let a = c.requires.shape.whole.at_least in
-    let weight : IsFrom (pos 0) (pos 1000000000000) c.args.mixture.now.weight = record { at_least = omega (arith, ints, a); at_most = c.requires.shape.whole.at_most } in
+    let weight : IsFrom (pos 0) (pos 1000000000000) c.args.mixture.now.weight =
+    record { at_least = omega (arith, ints, a); at_most = c.requires.shape.whole.at_most } in
     simp to_z-of_z weight
 
 pub returns-clause-value : goal.returns-clause-value
@@ -48,8 +56,10 @@ returns-clause-value c =
     let b = c.most_energy.ensures.limit.at_most in
     let u = c.most_reserve.ensures.limit.at_least in
     let v = c.most_reserve.ensures.limit.at_most in
-    let within : IsWithin 500000000000000000000000000000000 (c.most_energy.result +ℤ c.most_reserve.result) = record { at_least = omega (arith, ints, a, u); at_most = omega (arith, ints, b, v) } in
-    let fits = fits_within w128 500000000000000000000000000000000 (c.most_energy.result +ℤ c.most_reserve.result) within (omega arith) in
+    let within : IsWithin 500000000000000000000000000000000 (c.most_energy.result +ℤ c.most_reserve.result) =
+    record { at_least = omega (arith, ints, a, u); at_most = omega (arith, ints, b, v) } in
+    let fits = fits_within w128 500000000000000000000000000000000 (c.most_energy.result +ℤ c.most_reserve.result) within
+    (omega arith) in
     let energy = simp to_z-of_z at c.most_energy.ensures.value in
     let reserve = simp to_z-of_z at c.most_reserve.ensures.value in
     let energy_low = simp to_z-of_z at c.interval-energy.ensures.low in
@@ -58,9 +68,12 @@ returns-clause-value c =
     let reserve_high = simp to_z-of_z at c.interval-reserve.ensures.high in
     let power = c.lacks_at-lacks.ensures.power in
     let spare = c.lacks_at-lacks.ensures.reserve in
-    let one : c.most_energy.result ≡ most_energy m x π q k = energy ∙ energy_is m x π q k e.low e.high lacks.power energy_low energy_high power in
-    let two : c.most_reserve.result ≡ most_reserve m x π q k = reserve ∙ reserve_is m x π q k r.low r.high lacks.reserve reserve_low reserve_high spare in
-    let sum : c.most_energy.result +ℤ c.most_reserve.result ≡ most_energy m x π q k +ℤ most_reserve m x π q k = omega (arith, ints, one, two) in
+    let one : c.most_energy.result ≡ most_energy m x π q k =
+    energy ∙ energy_is m x π q k e.low e.high lacks.power energy_low energy_high power in
+    let two : c.most_reserve.result ≡ most_reserve m x π q k =
+    reserve ∙ reserve_is m x π q k r.low r.high lacks.reserve reserve_low reserve_high spare in
+    let sum : c.most_energy.result +ℤ c.most_reserve.result ≡ most_energy m x π q k +ℤ most_reserve m x π q k =
+    omega (arith, ints, one, two) in
     simp to_z-of_z sum
 
 pub returns-clause-limit : goal.returns-clause-limit
@@ -71,8 +84,10 @@ returns-clause-limit c =
     let b = c.most_energy.ensures.limit.at_most in
     let x = c.most_reserve.ensures.limit.at_least in
     let y = c.most_reserve.ensures.limit.at_most in
-    let within : IsWithin 500000000000000000000000000000000 (c.most_energy.result +ℤ c.most_reserve.result) = record { at_least = omega (arith, ints, a, x); at_most = omega (arith, ints, b, y) } in
-    let fits = fits_within w128 500000000000000000000000000000000 (c.most_energy.result +ℤ c.most_reserve.result) within (omega arith) in
+    let within : IsWithin 500000000000000000000000000000000 (c.most_energy.result +ℤ c.most_reserve.result) =
+    record { at_least = omega (arith, ints, a, x); at_most = omega (arith, ints, b, y) } in
+    let fits = fits_within w128 500000000000000000000000000000000 (c.most_energy.result +ℤ c.most_reserve.result) within
+    (omega arith) in
     simp to_z-of_z within
 
 -- (found at once by this search alone, and slowly by all that is tried without an answer)

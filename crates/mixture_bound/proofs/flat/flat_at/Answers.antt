@@ -1,4 +1,5 @@
-use Rattle.mixture_bound.proofs.Common.{rules, ◌≡◌, ◌+ℤ◌, FitsSigned, arith, ints, to_z-of_z, w128, IsWithin, fits_within, flat, market_of}
+use Rattle.mixture_bound.proofs.Common.{rules, ◌≡◌, ◌+ℤ◌, FitsSigned, arith, ints, to_z-of_z, w128, IsWithin}
+use Rattle.mixture_bound.proofs.Common.{fits_within, flat, market_of}
 use Rattle.mixture_bound.proofs.flat.flat_at.Goals as goal
 
 pub returns-clause-value : goal.returns-clause-value
@@ -12,7 +13,9 @@ returns-clause-value c =
     let b = c.sold_at.ensures.limit.at_most in
     let x = c.bought_at.ensures.limit.at_least in
     let y = c.bought_at.ensures.limit.at_most in
-    let sum : c.sold_at.result +ℤ c.bought_at.result ≡ flat (market_of c.args.case.now) c.args.place c.args.price = omega (arith, ints, sold, bought) in
-    let within : IsWithin 123000000000000000000 (c.sold_at.result +ℤ c.bought_at.result) = record { at_least = omega (arith, ints, a, x); at_most = omega (arith, ints, b, y) } in
+    let sum : c.sold_at.result +ℤ c.bought_at.result ≡ flat (market_of c.args.case.now) c.args.place c.args.price =
+    omega (arith, ints, sold, bought) in
+    let within : IsWithin 123000000000000000000 (c.sold_at.result +ℤ c.bought_at.result) =
+    record { at_least = omega (arith, ints, a, x); at_most = omega (arith, ints, b, y) } in
     let fits = fits_within w128 123000000000000000000 (c.sold_at.result +ℤ c.bought_at.result) within (omega arith) in
     simp to_z-of_z sum

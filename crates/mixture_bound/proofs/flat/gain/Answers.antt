@@ -1,4 +1,5 @@
-use Rattle.mixture_bound.proofs.Common.{rules, ◌≡◌, ℤ, pos, ◌-ℤ◌, ◌*ℤ◌, ap, FitsSigned, arith, ints, clamps, to_z-of_z, int_max, w64, IsWithin, IsFrom, product_within, fits_within}
+use Rattle.mixture_bound.proofs.Common.{rules, ◌≡◌, ℤ, pos, ◌-ℤ◌, ◌*ℤ◌, ap, FitsSigned, arith, ints, clamps, to_z-of_z}
+use Rattle.mixture_bound.proofs.Common.{int_max, w64, IsWithin, IsFrom, product_within, fits_within}
 use Rattle.mixture_bound.proofs.SumLaws.{times_power}
 use Rattle.mixture_bound.proofs.flat.gain.Goals as goal
 
@@ -9,7 +10,8 @@ difference x y f g =
     let b = f.at_most in
     let d = g.at_least in
     let e = g.at_most in
-    fits_within w64 20000000 (x -ℤ y) (record { at_least = omega (arith, ints, a, e); at_most = omega (arith, ints, b, d) }) (omega arith)
+    fits_within w64 20000000 (x -ℤ y)
+    (record { at_least = omega (arith, ints, a, e); at_most = omega (arith, ints, b, d) }) (omega arith)
 
 -- what a kilowatt of the block earns
 each : (c : goal.After-max) → c.max.result ≡ int_max (pos 0) (c.args.block.now.price -ℤ c.args.price)
@@ -27,9 +29,11 @@ whole c =
     let is = each c in
     let pl = c.requires.price.at_least in
     let bh = c.requires.block.price.at_most in
-    let few : IsFrom (pos 0) (pos 20000000) c.max.result = record { at_least = omega (arith, ints, clamps, is); at_most = omega (arith, ints, clamps, is, pl, bh) } in
+    let few : IsFrom (pos 0) (pos 20000000) c.max.result =
+    record { at_least = omega (arith, ints, clamps, is); at_most = omega (arith, ints, clamps, is, pl, bh) } in
     let wl = c.requires.block.width.at_least in
-    let width : IsWithin 1000000000 c.args.block.now.width = record { at_least = omega (arith, ints, wl); at_most = c.requires.block.width.at_most } in
+    let width : IsWithin 1000000000 c.args.block.now.width =
+    record { at_least = omega (arith, ints, wl); at_most = c.requires.block.width.at_most } in
     record {
       at_least = (times_power c.args.block.now.width c.max.result 20000000 wl few).at_least;
       at_most = (product_within 1000000000 20000000 c.args.block.now.width c.max.result width few).at_most;
@@ -38,7 +42,8 @@ whole c =
 room : (c : goal.After-max) → FitsSigned w64 (c.args.block.now.width *ℤ c.max.result)
 room c =
     let low = (whole c).at_least in
-    fits_within w64 20000000000000000 (c.args.block.now.width *ℤ c.max.result) (record { at_least = omega (arith, ints, low); at_most = (whole c).at_most }) (omega arith)
+    fits_within w64 20000000000000000 (c.args.block.now.width *ℤ c.max.result)
+    (record { at_least = omega (arith, ints, low); at_most = (whole c).at_most }) (omega arith)
 
 pub overflow_mul-result : goal.overflow_mul-result
 overflow_mul-result c =

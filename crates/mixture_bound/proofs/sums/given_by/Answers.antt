@@ -1,4 +1,6 @@
-use Rattle.mixture_bound.proofs.Common.{◌≡◌, ℕ, suc, ◌<◌, Some, ℤ, pos, ◌*ℤ◌, List, map, take, length, get_or, ap, sym, ◌∙◌, arith, ints, slice_get, slice_get-get_or, total, power_in, reserve_in, mul-add, WeighedSchedule}
+use Rattle.mixture_bound.proofs.Common.{◌≡◌, ℕ, suc, ◌<◌, Some, ℤ, pos, ◌*ℤ◌, List, map, take, length, get_or, ap, sym}
+use Rattle.mixture_bound.proofs.Common.{◌∙◌, arith, ints, slice_get, slice_get-get_or, total, power_in, reserve_in}
+use Rattle.mixture_bound.proofs.Common.{mul-add, WeighedSchedule}
 use Rattle.plain_lists.proofs.ListLaws.{item_of, map_item}
 use Rattle.mixture_bound.specs.Mixtures.{entry_of}
 use Rattle.mixture_bound.specs.declared.mixtures.Entry.{Entry}
@@ -6,18 +8,22 @@ use Rattle.mixture_bound.proofs.SumLaws.{total_more, weight_of, one_weight, shar
 use Rattle.mixture_bound.proofs.sums.given_by.Goals as goal
 
 -- an entry as a weighed schedule
-item_at : (xs : List Entry) (i : ℕ) (x : Entry) → i < length xs → x ≡ get_or xs i x → slice_get (map entry_of xs) i ≡ Some (entry_of x)
+item_at : (xs : List Entry) (i : ℕ) (x : Entry) → i < length xs → x ≡ get_or xs i x →
+    slice_get (map entry_of xs) i ≡ Some (entry_of x)
 item_at xs i x lt is = map_item entry_of xs i x (slice_get-get_or xs i x lt ∙ ap Some (sym is))
 
 pub with_entry-given-requires-clause-place : goal.with_entry-given-requires-clause-place
 with_entry-given-requires-clause-place c =
-    item_of (λ (e : WeighedSchedule). c.args.place < length e.schedule.on) (map entry_of c.args.entries.now) c.loop-entry.entry-index (entry_of c.entry-item.result) c.requires.place
+    item_of (λ (e : WeighedSchedule). c.args.place < length e.schedule.on) (map entry_of c.args.entries.now)
+    c.loop-entry.entry-index (entry_of c.entry-item.result) c.requires.place
     (item_at c.args.entries.now c.loop-entry.entry-index c.entry-item.result c.loop-entry-test.true c.entry-item.is)
 
 pub with_entry-given-requires-clause-weight : goal.with_entry-given-requires-clause-weight
 with_entry-given-requires-clause-weight c =
-    let at = item_at c.args.entries.now c.loop-entry.entry-index c.entry-item.result c.loop-entry-test.true c.entry-item.is in
-    let one = one_weight c.loop-entry.entry-index (map entry_of c.args.entries.now) (entry_of c.entry-item.result) c.requires.weights.from_zero at in
+    let at = item_at c.args.entries.now c.loop-entry.entry-index c.entry-item.result c.loop-entry-test.true
+    c.entry-item.is in
+    let one = one_weight c.loop-entry.entry-index (map entry_of c.args.entries.now) (entry_of c.entry-item.result)
+    c.requires.weights.from_zero at in
     let a = one.at_least in
     let b = one.at_most in
     let whole = c.requires.weights.whole in
@@ -66,5 +72,9 @@ loop-entry-preserved c =
       power = omega (arith, ints, powers, p);
       reserve = omega (arith, ints, reserves, q);
       power_limit = record { at_least = omega (arith, ints, a, r); at_most = omega (arith, ints, b, s, scaled, apart) };
-      reserve_limit = record { at_least = omega (arith, ints, d, t); at_most = omega (arith, ints, e, u, scaled, apart) };
+      reserve_limit = record {
+        at_least = omega (arith, ints, d, t);
+        at_most =
+            omega (arith, ints, e, u, scaled, apart);
+      };
     }

@@ -7,6 +7,8 @@ abbrev pub invariant-loop-entry : goal.invariant-loop-entry
 invariant-loop-entry l = record {
   power : l.given.power ≡ weighed (λ s. power_in s (suc l.place)) (take l.entry-index (map entry_of l.entries));
   reserve : l.given.reserve ≡ weighed (λ s. reserve_in s (suc l.place)) (take l.entry-index (map entry_of l.entries));
-  power_limit : IsFrom (pos 0) (pos 4294967296 *ℤ total (map weight_of (take l.entry-index (map entry_of l.entries)))) l.given.power;
-  reserve_limit : IsFrom (pos 0) (pos 4294967296 *ℤ total (map weight_of (take l.entry-index (map entry_of l.entries)))) l.given.reserve;
+  power_limit : IsFrom (pos 0) (pos 4294967296 *ℤ total (map weight_of (take l.entry-index (map entry_of l.entries))))
+      l.given.power;
+  reserve_limit : IsFrom (pos 0) (pos 4294967296 *ℤ total (map weight_of (take l.entry-index (map entry_of l.entries))))
+      l.given.reserve;
 }

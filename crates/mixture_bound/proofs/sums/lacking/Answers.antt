@@ -1,4 +1,5 @@
-use Rattle.mixture_bound.proofs.Common.{rules, ◌≡◌, ℤ, ◌-ℤ◌, ◌*ℤ◌, ap, FitsSigned, arith, ints, to_z-of_z, w128, IsWithin, product_within, fits_within}
+use Rattle.mixture_bound.proofs.Common.{rules, ◌≡◌, ℤ, ◌-ℤ◌, ◌*ℤ◌, ap, FitsSigned, arith, ints, to_z-of_z, w128}
+use Rattle.mixture_bound.proofs.Common.{IsWithin, product_within, fits_within}
 use Rattle.mixture_bound.proofs.sums.lacking.Goals as goal
 
 lacks : (c : goal.After-times) → IsWithin 17700000000000000000000000 (c.times.result -ℤ c.args.given)

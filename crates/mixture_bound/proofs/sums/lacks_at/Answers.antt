@@ -1,4 +1,5 @@
-use Rattle.mixture_bound.proofs.Common.{rules, pos, ℤ, ◌-ℤ◌, ◌*ℤ◌, ap, sym, ◌∙◌, FitsSigned, to_z-of_z, w64, w128, int_at, get_or_from_slice_get}
+use Rattle.mixture_bound.proofs.Common.{rules, pos, ℤ, ◌-ℤ◌, ◌*ℤ◌, ap, sym, ◌∙◌, FitsSigned, to_z-of_z, w64, w128}
+use Rattle.mixture_bound.proofs.Common.{int_at, get_or_from_slice_get}
 use Rattle.mixture_bound.proofs.sums.lacks_at.Goals as goal
 
 pub returns-clause-power : goal.returns-clause-power

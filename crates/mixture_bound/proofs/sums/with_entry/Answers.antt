@@ -1,4 +1,5 @@
-use Rattle.mixture_bound.proofs.Common.{rules, ℤ, pos, ◌+ℤ◌, ◌*ℤ◌, ap, ◌∙◌, FitsSigned, arith, ints, to_z-of_z, w64, w128, IsFrom, IsWithin, fits_within}
+use Rattle.mixture_bound.proofs.Common.{rules, ℤ, pos, ◌+ℤ◌, ◌*ℤ◌, ap, ◌∙◌, FitsSigned, arith, ints, to_z-of_z, w64}
+use Rattle.mixture_bound.proofs.Common.{w128, IsFrom, IsWithin, fits_within}
 use Rattle.mixture_bound.proofs.SumLaws.{times_power, most_of_whole}
 use Rattle.mixture_bound.proofs.sums.with_entry.Goals as goal
 
@@ -17,7 +18,8 @@ overflow_add-result c =
     let d = most.at_most in
     let x = c.requires.power.at_least in
     let y = c.requires.power.at_most in
-    let within : IsWithin 9000000000000000000000 (c.args.given.power +ℤ c.times.result) = record { at_least = omega (arith, ints, t, a, x); at_most = omega (arith, ints, t, b, d, y) } in
+    let within : IsWithin 9000000000000000000000 (c.args.given.power +ℤ c.times.result) =
+    record { at_least = omega (arith, ints, t, a, x); at_most = omega (arith, ints, t, b, d, y) } in
     let fits = fits_within w128 9000000000000000000000 (c.args.given.power +ℤ c.times.result) within (omega arith) in
     simp to_z-of_z fits
 
@@ -36,8 +38,10 @@ overflow_add-result-2 c =
     let d = most.at_most in
     let x = c.requires.reserve.at_least in
     let y = c.requires.reserve.at_most in
-    let within : IsWithin 9000000000000000000000 (c.args.given.reserve +ℤ c.times-2.result) = record { at_least = omega (arith, ints, t, a, x); at_most = omega (arith, ints, t, b, d, y) } in
-    let fits = fits_within w128 9000000000000000000000 (c.args.given.reserve +ℤ c.times-2.result) within (omega arith) in
+    let within : IsWithin 9000000000000000000000 (c.args.given.reserve +ℤ c.times-2.result) =
+    record { at_least = omega (arith, ints, t, a, x); at_most = omega (arith, ints, t, b, d, y) } in
+    let fits = fits_within w128 9000000000000000000000 (c.args.given.reserve +ℤ c.times-2.result) within
+    (omega arith) in
     simp to_z-of_z fits
 
 pub returns-clause-power : goal.returns-clause-power
@@ -55,7 +59,8 @@ returns-clause-power c =
     let d = most.at_most in
     let x = c.requires.power.at_least in
     let y = c.requires.power.at_most in
-    let within : IsWithin 9000000000000000000000 (c.args.given.power +ℤ c.times.result) = record { at_least = omega (arith, ints, t, a, x); at_most = omega (arith, ints, t, b, d, y) } in
+    let within : IsWithin 9000000000000000000000 (c.args.given.power +ℤ c.times.result) =
+    record { at_least = omega (arith, ints, t, a, x); at_most = omega (arith, ints, t, b, d, y) } in
     let fits = fits_within w128 9000000000000000000000 (c.args.given.power +ℤ c.times.result) within (omega arith) in
     simp to_z-of_z (ap (λ (z : ℤ). c.args.given.power +ℤ z) (t ∙ ap (λ (z : ℤ). c.args.entry.now.weight *ℤ z) p.value))
 
@@ -74,9 +79,12 @@ returns-clause-reserve c =
     let d = most.at_most in
     let x = c.requires.reserve.at_least in
     let y = c.requires.reserve.at_most in
-    let within : IsWithin 9000000000000000000000 (c.args.given.reserve +ℤ c.times-2.result) = record { at_least = omega (arith, ints, t, a, x); at_most = omega (arith, ints, t, b, d, y) } in
-    let fits = fits_within w128 9000000000000000000000 (c.args.given.reserve +ℤ c.times-2.result) within (omega arith) in
-    simp to_z-of_z (ap (λ (z : ℤ). c.args.given.reserve +ℤ z) (t ∙ ap (λ (z : ℤ). c.args.entry.now.weight *ℤ z) p.value))
+    let within : IsWithin 9000000000000000000000 (c.args.given.reserve +ℤ c.times-2.result) =
+    record { at_least = omega (arith, ints, t, a, x); at_most = omega (arith, ints, t, b, d, y) } in
+    let fits = fits_within w128 9000000000000000000000 (c.args.given.reserve +ℤ c.times-2.result) within
+    (omega arith) in
+    simp to_z-of_z (ap (λ (z : ℤ). c.args.given.reserve +ℤ z)
+    (t ∙ ap (λ (z : ℤ). c.args.entry.now.weight *ℤ z) p.value))
 
 pub returns-clause-power_limit : goal.returns-clause-power_limit
 returns-clause-power_limit c =
@@ -93,9 +101,12 @@ returns-clause-power_limit c =
     let d = most.at_most in
     let x = c.requires.power.at_least in
     let y = c.requires.power.at_most in
-    let within : IsWithin 9000000000000000000000 (c.args.given.power +ℤ c.times.result) = record { at_least = omega (arith, ints, t, a, x); at_most = omega (arith, ints, t, b, d, y) } in
+    let within : IsWithin 9000000000000000000000 (c.args.given.power +ℤ c.times.result) =
+    record { at_least = omega (arith, ints, t, a, x); at_most = omega (arith, ints, t, b, d, y) } in
     let fits = fits_within w128 9000000000000000000000 (c.args.given.power +ℤ c.times.result) within (omega arith) in
-    let limit : IsFrom c.args.given.power (c.args.given.power +ℤ (pos 4294967296 *ℤ c.args.entry.now.weight)) (c.args.given.power +ℤ c.times.result) = record { at_least = omega (arith, ints, t, a); at_most = omega (arith, ints, t, b) } in
+    let limit : IsFrom c.args.given.power (c.args.given.power +ℤ (pos 4294967296 *ℤ c.args.entry.now.weight))
+    (c.args.given.power +ℤ c.times.result) =
+    record { at_least = omega (arith, ints, t, a); at_most = omega (arith, ints, t, b) } in
     simp to_z-of_z limit
 
 pub returns-clause-reserve_limit : goal.returns-clause-reserve_limit
@@ -113,7 +124,11 @@ returns-clause-reserve_limit c =
     let d = most.at_most in
     let x = c.requires.reserve.at_least in
     let y = c.requires.reserve.at_most in
-    let within : IsWithin 9000000000000000000000 (c.args.given.reserve +ℤ c.times-2.result) = record { at_least = omega (arith, ints, t, a, x); at_most = omega (arith, ints, t, b, d, y) } in
-    let fits = fits_within w128 9000000000000000000000 (c.args.given.reserve +ℤ c.times-2.result) within (omega arith) in
-    let limit : IsFrom c.args.given.reserve (c.args.given.reserve +ℤ (pos 4294967296 *ℤ c.args.entry.now.weight)) (c.args.given.reserve +ℤ c.times-2.result) = record { at_least = omega (arith, ints, t, a); at_most = omega (arith, ints, t, b) } in
+    let within : IsWithin 9000000000000000000000 (c.args.given.reserve +ℤ c.times-2.result) =
+    record { at_least = omega (arith, ints, t, a, x); at_most = omega (arith, ints, t, b, d, y) } in
+    let fits = fits_within w128 9000000000000000000000 (c.args.given.reserve +ℤ c.times-2.result) within
+    (omega arith) in
+    let limit : IsFrom c.args.given.reserve (c.args.given.reserve +ℤ (pos 4294967296 *ℤ c.args.entry.now.weight))
+    (c.args.given.reserve +ℤ c.times-2.result) =
+    record { at_least = omega (arith, ints, t, a); at_most = omega (arith, ints, t, b) } in
     simp to_z-of_z limit

@@ -1,4 +1,5 @@
-use Rattle.mixture_bound.proofs.Common.{rules, ◌≡◌, true, ℤ, pos, ◌+ℤ◌, ◌<ℤ◌, int_lt, FitsSigned, arith, ints, to_z-of_z, w64, w128, IsWithin, fits_within}
+use Rattle.mixture_bound.proofs.Common.{rules, ◌≡◌, true, ℤ, pos, ◌+ℤ◌, ◌<ℤ◌, int_lt, FitsSigned, arith, ints}
+use Rattle.mixture_bound.proofs.Common.{to_z-of_z, w64, w128, IsWithin, fits_within}
 use Rattle.std.specs.Prelude.{IsTrue, ◌↔◌}
 use Rattle.mixture_bound.proofs.worst.is_rising.Goals as goal
 
@@ -10,8 +11,10 @@ less_from a b h = grind (arith, ints)
 
 -- a test of two numbers that are x and y
 less_test : (a b x y : ℤ) → a ≡ x → b ≡ y → (IsTrue (int_lt a b) ↔ (x <ℤ y))
-less_test a b x y e f =
-    (λ on. let h = less_from a b on in omega (arith, ints, e, f, h), λ less. is_less a b (omega (arith, ints, e, f, less)))
+less_test a b x y e f = (
+  λ on. let h = less_from a b on in omega (arith, ints, e, f, h),
+  λ less. is_less a b (omega (arith, ints, e, f, less)),
+)
 
 pub returns : goal.returns
 returns c =
@@ -20,7 +23,8 @@ returns c =
     let b : FitsSigned w128 c.added_at-2.result = search rules in
     let low = c.requires.low in
     let high = c.requires.high in
-    let within : IsWithin 10000000 (c.args.price +ℤ pos 1) = record { at_least = omega (arith, ints, low); at_most = omega (arith, ints, high) } in
+    let within : IsWithin 10000000 (c.args.price +ℤ pos 1) =
+    record { at_least = omega (arith, ints, low); at_most = omega (arith, ints, high) } in
     let fits = fits_within w64 10000000 (c.args.price +ℤ pos 1) within (omega arith) in
     let e = simp to_z-of_z at c.added_at.ensures.value in
     let f = simp to_z-of_z at c.added_at-2.ensures.value in

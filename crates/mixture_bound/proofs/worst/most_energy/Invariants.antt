@@ -4,7 +4,8 @@ use Rattle.mixture_bound.proofs.worst.most_energy.Given as goal
 
 abbrev pub invariant-loop-first : goal.invariant-loop-first
 invariant-loop-first l =
-    IsBetweenPlaces (λ (i : ℕ). added (market_of l.case) l.lack.weight l.lack.power l.lack.place (l.prices.low +ℤ pos i))
+    IsBetweenPlaces (λ (i : ℕ). added (market_of l.case) l.lack.weight l.lack.power l.lack.place
+    (l.prices.low +ℤ pos i))
     (unsigned_abs (l.prices.high -ℤ l.prices.low)) l.first l.last
 
 abbrev pub decreases-loop-first : goal.decreases-loop-first

@@ -11,5 +11,10 @@ returns-clause-limit c =
     let q = c.reserve_added.ensures.limit.at_most in
     let r = c.reserve_added-2.ensures.limit.at_least in
     let s = c.reserve_added-2.ensures.limit.at_most in
-    let within : IsWithin 177000000000000000000000000000000 c.max.result = record { at_least = omega (arith, ints, clamps, e, p, r); at_most = omega (arith, ints, clamps, e, q, s) } in
+    let within : IsWithin 177000000000000000000000000000000 c.max.result =
+    record {
+      at_least = omega (arith, ints, clamps, e, p, r);
+      at_most =
+          omega (arith, ints, clamps, e, q, s);
+    } in
     simp to_z-of_z within

@@ -1,4 +1,5 @@
-use Rattle.mixture_bound.proofs.Common.{rules, ℤ, ◌*ℤ◌, ap, FitsSigned, arith, to_z-of_z, w128, IsWithin, signed_product_within, fits_within}
+use Rattle.mixture_bound.proofs.Common.{rules, ℤ, ◌*ℤ◌, ap, FitsSigned, arith, to_z-of_z, w128, IsWithin}
+use Rattle.mixture_bound.proofs.Common.{signed_product_within, fits_within}
 use Rattle.mixture_bound.proofs.worst.reserve_added.Goals as goal
 
 pub returns-clause-value : goal.returns-clause-value
@@ -8,8 +9,10 @@ returns-clause-value c =
     let a : FitsSigned w128 c.from.result = search rules in
     let e = simp to_z-of_z at c.from.ensures in
     let within : IsWithin 177000000000000000000000000000000 (c.args.lacking *ℤ c.from.result) =
-    rw e (signed_product_within 17700000000000000000000000 10000000 c.args.lacking c.args.price c.requires.lacking c.requires.price) in
-    let fits = fits_within w128 177000000000000000000000000000000 (c.args.lacking *ℤ c.from.result) within (omega arith) in
+    rw e (signed_product_within 17700000000000000000000000 10000000 c.args.lacking c.args.price c.requires.lacking
+    c.requires.price) in
+    let fits = fits_within w128 177000000000000000000000000000000 (c.args.lacking *ℤ c.from.result) within
+    (omega arith) in
     simp to_z-of_z (ap (λ (z : ℤ). c.args.lacking *ℤ z) e)
 
 pub returns-clause-limit : goal.returns-clause-limit
@@ -19,6 +22,8 @@ returns-clause-limit c =
     let a : FitsSigned w128 c.from.result = search rules in
     let e = simp to_z-of_z at c.from.ensures in
     let within : IsWithin 177000000000000000000000000000000 (c.args.lacking *ℤ c.from.result) =
-    rw e (signed_product_within 17700000000000000000000000 10000000 c.args.lacking c.args.price c.requires.lacking c.requires.price) in
-    let fits = fits_within w128 177000000000000000000000000000000 (c.args.lacking *ℤ c.from.result) within (omega arith) in
+    rw e (signed_product_within 17700000000000000000000000 10000000 c.args.lacking c.args.price c.requires.lacking
+    c.requires.price) in
+    let fits = fits_within w128 177000000000000000000000000000000 (c.args.lacking *ℤ c.from.result) within
+    (omega arith) in
     simp to_z-of_z within

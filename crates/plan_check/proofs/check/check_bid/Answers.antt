@@ -1,4 +1,5 @@
-use Rattle.plan_check.proofs.Common.{rules, ◌<◌, Some, length, sym, ap, ◌∙◌, arith, bid_of, schedule_of, bid_broken, BidRange}
+use Rattle.plan_check.proofs.Common.{rules, ◌<◌, Some, length, sym, ap, ◌∙◌, arith, bid_of, schedule_of, bid_broken}
+use Rattle.plan_check.proofs.Common.{BidRange}
 use Rattle.uc_model.specs.declared.kinds.Kind.TheVariants as kinds
 use Rattle.plan_check.proofs.Lemmas.{told_none, told_first}
 use Rattle.plan_check.proofs.check.check_bid.Goals as goal
@@ -9,8 +10,11 @@ returns-in-Some c =
     let s = schedule_of c.args.response.now in
     let lt : c.loop-place.place < length c.args.response.now.on.items = search rules in
     told_first BidRange kinds.Bid c.args.number (length c.args.response.now.on.items) 1 (bid_broken r s)
-    c.loop-place.place (c.in-Some.sides.left, c.in-Some.sides.right) lt c.loop-place.invariant (sym c.in-Some.ensures) ∙ ap Some (sym c.fault.ensures)
+    c.loop-place.place (c.in-Some.sides.left, c.in-Some.sides.right) lt c.loop-place.invariant (sym c.in-Some.ensures) ∙
+    ap Some (sym c.fault.ensures)
 
 pub returns : goal.returns
 returns c =
-    told_none BidRange kinds.Bid c.args.number (length c.args.response.now.on.items) 1 (bid_broken (bid_of c.args.bid.now) (schedule_of c.args.response.now)) (λ k lt. c.loop-place.invariant k (omega (arith, lt)))
+    told_none BidRange kinds.Bid c.args.number (length c.args.response.now.on.items) 1
+    (bid_broken (bid_of c.args.bid.now) (schedule_of c.args.response.now))
+    (λ k lt. c.loop-place.invariant k (omega (arith, lt)))

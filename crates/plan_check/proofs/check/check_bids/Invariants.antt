@@ -5,4 +5,6 @@ use Rattle.plan_check.proofs.check.check_bids.Given as goal
 
 abbrev pub invariant-loop-place : goal.invariant-loop-place
 invariant-loop-place l =
-    NoneBefore (λ n s unit. told BidRange kinds.Bid unit (market_of l.case).periods 1 (bid_broken n.unit s)) 1 l.place (market_of l.case).bids (drop (length (market_of l.case).thermal + length (market_of l.case).flat) (schedules_of l.plan))
+    NoneBefore (λ n s unit. told BidRange kinds.Bid unit (market_of l.case).periods 1 (bid_broken n.unit s)) 1 l.place
+    (market_of l.case).bids
+    (drop (length (market_of l.case).thermal + length (market_of l.case).flat) (schedules_of l.plan))

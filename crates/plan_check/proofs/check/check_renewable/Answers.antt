@@ -1,4 +1,5 @@
-use Rattle.plan_check.proofs.Common.{rules, ◌<◌, Some, length, sym, ap, ◌∙◌, arith, renewable_of, schedule_of, renewable_broken, RenewableRange}
+use Rattle.plan_check.proofs.Common.{rules, ◌<◌, Some, length, sym, ap, ◌∙◌, arith, renewable_of, schedule_of}
+use Rattle.plan_check.proofs.Common.{renewable_broken, RenewableRange}
 use Rattle.uc_model.specs.declared.kinds.Kind.TheVariants as kinds
 use Rattle.plan_check.proofs.Lemmas.{told_none, told_first}
 use Rattle.plan_check.proofs.check.check_renewable.Goals as goal
@@ -8,9 +9,13 @@ returns-in-Some c =
     let r = renewable_of c.args.flat.now in
     let s = schedule_of c.args.response.now in
     let lt : c.loop-place.place < length c.args.response.now.on.items = search rules in
-    told_first RenewableRange kinds.Renewable c.args.number (length c.args.response.now.on.items) 1 (renewable_broken r s)
-    c.loop-place.place (c.in-Some.sides.left, c.in-Some.sides.right) lt c.loop-place.invariant (sym c.in-Some.ensures) ∙ ap Some (sym c.fault.ensures)
+    told_first RenewableRange kinds.Renewable c.args.number (length c.args.response.now.on.items) 1
+    (renewable_broken r s)
+    c.loop-place.place (c.in-Some.sides.left, c.in-Some.sides.right) lt c.loop-place.invariant (sym c.in-Some.ensures) ∙
+    ap Some (sym c.fault.ensures)
 
 pub returns : goal.returns
 returns c =
-    told_none RenewableRange kinds.Renewable c.args.number (length c.args.response.now.on.items) 1 (renewable_broken (renewable_of c.args.flat.now) (schedule_of c.args.response.now)) (λ k lt. c.loop-place.invariant k (omega (arith, lt)))
+    told_none RenewableRange kinds.Renewable c.args.number (length c.args.response.now.on.items) 1
+    (renewable_broken (renewable_of c.args.flat.now) (schedule_of c.args.response.now))
+    (λ k lt. c.loop-place.invariant k (omega (arith, lt)))

@@ -2,4 +2,5 @@ use Rattle.plan_check.proofs.Common.{◌≡◌, ℕ, ◌<◌, None, renewable_of
 use Rattle.plan_check.proofs.check.check_renewable.Given as goal
 
 abbrev pub invariant-loop-place : goal.invariant-loop-place
-invariant-loop-place l = (k : ℕ) → k < l.place → renewable_broken (renewable_of l.flat) (schedule_of l.response) k ≡ None
+invariant-loop-place l = (k : ℕ) → k < l.place →
+    renewable_broken (renewable_of l.flat) (schedule_of l.response) k ≡ None

@@ -1,4 +1,5 @@
-use Rattle.plan_check.proofs.Common.{rules, ℕ, ◌+◌, ◌<◌, Some, length, sym, ap, ◌∙◌, arith, thermal_of, schedule_of, thermal_broken, told_shift}
+use Rattle.plan_check.proofs.Common.{rules, ℕ, ◌+◌, ◌<◌, Some, length, sym, ap, ◌∙◌, arith, thermal_of, schedule_of}
+use Rattle.plan_check.proofs.Common.{thermal_broken, told_shift}
 use Rattle.uc_model.specs.declared.kinds.Kind.TheVariants as kinds
 use Rattle.plan_check.proofs.Lemmas.{told_none, told_first}
 use Rattle.plan_check.proofs.check.check_rule.Goals as goal
@@ -8,12 +9,25 @@ returns-in-Some c =
     let g = thermal_of c.args.unit.now in
     let s = schedule_of c.args.response.now in
     let lt : c.loop-place.place < length c.args.response.now.on.items = search rules in
-    told_first c.args.rule kinds.Thermal c.args.number (length c.args.response.now.on.items) (told_shift c.args.rule) (thermal_broken c.args.rule g s)
+    told_first c.args.rule kinds.Thermal c.args.number (length c.args.response.now.on.items) (told_shift c.args.rule)
+    (thermal_broken c.args.rule g s)
     c.loop-place.place (c.in-Some.sides.left, c.in-Some.sides.right) lt c.loop-place.invariant (sym c.in-Some.ensures)
-    ∙ ap Some (sym (c.fault.ensures ∙ ap (λ (shift : ℕ). record { rule = c.args.rule; kind = kinds.Thermal; unit = c.args.number; period = c.loop-place.place + shift; left = c.in-Some.sides.left; right = c.in-Some.sides.right }) c.shift_of.ensures.value))
+    ∙ ap Some
+    (sym (c.fault.ensures ∙
+    ap (λ (shift : ℕ). record {
+      rule = c.args.rule;
+      kind = kinds.Thermal;
+      unit = c.args.number;
+      period =
+          c.loop-place.place + shift;
+      left = c.in-Some.sides.left;
+      right = c.in-Some.sides.right;
+    })
+    c.shift_of.ensures.value))
 
 pub returns : goal.returns
 returns c =
     let g = thermal_of c.args.unit.now in
     let s = schedule_of c.args.response.now in
-    told_none c.args.rule kinds.Thermal c.args.number (length c.args.response.now.on.items) (told_shift c.args.rule) (thermal_broken c.args.rule g s) (λ k lt. c.loop-place.invariant k (omega (arith, lt)))
+    told_none c.args.rule kinds.Thermal c.args.number (length c.args.response.now.on.items) (told_shift c.args.rule)
+    (thermal_broken c.args.rule g s) (λ k lt. c.loop-place.invariant k (omega (arith, lt)))

@@ -1,4 +1,5 @@
-use Rattle.plan_check.proofs.Common.{◌≡◌, ◌+◌, ℕ, suc, false, cond, get_or, sym, ap, ◌∙◌, arith, ints, thermal_of, schedule_of, time_down, sum_more, start_cost_at}
+use Rattle.plan_check.proofs.Common.{◌≡◌, ◌+◌, ℕ, suc, false, cond, get_or, sym, ap, ◌∙◌, arith, ints, thermal_of}
+use Rattle.plan_check.proofs.Common.{schedule_of, time_down, sum_more, start_cost_at}
 use Rattle.plan_check.proofs.Lemmas.{cond_at_most}
 use Rattle.plan_check.proofs.costs.costs_of_starts.Goals as goal
 

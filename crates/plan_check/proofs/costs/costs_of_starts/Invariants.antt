@@ -1,4 +1,5 @@
-use Rattle.plan_check.proofs.Common.{◌≡◌, ◌≤◌, ◌+◌, ◌*◌, pos, IsFrom, thermal_of, schedule_of, time_down, sum_below, start_cost_at}
+use Rattle.plan_check.proofs.Common.{◌≡◌, ◌≤◌, ◌+◌, ◌*◌, pos, IsFrom, thermal_of, schedule_of, time_down, sum_below}
+use Rattle.plan_check.proofs.Common.{start_cost_at}
 use Rattle.plan_check.proofs.costs.costs_of_starts.Given as goal
 
 abbrev pub invariant-loop-place : goal.invariant-loop-place

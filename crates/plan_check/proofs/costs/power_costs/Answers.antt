@@ -3,7 +3,8 @@ use Rattle.plan_check.proofs.costs.power_costs.Goals as goal
 
 pub loop-place-preserved : goal.loop-place-preserved
 loop-place-preserved c =
-    let more = sum_more c.loop-place.place (production_at (thermal_of c.args.unit.now) (schedule_of c.args.response.now)) in
+    let more = sum_more c.loop-place.place
+    (production_at (thermal_of c.args.unit.now) (schedule_of c.args.response.now)) in
     record {
       is = omega (arith, ints, more);
       limit = record { at_least = omega (arith, ints); at_most = omega (arith, ints) };

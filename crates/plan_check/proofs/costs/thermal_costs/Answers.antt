@@ -1,4 +1,8 @@
-use Rattle.plan_check.proofs.Common.{◌≡◌, ℕ, ◌++◌, Some, map, sym, subst, arith, ints, length-map, slice_get, AnyUnit, Thermal, Flat, NamedThermalUnit, NamedRenewableUnit, Schedule, cost_of, market_of, schedules_of, thermal_of, schedule_of, named_thermal_of, IsFeasible, IsThermalFeasible, item_of, map_item, zip_item, front_item, thermal_units, bid_units}
+use Rattle.plan_check.proofs.Common.{◌≡◌, ℕ, ◌++◌, Some, map, sym, subst, arith, ints, length-map, slice_get, AnyUnit}
+use Rattle.plan_check.proofs.Common.{Thermal, Flat, NamedThermalUnit, NamedRenewableUnit, Schedule, cost_of, market_of}
+use Rattle.plan_check.proofs.Common.{schedules_of, thermal_of, schedule_of, named_thermal_of, IsFeasible}
+use Rattle.plan_check.proofs.Common.{IsThermalFeasible, item_of, map_item, zip_item, front_item, thermal_units}
+use Rattle.plan_check.proofs.Common.{bid_units}
 use Rattle.plan_check.proofs.Lemmas.{HasLengths, sum_over-more}
 use Rattle.plan_check.proofs.costs.thermal_costs.Goals as goal
 use Rattle.plan_check.proofs.costs.thermal_costs.Goals.{After-get-response}
@@ -6,15 +10,20 @@ use Rattle.plan_check.proofs.costs.thermal_costs.Goals.{After-get-response}
 -- the unit and its schedule at the place of the loop
 module _ (c : After-get-response) where
   plan_at : slice_get (schedules_of c.args.plan.now) c.loop-place.place ≡ Some (schedule_of c.get-response.result.now)
-  plan_at = map_item schedule_of c.args.plan.now.responses.items c.loop-place.place c.get-response.result.now c.get-response.ensures.item
+  plan_at = map_item schedule_of c.args.plan.now.responses.items c.loop-place.place c.get-response.result.now
+      c.get-response.ensures.item
 
-  unit_at : slice_get (thermal_units (market_of c.args.case.now)) c.loop-place.place ≡ Some (Thermal (thermal_of c.get.result.now.unit))
+  unit_at : slice_get (thermal_units (market_of c.args.case.now)) c.loop-place.place ≡ Some
+      (Thermal (thermal_of c.get.result.now.unit))
   unit_at =
-      let named = map_item named_thermal_of c.args.case.now.thermal.items c.loop-place.place c.get.result.now c.get.ensures.item in
-      map_item (λ (n : NamedThermalUnit). Thermal n.unit) (market_of c.args.case.now).thermal c.loop-place.place (named_thermal_of c.get.result.now) named
+      let named = map_item named_thermal_of c.args.case.now.thermal.items c.loop-place.place c.get.result.now
+      c.get.ensures.item in
+      map_item (λ (n : NamedThermalUnit). Thermal n.unit) (market_of c.args.case.now).thermal c.loop-place.place
+      (named_thermal_of c.get.result.now) named
 
   lengths : HasLengths c.args.case.now.periods (schedule_of c.get-response.result.now)
-  lengths = item_of (HasLengths c.args.case.now.periods) (schedules_of c.args.plan.now) c.loop-place.place _ c.requires.shape.lengths plan_at
+  lengths = item_of (HasLengths c.args.case.now.periods) (schedules_of c.args.plan.now) c.loop-place.place _
+      c.requires.shape.lengths plan_at
 
 pub power_costs-requires-clause-horizon : goal.power_costs-requires-clause-horizon
 power_costs-requires-clause-horizon c =
@@ -32,9 +41,13 @@ power_costs-requires-clause-feasible c =
     let u = Thermal (thermal_of c.get.result.now.unit) in
     let d = (goal.at.power_costs-requires-clause-feasible c).After-get-response in
     let flats = map (λ (n : NamedRenewableUnit). Flat n.unit) m.flat in
-    let whole_at = front_item (thermal_units m ++ flats) (bid_units m) c.loop-place.place u (front_item (thermal_units m) flats c.loop-place.place u (unit_at d)) in
-    let feasible = zip_item (λ (u : AnyUnit) (t : Schedule). IsFeasible u m.periods t) ((thermal_units m ++ flats) ++ bid_units m) (schedules_of c.args.plan.now) c.loop-place.place u _ c.requires.feasible.feasible whole_at (plan_at d) in
-    subst (λ (n : ℕ). IsThermalFeasible (thermal_of c.get.result.now.unit) n (schedule_of c.get-response.result.now)) (sym (lengths d).0) feasible
+    let whole_at = front_item (thermal_units m ++ flats) (bid_units m) c.loop-place.place u
+    (front_item (thermal_units m) flats c.loop-place.place u (unit_at d)) in
+    let feasible = zip_item (λ (u : AnyUnit) (t : Schedule). IsFeasible u m.periods t)
+    ((thermal_units m ++ flats) ++ bid_units m) (schedules_of c.args.plan.now) c.loop-place.place u _
+    c.requires.feasible.feasible whole_at (plan_at d) in
+    subst (λ (n : ℕ). IsThermalFeasible (thermal_of c.get.result.now.unit) n (schedule_of c.get-response.result.now))
+    (sym (lengths d).0) feasible
 
 pub loop-place-preserved : goal.loop-place-preserved
 loop-place-preserved c =

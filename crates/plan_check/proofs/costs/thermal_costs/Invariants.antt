@@ -1,4 +1,5 @@
-use Rattle.plan_check.proofs.Common.{◌≡◌, ◌*◌, pos, neg_ℤ, take, cost_of, IsFrom, market_of, schedules_of, sum_over, thermal_units}
+use Rattle.plan_check.proofs.Common.{◌≡◌, ◌*◌, pos, neg_ℤ, take, cost_of, IsFrom, market_of, schedules_of, sum_over}
+use Rattle.plan_check.proofs.Common.{thermal_units}
 use Rattle.plan_check.proofs.costs.thermal_costs.Given as goal
 
 abbrev pub invariant-loop-place : goal.invariant-loop-place

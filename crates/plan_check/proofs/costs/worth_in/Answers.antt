@@ -9,7 +9,8 @@ loop-block-preserved c =
     let b = get_or bs i none in
     let rest = drop (i + 1) bs in
     let called = c.with_block-bought.ensures in
-    let cut = ap (λ (l : List Block). worth_of l c.loop-block.bought.rest) (drop_more bs i none c.loop-block-test.true) in
+    let cut = ap (λ (l : List Block). worth_of l c.loop-block.bought.rest)
+    (drop_more bs i none c.loop-block-test.true) in
     let left = ap (worth_of rest) called.rest in
     let worth_low = called.worth_limit.at_least in
     record {

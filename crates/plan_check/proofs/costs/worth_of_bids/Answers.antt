@@ -1,4 +1,6 @@
-use Rattle.plan_check.proofs.Common.{◌≡◌, ℕ, ◌+◌, Some, length, drop, sym, ap, ◌∙◌, arith, ints, length-map, slice_get, Bid, NamedBidUnit, cost_of, IsBidUnit, market_of, schedules_of, schedule_of, named_bid_of, item_of, map_item, drop_item, bid_units}
+use Rattle.plan_check.proofs.Common.{◌≡◌, ℕ, ◌+◌, Some, length, drop, sym, ap, ◌∙◌, arith, ints, length-map, slice_get}
+use Rattle.plan_check.proofs.Common.{Bid, NamedBidUnit, cost_of, IsBidUnit, market_of, schedules_of, schedule_of}
+use Rattle.plan_check.proofs.Common.{named_bid_of, item_of, map_item, drop_item, bid_units}
 use Rattle.plan_check.proofs.Lemmas.{HasLengths, sum_over-more}
 use Rattle.plan_check.proofs.costs.worth_of_bids.Goals as goal
 use Rattle.plan_check.proofs.costs.worth_of_bids.Goals.{After-get-in-loop-place}
@@ -8,11 +10,14 @@ module _ (c : After-get-in-loop-place) where
   unit_at : slice_get (market_of c.args.case.now).bids c.loop-place.place ≡ Some (named_bid_of c.get.result.now)
   unit_at = map_item named_bid_of c.args.case.now.bids.items c.loop-place.place c.get.result.now c.get.ensures.item
 
-  whole_at : slice_get (schedules_of c.args.plan.now) (c.producer_count-first.result + c.loop-place.place) ≡ Some (schedule_of c.get-in-loop-place.result.now)
-  whole_at = map_item schedule_of c.args.plan.now.responses.items (c.producer_count-first.result + c.loop-place.place) c.get-in-loop-place.result.now c.get-in-loop-place.ensures.item
+  whole_at : slice_get (schedules_of c.args.plan.now) (c.producer_count-first.result + c.loop-place.place) ≡ Some
+      (schedule_of c.get-in-loop-place.result.now)
+  whole_at = map_item schedule_of c.args.plan.now.responses.items (c.producer_count-first.result + c.loop-place.place)
+      c.get-in-loop-place.result.now c.get-in-loop-place.ensures.item
 
   lengths : HasLengths c.args.case.now.periods (schedule_of c.get-in-loop-place.result.now)
-  lengths = item_of (HasLengths c.args.case.now.periods) (schedules_of c.args.plan.now) (c.producer_count-first.result + c.loop-place.place) _ c.requires.lengths whole_at
+  lengths = item_of (HasLengths c.args.case.now.periods) (schedules_of c.args.plan.now)
+      (c.producer_count-first.result + c.loop-place.place) _ c.requires.lengths whole_at
 
 pub worth_of_bid-sum-requires-clause-horizon : goal.worth_of_bid-sum-requires-clause-horizon
 worth_of_bid-sum-requires-clause-horizon c =
@@ -22,7 +27,8 @@ worth_of_bid-sum-requires-clause-horizon c =
 pub worth_of_bid-sum-requires-clause-blocks : goal.worth_of_bid-sum-requires-clause-blocks
 worth_of_bid-sum-requires-clause-blocks c =
     let d = (goal.at.worth_of_bid-sum-requires-clause-blocks c).After-get-in-loop-place in
-    let limits = item_of (λ (n : NamedBidUnit). IsBidUnit n.unit × (length n.unit.blocks ≡ c.args.case.now.periods)) (market_of c.args.case.now).bids c.loop-place.place _ c.args.case.now.valid.bids (unit_at d) in
+    let limits = item_of (λ (n : NamedBidUnit). IsBidUnit n.unit × (length n.unit.blocks ≡ c.args.case.now.periods))
+    (market_of c.args.case.now).bids c.loop-place.place _ c.args.case.now.valid.bids (unit_at d) in
     limits.1 ∙ sym (lengths d).0
 
 pub loop-place-preserved : goal.loop-place-preserved
@@ -32,7 +38,8 @@ loop-place-preserved c =
     let i = c.loop-place.place in
     let d = (goal.at.loop-place-preserved c).After-get-in-loop-place in
     let skip = sym c.producer_count-first.ensures in
-    let plan_at = drop_item (length m.thermal + length m.flat) ps i ∙ ap (λ (n : ℕ). slice_get ps (n + i)) skip ∙ whole_at d in
+    let plan_at = drop_item (length m.thermal + length m.flat) ps i ∙ ap (λ (n : ℕ). slice_get ps (n + i)) skip ∙
+    whole_at d in
     let u_at = map_item (λ (n : NamedBidUnit). Bid n.unit) m.bids i (named_bid_of c.get.result.now) (unit_at d) in
     let mapped = length-map c.args.case.now.bids.items named_bid_of in
     let more = sum_over-more cost_of (bid_units m) (drop (length m.thermal + length m.flat) ps) i _ _ u_at plan_at in

@@ -6,7 +6,8 @@ pub returns-then-on_in_period-on : goal.returns-then-on_in_period-on
 returns-then-on_in_period-on c =
     let known = c.back.invariant in
     let differ : c.on_in_period.result ≡ c.on_in_period-on.result → ⊥ = search rules in
-    sym (changed_here (thermal_of c.args.unit.now) (schedule_of c.args.response.now) c.back.since (search rules) (λ e. differ (c.on_in_period.ensures ∙ e ∙ known.on))) ∙ sym known.since
+    sym (changed_here (thermal_of c.args.unit.now) (schedule_of c.args.response.now) c.back.since (search rules)
+    (λ e. differ (c.on_in_period.ensures ∙ e ∙ known.on))) ∙ sym known.since
 
 pub back-preserved : goal.back-preserved
 back-preserved c =
@@ -16,5 +17,6 @@ back-preserved c =
     record {
       within = omega arith;
       on = on;
-      since = known.since ∙ changed_back (thermal_of c.args.unit.now) (schedule_of c.args.response.now) c.back.since (search rules) (on ∙ sym known.on);
+      since = known.since ∙ changed_back (thermal_of c.args.unit.now) (schedule_of c.args.response.now) c.back.since
+          (search rules) (on ∙ sym known.on);
     }

@@ -5,7 +5,8 @@ abbrev pub invariant-back : goal.invariant-back
 invariant-back l = record {
   within : l.since ≤ l.period;
   on : on_in (thermal_of l.unit) (schedule_of l.response) l.since ≡ l.on;
-  since : changed_in (thermal_of l.unit) (schedule_of l.response) l.period ≡ changed_in (thermal_of l.unit) (schedule_of l.response) l.since;
+  since : changed_in (thermal_of l.unit) (schedule_of l.response) l.period ≡ changed_in (thermal_of l.unit)
+      (schedule_of l.response) l.since;
 }
 
 abbrev pub decreases-back : goal.decreases-back

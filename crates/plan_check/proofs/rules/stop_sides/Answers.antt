@@ -1,4 +1,5 @@
-use Rattle.plan_check.proofs.Common.{rules, ◌≡◌, suc, ℤ, Bool, true, false, cond, None, sym, ap, ◌∙◌, w64, FitsSigned, to_z-of_z, int_le, int_min, thermal_of, schedule_of, unless, output_in, on_in}
+use Rattle.plan_check.proofs.Common.{rules, ◌≡◌, suc, ℤ, Bool, true, false, cond, None, sym, ap, ◌∙◌, w64, FitsSigned}
+use Rattle.plan_check.proofs.Common.{to_z-of_z, int_le, int_min, thermal_of, schedule_of, unless, output_in, on_in}
 use Rattle.plan_check.proofs.Lemmas.{stops_from}
 use Rattle.plan_check.proofs.rules.stop_sides.Goals as goal
 
@@ -8,13 +9,16 @@ returns c =
     let s = schedule_of c.args.response.now in
     let t = c.args.period in
     let on : on_in (thermal_of c.args.unit.now) (schedule_of c.args.response.now) c.args.period ≡ true = search rules in
-    let off : on_in (thermal_of c.args.unit.now) (schedule_of c.args.response.now) (suc c.args.period) ≡ false = search rules in
+    let off : on_in (thermal_of c.args.unit.now) (schedule_of c.args.response.now) (suc c.args.period) ≡ false =
+    search rules in
     let l = int_min g.stop_limit g.max_power in
     let f : FitsSigned w64 c.args.unit.now.stop_limit = search rules in
     let limit = simp to_z-of_z at c.limit_within.ensures in
     let f1 : FitsSigned w64 c.state_in-last.result.output = search rules in
     let f2 : FitsSigned w64 c.limit_within.result = search rules in
     let told = simp to_z-of_z at c.at_most.ensures in
-    told ∙ ap (λ (o : ℤ). unless (int_le o c.limit_within.result) o c.limit_within.result) c.state_in-last.ensures.output
+    told ∙ ap (λ (o : ℤ). unless (int_le o c.limit_within.result) o c.limit_within.result)
+    c.state_in-last.ensures.output
     ∙ ap (λ (x : ℤ). unless (int_le (output_in g s t) x) (output_in g s t) x) limit
-    ∙ sym (ap (λ (b : Bool). cond b (unless (int_le (output_in g s t) l) (output_in g s t) l) None) (stops_from g s t on off))
+    ∙ sym (ap (λ (b : Bool). cond b (unless (int_le (output_in g s t) l) (output_in g s t) l) None)
+    (stops_from g s t on off))

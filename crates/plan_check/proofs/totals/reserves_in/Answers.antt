@@ -1,16 +1,22 @@
-use Rattle.plan_check.proofs.Common.{rules, ◌<◌, pos, List, map, length, sym, ap, ◌∙◌, subst, w64, FitsSigned, to_z-of_z, get_or_from_slice_get, All, Response, IsPower, market_of, schedules_of, schedule_of, item_of, reserves_at}
+use Rattle.plan_check.proofs.Common.{rules, ◌<◌, pos, List, map, length, sym, ap, ◌∙◌, subst, w64, FitsSigned}
+use Rattle.plan_check.proofs.Common.{to_z-of_z, get_or_from_slice_get, All, Response, IsPower, market_of, schedules_of}
+use Rattle.plan_check.proofs.Common.{schedule_of, item_of, reserves_at}
 use Rattle.plan_check.proofs.Lemmas.{covers, total_reserve_is}
 use Rattle.plan_check.proofs.totals.reserves_in.Goals as goal
 
 pub totals_at-totals-requires-clause-place : goal.totals_at-totals-requires-clause-place
 totals_at-totals-requires-clause-place c =
-    subst (λ (rs : List Response). All (λ (r : Response). c.args.place < length (schedule_of r).on) rs) (sym c.as_slice.ensures)
-    (covers c.args.plan.now.responses.items c.args.case.now.periods c.args.place c.requires.shape.lengths c.requires.within)
+    subst (λ (rs : List Response). All (λ (r : Response). c.args.place < length (schedule_of r).on) rs)
+    (sym c.as_slice.ensures)
+    (covers c.args.plan.now.responses.items c.args.case.now.periods c.args.place c.requires.shape.lengths
+    c.requires.within)
 
 pub returns-clause-required : goal.returns-clause-required
 returns-clause-required c =
     let f : FitsSigned w64 c.get.result.now = search rules in
-    simp to_z-of_z (sym (get_or_from_slice_get c.args.case.now.reserves.items c.args.place c.get.result.now (pos 0) c.get.ensures.item))
+    simp to_z-of_z
+    (sym (get_or_from_slice_get c.args.case.now.reserves.items c.args.place c.get.result.now (pos 0)
+    c.get.ensures.item))
 
 pub returns-clause-given : goal.returns-clause-given
 returns-clause-given c =
@@ -18,9 +24,12 @@ returns-clause-given c =
     let ps = schedules_of c.args.plan.now in
     let k = c.args.place in
     let f : FitsSigned w64 c.totals_at-totals.result.reserve = search rules in
-    simp to_z-of_z (c.totals_at-totals.ensures.reserve ∙ ap (λ (rs : List Response). reserves_at (map schedule_of rs) k) c.as_slice.ensures ∙ sym (total_reserve_is m ps c.requires.shape.count k))
+    simp to_z-of_z (c.totals_at-totals.ensures.reserve ∙
+    ap (λ (rs : List Response). reserves_at (map schedule_of rs) k) c.as_slice.ensures ∙
+    sym (total_reserve_is m ps c.requires.shape.count k))
 
 pub returns-clause-required_limit : goal.returns-clause-required_limit
 returns-clause-required_limit c =
     let f : FitsSigned w64 c.get.result.now = search rules in
-    simp to_z-of_z (item_of IsPower c.args.case.now.reserves.items c.args.place c.get.result.now c.args.case.now.valid.reserves c.get.ensures.item)
+    simp to_z-of_z (item_of IsPower c.args.case.now.reserves.items c.args.place c.get.result.now
+    c.args.case.now.valid.reserves c.get.ensures.item)

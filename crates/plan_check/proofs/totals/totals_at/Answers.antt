@@ -1,4 +1,5 @@
-use Rattle.plan_check.proofs.Common.{suc, List, [], ◌∷◌, ◌++◌, map, take, sym, ap, ◌∙◌, arith, ints, take_more, Response, Schedule, schedule_of, power_in, reserve_in, powers_at, reserves_at}
+use Rattle.plan_check.proofs.Common.{suc, List, [], ◌∷◌, ◌++◌, map, take, sym, ap, ◌∙◌, arith, ints, take_more}
+use Rattle.plan_check.proofs.Common.{Response, Schedule, schedule_of, power_in, reserve_in, powers_at, reserves_at}
 use Rattle.plan_check.proofs.Lemmas.{total_map-append}
 use Rattle.plan_check.proofs.totals.totals_at.Goals as goal
 
@@ -9,9 +10,12 @@ loop-response-preserved c =
     let k = c.args.place in
     let x = c.response-item.result in
     let called = c.with_response-totals.ensures in
-    let more = take_more rs i x c.loop-response-test.true ∙ ap (λ (y : Response). take i rs ++ y ∷ []) (sym c.response-item.is) in
-    let powers = ap (λ (l : List Response). powers_at (map schedule_of l) k) more ∙ total_map-append (λ (s : Schedule). power_in s (suc k)) schedule_of (take i rs) x in
-    let reserves = ap (λ (l : List Response). reserves_at (map schedule_of l) k) more ∙ total_map-append (λ (s : Schedule). reserve_in s (suc k)) schedule_of (take i rs) x in
+    let more = take_more rs i x c.loop-response-test.true ∙
+    ap (λ (y : Response). take i rs ++ y ∷ []) (sym c.response-item.is) in
+    let powers = ap (λ (l : List Response). powers_at (map schedule_of l) k) more ∙
+    total_map-append (λ (s : Schedule). power_in s (suc k)) schedule_of (take i rs) x in
+    let reserves = ap (λ (l : List Response). reserves_at (map schedule_of l) k) more ∙
+    total_map-append (λ (s : Schedule). reserve_in s (suc k)) schedule_of (take i rs) x in
     let cp_low = called.power_limit.at_least in
     let cq_low = called.reserve_limit.at_least in
     record {

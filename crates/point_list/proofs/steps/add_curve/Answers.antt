@@ -1,10 +1,12 @@
-use Rattle.point_list.proofs.Common.{◌≡◌, ℕ, ◌<◌, List, ◌++◌, length, take, drop, sym, ap, ◌∙◌, arith, to_z, of_z, w64, to_z-of_z, Knot, knot, curve_value}
+use Rattle.point_list.proofs.Common.{◌≡◌, ℕ, ◌<◌, List, ◌++◌, length, take, drop, sym, ap, ◌∙◌, arith, to_z, of_z, w64}
+use Rattle.point_list.proofs.Common.{to_z-of_z, Knot, knot, curve_value}
 use Rattle.point_list.proofs.ListLaws.{written_back, cut_back, IsKept, breaks, can_add_curve, kept_breaks, curve_sum}
 use Rattle.point_list.proofs.steps.add_curve.Goals as goal
 use Rattle.point_list.proofs.steps.add_curve.Goals.{After-deref_mut, After-truncate}
 
 -- the list with room begins with the breakpoints
-begins : (c : After-deref_mut) → (k : ℕ) → k < length c.args.knots.now.items → knot c.deref_mut.result.now k ≡ knot c.args.knots.now.items k
+begins : (c : After-deref_mut) → (k : ℕ) → k < length c.args.knots.now.items →
+    knot c.deref_mut.result.now k ≡ knot c.args.knots.now.items k
 begins c k h = ap (λ (l : List Knot). knot l k) c.deref_mut.ensures.value ∙ c.in_ok-used.ensures.same k h
 
 -- what is kept of the list is what the step left
@@ -22,28 +24,37 @@ kept c =
     record {
       len = sym c.truncate.new.self.ok.0 ∙ omega arith;
       count = omega arith;
-      after = λ k h. ap (λ (l : List Knot). knot l k) c.truncate.ensures.items ∙ cut_back (take made.len (k2 ++ drop (length k2) made.items)) c.curve_step-left.result k h
+      after = λ k h. ap (λ (l : List Knot). knot l k) c.truncate.ensures.items ∙
+          cut_back (take made.len (k2 ++ drop (length k2) made.items)) c.curve_step-left.result k h
           ∙ written_back k2 made.items made.len k (omega arith) (omega arith);
     }
 
 pub curve_step-left-requires-clause-breaks : goal.curve_step-left-requires-clause-breaks
 curve_step-left-requires-clause-breaks c =
-    breaks c.knots_decide.ensures.same c.args.knots.now.items c.deref_mut.result.now c.in_ok-used.used c.requires.breaks c.in_ok-used.ensures.used (begins (goal.at.curve_step-left-requires-clause-breaks c).After-deref_mut)
+    breaks c.knots_decide.ensures.same c.args.knots.now.items c.deref_mut.result.now c.in_ok-used.used c.requires.breaks
+    c.in_ok-used.ensures.used (begins (goal.at.curve_step-left-requires-clause-breaks c).After-deref_mut)
 
 pub curve_step-left-requires-clause-fits : goal.curve_step-left-requires-clause-fits
 curve_step-left-requires-clause-fits c =
     let e-shift : to_z w64 (of_z w64 c.args.shift) ≡ c.args.shift = to_z-of_z w64 _ c.ranges.shift in
-    rw e-shift (can_add_curve c.knots_decide.ensures.same c.args.knots.now.items c.deref_mut.result.now c.in_ok-used.used c.requires.breaks c.in_ok-used.ensures.used (begins (goal.at.curve_step-left-requires-clause-fits c).After-deref_mut)
+    rw e-shift (can_add_curve c.knots_decide.ensures.same c.args.knots.now.items c.deref_mut.result.now
+    c.in_ok-used.used c.requires.breaks c.in_ok-used.ensures.used
+    (begins (goal.at.curve_step-left-requires-clause-fits c).After-deref_mut)
     (curve_value c.args.curve.now) c.args.shift c.requires.fits)
 
 pub returns-clause-ok : goal.returns-clause-ok
 returns-clause-ok c =
     let e-shift : to_z w64 (of_z w64 c.args.shift) ≡ c.args.shift = to_z-of_z w64 _ c.ranges.shift in
-    curve_sum c.knots_decide.ensures.same c.args.knots.now.items c.deref_mut.result.now c.in_ok-used.used c.requires.breaks c.in_ok-used.ensures.used (begins (goal.at.returns-clause-ok c).After-deref_mut)
-    c.curve_step-left.new.knots c.truncate.new.self.items c.curve_step-left.result c.curve_step-left.ensures.breaks (kept (goal.at.returns-clause-ok c).After-truncate)
-    c.effects_are_of_values.ensures.curve (curve_value c.args.curve.now) c.args.shift (rw e-shift at c.curve_step-left.ensures.sum)
+    curve_sum c.knots_decide.ensures.same c.args.knots.now.items c.deref_mut.result.now c.in_ok-used.used
+    c.requires.breaks c.in_ok-used.ensures.used (begins (goal.at.returns-clause-ok c).After-deref_mut)
+    c.curve_step-left.new.knots c.truncate.new.self.items c.curve_step-left.result c.curve_step-left.ensures.breaks
+    (kept (goal.at.returns-clause-ok c).After-truncate)
+    c.effects_are_of_values.ensures.curve (curve_value c.args.curve.now) c.args.shift
+    (rw e-shift at c.curve_step-left.ensures.sum)
 
 pub returns-clause-breaks : goal.returns-clause-breaks
 returns-clause-breaks c =
-    kept_breaks c.knots_decide.ensures.same c.args.knots.now.items c.deref_mut.result.now c.in_ok-used.used c.requires.breaks c.in_ok-used.ensures.used (begins (goal.at.returns-clause-breaks c).After-deref_mut)
-    c.curve_step-left.new.knots c.truncate.new.self.items c.curve_step-left.result c.curve_step-left.ensures.breaks (kept (goal.at.returns-clause-breaks c).After-truncate)
+    kept_breaks c.knots_decide.ensures.same c.args.knots.now.items c.deref_mut.result.now c.in_ok-used.used
+    c.requires.breaks c.in_ok-used.ensures.used (begins (goal.at.returns-clause-breaks c).After-deref_mut)
+    c.curve_step-left.new.knots c.truncate.new.self.items c.curve_step-left.result c.curve_step-left.ensures.breaks
+    (kept (goal.at.returns-clause-breaks c).After-truncate)

@@ -1,10 +1,12 @@
-use Rattle.point_list.proofs.Common.{◌≡◌, ℕ, ◌<◌, List, ◌++◌, length, take, drop, sym, ap, ◌∙◌, arith, to_z, of_z, w64, to_z-of_z, Knot, knot, reserve_term}
+use Rattle.point_list.proofs.Common.{◌≡◌, ℕ, ◌<◌, List, ◌++◌, length, take, drop, sym, ap, ◌∙◌, arith, to_z, of_z, w64}
+use Rattle.point_list.proofs.Common.{to_z-of_z, Knot, knot, reserve_term}
 use Rattle.point_list.proofs.ListLaws.{written_back, cut_back, IsKept, breaks, can_add, kept_breaks, sum}
 use Rattle.point_list.proofs.steps.add_reserve.Goals as goal
 use Rattle.point_list.proofs.steps.add_reserve.Goals.{After-deref_mut, After-truncate}
 
 -- the list with room begins with the breakpoints
-begins : (c : After-deref_mut) → (k : ℕ) → k < length c.args.knots.now.items → knot c.deref_mut.result.now k ≡ knot c.args.knots.now.items k
+begins : (c : After-deref_mut) → (k : ℕ) → k < length c.args.knots.now.items →
+    knot c.deref_mut.result.now k ≡ knot c.args.knots.now.items k
 begins c k h = ap (λ (l : List Knot). knot l k) c.deref_mut.ensures.value ∙ c.in_ok-used.ensures.same k h
 
 -- what is kept of the list is what the step left
@@ -22,20 +24,24 @@ kept c =
     record {
       len = sym c.truncate.new.self.ok.0 ∙ omega arith;
       count = omega arith;
-      after = λ k h. ap (λ (l : List Knot). knot l k) c.truncate.ensures.items ∙ cut_back (take made.len (k2 ++ drop (length k2) made.items)) c.kink_step-left.result k h
+      after = λ k h. ap (λ (l : List Knot). knot l k) c.truncate.ensures.items ∙
+          cut_back (take made.len (k2 ++ drop (length k2) made.items)) c.kink_step-left.result k h
           ∙ written_back k2 made.items made.len k (omega arith) (omega arith);
     }
 
 pub kink_step-left-requires-clause-breaks : goal.kink_step-left-requires-clause-breaks
 kink_step-left-requires-clause-breaks c =
-    breaks c.knots_decide.ensures.same c.args.knots.now.items c.deref_mut.result.now c.in_ok-used.used c.requires.breaks c.in_ok-used.ensures.used (begins (goal.at.kink_step-left-requires-clause-breaks c).After-deref_mut)
+    breaks c.knots_decide.ensures.same c.args.knots.now.items c.deref_mut.result.now c.in_ok-used.used c.requires.breaks
+    c.in_ok-used.ensures.used (begins (goal.at.kink_step-left-requires-clause-breaks c).After-deref_mut)
 
 pub kink_step-left-requires-clause-fits : goal.kink_step-left-requires-clause-fits
 kink_step-left-requires-clause-fits c =
     let e-mu : to_z w64 (of_z w64 c.args.mu) ≡ c.args.mu = to_z-of_z w64 _ c.ranges.mu in
     let e-cap : to_z w64 (of_z w64 c.args.cap) ≡ c.args.cap = to_z-of_z w64 _ c.ranges.cap in
     let e-up : to_z w64 (of_z w64 c.args.up) ≡ c.args.up = to_z-of_z w64 _ c.ranges.up in
-    rw (e-mu, e-cap, e-up) (can_add c.knots_decide.ensures.same c.args.knots.now.items c.deref_mut.result.now c.in_ok-used.used c.requires.breaks c.in_ok-used.ensures.used (begins (goal.at.kink_step-left-requires-clause-fits c).After-deref_mut)
+    rw (e-mu, e-cap, e-up) (can_add c.knots_decide.ensures.same c.args.knots.now.items c.deref_mut.result.now
+    c.in_ok-used.used c.requires.breaks c.in_ok-used.ensures.used
+    (begins (goal.at.kink_step-left-requires-clause-fits c).After-deref_mut)
     (reserve_term c.args.mu c.args.cap c.args.up) c.requires.fits)
 
 pub returns-clause-ok : goal.returns-clause-ok
@@ -43,11 +49,16 @@ returns-clause-ok c =
     let e-mu : to_z w64 (of_z w64 c.args.mu) ≡ c.args.mu = to_z-of_z w64 _ c.ranges.mu in
     let e-cap : to_z w64 (of_z w64 c.args.cap) ≡ c.args.cap = to_z-of_z w64 _ c.ranges.cap in
     let e-up : to_z w64 (of_z w64 c.args.up) ≡ c.args.up = to_z-of_z w64 _ c.ranges.up in
-    sum c.knots_decide.ensures.same c.args.knots.now.items c.deref_mut.result.now c.in_ok-used.used c.requires.breaks c.in_ok-used.ensures.used (begins (goal.at.returns-clause-ok c).After-deref_mut)
-    c.kink_step-left.new.knots c.truncate.new.self.items c.kink_step-left.result c.kink_step-left.ensures.breaks (kept (goal.at.returns-clause-ok c).After-truncate)
-    c.effects_are_of_values.ensures.sum (reserve_term c.args.mu c.args.cap c.args.up) (rw (e-mu, e-cap, e-up) at c.kink_step-left.ensures.sum)
+    sum c.knots_decide.ensures.same c.args.knots.now.items c.deref_mut.result.now c.in_ok-used.used c.requires.breaks
+    c.in_ok-used.ensures.used (begins (goal.at.returns-clause-ok c).After-deref_mut)
+    c.kink_step-left.new.knots c.truncate.new.self.items c.kink_step-left.result c.kink_step-left.ensures.breaks
+    (kept (goal.at.returns-clause-ok c).After-truncate)
+    c.effects_are_of_values.ensures.sum (reserve_term c.args.mu c.args.cap c.args.up)
+    (rw (e-mu, e-cap, e-up) at c.kink_step-left.ensures.sum)
 
 pub returns-clause-breaks : goal.returns-clause-breaks
 returns-clause-breaks c =
-    kept_breaks c.knots_decide.ensures.same c.args.knots.now.items c.deref_mut.result.now c.in_ok-used.used c.requires.breaks c.in_ok-used.ensures.used (begins (goal.at.returns-clause-breaks c).After-deref_mut)
-    c.kink_step-left.new.knots c.truncate.new.self.items c.kink_step-left.result c.kink_step-left.ensures.breaks (kept (goal.at.returns-clause-breaks c).After-truncate)
+    kept_breaks c.knots_decide.ensures.same c.args.knots.now.items c.deref_mut.result.now c.in_ok-used.used
+    c.requires.breaks c.in_ok-used.ensures.used (begins (goal.at.returns-clause-breaks c).After-deref_mut)
+    c.kink_step-left.new.knots c.truncate.new.self.items c.kink_step-left.result c.kink_step-left.ensures.breaks
+    (kept (goal.at.returns-clause-breaks c).After-truncate)

@@ -1,4 +1,5 @@
-use Rattle.point_list.proofs.Common.{◌≡◌, List, [], ◌∷◌, sym, subst, rules, arith, to_z, of_z, w64, to_z-of_z, Knot, IsCountedList}
+use Rattle.point_list.proofs.Common.{◌≡◌, List, [], ◌∷◌, sym, subst, rules, arith, to_z, of_z, w64, to_z-of_z, Knot}
+use Rattle.point_list.proofs.Common.{IsCountedList}
 use Rattle.point_list.proofs.steps.point.Goals as goal
 
 pub returns-clause-breaks : goal.returns-clause-breaks
@@ -7,4 +8,9 @@ returns-clause-breaks c =
     let e-value : to_z w64 (of_z w64 c.args.value) ≡ c.args.value = to_z-of_z w64 _ c.ranges.value in
     let one : List Knot = record { at = c.args.at; value = c.args.value } ∷ [] in
     let items : c.push.new.self.items ≡ one = search rules in
-    subst IsCountedList (sym items) (record { breaks = (c.knots_decide.ensures.point one c.requires.power c.requires.amount).0; count = omega arith })
+    subst IsCountedList (sym items)
+    (record {
+      breaks = (c.knots_decide.ensures.point one c.requires.power c.requires.amount).0;
+      count =
+          omega arith;
+    })

@@ -12,4 +12,5 @@ better_of-requires-clause-best c =
 pub returns : goal.returns
 returns c =
     let some = c.if-last-eq0.false in
-    first_more (values_of (map proposal_of c.args.rows.now)) c.args.last c.args.best c.better_of.result (c.requires.best (omega (arith, some))) c.better_of.ensures
+    first_more (values_of (map proposal_of c.args.rows.now)) c.args.last c.args.best c.better_of.result
+    (c.requires.best (omega (arith, some))) c.better_of.ensures

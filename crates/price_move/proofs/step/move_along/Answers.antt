@@ -1,4 +1,6 @@
-use Rattle.price_move.proofs.Common.{rules, ◌≡◌, ◌*◌, pos, neg_ℤ, ℤ, ◌*ℤ◌, ◌<ℤ◌, ◌<◌, negsuc, of_z, int_div, FitsSigned, ap, arith, ints, to_z-of_z, quot_fits, *ℤ_comm, w128, IsFrom, product_within, fits_within, IsWithin}
+use Rattle.price_move.proofs.Common.{rules, ◌≡◌, ◌*◌, pos, neg_ℤ, ℤ, ◌*ℤ◌, ◌<ℤ◌, ◌<◌, negsuc, of_z, int_div, FitsSigned}
+use Rattle.price_move.proofs.Common.{ap, arith, ints, to_z-of_z, quot_fits, *ℤ_comm, w128, IsFrom, product_within}
+use Rattle.price_move.proofs.Common.{fits_within, IsWithin}
 use Rattle.price_move.proofs.Squares.{quotient_within}
 use Rattle.price_move.proofs.step.move_along.Goals as goal
 
@@ -10,7 +12,8 @@ stored_positive (pos n) low = omega (arith, ints, low)
 stored_positive (negsuc n) low = absurd (omega (arith, ints, low))
 
 -- the product of the gap with the entry, as it stands in its register
-multiplied : (gap entry x : ℤ) → IsFrom (pos 0) (pos 2000000000000000000000000) gap → IsWithin 20000000000000 entry → x ≡ entry → IsWithin (20000000000000 * 2000000000000000000000000) (gap *ℤ x)
+multiplied : (gap entry x : ℤ) → IsFrom (pos 0) (pos 2000000000000000000000000) gap → IsWithin 20000000000000 entry →
+    x ≡ entry → IsWithin (20000000000000 * 2000000000000000000000000) (gap *ℤ x)
 multiplied gap entry x few within is =
     let turned = product_within 20000000000000 2000000000000000000000000 entry gap within few in
     rw (is, *ℤ_comm gap entry) turned
@@ -21,7 +24,8 @@ overflow_mul-result c =
     let h : FitsSigned w128 c.args.step.gap = search rules in
     let f = c.ranges.entry in
     let is : c.from.result ≡ c.args.entry = simp to_z-of_z at c.from.ensures in
-    let fits = fits128 (c.args.step.gap *ℤ c.from.result) (multiplied c.args.step.gap c.args.entry c.from.result c.requires.gap c.requires.entry is) in
+    let fits = fits128 (c.args.step.gap *ℤ c.from.result)
+    (multiplied c.args.step.gap c.args.entry c.from.result c.requires.gap c.requires.entry is) in
     simp to_z-of_z fits
 
 pub nonzero_div-result : goal.nonzero_div-result
@@ -32,7 +36,8 @@ nonzero_div-result c =
     let h : FitsSigned w128 c.args.step.gap = search rules in
     let j : FitsSigned w128 c.args.step.scale = search rules in
     let is : c.from.result ≡ c.args.entry = simp to_z-of_z at c.from.ensures in
-    let fits = fits128 (c.args.step.gap *ℤ c.from.result) (multiplied c.args.step.gap c.args.entry c.from.result c.requires.gap c.requires.entry is) in
+    let fits = fits128 (c.args.step.gap *ℤ c.from.result)
+    (multiplied c.args.step.gap c.args.entry c.from.result c.requires.gap c.requires.entry is) in
     let positive : pos 0 <ℤ c.args.step.scale = omega (arith, ints, low) in
     let whole = quot_fits w128 (c.args.step.gap *ℤ c.from.result) c.args.step.scale fits positive in
     (stored_positive c.args.step.scale positive, simp to_z-of_z whole)
@@ -63,6 +68,8 @@ returns-clause-bound c =
     let fits = fits128 (c.args.step.gap *ℤ c.from.result) product in
     let positive : pos 0 <ℤ c.args.step.scale = omega (arith, ints, low) in
     let whole = quot_fits w128 (c.args.step.gap *ℤ c.from.result) c.args.step.scale fits positive in
-    let bound : IsFrom (neg_ℤ (pos 40000000000000000000000000000000000000)) (pos 40000000000000000000000000000000000000) (int_div (c.args.step.gap *ℤ c.from.result) c.args.step.scale) =
-    quotient_within 40000000000000000000000000000000000000 (c.args.step.gap *ℤ c.from.result) c.args.step.scale product positive in
+    let bound : IsFrom (neg_ℤ (pos 40000000000000000000000000000000000000)) (pos 40000000000000000000000000000000000000)
+    (int_div (c.args.step.gap *ℤ c.from.result) c.args.step.scale) =
+    quotient_within 40000000000000000000000000000000000000 (c.args.step.gap *ℤ c.from.result) c.args.step.scale product
+    positive in
     simp to_z-of_z bound

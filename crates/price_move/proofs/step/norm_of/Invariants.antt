@@ -3,6 +3,8 @@ use Rattle.price_move.proofs.step.norm_of.Given as goal
 
 abbrev pub invariant-loop-place : goal.invariant-loop-place
 invariant-loop-place l = record {
-  so_far : l.total ≡ sum_below l.place (λ p. direction_at (market_of l.case) (proposal_of l.row) p *ℤ direction_at (market_of l.case) (proposal_of l.row) p);
+  so_far : l.total ≡ sum_below l.place
+      (λ p. direction_at (market_of l.case) (proposal_of l.row) p *ℤ direction_at (market_of l.case) (proposal_of l.row)
+      p);
   bound : IsFrom (pos 0) (pos (l.place * 400000000000000000000000000)) l.total;
 }

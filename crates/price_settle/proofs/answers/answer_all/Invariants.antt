@@ -1,9 +1,11 @@
-use Rattle.price_settle.proofs.Common.{◌≡◌, ◌+◌, ◌≤◌, length, map, All, unit_count, market_of, prices_of, schedule_of, Answered, IsBenchOver, AreAnswersTo}
+use Rattle.price_settle.proofs.Common.{◌≡◌, ◌+◌, ◌≤◌, length, map, All, unit_count, market_of, prices_of, schedule_of}
+use Rattle.price_settle.proofs.Common.{Answered, IsBenchOver, AreAnswersTo}
 use Rattle.price_settle.proofs.answers.answer_all.Given as goal
 
 abbrev pub invariant-loop-number : goal.invariant-loop-number
 invariant-loop-number l = record {
-  answers : AreAnswersTo (market_of l.case) (prices_of l.prices) l.number (map schedule_of l.responses.items) l.earned.items;
+  answers : AreAnswersTo (market_of l.case) (prices_of l.prices) l.number (map schedule_of l.responses.items)
+      l.earned.items;
   bench : IsBenchOver (market_of l.case) l.bench;
   left : length l.answers.items + l.number ≡ unit_count (market_of l.case);
   periods : All (λ (a : Answered). length (schedule_of a.response).on ≡ (market_of l.case).periods) l.answers.items;

@@ -26,5 +26,9 @@ loop-number-preserved c =
     let more = total_more c.args.earned.now c.loop-number.number x c.earned_at.ensures in
     rw (to_z-of_z w128 c.sum_with-sum.result f2) (record {
       so_far = omega (arith, ints, is, same, so_far, more);
-      limit = record { at_least = omega (arith, ints, is, same, low, least); at_most = omega (arith, ints, is, same, high, most) };
+      limit = record {
+        at_least = omega (arith, ints, is, same, low, least);
+        at_most =
+            omega (arith, ints, is, same, high, most);
+      };
     })

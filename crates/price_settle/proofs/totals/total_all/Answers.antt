@@ -1,4 +1,6 @@
-use Rattle.price_settle.proofs.Common.{◌≡◌, ◌++◌, ◌∷◌, [], ℤ, List, map, sym, ap, ◌∙◌, arith, rules, w64, w128, FitsSigned, to_z-of_z, range_with_len, map-range_with_len_more, units, market_of, schedules_of, total_power, total_reserve}
+use Rattle.price_settle.proofs.Common.{◌≡◌, ◌++◌, ◌∷◌, [], ℤ, List, map, sym, ap, ◌∙◌, arith, rules, w64, w128}
+use Rattle.price_settle.proofs.Common.{FitsSigned, to_z-of_z, range_with_len, map-range_with_len_more, units, market_of}
+use Rattle.price_settle.proofs.Common.{schedules_of, total_power, total_reserve}
 use Rattle.price_settle.proofs.totals.total_all.Goals as goal
 
 pub loop-place-preserved : goal.loop-place-preserved
@@ -13,7 +15,8 @@ loop-place-preserved c =
     let f3 : FitsSigned w64 c.reserves_in.result.given = search rules in
     let f4 : FitsSigned w128 c.from-in-loop-place.result = search rules in
     let power : c.from.result ≡ p k = simp to_z-of_z at c.from.ensures ∙ c.net_power.ensures.value in
-    let given : c.from-in-loop-place.result ≡ r k = simp to_z-of_z at c.from-in-loop-place.ensures ∙ c.reserves_in.ensures.given in
+    let given : c.from-in-loop-place.result ≡ r k =
+    simp to_z-of_z at c.from-in-loop-place.ensures ∙ c.reserves_in.ensures.given in
     let pushed = simp to_z-of_z at c.push.ensures.items in
     let pushed_reserve = simp to_z-of_z at c.push-in-loop-place.ensures.items in
     let spare = c.push.ensures.spare in
@@ -21,8 +24,11 @@ loop-place-preserved c =
     let room = c.loop-place.invariant.supply_room in
     let reserve_room = c.loop-place.invariant.reserve_room in
     record {
-      supply = pushed ∙ ap (λ (l : List ℤ). l ++ c.from.result ∷ []) c.loop-place.invariant.supply ∙ ap (λ (x : ℤ). map p (range_with_len 0 k) ++ x ∷ []) power ∙ sym (map-range_with_len_more p 0 k k (omega arith));
-      reserve = pushed_reserve ∙ ap (λ (l : List ℤ). l ++ c.from-in-loop-place.result ∷ []) c.loop-place.invariant.reserve ∙ ap (λ (x : ℤ). map r (range_with_len 0 k) ++ x ∷ []) given
+      supply = pushed ∙ ap (λ (l : List ℤ). l ++ c.from.result ∷ []) c.loop-place.invariant.supply ∙
+          ap (λ (x : ℤ). map p (range_with_len 0 k) ++ x ∷ []) power ∙
+          sym (map-range_with_len_more p 0 k k (omega arith));
+      reserve = pushed_reserve ∙ ap (λ (l : List ℤ). l ++ c.from-in-loop-place.result ∷ [])
+          c.loop-place.invariant.reserve ∙ ap (λ (x : ℤ). map r (range_with_len 0 k) ++ x ∷ []) given
           ∙ sym (map-range_with_len_more r 0 k k (omega arith));
       supply_room = omega (arith, spare, room);
       reserve_room = omega (arith, reserve_spare, reserve_room);

@@ -1,4 +1,5 @@
-use Rattle.price_space.proofs.Common.{rules, ℤ, neg_ℤ, FitsSigned, ap, ◌∙◌, to_z-of_z, w64, w128, price_limit, clamped, opened}
+use Rattle.price_space.proofs.Common.{rules, ℤ, neg_ℤ, FitsSigned, ap, ◌∙◌, to_z-of_z, w64, w128, price_limit, clamped}
+use Rattle.price_space.proofs.Common.{opened}
 use Rattle.price_space.proofs.opening.opening_price.Goals as goal
 
 pub returns : goal.returns

@@ -8,8 +8,10 @@ most_at-power-requires c =
     let lengths = ap (length {A = NamedFlat}) same in
     let test = c.loop-named-test.true in
     let within : c.loop-named.named-index < length c.args.case.now.flat.items = omega (arith, test, lengths) in
-    let is = subst (λ (xs : List NamedFlat). c.named-item.result ≡ get_or xs c.loop-named.named-index c.named-item.result) same c.named-item.is in
-    let wide = flat_horizon c.args.case.now.periods c.args.case.now.flat.items c.loop-named.named-index c.named-item.result c.args.case.now.valid.flat within is in
+    let is = subst (λ (xs : List NamedFlat). c.named-item.result ≡ get_or xs c.loop-named.named-index
+    c.named-item.result) same c.named-item.is in
+    let wide = flat_horizon c.args.case.now.periods c.args.case.now.flat.items c.loop-named.named-index
+    c.named-item.result c.args.case.now.valid.flat within is in
     let inside = c.requires in
     omega (arith, wide, inside)
 
@@ -19,7 +21,8 @@ loop-named-preserved c =
     let lengths = ap (length {A = NamedFlat}) same in
     let test = c.loop-named-test.true in
     let within : c.loop-named.named-index < length c.args.case.now.flat.items = omega (arith, test, lengths) in
-    let is = subst (λ (xs : List NamedFlat). c.named-item.result ≡ get_or xs c.loop-named.named-index c.named-item.result) same c.named-item.is in
+    let is = subst (λ (xs : List NamedFlat). c.named-item.result ≡ get_or xs c.loop-named.named-index
+    c.named-item.result) same c.named-item.is in
     let more = most_more c.args.k c.args.case.now.flat.items c.loop-named.named-index c.named-item.result within is in
     let so_far = c.loop-named.invariant.so_far in
     let bound = c.loop-named.invariant.bound in

@@ -1,4 +1,5 @@
-use Rattle.price_space.proofs.Common.{rules, ℤ, ◌++◌, [], ◌∷◌, List, FitsSigned, map, ap, sym, ◌∙◌, arith, to_z-of_z, w64, range_with_len, market_of, start_price}
+use Rattle.price_space.proofs.Common.{rules, ℤ, ◌++◌, [], ◌∷◌, List, FitsSigned, map, ap, sym, ◌∙◌, arith, to_z-of_z}
+use Rattle.price_space.proofs.Common.{w64, range_with_len, market_of, start_price}
 use Rattle.std.proofs.lemmas.List.FromFn.{map-range_with_len_more}
 use Rattle.price_space.proofs.start.start_prices.Goals as goal
 

@@ -1,5 +1,7 @@
-use Rattle.ramp_step.proofs.Common.{◌≡◌, ℕ, ◌<◌, ◌+◌, ◌-◌, ap, arith, inl, inr, to_z, of_z, w64, ints, to_z-of_z, cases_lt, power, IsInside, curve_term}
-use Rattle.ramp_step.proofs.Lemmas.{is_inside, inside_same, StandFor-raised, HaveSameEnds-raised, HaveSameEnds-then, curve_straight, curve_convex}
+use Rattle.ramp_step.proofs.Common.{◌≡◌, ℕ, ◌<◌, ◌+◌, ◌-◌, ap, arith, inl, inr, to_z, of_z, w64, ints, to_z-of_z}
+use Rattle.ramp_step.proofs.Common.{cases_lt, power, IsInside, curve_term}
+use Rattle.ramp_step.proofs.Lemmas.{is_inside, inside_same, StandFor-raised, HaveSameEnds-raised, HaveSameEnds-then}
+use Rattle.ramp_step.proofs.Lemmas.{curve_straight, curve_convex}
 use Rattle.ramp_step.proofs.curve.add_blocks.Goals as goal
 use Rattle.ramp_step.proofs.curve.add_blocks.Goals.{After-split_all-n}
 
@@ -16,10 +18,13 @@ split_all-n-requires-clause-limits c =
     }
 
 -- the powers after the splits are on the curve
-inside : (c : After-split_all-n) (k : ℕ) → k < c.split_all-n.result → IsInside c.args.knots.now c.args.used (power c.split_all-n.new.knots k)
+inside : (c : After-split_all-n) (k : ℕ) → k < c.split_all-n.result →
+    IsInside c.args.knots.now c.args.used (power c.split_all-n.new.knots k)
 inside c k h =
-    inside_same c.args.knots.now c.split_all-n.new.knots c.args.used c.split_all-n.result (power c.split_all-n.new.knots k) c.split_all-n.ensures.refined.ends
-    (is_inside c.split_all-n.new.knots c.split_all-n.result c.requires.stand.0 k (c.split_all-n.ensures.refined.function c.requires.stand.0 c.requires.stand.1) h)
+    inside_same c.args.knots.now c.split_all-n.new.knots c.args.used c.split_all-n.result
+    (power c.split_all-n.new.knots k) c.split_all-n.ensures.refined.ends
+    (is_inside c.split_all-n.new.knots c.split_all-n.result c.requires.stand.0 k
+    (c.split_all-n.ensures.refined.function c.requires.stand.0 c.requires.stand.1) h)
 
 pub raise_curve-requires : goal.raise_curve-requires
 raise_curve-requires c =
@@ -36,7 +41,8 @@ raise_curve-requires c =
       low = λ k h. rw e-start (c.requires.inside (power k1 k) (in_old k h)).0;
       high = λ k h. rw e-start (c.requires.inside (power k1 k) (in_old k h)).1;
       before = c.split_all-n.ensures.limits.amounts;
-      after = λ k h. rw (s1.meet k h, e-value, e-start) ((c.requires.fits f c.requires.stand.1 (power k1 k) (in_old k h)).2);
+      after = λ k h. rw (s1.meet k h, e-value, e-start)
+          ((c.requires.fits f c.requires.stand.1 (power k1 k) (in_old k h)).2);
     }
 
 pub returns-clause-stand : goal.returns-clause-stand
@@ -53,14 +59,19 @@ returns-clause-stand c = λ f s.
     StandFor-raised (curve_term v bs start) n k1 c.raise_curve.new.knots f s1 raised
     (λ k h. curve_straight v bs start (power k1 k) (power k1 (k + 1)) (refined.apart k h))
     (λ x from to. elim (cases_lt 0 n) [
-      | inl some ↦ curve_convex v c.requires.curve.lowest bs start (power k1 0) (power k1 (n - 1)) c.requires.curve.blocks
+      | inl some ↦ curve_convex v c.requires.curve.lowest bs start (power k1 0) (power k1 (n - 1))
+          c.requires.curve.blocks
           (c.requires.inside (power k1 0) (inside (goal.at.returns-clause-stand c).After-split_all-n 0 some)).0
-          (c.requires.inside (power k1 (n - 1)) (inside (goal.at.returns-clause-stand c).After-split_all-n (n - 1) (omega arith))).1
+          (c.requires.inside (power k1 (n - 1))
+          (inside (goal.at.returns-clause-stand c).After-split_all-n (n - 1) (omega arith))).1
           x from to
       | inr none ↦ let e : power k1 (n - 1) ≡ power k1 0 = ap (power k1) (omega arith) in absurd (omega (arith, ints))
     ])
 
 pub returns-clause-ends : goal.returns-clause-ends
 returns-clause-ends c =
-    HaveSameEnds-then c.args.knots.now c.split_all-n.new.knots c.raise_curve.new.knots c.args.used c.split_all-n.result c.split_all-n.result
-    c.split_all-n.ensures.refined.ends (HaveSameEnds-raised _ c.split_all-n.result c.split_all-n.new.knots c.raise_curve.new.knots c.raise_curve.ensures)
+    HaveSameEnds-then c.args.knots.now c.split_all-n.new.knots c.raise_curve.new.knots c.args.used c.split_all-n.result
+    c.split_all-n.result
+    c.split_all-n.ensures.refined.ends
+    (HaveSameEnds-raised _ c.split_all-n.result c.split_all-n.new.knots c.raise_curve.new.knots
+    c.raise_curve.ensures)

@@ -1,4 +1,6 @@
-use Rattle.ramp_step.proofs.Common.{◌≡◌, ◌≢◌, ℕ, ◌<◌, length, ap, sym, ◌∙◌, subst, arith, inl, inr, to_z, of_z, slice_set, ◌+ℤ◌, w64, ints, to_z-of_z, cases_lt, Knot, knot, power, height, line_from}
+use Rattle.ramp_step.proofs.Common.{◌≡◌, ◌≢◌, ℕ, ◌<◌, length, ap, sym, ◌∙◌, subst, arith, inl, inr, to_z, of_z}
+use Rattle.ramp_step.proofs.Common.{slice_set, ◌+ℤ◌, w64, ints, to_z-of_z, cases_lt, Knot, knot, power, height}
+use Rattle.ramp_step.proofs.Common.{line_from}
 use Rattle.ramp_step.proofs.Lemmas.{knot_same, knot_other}
 use Rattle.ramp_step.proofs.curve.raise_block.Goals as goal
 
@@ -8,7 +10,8 @@ on_block-requires-clause-fits c =
     let was : knot c.loop-i.knots i ≡ knot c.args.knots.now i = c.loop-i.invariant.rest i (omega arith) in
     let at = ap (λ (q : Knot). q.at) was in
     let e-price : to_z w64 (of_z w64 c.args.price) ≡ c.args.price = to_z-of_z w64 _ c.ranges.price in
-    rw (to_z-of_z w64 c.args.start c.ranges.start, to_z-of_z w64 c.args.level c.ranges.level, e-price, was) (c.requires.fits i (omega arith) (omega arith) (omega (arith, ints)))
+    rw (to_z-of_z w64 c.args.start c.ranges.start, to_z-of_z w64 c.args.level c.ranges.level, e-price, was)
+    (c.requires.fits i (omega arith) (omega arith) (omega (arith, ints)))
 
 pub loop-i-preserved : goal.loop-i-preserved
 loop-i-preserved c =
@@ -20,7 +23,8 @@ loop-i-preserved c =
     let other = λ (k : ℕ) (ne : k ≢ i). knot_other ks i k q ne in
     let same : knot ks i ≡ knot c.args.knots.now i = was.rest i (omega arith) in
     let here = knot_same ks i q lt in
-    let line = line_from (to_z w64 (of_z w64 c.args.start)) (to_z w64 (of_z w64 c.args.level)) (to_z w64 (of_z w64 c.args.price)) in
+    let line = line_from (to_z w64 (of_z w64 c.args.start)) (to_z w64 (of_z w64 c.args.level))
+    (to_z w64 (of_z w64 c.args.price)) in
     record {
       before = λ k h. other k (omega arith) ∙ was.before k h;
       powers = λ k h l. elim (cases_lt k i) [
@@ -34,7 +38,8 @@ loop-i-preserved c =
         | inl passed ↦ ap (λ (p : Knot). p.value) (other k (omega arith)) ∙ was.heights k h passed
         | inr now ↦
             let e : k ≡ i = omega arith in
-            subst (λ (z : ℕ). height (slice_set ks i q) z ≡ height c.args.knots.now z +ℤ line (power c.args.knots.now z)) (sym e)
+            subst (λ (z : ℕ). height (slice_set ks i q) z ≡ height c.args.knots.now z +ℤ line
+            (power c.args.knots.now z)) (sym e)
             (ap (λ (p : Knot). p.value) here ∙ c.on_block.ensures.value
             ∙ ap (λ (p : Knot). p.value +ℤ line p.at) same)
       ];
@@ -57,7 +62,11 @@ returns-then-knot-end c =
       to = omega arith;
       before = was.before;
       powers = was.powers;
-      heights = rw (to_z-of_z w64 c.args.start c.ranges.start, to_z-of_z w64 c.args.level c.ranges.level, to_z-of_z w64 c.args.price c.ranges.price) at was.heights;
+      heights = rw (
+        to_z-of_z w64 c.args.start c.ranges.start,
+        to_z-of_z w64 c.args.level c.ranges.level,
+        to_z-of_z w64 c.args.price c.ranges.price,
+      ) at was.heights;
       upto = λ k h l. let u = was.upto k h l in omega (arith, ints);
       after = was.rest;
       beyond = λ h. let at = ap (λ (p : Knot). p.at) same in omega (arith, ints);
@@ -66,7 +75,11 @@ returns-then-knot-end c =
 pub returns : goal.returns
 returns c =
     let was = c.loop-i.invariant in
-    let heights = rw (to_z-of_z w64 c.args.start c.ranges.start, to_z-of_z w64 c.args.level c.ranges.level, to_z-of_z w64 c.args.price c.ranges.price) at was.heights in
+    let heights = rw (
+      to_z-of_z w64 c.args.start c.ranges.start,
+      to_z-of_z w64 c.args.level c.ranges.level,
+      to_z-of_z w64 c.args.price c.ranges.price,
+    ) at was.heights in
     record {
       from = omega arith;
       to = omega arith;

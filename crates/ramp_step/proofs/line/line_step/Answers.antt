@@ -1,5 +1,6 @@
 use Rattle.ramp_step.proofs.Common.{ℤ, ◌+ℤ◌, ◌*ℤ◌, w64, to_z-of_z, power, StandFor}
-use Rattle.ramp_step.proofs.Lemmas.{is_inside, StandFor-raised, HaveSameEnds-raised, line_straight, straight_convex, shape_of, within_of, can_add, sum, sum_breaks}
+use Rattle.ramp_step.proofs.Lemmas.{is_inside, StandFor-raised, HaveSameEnds-raised, line_straight, straight_convex}
+use Rattle.ramp_step.proofs.Lemmas.{shape_of, within_of, can_add, sum, sum_breaks}
 use Rattle.ramp_step.proofs.line.line_step.Goals as goal
 
 pub raise_line-requires : goal.raise_line-requires
@@ -15,7 +16,8 @@ raise_line-requires c =
       room = c.requires.room;
       powers = within.powers;
       before = within.amounts;
-      after = λ k h. rw (s.meet k h, to_z-of_z w64 c.args.slope c.ranges.slope) ((fits (power ks k) (is_inside ks n shape.0 k s h)).2);
+      after = λ k h. rw (s.meet k h, to_z-of_z w64 c.args.slope c.ranges.slope)
+          ((fits (power ks k) (is_inside ks n shape.0 k s h)).2);
     }
 
 pub returns : goal.returns
@@ -30,5 +32,6 @@ returns c =
     (λ k h x from to. line_straight c.args.slope x) (λ x from to. straight_convex _ _ (line_straight c.args.slope x)) in
     record {
       sum = sum ks n c.requires.breaks term c.raise_line.new.knots n step ends;
-      breaks = sum_breaks ks n c.requires.breaks term c.raise_line.new.knots n step ends c.effects_keep_limits.ensures.sum c.requires.fits;
+      breaks = sum_breaks ks n c.requires.breaks term c.raise_line.new.knots n step ends
+          c.effects_keep_limits.ensures.sum c.requires.fits;
     }

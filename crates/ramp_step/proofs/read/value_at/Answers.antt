@@ -1,10 +1,13 @@
-use Rattle.ramp_step.proofs.Common.{◌≡◌, ◌-◌, None, ap, ◌∙◌, arith, to_z, of_z, w64, ints, to_z-of_z, knot, power, height}
-use Rattle.ramp_step.proofs.Lemmas.{is_inside, rises, on_line_between, within_between, value_between, IsLimited-within, shape_of, value_of-from_knots, within_of}
+use Rattle.ramp_step.proofs.Common.{◌≡◌, ◌-◌, None, ap, ◌∙◌, arith, to_z, of_z, w64, ints, to_z-of_z, knot, power}
+use Rattle.ramp_step.proofs.Common.{height}
+use Rattle.ramp_step.proofs.Lemmas.{is_inside, rises, on_line_between, within_between, value_between, IsLimited-within}
+use Rattle.ramp_step.proofs.Lemmas.{shape_of, value_of-from_knots, within_of}
 use Rattle.ramp_step.proofs.read.value_at.Goals as goal
 
 pub returns-then-m-used : goal.returns-then-m-used
 returns-then-m-used c =
-    value_of-from_knots c.args.knots.now c.args.used c.args.x None (shape_of c.args.knots.now c.args.used c.requires.breaks) (λ inside.
+    value_of-from_knots c.args.knots.now c.args.used c.args.x None
+    (shape_of c.args.knots.now c.args.used c.requires.breaks) (λ inside.
     let b = c.below-m.ensures.before (c.args.used - 1) (omega arith) in
     omega (arith, ints))
 
@@ -33,11 +36,14 @@ between-knot-requires-clause-line c =
     let low = b.before (m - 1) (omega arith) in
     let high = b.after (omega arith) in
     let shape = shape_of c.args.knots.now c.args.used c.requires.breaks in
-    rw e (on_line_between c.args.knots.now c.args.used m shape.0 shape.1 (omega arith) (omega arith) c.args.x (omega (arith, ints)) high)
+    rw e (on_line_between c.args.knots.now c.args.used m shape.0 shape.1 (omega arith) (omega arith) c.args.x
+    (omega (arith, ints)) high)
 
 pub between-knot-requires-clause-within : goal.between-knot-requires-clause-within
 between-knot-requires-clause-within c =
-    within_between c.args.knots.now c.args.used c.below-m.result (IsLimited-within c.args.knots.now c.args.used (within_of c.args.knots.now c.args.used c.requires.breaks)) (omega arith) (omega arith)
+    within_between c.args.knots.now c.args.used c.below-m.result
+    (IsLimited-within c.args.knots.now c.args.used (within_of c.args.knots.now c.args.used c.requires.breaks))
+    (omega arith) (omega arith)
 
 pub returns : goal.returns
 returns c =
@@ -57,5 +63,6 @@ returns c =
     let last = rises n (power ks) s.rise ((n - 1) - m) m (n - 1) (omega arith) (omega arith) in
     value_of-from_knots ks n c.args.x _ shape (record {
       inside = record { some = omega arith; from_first = omega (arith, ints); to_last = omega (arith, ints) };
-      value = fits ∙ value_between ks n m f s (omega arith) (omega arith) c.args.x c.between-knot.result (omega (arith, ints)) high is;
+      value = fits ∙ value_between ks n m f s (omega arith) (omega arith) c.args.x c.between-knot.result
+          (omega (arith, ints)) high is;
     })

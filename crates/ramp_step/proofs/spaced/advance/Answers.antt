@@ -1,4 +1,5 @@
-use Rattle.ramp_step.proofs.Common.{◌≡◌, ◌≢◌, ℕ, ◌+◌, ◌-◌, ◌<◌, length, ap, sym, ◌∙◌, subst, arith, inl, inr, slice_set, ints, cases_lt, Knot, knot}
+use Rattle.ramp_step.proofs.Common.{◌≡◌, ◌≢◌, ℕ, ◌+◌, ◌-◌, ◌<◌, length, ap, sym, ◌∙◌, subst, arith, inl, inr, slice_set}
+use Rattle.ramp_step.proofs.Common.{ints, cases_lt, Knot, knot}
 use Rattle.ramp_step.proofs.Lemmas.{knot_same, knot_other, IsMovedOn-stop}
 use Rattle.ramp_step.proofs.spaced.advance.Goals as goal
 
@@ -18,7 +19,8 @@ loop-i-preserved c =
         | inl passed ↦ other k (omega arith) ∙ was.moved k h passed
         | inr here ↦
             let e : k ≡ i = omega arith in
-            subst (λ (z : ℕ). knot (slice_set ks i q) z ≡ knot c.args.knots.now (z + room)) (sym e) (knot_same ks i q lt ∙ same)
+            subst (λ (z : ℕ). knot (slice_set ks i q) z ≡ knot c.args.knots.now (z + room)) (sym e)
+            (knot_same ks i q lt ∙ same)
       ];
       rest = λ k h. other k (omega arith) ∙ was.rest k (omega arith);
       below = λ k h l. elim (cases_lt k i) [
@@ -44,6 +46,7 @@ returns c =
     let n = c.args.total - c.args.room in
     let was = c.loop-i.invariant in
     IsMovedOn-stop c.args.knots.now c.loop-i.knots c.args.front c.args.room n n c.args.x
-    (omega arith) (omega arith) (omega arith) (omega arith) was.before (λ k h l. was.moved k h (omega arith)) (λ k h. was.rest k (omega arith))
+    (omega arith) (omega arith) (omega arith) (omega arith) was.before (λ k h l. was.moved k h (omega arith))
+    (λ k h. was.rest k (omega arith))
     (λ k h l. let b = was.below k h (omega arith) in omega (arith, ints))
     (λ h. absurd (omega arith))

@@ -8,5 +8,6 @@ returns-clause-lines c =
     let r = c.args.report.now in
     let choice = rw (to_z-of_z w128 c.args.value c.ranges.value) at c.same_choice.ensures in
     rw c.all_same.ensures
-    (judged_compare c.args.first (c.same_choice.result ∷ []) (chosen_text r.chosen r.chosen_value ∷ []) (chosen_text c.args.chosen c.args.value ∷ [])
+    (judged_compare c.args.first (c.same_choice.result ∷ []) (chosen_text r.chosen r.chosen_value ∷ [])
+    (chosen_text c.args.chosen c.args.value ∷ [])
     (choice_judged c.same_choice.result r.chosen c.args.chosen r.chosen_value c.args.value choice, tt))

@@ -8,5 +8,6 @@ returns-clause-lines c =
     let r = report_of c.args.report.now in
     let same = rw (sym (length-map c.args.report.now.rows.items proposal_of)) at c.same_length.ensures in
     rw c.all_same.ensures
-    (judged_compare c.args.first (c.same_length.result ∷ []) (number_line (length r.rows) ∷ []) (number_line c.args.proposals ∷ [])
+    (judged_compare c.args.first (c.same_length.result ∷ []) (number_line (length r.rows) ∷ [])
+    (number_line c.args.proposals ∷ [])
     (count_judged (codes "proposals ") c.same_length.result (length r.rows) c.args.proposals same, tt))

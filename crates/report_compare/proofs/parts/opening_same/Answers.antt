@@ -1,4 +1,5 @@
-use Rattle.report_compare.proofs.Common.{◌∷◌, [], codes, refl, true, w128, to_z-of_z, unit_count, market_of, report_of, right_opening, opening_lines}
+use Rattle.report_compare.proofs.Common.{◌∷◌, [], codes, refl, true, w128, to_z-of_z, unit_count, market_of, report_of}
+use Rattle.report_compare.proofs.Common.{right_opening, opening_lines}
 use Rattle.report_compare.proofs.Lemmas.{judged_compare, amount_judged, count_judged}
 use Rattle.report_compare.proofs.parts.opening_same.Goals as goal
 

@@ -1,6 +1,12 @@
-use Rattle.report_compare.proofs.Common.{◌+◌, Ok, Err, map, arith, refl, sym, subst, w128, to_z-of_z, none-some, length-map, IsWorth, market_of, schedules_of, proposal_of, report_of, told_of, report_lines, answers_of, right_of, ◌≡◌, ℕ, ℤ, Result, Some, List, length, slice_get, AllZip, flat_map, Schedule, Market, units, Proposal, IsTop, IsSettled, Report, IsRightReport, Compares, told_lines, Answers, titles, told_from, whole_lines, WrongLine}
+use Rattle.report_compare.proofs.Common.{◌+◌, Ok, Err, map, arith, refl, sym, subst, w128, to_z-of_z, none-some}
+use Rattle.report_compare.proofs.Common.{length-map, IsWorth, market_of, schedules_of, proposal_of, report_of, told_of}
+use Rattle.report_compare.proofs.Common.{report_lines, answers_of, right_of, ◌≡◌, ℕ, ℤ, Result, Some, List, length}
+use Rattle.report_compare.proofs.Common.{slice_get, AllZip, flat_map, Schedule, Market, units, Proposal, IsTop}
+use Rattle.report_compare.proofs.Common.{IsSettled, Report, IsRightReport, Compares, told_lines, Answers, titles}
+use Rattle.report_compare.proofs.Common.{told_from, whole_lines, WrongLine}
 use Rattle.report_compare.proofs.RightReports.{right_is, counted, count_zipped}
-use Rattle.report_compare.proofs.Lemmas.{read_item, row_made, row_long, mine_whole, right_whole, compared_as, number_behind, sum_is_worth, all_right, first_wrong, not_right, IsMade}
+use Rattle.report_compare.proofs.Lemmas.{read_item, row_made, row_long, mine_whole, right_whole, compared_as}
+use Rattle.report_compare.proofs.Lemmas.{number_behind, sum_is_worth, all_right, first_wrong, not_right, IsMade}
 use Rattle.report_compare.proofs.report.first_difference.Goals as goal
 use Rattle.uplift_settle.specs.declared.settlement.Settlement.{Settlement}
 use Rattle.report_compare.proofs.report.first_difference.Goals.{After-index-rows-chosen}
@@ -26,7 +32,8 @@ module _ (c : After-index-rows-chosen) where
   row = proposal_of c.index-rows-chosen.result
 
   at : slice_get rows k ≡ Some row
-  at = read_item proposal_of c.args.rows.now k c.index-rows-chosen.result c.greatest-chosen.ensures.place c.index-rows-chosen.is
+  at = read_item proposal_of c.args.rows.now k c.index-rows-chosen.result c.greatest-chosen.ensures.place
+      c.index-rows-chosen.is
 
   made : IsMade m row
   made = row_made m c.args.cost r.budget r.ahead rows k row c.requires.run at
@@ -35,7 +42,8 @@ module _ (c : After-index-rows-chosen) where
   long = row_long m row made c.index-rows-chosen.result.supply_length
 
   -- what the units earn at its prices, and the payments
-  module _ (earned : List ℤ) (s : Settlement) (tops : AllZip (λ u e. IsTop u row.prices e) (units m) earned) (settled : IsSettled m plan row.prices s.scheduled.items s.payments.items s.surplus s.total) where
+  module _ (earned : List ℤ) (s : Settlement) (tops : AllZip (λ u e. IsTop u row.prices e) (units m) earned)
+      (settled : IsSettled m plan row.prices s.scheduled.items s.payments.items s.surplus s.total) where
     abbrev a : Answers
     a = answers_of earned s made.schedules
 
@@ -44,13 +52,19 @@ module _ (c : After-index-rows-chosen) where
 
     is_right : IsRightReport m plan r.budget r.ahead right
     is_right =
-        let counts = c.settlements_are_of_all_units.ensures m plan row.prices s.scheduled.items s.payments.items s.surplus s.total c.requires.feasible settled in
-        right_is m plan r.budget r.ahead c.args.cost rows row (k + 1) a s.surplus s.total c.requires.cost c.requires.run c.greatest-chosen.ensures.number (number_behind rows k row at)
+        let counts = c.settlements_are_of_all_units.ensures m plan row.prices s.scheduled.items s.payments.items
+        s.surplus s.total c.requires.feasible settled in
+        right_is m plan r.budget r.ahead c.args.cost rows row (k + 1) a s.surplus s.total c.requires.cost c.requires.run
+        c.greatest-chosen.ensures.number (number_behind rows k row at)
         made.fit made.totals tops counts.0 counts.1 settled
 
-    lined : (o : Result ℕ WrongLine) → Compares 1 o (whole_lines r (flat_map told_lines (map told_of c.args.report.now.lines.items))) (whole_lines right (flat_map told_lines (told_from a 0 (titles m)))) → Compares 1 o (report_lines r) (report_lines right)
+    lined : (o : Result ℕ WrongLine) →
+        Compares 1 o (whole_lines r (flat_map told_lines (map told_of c.args.report.now.lines.items)))
+        (whole_lines right (flat_map told_lines (told_from a 0 (titles m)))) →
+        Compares 1 o (report_lines r) (report_lines right)
     lined o told =
-        compared_as o _ (report_lines r) _ (report_lines right) (mine_whole c.args.report.now c.requires.order) (right_whole m a r.budget r.ahead c.args.cost rows (k + 1) row.value s.surplus s.total) told
+        compared_as o _ (report_lines r) _ (report_lines right) (mine_whole c.args.report.now c.requires.order)
+        (right_whole m a r.budget r.ahead c.args.cost rows (k + 1) row.value s.surplus s.total) told
 
 pub earn_all-requires-clause-horizon : goal.earn_all-requires-clause-horizon
 earn_all-requires-clause-horizon c = long (goal.at.earn_all-requires-clause-horizon c).After-index-rows-chosen
@@ -65,7 +79,8 @@ pub report_same-requires-clause-some : goal.report_same-requires-clause-some
 report_same-requires-clause-some c = (schedules_of c.args.plan.now, c.requires.feasible.feasible)
 
 pub report_same-requires-clause-earned : goal.report_same-requires-clause-earned
-report_same-requires-clause-earned c = count_zipped _ (market_of c.args.case.now) c.earn_all.new.into.items c.earn_all.ensures.tops
+report_same-requires-clause-earned c =
+    count_zipped _ (market_of c.args.case.now) c.earn_all.new.into.items c.earn_all.ensures.tops
 
 pub report_same-requires-clause-desk : goal.report_same-requires-clause-desk
 report_same-requires-clause-desk c =
@@ -73,7 +88,9 @@ report_same-requires-clause-desk c =
     let plan = schedules_of c.args.plan.now in
     let row = proposal_of c.index-rows-chosen.result in
     let settlement = c.settle.new.into in
-    let counts = c.settlements_are_of_all_units.ensures m plan row.prices settlement.scheduled.items settlement.payments.items settlement.surplus settlement.total c.requires.feasible c.settle.ensures.settled in
+    let counts = c.settlements_are_of_all_units.ensures m plan row.prices settlement.scheduled.items
+    settlement.payments.items settlement.surplus settlement.total c.requires.feasible
+    c.settle.ensures.settled in
     let long = count_zipped _ m c.earn_all.new.into.items c.earn_all.ensures.tops in
     record {
       bench = c.earn_all.ensures.bench;
@@ -85,14 +102,16 @@ report_same-requires-clause-desk c =
 
 pub report_same-requires-clause-cost : goal.report_same-requires-clause-cost
 report_same-requires-clause-cost c =
-    let worth = c.plan_costs_are_within.ensures (market_of c.args.case.now) (schedules_of c.args.plan.now) c.args.case.now.valid c.requires.feasible in
+    let worth = c.plan_costs_are_within.ensures (market_of c.args.case.now) (schedules_of c.args.plan.now)
+    c.args.case.now.valid c.requires.feasible in
     let known = sum_is_worth _ worth in
     rw (to_z-of_z w128 c.args.cost c.ranges.cost) (subst IsWorth (sym c.requires.cost) known)
 
 pub report_same-requires-clause-value : goal.report_same-requires-clause-value
 report_same-requires-clause-value c =
     let d = (goal.at.report_same-requires-clause-value c).After-index-rows-chosen in
-    c.dual_values_are_within.ensures (m d) (row d).prices (row d).value c.args.case.now.valid c.index-rows-chosen.result.prices.valid (long d) (made d).value
+    c.dual_values_are_within.ensures (m d) (row d).prices (row d).value c.args.case.now.valid
+    c.index-rows-chosen.result.prices.valid (long d) (made d).value
 
 pub report_same-requires-clause-units : goal.report_same-requires-clause-units
 unfolding report_of
@@ -114,8 +133,13 @@ returns-in-Ok-clause-right c =
     let s = c.settle.new.into in
     let tops = c.earn_all.ensures.tops in
     let settled = c.settle.ensures.settled in
-    let lines = lined d earned s tops settled (Ok c.in-Ok.field-0) (rw (to_z-of_z w128 c.args.cost c.ranges.cost) at (c.in-Ok.ensures (made d).schedules (made d).fit)) in
-    (λ e. all_right c.text_determines_the_report.ensures (r d) (right d earned s tops settled) (m d) (plan d) (r d).budget (r d).ahead c.in-Ok.field-0 c.right_report_has_form.ensures c.requires.bounds (is_right d earned s tops settled) lines, λ h. refl)
+    let lines = lined d earned s tops settled (Ok c.in-Ok.field-0)
+    (rw (to_z-of_z w128 c.args.cost c.ranges.cost) at (c.in-Ok.ensures (made d).schedules (made d).fit)) in (
+      λ e. all_right c.text_determines_the_report.ensures (r d) (right d earned s tops settled) (m d) (plan d)
+          (r d).budget (r d).ahead c.in-Ok.field-0 c.right_report_has_form.ensures c.requires.bounds
+          (is_right d earned s tops settled) lines,
+      λ h. refl,
+    )
 
 pub returns-in-Err-clause-right : goal.returns-in-Err-clause-right
 returns-in-Err-clause-right c =
@@ -124,9 +148,12 @@ returns-in-Err-clause-right c =
     let s = c.settle.new.into in
     let tops = c.earn_all.ensures.tops in
     let settled = c.settle.ensures.settled in
-    let lines = lined d earned s tops settled (Err c.in-Err.wrong) (rw (to_z-of_z w128 c.args.cost c.ranges.cost) at (c.in-Err.ensures (made d).schedules (made d).fit)) in (
+    let lines = lined d earned s tops settled (Err c.in-Err.wrong)
+    (rw (to_z-of_z w128 c.args.cost c.ranges.cost) at (c.in-Err.ensures (made d).schedules (made d).fit)) in (
       λ e. absurd (none-some c.in-Err.wrong.line (sym e)),
-      λ h. absurd (not_right c.text_determines_the_report.ensures (r d) (right d earned s tops settled) (m d) (plan d) (r d).budget (r d).ahead c.in-Err.wrong c.one_report_is_right.ensures (is_right d earned s tops settled) lines h),
+      λ h. absurd (not_right c.text_determines_the_report.ensures (r d) (right d earned s tops settled) (m d) (plan d)
+          (r d).budget (r d).ahead c.in-Err.wrong c.one_report_is_right.ensures (is_right d earned s tops settled) lines
+          h),
     )
 
 pub returns-in-Err-clause-wrong : goal.returns-in-Err-clause-wrong
@@ -136,5 +163,9 @@ returns-in-Err-clause-wrong c =
     let s = c.settle.new.into in
     let tops = c.earn_all.ensures.tops in
     let settled = c.settle.ensures.settled in
-    let lines = lined d earned s tops settled (Err c.in-Err.wrong) (rw (to_z-of_z w128 c.args.cost c.ranges.cost) at (c.in-Err.ensures (made d).schedules (made d).fit)) in
-    (right d earned s tops settled, is_right d earned s tops settled, first_wrong c.text_determines_the_report.ensures (r d) (right d earned s tops settled) c.in-Err.wrong lines)
+    let lines = lined d earned s tops settled (Err c.in-Err.wrong)
+    (rw (to_z-of_z w128 c.args.cost c.ranges.cost) at (c.in-Err.ensures (made d).schedules (made d).fit)) in (
+      right d earned s tops settled,
+      is_right d earned s tops settled,
+      first_wrong c.text_determines_the_report.ensures (r d) (right d earned s tops settled) c.in-Err.wrong lines,
+    )

@@ -1,4 +1,5 @@
-use Rattle.report_compare.proofs.Common.{suc, ◌<◌, Ok, Err, map, length, arith, length-map, err_from_is_err_and, proposal_of}
+use Rattle.report_compare.proofs.Common.{suc, ◌<◌, Ok, Err, map, length, arith, length-map, err_from_is_err_and}
+use Rattle.report_compare.proofs.Common.{proposal_of}
 use Rattle.report_compare.proofs.Lemmas.{read_item, rows_step, rows_stop, rows_end}
 use Rattle.report_compare.proofs.rows.rows_same.Goals as goal
 
@@ -11,8 +12,10 @@ returns-in_err-line-clause-lines c =
     let p = err_from_is_err_and c.from_residual.result c.from_residual.ensures.1 in
     rw (p.1, p.2)
     (c.loop-place.invariant.rest (Err c.in_err-line.field-0.0)
-    (rows_stop c.loop-place.line c.in_err-line.field-0.0 place (map proposal_of c.args.mine.now) (map proposal_of c.args.right.now) (proposal_of mine) (proposal_of right)
-    (read_item proposal_of c.args.mine.now place mine c.loop-place-test.true c.index-mine-place.is) (read_item proposal_of c.args.right.now place right inside c.index-right-place.is)
+    (rows_stop c.loop-place.line c.in_err-line.field-0.0 place (map proposal_of c.args.mine.now)
+    (map proposal_of c.args.right.now) (proposal_of mine) (proposal_of right)
+    (read_item proposal_of c.args.mine.now place mine c.loop-place-test.true c.index-mine-place.is)
+    (read_item proposal_of c.args.right.now place right inside c.index-right-place.is)
     (c.in_err-line.ensures.lines (suc place))))
 
 pub loop-place-preserved : goal.loop-place-preserved
@@ -26,8 +29,10 @@ loop-place-preserved c =
     let line = c.loop-place.invariant.line in
     record {
       rest = λ result h. c.loop-place.invariant.rest result
-          (rows_step c.loop-place.line c.in_ok-line.line result place (map proposal_of c.args.mine.now) (map proposal_of c.args.right.now) (proposal_of mine) (proposal_of right)
-          (read_item proposal_of c.args.mine.now place mine c.loop-place-test.true c.index-mine-place.is) (read_item proposal_of c.args.right.now place right inside c.index-right-place.is)
+          (rows_step c.loop-place.line c.in_ok-line.line result place (map proposal_of c.args.mine.now)
+          (map proposal_of c.args.right.now) (proposal_of mine) (proposal_of right)
+          (read_item proposal_of c.args.mine.now place mine c.loop-place-test.true c.index-mine-place.is)
+          (read_item proposal_of c.args.right.now place right inside c.index-right-place.is)
           (known.lines (suc place)) h);
       line = omega (arith, next, line);
     }
@@ -40,4 +45,5 @@ returns-clause-lines c =
     let mine = length-map c.args.mine.now proposal_of in
     let right = length-map c.args.right.now proposal_of in
     c.loop-place.invariant.rest (Ok c.loop-place.line)
-    (rows_end c.loop-place.line place (map proposal_of c.args.mine.now) (map proposal_of c.args.right.now) (omega (arith, done, mine)) (omega (arith, done, count, right)))
+    (rows_end c.loop-place.line place (map proposal_of c.args.mine.now) (map proposal_of c.args.right.now)
+    (omega (arith, done, mine)) (omega (arith, done, count, right)))

@@ -5,10 +5,12 @@ use Rattle.report_compare.proofs.units.response_same.Goals as goal
 pub returns-in-Thermal : goal.returns-in-Thermal
 returns-in-Thermal c =
     rw c.all_same.ensures
-    (thermal_response c.args.first c.args.kind c.same_flags-on.result c.same_powers-power.result c.same_powers-reserve.result (schedule_of c.args.mine.now) (schedule_of c.args.right.now)
+    (thermal_response c.args.first c.args.kind c.same_flags-on.result c.same_powers-power.result
+    c.same_powers-reserve.result (schedule_of c.args.mine.now) (schedule_of c.args.right.now)
     c.in-Thermal.is c.same_flags-on.ensures c.same_powers-power.ensures c.same_powers-reserve.ensures)
 
 pub returns-in-Renewable : goal.returns-in-Renewable
 returns-in-Renewable c =
     rw c.all_same-in-Renewable.ensures
-    (other_response c.args.first c.args.kind c.same_powers-power.result (schedule_of c.args.mine.now) (schedule_of c.args.right.now) c.in-Renewable.is c.same_powers-power.ensures)
+    (other_response c.args.first c.args.kind c.same_powers-power.result (schedule_of c.args.mine.now)
+    (schedule_of c.args.right.now) c.in-Renewable.is c.same_powers-power.ensures)

@@ -1,4 +1,5 @@
-use Rattle.report_compare.proofs.Common.{ℤ, subst, w128, to_z-of_z, market_of, schedules_of, report_of, Compares, right_opening, opening_lines}
+use Rattle.report_compare.proofs.Common.{ℤ, subst, w128, to_z-of_z, market_of, schedules_of, report_of, Compares}
+use Rattle.report_compare.proofs.Common.{right_opening, opening_lines}
 use Rattle.report_compare.proofs.Lemmas.{opening_told, opening_fails}
 use Rattle.report_compare.proofs.verdict.opening_right.Goals as goal
 
@@ -13,7 +14,10 @@ returns-clause-wrong c =
     let m = market_of c.args.case.now in
     let plan = schedules_of c.args.plan.now in
     let r = report_of c.args.report.now in
-    let q = c.right_reports_exist.ensures m plan r.budget r.ahead c.requires.feasible c.requires.bounds.budget_at_least c.requires.bounds.ahead_at_least in
+    let q = c.right_reports_exist.ensures m plan r.budget r.ahead c.requires.feasible c.requires.bounds.budget_at_least
+    c.requires.bounds.ahead_at_least in
     let told = rw (to_z-of_z w128 c.args.cost c.ranges.cost) at c.opening_same.ensures.lines in
-    let lines = subst (λ (x : ℤ). Compares 1 c.opening_same.result (opening_lines r) (right_opening m x r)) c.requires.cost told in
-    opening_fails c.text_determines_the_report.ensures c.one_report_is_right.ensures m plan r q.0 q.1 c.opening_same.result lines
+    let lines = subst (λ (x : ℤ). Compares 1 c.opening_same.result (opening_lines r) (right_opening m x r))
+    c.requires.cost told in
+    opening_fails c.text_determines_the_report.ensures c.one_report_is_right.ensures m plan r q.0 q.1
+    c.opening_same.result lines

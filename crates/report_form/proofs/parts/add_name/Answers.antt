@@ -3,12 +3,17 @@ use Rattle.report_form.proofs.Lemmas.{adds_then, adds_exit}
 use Rattle.report_form.proofs.parts.add_name.Goals as goal
 
 pub returns-in_err-add_bytes : goal.returns-in_err-add_bytes
-returns-in_err-add_bytes g c = adds_exit c.args.piece.now _ (34 ∷ []) _ _ c.from_residual.ensures.0 c.in_err-add_bytes.ensures.err
+returns-in_err-add_bytes g c =
+    adds_exit c.args.piece.now _ (34 ∷ []) _ _ c.from_residual.ensures.0 c.in_err-add_bytes.ensures.err
 
 pub returns-in_err-add_inside : goal.returns-in_err-add_inside
 returns-in_err-add_inside g c =
-    adds_then c.args.piece.now _ _ (34 ∷ []) _ _ (adds_exit _ _ (flat_map escaped c.args.name.now) _ _ c.from_residual-in_err-add_inside.ensures.0 c.in_err-add_inside.ensures.err) c.in_ok-add_bytes.ensures.ok
+    adds_then c.args.piece.now _ _ (34 ∷ []) _ _
+    (adds_exit _ _ (flat_map escaped c.args.name.now) _ _ c.from_residual-in_err-add_inside.ensures.0
+    c.in_err-add_inside.ensures.err) c.in_ok-add_bytes.ensures.ok
 
 pub returns : goal.returns
 returns g c =
-    adds_then c.args.piece.now _ _ (34 ∷ []) _ _ (adds_then _ _ _ (flat_map escaped c.args.name.now) (34 ∷ []) _ c.add_bytes-2.ensures c.in_ok-add_inside.ensures.ok) c.in_ok-add_bytes.ensures.ok
+    adds_then c.args.piece.now _ _ (34 ∷ []) _ _
+    (adds_then _ _ _ (flat_map escaped c.args.name.now) (34 ∷ []) _ c.add_bytes-2.ensures
+    c.in_ok-add_inside.ensures.ok) c.in_ok-add_bytes.ensures.ok

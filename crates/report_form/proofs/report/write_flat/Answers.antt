@@ -5,4 +5,14 @@ pub returns : goal.returns
 unfolding flat_text
 returns g c =
     rw (← c.as_bytes-bytes.ensures.value, ← c.as_slice-power.ensures)
-    (rw (to_z-of_z w128 c.from-earned.result (search rules), c.from-earned.ensures, to_z-of_z w64 c.args.owed.now.earned (search rules), to_z-of_z w128 c.from-scheduled.result (search rules), c.from-scheduled.ensures, to_z-of_z w64 c.args.owed.now.scheduled (search rules), to_z-of_z w128 c.from-payment.result (search rules), c.from-payment.ensures, to_z-of_z w64 c.args.owed.now.payment (search rules)) at c.write_parts.ensures)
+    (rw (
+      to_z-of_z w128 c.from-earned.result (search rules),
+      c.from-earned.ensures,
+      to_z-of_z w64 c.args.owed.now.earned (search rules),
+      to_z-of_z w128 c.from-scheduled.result (search rules),
+      c.from-scheduled.ensures,
+      to_z-of_z w64 c.args.owed.now.scheduled (search rules),
+      to_z-of_z w128 c.from-payment.result (search rules),
+      c.from-payment.ensures,
+      to_z-of_z w64 c.args.owed.now.payment (search rules),
+    ) at c.write_parts.ensures)

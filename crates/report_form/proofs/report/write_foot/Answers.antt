@@ -3,4 +3,8 @@ use Rattle.report_form.proofs.report.write_foot.Goals as goal
 
 pub returns : goal.returns
 unfolding foot_text
-returns g c = rw (to_z-of_z w128 c.args.surplus (search rules), to_z-of_z w128 c.args.payments (search rules), to_z-of_z w128 c.args.gap (search rules)) at c.write_parts.ensures
+returns g c = rw (
+  to_z-of_z w128 c.args.surplus (search rules),
+  to_z-of_z w128 c.args.payments (search rules),
+  to_z-of_z w128 c.args.gap (search rules),
+) at c.write_parts.ensures

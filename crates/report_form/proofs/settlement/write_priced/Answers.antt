@@ -4,5 +4,11 @@ use Rattle.report_form.proofs.settlement.write_priced.Goals as goal
 pub returns : goal.returns
 unfolding priced_text
 returns g c =
-    rw (← c.as_slice-energy.ensures, ← c.as_slice-reserve.ensures, ← c.as_slice-supplied.ensures, ← c.as_slice-reserved.ensures)
-    (rw (to_z-of_z w128 c.args.cost (search rules), to_z-of_z w128 c.args.row.now.value (search rules)) at c.write_parts.ensures)
+    rw (
+      ← c.as_slice-energy.ensures,
+      ← c.as_slice-reserve.ensures,
+      ← c.as_slice-supplied.ensures,
+      ← c.as_slice-reserved.ensures,
+    )
+    (rw (to_z-of_z w128 c.args.cost (search rules), to_z-of_z w128 c.args.row.now.value (search rules)) at
+    c.write_parts.ensures)

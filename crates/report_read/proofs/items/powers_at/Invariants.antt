@@ -4,6 +4,7 @@ use Rattle.report_read.proofs.items.powers_at.Given as goal
 
 abbrev pub invariant-loop : goal.invariant-loop
 invariant-loop l = record {
-  reads : with_front l.list.items (items_at (power_at) (l.count - l.counter) l.rest) ≡ items_at (power_at) l.count l.bytes;
+  reads : with_front l.list.items (items_at (power_at) (l.count - l.counter) l.rest) ≡ items_at (power_at) l.count
+      l.bytes;
   room : l.count - l.counter ≤ l.list.spare;
 }

@@ -3,18 +3,23 @@ use Rattle.report_read.proofs.Lemmas.{byte_goes_on, byte_fails, name_ends, name_
 use Rattle.report_read.proofs.names.closed_at.Goals as goal
 
 pub returns : goal.returns
-returns c = name_is_open c.loop.name.items (length c.args.bytes.now) c.loop.counter c.loop.rest.now (closed_within (length c.args.bytes.now) c.args.bytes.now) c.loop-test.false c.loop.invariant
+returns c = name_is_open c.loop.name.items (length c.args.bytes.now) c.loop.counter c.loop.rest.now
+    (closed_within (length c.args.bytes.now) c.args.bytes.now) c.loop-test.false c.loop.invariant
 
 pub returns-in-Some : goal.returns-in-Some
 returns-in-Some c =
-    name_ends c.loop.name.items (length c.args.bytes.now) c.loop.counter c.loop.rest.now c.in-Some.after.now (closed_within (length c.args.bytes.now) c.args.bytes.now) c.loop-test.true c.in-Some.ensures c.loop.invariant
+    name_ends c.loop.name.items (length c.args.bytes.now) c.loop.counter c.loop.rest.now c.in-Some.after.now
+    (closed_within (length c.args.bytes.now) c.args.bytes.now) c.loop-test.true c.in-Some.ensures c.loop.invariant
 
 pub returns-in_default-escaped_at : goal.returns-in_default-escaped_at
 returns-in_default-escaped_at c =
-    byte_fails c.loop.name.items (length c.args.bytes.now) c.loop.counter c.loop.rest.now (closed_within (length c.args.bytes.now) c.args.bytes.now) c.loop-test.true
+    byte_fails c.loop.name.items (length c.args.bytes.now) c.loop.counter c.loop.rest.now
+    (closed_within (length c.args.bytes.now) c.args.bytes.now) c.loop-test.true
     c.in_default.ensures c.in_default-escaped_at.ensures c.loop.invariant
 
 pub loop-preserved : goal.loop-preserved
 loop-preserved c =
-    rw c.in_ok-push.ensures.items (byte_goes_on c.loop.name.items (length c.args.bytes.now) c.loop.counter c.loop.rest.now c.in-Some-escaped_at.byte c.in-Some-escaped_at.after.now (closed_within (length c.args.bytes.now) c.args.bytes.now)
+    rw c.in_ok-push.ensures.items (byte_goes_on c.loop.name.items (length c.args.bytes.now) c.loop.counter
+    c.loop.rest.now c.in-Some-escaped_at.byte c.in-Some-escaped_at.after.now
+    (closed_within (length c.args.bytes.now) c.args.bytes.now)
     c.loop-test.true c.in_default.ensures c.in-Some-escaped_at.ensures c.loop.invariant)

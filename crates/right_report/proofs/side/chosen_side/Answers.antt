@@ -5,14 +5,16 @@ use Rattle.right_report.proofs.side.chosen_side.Goals as goal
 pub copy_prices-requires : goal.copy_prices-requires
 copy_prices-requires c =
     let e = c.choice_of-choice.ensures in
-    (chosen_row_at c.rows_are_within.ensures c.args.closed.now c.rows.result.now c.choice_of-choice.result.chosen c.index-rows-choice.result c.rows.ensures.setup c.rows.ensures.legal
+    (chosen_row_at c.rows_are_within.ensures c.args.closed.now c.rows.result.now c.choice_of-choice.result.chosen
+    c.index-rows-choice.result c.rows.ensures.setup c.rows.ensures.legal
     c.rows.ensures.rows e.chosen e.first e.last c.index-rows-choice.is).horizon ∙ sym c.requires.horizon
 
 pub returns-clause-choice : goal.returns-clause-choice
 returns-clause-choice c =
     let e = c.choice_of-choice.ensures in
     let row = c.index-rows-choice.result in
-    let at = chosen_row_at c.rows_are_within.ensures c.args.closed.now c.rows.result.now c.choice_of-choice.result.chosen row c.rows.ensures.setup c.rows.ensures.legal
+    let at = chosen_row_at c.rows_are_within.ensures c.args.closed.now c.rows.result.now
+    c.choice_of-choice.result.chosen row c.rows.ensures.setup c.rows.ensures.legal
     c.rows.ensures.rows e.chosen e.first e.last c.index-rows-choice.is in
     record {
       proposals = e.proposals;
@@ -27,5 +29,6 @@ pub returns-clause-horizon : goal.returns-clause-horizon
 returns-clause-horizon c =
     let e = c.choice_of-choice.ensures in
     ap (λ (π : PriceLists). length π.energy) c.copy_prices.ensures
-    ∙ (chosen_row_at c.rows_are_within.ensures c.args.closed.now c.rows.result.now c.choice_of-choice.result.chosen c.index-rows-choice.result c.rows.ensures.setup c.rows.ensures.legal
+    ∙ (chosen_row_at c.rows_are_within.ensures c.args.closed.now c.rows.result.now c.choice_of-choice.result.chosen
+    c.index-rows-choice.result c.rows.ensures.setup c.rows.ensures.legal
     c.rows.ensures.rows e.chosen e.first e.last c.index-rows-choice.is).horizon

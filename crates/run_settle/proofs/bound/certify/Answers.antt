@@ -1,4 +1,5 @@
-use Rattle.run_settle.proofs.Common.{rules, ◌≡◌, w64, to_z-of_z, List, length, map, sym, ap, subst, ◌∙◌, arith, All, length-map, Market, Proposal, proposal_of, own_rows}
+use Rattle.run_settle.proofs.Common.{rules, ◌≡◌, w64, to_z-of_z, List, length, map, sym, ap, subst, ◌∙◌, arith, All}
+use Rattle.run_settle.proofs.Common.{length-map, Market, Proposal, proposal_of, own_rows}
 use Rattle.gap_proof.specs.Sums.{IsRowWithin}
 use Rattle.run_settle.proofs.SettleLaws.{chosen_place}
 use Rattle.run_settle.proofs.BoundLaws.{best_told}
@@ -6,10 +7,12 @@ use Rattle.run_settle.proofs.bound.certify.Goals as goal
 
 pub returns-clause-told : goal.returns-clause-told
 returns-clause-told c =
-    best_told c.run_bounds_hold.ensures c.one_row_is_chosen.ensures c.finished_has_row.ensures c.finished_is_run.ensures c.rows_are_within.ensures c.args.closed.now c.args.radius
+    best_told c.run_bounds_hold.ensures c.one_row_is_chosen.ensures c.finished_has_row.ensures c.finished_is_run.ensures
+    c.rows_are_within.ensures c.args.closed.now c.args.radius
     (record { first = c.best_range.result.first; last = c.best_range.result.last }) c.best_range.result.bound
     c.rows.ensures.setup c.rows.ensures.legal c.requires.finished c.requires.radius.at_least
-    (rw (to_z-of_z w64 c.args.radius (search rules), c.case.ensures, c.rows.ensures.rows, c.chosen.ensures) at c.best_range.ensures.best) c.best_range.ensures.most
+    (rw (to_z-of_z w64 c.args.radius (search rules), c.case.ensures, c.rows.ensures.rows, c.chosen.ensures) at
+    c.best_range.ensures.best) c.best_range.ensures.most
 
 pub best_range-requires-clause-rows : goal.best_range-requires-clause-rows
 best_range-requires-clause-rows c =
@@ -27,14 +30,22 @@ best_range-requires-clause-rows c =
 pub best_range-requires-clause-from_one : goal.best_range-requires-clause-from_one
 best_range-requires-clause-from_one c =
     let s = c.args.closed.now in
-    (chosen_place c.finished_has_row.ensures c.one_row_is_chosen.ensures s c.chosen.result c.rows.ensures.setup c.requires.finished c.chosen.ensures).first
+    (chosen_place c.finished_has_row.ensures c.one_row_is_chosen.ensures s c.chosen.result c.rows.ensures.setup
+    c.requires.finished c.chosen.ensures).first
 
 pub best_range-requires-clause-to_last : goal.best_range-requires-clause-to_last
 best_range-requires-clause-to_last c =
     let s = c.args.closed.now in
-    let last = (chosen_place c.finished_has_row.ensures c.one_row_is_chosen.ensures s c.chosen.result c.rows.ensures.setup c.requires.finished c.chosen.ensures).last in
-    let count : length c.rows.result.now ≡ length (own_rows s) = sym (length-map c.rows.result.now proposal_of) ∙ ap (λ (rows : List Proposal). length rows) c.rows.ensures.rows in
+    let last = (chosen_place c.finished_has_row.ensures c.one_row_is_chosen.ensures s c.chosen.result
+    c.rows.ensures.setup c.requires.finished c.chosen.ensures).last in
+    let count : length c.rows.result.now ≡ length (own_rows s) = sym (length-map c.rows.result.now proposal_of) ∙
+    ap (λ (rows : List Proposal). length rows) c.rows.ensures.rows in
     omega (arith, last, count)
 
 pub returns-clause-best : goal.returns-clause-best
-returns-clause-best c = rw (to_z-of_z w64 c.args.radius (search rules), c.case.ensures, c.rows.ensures.rows, c.chosen.ensures) at c.best_range.ensures.best
+returns-clause-best c = rw (
+  to_z-of_z w64 c.args.radius (search rules),
+  c.case.ensures,
+  c.rows.ensures.rows,
+  c.chosen.ensures,
+) at c.best_range.ensures.best

@@ -1,4 +1,5 @@
-use Rattle.shape_law.proofs.Lemmas.{IsConvex-point, IsConvex-same, IsConvex-line, IsConvex-reserve, IsConvex-window, IsConvex-curve_sum}
+use Rattle.shape_law.proofs.Lemmas.{IsConvex-point, IsConvex-same, IsConvex-line, IsConvex-reserve, IsConvex-window}
+use Rattle.shape_law.proofs.Lemmas.{IsConvex-curve_sum}
 use Rattle.shape_law.proofs.laws.effects_keep_convexity.Goals as goal
 
 pub returns-clause-point : goal.returns-clause-point

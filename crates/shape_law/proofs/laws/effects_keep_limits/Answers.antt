@@ -1,4 +1,5 @@
-use Rattle.shape_law.proofs.LimitLaws.{IsWithinLimits-point, IsWithinLimits-same, IsWithinLimits-sum, IsWithinLimits-curve_sum, IsWithinLimits-window}
+use Rattle.shape_law.proofs.LimitLaws.{IsWithinLimits-point, IsWithinLimits-same, IsWithinLimits-sum}
+use Rattle.shape_law.proofs.LimitLaws.{IsWithinLimits-curve_sum, IsWithinLimits-window}
 use Rattle.shape_law.proofs.laws.effects_keep_limits.Goals as goal
 
 pub returns-clause-point : goal.returns-clause-point

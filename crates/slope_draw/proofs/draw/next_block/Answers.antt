@@ -1,4 +1,5 @@
-use Rattle.slope_draw.proofs.Common.{◌≡◌, ◌∙◌, ℕ, suc, ◌+◌, List, length, ap, subst, arith, rules, to_z, of_z, FitsSigned, ◌+ℤ◌, w64, ints, to_z-of_z, Block, block, IsInBlock}
+use Rattle.slope_draw.proofs.Common.{◌≡◌, ◌∙◌, ℕ, suc, ◌+◌, List, length, ap, subst, arith, rules, to_z, of_z}
+use Rattle.slope_draw.proofs.Common.{FitsSigned, ◌+ℤ◌, w64, ints, to_z-of_z, Block, block, IsInBlock}
 use Rattle.slope_draw.proofs.Lemmas.{block_next, block_power, width_to-next}
 use Rattle.slope_draw.proofs.draw.next_block.Goals as goal
 
@@ -32,10 +33,16 @@ returns-clause-block c =
     let pb = p.1 in
     let n = width_to-next cv.blocks.items (suc j) c.requires.more in
     let ends = c.requires.block.ends in
-    let end = to_z w64 (of_z w64 (to_z w64 (of_z w64 c.args.pen.span.end) +ℤ to_z w64 (of_z w64 (block c.as_slice-blocks.result.now (j + 1)).width))) in
-    let is : end ≡ c.args.pen.span.end +ℤ (block cv.blocks.items (suc j)).width = omega (arith, ints, e, s, n, ends, pa, pb) in
+    let end =
+    to_z w64 (of_z w64 (to_z w64 (of_z w64 c.args.pen.span.end) +ℤ to_z w64
+    (of_z w64 (block c.as_slice-blocks.result.now (j + 1)).width))) in
+    let is : end ≡ c.args.pen.span.end +ℤ (block cv.blocks.items (suc j)).width =
+    omega (arith, ints, e, s, n, ends, pa, pb) in
     let price = (block c.as_slice-blocks.result.now (j + 1)).price in
     let fits : FitsSigned w64 price = search rules in
-    let ep = to_z-of_z w64 price fits ∙ ap (λ (bs : List Block). (block bs (j + 1)).price) c.as_slice-blocks.ensures ∙ ap (λ (k : ℕ). (block cv.blocks.items k).price) {x = j + 1} {y = suc j} (omega arith) in
-    subst (λ (k : ℕ). IsInBlock cv c.args.pen.at (record { index = k; end = end; price = to_z w64 (of_z w64 price) })) {x = suc j} {y = j + 1} (omega arith)
-    (block_next cv c.args.pen.at c.args.pen.span end (to_z w64 (of_z w64 price)) c.requires.block c.requires.passed c.requires.more is ep)
+    let ep = to_z-of_z w64 price fits ∙ ap (λ (bs : List Block). (block bs (j + 1)).price) c.as_slice-blocks.ensures ∙
+    ap (λ (k : ℕ). (block cv.blocks.items k).price) {x = j + 1} {y = suc j} (omega arith) in
+    subst (λ (k : ℕ). IsInBlock cv c.args.pen.at (record { index = k; end = end; price = to_z w64 (of_z w64 price) }))
+    {x = suc j} {y = j + 1} (omega arith)
+    (block_next cv c.args.pen.at c.args.pen.span end (to_z w64 (of_z w64 price)) c.requires.block c.requires.passed
+    c.requires.more is ep)

@@ -1,5 +1,7 @@
-use Rattle.slope_draw.proofs.Common.{arith, ap, sym, subst, w64, ints, clamps, to_z-of_z, Span, IsInBlock, cost_at, with_cost}
-use Rattle.slope_draw.proofs.Lemmas.{line_part, line_sum, wide_of, on_curve, block_more, in_block_at, cost_in, price_within}
+use Rattle.slope_draw.proofs.Common.{arith, ap, sym, subst, w64, ints, clamps, to_z-of_z, Span, IsInBlock, cost_at}
+use Rattle.slope_draw.proofs.Common.{with_cost}
+use Rattle.slope_draw.proofs.Lemmas.{line_part, line_sum, wide_of, on_curve, block_more, in_block_at, cost_in}
+use Rattle.slope_draw.proofs.Lemmas.{price_within}
 use Rattle.slope_draw.proofs.draw.put.Goals as goal
 
 pub loop-pen-init : goal.loop-pen-init
@@ -27,13 +29,15 @@ pub end_block-pen-requires-clause-more : goal.end_block-pen-requires-clause-more
 end_block-pen-requires-clause-more c =
     let cv = c.args.curve.now in
     let k = c.requires.costs c.args.end (omega (arith, ints)) (omega (arith, ints)) in
-    block_more cv c.loop-pen.pen.at c.loop-pen.pen.span c.args.end c.loop-pen.invariant.block (omega (arith, ints)) (on_curve cv c.args.end k.0 (wide_of cv c.requires.limited) k.1)
+    block_more cv c.loop-pen.pen.at c.loop-pen.pen.span c.args.end c.loop-pen.invariant.block (omega (arith, ints))
+    (on_curve cv c.args.end k.0 (wide_of cv c.requires.limited) k.1)
 
 pub end_block-pen-requires-clause-room : goal.end_block-pen-requires-clause-room
 end_block-pen-requires-clause-room c =
     let cv = c.args.curve.now in
     let k = c.requires.costs c.args.end (omega (arith, ints)) (omega (arith, ints)) in
-    let m = block_more cv c.loop-pen.pen.at c.loop-pen.pen.span c.args.end c.loop-pen.invariant.block (omega (arith, ints)) (on_curve cv c.args.end k.0 (wide_of cv c.requires.limited) k.1) in
+    let m = block_more cv c.loop-pen.pen.at c.loop-pen.pen.span c.args.end c.loop-pen.invariant.block
+    (omega (arith, ints)) (on_curve cv c.args.end k.0 (wide_of cv c.requires.limited) k.1) in
     omega arith
 
 pub loop-pen-smaller : goal.loop-pen-smaller
@@ -54,7 +58,10 @@ loop-pen-preserved c =
       high = omega (arith, ints, clamps);
       block = c.end_block-pen.ensures.block;
       drawn = rw (es, ee) (λ f lo line d.
-          written f lo c.args.end (omega (arith, ints)) (line_part f c.args.from.at c.args.end c.args.slope c.loop-pen.pen.at c.args.end line (omega (arith, ints)) (omega (arith, ints)) (omega (arith, ints))) ((rw (es, ee) at was.drawn) f lo line d));
+          written f lo c.args.end (omega (arith, ints))
+          (line_part f c.args.from.at c.args.end c.args.slope c.loop-pen.pen.at c.args.end line
+          (omega (arith, ints)) (omega (arith, ints)) (omega (arith, ints)))
+          ((rw (es, ee) at was.drawn) f lo line d));
       used = omega arith;
     }
 
@@ -64,7 +71,8 @@ write-requires-clause-total c = rw (to_z-of_z w64 c.args.slope c.ranges.slope) c
 pub write-requires-clause-price : goal.write-requires-clause-price
 write-requires-clause-price c =
     let was = c.loop-pen.invariant in
-    price_within c.args.curve.now c.requires.limited c.loop-pen.pen.at c.args.end c.loop-pen.pen.span (omega (arith, ints)) was.block (omega (arith, ints)) (λ x from to. c.requires.costs x (omega (arith, ints)) to)
+    price_within c.args.curve.now c.requires.limited c.loop-pen.pen.at c.args.end c.loop-pen.pen.span
+    (omega (arith, ints)) was.block (omega (arith, ints)) (λ x from to. c.requires.costs x (omega (arith, ints)) to)
 
 pub write-requires-clause-room : goal.write-requires-clause-room
 write-requires-clause-room c =
@@ -77,8 +85,11 @@ returns-clause-drawn c = λ f lo line d.
     let was = c.loop-pen.invariant in
     let es = to_z-of_z w64 c.args.slope c.ranges.slope in
     let ee = to_z-of_z w64 c.args.end c.ranges.end in
-    let part = line_part f c.args.from.at c.args.end c.args.slope pen.at c.args.end line (omega (arith, ints)) (omega (arith, ints)) (omega (arith, ints)) in
-    let sum = line_sum f (cost_at cv) pen.at c.args.end c.args.slope pen.span.price part (cost_in cv c.requires.limited pen.at c.args.end pen.span (omega (arith, ints)) was.block (omega (arith, ints))) in
+    let part = line_part f c.args.from.at c.args.end c.args.slope pen.at c.args.end line (omega (arith, ints))
+    (omega (arith, ints)) (omega (arith, ints)) in
+    let sum = line_sum f (cost_at cv) pen.at c.args.end c.args.slope pen.span.price part
+    (cost_in cv c.requires.limited pen.at c.args.end pen.span (omega (arith, ints)) was.block
+    (omega (arith, ints))) in
     (rw (es, ee) at c.write.ensures.drawn) (with_cost f cv) lo sum ((rw (es, ee) at was.drawn) f lo line d)
 
 pub returns-clause-at : goal.returns-clause-at
@@ -88,7 +99,8 @@ pub returns-clause-block : goal.returns-clause-block
 returns-clause-block c =
     let cv = c.args.curve.now in
     let was = c.loop-pen.invariant in
-    subst (λ (z : Span). IsInBlock cv c.args.end z) (sym c.write.ensures.span) (in_block_at cv c.loop-pen.pen.at c.loop-pen.pen.span was.block c.args.end (omega (arith, ints)))
+    subst (λ (z : Span). IsInBlock cv c.args.end z) (sym c.write.ensures.span)
+    (in_block_at cv c.loop-pen.pen.at c.loop-pen.pen.span was.block c.args.end (omega (arith, ints)))
 
 pub returns-clause-used : goal.returns-clause-used
 returns-clause-used c =

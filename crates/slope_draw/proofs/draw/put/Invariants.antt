@@ -9,6 +9,7 @@ invariant-loop-pen l = record {
   low : l.fn.from.at ≤ℤ l.pen.at;
   high : l.pen.at <ℤ l.end;
   block : IsInBlock l.curve l.pen.at l.pen.span;
-  drawn : (f : ℤ → ℤ) (lo : ℤ) → IsLine f l.fn.from.at l.end l.slope → IsDrawn (with_cost f l.curve) lo l.fn.out l.fn.from → IsDrawn (with_cost f l.curve) lo l.out l.pen;
+  drawn : (f : ℤ → ℤ) (lo : ℤ) → IsLine f l.fn.from.at l.end l.slope →
+      IsDrawn (with_cost f l.curve) lo l.fn.out l.fn.from → IsDrawn (with_cost f l.curve) lo l.out l.pen;
   used : l.pen.used + l.fn.from.span.index ≤ l.fn.from.used + l.pen.span.index;
 }

@@ -9,7 +9,11 @@ pub returns-clause-drawn : goal.returns-clause-drawn
 returns-clause-drawn c = λ h lo line d.
     let pen = c.args.pen in
     let ee : to_z w64 (of_z w64 c.args.end) ≡ c.args.end = to_z-of_z w64 _ c.ranges.end in
-    let q : Piece = record { end = to_z w64 (of_z w64 c.args.end); slope = to_z w64 (of_z w64 (to_z w64 (of_z w64 c.args.slope) +ℤ to_z w64 (of_z w64 pen.span.price))) } in
+    let q : Piece = record {
+      end = to_z w64 (of_z w64 c.args.end);
+      slope =
+          to_z w64 (of_z w64 (to_z w64 (of_z w64 c.args.slope) +ℤ to_z w64 (of_z w64 pen.span.price)));
+    } in
     let es : q.slope ≡ c.args.slope +ℤ pen.span.price = omega (arith, ints) in
     drawn_more h lo c.args.out.now pen _ q c.requires.room d
     (same_line h pen.at c.args.end (c.args.slope +ℤ pen.span.price) pen.at q.end q.slope refl ee es line) refl refl

@@ -5,6 +5,7 @@ use Rattle.slope_list.proofs.slopes.lowest_of.Goals as goal
 pub slice_bounds-least-end : goal.slice_bounds-least-end
 slice_bounds-least-end c =
     let made = c.in-Some.made in
-    let low = at_some (λ (d : Made). d.used ≤ length c.args.pieces.now) c.args.stepped.made made c.in-Some.is c.requires.room in
+    let low = at_some (λ (d : Made). d.used ≤ length c.args.pieces.now) c.args.stepped.made made c.in-Some.is
+    c.requires.room in
     let e = length-take made.used c.args.pieces.now in
     omega (arith, e, low)

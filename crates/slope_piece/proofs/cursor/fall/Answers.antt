@@ -1,4 +1,5 @@
-use Rattle.slope_piece.proofs.Common.{sym, subst, ◌∙◌, arith, rules, ℤ, FitsSigned, w64, ints, to_z-of_z, last_power, function_of, IsValley}
+use Rattle.slope_piece.proofs.Common.{sym, subst, ◌∙◌, arith, rules, ℤ, FitsSigned, w64, ints, to_z-of_z, last_power}
+use Rattle.slope_piece.proofs.Common.{function_of, IsValley}
 use Rattle.slope_piece.proofs.Lemmas.{valley_at}
 use Rattle.slope_piece.proofs.cursor.fall.Goals as goal
 use Rattle.slope_piece.proofs.cursor.fall.Goals.{then-loop-next-test+else-pieces-next-lt0, else-loop-next-test}
@@ -9,6 +10,10 @@ returns-clause-valley c =
     let f : FitsSigned w64 c.end_at.result = search rules in
     let g : FitsSigned w64 c.args.start.first = search rules in
     let is = to_z-of_z w64 c.end_at.result f ∙ (rw (to_z-of_z w64 c.args.start.first g) at c.end_at.ensures) in
-    subst (λ (z : ℤ). IsValley (function_of c.args.start c.args.pieces.now) c.args.start.first (last_power c.args.start.first c.args.pieces.now) z) (sym is)
+    subst (λ (z : ℤ). IsValley (function_of c.args.start c.args.pieces.now) c.args.start.first
+    (last_power c.args.start.first c.args.pieces.now) z) (sym is)
     (valley_at c.args.start c.args.pieces.now c.requires.slopes c.loop-next.next was.some was.falls
-    (λ h. elim c.loop-next-test.branch [ then-loop-next-test+else-pieces-next-lt0 w ↦ omega (arith, ints) | else-loop-next-test w ↦ absurd (omega arith) ]))
+    (λ h. elim c.loop-next-test.branch [
+      | then-loop-next-test+else-pieces-next-lt0 w ↦ omega (arith, ints)
+      | else-loop-next-test w ↦ absurd (omega arith)
+    ]))

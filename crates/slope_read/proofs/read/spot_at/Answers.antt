@@ -13,4 +13,5 @@ seek-reached-requires-clause-within c = c.requires.within
 pub returns-clause-value : goal.returns-clause-value
 returns-clause-value c =
     let f : FitsSigned w64 c.seek-reached.result.value = search rules in
-    to_z-of_z w64 c.seek-reached.result.value f ∙ (rw (to_z-of_z w64 c.args.at c.ranges.at) at c.seek-reached.ensures.value)
+    to_z-of_z w64 c.seek-reached.result.value f ∙
+    (rw (to_z-of_z w64 c.args.at c.ranges.at) at c.seek-reached.ensures.value)

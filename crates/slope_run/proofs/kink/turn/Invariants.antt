@@ -7,5 +7,6 @@ decreases-loop-cursor l = parts_from l.pieces l.step l.cursor
 abbrev pub invariant-loop-cursor : goal.invariant-loop-cursor
 invariant-loop-cursor l = record {
   placed : IsPlaced l.fn.start.first l.pieces l.cursor;
-  falls : (x : ℤ) → l.fn.start.first ≤ℤ x → x <ℤ l.cursor.at → kinked l.fn.start l.pieces l.step (x +ℤ pos 1) <ℤ kinked l.fn.start l.pieces l.step x;
+  falls : (x : ℤ) → l.fn.start.first ≤ℤ x → x <ℤ l.cursor.at →
+      kinked l.fn.start l.pieces l.step (x +ℤ pos 1) <ℤ kinked l.fn.start l.pieces l.step x;
 }

@@ -1,4 +1,5 @@
-use Rattle.slope_run.proofs.Common.{◌≡◌, ◌∙◌, arith, rules, to_z, of_z, FitsSigned, ◌-ℤ◌, ◌<ℤ◌, ◌≤ℤ◌, w64, ints, to_z-of_z}
+use Rattle.slope_run.proofs.Common.{◌≡◌, ◌∙◌, arith, rules, to_z, of_z, FitsSigned, ◌-ℤ◌, ◌<ℤ◌, ◌≤ℤ◌, w64, ints}
+use Rattle.slope_run.proofs.Common.{to_z-of_z}
 use Rattle.slope_run.proofs.Lemmas.{cursor_coded, turn_coded, high_near, last_coded, before_both, run_falls, run_rises}
 use Rattle.slope_run.proofs.run.next_run.Goals as goal
 
@@ -30,7 +31,8 @@ returns-then-cursor-window-clause-run c =
     let g : FitsSigned w64 w.step.slope = search rules in
     let high = last_coded w c.args.cursor c.requires.placed (omega (arith, ints)) in
     let is = to_z-of_z w64 c.min.result f ∙ (rw (high, t) at c.min.ensures.value) in
-    run_falls w c.args.cursor.at (to_z w64 (of_z w64 c.min.result)) c.bent.result (rw (to_z-of_z w64 w.step.slope g) at c.bent.ensures.lowered) (before_both _ _ _ _ short falls is) falls is
+    run_falls w c.args.cursor.at (to_z w64 (of_z w64 c.min.result)) c.bent.result
+    (rw (to_z-of_z w64 w.step.slope g) at c.bent.ensures.lowered) (before_both _ _ _ _ short falls is) falls is
     (returns-then-cursor-window-clause-down c falls)
 
 pub overflow_sub-rising : goal.overflow_sub-rising
@@ -58,5 +60,7 @@ returns-clause-run c =
     let until = to_z w64 (of_z w64 (to_z w64 (of_z w64 w.high) -ℤ to_z w64 (of_z w64 w.step.ramp_up))) in
     let is : until ≡ w.high -ℤ w.step.ramp_up = omega (arith, ints) in
     let shift : c.bent-2.result.shift ≡ w.step.ramp_up = (let e = c.bent-2.ensures.shift in omega (arith, ints)) in
-    let es : to_z w64 (of_z w64 w.step.slope) ≡ w.step.slope = (let f : FitsSigned w64 w.step.slope = search rules in to_z-of_z w64 w.step.slope f) in
-    run_rises w c.args.cursor.at until c.bent-2.result (rw es at c.bent-2.ensures.lowered) (omega (arith, ints)) rises is shift
+    let es : to_z w64 (of_z w64 w.step.slope) ≡ w.step.slope =
+    (let f : FitsSigned w64 w.step.slope = search rules in to_z-of_z w64 w.step.slope f) in
+    run_rises w c.args.cursor.at until c.bent-2.result (rw es at c.bent-2.ensures.lowered) (omega (arith, ints)) rises
+    is shift

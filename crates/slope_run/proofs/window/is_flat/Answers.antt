@@ -10,11 +10,15 @@ returns-then-window-cursor-clause-flat c = λ h.
     let w = c.args.window.now in
     let cursor = c.args.cursor in
     let p = cursor_coded w cursor c.requires.placed in
-    let t = turn_coded w cursor c.requires.placed in
-    (omega (arith, ints), test_true c.args.at (cursor.at +ℤ w.step.ramp_up) _ _ (to_z-of_z w64 c.args.at c.ranges.at) (reach_coded w cursor c.requires.placed) h)
+    let t = turn_coded w cursor c.requires.placed in (
+      omega (arith, ints),
+      test_true c.args.at (cursor.at +ℤ w.step.ramp_up) _ _ (to_z-of_z w64 c.args.at c.ranges.at)
+          (reach_coded w cursor c.requires.placed) h,
+    )
 
 pub returns-then-window-cursor-clause-not_flat : goal.returns-then-window-cursor-clause-not_flat
 returns-then-window-cursor-clause-not_flat c = λ h from.
     let w = c.args.window.now in
     let cursor = c.args.cursor in
-    test_false c.args.at (cursor.at +ℤ w.step.ramp_up) _ _ (to_z-of_z w64 c.args.at c.ranges.at) (reach_coded w cursor c.requires.placed) h
+    test_false c.args.at (cursor.at +ℤ w.step.ramp_up) _ _ (to_z-of_z w64 c.args.at c.ranges.at)
+    (reach_coded w cursor c.requires.placed) h

@@ -8,7 +8,8 @@ returns-then-part-eq0-clause-flat c =
     let k = kinked w.start w.pieces.now w.step in
     let line = c.part_at-part.ensures.line w.start w.valid.slopes c.requires.placed in
     let none : c.part_at-part.result.slope ≡ pos 0 = omega (arith, ints) in
-    subst (λ (z : ℤ). IsFlat k c.args.cursor.at z) (sym c.part_at-part.ensures.then) (flat_from_line k c.args.cursor.at c.part_at-part.result.end c.part_at-part.result.slope line none)
+    subst (λ (z : ℤ). IsFlat k c.args.cursor.at z) (sym c.part_at-part.ensures.then)
+    (flat_from_line k c.args.cursor.at c.part_at-part.result.end c.part_at-part.result.slope line none)
 
 pub returns-then-part-eq0-clause-placed : goal.returns-then-part-eq0-clause-placed
 returns-then-part-eq0-clause-placed c =

@@ -10,7 +10,8 @@ draw_flat-requires-clause-short c =
 pub next_run-run-requires-clause-falls : goal.next_run-run-requires-clause-falls
 next_run-run-requires-clause-falls c = λ falls.
     let w = c.args.window.now in
-    let at = falling_at w.step.ramp_up w.step.ramp_down w.turn c.args.way.pen.at c.args.way.cursor.at w.valid.fair.ramp_up.at_least w.valid.fair.ramp_down.at_least c.requires.near falls in
+    let at = falling_at w.step.ramp_up w.step.ramp_down w.turn c.args.way.pen.at c.args.way.cursor.at
+    w.valid.fair.ramp_up.at_least w.valid.fair.ramp_down.at_least c.requires.near falls in
     let high = c.requires.high in
     omega (arith, ints)
 
@@ -31,10 +32,12 @@ draw_run-requires-clause-at c =
     let ea = to_z-of_z w64 way.pen.at f in
     by_lt_z way.cursor.at w.turn
     (λ (falls : way.cursor.at <ℤ w.turn).
-    let at = falling_at w.step.ramp_up w.step.ramp_down w.turn way.pen.at way.cursor.at is_up is_down c.requires.near falls in
+    let at = falling_at w.step.ramp_up w.step.ramp_down w.turn way.pen.at way.cursor.at is_up is_down c.requires.near
+    falls in
     let down = c.next_run-run.ensures.down falls in
     omega (arith, ints))
     (λ (rises : w.turn ≤ℤ way.cursor.at).
-    let at = rising_at w.step.ramp_up w.step.ramp_down w.turn way.pen.at way.cursor.at is_up is_down c.requires.near (rw ea at (c.is_flat.ensures.not_flat c.if-is_flat.false rises)) in
+    let at = rising_at w.step.ramp_up w.step.ramp_down w.turn way.pen.at way.cursor.at is_up is_down c.requires.near
+    (rw ea at (c.is_flat.ensures.not_flat c.if-is_flat.false rises)) in
     let up = c.next_run-run.ensures.up rises in
     omega (arith, ints))

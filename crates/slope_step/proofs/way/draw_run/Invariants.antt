@@ -11,6 +11,10 @@ invariant-loop-cursor l = record {
   until : l.cursor.at ≤ℤ l.run.until;
   at : l.pen.at ≡ l.cursor.at +ℤ l.run.shift;
   block : IsInBlock l.curve l.pen.at l.pen.span;
-  drawn : (lo : ℤ) → IsDrawn (stepped l.fn.window.start l.fn.window.pieces.now l.fn.window.step l.fn.window.turn l.curve) lo l.fn.out l.fn.from.pen → IsDrawn (stepped l.fn.window.start l.fn.window.pieces.now l.fn.window.step l.fn.window.turn l.curve) lo l.out l.pen;
-  used : l.pen.used + l.fn.from.pen.span.index + l.fn.from.cursor.next ≤ l.fn.from.pen.used + l.pen.span.index + l.cursor.next;
+  drawn : (lo : ℤ) →
+      IsDrawn (stepped l.fn.window.start l.fn.window.pieces.now l.fn.window.step l.fn.window.turn l.curve) lo l.fn.out
+      l.fn.from.pen → IsDrawn
+      (stepped l.fn.window.start l.fn.window.pieces.now l.fn.window.step l.fn.window.turn l.curve) lo l.out l.pen;
+  used : l.pen.used + l.fn.from.pen.span.index + l.fn.from.cursor.next ≤ l.fn.from.pen.used + l.pen.span.index
+      + l.cursor.next;
 }

@@ -8,6 +8,8 @@ pub returns-clause-drawn : goal.returns-clause-drawn
 returns-clause-drawn c =
     let piece = c.args.piece in
     let run = c.args.run in
-    let end : to_z w64 (of_z w64 (to_z w64 (of_z w64 piece.end) +ℤ to_z w64 (of_z w64 run.shift))) ≡ piece.end +ℤ run.shift = omega (arith, ints) in
-    let slope : to_z w64 (of_z w64 (to_z w64 (of_z w64 piece.slope) +ℤ to_z w64 (of_z w64 run.slope))) ≡ piece.slope +ℤ run.slope = omega (arith, ints) in
+    let end : to_z w64 (of_z w64 (to_z w64 (of_z w64 piece.end) +ℤ to_z w64 (of_z w64 run.shift))) ≡ piece.end
+    +ℤ run.shift = omega (arith, ints) in
+    let slope : to_z w64 (of_z w64 (to_z w64 (of_z w64 piece.slope) +ℤ to_z w64 (of_z w64 run.slope))) ≡ piece.slope
+    +ℤ run.slope = omega (arith, ints) in
     rw (end, slope) at c.put.ensures.drawn

@@ -1,27 +1,54 @@
-use Rattle.task_deal.proofs.Common.{rules, ◌≡◌, ◌+◌, ◌∙◌, ◌∷◌, ◌++◌, [], ap, sym, subst, length, length-append, arith, injector_view, Account, Member, account, sum_of, HasPart, source_taken}
+use Rattle.task_deal.proofs.Common.{rules, ◌≡◌, ◌+◌, ◌∙◌, ◌∷◌, ◌++◌, [], ap, sym, subst, length, length-append, arith}
+use Rattle.task_deal.proofs.Common.{injector_view, Account, Member, account, sum_of, HasPart, source_taken}
 use Rattle.task_deal.proofs.Lemmas.{all_push, sum_of_push, under}
 use Rattle.task_deal.proofs.apart.put_together.Goals as goal
 
 pub loop-job-preserved : goal.loop-job-preserved
 loop-job-preserved g c = let inv = c.loop-job.invariant in
     let p = c.fork_source-pass in
-    let m : Member g.row.J.Denot = record { job = c.in-Some.job; seat = record { source = p.result; own = c.unwrap-own.result; purse = c.unwrap-purse.result } } in
+    let m : Member g.row.J.Denot = record {
+      job = c.in-Some.job;
+      seat =
+          record { source = p.result; own = c.unwrap-own.result; purse = c.unwrap-purse.result };
+    } in
     let e : c.push_reserved.new.self.items ≡ c.loop-job.members.items ++ m ∷ [] = c.push_reserved.ensures.items in
-    let n : length c.push_reserved.new.self.items ≡ length c.loop-job.members.items + 1 = ap length e ∙ length-append c.loop-job.members.items (m ∷ []) in
+    let n : length c.push_reserved.new.self.items ≡ length c.loop-job.members.items + 1 =
+    ap length e ∙ length-append c.loop-job.members.items (m ∷ []) in
     let j : c.loop-job.jobs.items ≡ c.pop.new.self.items ++ c.in-Some.job ∷ [] = c.in-Some.ensures.items in
     let o : c.loop-job.owns.items ≡ c.pop-in-Some.new.self.items ++ c.unwrap-own.result ∷ [] = search rules in
     let q : c.loop-job.purses.items ≡ c.pop-in-Some-2.new.self.items ++ c.unwrap-purse.result ∷ [] = search rules in
     let lj = ap length j ∙ length-append c.pop.new.self.items (c.in-Some.job ∷ []) in
     let lo = ap length o ∙ length-append c.pop-in-Some.new.self.items (c.unwrap-own.result ∷ []) in
     let lq = ap length q ∙ length-append c.pop-in-Some-2.new.self.items (c.unwrap-purse.result ∷ []) in (
-      (p.ensures.owner.0, p.ensures.owner.1, subst (λ k. injector_view p.new.owner ≡ account k (injector_view c.args.owner.now).put (injector_view c.args.owner.now).taken) (sym n) (p.ensures.view ∙ ap (λ (u : Account). account (u.parts + 1) u.put u.taken) inv.0.2)),
       (
-        all_push (λ m. HasPart c.args.source.now m.seat) c.loop-job.members.items m _ e inv.1.0 (p.ensures.pass.0, ap (λ (u : Account). u.parts) p.ensures.pass.1),
-        (λ h. omega (arith, ap (sum_of (source_taken h)) e, sum_of_push (source_taken h) c.loop-job.members.items m, inv.1.1 h, ap (λ (u : Account). sum_of h u.taken) p.ensures.pass.1)),
+        p.ensures.owner.0,
+        p.ensures.owner.1,
+        subst (λ k. injector_view p.new.owner ≡ account k (injector_view c.args.owner.now).put
+            (injector_view c.args.owner.now).taken) (sym n)
+            (p.ensures.view ∙ ap (λ (u : Account). account (u.parts + 1) u.put u.taken) inv.0.2),
       ),
-      (omega (arith, inv.2.0, lj, lo), omega (arith, inv.2.1, lj, lq), omega (arith, inv.2.2, lj, n, c.push_reserved.ensures.capacity)),
+      (
+        all_push (λ m. HasPart c.args.source.now m.seat) c.loop-job.members.items m _ e inv.1.0
+            (p.ensures.pass.0, ap (λ (u : Account). u.parts) p.ensures.pass.1),
+        (λ h. omega (
+          arith,
+          ap (sum_of (source_taken h)) e,
+          sum_of_push (source_taken h) c.loop-job.members.items m,
+          inv.1.1 h,
+          ap (λ (u : Account). sum_of h u.taken) p.ensures.pass.1,
+        )),
+      ),
+      (
+        omega (arith, inv.2.0, lj, lo),
+        omega (arith, inv.2.1, lj, lq),
+        omega (arith, inv.2.2, lj, n, c.push_reserved.ensures.capacity),
+      ),
       under (λ m. m.job) c.loop-job.members.items _ m _ _ _ j e inv.3,
       under (λ m. m.seat.own) c.loop-job.members.items _ m _ _ _ o e inv.4,
       under (λ m. m.seat.purse) c.loop-job.members.items _ m _ _ _ q e inv.5,
-      (c.in-Some.ensures.capacity ∙ inv.6.0, c.pop-in-Some.ensures.capacity ∙ inv.6.1, c.pop-in-Some-2.ensures.capacity ∙ inv.6.2),
+      (
+        c.in-Some.ensures.capacity ∙ inv.6.0,
+        c.pop-in-Some.ensures.capacity ∙ inv.6.1,
+        c.pop-in-Some-2.ensures.capacity ∙ inv.6.2,
+      ),
     )

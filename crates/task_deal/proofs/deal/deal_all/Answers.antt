@@ -1,5 +1,8 @@
-use Rattle.task_deal.proofs.Common.{◌≡◌, ◌<◌, ◌≤◌, ◌∙◌, ◌++◌, ℕ, List, length, take, drop, All, ap, sym, subst, arith, vec_capacity, injector_view, Member, Account, Shared, HasPart, source_taken, IsSeatOf, Each, Stands, sum_of}
-use Rattle.task_deal.proofs.Together.{AreOf, ready, worked, whole, made_of, members_count, parts_left, owns_stand, purses_left, ledger_begins}
+use Rattle.task_deal.proofs.Common.{◌≡◌, ◌<◌, ◌≤◌, ◌∙◌, ◌++◌, ℕ, List, length, take, drop, All, ap, sym, subst, arith}
+use Rattle.task_deal.proofs.Common.{vec_capacity, injector_view, Member, Account, Shared, HasPart, source_taken}
+use Rattle.task_deal.proofs.Common.{IsSeatOf, Each, Stands, sum_of}
+use Rattle.task_deal.proofs.Together.{AreOf, ready, worked, whole, made_of, members_count, parts_left, owns_stand}
+use Rattle.task_deal.proofs.Together.{purses_left, ledger_begins}
 use Rattle.task_deal.proofs.deal.deal_all.Goals as goal
 use Rattle.task_deal.proofs.deal.deal_all.Given.{Over}
 use Rattle.task_deal.proofs.deal.deal_all.Goals.{After-work_all, After-take_apart}
@@ -22,42 +25,70 @@ module _ (g : Over) (c : After-work_all g) where
   all = whole c.put_together.new.members.len ss ts c.put_together.new.members.ok.0 count
 
   first : AreOf ss c.args.jobs.now.items c.fill_all.new.owns.items c.in_ok-purses.purses.items
-  first = record { jobs_are = c.put_together.ensures.jobs; owns_are = c.put_together.ensures.owns; purses_are = c.put_together.ensures.purses }
+  first = record {
+    jobs_are = c.put_together.ensures.jobs;
+    owns_are = c.put_together.ensures.owns;
+    purses_are =
+        c.put_together.ensures.purses;
+  }
 
-  were : (length c.args.jobs.now.items ≡ length ss) × (length c.fill_all.new.owns.items ≡ length ss) × (length c.in_ok-purses.purses.items ≡ length ss)
+  were : (length c.args.jobs.now.items ≡ length ss) × (length c.fill_all.new.owns.items ≡ length ss) ×
+      (length c.in_ok-purses.purses.items ≡ length ss)
   were = members_count ss c.args.jobs.now.items c.fill_all.new.owns.items c.in_ok-purses.purses.items first
 
 pub fill_all-requires-clause-count : goal.fill_all-requires-clause-count
 fill_all-requires-clause-count g c = sym c.in_ok-owns.ensures.1.count
 
 pub fill_all-requires-clause-owns : goal.fill_all-requires-clause-owns
-fill_all-requires-clause-owns g c = subst (λ k. Each (Stands c.in_ok-owns.thieves.items 0) 0 k c.in_ok-owns.owns.items) (sym c.in_ok-owns.ensures.1.count) c.in_ok-owns.ensures.1.stands
+fill_all-requires-clause-owns g c = subst (λ k. Each (Stands c.in_ok-owns.thieves.items 0) 0 k c.in_ok-owns.owns.items)
+    (sym c.in_ok-owns.ensures.1.count) c.in_ok-owns.ensures.1.stands
 
 pub put_together-requires-clause-owner : goal.put_together-requires-clause-owner
-put_together-requires-clause-owner g c = (c.in_ok-source.ensures.0, c.in_ok-source.ensures.1, ap (λ (v : Account). v.parts) c.in_ok-source.ensures.2)
+put_together-requires-clause-owner g c =
+    (c.in_ok-source.ensures.0, c.in_ok-source.ensures.1, ap (λ (v : Account). v.parts) c.in_ok-source.ensures.2)
 
 pub put_together-requires-clause-owns : goal.put_together-requires-clause-owns
-put_together-requires-clause-owns g c = c.in_ok-purses.ensures.count ∙ (c.in_ok-owns.ensures.1.count ∙ (c.in_ok-owns.ensures.0 ∙ (c.len-count.ensures ∙ c.args.jobs.now.ok.0)))
+put_together-requires-clause-owns g c = c.in_ok-purses.ensures.count ∙
+    (c.in_ok-owns.ensures.1.count ∙ (c.in_ok-owns.ensures.0 ∙ (c.len-count.ensures ∙ c.args.jobs.now.ok.0)))
 
 pub put_together-requires-clause-purses : goal.put_together-requires-clause-purses
 put_together-requires-clause-purses g c = c.in_ok-purses.ensures.purses.0 ∙ (c.len-count.ensures ∙ c.args.jobs.now.ok.0)
 
 pub put_together-requires-clause-room : goal.put_together-requires-clause-room
-put_together-requires-clause-room g c = subst (λ k. k ≤ vec_capacity c.in_ok-members.members) (c.len-count.ensures ∙ c.args.jobs.now.ok.0) c.in_ok-members.ensures.capacity
+put_together-requires-clause-room g c = subst (λ k. k ≤ vec_capacity c.in_ok-members.members)
+    (c.len-count.ensures ∙ c.args.jobs.now.ok.0) c.in_ok-members.ensures.capacity
 
 pub work_all-requires-clause-some : goal.work_all-requires-clause-some
 work_all-requires-clause-some g c κs within =
     let ss = c.put_together.new.members.items in
-    let are : AreOf ss c.args.jobs.now.items c.fill_all.new.owns.items c.in_ok-purses.purses.items = record { jobs_are = c.put_together.ensures.jobs; owns_are = c.put_together.ensures.owns; purses_are = c.put_together.ensures.purses } in
-    subst (λ k. 0 < k) ((members_count ss c.args.jobs.now.items c.fill_all.new.owns.items c.in_ok-purses.purses.items are).0 ∙ sym (ap length c.deref_mut.ensures.value)) c.requires.jobs.0
+    let are : AreOf ss c.args.jobs.now.items c.fill_all.new.owns.items c.in_ok-purses.purses.items =
+    record {
+      jobs_are = c.put_together.ensures.jobs;
+      owns_are = c.put_together.ensures.owns;
+      purses_are =
+          c.put_together.ensures.purses;
+    } in
+    subst (λ k. 0 < k)
+    ((members_count ss c.args.jobs.now.items c.fill_all.new.owns.items c.in_ok-purses.purses.items are).0 ∙
+    sym (ap length c.deref_mut.ensures.value)) c.requires.jobs.0
 
 pub work_all-requires-clause-ready : goal.work_all-requires-clause-ready
 work_all-requires-clause-ready g c κs within =
     let shared : Shared = record { source = c.in_ok-source.source; thieves = c.in_ok-owns.thieves } in
     let ss = c.put_together.new.members.items in
-    let are : AreOf ss c.args.jobs.now.items c.fill_all.new.owns.items c.in_ok-purses.purses.items = record { jobs_are = c.put_together.ensures.jobs; owns_are = c.put_together.ensures.owns; purses_are = c.put_together.ensures.purses } in
-    let begin = ready shared g.J.Job.work g.J.Job.runs g.J.Job.spare c.args.tasks c.len-count.result (length shared.thieves.items) ss c.args.jobs.now.items c.fill_all.new.owns.items c.in_ok-purses.purses.items are c.put_together.ensures.members.0 c.requires.spare c.in_ok-purses.ensures.count c.in_ok-purses.ensures.owns c.in_ok-purses.ensures.purses.1 in
-    subst (All (λ (m : Member g.row.J.Denot). IsSeatOf shared m.seat × (c.args.tasks ≤ g.J.Job.spare m.job))) (sym c.deref_mut.ensures.value) begin
+    let are : AreOf ss c.args.jobs.now.items c.fill_all.new.owns.items c.in_ok-purses.purses.items =
+    record {
+      jobs_are = c.put_together.ensures.jobs;
+      owns_are = c.put_together.ensures.owns;
+      purses_are =
+          c.put_together.ensures.purses;
+    } in
+    let begin = ready shared g.J.Job.work g.J.Job.runs g.J.Job.spare c.args.tasks c.len-count.result
+    (length shared.thieves.items) ss c.args.jobs.now.items c.fill_all.new.owns.items c.in_ok-purses.purses.items
+    are c.put_together.ensures.members.0 c.requires.spare c.in_ok-purses.ensures.count
+    c.in_ok-purses.ensures.owns c.in_ok-purses.ensures.purses.1 in
+    subst (All (λ (m : Member g.row.J.Denot). IsSeatOf shared m.seat × (c.args.tasks ≤ g.J.Job.spare m.job)))
+    (sym c.deref_mut.ensures.value) begin
 
 pub take_apart-requires-clause-owner : goal.take_apart-requires-clause-owner
 take_apart-requires-clause-owner g c =
@@ -68,70 +99,135 @@ take_apart-requires-clause-owner g c =
 pub take_apart-requires-clause-members : goal.take_apart-requires-clause-members
 take_apart-requires-clause-members g c =
     let d = (goal.at.take_apart-requires-clause-members g c).After-work_all in
-    let zip = worked (shared g d) g.J.Job.work g.J.Job.runs g.J.Job.spare c.deref_mut.result.now (ss g d) (ts g d) c.deref_mut.ensures.value c.work_all.auto.members c.work_all.ensures in
-    subst (All (λ (m : Member g.row.J.Denot). HasPart (shared g d).source m.seat)) (sym (all g d)) (parts_left (shared g d) g.J.Job.work g.J.Job.runs g.J.Job.spare (ss g d) (ts g d) zip)
+    let zip = worked (shared g d) g.J.Job.work g.J.Job.runs g.J.Job.spare c.deref_mut.result.now (ss g d) (ts g d)
+    c.deref_mut.ensures.value c.work_all.auto.members c.work_all.ensures in
+    subst (All (λ (m : Member g.row.J.Denot). HasPart (shared g d).source m.seat)) (sym (all g d))
+    (parts_left (shared g d) g.J.Job.work g.J.Job.runs g.J.Job.spare (ss g d) (ts g d) zip)
 
 pub take_apart-requires-clause-jobs : goal.take_apart-requires-clause-jobs
 take_apart-requires-clause-jobs g c =
     let d = (goal.at.take_apart-requires-clause-jobs g c).After-work_all in
-    omega (arith, ap length (all g d), count g d, (were g d).0, c.put_together.ensures.room.0, c.args.jobs.now.ok.0, c.args.jobs.now.ok.1)
+    omega (
+      arith,
+      ap length (all g d),
+      count g d,
+      (were g d).0,
+      c.put_together.ensures.room.0,
+      c.args.jobs.now.ok.0,
+      c.args.jobs.now.ok.1,
+    )
 
 pub take_apart-requires-clause-owns : goal.take_apart-requires-clause-owns
 take_apart-requires-clause-owns g c =
     let d = (goal.at.take_apart-requires-clause-owns g c).After-work_all in
-    omega (arith, ap length (all g d), count g d, (were g d).1, c.put_together.ensures.room.1, c.fill_all.new.owns.ok.0, c.fill_all.new.owns.ok.1)
+    omega (
+      arith,
+      ap length (all g d),
+      count g d,
+      (were g d).1,
+      c.put_together.ensures.room.1,
+      c.fill_all.new.owns.ok.0,
+      c.fill_all.new.owns.ok.1,
+    )
 
 pub take_apart-requires-clause-purses : goal.take_apart-requires-clause-purses
 take_apart-requires-clause-purses g c =
     let d = (goal.at.take_apart-requires-clause-purses g c).After-work_all in
-    omega (arith, ap length (all g d), count g d, (were g d).2, c.put_together.ensures.room.2, c.in_ok-purses.purses.ok.0, c.in_ok-purses.purses.ok.1)
+    omega (
+      arith,
+      ap length (all g d),
+      count g d,
+      (were g d).2,
+      c.put_together.ensures.room.2,
+      c.in_ok-purses.purses.ok.0,
+      c.in_ok-purses.purses.ok.1,
+    )
 
 pub settle-requires-clause-count : goal.settle-requires-clause-count
 settle-requires-clause-count g c =
     let d = (goal.at.settle-requires-clause-count g c).After-work_all in
-    let then : AreOf (ts g d) c.take_apart.new.jobs.items c.take_apart.new.owns.items c.take_apart.new.purses.items = made_of _ (ts g d) c.take_apart.new.jobs.items c.take_apart.new.owns.items c.take_apart.new.purses.items (all g d) c.take_apart.ensures.jobs c.take_apart.ensures.owns c.take_apart.ensures.purses in
-    let are = members_count (ts g d) c.take_apart.new.jobs.items c.take_apart.new.owns.items c.take_apart.new.purses.items then in
+    let then : AreOf (ts g d) c.take_apart.new.jobs.items c.take_apart.new.owns.items c.take_apart.new.purses.items =
+    made_of _ (ts g d) c.take_apart.new.jobs.items c.take_apart.new.owns.items c.take_apart.new.purses.items
+    (all g d) c.take_apart.ensures.jobs c.take_apart.ensures.owns c.take_apart.ensures.purses in
+    let are = members_count (ts g d) c.take_apart.new.jobs.items c.take_apart.new.owns.items
+    c.take_apart.new.purses.items then in
     omega (arith, are.1, count g d, (were g d).1, c.in_ok-purses.ensures.count)
 
 pub settle-requires-clause-purses : goal.settle-requires-clause-purses
 settle-requires-clause-purses g c =
     let d = (goal.at.settle-requires-clause-purses g c).After-work_all in
-    let zip = worked (shared g d) g.J.Job.work g.J.Job.runs g.J.Job.spare c.deref_mut.result.now (ss g d) (ts g d) c.deref_mut.ensures.value c.work_all.auto.members c.work_all.ensures in
-    let then : AreOf (ts g d) c.take_apart.new.jobs.items c.take_apart.new.owns.items c.take_apart.new.purses.items = made_of _ (ts g d) c.take_apart.new.jobs.items c.take_apart.new.owns.items c.take_apart.new.purses.items (all g d) c.take_apart.ensures.jobs c.take_apart.ensures.owns c.take_apart.ensures.purses in
-    purses_left (shared g d) g.J.Job.work g.J.Job.runs g.J.Job.spare (ss g d) (ts g d) c.args.jobs.now.items c.take_apart.new.jobs.items c.fill_all.new.owns.items c.take_apart.new.owns.items c.in_ok-purses.purses.items c.take_apart.new.purses.items (first g d) then zip
+    let zip = worked (shared g d) g.J.Job.work g.J.Job.runs g.J.Job.spare c.deref_mut.result.now (ss g d) (ts g d)
+    c.deref_mut.ensures.value c.work_all.auto.members c.work_all.ensures in
+    let then : AreOf (ts g d) c.take_apart.new.jobs.items c.take_apart.new.owns.items c.take_apart.new.purses.items =
+    made_of _ (ts g d) c.take_apart.new.jobs.items c.take_apart.new.owns.items c.take_apart.new.purses.items
+    (all g d) c.take_apart.ensures.jobs c.take_apart.ensures.owns c.take_apart.ensures.purses in
+    purses_left (shared g d) g.J.Job.work g.J.Job.runs g.J.Job.spare (ss g d) (ts g d) c.args.jobs.now.items
+    c.take_apart.new.jobs.items c.fill_all.new.owns.items c.take_apart.new.owns.items c.in_ok-purses.purses.items
+    c.take_apart.new.purses.items (first g d) then zip
 
 pub settle-requires-clause-owns : goal.settle-requires-clause-owns
 settle-requires-clause-owns g c =
     let d = (goal.at.settle-requires-clause-owns g c).After-work_all in
-    let zip = worked (shared g d) g.J.Job.work g.J.Job.runs g.J.Job.spare c.deref_mut.result.now (ss g d) (ts g d) c.deref_mut.ensures.value c.work_all.auto.members c.work_all.ensures in
-    let then : AreOf (ts g d) c.take_apart.new.jobs.items c.take_apart.new.owns.items c.take_apart.new.purses.items = made_of _ (ts g d) c.take_apart.new.jobs.items c.take_apart.new.owns.items c.take_apart.new.purses.items (all g d) c.take_apart.ensures.jobs c.take_apart.ensures.owns c.take_apart.ensures.purses in
-    let are = members_count (ts g d) c.take_apart.new.jobs.items c.take_apart.new.owns.items c.take_apart.new.purses.items then in
-    let out : c.len-count.result ≡ length c.take_apart.new.purses.items = omega (arith, are.2, count g d, (were g d).2, c.in_ok-purses.ensures.purses.0) in
-    subst (λ k. Each (Stands (shared g d).thieves.items k) 0 (length (shared g d).thieves.items) c.take_apart.new.owns.items) out
-    (owns_stand (shared g d) g.J.Job.work g.J.Job.runs g.J.Job.spare (ss g d) (ts g d) c.args.jobs.now.items c.take_apart.new.jobs.items c.fill_all.new.owns.items c.take_apart.new.owns.items c.in_ok-purses.purses.items c.take_apart.new.purses.items (first g d) then zip c.len-count.result (length (shared g d).thieves.items) c.in_ok-purses.ensures.count c.in_ok-purses.ensures.owns)
+    let zip = worked (shared g d) g.J.Job.work g.J.Job.runs g.J.Job.spare c.deref_mut.result.now (ss g d) (ts g d)
+    c.deref_mut.ensures.value c.work_all.auto.members c.work_all.ensures in
+    let then : AreOf (ts g d) c.take_apart.new.jobs.items c.take_apart.new.owns.items c.take_apart.new.purses.items =
+    made_of _ (ts g d) c.take_apart.new.jobs.items c.take_apart.new.owns.items c.take_apart.new.purses.items
+    (all g d) c.take_apart.ensures.jobs c.take_apart.ensures.owns c.take_apart.ensures.purses in
+    let are = members_count (ts g d) c.take_apart.new.jobs.items c.take_apart.new.owns.items
+    c.take_apart.new.purses.items then in
+    let out : c.len-count.result ≡ length c.take_apart.new.purses.items =
+    omega (arith, are.2, count g d, (were g d).2, c.in_ok-purses.ensures.purses.0) in
+    subst (λ k. Each (Stands (shared g d).thieves.items k) 0 (length (shared g d).thieves.items)
+    c.take_apart.new.owns.items) out
+    (owns_stand (shared g d) g.J.Job.work g.J.Job.runs g.J.Job.spare (ss g d) (ts g d) c.args.jobs.now.items
+    c.take_apart.new.jobs.items c.fill_all.new.owns.items c.take_apart.new.owns.items c.in_ok-purses.purses.items
+    c.take_apart.new.purses.items (first g d) then zip c.len-count.result (length (shared g d).thieves.items)
+    c.in_ok-purses.ensures.count c.in_ok-purses.ensures.owns)
 
 pub check_all-requires : goal.check_all-requires
-check_all-requires g c = record { stands = subst (λ k. Each (Stands c.in_ok-owns.thieves.items 0) 0 k c.settle.new.owns.items) (sym c.settle.ensures.count) c.settle.ensures.owns }
+check_all-requires g c =
+    record {
+      stands = subst (λ k. Each (Stands c.in_ok-owns.thieves.items 0) 0 k c.settle.new.owns.items)
+          (sym c.settle.ensures.count) c.settle.ensures.owns;
+    }
 
 pub drain_all-requires-clause-some : goal.drain_all-requires-clause-some
 drain_all-requires-clause-some g c =
     let d = (goal.at.drain_all-requires-clause-some g c).After-work_all in
-    let then : AreOf (ts g d) c.take_apart.new.jobs.items c.take_apart.new.owns.items c.take_apart.new.purses.items = made_of _ (ts g d) c.take_apart.new.jobs.items c.take_apart.new.owns.items c.take_apart.new.purses.items (all g d) c.take_apart.ensures.jobs c.take_apart.ensures.owns c.take_apart.ensures.purses in
-    let are = members_count (ts g d) c.take_apart.new.jobs.items c.take_apart.new.owns.items c.take_apart.new.purses.items then in
+    let then : AreOf (ts g d) c.take_apart.new.jobs.items c.take_apart.new.owns.items c.take_apart.new.purses.items =
+    made_of _ (ts g d) c.take_apart.new.jobs.items c.take_apart.new.owns.items c.take_apart.new.purses.items
+    (all g d) c.take_apart.ensures.jobs c.take_apart.ensures.owns c.take_apart.ensures.purses in
+    let are = members_count (ts g d) c.take_apart.new.jobs.items c.take_apart.new.owns.items
+    c.take_apart.new.purses.items then in
     omega (arith, are.0, count g d, (were g d).0, c.requires.jobs.0)
 
 pub drain_all-requires-clause-ledger : goal.drain_all-requires-clause-ledger
 drain_all-requires-clause-ledger g c =
     let d = (goal.at.drain_all-requires-clause-ledger g c).After-work_all in
-    let zip = worked (shared g d) g.J.Job.work g.J.Job.runs g.J.Job.spare c.deref_mut.result.now (ss g d) (ts g d) c.deref_mut.ensures.value c.work_all.auto.members c.work_all.ensures in
-    let then : AreOf (ts g d) c.take_apart.new.jobs.items c.take_apart.new.owns.items c.take_apart.new.purses.items = made_of _ (ts g d) c.take_apart.new.jobs.items c.take_apart.new.owns.items c.take_apart.new.purses.items (all g d) c.take_apart.ensures.jobs c.take_apart.ensures.owns c.take_apart.ensures.purses in (
+    let zip = worked (shared g d) g.J.Job.work g.J.Job.runs g.J.Job.spare c.deref_mut.result.now (ss g d) (ts g d)
+    c.deref_mut.ensures.value c.work_all.auto.members c.work_all.ensures in
+    let then : AreOf (ts g d) c.take_apart.new.jobs.items c.take_apart.new.owns.items c.take_apart.new.purses.items =
+    made_of _ (ts g d) c.take_apart.new.jobs.items c.take_apart.new.owns.items c.take_apart.new.purses.items
+    (all g d) c.take_apart.ensures.jobs c.take_apart.ensures.owns c.take_apart.ensures.purses in (
       c.args.jobs.now.items,
-      ledger_begins (shared g d) g.J.Job.work g.J.Job.runs g.J.Job.spare (ss g d) (ts g d) c.args.jobs.now.items c.take_apart.new.jobs.items c.fill_all.new.owns.items c.take_apart.new.owns.items c.in_ok-purses.purses.items c.take_apart.new.purses.items (first g d) then zip c.args.tasks c.settle.new.owns.items c.check_all.new.owns.items (injector_view c.take_apart.new.owner)
+      ledger_begins (shared g d) g.J.Job.work g.J.Job.runs g.J.Job.spare (ss g d) (ts g d) c.args.jobs.now.items
+          c.take_apart.new.jobs.items c.fill_all.new.owns.items c.take_apart.new.owns.items c.in_ok-purses.purses.items
+          c.take_apart.new.purses.items (first g d) then zip c.args.tasks c.settle.new.owns.items
+          c.check_all.new.owns.items (injector_view c.take_apart.new.owner)
           c.take_apart.ensures.owner.2
-          (c.take_apart.ensures.owner.3 ∙ (ap (λ (v : Account). v.put) c.put_together.ensures.owner.2 ∙ ap (λ (v : Account). v.put) c.in_ok-source.ensures.2))
-          (λ h. let taken : Account → ℕ = λ v. sum_of h v.taken in omega (arith, c.take_apart.ensures.books h, ap (sum_of (source_taken h)) (all g d), ap taken c.put_together.ensures.owner.2, ap taken c.in_ok-source.ensures.2))
+          (c.take_apart.ensures.owner.3 ∙ (ap (λ (v : Account). v.put) c.put_together.ensures.owner.2 ∙
+          ap (λ (v : Account). v.put) c.in_ok-source.ensures.2))
+          (λ h. let taken : Account → ℕ = λ v. sum_of h v.taken in
+          omega (
+            arith,
+            c.take_apart.ensures.books h,
+            ap (sum_of (source_taken h)) (all g d),
+            ap taken c.put_together.ensures.owner.2,
+            ap taken c.in_ok-source.ensures.2,
+          ))
           c.put_together.ensures.members.1
-          (λ h. let old = c.in_ok-owns.ensures.1.books h in let new = c.in_ok-purses.ensures.books h in (omega (arith, old.0, new.0), omega (arith, old.1, new.1)))
+          (λ h. let old = c.in_ok-owns.ensures.1.books h in let new = c.in_ok-purses.ensures.books h in
+          (omega (arith, old.0, new.0), omega (arith, old.1, new.1)))
           c.in_ok-purses.ensures.purses.2
           c.settle.ensures.books
           c.check_all.ensures.books
@@ -143,15 +239,30 @@ drain_all-requires-clause-ledger g c =
 pub returns-clause-dealt : goal.returns-clause-dealt
 returns-clause-dealt g c =
     let d = (goal.at.returns-clause-dealt g c).After-work_all in
-    let zip = worked (shared g d) g.J.Job.work g.J.Job.runs g.J.Job.spare c.deref_mut.result.now (ss g d) (ts g d) c.deref_mut.ensures.value c.work_all.auto.members c.work_all.ensures in
-    let then : AreOf (ts g d) c.take_apart.new.jobs.items c.take_apart.new.owns.items c.take_apart.new.purses.items = made_of _ (ts g d) c.take_apart.new.jobs.items c.take_apart.new.owns.items c.take_apart.new.purses.items (all g d) c.take_apart.ensures.jobs c.take_apart.ensures.owns c.take_apart.ensures.purses in
+    let zip = worked (shared g d) g.J.Job.work g.J.Job.runs g.J.Job.spare c.deref_mut.result.now (ss g d) (ts g d)
+    c.deref_mut.ensures.value c.work_all.auto.members c.work_all.ensures in
+    let then : AreOf (ts g d) c.take_apart.new.jobs.items c.take_apart.new.owns.items c.take_apart.new.purses.items =
+    made_of _ (ts g d) c.take_apart.new.jobs.items c.take_apart.new.owns.items c.take_apart.new.purses.items
+    (all g d) c.take_apart.ensures.jobs c.take_apart.ensures.owns c.take_apart.ensures.purses in
     c.drain_all.ensures c.args.jobs.now.items
-    (ledger_begins (shared g d) g.J.Job.work g.J.Job.runs g.J.Job.spare (ss g d) (ts g d) c.args.jobs.now.items c.take_apart.new.jobs.items c.fill_all.new.owns.items c.take_apart.new.owns.items c.in_ok-purses.purses.items c.take_apart.new.purses.items (first g d) then zip c.args.tasks c.settle.new.owns.items c.check_all.new.owns.items (injector_view c.take_apart.new.owner)
+    (ledger_begins (shared g d) g.J.Job.work g.J.Job.runs g.J.Job.spare (ss g d) (ts g d) c.args.jobs.now.items
+    c.take_apart.new.jobs.items c.fill_all.new.owns.items c.take_apart.new.owns.items c.in_ok-purses.purses.items
+    c.take_apart.new.purses.items (first g d) then zip c.args.tasks c.settle.new.owns.items
+    c.check_all.new.owns.items (injector_view c.take_apart.new.owner)
     c.take_apart.ensures.owner.2
-    (c.take_apart.ensures.owner.3 ∙ (ap (λ (v : Account). v.put) c.put_together.ensures.owner.2 ∙ ap (λ (v : Account). v.put) c.in_ok-source.ensures.2))
-    (λ h. let taken : Account → ℕ = λ v. sum_of h v.taken in omega (arith, c.take_apart.ensures.books h, ap (sum_of (source_taken h)) (all g d), ap taken c.put_together.ensures.owner.2, ap taken c.in_ok-source.ensures.2))
+    (c.take_apart.ensures.owner.3 ∙ (ap (λ (v : Account). v.put) c.put_together.ensures.owner.2 ∙
+    ap (λ (v : Account). v.put) c.in_ok-source.ensures.2))
+    (λ h. let taken : Account → ℕ = λ v. sum_of h v.taken in
+    omega (
+      arith,
+      c.take_apart.ensures.books h,
+      ap (sum_of (source_taken h)) (all g d),
+      ap taken c.put_together.ensures.owner.2,
+      ap taken c.in_ok-source.ensures.2,
+    ))
     c.put_together.ensures.members.1
-    (λ h. let old = c.in_ok-owns.ensures.1.books h in let new = c.in_ok-purses.ensures.books h in (omega (arith, old.0, new.0), omega (arith, old.1, new.1)))
+    (λ h. let old = c.in_ok-owns.ensures.1.books h in let new = c.in_ok-purses.ensures.books h in
+    (omega (arith, old.0, new.0), omega (arith, old.1, new.1)))
     c.in_ok-purses.ensures.purses.2
     c.settle.ensures.books
     c.check_all.ensures.books

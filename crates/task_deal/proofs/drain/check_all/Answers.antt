@@ -10,4 +10,5 @@ loop-at-preserved c = let inv = c.loop-at.invariant in (
 )
 
 pub returns-clause-fits : goal.returns-clause-fits
-returns-clause-fits c = λ i d b. c.loop-at.invariant.3 i d (omega arith) (omega (arith, b, c.loop-at-test.false, c.len-at-end.ensures, c.loop-at.invariant.0))
+returns-clause-fits c = λ i d b. c.loop-at.invariant.3 i d (omega arith)
+    (omega (arith, b, c.loop-at-test.false, c.len-at-end.ensures, c.loop-at.invariant.0))

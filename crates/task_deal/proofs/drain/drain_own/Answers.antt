@@ -3,14 +3,24 @@ use Rattle.task_deal.proofs.Lemmas.{books_on, may_run, runs_one}
 use Rattle.task_deal.proofs.drain.drain_own.Goals as goal
 
 pub run-requires : goal.run-requires
-run-requires g c = may_run g.J.Job.work g.J.Job.runs g.J.Job.spare (worker_view c.args.own.now) (worker_view c.loop.own) (worker_view c.next_own.new.own) c.args.job.now c.loop.job c.in-Some-next_own.task c.requires.room c.loop.invariant.3 c.loop.invariant.4 c.in-Some-next_own.ensures.view.0 c.in-Some-next_own.ensures.view.1
+run-requires g c = may_run g.J.Job.work g.J.Job.runs g.J.Job.spare (worker_view c.args.own.now) (worker_view c.loop.own)
+    (worker_view c.next_own.new.own) c.args.job.now c.loop.job c.in-Some-next_own.task c.requires.room
+    c.loop.invariant.3 c.loop.invariant.4 c.in-Some-next_own.ensures.view.0 c.in-Some-next_own.ensures.view.1
 
 pub loop-preserved : goal.loop-preserved
 loop-preserved g c = (
   c.loop.invariant.0,
   c.loop.invariant.1,
-  (c.next_own.ensures.same.0 ∙ c.loop.invariant.2.0, c.next_own.ensures.same.1 ∙ c.loop.invariant.2.1, c.next_own.ensures.same.2 ∙ c.loop.invariant.2.2, omega (arith, c.next_own.ensures.same.3, c.loop.invariant.2.3)),
-  runs_one g.J.Job.work g.J.Job.runs g.J.Job.spare c.args.job.now c.loop.job c.run.new.self c.in-Some-next_own.task c.loop.invariant.3 c.run.ensures.work c.run.ensures.runs c.run.ensures.spare,
-  books_on g.J.Job.work g.J.Job.runs g.J.Job.spare (worker_view c.args.own.now) (worker_view c.loop.own) (worker_view c.next_own.new.own) c.args.job.now c.loop.job c.run.new.self c.in-Some-next_own.task c.loop.invariant.4 c.in-Some-next_own.ensures.view.0 c.run.ensures.runs,
+  (
+    c.next_own.ensures.same.0 ∙ c.loop.invariant.2.0,
+    c.next_own.ensures.same.1 ∙ c.loop.invariant.2.1,
+    c.next_own.ensures.same.2 ∙ c.loop.invariant.2.2,
+    omega (arith, c.next_own.ensures.same.3, c.loop.invariant.2.3),
+  ),
+  runs_one g.J.Job.work g.J.Job.runs g.J.Job.spare c.args.job.now c.loop.job c.run.new.self c.in-Some-next_own.task
+      c.loop.invariant.3 c.run.ensures.work c.run.ensures.runs c.run.ensures.spare,
+  books_on g.J.Job.work g.J.Job.runs g.J.Job.spare (worker_view c.args.own.now) (worker_view c.loop.own)
+      (worker_view c.next_own.new.own) c.args.job.now c.loop.job c.run.new.self c.in-Some-next_own.task
+      c.loop.invariant.4 c.in-Some-next_own.ensures.view.0 c.run.ensures.runs,
   ap (λ (u : Account). u.parts) c.in-Some-next_own.ensures.view.0 ∙ c.loop.invariant.5,
 )

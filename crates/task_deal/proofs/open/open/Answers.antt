@@ -8,5 +8,8 @@ loop-preserved c =
     let f : c.push-in-loop.new.self.items ≡ c.loop.owns.items ++ c.in_ok-own.own ∷ [] = search rules in (
       omega (arith, c.loop.invariant.0, ap length f, length-append c.loop.owns.items (c.in_ok-own.own ∷ [])),
       subst (λ l. AreOpen l c.push-in-loop.new.self.items) (sym e)
-          (subst (λ l. AreOpen (c.loop.thieves.items ++ c.in_ok-thief.thief ∷ []) l) (sym f) (opened_on c.loop.thieves.items c.loop.owns.items c.in_ok-thief.thief c.in_ok-own.own c.in_ok-own.ensures.1 c.in_ok-own.ensures.2 c.in_ok-own.ensures.4 c.in_ok-thief.ensures.0 c.loop.invariant.1)),
+          (subst (λ l. AreOpen (c.loop.thieves.items ++ c.in_ok-thief.thief ∷ []) l) (sym f)
+          (opened_on c.loop.thieves.items c.loop.owns.items c.in_ok-thief.thief c.in_ok-own.own
+          c.in_ok-own.ensures.1 c.in_ok-own.ensures.2 c.in_ok-own.ensures.4 c.in_ok-thief.ensures.0
+          c.loop.invariant.1)),
     )

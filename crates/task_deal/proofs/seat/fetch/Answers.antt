@@ -9,4 +9,5 @@ pub steal_batch_and_pop_as-requires-clause-pushes : goal.steal_batch_and_pop_as-
 steal_batch_and_pop_as-requires-clause-pushes g c = λ x xs w h. pushes _ _ _ c.requires.port
 
 pub returns-clause-gains : goal.returns-clause-gains
-returns-clause-gains g c = fetched c.args.seat.now c.steal_batch_and_pop_as.new.pass c.steal_batch_and_pop_as.new.dest 32 c.requires.flavor c.steal_batch_and_pop_as.result _ c.steal_batch_and_pop_as.ensures.rules
+returns-clause-gains g c = fetched c.args.seat.now c.steal_batch_and_pop_as.new.pass c.steal_batch_and_pop_as.new.dest
+    32 c.requires.flavor c.steal_batch_and_pop_as.result _ c.steal_batch_and_pop_as.ensures.rules

@@ -4,5 +4,7 @@ use Rattle.task_deal.proofs.Lemmas.{stolen}
 use Rattle.task_deal.proofs.seat.steal_at.Goals as goal
 
 pub returns-clause-gains : goal.returns-clause-gains
-returns-clause-gains g c = let s : Seat = c.args.seat.now in let t : Seat = record s { purse = with_item s.purse c.args.at c.steal.new.pass } in
-    stolen s t c.args.at c.steal.new.pass c.index_mut.result.now refl refl refl (omega (arith, c.requires.at, c.requires.seat.purse.0)) (search rules) c.steal.result c.steal.ensures.view
+returns-clause-gains g c = let s : Seat = c.args.seat.now in
+    let t : Seat = record s { purse = with_item s.purse c.args.at c.steal.new.pass } in
+    stolen s t c.args.at c.steal.new.pass c.index_mut.result.now refl refl refl
+    (omega (arith, c.requires.at, c.requires.seat.purse.0)) (search rules) c.steal.result c.steal.ensures.view

@@ -3,11 +3,16 @@ use Rattle.task_deal.proofs.Lemmas.{returning, last_pass, returned}
 use Rattle.task_deal.proofs.settle.return_purse.Goals as goal
 
 pub loop-pass-init : goal.loop-pass-init
-loop-pass-init c = returning c.args.shared.now.thieves.items c.args.left c.args.owns.now.items c.args.purse.items c.requires.count c.requires.purse c.requires.owns
+loop-pass-init c = returning c.args.shared.now.thieves.items c.args.left c.args.owns.now.items c.args.purse.items
+    c.requires.count c.requires.purse c.requires.owns
 
 pub return_pass-requires-clause-pass : goal.return_pass-requires-clause-pass
-return_pass-requires-clause-pass c = last_pass c.args.shared.now.thieves.items c.args.left _ _ _ c.loop-pass.purse.items c.pop.new.self.items c.in-Some.pass c.len-at.result (omega (arith, c.len-at.ensures)) c.in-Some.ensures.items c.loop-pass.invariant
+return_pass-requires-clause-pass c = last_pass c.args.shared.now.thieves.items c.args.left _ _ _ c.loop-pass.purse.items
+    c.pop.new.self.items c.in-Some.pass c.len-at.result (omega (arith, c.len-at.ensures)) c.in-Some.ensures.items
+    c.loop-pass.invariant
 
 pub loop-pass-preserved : goal.loop-pass-preserved
-loop-pass-preserved c = returned c.args.shared.now.thieves.items c.args.left _ _ c.loop-pass.owns.items c.return_pass.new.owns.items c.loop-pass.purse.items c.pop.new.self.items c.in-Some.pass c.len-at.result (omega (arith, c.len-at.ensures)) c.in-Some.ensures.items c.loop-pass.invariant
+loop-pass-preserved c = returned c.args.shared.now.thieves.items c.args.left _ _ c.loop-pass.owns.items
+    c.return_pass.new.owns.items c.loop-pass.purse.items c.pop.new.self.items c.in-Some.pass c.len-at.result
+    (omega (arith, c.len-at.ensures)) c.in-Some.ensures.items c.loop-pass.invariant
     c.return_pass.ensures.count c.return_pass.ensures.low c.return_pass.ensures.high c.return_pass.ensures.books

@@ -6,4 +6,5 @@ abbrev pub decreases-loop-pass : goal.decreases-loop-pass
 decreases-loop-pass l = vec_len l.purse
 
 abbrev pub invariant-loop-pass : goal.invariant-loop-pass
-invariant-loop-pass l = Returning l.shared.thieves.items l.left l.initial.owns.items l.initial.purse.items l.owns.items l.purse.items
+invariant-loop-pass l = Returning l.shared.thieves.items l.left l.initial.owns.items l.initial.purse.items l.owns.items
+    l.purse.items

@@ -1,4 +1,6 @@
-use Rattle.test_parts.proofs.Common.{◌≡◌, ℤ, pos, ◌≤ℤ◌, [], ◌∷◌, ◌++◌, length, sym, ap, ◌∙◌, subst, arith, length-append, All-push, All-same, IsRowBelow, IsWorth, market_of, proposal_of, Row}
+use Rattle.test_parts.proofs.Common.{◌≡◌, ℤ, pos, ◌≤ℤ◌, [], ◌∷◌, ◌++◌, length, sym, ap, ◌∙◌, subst, arith}
+use Rattle.test_parts.proofs.Common.{length-append, All-push, All-same, IsRowBelow, IsWorth, market_of, proposal_of}
+use Rattle.test_parts.proofs.Common.{Row}
 use Rattle.test_parts.proofs.price_move_tests.rows_alike.Goals as goal
 
 pub loop-preserved : goal.loop-preserved
@@ -19,5 +21,6 @@ loop-preserved c =
     record {
       count = omega (arith, long, was);
       within = omega (arith, test);
-      rows = All-same (λ (r : Row). IsRowBelow m (pos 0) (proposal_of r)) _ _ pushed (All-push (λ (r : Row). IsRowBelow m (pos 0) (proposal_of r)) c.loop.rows.items row known.rows below);
+      rows = All-same (λ (r : Row). IsRowBelow m (pos 0) (proposal_of r)) _ _ pushed
+          (All-push (λ (r : Row). IsRowBelow m (pos 0) (proposal_of r)) c.loop.rows.items row known.rows below);
     }

@@ -1,4 +1,6 @@
-use Rattle.test_spells.proofs.Common.{◌≡◌, ℕ, suc, ◌+◌, ◌<◌, ◌≢◌, length, Option, ℤ, IfSome, ap, ◌∙◌, subst, inl, inr, arith, length-set, thermal_of, prices_of, IsFrontier, spell_first, IsSpellAnswer, IsSpellWithin}
+use Rattle.test_spells.proofs.Common.{◌≡◌, ℕ, suc, ◌+◌, ◌<◌, ◌≢◌, length, Option, ℤ, IfSome, ap, ◌∙◌, subst, inl, inr}
+use Rattle.test_spells.proofs.Common.{arith, length-set, thermal_of, prices_of, IsFrontier, spell_first, IsSpellAnswer}
+use Rattle.test_spells.proofs.Common.{IsSpellWithin}
 use Rattle.test_spells.proofs.Lemmas.{entry_other, entries_more, never_both, one_more}
 use Rattle.test_spells.proofs.costs.fill.Goals as goal
 
@@ -19,13 +21,20 @@ loop-place-preserved g c =
     let within : place < length c.args.prices.now.energy.items = omega arith in
     record {
       here = c.pass.ensures.here;
-      frontier = subst (λ (t : ℕ). IsFrontier unit prices first t (g.S.Shape.function c.pass.new.home c.pass.new.running)) next c.in_ok-cost.ensures.ok;
+      frontier = subst (λ (t : ℕ). IsFrontier unit prices first t
+          (g.S.Shape.function c.pass.new.home c.pass.new.running)) next c.in_ok-cost.ensures.ok;
       answers = entries_more entries c.set.new.self.items place c.in_ok-cost.cost c.set.ensures.items
-          (λ (k : ℕ) (e : Option ℤ). IsSpellAnswer unit prices (length c.args.prices.now.energy.items) first (suc k) e × IfSome e (IsSpellWithin first (suc k)))
+          (λ (k : ℕ) (e : Option ℤ). IsSpellAnswer unit prices (length c.args.prices.now.energy.items) first (suc k) e ×
+          IfSome e (IsSpellWithin first (suc k)))
           c.args.first room c.loop-place.invariant.answers (c.in_ok-cost.ensures.answer, c.in_ok-cost.ensures.within);
       others = λ k out.
-          let ne : k ≢ place = λ z. elim out [ inl low ↦ absurd (omega (arith, low, z)) | inr high ↦ absurd (omega (arith, high, z, within)) ] in
-          entry_other entries c.set.new.self.items place c.in_ok-cost.cost c.set.ensures.items k ne ∙ c.loop-place.invariant.others k out;
+          let ne : k ≢ place = λ z. elim out [
+            | inl low ↦ absurd (omega (arith, low, z))
+            | inr high ↦
+                absurd (omega (arith, high, z, within))
+          ] in
+          entry_other entries c.set.new.self.items place c.in_ok-cost.cost c.set.ensures.items k ne ∙
+          c.loop-place.invariant.others k out;
       same_length = ap length c.set.ensures.items ∙ length-set entries place c.in_ok-cost.cost ∙ same;
       frame = c.frames_join.ensures _ _ _ _ _ _ c.loop-place.invariant.frame c.pass.ensures.frame;
       balance = λ counts. omega (arith, c.pass.ensures.balance.sum counts, c.loop-place.invariant.balance counts);
@@ -40,4 +49,5 @@ returns-in_err-cost-clause-sure g c = λ counts one enough.
     let more = one_more place (length c.args.prices.now.energy.items) blocks low in
     let most = c.loop-place.invariant.most counts in
     let balance = c.loop-place.invariant.balance counts in
-    absurd (never_both c.pass.result _ c.in_err-cost.was (c.pass.ensures.sure counts (omega (arith, one, enough, more, most, balance))))
+    absurd (never_both c.pass.result _ c.in_err-cost.was
+    (c.pass.ensures.sure counts (omega (arith, one, enough, more, most, balance))))

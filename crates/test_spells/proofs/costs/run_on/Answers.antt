@@ -4,7 +4,8 @@ use Rattle.test_spells.proofs.costs.run_on.Goals as goal
 
 pub take_step-requires-clause-curve : goal.take_step-requires-clause-curve
 take_step-requires-clause-curve g c =
-    cost_is c.starts_at-starts.result false c.step_of.ensures.step c.args.unit.now.valid c.args.prices.now.valid c.requires.place c.requires.curve c.envelope_is_cost.ensures
+    cost_is c.starts_at-starts.result false c.step_of.ensures.step c.args.unit.now.valid c.args.prices.now.valid
+    c.requires.place c.requires.curve c.envelope_is_cost.ensures
 
 pub take_step-requires-clause-small : goal.take_step-requires-clause-small
 take_step-requires-clause-small g c =
@@ -21,6 +22,7 @@ returns-clause-ok g c =
     let after = g.S.Shape.function c.take_step.new.home c.take_step.new.shape in
     on_ok_weaker {Q = IsFrontier unit prices first (suc c.args.place) after} _
     (λ step.
-    frontier_more c.args.unit.now.valid c.args.prices.now.valid c.requires.curve c.envelope_is_cost.ensures c.requires.place c.requires.order c.requires.frontier
+    frontier_more c.args.unit.now.valid c.args.prices.now.valid c.requires.curve c.envelope_is_cost.ensures
+    c.requires.place c.requires.order c.requires.frontier
     (rw (c.step_of.ensures.step, c.starts_at-starts.ensures) at step))
     c.take_step.ensures.ok

@@ -2,11 +2,13 @@ use Rattle.test_spells.proofs.Lemmas.{small_same, stepped_same}
 use Rattle.test_spells.proofs.step.stepped.Goals as goal
 
 pub take_step-requires-clause-small : goal.take_step-requires-clause-small
-take_step-requires-clause-small g c = small_same (g.S.Shape.function c.args.home.now c.args.before.now) _ c.in_ok-after.ensures.ok c.requires.small
+take_step-requires-clause-small g c =
+    small_same (g.S.Shape.function c.args.home.now c.args.before.now) _ c.in_ok-after.ensures.ok c.requires.small
 
 pub returns-in-Ok-clause-ok : goal.returns-in-Ok-clause-ok
 returns-in-Ok-clause-ok g c =
-    stepped_same c.args.step c.args.curve.now (g.S.Shape.function c.args.home.now c.args.before.now) (g.S.Shape.function c.copy.new.home c.in_ok-after.after) _ c.in_ok-after.ensures.ok c.in-Ok.ensures.ok
+    stepped_same c.args.step c.args.curve.now (g.S.Shape.function c.args.home.now c.args.before.now)
+    (g.S.Shape.function c.copy.new.home c.in_ok-after.after) _ c.in_ok-after.ensures.ok c.in-Ok.ensures.ok
 
 pub returns-in-Ok-clause-frame : goal.returns-in-Ok-clause-frame
 returns-in-Ok-clause-frame g c =

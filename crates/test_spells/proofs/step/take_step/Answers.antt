@@ -21,7 +21,8 @@ add_curve-requires-clause-fits g c =
     let slope : FitsSigned w64 c.args.step.slope = search rules in
     let window = simp to_z-of_z at c.in_ok-window.ensures.ok in
     let line = simp to_z-of_z at c.add_line.ensures.line in
-    can_curve c.args.step c.requires.step _ _ _ c.requires.small c.in_ok-add_kink.ensures.ok window _ line _ c.requires.curve
+    can_curve c.args.step c.requires.step _ _ _ c.requires.small c.in_ok-add_kink.ensures.ok window _ line _
+    c.requires.curve
 
 pub returns-clause-ok : goal.returns-clause-ok
 returns-clause-ok g c =
@@ -32,7 +33,8 @@ returns-clause-ok g c =
     let slope : FitsSigned w64 c.args.step.slope = search rules in
     let window = simp to_z-of_z at c.in_ok-window.ensures.ok in
     let line = simp to_z-of_z at c.add_line.ensures.line in
-    on_ok_weaker {Q = IsStepped c.args.step c.args.curve.now (g.S.Shape.function c.args.home.now c.args.shape.now) (g.S.Shape.function c.add_curve.new.home c.add_curve.new.self)} _
+    on_ok_weaker {Q = IsStepped c.args.step c.args.curve.now (g.S.Shape.function c.args.home.now c.args.shape.now)
+    (g.S.Shape.function c.add_curve.new.home c.add_curve.new.self)} _
     (λ curve. record {
       kinked = g.S.Shape.function c.add_kink.new.home c.add_kink.new.shape;
       window = g.S.Shape.function c.window.new.home c.window.new.self;
@@ -47,7 +49,8 @@ returns-clause-ok g c =
 pub returns-clause-frame : goal.returns-clause-frame
 returns-clause-frame g c =
     let join = c.frames_join.ensures in
-    join _ _ _ _ _ _ c.add_kink.ensures.frame (join _ _ _ _ _ _ c.window.ensures.frame (join _ _ _ _ _ _ c.add_line.ensures.frame c.add_curve.ensures.frame))
+    join _ _ _ _ _ _ c.add_kink.ensures.frame
+    (join _ _ _ _ _ _ c.window.ensures.frame (join _ _ _ _ _ _ c.add_line.ensures.frame c.add_curve.ensures.frame))
 
 pub returns-clause-sure : goal.returns-clause-sure
 returns-clause-sure g c = λ counts enough.
@@ -64,6 +67,18 @@ returns-clause-sure g c = λ counts enough.
 
 pub returns-clause-balance : goal.returns-clause-balance
 returns-clause-balance g c = record {
-  most = λ counts. omega (arith, c.add_kink.ensures.balance.most counts, c.window.ensures.balance.most counts, c.add_line.ensures.balance.most counts, c.add_curve.ensures.balance.most counts);
-  sum = λ counts. omega (arith, c.add_kink.ensures.balance.sum counts, c.window.ensures.balance.sum counts, c.add_line.ensures.balance.sum counts, c.add_curve.ensures.balance.sum counts);
+  most = λ counts. omega (
+    arith,
+    c.add_kink.ensures.balance.most counts,
+    c.window.ensures.balance.most counts,
+    c.add_line.ensures.balance.most counts,
+    c.add_curve.ensures.balance.most counts,
+  );
+  sum = λ counts. omega (
+    arith,
+    c.add_kink.ensures.balance.sum counts,
+    c.window.ensures.balance.sum counts,
+    c.add_line.ensures.balance.sum counts,
+    c.add_curve.ensures.balance.sum counts,
+  );
 }

@@ -1,4 +1,5 @@
-use Rattle.test_tiny.proofs.Common.{rules, arith, ◌≡◌, ◌+◌, ℕ, ℤ, ◌+ℤ◌, length, ap, ◌∙◌, add-one, ints, to_z-of_z, w128, cast_signed, FitsSigned, thermal_of, schedule_of, prices_of, sum_below, net_in}
+use Rattle.test_tiny.proofs.Common.{rules, arith, ◌≡◌, ◌+◌, ℕ, ℤ, ◌+ℤ◌, length, ap, ◌∙◌, add-one, ints, to_z-of_z, w128}
+use Rattle.test_tiny.proofs.Common.{cast_signed, FitsSigned, thermal_of, schedule_of, prices_of, sum_below, net_in}
 use Rattle.test_tiny.proofs.EarningsLaws.{earnings-net}
 use Rattle.test_tiny.proofs.earnings.earnings_of.Goals as goal
 
@@ -6,9 +7,12 @@ pub loop-place-preserved : goal.loop-place-preserved
 loop-place-preserved c =
     let a : FitsSigned w128 c.plus-earned.result = search rules in
     let b : FitsSigned w128 c.net.result = search rules in
-    let f : ℕ → ℤ = net_in (thermal_of c.args.unit.now) (prices_of c.args.prices.now) (schedule_of c.args.response.now) in
-    let more : sum_below (c.loop-place.place + 1) f ≡ sum_below c.loop-place.place f +ℤ f c.loop-place.place = ap (λ (n : ℕ). sum_below n f) (add-one c.loop-place.place) in
-    let so : cast_signed w128 c.loop-place.earned-bits ≡ sum_below c.loop-place.place f = c.loop-place.invariant.so_far in
+    let f : ℕ → ℤ = net_in (thermal_of c.args.unit.now) (prices_of c.args.prices.now)
+    (schedule_of c.args.response.now) in
+    let more : sum_below (c.loop-place.place + 1) f ≡ sum_below c.loop-place.place f +ℤ f c.loop-place.place =
+    ap (λ (n : ℕ). sum_below n f) (add-one c.loop-place.place) in
+    let so : cast_signed w128 c.loop-place.earned-bits ≡ sum_below c.loop-place.place f =
+    c.loop-place.invariant.so_far in
     let value : c.net.result ≡ f c.loop-place.place = c.net.ensures.value in
     let sum = c.plus-earned.ensures in
     let low = c.loop-place.invariant.bound.at_least in
@@ -17,11 +21,17 @@ loop-place-preserved c =
     let high' = c.net.ensures.bound.at_most in
     record {
       so_far = to_z-of_z w128 c.plus-earned.result a ∙ omega (arith, ints, sum, more, so, value);
-      bound = record { at_least = omega (arith, ints, sum, low, low'); at_most = omega (arith, ints, sum, high, high') };
+      bound = record {
+        at_least = omega (arith, ints, sum, low, low');
+        at_most =
+            omega (arith, ints, sum, high, high');
+      };
     }
 
 pub returns : goal.returns
 returns c =
-    let all : c.loop-place.place ≡ length c.args.response.now.on.items = omega (arith, c.loop-place-test.false, c.loop-place.auto.place-end, c.requires) in
+    let all : c.loop-place.place ≡ length c.args.response.now.on.items =
+    omega (arith, c.loop-place-test.false, c.loop-place.auto.place-end, c.requires) in
     c.loop-place.invariant.so_far
-    ∙ earnings-net (thermal_of c.args.unit.now) (prices_of c.args.prices.now) (schedule_of c.args.response.now) c.loop-place.place all
+    ∙ earnings-net (thermal_of c.args.unit.now) (prices_of c.args.prices.now) (schedule_of c.args.response.now)
+    c.loop-place.place all

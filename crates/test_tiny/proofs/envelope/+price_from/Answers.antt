@@ -1,4 +1,5 @@
-use Rattle.test_tiny.proofs.Common.{rules, arith, ◌≡◌, suc, ◌-◌, ◌^◌, ℤ, pos, neg_ℤ, ◌+ℤ◌, ◌-ℤ◌, ◌≤ℤ◌, subst, sym, ◌∙◌, ints, to_z-of_z, w128, FitsSigned, rises_after}
+use Rattle.test_tiny.proofs.Common.{rules, arith, ◌≡◌, suc, ◌-◌, ◌^◌, ℤ, pos, neg_ℤ, ◌+ℤ◌, ◌-ℤ◌, ◌≤ℤ◌, subst, sym, ◌∙◌}
+use Rattle.test_tiny.proofs.Common.{ints, to_z-of_z, w128, FitsSigned, rises_after}
 use Rattle.test_tiny.proofs.Lemmas.{halves, half_within}
 use Rattle.test_tiny.proofs.envelope.+price_from.Goals as goal
 
@@ -15,7 +16,10 @@ price_from-requires t c =
     let l = c.ranges.low in
     let e = simp to_z-of_z at c.half-next.ensures in
     let is = to_z-of_z w128 c.half-next.result a ∙ e in
-    let within = half_within (rises_after c.args.points.now (pos c.args.power) ((c.args.low +ℤ pos (2 ^ (c.args.steps - 1))) -ℤ pos 1)) c.args.low (c.args.steps - 1) c.args.steps less c.requires.low c.requires.high in (
+    let within =
+    half_within (rises_after c.args.points.now (pos c.args.power)
+    ((c.args.low +ℤ pos (2 ^ (c.args.steps - 1))) -ℤ pos 1)) c.args.low (c.args.steps - 1) c.args.steps less
+    c.requires.low c.requires.high in (
       omega (arith, c.decreases),
       (
         c.requires.some,

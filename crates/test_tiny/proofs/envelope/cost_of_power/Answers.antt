@@ -10,4 +10,5 @@ returns-clause-cost c =
     let v = simp to_z-of_z at c.least.ensures.value in
     let p = simp to_z-of_z at c.price_from-price.ensures.price in
     to_z-of_z w128 c.least.result a
-    ∙ envelope-found c.args.points.now (pos c.args.power) c.least_price.result c.price_from-price.result c.least.result c.halvings.result c.halvings.ensures c.least_price.ensures p v
+    ∙ envelope-found c.args.points.now (pos c.args.power) c.least_price.result c.price_from-price.result c.least.result
+    c.halvings.result c.halvings.ensures c.least_price.ensures p v

@@ -1,7 +1,9 @@
-use Rattle.test_tiny.proofs.Common.{rules, arith, ◌≡◌, pos, neg_ℤ, ◌+ℤ◌, ints, to_z-of_z, w64, w128, FitsSigned, IsFrom, line_at, fits_within}
+use Rattle.test_tiny.proofs.Common.{rules, arith, ◌≡◌, pos, neg_ℤ, ◌+ℤ◌, ints, to_z-of_z, w64, w128, FitsSigned, IsFrom}
+use Rattle.test_tiny.proofs.Common.{line_at, fits_within}
 use Rattle.test_tiny.proofs.envelope.line.Goals as goal
 
-within : (c : goal.After-product) → IsFrom (neg_ℤ (pos 2417851639229258349412352)) (pos 2417851639229258349412352) (c.from.result +ℤ c.product.result)
+within : (c : goal.After-product) →
+    IsFrom (neg_ℤ (pos 2417851639229258349412352)) (pos 2417851639229258349412352) (c.from.result +ℤ c.product.result)
 within c =
     let a : FitsSigned w128 c.from.result = search rules in
     let q : FitsSigned w64 c.args.point.now.cost = search rules in
@@ -16,7 +18,8 @@ within c =
 fits : (c : goal.After-product) → FitsSigned w128 (c.from.result +ℤ c.product.result)
 fits c = fits_within w128 2417851639229258349412352 _ (within c) (omega arith)
 
-value : (c : goal.After-product) → c.from.result +ℤ c.product.result ≡ line_at c.args.price (pos c.args.power) c.args.point.now
+value : (c : goal.After-product) →
+    c.from.result +ℤ c.product.result ≡ line_at c.args.price (pos c.args.power) c.args.point.now
 value c =
     let a : FitsSigned w128 c.from.result = search rules in
     let b : FitsSigned w128 c.product.result = search rules in

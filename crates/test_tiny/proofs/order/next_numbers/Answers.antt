@@ -1,11 +1,14 @@
-use Rattle.test_tiny.proofs.Common.{arith, ◌≡◌, ℕ, suc, ◌+◌, ◌<◌, ◌≤◌, List, ◌∷◌, ◌++◌, length, drop, replicate, sym, ap, ◌∙◌, subst, add-one, length-set, All, slice_index_or, after_of, list_count}
+use Rattle.test_tiny.proofs.Common.{arith, ◌≡◌, ℕ, suc, ◌+◌, ◌<◌, ◌≤◌, List, ◌∷◌, ◌++◌, length, drop, replicate, sym}
+use Rattle.test_tiny.proofs.Common.{ap, ◌∙◌, subst, add-one, length-set, All, slice_index_or, after_of, list_count}
 use Rattle.std.proofs.lemmas.List.Elements.{All-set}
-use Rattle.test_tiny.proofs.Lemmas.{IsTurned, new_set, old_split, turned_more, turned_all, after-one_more, after-lasts, after-firsts}
+use Rattle.test_tiny.proofs.Lemmas.{IsTurned, new_set, old_split, turned_more, turned_all, after-one_more, after-lasts}
+use Rattle.test_tiny.proofs.Lemmas.{after-firsts}
 use Rattle.test_tiny.proofs.order.next_numbers.Goals as goal
 
 pub loop-place-preserved : goal.loop-place-preserved
 loop-place-preserved c =
-    let low : c.loop-place.place < length c.args.list.now.items = omega (arith, c.loop-place-test.true, c.len-place-end.ensures) in
+    let low : c.loop-place.place < length c.args.list.now.items =
+    omega (arith, c.loop-place-test.true, c.len-place-end.ensures) in
     let here : c.loop-place.place < length c.loop-place.list.items = omega (arith, low, c.loop-place.invariant.long) in
     let number = c.get-number.result.now in
     let at_most = c.loop-place.invariant.within c.loop-place.place number here in
@@ -16,35 +19,47 @@ loop-place-preserved c =
     record {
       turned =
           subst (λ (zs : List ℕ). IsTurned 0 c.args.most (c.loop-place.place + 1) c.args.list.now.items zs) (sym items)
-          (turned_more 0 c.args.most c.loop-place.place c.args.list.now.items c.loop-place.list.items low c.loop-place.invariant.turned most_here);
+          (turned_more 0 c.args.most c.loop-place.place c.args.list.now.items c.loop-place.list.items low
+          c.loop-place.invariant.turned most_here);
       within =
           subst (λ (zs : List ℕ). All (λ x. x ≤ c.args.most) zs) (sym items)
-          (All-set (λ x. x ≤ c.args.most) c.loop-place.list.items c.loop-place.place 0 (omega arith) c.loop-place.invariant.within);
+          (All-set (λ x. x ≤ c.args.most) c.loop-place.list.items c.loop-place.place 0 (omega arith)
+          c.loop-place.invariant.within);
       long = ap length items ∙ length-set c.loop-place.list.items c.loop-place.place 0 ∙ c.loop-place.invariant.long;
     }
 
 pub returns-then-number-most-clause-next : goal.returns-then-number-most-clause-next
 returns-then-number-most-clause-next c = λ yes.
-    let low : c.loop-place.place < length c.args.list.now.items = omega (arith, c.loop-place-test.true, c.len-place-end.ensures) in
+    let low : c.loop-place.place < length c.args.list.now.items =
+    omega (arith, c.loop-place-test.true, c.len-place-end.ensures) in
     let number = c.get-number.result.now in
     let most = c.args.most in
     let place = c.loop-place.place in
     let old = c.args.list.now.items in
     let rest = drop (suc place) old in
-    let new_is = c.set.ensures.items ∙ new_set 0 most place old c.loop-place.list.items low c.loop-place.invariant.turned number (number + 1) c.get-number.ensures.value in
-    let old_is = old_split 0 most place old c.loop-place.list.items low c.loop-place.invariant.turned number c.get-number.ensures.value in
-    ap (λ (zs : List ℕ). suc (after_of most zs)) (new_is ∙ ap (λ (n : ℕ). replicate place 0 ++ (n ∷ rest)) (add-one number))
+    let new_is = c.set.ensures.items ∙ new_set 0 most place old c.loop-place.list.items low
+    c.loop-place.invariant.turned number (number + 1) c.get-number.ensures.value in
+    let old_is = old_split 0 most place old c.loop-place.list.items low c.loop-place.invariant.turned number
+    c.get-number.ensures.value in
+    ap (λ (zs : List ℕ). suc (after_of most zs))
+    (new_is ∙ ap (λ (n : ℕ). replicate place 0 ++ (n ∷ rest)) (add-one number))
     ∙ after-one_more most place number rest c.if-number-most.true ∙ ap (after_of most) (sym old_is)
 
 pub returns-clause-last : goal.returns-clause-last
 returns-clause-last c = λ no.
-    let far : length c.args.list.now.items ≤ c.loop-place.place = omega (arith, c.loop-place-test.false, c.len-place-end.ensures) in
-    let all = turned_all 0 c.args.most c.loop-place.place c.args.list.now.items c.loop-place.list.items far c.loop-place.invariant.turned in
+    let far : length c.args.list.now.items ≤ c.loop-place.place =
+    omega (arith, c.loop-place-test.false, c.len-place-end.ensures) in
+    let all = turned_all 0 c.args.most c.loop-place.place c.args.list.now.items c.loop-place.list.items far
+    c.loop-place.invariant.turned in
     ap (after_of c.args.most) all.1 ∙ after-lasts c.args.most c.loop-place.place
 
 pub returns-clause-again : goal.returns-clause-again
 returns-clause-again c = λ no.
-    let far : length c.args.list.now.items ≤ c.loop-place.place = omega (arith, c.loop-place-test.false, c.len-place-end.ensures) in
-    let end : c.loop-place.place ≡ length c.args.list.now.items = omega (arith, far, c.loop-place.auto.place-end, c.len-place-end.ensures) in
-    let all = turned_all 0 c.args.most c.loop-place.place c.args.list.now.items c.loop-place.list.items far c.loop-place.invariant.turned in
-    ap (λ (zs : List ℕ). suc (after_of c.args.most zs)) all.0 ∙ after-firsts c.args.most c.loop-place.place ∙ ap (list_count c.args.most) end
+    let far : length c.args.list.now.items ≤ c.loop-place.place =
+    omega (arith, c.loop-place-test.false, c.len-place-end.ensures) in
+    let end : c.loop-place.place ≡ length c.args.list.now.items =
+    omega (arith, far, c.loop-place.auto.place-end, c.len-place-end.ensures) in
+    let all = turned_all 0 c.args.most c.loop-place.place c.args.list.now.items c.loop-place.list.items far
+    c.loop-place.invariant.turned in
+    ap (λ (zs : List ℕ). suc (after_of c.args.most zs)) all.0 ∙ after-firsts c.args.most c.loop-place.place ∙
+    ap (list_count c.args.most) end

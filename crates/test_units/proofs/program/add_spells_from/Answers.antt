@@ -6,8 +6,10 @@ pub returns-then-until-max-clause-added : goal.returns-then-until-max-clause-add
 returns-then-until-max-clause-added g c =
     let u = thermal_of c.args.unit.now in
     let T = length c.args.prices.now.energy.items in
-    added_none u (prices_of c.args.prices.now) c.args.first c.args.entry.now.last c.args.entry.now.cost c.args.table.now.items
-    (λ l one spell. no_spell_after u T c.args.first c.open_until-until.result (sym c.requires.horizon) c.open_until-until.ensures l
+    added_none u (prices_of c.args.prices.now) c.args.first c.args.entry.now.last c.args.entry.now.cost
+    c.args.table.now.items
+    (λ l one spell. no_spell_after u T c.args.first c.open_until-until.result (sym c.requires.horizon)
+    c.open_until-until.ensures l
     (omega (arith, one)) spell) c.requires.within
 
 pub returns-then-not-may_end-clause-added : goal.returns-then-not-may_end-clause-added
@@ -15,8 +17,10 @@ returns-then-not-may_end-clause-added g c =
     let u = thermal_of c.args.unit.now in
     let T = length c.args.prices.now.energy.items in
     let short = c.may_end.ensures.no c.if-not-may_end.true in
-    added_none u (prices_of c.args.prices.now) c.args.first c.args.entry.now.last c.args.entry.now.cost c.args.table.now.items
-    (λ l one spell. none_long_enough u T c.args.first c.open_until-until.result (sym c.requires.horizon) c.open_until-until.ensures (omega arith) short.1 l spell) c.requires.within
+    added_none u (prices_of c.args.prices.now) c.args.first c.args.entry.now.last c.args.entry.now.cost
+    c.args.table.now.items
+    (λ l one spell. none_long_enough u T c.args.first c.open_until-until.result (sym c.requires.horizon)
+    c.open_until-until.ensures (omega arith) short.1 l spell) c.requires.within
 
 pub returns-clause-added : goal.returns-clause-added
 returns-clause-added g c =
@@ -24,7 +28,9 @@ returns-clause-added g c =
     record {
       nets = net_at costs;
       none = refl;
-      right = answers_at (thermal_of c.args.unit.now) (prices_of c.args.prices.now) (length c.args.prices.now.energy.items) c.args.first c.max-2.result costs c.max-2.ensures c.in_ok-spell_costs.ensures.least;
+      right = answers_at (thermal_of c.args.unit.now) (prices_of c.args.prices.now)
+          (length c.args.prices.now.energy.items) c.args.first c.max-2.result costs c.max-2.ensures
+          c.in_ok-spell_costs.ensures.least;
       update = rw (c.len-periods.ensures, c.as_slice.ensures) at c.add_spells.ensures.update;
       within = c.add_spells.ensures.within;
     }

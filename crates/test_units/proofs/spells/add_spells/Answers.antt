@@ -1,4 +1,5 @@
-use Rattle.test_units.proofs.Common.{rules, ◌≡◌, ◌+◌, ◌*◌, ◌≤◌, ◌+ℤ◌, refl, ◌∙◌, arith, to_z, of_z, ints, to_z-of_z, FitsSigned, w64, thermal_of, net_at, IsWithinTimes}
+use Rattle.test_units.proofs.Common.{rules, ◌≡◌, ◌+◌, ◌*◌, ◌≤◌, ◌+ℤ◌, refl, ◌∙◌, arith, to_z, of_z, ints, to_z-of_z}
+use Rattle.test_units.proofs.Common.{FitsSigned, w64, thermal_of, net_at, IsWithinTimes}
 use Rattle.test_units.proofs.Lemmas.{update_skip, update_more, update_all, spell_within, no_spell_after}
 use Rattle.test_units.proofs.spells.add_spells.Goals as goal
 use Rattle.test_units.proofs.spells.add_spells.Goals.{in-Some, in_default}
@@ -8,7 +9,8 @@ sum_of-requires-clause-b c =
     let net = (c.net_of.ensures.some c.in-Some.net c.in-Some.is).0 in
     let within = c.requires.net_bound c.loop-last.last c.in-Some.net (omega arith) (omega arith) net in
     let fits : FitsSigned w64 c.in-Some.net = search rules in
-    let r : IsWithinTimes 400 c.in-Some.net = record { at_least = omega (arith, ints); at_most = omega (arith, ints) } in
+    let r : IsWithinTimes 400 c.in-Some.net =
+    record { at_least = omega (arith, ints); at_most = omega (arith, ints) } in
     simp to_z-of_z r
 
 pub put-requires-clause-bound : goal.put-requires-clause-bound
@@ -20,7 +22,8 @@ put-requires-clause-bound c =
     let fits_net : FitsSigned w64 c.in-Some.net = search rules in
     let fits_entry : FitsSigned w64 c.args.entry.now.cost = search rules in
     let sum : c.sum_of.result ≡ c.args.entry.now.cost +ℤ c.in-Some.net = simp to_z-of_z at c.sum_of.ensures in
-    let r : IsWithinTimes (2 * c.loop-last.last + 2) c.sum_of.result = record { at_least = omega (arith, ints, sum, order); at_most = omega (arith, ints, sum, order) } in
+    let r : IsWithinTimes (2 * c.loop-last.last + 2) c.sum_of.result =
+    record { at_least = omega (arith, ints, sum, order); at_most = omega (arith, ints, sum, order) } in
     simp to_z-of_z r
 
 pub loop-last-preserved : goal.loop-last-preserved
@@ -32,25 +35,34 @@ loop-last-preserved c =
     elim c.match-net_of.branch [
       | in-Some w ↦
           let net = c.net_of.ensures.some w.in-Some.net w.in-Some.is in
-          let spell = spell_within u c.args.periods c.args.first c.args.until c.requires.periods c.requires.until c.loop-last.last c.requires.goes_on order (omega arith) net.1 in
+          let spell = spell_within u c.args.periods c.args.first c.args.until c.requires.periods c.requires.until
+          c.loop-last.last c.requires.goes_on order (omega arith) net.1 in
           let fits : FitsSigned w64 w.sum_of.result = search rules in
           let fits_net : FitsSigned w64 w.in-Some.net = search rules in
           let fits_entry : FitsSigned w64 c.args.entry.now.cost = search rules in
-          let cost : to_z w64 (of_z w64 w.sum_of.result) ≡ c.args.entry.now.cost +ℤ w.in-Some.net = to_z-of_z w64 _ fits ∙ w.sum_of.ensures ∙ (simp to_z-of_z) in
+          let cost : to_z w64 (of_z w64 w.sum_of.result) ≡ c.args.entry.now.cost +ℤ w.in-Some.net =
+          to_z-of_z w64 _ fits ∙ w.sum_of.ensures ∙ (simp to_z-of_z) in
           rw w.table-is (record {
-            update = update_more u c.args.periods c.args.first c.args.entry.now.last c.args.entry.now.cost nets c.args.table.now.items c.loop-last.last w.in-Some.net spell net.0
-                _ cost refl refl c.loop-last.table.items w.put.new.table.items c.loop-last.invariant.update w.put.ensures.others w.put.ensures.here w.put.ensures.old w.put.ensures.added w.put.ensures.latest w.put.ensures.within;
+            update = update_more u c.args.periods c.args.first c.args.entry.now.last c.args.entry.now.cost nets
+                c.args.table.now.items c.loop-last.last w.in-Some.net spell net.0
+                _ cost refl refl c.loop-last.table.items w.put.new.table.items c.loop-last.invariant.update
+                w.put.ensures.others w.put.ensures.here w.put.ensures.old w.put.ensures.added w.put.ensures.latest
+                w.put.ensures.within;
             length_is = w.put.ensures.length ∙ length_is;
           })
       | in_default w ↦
           rw w.table-is (record {
-            update = update_skip u c.args.periods c.args.first c.args.entry.now.last c.args.entry.now.cost nets c.args.table.now.items c.loop-last.last c.loop-last.table.items
-                (λ d spell net. w.in_default.not-Some d (c.net_of.ensures.none d net spell.min_up)) c.loop-last.invariant.update;
+            update = update_skip u c.args.periods c.args.first c.args.entry.now.last c.args.entry.now.cost nets
+                c.args.table.now.items c.loop-last.last c.loop-last.table.items
+                (λ d spell net. w.in_default.not-Some d (c.net_of.ensures.none d net spell.min_up))
+                c.loop-last.invariant.update;
             length_is = length_is;
           })
     ]
 
 pub returns-clause-update : goal.returns-clause-update
 returns-clause-update c =
-    update_all (thermal_of c.args.unit.now) c.args.periods c.args.first c.args.entry.now.last c.args.entry.now.cost (net_at c.args.costs.now) c.args.table.now.items c.loop-last.last c.loop-last.table.items
-    (λ l above spell. no_spell_after (thermal_of c.args.unit.now) c.args.periods c.args.first c.args.until c.requires.periods c.requires.until l (omega (arith, above)) spell) c.loop-last.invariant.update
+    update_all (thermal_of c.args.unit.now) c.args.periods c.args.first c.args.entry.now.last c.args.entry.now.cost
+    (net_at c.args.costs.now) c.args.table.now.items c.loop-last.last c.loop-last.table.items
+    (λ l above spell. no_spell_after (thermal_of c.args.unit.now) c.args.periods c.args.first c.args.until
+    c.requires.periods c.requires.until l (omega (arith, above)) spell) c.loop-last.invariant.update

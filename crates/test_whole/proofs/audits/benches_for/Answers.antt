@@ -1,4 +1,5 @@
-use Rattle.test_whole.proofs.Common.{◌≡◌, List, [], ◌∷◌, ◌++◌, length, length-append, sym, ap, ◌∙◌, subst, arith, All, All-push, market_of, IsBenchOver}
+use Rattle.test_whole.proofs.Common.{◌≡◌, List, [], ◌∷◌, ◌++◌, length, length-append, sym, ap, ◌∙◌, subst, arith, All}
+use Rattle.test_whole.proofs.Common.{All-push, market_of, IsBenchOver}
 use Rattle.unit_program.specs.declared.bench.Bench.{Bench}
 use Rattle.test_whole.proofs.audits.benches_for.Goals as goal
 
@@ -14,5 +15,6 @@ loop-preserved c =
     record {
       count = omega (arith, long, was);
       within = omega (arith, test);
-      benches = subst (λ (xs : List Bench). All (IsBenchOver m) xs) (sym pushed) (All-push (IsBenchOver m) c.loop.benches.items bench known.benches c.in_ok-bench.ensures);
+      benches = subst (λ (xs : List Bench). All (IsBenchOver m) xs) (sym pushed)
+          (All-push (IsBenchOver m) c.loop.benches.items bench known.benches c.in_ok-bench.ensures);
     }

@@ -1,4 +1,5 @@
-use Rattle.test_whole.proofs.Common.{◌≡◌, List, [], ◌∷◌, ◌++◌, length, length-append, sym, ap, ◌∙◌, subst, arith, All-push, market_of, AreFor}
+use Rattle.test_whole.proofs.Common.{◌≡◌, List, [], ◌∷◌, ◌++◌, length, length-append, sym, ap, ◌∙◌, subst, arith}
+use Rattle.test_whole.proofs.Common.{All-push, market_of, AreFor}
 use Rattle.audit_rows.specs.declared.answerer.Answerer.{Answerer}
 use Rattle.test_whole.proofs.dealt_rows.jobs_for.Goals as goal
 
@@ -14,5 +15,7 @@ loop-preserved c =
     record {
       count = omega (arith, long, was);
       within = omega (arith, test);
-      jobs = subst (λ (xs : List Answerer). AreFor m xs) (sym pushed) (All-push (λ (j : Answerer). market_of j.case.now ≡ m) c.loop.jobs.items job known.jobs (ap market_of c.in_ok-job.ensures));
+      jobs = subst (λ (xs : List Answerer). AreFor m xs) (sym pushed)
+          (All-push (λ (j : Answerer). market_of j.case.now ≡ m) c.loop.jobs.items job known.jobs
+          (ap market_of c.in_ok-job.ensures));
     }

@@ -1,4 +1,5 @@
-use Rattle.test_whole.proofs.Common.{◌≡◌, ◌<◌, length, get_or, ◌∙◌, arith, rules, to_z, of_z, pos, FitsSigned, w64, ints, to_z-of_z, Block}
+use Rattle.test_whole.proofs.Common.{◌≡◌, ◌<◌, length, get_or, ◌∙◌, arith, rules, to_z, of_z, pos, FitsSigned, w64}
+use Rattle.test_whole.proofs.Common.{ints, to_z-of_z, Block}
 use Rattle.test_whole.proofs.SmallLaws.{AreFair-more, last-more}
 use Rattle.test_whole.proofs.steps.are_fair.Goals as goal
 
@@ -16,7 +17,9 @@ loop-block-preserved c =
     let low = was.low in
     let last = to_z w64 c.loop-block.last-bits in
     record {
-      fair = AreFair-more bs j last d inside was.fair was.last (omega (arith, ints)) (omega (arith, ints)) (omega (arith, ints)) (omega (arith, ints)) (omega (arith, ints));
+      fair = AreFair-more bs j last d inside was.fair was.last (omega (arith, ints)) (omega (arith, ints))
+          (omega (arith, ints)) (omega (arith, ints)) (omega (arith, ints));
       low = omega (arith, ints);
-      last = λ i e next. e-price ∙ last-more bs j last d inside was.fair was.last (omega (arith, ints)) (omega (arith, ints)) (omega (arith, ints)) (omega (arith, ints)) (omega (arith, ints)) i e next;
+      last = λ i e next. e-price ∙ last-more bs j last d inside was.fair was.last (omega (arith, ints))
+          (omega (arith, ints)) (omega (arith, ints)) (omega (arith, ints)) (omega (arith, ints)) i e next;
     }

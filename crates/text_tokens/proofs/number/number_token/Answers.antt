@@ -5,19 +5,26 @@ use Rattle.text_tokens.proofs.number.number_token.Goals as goal
 
 pub returns-in_default : goal.returns-in_default
 returns-in_default c =
-    too_many c.args.negative c.args.whole.now c.args.fraction.now c.args.lowers c.args.power.now c.requires.whole c.requires.fraction (grown _ c.args.whole.now c.args.fraction.now c.in_default.ensures.none)
+    too_many c.args.negative c.args.whole.now c.args.fraction.now c.args.lowers c.args.power.now c.requires.whole
+    c.requires.fraction (grown _ c.args.whole.now c.args.fraction.now c.in_default.ensures.none)
 
 pub returns-in_default-digits_after : goal.returns-in_default-digits_after
 returns-in_default-digits_after c =
-    too_many c.args.negative c.args.whole.now c.args.fraction.now c.args.lowers c.args.power.now c.requires.whole c.requires.fraction (subst (λ (n : ℕ). 10 ^ 30 ≤ value_from n c.args.fraction.now) c.in-Some.ensures.some.0 c.in_default-digits_after.ensures.none)
+    too_many c.args.negative c.args.whole.now c.args.fraction.now c.args.lowers c.args.power.now c.requires.whole
+    c.requires.fraction (subst (λ (n : ℕ). 10 ^ 30 ≤ value_from n c.args.fraction.now) c.in-Some.ensures.some.0
+    c.in_default-digits_after.ensures.none)
 
 pub returns-in_default-value_within : goal.returns-in_default-value_within
-returns-in_default-value_within c = too_far c.args.negative c.args.whole.now c.args.fraction.now c.args.lowers c.args.power.now c.in_default-value_within.ensures.none
+returns-in_default-value_within c = too_far c.args.negative c.args.whole.now c.args.fraction.now c.args.lowers
+    c.args.power.now c.in_default-value_within.ensures.none
 
 pub returns : goal.returns
 returns c =
     let fits : FitsSigned w32 c.exponent-exponent.result = search rules in
     let near = c.in-Some-value_within.ensures.some in
-    short_enough c.args.negative c.args.whole.now c.args.fraction.now c.args.lowers c.args.power.now c.in-Some-digits_after.digits _ c.requires.whole c.requires.fraction
-    (c.in-Some-digits_after.ensures.some.0 ∙ ap (λ (n : ℕ). value_from n c.args.fraction.now) c.in-Some.ensures.some.0) c.in-Some-digits_after.ensures.some.1 (omega (arith, near.0, near.1))
-    (to_z-of_z w32 c.exponent-exponent.result fits ∙ exponent_is c.args.lowers c.args.power.now c.args.fraction.now c.in-Some-value_within.written c.exponent-exponent.result near.0 c.exponent-exponent.ensures)
+    short_enough c.args.negative c.args.whole.now c.args.fraction.now c.args.lowers c.args.power.now
+    c.in-Some-digits_after.digits _ c.requires.whole c.requires.fraction
+    (c.in-Some-digits_after.ensures.some.0 ∙ ap (λ (n : ℕ). value_from n c.args.fraction.now) c.in-Some.ensures.some.0)
+    c.in-Some-digits_after.ensures.some.1 (omega (arith, near.0, near.1))
+    (to_z-of_z w32 c.exponent-exponent.result fits ∙ exponent_is c.args.lowers c.args.power.now c.args.fraction.now
+    c.in-Some-value_within.written c.exponent-exponent.result near.0 c.exponent-exponent.ensures)

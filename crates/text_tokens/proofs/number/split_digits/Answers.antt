@@ -1,4 +1,5 @@
-use Rattle.text_tokens.proofs.Common.{ℕ, take, drop, ap, sym, subst, ◌∙◌, arith, AreDigits, is_ascii_digit, front, behind}
+use Rattle.text_tokens.proofs.Common.{ℕ, take, drop, ap, sym, subst, ◌∙◌, arith, AreDigits, is_ascii_digit, front}
+use Rattle.text_tokens.proofs.Common.{behind}
 use Rattle.text_tokens.proofs.Lemmas.{digits_in_front, run_within}
 use Rattle.text_tokens.proofs.number.split_digits.Goals as goal
 
@@ -14,4 +15,5 @@ unfolding behind
 returns-clause-behind c = c.rest_from.ensures ∙ ap (λ (n : ℕ). drop n c.args.bytes.now) c.digits_len-len.ensures
 
 pub returns-clause-digits : goal.returns-clause-digits
-returns-clause-digits c = subst (λ (n : ℕ). AreDigits (take n c.args.bytes.now)) (sym c.digits_len-len.ensures) (digits_in_front c.args.bytes.now)
+returns-clause-digits c = subst (λ (n : ℕ). AreDigits (take n c.args.bytes.now)) (sym c.digits_len-len.ensures)
+    (digits_in_front c.args.bytes.now)

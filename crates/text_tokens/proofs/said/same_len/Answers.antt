@@ -9,7 +9,8 @@ loop-i-preserved c =
     let i = c.loop-i.i in
     let within : i < length bytes = omega (arith, c.if-bytes-i.false) in
     let same = c.if-bytes-i-2.false in
-    let plain : is_plain (get_or bytes i 0) ≡ true = ap is_plain same ∙ sym c.is_plain.ensures ∙ c.if-not-is_plain.false in
+    let plain : is_plain (get_or bytes i 0) ≡ true =
+    ap is_plain same ∙ sym c.is_plain.ensures ∙ c.if-not-is_plain.false in
     record {
       same = same_one text bytes i c.loop-i-test.true within (sym same) c.loop-i.invariant.same;
       front = passes_one bytes i within plain c.loop-i.invariant.front;

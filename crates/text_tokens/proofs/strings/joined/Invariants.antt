@@ -1,4 +1,5 @@
-use Rattle.text_tokens.proofs.Common.{◌≡◌, ◌+◌, ◌-◌, ◌++◌, ◌≤◌, length, drop, take, option_map, IsUtf8, string_from, string_of, after_piece, len_or}
+use Rattle.text_tokens.proofs.Common.{◌≡◌, ◌+◌, ◌-◌, ◌++◌, ◌≤◌, length, drop, take, option_map, IsUtf8, string_from}
+use Rattle.text_tokens.proofs.Common.{string_of, after_piece, len_or}
 use Rattle.text_tokens.proofs.strings.joined.Given as goal
 
 abbrev pub invariant-pieces : goal.invariant-pieces

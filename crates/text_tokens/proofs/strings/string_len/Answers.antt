@@ -4,15 +4,20 @@ use Rattle.text_tokens.proofs.strings.string_len.Goals as goal
 
 pub returns-then-bytes-at-eq34-clause-is : goal.returns-then-bytes-at-eq34-clause-is
 returns-then-bytes-at-eq34-clause-is c =
-    quote_len c.pieces.at (string_from 0 (drop c.pieces.at c.args.bytes.now)) (closes c.args.bytes.now c.pieces.at c.pieces-test.true c.if-bytes-at-eq34.true) ∙ sym c.pieces.invariant.rest
+    quote_len c.pieces.at (string_from 0 (drop c.pieces.at c.args.bytes.now))
+    (closes c.args.bytes.now c.pieces.at c.pieces-test.true c.if-bytes-at-eq34.true) ∙ sym c.pieces.invariant.rest
 
 pub returns-in_err-piece-clause-is : goal.returns-in_err-piece-clause-is
 returns-in_err-piece-clause-is c =
-    c.from_residual.ensures ∙ sym (c.pieces.invariant.rest ∙ ap (λ (s : Option Piece). option_map (λ q. c.pieces.at + q.1) s)
-    (is_none c.args.bytes.now c.rest_from.result.now c.pieces.at c.pieces-test.true c.if-bytes-at-eq34.false c.rest_from.ensures c.in_err-piece.ensures.is))
+    c.from_residual.ensures ∙
+    sym (c.pieces.invariant.rest ∙ ap (λ (s : Option Piece). option_map (λ q. c.pieces.at + q.1) s)
+    (is_none c.args.bytes.now c.rest_from.result.now c.pieces.at c.pieces-test.true c.if-bytes-at-eq34.false
+    c.rest_from.ensures c.in_err-piece.ensures.is))
 
 pub returns-clause-is : goal.returns-clause-is
-returns-clause-is c = sym (c.pieces.invariant.rest ∙ ap (λ (s : Option Piece). option_map (λ q. c.pieces.at + q.1) s) (ends c.args.bytes.now c.pieces.at c.pieces-test.false))
+returns-clause-is c =
+    sym (c.pieces.invariant.rest ∙ ap (λ (s : Option Piece). option_map (λ q. c.pieces.at + q.1) s)
+    (ends c.args.bytes.now c.pieces.at c.pieces-test.false))
 
 pub pieces-preserved : goal.pieces-preserved
 pieces-preserved c =
@@ -20,7 +25,8 @@ pieces-preserved c =
     let p = piece_of c.in_ok-piece.piece in
     record {
       rest = c.pieces.invariant.rest ∙ ap (λ (s : Option Piece). option_map (λ q. c.pieces.at + q.1) s)
-          (goes_on c.args.bytes.now c.rest_from.result.now c.pieces.at p c.pieces-test.true c.if-bytes-at-eq34.false c.rest_from.ensures c.in_ok-piece.ensures.is len.0)
+          (goes_on c.args.bytes.now c.rest_from.result.now c.pieces.at p c.pieces-test.true c.if-bytes-at-eq34.false
+          c.rest_from.ensures c.in_ok-piece.ensures.is len.0)
           ∙ len_goes_on c.pieces.at p (string_from 0 (drop (c.pieces.at + p.1) c.args.bytes.now));
       near = omega (arith, len.1);
     }

@@ -3,7 +3,8 @@ use Rattle.text_tokens.proofs.strings.string_len.Given as goal
 
 abbrev pub invariant-pieces : goal.invariant-pieces
 invariant-pieces l = record {
-  rest : option_map (λ s. s.1) (string_from 0 l.bytes) ≡ option_map (λ s. l.at + s.1) (string_from 0 (drop l.at l.bytes));
+  rest : option_map (λ s. s.1) (string_from 0 l.bytes) ≡ option_map (λ s. l.at + s.1)
+      (string_from 0 (drop l.at l.bytes));
   near : l.at ≤ length l.bytes + 12;
 }
 

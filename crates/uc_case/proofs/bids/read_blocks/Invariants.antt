@@ -6,5 +6,6 @@ invariant-loop-branch l = record {
   count : length l.blocks.items ≡ l.branch-index;
   room : length l.branches ≤ l.blocks.spare + l.branch-index;
   fits : AreBlocks l.blocks.items;
-  so_far : each (block l.at) l.blocks.items (views (drop l.branch-index l.branches)) ≡ each (block l.at) [] (views l.branches);
+  so_far : each (block l.at) l.blocks.items (views (drop l.branch-index l.branches)) ≡ each (block l.at) []
+      (views l.branches);
 }

@@ -6,5 +6,6 @@ invariant-loop-branch l = record {
   count : length l.points.items ≡ l.branch-index;
   room : length l.branches ≤ l.points.spare + l.branch-index;
   fits : ArePoints l.points.items;
-  so_far : each (λ before. point (item_at l.at (position before)) before) l.points.items (views (drop l.branch-index l.branches)) ≡ items point l.at (views l.branches);
+  so_far : each (λ before. point (item_at l.at (position before)) before) l.points.items
+      (views (drop l.branch-index l.branches)) ≡ items point l.at (views l.branches);
 }

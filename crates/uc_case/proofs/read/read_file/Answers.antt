@@ -7,7 +7,11 @@ returns-in-Err-Fault c =
     (Err c.in-Err-Fault.fault, first, search rules)
 
 pub returns-in-Ok-case_of_tree : goal.returns-in-Ok-case_of_tree
-returns-in-Ok-case_of_tree c = (Ok (tree_view c.in-Ok.tree), c.in-Ok.ensures.found, ap of_value (rw c.root.ensures at c.in-Ok-case_of_tree.ensures))
+returns-in-Ok-case_of_tree c = (
+  Ok (tree_view c.in-Ok.tree),
+  c.in-Ok.ensures.found,
+  ap of_value (rw c.root.ensures at c.in-Ok-case_of_tree.ensures),
+)
 
 pub returns-in-Err-Fault-case_of_tree : goal.returns-in-Err-Fault-case_of_tree
 returns-in-Err-Fault-case_of_tree c =

@@ -6,7 +6,10 @@ pub invariant_of-result : goal.invariant_of-result
 invariant_of-result c =
     let least = c.in_ok-least in
     let most = c.in_ok-most in
-    let crossed : c.first_crossing-crossed.result ≡ first_crossed 1 least.least.items most.most.items = rw (← c.as_slice.ensures, ← c.as_slice-2.ensures) c.first_crossing-crossed.ensures in
+    let crossed : c.first_crossing-crossed.result ≡ first_crossed 1 least.least.items most.most.items =
+    rw (← c.as_slice.ensures, ← c.as_slice-2.ensures) c.first_crossing-crossed.ensures in
     record {
-      valid = renewable_fits least.least.items most.most.items c.args.periods c.first_crossing-crossed.result least.ensures.fits.0 most.ensures.fits.0 c.requires.some c.requires.horizon least.ensures.fits.1 most.ensures.fits.1 crossed c.if-crossed-gt0.false;
+      valid = renewable_fits least.least.items most.most.items c.args.periods c.first_crossing-crossed.result
+          least.ensures.fits.0 most.ensures.fits.0 c.requires.some c.requires.horizon least.ensures.fits.1
+          most.ensures.fits.1 crossed c.if-crossed-gt0.false;
     }

@@ -1,4 +1,5 @@
-use Rattle.uc_model.proofs.Common.{rules, arith, ◌≡◌, ◌+◌, ◌/◌, ◌%◌, ℤ, sym, ap, ◌∙◌, inl, inr, cases_lt, to_z-of_z, w64, option_map, FitsSigned, Block}
+use Rattle.uc_model.proofs.Common.{rules, arith, ◌≡◌, ◌+◌, ◌/◌, ◌%◌, ℤ, sym, ap, ◌∙◌, inl, inr, cases_lt, to_z-of_z}
+use Rattle.uc_model.proofs.Common.{w64, option_map, FitsSigned, Block}
 use Rattle.uc_model.proofs.Lemmas.{get_first_of_two, get_second_of_two}
 use Rattle.uc_model.proofs.flat_list.block_number.Goals as goal
 
@@ -30,8 +31,10 @@ returns-in-None c =
     elim (cases_lt (c.args.place % 2) 1) [
       | inl low ↦
           let even : c.args.place ≡ c.args.place / 2 + c.args.place / 2 = omega (arith, low) in
-          sym (get_first_of_two first second c.args.blocks.now c.args.place (c.args.place / 2) even ∙ ap (option_map first) none)
+          sym (get_first_of_two first second c.args.blocks.now c.args.place (c.args.place / 2) even ∙
+          ap (option_map first) none)
       | inr high ↦
           let odd : c.args.place ≡ c.args.place / 2 + c.args.place / 2 + 1 = omega (arith, high) in
-          sym (get_second_of_two first second c.args.blocks.now c.args.place (c.args.place / 2) odd ∙ ap (option_map second) none)
+          sym (get_second_of_two first second c.args.blocks.now c.args.place (c.args.place / 2) odd ∙
+          ap (option_map second) none)
     ]

@@ -11,7 +11,8 @@ returns-then-place-energy c =
     let i = c.args.place - 1 in
     c.number.ensures
     ∙ ap (λ (xs : List ℤ). slice_get xs i) c.as_slice-energy.ensures
-    ∙ sym (task_numbers-energy (prices_of t.prices) (task_unit t) c.args.place i (omega (arith, c.if-place-eq0.false)) (omega (arith, c.if-place-eq0.false, c.if-place-energy.true, energy)))
+    ∙ sym (task_numbers-energy (prices_of t.prices) (task_unit t) c.args.place i (omega (arith, c.if-place-eq0.false))
+    (omega (arith, c.if-place-eq0.false, c.if-place-energy.true, energy)))
 
 pub returns-then-place-energy-2 : goal.returns-then-place-energy-2
 returns-then-place-energy-2 c =
@@ -21,7 +22,9 @@ returns-then-place-energy-2 c =
     let i = c.args.place - length c.as_slice-energy.result.now - 1 in
     c.number-then-place-energy-2.ensures
     ∙ ap (λ (xs : List ℤ). slice_get xs i) c.as_slice-reserve.ensures
-    ∙ sym (task_numbers-reserve (prices_of t.prices) (task_unit t) c.args.place i (omega (arith, c.if-place-energy.false, energy)) (omega (arith, c.if-place-energy.false, c.if-place-energy-2.true, energy, reserve)))
+    ∙ sym (task_numbers-reserve (prices_of t.prices) (task_unit t) c.args.place i
+    (omega (arith, c.if-place-energy.false, energy))
+    (omega (arith, c.if-place-energy.false, c.if-place-energy-2.true, energy, reserve)))
 
 pub returns : goal.returns
 returns c =
@@ -29,4 +32,6 @@ returns c =
     let energy = ap (λ (xs : List ℤ). length xs) c.as_slice-energy.ensures in
     let reserve = ap (λ (xs : List ℤ). length xs) c.as_slice-reserve.ensures in
     c.unit_number.ensures
-    ∙ sym (task_numbers-unit (prices_of t.prices) (task_unit t) c.args.place (c.args.place - length c.as_slice-energy.result.now - length c.as_slice-reserve.result.now - 1) (omega (arith, c.if-place-energy-2.false, energy, reserve)))
+    ∙ sym (task_numbers-unit (prices_of t.prices) (task_unit t) c.args.place
+    (c.args.place - length c.as_slice-energy.result.now - length c.as_slice-reserve.result.now - 1)
+    (omega (arith, c.if-place-energy-2.false, energy, reserve)))

@@ -6,4 +6,5 @@ pub returns-clause-value : goal.returns-clause-value
 returns-clause-value c = search rules
 
 pub returns-clause-limit : goal.returns-clause-limit
-returns-clause-limit c = subst (IsFrom c.args.low price_limit) (sym (returns-clause-value c)) (clamped_from c.args.low price_limit c.args.number c.requires.at_most)
+returns-clause-limit c = subst (IsFrom c.args.low price_limit) (sym (returns-clause-value c))
+    (clamped_from c.args.low price_limit c.args.number c.requires.at_most)

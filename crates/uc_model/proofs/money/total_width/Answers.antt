@@ -16,7 +16,8 @@ loop-block-preserved c =
     let high = limits.at_most in
     let count = c.requires.count in
     let test = c.loop-block-test.true in
-    let next = ap width_of (take_more c.args.blocks.now i none c.loop-block-test.true) ∙ width-append (take i c.args.blocks.now) b in
+    let next = ap width_of (take_more c.args.blocks.now i none c.loop-block-test.true) ∙
+    width-append (take i c.args.blocks.now) b in
     record {
       is = omega (arith, ints, is, least, most, low, high, next, count, test);
       least = omega (arith, ints, least, most, low, high, count, test);

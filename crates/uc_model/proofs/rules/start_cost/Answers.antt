@@ -9,7 +9,9 @@ pub returns-in-None-clause-value : goal.returns-in-None-clause-value
 returns-in-None-clause-value c = search rules
 
 pub returns-in-Some-clause-limit : goal.returns-in-Some-clause-limit
-returns-in-Some-clause-limit c = subst IsStartCost (sym (returns-in-Some-clause-value c)) (start_costs_within c.args.u.now.lags.items c.args.down c.args.u.now.valid.lags)
+returns-in-Some-clause-limit c = subst IsStartCost (sym (returns-in-Some-clause-value c))
+    (start_costs_within c.args.u.now.lags.items c.args.down c.args.u.now.valid.lags)
 
 pub returns-in-None-clause-limit : goal.returns-in-None-clause-limit
-returns-in-None-clause-limit c = subst IsStartCost (sym (returns-in-None-clause-value c)) (start_costs_within c.args.u.now.lags.items c.args.down c.args.u.now.valid.lags)
+returns-in-None-clause-limit c = subst IsStartCost (sym (returns-in-None-clause-value c))
+    (start_costs_within c.args.u.now.lags.items c.args.down c.args.u.now.valid.lags)

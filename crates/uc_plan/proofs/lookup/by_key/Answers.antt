@@ -9,4 +9,7 @@ loop-done-init c = λ q. rw (none_yet q c.args.members.now, c.in_ok-values.ensur
 pub loop-done-preserved : goal.loop-done-preserved
 loop-done-preserved c = λ q.
     let name = string_bytes c.in_ok-name.name in
-    put_member q name c.args.members.now c.loop-done.done c.index-members-members.result c.index-members-members.result.value _ _ c.loop-done-test.true c.index-members-members.is c.in_ok-name.ensures refl (hash_map_updates_text name c.loop-done.values c.insert.new.self _ c.in_ok-insert.ensures.updates q) (c.loop-done.invariant q)
+    put_member q name c.args.members.now c.loop-done.done c.index-members-members.result
+    c.index-members-members.result.value _ _ c.loop-done-test.true c.index-members-members.is c.in_ok-name.ensures
+    refl (hash_map_updates_text name c.loop-done.values c.insert.new.self _ c.in_ok-insert.ensures.updates q)
+    (c.loop-done.invariant q)

@@ -11,4 +11,6 @@ key q = record { ref_ptr = (0, 0); now = q }
 
 pub loop-done-preserved : goal.loop-done-preserved
 loop-done-preserved g c = λ q.
-    put_name g.N.Named.name_of q c.name.result.now c.args.units.now c.loop-done.done c.index-units-units.result _ _ c.loop-done-test.true c.index-units-units.is c.name.ensures (c.in_ok-insert.ensures.updates.0 (key q)) (c.loop-done.invariant q)
+    put_name g.N.Named.name_of q c.name.result.now c.args.units.now c.loop-done.done c.index-units-units.result _ _
+    c.loop-done-test.true c.index-units-units.is c.name.ensures (c.in_ok-insert.ensures.updates.0 (key q))
+    (c.loop-done.invariant q)

@@ -11,14 +11,20 @@ loop-branch-init c = record {
 
 pub returns-in_default-clause-value : goal.returns-in_default-clause-value
 returns-in_default-clause-value c =
-    number_ends c.stop.result flag_in c.args.at c.args.branches.now c.loop-branch.branch-index c.branch-item.result c.loop-branch.flags.items c.len.result c.loop-branch-test.true c.branch-item.is (sym c.in_default.ensures) c.len.ensures c.stop.ensures c.loop-branch.invariant.so_far
+    number_ends c.stop.result flag_in c.args.at c.args.branches.now c.loop-branch.branch-index c.branch-item.result
+    c.loop-branch.flags.items c.len.result c.loop-branch-test.true c.branch-item.is (sym c.in_default.ensures)
+    c.len.ensures c.stop.ensures c.loop-branch.invariant.so_far
 
 pub loop-branch-preserved : goal.loop-branch-preserved
 loop-branch-preserved c = record {
-  count = counted c.loop-branch.flags.items c.push.new.self.items c.in-Some.flag c.loop-branch.branch-index c.push.ensures.items c.loop-branch.invariant.count;
+  count = counted c.loop-branch.flags.items c.push.new.self.items c.in-Some.flag c.loop-branch.branch-index
+      c.push.ensures.items c.loop-branch.invariant.count;
   room = omega (arith, c.push.ensures.spare, c.loop-branch.invariant.room);
-  so_far = rw c.push.ensures.items (number_goes_on flag_in c.args.at c.args.branches.now c.loop-branch.branch-index c.branch-item.result c.loop-branch.flags.items c.in-Some.flag c.loop-branch-test.true c.branch-item.is (sym c.in-Some.ensures) c.loop-branch.invariant.so_far);
+  so_far = rw c.push.ensures.items (number_goes_on flag_in c.args.at c.args.branches.now c.loop-branch.branch-index
+      c.branch-item.result c.loop-branch.flags.items c.in-Some.flag c.loop-branch-test.true c.branch-item.is
+      (sym c.in-Some.ensures) c.loop-branch.invariant.so_far);
 }
 
 pub returns-clause-value : goal.returns-clause-value
-returns-clause-value c = numbers_done flag_in c.args.at c.args.branches.now c.loop-branch.branch-index c.loop-branch.flags.items c.loop-branch-test.false c.loop-branch.invariant.so_far
+returns-clause-value c = numbers_done flag_in c.args.at c.args.branches.now c.loop-branch.branch-index
+    c.loop-branch.flags.items c.loop-branch-test.false c.loop-branch.invariant.so_far

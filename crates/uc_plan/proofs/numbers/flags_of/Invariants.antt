@@ -6,5 +6,6 @@ abbrev pub invariant-loop-branch : goal.invariant-loop-branch
 invariant-loop-branch l = record {
   count : length l.flags.items ≡ l.branch-index;
   room : length l.branches ≤ l.flags.spare + l.branch-index;
-  so_far : each (one_number flag_in l.at) l.flags.items (views (drop l.branch-index l.branches)) ≡ numbers flag_in l.at (views l.branches);
+  so_far : each (one_number flag_in l.at) l.flags.items (views (drop l.branch-index l.branches)) ≡ numbers flag_in l.at
+      (views l.branches);
 }

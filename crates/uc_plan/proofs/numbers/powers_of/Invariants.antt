@@ -6,5 +6,6 @@ abbrev pub invariant-loop-branch : goal.invariant-loop-branch
 invariant-loop-branch l = record {
   count : length l.powers.items ≡ l.branch-index;
   room : length l.branches ≤ l.powers.spare + l.branch-index;
-  so_far : each (one_number kilowatts_in l.at) l.powers.items (views (drop l.branch-index l.branches)) ≡ numbers kilowatts_in l.at (views l.branches);
+  so_far : each (one_number kilowatts_in l.at) l.powers.items (views (drop l.branch-index l.branches)) ≡ numbers
+      kilowatts_in l.at (views l.branches);
 }

@@ -8,9 +8,14 @@ returns-in-Err-Fault-clause-answer c =
     (Err c.in-Err-Fault.fault, first, search rules)
 
 pub returns-in-Ok-plan_of_tree-clause-answer : goal.returns-in-Ok-plan_of_tree-clause-answer
-returns-in-Ok-plan_of_tree-clause-answer c = (Ok (tree_view c.in-Ok.tree), c.in-Ok.ensures.found, ap of_value (rw c.root.ensures at c.in-Ok-plan_of_tree.ensures.value))
+returns-in-Ok-plan_of_tree-clause-answer c = (
+  Ok (tree_view c.in-Ok.tree),
+  c.in-Ok.ensures.found,
+  ap of_value (rw c.root.ensures at c.in-Ok-plan_of_tree.ensures.value),
+)
 
 pub returns-in-Err-Fault-plan_of_tree-clause-answer : goal.returns-in-Err-Fault-plan_of_tree-clause-answer
 returns-in-Err-Fault-plan_of_tree-clause-answer c =
-    let refused : plan_of (market_of c.args.case.now) (view c.root.result) ≡ Err c.in-Err-Fault-plan_of_tree.fault = search rules in
+    let refused : plan_of (market_of c.args.case.now) (view c.root.result) ≡ Err c.in-Err-Fault-plan_of_tree.fault =
+    search rules in
     (Ok (tree_view c.in-Ok.tree), c.in-Ok.ensures.found, ap of_value (rw c.root.ensures at refused))

@@ -7,5 +7,6 @@ invariant-loop-branch l = record {
   count : length l.numbers.items ≡ l.branch-index;
   room : length l.branches ≤ l.numbers.spare + l.branch-index;
   fits : All (IsPriceOf l.at.field) l.numbers.items;
-  so_far : each (one_price l.at) l.numbers.items (views (drop l.branch-index l.branches)) ≡ prices l.at (views l.branches);
+  so_far : each (one_price l.at) l.numbers.items (views (drop l.branch-index l.branches)) ≡ prices l.at
+      (views l.branches);
 }

@@ -8,4 +8,6 @@ loop-name-preserved c =
     let i = c.loop-name.name-index in
     let k = said c.name-item.result.quoted.bytes.now in
     let name = name_at ns i c.name-item.result c.loop-name-test.true c.name-item.is in
-    ascend_more (names_said ns) c.loop-name.last.now k c.in-Some.text.now i (omega (arith, c.loop-name-test.true, names_len ns)) c.loop-name.invariant (sym name) c.in-Some.ensures.says c.in-Some.ensures.above
+    ascend_more (names_said ns) c.loop-name.last.now k c.in-Some.text.now i
+    (omega (arith, c.loop-name-test.true, names_len ns)) c.loop-name.invariant (sym name) c.in-Some.ensures.says
+    c.in-Some.ensures.above

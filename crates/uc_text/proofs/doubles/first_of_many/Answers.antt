@@ -7,8 +7,10 @@ use Rattle.uc_text.proofs.doubles.first_of_many.Goals as goal
 pub first_by_keys-requires-clause-keys : goal.first_by_keys-requires-clause-keys
 first_by_keys-requires-clause-keys c = λ i lt.
     let key = key_at (names_said c.args.names.now) i in
-    subst (λ (keys : List ℕ). Contains keys key) (sym c.deref.ensures.value) (Contains-permutation _ _ key c.sort_unstable.ensures.permutation (c.in_ok-keys.ensures i lt))
+    subst (λ (keys : List ℕ). Contains keys key) (sym c.deref.ensures.value)
+    (Contains-permutation _ _ key c.sort_unstable.ensures.permutation (c.in_ok-keys.ensures i lt))
 
 pub first_by_keys-requires-clause-sorted : goal.first_by_keys-requires-clause-sorted
 first_by_keys-requires-clause-sorted c =
-    subst IsNonDecreasing (sym c.deref.ensures.value) (IsNonDecreasingBy-from_sort (λ (x : ℕ). x) _ c.sort_unstable.ensures.sorted)
+    subst IsNonDecreasing (sym c.deref.ensures.value)
+    (IsNonDecreasingBy-from_sort (λ (x : ℕ). x) _ c.sort_unstable.ensures.sorted)

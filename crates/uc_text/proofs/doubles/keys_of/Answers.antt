@@ -10,5 +10,9 @@ returns c = λ i lt.
     let count = names_len ns in
     let known = c.loop-index.invariant in
     let keys = c.loop-index.keys.items in
-    let before : i < length keys = omega (arith, known.count, lt, count, c.loop-index-test.false) in
-    (i, before, get_or_default keys i (key_at (names_said ns) i) 0 before ∙ known.each i (omega (arith, lt, count, c.loop-index-test.false)))
+    let before : i < length keys = omega (arith, known.count, lt, count, c.loop-index-test.false) in (
+      i,
+      before,
+      get_or_default keys i (key_at (names_said ns) i) 0 before ∙
+          known.each i (omega (arith, lt, count, c.loop-index-test.false)),
+    )

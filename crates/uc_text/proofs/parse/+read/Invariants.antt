@@ -1,4 +1,5 @@
-use Rattle.uc_text.proofs.Common.{◌≡◌, ◌+◌, ◌*◌, ◌<◌, ◌≤◌, length, seen, rest, ahead, names, names_said, AreDifferent, DoublesStop, Adds, in_turn, Value, Pair, StandsAt, List}
+use Rattle.uc_text.proofs.Common.{◌≡◌, ◌+◌, ◌*◌, ◌<◌, ◌≤◌, length, seen, rest, ahead, names, names_said, AreDifferent}
+use Rattle.uc_text.proofs.Common.{DoublesStop, Adds, in_turn, Value, Pair, StandsAt, List}
 use Rattle.uc_text.proofs.Lemmas.{InItems, InMembers}
 use Rattle.uc_text.proofs.parse.+read.Given as goal
 
@@ -16,7 +17,8 @@ decreases-value l = 3 * l.left + 2
 
 abbrev pub invariant-items-items : goal.invariant-items-items
 invariant-items-items l = record {
-  inside : (vs : List Value) × InItems l.left (rest l.fn.reader) vs (seen l.first) (rest l.reader) × (l.count ≡ length vs) × Adds l.fn.reader.bytes.now l.fn.nodes.items l.nodes.items vs;
+  inside : (vs : List Value) × InItems l.left (rest l.fn.reader) vs (seen l.first) (rest l.reader) ×
+      (l.count ≡ length vs) × Adds l.fn.reader.bytes.now l.fn.nodes.items l.nodes.items vs;
   stands : StandsAt l.reader.bytes.now l.first.offset l.first.token;
   same : l.reader.bytes.now ≡ l.fn.reader.bytes.now;
   few : l.count + ahead l.reader ≤ ahead l.fn.reader;
@@ -28,7 +30,8 @@ decreases-items-items l = ahead l.reader
 
 abbrev pub invariant-noted_members-members : goal.invariant-noted_members-members
 invariant-noted_members-members l = record {
-  inside : (ps : List Pair) × (AreDifferent (names ps) → InMembers l.left (rest l.fn.reader) ps (seen l.first) (rest l.reader)) × (l.count ≡ length ps)
+  inside : (ps : List Pair) × (AreDifferent (names ps) →
+      InMembers l.left (rest l.fn.reader) ps (seen l.first) (rest l.reader)) × (l.count ≡ length ps)
       × Adds l.fn.reader.bytes.now l.fn.nodes.items l.nodes.items (in_turn ps) × (names_said l.names.items ≡ names ps);
   doubles : DoublesStop l.left (rest l.fn.reader) l.names.items;
   stands : StandsAt l.reader.bytes.now l.first.offset l.first.token;

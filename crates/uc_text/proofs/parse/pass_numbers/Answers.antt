@@ -1,10 +1,16 @@
-use Rattle.uc_text.proofs.Common.{◌++◌, ◌∷◌, [], List, refl, sym, subst, ◌∙◌, arith, append_assoc, append-nil, length-append, rest, AtItem, decimal_of, Value, scalar, number, NumberNode}
+use Rattle.uc_text.proofs.Common.{◌++◌, ◌∷◌, [], List, refl, sym, subst, ◌∙◌, arith, append_assoc, append-nil}
+use Rattle.uc_text.proofs.Common.{length-append, rest, AtItem, decimal_of, Value, scalar, number, NumberNode}
 use Rattle.uc_text.proofs.Lemmas.{one_more, adds_none, adds_one, adds_then}
 use Rattle.uc_text.proofs.parse.pass_numbers.Goals as goal
 
 pub numbers-init : goal.numbers-init
 numbers-init c = record {
-  passed = ([], refl, adds_none c.args.reader.now.bytes.now c.args.nodes.now.items, λ m all vs i. subst (λ (us : List Value). AtItem m all us (rest c.args.reader.now)) (sym (append-nil vs)) i);
+  passed = (
+    [],
+    refl,
+    adds_none c.args.reader.now.bytes.now c.args.nodes.now.items,
+    λ m all vs i. subst (λ (us : List Value). AtItem m all us (rest c.args.reader.now)) (sym (append-nil vs)) i,
+  );
   few = omega arith;
   same = refl;
 }
@@ -20,9 +26,13 @@ numbers-preserved c =
       passed = (
         us ++ v ∷ [],
         omega (arith, i.1, length-append us (v ∷ [])),
-        adds_then bytes c.args.nodes.now.items c.numbers.nodes.items c.push.new.self.items us (v ∷ []) i.2 (adds_one bytes c.numbers.nodes.items c.push.new.self.items (NumberNode small) v c.in_ok-push.ensures.items (λ more. refl)),
-        λ m all vs at. subst (λ (ws : List Value). AtItem m all ws (rest c.number_and_comma.new.self)) (append_assoc vs us (v ∷ []))
-            (one_more m all (vs ++ us) (rest c.numbers.reader) v (rest c.number_and_comma.new.self) (i.3 m all vs at) c.in-Some.ensures.some tt),
+        adds_then bytes c.args.nodes.now.items c.numbers.nodes.items c.push.new.self.items us (v ∷ []) i.2
+            (adds_one bytes c.numbers.nodes.items c.push.new.self.items (NumberNode small) v c.in_ok-push.ensures.items
+            (λ more. refl)),
+        λ m all vs at. subst (λ (ws : List Value). AtItem m all ws (rest c.number_and_comma.new.self))
+            (append_assoc vs us (v ∷ []))
+            (one_more m all (vs ++ us) (rest c.numbers.reader) v (rest c.number_and_comma.new.self) (i.3 m all vs at)
+            c.in-Some.ensures.some tt),
       );
       few = omega (arith, c.numbers.invariant.few, c.in-Some.ensures.less);
       same = c.in-Some.ensures.same ∙ c.numbers.invariant.same;

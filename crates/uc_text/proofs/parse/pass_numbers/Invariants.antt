@@ -4,7 +4,8 @@ use Rattle.uc_text.proofs.parse.pass_numbers.Given as goal
 abbrev pub invariant-numbers : goal.invariant-numbers
 invariant-numbers l = record {
   passed : (us : List Value) × (l.count ≡ length us) × Adds l.fn.reader.bytes.now l.fn.nodes.items l.nodes.items us
-      × ((m : ℕ) (all : List Lexed) (vs : List Value) → AtItem m all vs (rest l.fn.reader) → AtItem m all (vs ++ us) (rest l.reader));
+      × ((m : ℕ) (all : List Lexed) (vs : List Value) → AtItem m all vs (rest l.fn.reader) →
+      AtItem m all (vs ++ us) (rest l.reader));
   few : l.count + ahead l.reader ≤ ahead l.fn.reader;
   same : l.reader.bytes.now ≡ l.fn.reader.bytes.now;
 }

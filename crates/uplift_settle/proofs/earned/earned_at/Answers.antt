@@ -1,4 +1,6 @@
-use Rattle.uplift_settle.proofs.Common.{rules, ◌≡◌, ℕ, Some, sym, ◌∙◌, subst, FitsSigned, arith, to_z-of_z, w128, slice_get, AnyUnit, Schedule, units, market_of, schedules_of, schedule_of, prices_of, unit_of, IsFeasible, item_of, map_item, zip_item}
+use Rattle.uplift_settle.proofs.Common.{rules, ◌≡◌, ℕ, Some, sym, ◌∙◌, subst, FitsSigned, arith, to_z-of_z, w128}
+use Rattle.uplift_settle.proofs.Common.{slice_get, AnyUnit, Schedule, units, market_of, schedules_of, schedule_of}
+use Rattle.uplift_settle.proofs.Common.{prices_of, unit_of, IsFeasible, item_of, map_item, zip_item}
 use Rattle.uplift_settle.proofs.Lemmas.{earned_item, HasLengths}
 use Rattle.uplift_settle.proofs.earned.earned_at.Goals as goal
 
@@ -32,7 +34,8 @@ unit_earnings-requires-clause-feasible c =
     let s = schedule_of c.get.result.now in
     let u = unit_of c.unit_at-named.result.unit in
     let feasible = zip_item (λ (v : AnyUnit) (t : Schedule). IsFeasible v m.periods t) (units m)
-    (schedules_of c.args.plan.now) c.args.number u s c.requires.feasible.feasible c.unit_at-named.ensures.unit (plan_at c) in
+    (schedules_of c.args.plan.now) c.args.number u s c.requires.feasible.feasible c.unit_at-named.ensures.unit
+    (plan_at c) in
     subst (λ (n : ℕ). IsFeasible u n s) (sym (lengths c).0) feasible
 
 pub returns : goal.returns

@@ -1,4 +1,5 @@
-use Rattle.uplift_settle.proofs.Common.{rules, sym, subst, FitsSigned, arith, to_z-of_z, w128, AllZip, units, IsEarned, market_of, schedules_of, prices_of, IsFeasible, fits_within}
+use Rattle.uplift_settle.proofs.Common.{rules, sym, subst, FitsSigned, arith, to_z-of_z, w128, AllZip, units, IsEarned}
+use Rattle.uplift_settle.proofs.Common.{market_of, schedules_of, prices_of, IsFeasible, fits_within}
 use Rattle.std.specs.Int.{w64}
 use Rattle.uplift_settle.proofs.Lemmas.{scheduled_within}
 use Rattle.uplift_settle.proofs.earned.earned_by.Goals as goal
@@ -7,8 +8,10 @@ within : (c : goal.After-earned_at) → IsEarned c.earned_at.result
 within c =
     let m = market_of c.args.case.now in
     let ps = schedules_of c.args.plan.now in
-    let feasible = subst (λ n. AllZip (λ u s. IsFeasible u n s) (units m) ps) (sym c.requires.horizon) c.requires.feasible.feasible in
-    scheduled_within c.earnings_are_within.ensures (prices_of c.args.prices.now) c.args.prices.now.valid (units m) ps c.args.number c.earned_at.result
+    let feasible = subst (λ n. AllZip (λ u s. IsFeasible u n s) (units m) ps) (sym c.requires.horizon)
+    c.requires.feasible.feasible in
+    scheduled_within c.earnings_are_within.ensures (prices_of c.args.prices.now) c.args.prices.now.valid (units m) ps
+    c.args.number c.earned_at.result
     (c.units_are_within.ensures m c.args.case.now.valid) feasible c.earned_at.ensures
 
 fits : (c : goal.After-earned_at) → FitsSigned w64 c.earned_at.result

@@ -19,4 +19,21 @@ returns c =
     let starts_low = c.costs_of_starts.ensures.limit.at_least in
     let starts_high = c.costs_of_starts.ensures.limit.at_most in
     let wide = c.from.ensures in
-    omega (arith, ints, paid, energy, energy_low, energy_high, reserve, reserve_low, reserve_high, powers, powers_low, powers_high, starts, starts_low, starts_high, wide)
+    omega (
+      arith,
+      ints,
+      paid,
+      energy,
+      energy_low,
+      energy_high,
+      reserve,
+      reserve_low,
+      reserve_high,
+      powers,
+      powers_low,
+      powers_high,
+      starts,
+      starts_low,
+      starts_high,
+      wide,
+    )

@@ -2,7 +2,8 @@ use Rattle.uplift_settle.proofs.Common.{market_of, schedules_of, arith, ints}
 use Rattle.uplift_settle.proofs.settlement.reserve_over.Goals as goal
 
 pub reserves_in-reserves-requires-clause-shape : goal.reserves_in-reserves-requires-clause-shape
-reserves_in-reserves-requires-clause-shape c = c.feasible_plans_have_shape.ensures (market_of c.args.case.now) (schedules_of c.args.plan.now) c.requires.feasible
+reserves_in-reserves-requires-clause-shape c =
+    c.feasible_plans_have_shape.ensures (market_of c.args.case.now) (schedules_of c.args.plan.now) c.requires.feasible
 
 pub returns-clause-value : goal.returns-clause-value
 returns-clause-value c =

@@ -1,4 +1,8 @@
-use Rattle.uplift_settle.proofs.Common.{rules, ◌≡◌, refl, ◌<◌, ℤ, pos, ◌-ℤ◌, List, [], ◌∷◌, ◌++◌, length, take, sym, ap, ◌∙◌, w64, FitsSigned, arith, length-append, ints, to_z-of_z, take_more, take_all, get_or_from_slice_get, w128, slice_get, AnyUnit, units, unit_count, IsTop, market_of, schedules_of, prices_of, total, zip_with, length_same, zip_with-push, total-push, earned_in}
+use Rattle.uplift_settle.proofs.Common.{rules, ◌≡◌, refl, ◌<◌, ℤ, pos, ◌-ℤ◌, List, [], ◌∷◌, ◌++◌, length, take, sym, ap}
+use Rattle.uplift_settle.proofs.Common.{◌∙◌, w64, FitsSigned, arith, length-append, ints, to_z-of_z, take_more}
+use Rattle.uplift_settle.proofs.Common.{take_all, get_or_from_slice_get, w128, slice_get, AnyUnit, units, unit_count}
+use Rattle.uplift_settle.proofs.Common.{IsTop, market_of, schedules_of, prices_of, total, zip_with, length_same}
+use Rattle.uplift_settle.proofs.Common.{zip_with-push, total-push, earned_in}
 use Rattle.uplift_settle.proofs.Lemmas.{best_within, earned_length}
 use Rattle.uplift_settle.proofs.settlement.settle.Goals as goal
 use Rattle.uplift_settle.proofs.settlement.settle.Goals.{After-units_are_numbered}
@@ -14,7 +18,8 @@ zip_with-nil (e ∷ es) = refl
 units_earn : (c : After-units_are_numbered) → length c.args.earned.now ≡ unit_count (market_of c.args.case.now)
 units_earn c =
     let m = market_of c.args.case.now in
-    let count = length_same (λ (u : AnyUnit) (e : ℤ). IsTop u (prices_of c.args.prices.now) e) (units m) c.args.earned.now c.requires.best in
+    let count = length_same (λ (u : AnyUnit) (e : ℤ). IsTop u (prices_of c.args.prices.now) e) (units m)
+    c.args.earned.now c.requires.best in
     let all = (c.units_are_numbered.ensures m).count in
     omega (arith, count, all)
 
@@ -27,7 +32,8 @@ loop-number-init c =
     record {
       scheduled = c.clear.ensures.items;
       count = ap length c.clear.ensures.items;
-      payments = c.clear-2.ensures.items ∙ sym (zip_with-nil c.args.earned.now) ∙ ap (zip_with less c.args.earned.now) (sym c.clear.ensures.items);
+      payments = c.clear-2.ensures.items ∙ sym (zip_with-nil c.args.earned.now) ∙
+          ap (zip_with less c.args.earned.now) (sym c.clear.ensures.items);
       total = ap total (sym c.clear-2.ensures.items);
       limit = record { at_least = omega (arith, ints); at_most = omega (arith, ints) };
       scheduled_room = omega (arith, a, scheduled);
@@ -46,7 +52,9 @@ pub uplift-payment-requires-clause-best : goal.uplift-payment-requires-clause-be
 uplift-payment-requires-clause-best c =
     let m = market_of c.args.case.now in
     let f : FitsSigned w64 c.best_of.result = search rules in
-    let within = best_within c.earnings_are_within.ensures (prices_of c.args.prices.now) c.args.prices.now.valid (units m) c.args.earned.now c.loop-number.number c.best_of.result (c.units_are_within.ensures m c.args.case.now.valid) c.requires.best c.best_of.ensures in
+    let within = best_within c.earnings_are_within.ensures (prices_of c.args.prices.now) c.args.prices.now.valid
+    (units m) c.args.earned.now c.loop-number.number c.best_of.result
+    (c.units_are_within.ensures m c.args.case.now.valid) c.requires.best c.best_of.ensures in
     simp to_z-of_z within
 
 pub add_unit-requires-clause-scheduled_room : goal.add_unit-requires-clause-scheduled_room
@@ -72,7 +80,11 @@ add_unit-requires-clause-total c =
     let a = c.args.case.now.valid.thermal_count in
     let b = c.args.case.now.valid.flat_count in
     let d = c.args.case.now.valid.bid_count in
-    record { at_least = omega (arith, ints, count, test, low, a, b, d); at_most = omega (arith, ints, count, test, high, a, b, d) }
+    record {
+      at_least = omega (arith, ints, count, test, low, a, b, d);
+      at_most =
+          omega (arith, ints, count, test, high, a, b, d);
+    }
 
 pub loop-number-preserved : goal.loop-number-preserved
 loop-number-preserved c =
@@ -105,18 +117,26 @@ loop-number-preserved c =
     let payments_spare = c.add_unit.ensures.payments_spare in
     let longer = ap length scheduled in
     let pushed = length-append done (r ∷ []) in
-    let last = earned_length m ps (prices_of c.args.prices.now) (c.units_are_numbered.ensures m) (c.feasible_plans_have_shape.ensures m ps c.requires.feasible) in
+    let last = earned_length m ps (prices_of c.args.prices.now) (c.units_are_numbered.ensures m)
+    (c.feasible_plans_have_shape.ensures m ps c.requires.feasible) in
     let lt : k < length xs = omega (arith, count, test, last) in
     let item = get_or_from_slice_get xs k r (pos 0) c.earned_by-scheduled.ensures.value in
     let at = ap (slice_get c.args.earned.now) number ∙ c.best_of.ensures in
     let totals = ap total payments ∙ total-push c.loop-number.into.payments.items c.uplift-payment.result in
     record {
-      scheduled = scheduled ∙ ap (λ (l : List ℤ). l ++ r ∷ []) known.scheduled ∙ ap (λ (x : ℤ). take k xs ++ x ∷ []) (sym item) ∙ sym (take_more xs k (pos 0) lt);
+      scheduled = scheduled ∙ ap (λ (l : List ℤ). l ++ r ∷ []) known.scheduled ∙
+          ap (λ (x : ℤ). take k xs ++ x ∷ []) (sym item) ∙ sym (take_more xs k (pos 0) lt);
       count = omega (arith, longer, pushed, number);
-      payments = payments ∙ ap (λ (l : List ℤ). l ++ c.uplift-payment.result ∷ []) known.payments ∙ ap (λ (x : ℤ). zip_with less c.args.earned.now done ++ x ∷ []) payment
-          ∙ sym (zip_with-push less c.args.earned.now done best r at) ∙ ap (zip_with less c.args.earned.now) (sym scheduled);
+      payments = payments ∙ ap (λ (l : List ℤ). l ++ c.uplift-payment.result ∷ []) known.payments ∙
+          ap (λ (x : ℤ). zip_with less c.args.earned.now done ++ x ∷ []) payment
+          ∙ sym (zip_with-push less c.args.earned.now done best r at) ∙
+          ap (zip_with less c.args.earned.now) (sym scheduled);
       total = omega (arith, ints, sum, so_far, totals);
-      limit = record { at_least = omega (arith, ints, sum, low, payment_low); at_most = omega (arith, ints, sum, high, payment_high) };
+      limit = record {
+        at_least = omega (arith, ints, sum, low, payment_low);
+        at_most =
+            omega (arith, ints, sum, high, payment_high);
+      };
       scheduled_room = omega (arith, room, spare);
       payments_room = omega (arith, payments_room, payments_spare);
     }
@@ -128,7 +148,8 @@ returns-clause-settled c =
     let xs = earned_in m ps (prices_of c.args.prices.now) in
     let known = c.loop-number.invariant in
     let count = units_earn (goal.at.returns-clause-settled c).After-units_are_numbered in
-    let last = earned_length m ps (prices_of c.args.prices.now) (c.units_are_numbered.ensures m) (c.feasible_plans_have_shape.ensures m ps c.requires.feasible) in
+    let last = earned_length m ps (prices_of c.args.prices.now) (c.units_are_numbered.ensures m)
+    (c.feasible_plans_have_shape.ensures m ps c.requires.feasible) in
     let test = c.loop-number-test.false in
     let f : FitsSigned w128 c.surplus_of-into.result = search rules in
     record {

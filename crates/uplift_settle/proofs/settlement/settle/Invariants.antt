@@ -1,9 +1,11 @@
-use Rattle.uplift_settle.proofs.Common.{◌≡◌, ◌+◌, ◌*◌, ℤ, pos, neg_ℤ, ◌-ℤ◌, length, take, unit_count, IsFrom, market_of, schedules_of, prices_of, total, zip_with, earned_in}
+use Rattle.uplift_settle.proofs.Common.{◌≡◌, ◌+◌, ◌*◌, ℤ, pos, neg_ℤ, ◌-ℤ◌, length, take, unit_count, IsFrom, market_of}
+use Rattle.uplift_settle.proofs.Common.{schedules_of, prices_of, total, zip_with, earned_in}
 use Rattle.uplift_settle.proofs.settlement.settle.Given as goal
 
 abbrev pub invariant-loop-number : goal.invariant-loop-number
 invariant-loop-number l = record {
-  scheduled : l.into.scheduled.items ≡ take l.number (earned_in (market_of l.case) (schedules_of l.plan) (prices_of l.prices));
+  scheduled : l.into.scheduled.items ≡ take l.number
+      (earned_in (market_of l.case) (schedules_of l.plan) (prices_of l.prices));
   count : length l.into.scheduled.items ≡ l.number;
   payments : l.into.payments.items ≡ zip_with (λ (e s : ℤ). e -ℤ s) l.earned l.into.scheduled.items;
   total : l.into.total ≡ total l.into.payments.items;

@@ -7,13 +7,16 @@ invariant_of-result-clause-some c = c.units_can_answer.ensures (market_of c.args
 
 pub invariant_of-result-clause-kept : goal.invariant_of-result-clause-kept
 invariant_of-result-clause-kept c =
-    starts (market_of c.args.case.now) (prices_of c.in_ok-prices.prices) c.in_ok-numbers.numbers.items c.in_ok-sums.sums c.args.case.now.periods c.args.case.now.periods
+    starts (market_of c.args.case.now) (prices_of c.in_ok-prices.prices) c.in_ok-numbers.numbers.items c.in_ok-sums.sums
+    c.args.case.now.periods c.args.case.now.periods
     c.in_ok-numbers.ensures.empty c.in_ok-sums.ensures.earned c.in_ok-sums.ensures.supply c.in_ok-sums.ensures.reserve
 
 pub invariant_of-result-clause-within : goal.invariant_of-result-clause-within
 invariant_of-result-clause-within c =
-    starts_within c.args.case.now.periods c.in_ok-numbers.numbers.items c.in_ok-sums.sums c.args.case.now.periods c.args.case.now.periods
-    c.in_ok-numbers.ensures.empty refl refl c.in_ok-sums.ensures.earned c.in_ok-sums.ensures.supply c.in_ok-sums.ensures.reserve
+    starts_within c.args.case.now.periods c.in_ok-numbers.numbers.items c.in_ok-sums.sums c.args.case.now.periods
+    c.args.case.now.periods
+    c.in_ok-numbers.ensures.empty refl refl c.in_ok-sums.ensures.earned c.in_ok-sums.ensures.supply
+    c.in_ok-sums.ensures.reserve
 
 pub invariant_of-result-clause-horizon : goal.invariant_of-result-clause-horizon
 invariant_of-result-clause-horizon c = ap length c.in_ok-prices.ensures.energy ∙ length-replicate _ _

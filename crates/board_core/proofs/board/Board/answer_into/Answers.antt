@@ -1,4 +1,5 @@
-use Rattle.board_core.proofs.Common.{◌≤◌, ◌<◌, ℕ, length, get_or, sym, ap, ◌∙◌, subst, unit_count, Content, no_answer, own_rows, kept_answer, task_number, events_of, setup_of, answer_kept, answers_kept}
+use Rattle.board_core.proofs.Common.{◌≤◌, ◌<◌, ℕ, length, get_or, sym, ap, ◌∙◌, subst, unit_count, Content, no_answer}
+use Rattle.board_core.proofs.Common.{own_rows, kept_answer, task_number, events_of, setup_of, answer_kept, answers_kept}
 use Rattle.board_core.proofs.Lemmas.{kept_inside, kept_is, is_inside, kept_at}
 use Rattle.board_core.proofs.board.Board.answer_into.Goals as goal
 
@@ -9,8 +10,12 @@ take-requires-clause-place c =
     let h = events_of (unit_count b.market) (answers_kept s.store) s.lists.history.items in
     let last = subst (λ (v : Content). c.args.proposal ≤ length (own_rows v)) (sym c.self.view_is) c.requires.last in
     let unit = subst (λ (v : Content). c.args.unit < unit_count v.setup.market) (sym c.self.view_is) c.requires.unit in
-    let i = c.task_number.ensures ∙ ap (λ (m : ℕ). task_number m c.args.proposal c.args.unit) c.unit_count.ensures.value in
-    is_inside s.store c.task_number.result (subst (λ (j : ℕ). j < length (answers_kept s.store)) (sym i) (kept_inside b h _ s.ledger c.self.invariant.0 (c.board_laws.ensures.of b) c.args.proposal c.args.unit c.requires.first last unit))
+    let i = c.task_number.ensures ∙ ap (λ (m : ℕ). task_number m c.args.proposal c.args.unit)
+    c.unit_count.ensures.value in
+    is_inside s.store c.task_number.result
+    (subst (λ (j : ℕ). j < length (answers_kept s.store)) (sym i)
+    (kept_inside b h _ s.ledger c.self.invariant.0 (c.board_laws.ensures.of b) c.args.proposal c.args.unit
+    c.requires.first last unit))
 
 pub returns-clause-answer : goal.returns-clause-answer
 returns-clause-answer c =
@@ -19,11 +24,17 @@ returns-clause-answer c =
     let h = events_of (unit_count b.market) (answers_kept s.store) s.lists.history.items in
     let last = subst (λ (v : Content). c.args.proposal ≤ length (own_rows v)) (sym c.self.view_is) c.requires.last in
     let unit = subst (λ (v : Content). c.args.unit < unit_count v.setup.market) (sym c.self.view_is) c.requires.unit in
-    let i = c.task_number.ensures ∙ ap (λ (m : ℕ). task_number m c.args.proposal c.args.unit) c.unit_count.ensures.value in
-    let inside = subst (λ (j : ℕ). j < length (answers_kept s.store)) (sym i) (kept_inside b h _ s.ledger c.self.invariant.0 (c.board_laws.ensures.of b) c.args.proposal c.args.unit c.requires.first last unit) in
+    let i = c.task_number.ensures ∙ ap (λ (m : ℕ). task_number m c.args.proposal c.args.unit)
+    c.unit_count.ensures.value in
+    let inside = subst (λ (j : ℕ). j < length (answers_kept s.store)) (sym i)
+    (kept_inside b h _ s.ledger c.self.invariant.0 (c.board_laws.ensures.of b) c.args.proposal c.args.unit
+    c.requires.first last unit) in
     ap answer_kept c.take.ensures.answer ∙ kept_at s.store c.task_number.result inside
-    ∙ ap (λ (j : ℕ). get_or (answers_kept s.store) j no_answer) i ∙ kept_is b h _ s.ledger c.self.invariant.0 (c.board_laws.ensures.of b) c.args.proposal c.args.unit c.requires.first last unit
+    ∙ ap (λ (j : ℕ). get_or (answers_kept s.store) j no_answer) i ∙
+    kept_is b h _ s.ledger c.self.invariant.0 (c.board_laws.ensures.of b) c.args.proposal c.args.unit
+    c.requires.first last unit
     ∙ ap (λ (v : Content). kept_answer v c.args.proposal c.args.unit) c.self.view_is
 
 pub returns-clause-horizon : goal.returns-clause-horizon
-returns-clause-horizon c = c.take.ensures.horizon ∙ c.self.invariant.1.store ∙ ap (λ (v : Content). v.setup.market.periods) c.self.view_is
+returns-clause-horizon c = c.take.ensures.horizon ∙ c.self.invariant.1.store ∙
+    ap (λ (v : Content). v.setup.market.periods) c.self.view_is

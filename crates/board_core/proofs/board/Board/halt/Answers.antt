@@ -1,7 +1,11 @@
-use Rattle.board_core.proofs.Common.{◌≡◌, ◌<◌, ◌++◌, ◌∷◌, [], List, length, get_or, subst, sym, ap, ◌∙◌, arith, Bool, true, false, cond, length-append, get_or_default, list_any, Answer, Content, after_halt, Event, Stopped, is_halt_of, Entry, unit_count, events_of, Lists, IsBoard, Setup}
+use Rattle.board_core.proofs.Common.{◌≡◌, ◌<◌, ◌++◌, ◌∷◌, [], List, length, get_or, subst, sym, ap, ◌∙◌, arith, Bool}
+use Rattle.board_core.proofs.Common.{true, false, cond, length-append, get_or_default, list_any, Answer, Content}
+use Rattle.board_core.proofs.Common.{after_halt, Event, Stopped, is_halt_of, Entry, unit_count, events_of, Lists}
+use Rattle.board_core.proofs.Common.{IsBoard, Setup}
 use Rattle.board_history.specs.declared.entries.Call.TheVariants as calls
 use Rattle.board_history.specs.declared.entries.Reply.TheVariants as replies
-use Rattle.board_core.proofs.Lemmas.{content, events_more, entries_more, stopped, not_yet, one_less, halted_lists, setup_in, events_in, lists_in}
+use Rattle.board_core.proofs.Lemmas.{content, events_more, entries_more, stopped, not_yet, one_less, halted_lists}
+use Rattle.board_core.proofs.Lemmas.{setup_in, events_in, lists_in}
 use Rattle.board_core.proofs.board.Board.halt.Goals as goal
 use Rattle.board_core.proofs.board.Board.halt.Goals.{After-index}
 
@@ -27,16 +31,21 @@ module _ (c : After-index) where
   abbrev entry : Entry
   entry = record { caller = c.args.caller; call = calls.Halt; proposal = 0; unit = 0; reply = replies.Stopped }
 
-  events_are : (entries : List Entry) → entries ≡ c.self.inside.lists.history.items ++ entry ∷ [] → events_of (unit_count b.market) x.kept entries ≡ h ++ Stopped c.args.caller ∷ []
-  events_are entries longer = events_more (unit_count b.market) x.kept c.self.inside.lists.history.items entries entry longer
+  events_are : (entries : List Entry) → entries ≡ c.self.inside.lists.history.items ++ entry ∷ [] →
+      events_of (unit_count b.market) x.kept entries ≡ h ++ Stopped c.args.caller ∷ []
+  events_are entries longer =
+      events_more (unit_count b.market) x.kept c.self.inside.lists.history.items entries entry longer
 
-  followed : (t : Bool) → list_any (is_halt_of c.args.caller) h ≡ t → content b (cond t h (h ++ Stopped c.args.caller ∷ [])) ≡ after_halt c.args.self.now c.args.caller
-  followed t e = sym (ap (λ (z : Bool). content b (cond z h (h ++ Stopped c.args.caller ∷ []))) e) ∙ ap (λ (v : Content). after_halt v c.args.caller) c.self.view_is
+  followed : (t : Bool) → list_any (is_halt_of c.args.caller) h ≡ t →
+      content b (cond t h (h ++ Stopped c.args.caller ∷ [])) ≡ after_halt c.args.self.now c.args.caller
+  followed t e = sym (ap (λ (z : Bool). content b (cond z h (h ++ Stopped c.args.caller ∷ []))) e) ∙
+      ap (λ (v : Content). after_halt v c.args.caller) c.self.view_is
 
 pub returns-then-index : goal.returns-then-index
 returns-then-index c =
     let d = (goal.at.returns-then-index c).After-index in
-    sym c.self.view_is ∙ followed d true (sym (c.self.invariant.0.halts.each c.args.caller (caller d)) ∙ was d ∙ c.if-index.true)
+    sym c.self.view_is ∙
+    followed d true (sym (c.self.invariant.0.halts.each c.args.caller (caller d)) ∙ was d ∙ c.if-index.true)
 
 pub invariant_of-self : goal.invariant_of-self
 invariant_of-self c =
@@ -51,11 +60,20 @@ invariant_of-self c =
     let less = one_less s.lists.halted.items k (place d) first in
     let room = K.room in
     let long = ap (λ (xs : List Entry). length xs) history in (
-      subst (λ (z : List (Event Answer)). IsBoard (b d) z (halted_lists (x d) k) s.ledger) (sym events) (stopped (b d) (h d) (x d) s.ledger c.self.invariant.0 k (caller d) first c.board_laws.ensures),
+      subst (λ (z : List (Event Answer)). IsBoard (b d) z (halted_lists (x d) k) s.ledger) (sym events)
+          (stopped (b d) (h d) (x d) s.ledger c.self.invariant.0 k (caller d) first c.board_laws.ensures),
       record {
-        room = omega (arith, room, less, long, length-append s.lists.history.items (entry d ∷ []), c.push_reserved.ensures.capacity);
+        room = omega (
+          arith,
+          room,
+          less,
+          long,
+          length-append s.lists.history.items (entry d ∷ []),
+          c.push_reserved.ensures.capacity,
+        );
         takers_room = K.takers_room;
-        entries_are = entries_more (h d) (events_of (unit_count (b d).market) (x d).kept c.push_reserved.new.self.items) (Stopped k) s.lists.history.items c.push_reserved.new.self.items events history K.entries_are;
+        entries_are = entries_more (h d) (events_of (unit_count (b d).market) (x d).kept c.push_reserved.new.self.items)
+            (Stopped k) s.lists.history.items c.push_reserved.new.self.items events history K.entries_are;
         store = K.store;
         left = K.left;
         next = K.next;

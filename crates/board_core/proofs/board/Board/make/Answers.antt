@@ -1,4 +1,8 @@
-use Rattle.board_core.proofs.Common.{◌≡◌, ◌≤◌, ℕ, ◌*◌, Bool, false, List, [], length, min, sym, ap, ◌∙◌, subst, arith, le-mul_of_pos_right, MOST_TASKS, MOST_WORK, Setup, IsSetup, length-map-range_with_len, replicate, Answer, entries_of, Event, Entry, unit_count, start_prices, setup_of, events_of, blank_ledger, with_openings, Lists, unset, task_count, IsBoard, answers_kept}
+use Rattle.board_core.proofs.Common.{◌≡◌, ◌≤◌, ℕ, ◌*◌, Bool, false, List, [], length, min, sym, ap, ◌∙◌, subst, arith}
+use Rattle.board_core.proofs.Common.{le-mul_of_pos_right, MOST_TASKS, MOST_WORK, Setup, IsSetup}
+use Rattle.board_core.proofs.Common.{length-map-range_with_len, replicate, Answer, entries_of, Event, Entry, unit_count}
+use Rattle.board_core.proofs.Common.{start_prices, setup_of, events_of, blank_ledger, with_openings, Lists, unset}
+use Rattle.board_core.proofs.Common.{task_count, IsBoard, answers_kept}
 use Rattle.board_core.proofs.Lemmas.{as_many, IsOpened, opened}
 use Rattle.board_core.proofs.Starts.{starts, all_unset}
 use Rattle.board_core.proofs.board.Board.make.Goals as goal
@@ -11,7 +15,8 @@ few : (b : Setup) (S : IsSetup b) (units : ℕ) → units ≡ unit_count b.marke
 few b S units is = rw is (within (b.budget * unit_count b.market) b.market.periods S.market.horizon.at_least S.size)
 
 pub no_events-requires-clause-tasks : goal.no_events-requires-clause-tasks
-no_events-requires-clause-tasks c = few (setup_of c.args.terms) c.requires c.unit_count.result c.unit_count.ensures.value
+no_events-requires-clause-tasks c =
+    few (setup_of c.args.terms) c.requires c.unit_count.result c.unit_count.ensures.value
 
 pub make-requires-2-clause-few : goal.make-requires-2-clause-few
 make-requires-2-clause-few c = few (setup_of c.args.terms) c.requires c.unit_count.result c.unit_count.ensures.value
@@ -31,24 +36,40 @@ invariant_of-result c =
     let long : length start ≡ m.periods = length-map-range_with_len _ 0 m.periods in
     let l = c.in_ok-ledger.ledger in
     let is : l ≡ with_openings start (blank_ledger (length start) b.budget) (min b.budget b.ahead) =
-    c.in_ok-ledger.ensures.ledger ∙ ap (λ (n : ℕ). with_openings start (blank_ledger n b.budget) (min b.budget b.ahead)) (sym long) in
-    let O = subst (IsOpened start b.budget (min b.budget b.ahead)) (sym is) (opened start b.budget (min b.budget b.ahead) (omega arith)) in
+    c.in_ok-ledger.ensures.ledger ∙ ap (λ (n : ℕ). with_openings start (blank_ledger n b.budget) (min b.budget b.ahead))
+    (sym long) in
+    let O = subst (IsOpened start b.budget (min b.budget b.ahead)) (sym is)
+    (opened start b.budget (min b.budget b.ahead) (omega arith)) in
     let x = c.in_ok-lists.lists in
     let E = c.in_ok-lists.ensures in
-    let tasks : b.budget * c.unit_count.result ≡ task_count b = ap (λ (n : ℕ). b.budget * n) c.unit_count.ensures.value in
+    let tasks : b.budget * c.unit_count.result ≡ task_count b =
+    ap (λ (n : ℕ). b.budget * n) c.unit_count.ensures.value in
     let kept = answers_kept c.in_ok-store.store in
-    let new = starts b (c.board_laws.ensures.of b) c.requires l O kept (as_many c.in_ok-store.store ∙ c.in_ok-store.ensures.count ∙ tasks) in
+    let new = starts b (c.board_laws.ensures.of b) c.requires l O kept
+    (as_many c.in_ok-store.store ∙ c.in_ok-store.ensures.count ∙ tasks) in
     let e1 : x.marks.items ≡ replicate (task_count b) false = E.marks ∙ ap (λ (n : ℕ). replicate n false) tasks in
     let e2 : x.counts.items ≡ replicate b.budget 0 = E.counts in
     let e3 : x.halted.items ≡ replicate b.callers false = E.halted in
     let e4 : x.takers.items ≡ [] = E.takers in
     let e5 : events_of units kept x.history.items ≡ [] = ap (events_of units kept) E.history in
-    let lists : (takers : List ℕ) (marks : List Bool) (counts : List ℕ) (halted : List Bool) → Lists = λ takers marks counts halted. record { takers = takers; marks = marks; kept = kept; counts = counts; halted = halted; any_halt = false } in
-    let t1 = subst (λ (xs : List Bool). IsBoard b [] (lists [] xs (replicate b.budget 0) (replicate b.callers false)) l) (sym e1) new in
-    let t2 = subst (λ (xs : List ℕ). IsBoard b [] (lists [] x.marks.items xs (replicate b.callers false)) l) (sym e2) t1 in
+    let lists : (takers : List ℕ) (marks : List Bool) (counts : List ℕ) (halted : List Bool) → Lists =
+    λ takers marks counts halted. record {
+      takers = takers;
+      marks = marks;
+      kept = kept;
+      counts = counts;
+      halted = halted;
+      any_halt = false;
+    } in
+    let t1 = subst (λ (xs : List Bool). IsBoard b [] (lists [] xs (replicate b.budget 0) (replicate b.callers false)) l)
+    (sym e1) new in
+    let t2 = subst (λ (xs : List ℕ). IsBoard b [] (lists [] x.marks.items xs (replicate b.callers false)) l) (sym e2)
+    t1 in
     let t3 = subst (λ (xs : List Bool). IsBoard b [] (lists [] x.marks.items x.counts.items xs) l) (sym e3) t2 in
-    let t4 = subst (λ (xs : List ℕ). IsBoard b [] (lists xs x.marks.items x.counts.items x.halted.items) l) (sym e4) t3 in
-    let t5 = subst (λ (xs : List (Event Answer)). IsBoard b xs (lists x.takers.items x.marks.items x.counts.items x.halted.items) l) (sym e5) t4 in
+    let t4 = subst (λ (xs : List ℕ). IsBoard b [] (lists xs x.marks.items x.counts.items x.halted.items) l) (sym e4)
+    t3 in
+    let t5 = subst (λ (xs : List (Event Answer)). IsBoard b xs
+    (lists x.takers.items x.marks.items x.counts.items x.halted.items) l) (sym e5) t4 in
     let u1 = ap unset e1 ∙ all_unset (task_count b) in
     let u2 = ap unset e3 ∙ all_unset b.callers in
     let l1 = ap (λ (xs : List Entry). length xs) E.history in

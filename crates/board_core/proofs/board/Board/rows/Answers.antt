@@ -1,4 +1,5 @@
-use Rattle.board_core.proofs.Common.{List, length, ap, ◌∙◌, arith, length-map, unit_count, proposal_of, Proposal, own_rows, events_of, setup_of, answers_kept}
+use Rattle.board_core.proofs.Common.{List, length, ap, ◌∙◌, arith, length-map, unit_count, proposal_of, Proposal}
+use Rattle.board_core.proofs.Common.{own_rows, events_of, setup_of, answers_kept}
 use Rattle.board_core.proofs.Lemmas.{rows_few}
 use Rattle.board_core.proofs.board.Board.rows.Goals as goal
 

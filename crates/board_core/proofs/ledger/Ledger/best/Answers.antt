@@ -1,4 +1,5 @@
-use Rattle.board_core.proofs.Common.{◌≤◌, map, take, sym, subst, arith, IsFirstUpTo, values_of, proposal_of, LedgerValue}
+use Rattle.board_core.proofs.Common.{◌≤◌, map, take, sym, subst, arith, IsFirstUpTo, values_of, proposal_of}
+use Rattle.board_core.proofs.Common.{LedgerValue}
 use Rattle.board_core.proofs.Lemmas.{first_of_taken}
 use Rattle.board_core.proofs.ledger.Ledger.best.Goals as goal
 

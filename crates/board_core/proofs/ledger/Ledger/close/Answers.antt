@@ -1,4 +1,6 @@
-use Rattle.board_core.proofs.Common.{rules, ◌≡◌, ◌+◌, ◌<◌, List, length, map, sym, ap, subst, ◌∙◌, FitsSigned, to_z-of_z, w128, slice_index_or, slice_set, proposal_of, Proposal, Row, LedgerValue, with_value, IsFirstUpTo, values_of}
+use Rattle.board_core.proofs.Common.{rules, ◌≡◌, ◌+◌, ◌<◌, List, length, map, sym, ap, subst, ◌∙◌, FitsSigned}
+use Rattle.board_core.proofs.Common.{to_z-of_z, w128, slice_index_or, slice_set, proposal_of, Proposal, Row}
+use Rattle.board_core.proofs.Common.{LedgerValue, with_value, IsFirstUpTo, values_of}
 use Rattle.board_core.proofs.Lemmas.{set_mapped, kept_first}
 use Rattle.board_core.proofs.ledger.Ledger.close.Goals as goal
 
@@ -9,8 +11,11 @@ returns-clause-proposals c =
     let place = subst (λ (v : LedgerValue). v.closed < length v.proposals) (sym c.self.view_is) c.requires in
     let f : FitsSigned w128 c.args.value = search rules in
     let made = simp to_z-of_z at c.set_value.ensures in
-    subst (λ (v : LedgerValue). (d : Proposal) → map proposal_of (slice_set s.proposals.items s.closed c.set_value.new.row) ≡ slice_set v.proposals v.closed (with_value (slice_index_or v.proposals v.closed d) c.args.value)) c.self.view_is
-    (λ d. set_mapped (λ (p : Proposal). with_value p c.args.value) s.proposals.items s.closed r c.set_value.new.row d place c.index_mut.ensures.value made)
+    subst (λ (v : LedgerValue). (d : Proposal) →
+    map proposal_of (slice_set s.proposals.items s.closed c.set_value.new.row) ≡ slice_set v.proposals v.closed
+    (with_value (slice_index_or v.proposals v.closed d) c.args.value)) c.self.view_is
+    (λ d. set_mapped (λ (p : Proposal). with_value p c.args.value) s.proposals.items s.closed r c.set_value.new.row d
+    place c.index_mut.ensures.value made)
 
 pub greatest_with-best-requires-clause-best : goal.greatest_with-best-requires-clause-best
 greatest_with-best-requires-clause-best c = λ some.
@@ -20,9 +25,15 @@ greatest_with-best-requires-clause-best c = λ some.
     let f : FitsSigned w128 c.args.value = search rules in
     let made = simp to_z-of_z at c.set_value.ensures in
     let d = proposal_of r in
-    let set_is = set_mapped (λ (p : Proposal). with_value p c.args.value) s.proposals.items s.closed r c.set_value.new.row d place c.index_mut.ensures.value made in
-    subst (λ ps. IsFirstUpTo (values_of ps) s.closed s.best) (sym (ap (λ (xs : List Row). map proposal_of xs) c.deref.ensures.value ∙ set_is))
-    (kept_first (map proposal_of s.proposals.items) s.closed s.best (with_value (slice_index_or (map proposal_of s.proposals.items) s.closed d) c.args.value) (c.self.invariant some))
+    let set_is = set_mapped (λ (p : Proposal). with_value p c.args.value) s.proposals.items s.closed r
+    c.set_value.new.row d place c.index_mut.ensures.value made in
+    subst (λ ps. IsFirstUpTo (values_of ps) s.closed s.best)
+    (sym (ap (λ (xs : List Row). map proposal_of xs) c.deref.ensures.value ∙ set_is))
+    (kept_first (map proposal_of s.proposals.items) s.closed s.best
+    (with_value (slice_index_or (map proposal_of s.proposals.items) s.closed d) c.args.value)
+    (c.self.invariant some))
 
 pub invariant_of-self : goal.invariant_of-self
-invariant_of-self c = λ _. subst (λ (xs : List Row). IsFirstUpTo (values_of (map proposal_of xs)) (c.self.inside.closed + 1) c.greatest_with-best.result) c.deref.ensures.value c.greatest_with-best.ensures
+invariant_of-self c =
+    λ _. subst (λ (xs : List Row). IsFirstUpTo (values_of (map proposal_of xs)) (c.self.inside.closed + 1)
+    c.greatest_with-best.result) c.deref.ensures.value c.greatest_with-best.ensures

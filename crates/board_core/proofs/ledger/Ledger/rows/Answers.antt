@@ -5,5 +5,6 @@ pub returns : goal.returns
 returns c =
     let s = c.self.inside in
     let e : map proposal_of (take s.closed c.deref.result.now) ≡ take s.closed (map proposal_of s.proposals.items) =
-    ap (λ (xs : List Row). map proposal_of (take s.closed xs)) c.deref.ensures.value ∙ sym (take-map proposal_of s.closed s.proposals.items) in
+    ap (λ (xs : List Row). map proposal_of (take s.closed xs)) c.deref.ensures.value ∙
+    sym (take-map proposal_of s.closed s.proposals.items) in
     e ∙ ap (λ (v : LedgerValue). take v.closed v.proposals) c.self.view_is

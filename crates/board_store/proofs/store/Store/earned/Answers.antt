@@ -1,4 +1,5 @@
-use Rattle.board_store.proofs.Common.{rules, pos, get_or, sym, ap, ◌∙◌, arith, w64, FitsSigned, to_z-of_z, get_or_read, Kept, Answers, nothing, least_left}
+use Rattle.board_store.proofs.Common.{rules, pos, get_or, sym, ap, ◌∙◌, arith, w64, FitsSigned, to_z-of_z, get_or_read}
+use Rattle.board_store.proofs.Common.{Kept, Answers, nothing, least_left}
 use Rattle.board_store.proofs.Answers.{place_of, answer_at_place}
 use Rattle.board_store.proofs.store.Store.earned.Goals as goal
 

@@ -1,4 +1,5 @@
-use Rattle.board_store.proofs.Common.{rules, ℕ, ◌<◌, ℤ, Bool, List, length, ap, ◌∙◌, arith, w64, FitsSigned, set, to_z-of_z, cast_signed, cast_unsigned, Answers, kept_of, answers_in, least_left}
+use Rattle.board_store.proofs.Common.{rules, ℕ, ◌<◌, ℤ, Bool, List, length, ap, ◌∙◌, arith, w64, FitsSigned, set}
+use Rattle.board_store.proofs.Common.{to_z-of_z, cast_signed, cast_unsigned, Answers, kept_of, answers_in, least_left}
 use Rattle.board_store.proofs.Answers.{place_of, put_answer}
 use Rattle.board_store.proofs.store.Store.put.Goals as goal
 use Rattle.board_store.proofs.store.Store.put.Goals.{After-self}

@@ -1,4 +1,6 @@
-use Rattle.board_store.proofs.Common.{rules, ◌<◌, pos, [], length, get_or, sym, ap, ◌∙◌, arith, w64, FitsSigned, to_z-of_z, get_or_read, cast_signed, cast_unsigned, int_at, Answers, nothing, least_left}
+use Rattle.board_store.proofs.Common.{rules, ◌<◌, pos, [], length, get_or, sym, ap, ◌∙◌, arith, w64, FitsSigned}
+use Rattle.board_store.proofs.Common.{to_z-of_z, get_or_read, cast_signed, cast_unsigned, int_at, Answers, nothing}
+use Rattle.board_store.proofs.Common.{least_left}
 use Rattle.board_store.proofs.Answers.{place_of, answer_at_place, same_answer}
 use Rattle.board_store.proofs.store.Store.take.Goals as goal
 use Rattle.board_store.proofs.store.Store.take.Goals.{After-self}

@@ -6,14 +6,16 @@ pub line_step-requires-clause-breaks : goal.line_step-requires-clause-breaks
 line_step-requires-clause-breaks c =
     let room = c.requires.room in
     let fits : c.args.used ≤ length c.args.self.now.work.items = omega (arith, room) in
-    breaks c.knots_decide.ensures.same c.args.self.now.work.items c.deref_mut.result.now c.args.used fits c.deref_mut.ensures.value c.requires.breaks
+    breaks c.knots_decide.ensures.same c.args.self.now.work.items c.deref_mut.result.now c.args.used fits
+    c.deref_mut.ensures.value c.requires.breaks
 
 pub line_step-requires-clause-fits : goal.line_step-requires-clause-fits
 line_step-requires-clause-fits c =
     let room = c.requires.room in
     let fits : c.args.used ≤ length c.args.self.now.work.items = omega (arith, room) in
     let e-slope : to_z w64 (of_z w64 c.args.slope) ≡ c.args.slope = to_z-of_z w64 _ c.ranges.slope in
-    rw e-slope (can_add c.knots_decide.ensures.same c.args.self.now.work.items c.deref_mut.result.now c.args.used fits c.deref_mut.ensures.value c.requires.breaks (λ (x : ℤ). c.args.slope *ℤ x) c.requires.fits)
+    rw e-slope (can_add c.knots_decide.ensures.same c.args.self.now.work.items c.deref_mut.result.now c.args.used fits
+    c.deref_mut.ensures.value c.requires.breaks (λ (x : ℤ). c.args.slope *ℤ x) c.requires.fits)
 
 pub returns-clause-sum : goal.returns-clause-sum
 returns-clause-sum c =
@@ -25,8 +27,10 @@ returns-clause-sum c =
     let most : c.args.used ≤ length k2 = omega (arith, room, long, whole) in
     let e-slope : to_z w64 (of_z w64 c.args.slope) ≡ c.args.slope = to_z-of_z w64 _ c.ranges.slope in
     rw (written k2 c.args.self.now.work.items c.args.self.now.work.len long)
-    (sum c.knots_decide.ensures.same c.args.self.now.work.items c.deref_mut.result.now c.args.used fits c.deref_mut.ensures.value c.requires.breaks
-    k2 c.args.used most c.line_step.ensures.breaks c.effects_are_of_values.ensures.sum (λ (x : ℤ). c.args.slope *ℤ x) (rw e-slope at c.line_step.ensures.sum))
+    (sum c.knots_decide.ensures.same c.args.self.now.work.items c.deref_mut.result.now c.args.used fits
+    c.deref_mut.ensures.value c.requires.breaks
+    k2 c.args.used most c.line_step.ensures.breaks c.effects_are_of_values.ensures.sum (λ (x : ℤ). c.args.slope *ℤ x)
+    (rw e-slope at c.line_step.ensures.sum))
 
 pub returns-clause-breaks : goal.returns-clause-breaks
 returns-clause-breaks c =
@@ -37,5 +41,6 @@ returns-clause-breaks c =
     let whole = c.args.self.now.work.ok.0 in
     let most : c.args.used ≤ length k2 = omega (arith, room, long, whole) in
     rw (written k2 c.args.self.now.work.items c.args.self.now.work.len long)
-    (left_list c.knots_decide.ensures.same c.args.self.now.work.items c.deref_mut.result.now c.args.used fits c.deref_mut.ensures.value c.requires.breaks
+    (left_list c.knots_decide.ensures.same c.args.self.now.work.items c.deref_mut.result.now c.args.used fits
+    c.deref_mut.ensures.value c.requires.breaks
     k2 c.args.used most c.line_step.ensures.breaks)

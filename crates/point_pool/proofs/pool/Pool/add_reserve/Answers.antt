@@ -6,7 +6,8 @@ pub kink_step-requires-clause-breaks : goal.kink_step-requires-clause-breaks
 kink_step-requires-clause-breaks c =
     let room = c.requires.room in
     let fits : c.args.used ≤ length c.args.self.now.work.items = omega (arith, room) in
-    breaks c.knots_decide.ensures.same c.args.self.now.work.items c.deref_mut.result.now c.args.used fits c.deref_mut.ensures.value c.requires.breaks
+    breaks c.knots_decide.ensures.same c.args.self.now.work.items c.deref_mut.result.now c.args.used fits
+    c.deref_mut.ensures.value c.requires.breaks
 
 pub kink_step-requires-clause-fits : goal.kink_step-requires-clause-fits
 kink_step-requires-clause-fits c =
@@ -15,7 +16,9 @@ kink_step-requires-clause-fits c =
     let e-mu : to_z w64 (of_z w64 c.args.mu) ≡ c.args.mu = to_z-of_z w64 _ c.ranges.mu in
     let e-cap : to_z w64 (of_z w64 c.args.cap) ≡ c.args.cap = to_z-of_z w64 _ c.ranges.cap in
     let e-up : to_z w64 (of_z w64 c.args.up) ≡ c.args.up = to_z-of_z w64 _ c.ranges.up in
-    rw (e-mu, e-cap, e-up) (can_add c.knots_decide.ensures.same c.args.self.now.work.items c.deref_mut.result.now c.args.used fits c.deref_mut.ensures.value c.requires.breaks (reserve_term c.args.mu c.args.cap c.args.up) c.requires.fits)
+    rw (e-mu, e-cap, e-up) (can_add c.knots_decide.ensures.same c.args.self.now.work.items c.deref_mut.result.now
+    c.args.used fits c.deref_mut.ensures.value c.requires.breaks (reserve_term c.args.mu c.args.cap c.args.up)
+    c.requires.fits)
 
 pub returns-clause-sum : goal.returns-clause-sum
 returns-clause-sum c =
@@ -30,8 +33,10 @@ returns-clause-sum c =
     let e-cap : to_z w64 (of_z w64 c.args.cap) ≡ c.args.cap = to_z-of_z w64 _ c.ranges.cap in
     let e-up : to_z w64 (of_z w64 c.args.up) ≡ c.args.up = to_z-of_z w64 _ c.ranges.up in
     rw (written k2 c.args.self.now.work.items c.args.self.now.work.len long)
-    (sum c.knots_decide.ensures.same c.args.self.now.work.items c.deref_mut.result.now c.args.used fits c.deref_mut.ensures.value c.requires.breaks
-    k2 c.kink_step.result most c.kink_step.ensures.breaks c.effects_are_of_values.ensures.sum (reserve_term c.args.mu c.args.cap c.args.up) (rw (e-mu, e-cap, e-up) at c.kink_step.ensures.sum))
+    (sum c.knots_decide.ensures.same c.args.self.now.work.items c.deref_mut.result.now c.args.used fits
+    c.deref_mut.ensures.value c.requires.breaks
+    k2 c.kink_step.result most c.kink_step.ensures.breaks c.effects_are_of_values.ensures.sum
+    (reserve_term c.args.mu c.args.cap c.args.up) (rw (e-mu, e-cap, e-up) at c.kink_step.ensures.sum))
 
 pub returns-clause-breaks : goal.returns-clause-breaks
 returns-clause-breaks c =
@@ -43,5 +48,6 @@ returns-clause-breaks c =
     let charge = c.kink_step.ensures.charge in
     let most : c.kink_step.result ≤ length k2 = omega (arith, room, long, whole, charge) in
     rw (written k2 c.args.self.now.work.items c.args.self.now.work.len long)
-    (left_list c.knots_decide.ensures.same c.args.self.now.work.items c.deref_mut.result.now c.args.used fits c.deref_mut.ensures.value c.requires.breaks
+    (left_list c.knots_decide.ensures.same c.args.self.now.work.items c.deref_mut.result.now c.args.used fits
+    c.deref_mut.ensures.value c.requires.breaks
     k2 c.kink_step.result most c.kink_step.ensures.breaks)

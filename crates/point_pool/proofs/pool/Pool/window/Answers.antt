@@ -6,7 +6,8 @@ pub window_step-requires-clause-breaks : goal.window_step-requires-clause-breaks
 window_step-requires-clause-breaks c =
     let room = c.requires.room in
     let fits : c.args.used ≤ length c.args.self.now.work.items = omega (arith, room) in
-    breaks c.knots_decide.ensures.same c.args.self.now.work.items c.deref_mut.result.now c.args.used fits c.deref_mut.ensures.value c.requires.breaks
+    breaks c.knots_decide.ensures.same c.args.self.now.work.items c.deref_mut.result.now c.args.used fits
+    c.deref_mut.ensures.value c.requires.breaks
 
 pub returns-clause-window : goal.returns-clause-window
 returns-clause-window c =
@@ -22,8 +23,10 @@ returns-clause-window c =
     let e-lo : to_z w64 (of_z w64 c.args.lo) ≡ c.args.lo = to_z-of_z w64 _ c.ranges.lo in
     let e-hi : to_z w64 (of_z w64 c.args.hi) ≡ c.args.hi = to_z-of_z w64 _ c.ranges.hi in
     rw (written k2 c.args.self.now.work.items c.args.self.now.work.len long)
-    (moved c.knots_decide.ensures.same c.args.self.now.work.items c.deref_mut.result.now c.args.used fits c.deref_mut.ensures.value c.requires.breaks
-    k2 c.window_step.result most c.window_step.ensures.breaks c.effects_are_of_values.ensures.window c.args.up c.args.down c.args.lo c.args.hi (rw (e-up, e-down, e-lo, e-hi) at c.window_step.ensures.window))
+    (moved c.knots_decide.ensures.same c.args.self.now.work.items c.deref_mut.result.now c.args.used fits
+    c.deref_mut.ensures.value c.requires.breaks
+    k2 c.window_step.result most c.window_step.ensures.breaks c.effects_are_of_values.ensures.window c.args.up
+    c.args.down c.args.lo c.args.hi (rw (e-up, e-down, e-lo, e-hi) at c.window_step.ensures.window))
 
 pub returns-clause-breaks : goal.returns-clause-breaks
 returns-clause-breaks c =
@@ -35,5 +38,6 @@ returns-clause-breaks c =
     let charge = c.window_step.ensures.charge in
     let most : c.window_step.result ≤ length k2 = omega (arith, room, long, whole, charge) in
     rw (written k2 c.args.self.now.work.items c.args.self.now.work.len long)
-    (left_list c.knots_decide.ensures.same c.args.self.now.work.items c.deref_mut.result.now c.args.used fits c.deref_mut.ensures.value c.requires.breaks
+    (left_list c.knots_decide.ensures.same c.args.self.now.work.items c.deref_mut.result.now c.args.used fits
+    c.deref_mut.ensures.value c.requires.breaks
     k2 c.window_step.result most c.window_step.ensures.breaks)

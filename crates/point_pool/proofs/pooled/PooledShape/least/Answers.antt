@@ -11,4 +11,5 @@ returns c =
     let fits-at : FitsSigned w64 q.at = search rules in
     let e-value : to_z w64 (of_z w64 q.value) ≡ q.value = to_z-of_z w64 _ fits-value in
     let e-at : to_z w64 (of_z w64 q.at) ≡ q.at = to_z-of_z w64 _ fits-at in
-    rw (e-value, e-at) (IsLeast-turn (knots_of home s) s.count (length-knots home.slots.items s.head s.count) c.requires.breaks q c.lowest-lowest.ensures c.turn_is_least.ensures.least)
+    rw (e-value, e-at) (IsLeast-turn (knots_of home s) s.count (length-knots home.slots.items s.head s.count)
+    c.requires.breaks q c.lowest-lowest.ensures c.turn_is_least.ensures.least)

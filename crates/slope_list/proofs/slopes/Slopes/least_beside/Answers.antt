@@ -1,4 +1,5 @@
-use Rattle.slope_list.proofs.Common.{List, MatchOption, None, take, sym, ap, ◌∙◌, subst, rules, with_items_is, places, IsStepped, IsSmall, IsLeast, Table, IsEmpty, table_of, table_after, IsTurn}
+use Rattle.slope_list.proofs.Common.{List, MatchOption, None, take, sym, ap, ◌∙◌, subst, rules, with_items_is, places}
+use Rattle.slope_list.proofs.Common.{IsStepped, IsSmall, IsLeast, Table, IsEmpty, table_of, table_after, IsTurn}
 use Rattle.slope_piece.specs.declared.piece.Piece.{Piece}
 use Rattle.slope_list.proofs.ShownLaws.{none_at, stepped_nothing, lowest_turned}
 use Rattle.slope_list.proofs.slopes.Slopes.least_beside.Goals as goal
@@ -7,8 +8,12 @@ pub returns-in_default-clause-least : goal.returns-in_default-clause-least
 returns-in_default-clause-least c =
     let self = c.args.self.now in
     let nothing : Table = table_after self.pieces.items None in
-    let e = ap (table_after self.pieces.items) c.in_default.is in
-    (nothing, subst (λ (t : Table). IsStepped c.args.step c.args.curve.now t nothing) (sym e) (stepped_nothing c.args.step c.args.curve.now), none_at)
+    let e = ap (table_after self.pieces.items) c.in_default.is in (
+      nothing,
+      subst (λ (t : Table). IsStepped c.args.step c.args.curve.now t nothing) (sym e)
+          (stepped_nothing c.args.step c.args.curve.now),
+      none_at,
+    )
 
 pub slope_step-stepped-requires-clause-small : goal.slope_step-stepped-requires-clause-small
 slope_step-stepped-requires-clause-small c =
@@ -25,9 +30,14 @@ returns-clause-least c =
     let m = c.slope_step-stepped.result.made in
     let out = c.slope_step-stepped.new.out in
     let same = c.deref-2.ensures.value ∙ with_items_is c.lengthen.new.pieces out (search (rules, places)) in
-    let step : IsStepped c.args.step c.args.curve.now before (table_after out m) = rw (c.deref.ensures.value) at c.slope_step-stepped.ensures.stepped in
-    let turn : IsTurn c.args.step before c.slope_step-stepped.result.turn = rw (c.deref.ensures.value) at c.slope_step-stepped.ensures.turn in
-    let least = subst (λ (xs : List Piece). MatchOption c.lowest_of.result (IsEmpty (table_after xs m)) (λ r. IsLeast (table_after xs m) r.value r.at)) same c.lowest_of.ensures.least in
-    lowest_turned c.args.step c.args.curve.now (table_after self.pieces.items self.made) (table_after out m) c.slope_step-stepped.result.turn c.lowest_of.result
-    (subst (λ (t : Table). IsStepped c.args.step c.args.curve.now t (table_after out m)) (sym e) step) least c.lowest_of.ensures.turn
+    let step : IsStepped c.args.step c.args.curve.now before (table_after out m) =
+    rw (c.deref.ensures.value) at c.slope_step-stepped.ensures.stepped in
+    let turn : IsTurn c.args.step before c.slope_step-stepped.result.turn =
+    rw (c.deref.ensures.value) at c.slope_step-stepped.ensures.turn in
+    let least = subst (λ (xs : List Piece). MatchOption c.lowest_of.result (IsEmpty (table_after xs m))
+    (λ r. IsLeast (table_after xs m) r.value r.at)) same c.lowest_of.ensures.least in
+    lowest_turned c.args.step c.args.curve.now (table_after self.pieces.items self.made) (table_after out m)
+    c.slope_step-stepped.result.turn c.lowest_of.result
+    (subst (λ (t : Table). IsStepped c.args.step c.args.curve.now t (table_after out m)) (sym e) step) least
+    c.lowest_of.ensures.turn
     (subst (λ (t : Table). IsTurn c.args.step t c.slope_step-stepped.result.turn) (sym e) turn)

@@ -1,5 +1,7 @@
-use Rattle.text_tokens.proofs.Common.{◌≡◌, true, get_or, is_plain, ℕ, ◌+◌, ◌++◌, List, drop, take, ap₂, sym, ap, ◌∙◌, append_assoc, arith, option_map, string_from, after_piece, piece_of}
-use Rattle.text_tokens.proofs.Lemmas.{ends, closes, goes_on, is_none, said_goes_on, said_is, never, says_other, says_rest, says_plain_other}
+use Rattle.text_tokens.proofs.Common.{◌≡◌, true, get_or, is_plain, ℕ, ◌+◌, ◌++◌, List, drop, take, ap₂, sym, ap, ◌∙◌}
+use Rattle.text_tokens.proofs.Common.{append_assoc, arith, option_map, string_from, after_piece, piece_of}
+use Rattle.text_tokens.proofs.Lemmas.{ends, closes, goes_on, is_none, said_goes_on, said_is, never, says_other}
+use Rattle.text_tokens.proofs.Lemmas.{says_rest, says_plain_other}
 use Rattle.std.proofs.lemmas.List.{take-append-drop}
 use Rattle.text_tokens.proofs.quoted.Quoted.says_bytes.Goals as goal
 use Rattle.text_tokens.proofs.quoted.Quoted.says_bytes.Goals.{then-pieces-test+else-bytes-at-ne34, else-pieces-test}
@@ -10,7 +12,12 @@ pieces-init c =
     let n = c.same_len-at.result in
     let known = c.same_len-at.ensures in
     record {
-      front = (take n c.args.self.bytes.now, sym (take-append-drop n text) ∙ ap₂ (λ (front rest : List ℕ). front ++ rest) known.same (sym c.rest_from-wanted.ensures), known.front);
+      front = (
+        take n c.args.self.bytes.now,
+        sym (take-append-drop n text) ∙
+            ap₂ (λ (front rest : List ℕ). front ++ rest) known.same (sym c.rest_from-wanted.ensures),
+        known.front,
+      );
       near = omega (arith, known.near);
     }
 
@@ -19,7 +26,8 @@ unreachable-requires c =
     let bs = c.args.self.bytes.now in
     let i = c.pieces.invariant.front in
     never bs i.0 c.pieces.at (string_from 0 (drop c.pieces.at bs)) c.args.self.closed i.2
-    (is_none bs c.rest_from.result.now c.pieces.at c.pieces-test.true c.if-bytes-at-ne34.true c.rest_from.ensures c.in_default.ensures.is)
+    (is_none bs c.rest_from.result.now c.pieces.at c.pieces-test.true c.if-bytes-at-ne34.true c.rest_from.ensures
+    c.in_default.ensures.is)
 
 pub pieces-preserved : goal.pieces-preserved
 pieces-preserved c =
@@ -27,11 +35,13 @@ pieces-preserved c =
     let i = c.pieces.invariant.front in
     let p = piece_of c.in-Some.piece in
     let others = string_from 0 (drop (c.pieces.at + p.1) bs) in
-    let here = goes_on bs c.rest_from.result.now c.pieces.at p c.pieces-test.true c.if-bytes-at-ne34.true c.rest_from.ensures c.in-Some.ensures.is c.in-Some.ensures.len.0 in
+    let here = goes_on bs c.rest_from.result.now c.pieces.at p c.pieces-test.true c.if-bytes-at-ne34.true
+    c.rest_from.ensures c.in-Some.ensures.is c.in-Some.ensures.len.0 in
     record {
       front = (
         i.0 ++ p.0,
-        i.1 ∙ ap (λ (r : List ℕ). i.0 ++ r) c.in-Some-behind_said.ensures.some ∙ sym (append_assoc i.0 p.0 c.in-Some-behind_said.others.now),
+        i.1 ∙ ap (λ (r : List ℕ). i.0 ++ r) c.in-Some-behind_said.ensures.some ∙
+            sym (append_assoc i.0 p.0 c.in-Some-behind_said.others.now),
         i.2 ∙ ap (option_map (after_piece (i.0, c.pieces.at))) here ∙ said_goes_on i.0 c.pieces.at p others,
       );
       near = omega (arith, c.in-Some.ensures.len.1);
@@ -43,8 +53,11 @@ returns-in_default-behind_said c =
     let i = c.pieces.invariant.front in
     let p = piece_of c.in-Some.piece in
     let others = string_from 0 (drop (c.pieces.at + p.1) bs) in
-    let here = goes_on bs c.rest_from.result.now c.pieces.at p c.pieces-test.true c.if-bytes-at-ne34.true c.rest_from.ensures c.in-Some.ensures.is c.in-Some.ensures.len.0 in
-    sym (says_other bs c.args.text.now i.0 c.pieces.wanted.now c.pieces.at p others c.args.self.closed (i.2 ∙ ap (option_map (after_piece (i.0, c.pieces.at))) here ∙ said_goes_on i.0 c.pieces.at p others) i.1 c.in_default-behind_said.ensures.none)
+    let here = goes_on bs c.rest_from.result.now c.pieces.at p c.pieces-test.true c.if-bytes-at-ne34.true
+    c.rest_from.ensures c.in-Some.ensures.is c.in-Some.ensures.len.0 in
+    sym (says_other bs c.args.text.now i.0 c.pieces.wanted.now c.pieces.at p others c.args.self.closed
+    (i.2 ∙ ap (option_map (after_piece (i.0, c.pieces.at))) here ∙ said_goes_on i.0 c.pieces.at p others) i.1
+    c.in_default-behind_said.ensures.none)
 
 pub returns : goal.returns
 returns c =
@@ -53,12 +66,17 @@ returns c =
     let rest = string_from 0 (drop c.pieces.at bs) in
     elim c.pieces-test.branch [
       | then-pieces-test+else-bytes-at-ne34 w ↦
-          says_rest bs c.args.text.now i.0 c.pieces.wanted.now c.is_empty.result (said_is bs i.0 c.pieces.at rest c.args.self.closed i.2 (closes bs c.pieces.at w.pieces-test.true w.if-bytes-at-ne34.false)) i.1 c.is_empty.ensures
-      | else-pieces-test w ↦ absurd (never bs i.0 c.pieces.at rest c.args.self.closed i.2 (ends bs c.pieces.at w.pieces-test.false))
+          says_rest bs c.args.text.now i.0 c.pieces.wanted.now c.is_empty.result
+          (said_is bs i.0 c.pieces.at rest c.args.self.closed i.2
+          (closes bs c.pieces.at w.pieces-test.true w.if-bytes-at-ne34.false)) i.1 c.is_empty.ensures
+      | else-pieces-test w ↦
+          absurd (never bs i.0 c.pieces.at rest c.args.self.closed i.2 (ends bs c.pieces.at w.pieces-test.false))
     ]
 
 pub returns-then-is_plain : goal.returns-then-is_plain
 returns-then-is_plain c =
     let known = c.same_len-at.ensures in
-    let plain : is_plain (get_or c.args.self.bytes.now c.same_len-at.result 0) ≡ true = sym c.is_plain.ensures ∙ c.if-is_plain.true in
-    sym (says_plain_other c.args.self.bytes.now c.args.text.now c.same_len-at.result c.args.self.closed c.if-at-bytes.true plain known.front known.same (known.ends c.if-at-bytes.true plain))
+    let plain : is_plain (get_or c.args.self.bytes.now c.same_len-at.result 0) ≡ true =
+    sym c.is_plain.ensures ∙ c.if-is_plain.true in
+    sym (says_plain_other c.args.self.bytes.now c.args.text.now c.same_len-at.result c.args.self.closed
+    c.if-at-bytes.true plain known.front known.same (known.ends c.if-at-bytes.true plain))

@@ -6,5 +6,6 @@ pub blanks-preserved : goal.blanks-preserved
 blanks-preserved c = record {
   same = c.blanks.invariant.same;
   on = omega arith;
-  rest = sym (blank_step c.blanks.self.bytes.now c.blanks.self.at c.blanks-test.true (sym c.is_blank.ensures ∙ c.if-is_blank.true)) ∙ c.blanks.invariant.rest;
+  rest = sym (blank_step c.blanks.self.bytes.now c.blanks.self.at c.blanks-test.true
+      (sym c.is_blank.ensures ∙ c.if-is_blank.true)) ∙ c.blanks.invariant.rest;
 }

@@ -2,4 +2,5 @@ use Rattle.text_tree.proofs.Common.{◌≡◌, ◌-◌, ◌++◌, firsts, values
 use Rattle.text_tree.proofs.list.ListBranch.items.Given as goal
 
 abbrev pub invariant-loop : goal.invariant-loop
-invariant-loop l = views l.items.items ++ firsts (l.self.count - l.counter) (values l.self.bytes.now l.rest) ≡ items_in l.self
+invariant-loop l = views l.items.items ++ firsts (l.self.count - l.counter) (values l.self.bytes.now l.rest) ≡ items_in
+    l.self

@@ -2,4 +2,5 @@ use Rattle.text_tree.proofs.Common.{◌≡◌, ◌-◌, ◌++◌, pairs, values,
 use Rattle.text_tree.proofs.object.ObjectBranch.members.Given as goal
 
 abbrev pub invariant-loop : goal.invariant-loop
-invariant-loop l = member_views l.members.items ++ pairs (l.self.count - l.counter) (values l.self.bytes.now l.rest) ≡ members_in l.self
+invariant-loop l = member_views l.members.items ++ pairs (l.self.count - l.counter)
+    (values l.self.bytes.now l.rest) ≡ members_in l.self

@@ -1,4 +1,5 @@
-use Rattle.uc_model.proofs.Common.{length, length-map, ap, sym, ◌∙◌, ThermalUnit, RenewableUnit, BidUnit, Flat, items_in}
+use Rattle.uc_model.proofs.Common.{length, length-map, ap, sym, ◌∙◌, ThermalUnit, RenewableUnit, BidUnit, Flat}
+use Rattle.uc_model.proofs.Common.{items_in}
 use Rattle.std.proofs.lemmas.List.{length-replicate}
 use Rattle.uc_model.proofs.cases.Task.make.Goals as goal
 
@@ -6,9 +7,12 @@ pub invariant_of-result : goal.invariant_of-result
 invariant_of-result c =
     let energy = ap length c.in_ok-prices.ensures.energy ∙ length-replicate _ _ in
     record {
-      thermal_horizon = ap (λ (u : ThermalUnit). length u.window) c.in_ok-thermal.ensures.unit ∙ length-replicate _ _ ∙ sym energy;
-      flat_horizon = ap (λ (r : RenewableUnit). length r.least) c.in_ok-flat.ensures ∙ length-replicate _ _ ∙ sym energy;
-      bid_horizon = sym (length-map c.in_ok-bid.bid.blocks.items items_in) ∙ ap (λ (b : BidUnit). length b.blocks) c.in_ok-bid.ensures.bid ∙ length-replicate _ _ ∙ sym energy;
+      thermal_horizon = ap (λ (u : ThermalUnit). length u.window) c.in_ok-thermal.ensures.unit ∙ length-replicate _ _ ∙
+          sym energy;
+      flat_horizon = ap (λ (r : RenewableUnit). length r.least) c.in_ok-flat.ensures ∙ length-replicate _ _ ∙
+          sym energy;
+      bid_horizon = sym (length-map c.in_ok-bid.bid.blocks.items items_in) ∙
+          ap (λ (b : BidUnit). length b.blocks) c.in_ok-bid.ensures.bid ∙ length-replicate _ _ ∙ sym energy;
     }
 
 pub returns-clause-energy : goal.returns-clause-energy
