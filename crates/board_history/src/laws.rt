@@ -1,6 +1,6 @@
 //! Laws on the histories of a board: each is the contract of a function that does nothing.
 ghost use Rattle.uc_model.specs.Runs.{Fits};
-ghost use Rattle.board_history.specs.Bounds.{TotalsAreWithin, RowsAreWithin, RowsAreAtMostCost};
+ghost use Rattle.board_history.specs.Bounds.{RowsAreWithin};
 ghost use Rattle.board_history.specs.BoardLaws.{BoardLaws, DifferencesMean};
 ghost use Rattle.board_history.specs.Laws.{WordsMean, ClaimsMean, PostsMean, StepsAreMachine};
 ghost use Rattle.board_history.specs.Laws.{CallsStayLegal, RowsAreRight, RowsAreMade};
@@ -16,11 +16,21 @@ use uc_model::laws::{
     units_are_within,
 };
 
-/// What 'closed', 'open' and 'finished' mean: a proposal is closed where each of its units is
-/// posted, it is open for work where each proposal from 1 to so many before it is closed and none
-/// of those is settled, and the board has finished where every proposal that is open is closed.
-pub fn words_mean()
-    ensures { WordsMean }
+/// What the machine means. `words`: a proposal is closed where each of its units is posted, it is
+/// open for work where each proposal from 1 to so many before it is closed and none of those is
+/// settled, and the board has finished where every proposal that is open is closed. `posts`: what
+/// each answer of a post says, that the task's proposal isn't open, or its unit isn't there; that
+/// its prices or its unit aren't the board's own; that an answer stands; that another holds the
+/// task; and else that the answer is taken, and whether it closed the proposal. `steps`: a legal
+/// history's events are what the machine makes, so an event may come next exactly where some call
+/// appends it, and the answer of a post is right. `calls`: each call of a caller keeps a history
+/// legal, where the answer of a post is right for the task that is posted, with its own unit and
+/// prices.
+pub fn machine_means()
+    ensures words { WordsMean }
+    ensures posts { PostsMean }
+    ensures steps { StepsAreMachine }
+    ensures calls { CallsStayLegal }
 {}
 
 /// What each answer of a claim says: that the board has finished; else that a caller has halted;
@@ -30,28 +40,18 @@ pub fn claims_mean()
     ensures { ClaimsMean }
 {}
 
-/// What each answer of a post says: that the task's proposal isn't open, or its unit isn't there;
-/// that its prices or its unit aren't the board's own; that an answer stands; that another holds
-/// the task; and else that the answer is taken, and whether it closed the proposal.
-pub fn posts_mean()
-    ensures { PostsMean }
-{}
-
-/// A legal history's events are what the machine makes: an event may come next exactly where some
-/// call appends it, and the answer of a post is right.
-pub fn steps_are_the_machine()
-    ensures { StepsAreMachine }
-{}
-
-/// Each call of a caller keeps a history legal, where the answer of a post is right for the task
-/// that is posted, with its own unit and prices.
-pub fn calls_stay_legal()
-    ensures { CallsStayLegal }
-{}
-
-/// The rows of a legal history are right, as far as they go.
-pub fn rows_are_right()
-    ensures { RowsAreRight Fits }
+/// What every legal history keeps. `rows`: its rows are right, as far as they go. `events`: there
+/// are at most as many claims as tasks, as many posts, and one halt for each caller, so at most
+/// twice as many entries as tasks, and one for each caller. `halts`: without its halts it is legal
+/// and has the same rows, so a halt never changes a price or a value. `totals`: they may run while
+/// answers come in, each answer adds what it gives and earns. `tasks`: two whose flat lists have
+/// the same number at each place that both have are one task.
+pub fn histories_keep()
+    ensures rows { RowsAreRight Fits }
+    ensures events { EventsAreAtMost }
+    ensures halts { HaltsChangeNothing Fits }
+    ensures totals { TotalsRun }
+    ensures tasks { SameTask }
 {}
 
 /// Each row of a history is made of an answer for each unit, at the prices of its proposal.
@@ -75,63 +75,22 @@ pub fn answers_fit()
     ensures { AnswersFit }
 {}
 
-/// In a legal history there are at most as many claims as tasks, as many posts, and one halt for
-/// each caller. So there are at most twice as many entries as tasks, and one for each caller.
-pub fn events_are_at_most()
-    ensures { EventsAreAtMost }
-{}
-
 /// A finished history stays finished in every legal history that goes on from it.
 pub fn finished_stays_finished()
     ensures { FinishedStays Fits }
 {}
 
-/// A legal history without its halts is legal and has the same rows: a halt never changes a price
-/// or a value.
-pub fn halts_change_nothing()
-    ensures { HaltsChangeNothing Fits }
+/// Rounds of one caller. `held`: an answer for a task that the caller holds, at its proposal's
+/// prices, is taken where the task has none yet. `given`: where nobody has halted and every task
+/// that was claimed is posted, a claim is given or the board has finished. `taken`: where one
+/// caller claims a task and then posts an answer for that very task, the answer is taken, every
+/// task that was claimed is posted again, and there is one post more. By the `events` of
+/// `histories_keep` such rounds end.
+pub fn lone_caller_goes_on()
+    ensures held { HeldIsTaken }
+    ensures given { ClaimsAreGiven }
+    ensures taken { GivenIsTaken }
 {}
-
-/// Totals may run while answers come in: each answer adds what it gives and earns.
-pub fn totals_run()
-    ensures { TotalsRun }
-{}
-
-/// Two tasks whose flat lists have the same number at each place that both have are one task.
-pub fn same_task()
-    ensures { SameTask }
-{}
-
-/// An answer for a task that the caller holds, at its proposal's prices, is taken where the task
-/// has none yet.
-pub fn held_is_taken()
-    ensures { HeldIsTaken }
-{}
-
-/// Where nobody has halted and every task that was claimed is posted, a claim is given or the board
-/// has finished.
-pub fn claims_are_given()
-    ensures { ClaimsAreGiven }
-{}
-
-/// Where one caller claims a task and then posts an answer for that very task, the answer is taken,
-/// every task that was claimed is posted again, and there is one post more. By `events_are_at_most`
-/// such rounds end.
-pub fn given_is_taken()
-    ensures { GivenIsTaken }
-{}
-
-/// The totals of a proposal's answers are at most 10^13 kilowatts in magnitude, and what they earn
-/// together 10^23, also while answers are missing.
-pub fn totals_are_within()
-    ensures { TotalsAreWithin }
-{
-    outputs_are_within();
-    earnings_are_within();
-    units_are_within();
-    model::totals_are_within();
-    demand_worth_is_within();
-}
 
 /// Each row is over the horizon, with prices within their limits, totals of at most 10^13 in
 /// magnitude and a value of at most 10^24.
@@ -145,22 +104,12 @@ pub fn rows_are_within()
     demand_worth_is_within();
 }
 
-/// No row's value is above the cost of a feasible plan.
-pub fn rows_are_at_most_cost()
-    ensures { RowsAreAtMostCost }
-{
-    outputs_are_within();
-    earnings_are_within();
-    units_are_within();
-    model::totals_are_within();
-    demand_worth_is_within();
-    dual_is_at_most_cost();
-}
-
 /// What a crate goes by that keeps a board in lists of its own: rows go on one after another and
 /// open proposals; what is closed stays so; one more event changes one post or one holder, and
 /// keeps a history legal if it may come next; a post that is taken is for the board's own task,
-/// with a right answer; and what claims, answers, totals and rows are by the laws above.
+/// with a right answer; and what claims, answers and rows are by the laws above. The totals of a
+/// proposal's answers are at most 10^13 kilowatts in magnitude, and what they earn together 10^23,
+/// also while answers are missing. No row's value is above the cost of a feasible plan.
 pub fn board_laws()
     ensures { BoardLaws }
 {

@@ -1,0 +1,12 @@
+use Rattle.board_history.proofs.Common.{[], no_prices, row_of, rules_of, posts}
+use Rattle.board_history.proofs.Lemmas.{posts_mean, steps_agree, calls_stay_legal}
+use Rattle.board_history.proofs.Words.{means}
+use Rattle.board_history.proofs.laws.machine_means.Goals as goal
+
+pub returns : goal.returns
+returns c = record {
+  words = λ b h. means (rules_of b) (posts h) (row_of b.market no_prices []);
+  posts = posts_mean;
+  steps = steps_agree;
+  calls = calls_stay_legal;
+}
