@@ -4,7 +4,8 @@ pub use Rattle.std.proofs.Common.{◌≤ℤ◌, List, length, refl, sym, ap, ◌
 pub use Rattle.std.proofs.Common.{get_or, set, get_or-set_same, get_or-set_other, rules, to_z, of_z, length-set}
 pub use Rattle.std.proofs.Math.IntN.{*ℤ_comm}
 pub use Rattle.std.proofs.lemmas.Bool.{cases_lt, cases_eq}
-pub use Rattle.std.proofs.lemmas.Int.{ints, clamps, to_z-of_z}
+pub use Rattle.std.proofs.lemmas.Int.{to_z-of_z}
+pub use Rattle.unit_limits.proofs.Arithmetic.{signed, bounded}
 pub use Rattle.std.proofs.lemmas.Option.{slice_get-get_or, get_or_from_slice_get}
 pub use Rattle.std.specs.Int.{int_max, int_min, w64}
 pub use Rattle.std.specs.List.{All, fold}

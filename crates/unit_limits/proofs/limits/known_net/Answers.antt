@@ -1,5 +1,5 @@
-use Rattle.unit_limits.proofs.Common.{rules, ◌≡◌, inl, inr, ℕ, ◌-◌, pos, ◌-ℤ◌, ◌*ℤ◌, ◌≤ℤ◌, ℤ, length, sym, subst}
-use Rattle.unit_limits.proofs.Common.{arith, FitsSigned, w64, ints, to_z-of_z, Point, All, HasLeastNet, IsFrom, neg_ℤ}
+use Rattle.unit_limits.proofs.Common.{rules, ◌≡◌, inl, inr, ◌-◌, pos, length, arith, FitsSigned, w64, signed, to_z-of_z}
+use Rattle.unit_limits.proofs.Common.{Point}
 use Rattle.unit_limits.proofs.Lemmas.{known_least, has_least, known_more}
 use Rattle.unit_limits.proofs.limits.known_net.Goals as goal
 
@@ -12,41 +12,33 @@ returns-then-price-known-clause-least c =
     let fits_price : FitsSigned w64 c.args.price = search rules in
     let fits_first : FitsSigned w64 c.args.known.now.first_to = search rules in
     let fits : FitsSigned w64 c.net_of-first.result = search rules in
-    let value = simp to_z-of_z at c.net_of-first.ensures.value in
-    let low : c.args.price ≤ℤ c.args.known.now.first_to =
-    (let h = simp to_z-of_z at c.if-price-known.true in omega (arith, ints, h)) in
-    known_least c.args.points.now none 0 (omega (arith, some)) c.args.price c.net_of-first.result _ value
-    (to_z-of_z w64 c.net_of-first.result fits)
-    (c.requires.known.first c.args.price c.requires.price.at_least low)
+    let low = c.if-price-known.true in
+    rw (to_z-of_z w64 c.net_of-first.result fits) (known_least c.args.points.now none 0 (omega arith) c.args.price
+    c.net_of-first.result (simp to_z-of_z at c.net_of-first.ensures.value)
+    (c.requires.known.first c.args.price c.requires.price.at_least (omega signed)))
 
 pub net_of-last-requires-clause-point : goal.net_of-last-requires-clause-point
 net_of-last-requires-clause-point c =
-    (let some = c.requires.some in c.requires.points (length c.args.points.now - 1) none (omega (arith, some)))
+    let some = c.requires.some in
+    c.requires.points (length c.args.points.now - 1) none (omega arith)
 
 pub returns-then-price-known-2-clause-least : goal.returns-then-price-known-2-clause-least
 returns-then-price-known-2-clause-least c =
     let some = c.requires.some in
+    let end = length c.args.points.now - 1 in
     let fits_price : FitsSigned w64 c.args.price = search rules in
     let fits_last : FitsSigned w64 c.args.known.now.last_from = search rules in
     let fits : FitsSigned w64 c.net_of-last.result = search rules in
-    let value = simp to_z-of_z at c.net_of-last.ensures.value in
-    let high : c.args.known.now.last_from ≤ℤ c.args.price =
-    (let h = simp to_z-of_z at c.if-price-known-2.true in omega (arith, ints, h)) in
-    known_least c.args.points.now none (length c.args.points.now - 1) (omega (arith, some)) c.args.price
-    c.net_of-last.result _ value (to_z-of_z w64 c.net_of-last.result fits)
-    (c.requires.known.last (length c.args.points.now - 1) c.args.price (omega (arith, some)) high
-    c.requires.price.at_most)
+    let high = c.if-price-known-2.true in
+    rw (to_z-of_z w64 c.net_of-last.result fits) (known_least c.args.points.now none end (omega arith) c.args.price
+    c.net_of-last.result (simp to_z-of_z at c.net_of-last.ensures.value)
+    (c.requires.known.last end c.args.price (omega arith) (omega signed) c.requires.price.at_most))
 
 pub returns-clause-least : goal.returns-clause-least
 returns-clause-least c =
-    let ps = c.args.points.now in
     let fits_price : FitsSigned w64 c.args.price = search rules in
     let fits : FitsSigned w64 c.least_net-least.result = search rules in
-    let all : All (λ (p : Point). c.least_net-least.result ≤ℤ (p.cost -ℤ (c.args.price *ℤ p.at))) ps =
-    subst (λ (k : ℤ). All (λ (p : Point). c.least_net-least.result ≤ℤ (p.cost -ℤ (k *ℤ p.at))) ps)
-    (to_z-of_z w64 c.args.price fits_price) c.least_net-least.ensures.least in
-    subst (λ (z : ℤ). All (λ (p : Point). z ≤ℤ (p.cost -ℤ (c.args.price *ℤ p.at))) ps)
-    (sym (to_z-of_z w64 c.least_net-least.result fits)) all
+    simp to_z-of_z (simp to_z-of_z at c.least_net-least.ensures.least)
 
 pub returns-clause-known : goal.returns-clause-known
 returns-clause-known c =
@@ -60,9 +52,7 @@ returns-clause-known c =
     let fits_first : FitsSigned w64 c.net_of-first.result = search rules in
     let fits_last : FitsSigned w64 c.net_of-last.result = search rules in
     let fits_least : FitsSigned w64 c.least_net-least.result = search rules in
-    let all : All (λ (p : Point). c.least_net-least.result ≤ℤ (p.cost -ℤ (c.args.price *ℤ p.at))) ps =
-    subst (λ (k : ℤ). All (λ (p : Point). c.least_net-least.result ≤ℤ (p.cost -ℤ (k *ℤ p.at))) ps)
-    (to_z-of_z w64 c.args.price fits_price) c.least_net-least.ensures.least in
+    let all_ = simp to_z-of_z at c.least_net-least.ensures.least in
     let first_is = simp to_z-of_z at c.net_of-first.ensures.value in
     let last_is = simp to_z-of_z at c.net_of-last.ensures.value in
     let first = simp to_z-of_z at c.known_at-known.ensures in
@@ -73,8 +63,7 @@ returns-clause-known c =
       | inl z ↦ inl z
       | inr h ↦ inr (
         h.0,
-        has_least ps none 0 (omega (arith, some)) c.args.price c.net_of-first.result
-            c.least_net-least.result first_is h.1 all,
+        has_least ps none 0 (omega arith) c.args.price c.net_of-first.result c.least_net-least.result first_is h.1 all_,
       )
     ])
     (elim last [
@@ -82,45 +71,25 @@ returns-clause-known c =
       | inr h ↦ inr (
         h.0,
         λ n end.
-            (let e : length ps - 1 ≡ n = omega (arith, end) in
-            subst (λ (k : ℕ). HasLeastNet ps k c.args.price) e
-            (has_least ps none (length ps - 1) (omega (arith, some)) c.args.price c.net_of-last.result
-            c.least_net-least.result last_is h.1 all)),
+            let e : n ≡ length ps - 1 = omega arith in
+            rw e (has_least ps none (length ps - 1) (omega arith) c.args.price c.net_of-last.result
+            c.least_net-least.result last_is h.1 all_),
       )
     ]))
 
 pub bounds-points-0 : goal.bounds-points-0
 bounds-points-0 c = c.requires.some
 
-pub overflow_sub-points : goal.overflow_sub-points
-overflow_sub-points c = c.requires.some
-
-pub bounds-points-points : goal.bounds-points-points
-bounds-points-points c =
-    let some = c.requires.some in
-    omega (arith, some)
-
-pub offset_bounds-points-points : goal.offset_bounds-points-points
-offset_bounds-points-points c =
-    let some = c.requires.some in
-    omega (arith, some)
-
 pub net_of-first-requires-clause-point : goal.net_of-first-requires-clause-point
-net_of-first-requires-clause-point c =
-    let some = c.requires.some in
-    c.requires.points 0 none (omega (arith, some))
+net_of-first-requires-clause-point c = let some = c.requires.some in c.requires.points 0 none (omega arith)
 
 pub returns-then-price-known-clause-bound : goal.returns-then-price-known-clause-bound
 returns-then-price-known-clause-bound c =
-    subst (IsFrom (neg_ℤ (pos 20010000000000000)) (pos 20010000000000000))
-    (sym (to_z-of_z w64 c.net_of-first.result (search rules))) c.net_of-first.ensures.bound
+    rw (to_z-of_z w64 c.net_of-first.result (search rules)) c.net_of-first.ensures.bound
 
 pub returns-clause-bound : goal.returns-clause-bound
-returns-clause-bound c =
-    subst (IsFrom (neg_ℤ (pos 20010000000000000)) (pos 20010000000000000))
-    (sym (to_z-of_z w64 c.least_net-least.result (search rules))) c.least_net-least.ensures.bound
+returns-clause-bound c = rw (to_z-of_z w64 c.least_net-least.result (search rules)) c.least_net-least.ensures.bound
 
 pub returns-then-price-known-2-clause-bound : goal.returns-then-price-known-2-clause-bound
 returns-then-price-known-2-clause-bound c =
-    subst (IsFrom (neg_ℤ (pos 20010000000000000)) (pos 20010000000000000))
-    (sym (to_z-of_z w64 c.net_of-last.result (search rules))) c.net_of-last.ensures.bound
+    rw (to_z-of_z w64 c.net_of-last.result (search rules)) c.net_of-last.ensures.bound
