@@ -1,17 +1,17 @@
 -- The names that the proofs of this crate take from its specs and from other crates, passed on from one place.
 pub use Rattle.std.proofs.Common.{◌≡◌, ℕ, zero, suc, ◌+◌, ◌-◌, ◌<◌, ◌≤◌, ◌⊎◌, inl, inr, Option, Some, None, ℤ, pos}
 pub use Rattle.std.proofs.Common.{◌+ℤ◌, ◌-ℤ◌, ◌*ℤ◌, ◌≤ℤ◌, List, length, refl, sym, ap, ◌∙◌, subst, arith, Bool, true}
-pub use Rattle.std.proofs.Common.{false, cond, [], ◌∷◌, ◌++◌, map, reverse, length-append, ◌*◌, neg_ℤ, not, ◌&&◌}
+pub use Rattle.std.proofs.Common.{false, cond, [], ◌∷◌, ◌++◌, map, reverse, append_assoc, length-append, ◌*◌, neg_ℤ}
+pub use Rattle.std.proofs.Common.{not, ◌&&◌}
 pub use Rattle.std.proofs.Common.{get_or, rules, vec_capacity}
 pub use Rattle.std.proofs.Math.IntN.{*ℤ-zero}
 pub use Rattle.std.proofs.Math.Nat.{mul-le-mul_left, mul-le-mul_right}
-pub use Rattle.std.proofs.lemmas.Bool.{cases_lt}
+pub use Rattle.std.proofs.lemmas.Bool.{cases_lt, cases_Bool, and_parts, and_from, not-true, not-false}
 pub use Rattle.std.proofs.lemmas.Int.{ints, to_z-of_z}
-pub use Rattle.std.proofs.lemmas.List.{reverse-append, reverse-reverse, map-append, length-reverse, length-map}
+pub use Rattle.std.proofs.lemmas.List.{reverse-append, map-append, length-reverse, length-map}
 pub use Rattle.std.proofs.lemmas.List.{length-replicate, with_items_is}
 pub use Rattle.std.proofs.lemmas.Option.{slice_get-get_or}
 pub use Rattle.std.specs.Int.{w64}
-pub use Rattle.std.specs.Option.{option_map, option_map_or}
 pub use Rattle.std.specs.Prelude.{IsTrue, IsFalse, IfSome, slice_index, slice_index_or, slice_get, IfNone, FitsSigned}
 pub use Rattle.unit_table.specs.Laws.{CappedRowsAreRows, StartsAreWithinLimits, LimitsAreAboveTheAmount}
 pub use Rattle.unit_rows.specs.Limits.{capped}
@@ -29,7 +29,7 @@ pub use Rattle.slope_list.specs.Slopes.{room_of}
 pub use Rattle.spell_way.specs.Entries.{IsOnFromTo, IsSameOutside}
 pub use Rattle.spell_run.specs.Notes.{passed_at, IsSpellNoted}
 pub use Rattle.spell_run.specs.Spells.{IsBestDispatch, IsFirstDispatch, over_min, IsDispatch, IsLeastSpell, spell_cost}
-pub use Rattle.spell_run.specs.Spells.{sum_from_to}
+pub use Rattle.spell_run.proofs.Arithmetic.{signed}
 pub use Rattle.unit_rows.specs.NetCosts.{net_cost}
 pub use Rattle.spell_run.specs.declared.notes.Passed.{Passed}
 pub use Rattle.plain_lists.proofs.IntLaws.{sum_below-same, sum_below-add, sum_below-sub}

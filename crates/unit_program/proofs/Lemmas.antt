@@ -2,9 +2,7 @@
 pub use Rattle.unit_program.proofs.BackLaws.{written_none, written_first}
 pub use Rattle.unit_program.proofs.BenchLaws.{room_less, charge_less, bench_kept, room_more, way_found}
 pub use Rattle.unit_program.proofs.BestLaws.{best_of, least_of, cleared_idle, cleared_zero}
-pub use Rattle.unit_program.proofs.EndLaws.{IsEnd, least_end_of_all, no_end_of_all}
-pub use Rattle.plain_lists.proofs.ListLaws.{if_some}
-pub use Rattle.unit_program.proofs.EntryLaws.{IsLeastOf, one_more}
+pub use Rattle.unit_program.proofs.EndLaws.{IsLeastOf, one_more, least_end_of_all, earliest_of_all, no_end_of_all}
 pub use Rattle.unit_program.proofs.LimitLaws.{end_capped, end_earliest, end_low, if_none_more, none_feasible}
 pub use Rattle.unit_program.proofs.LimitLaws.{found_within, none_found}
-pub use Rattle.unit_program.proofs.RowLaws.{cost-is, first-is}
+pub use Rattle.unit_table.proofs.RowLaws.{cost-is, first-is}

@@ -1,6 +1,6 @@
 -- The names from elsewhere that the proofs here cite.
 pub mod Common
--- one spell of the way back
+-- what a spell writes, and what stays
 pub mod BackLaws
 -- lists compared from the end, and the order for ties period by period
 pub mod BackwardOrder
@@ -16,27 +16,21 @@ pub mod CommitLaws
 pub mod CostLaws
 -- the least of the ends after which the unit may be off to the last period
 pub mod EndLaws
--- the least so far of what is at ever later places
-pub mod EntryLaws
 -- one spell of the way back, where the rows are those of the table as far as they are within the limits
 pub mod LimitBackLaws
 -- the rows and the ends as far as they are within the limits
 pub mod LimitLaws
--- every feasible schedule is a list of spells: from the last period back, by the run or the time off that a period is
--- in
+-- every feasible schedule is a list of spells
 pub mod ListLaws
 -- a place of a list that a spell left
 pub mod NoteLaws
--- what is read off rows of the table
-pub mod RowLaws
 -- least times on and off: by runs, as the rules have them, and by single steps
 pub mod RunLaws
 -- the run that a period of a schedule is in, and what the schedule costs up to it: no less than the tables say
 pub mod ShapeLaws
 -- runs of on periods and times off of a schedule, by single steps: their dispatch, costs, times and marks
 pub mod SpellLaws
--- of all schedules that cost the same, what the way back writes is the first: the table names the earliest end, the
--- latest
+-- of all schedules that cost the same, what the way back writes is the first
 pub mod TieLaws
 -- The lemmas that answers cite.
 pub mod Lemmas

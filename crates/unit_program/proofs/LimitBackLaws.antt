@@ -1,12 +1,27 @@
 -- One spell of the way back, where the rows are those of the table as far as they are within the limits.
-use Rattle.unit_program.proofs.Common.{◌≡◌, ℕ, suc, ◌≤◌, Option, Some, ℤ, ◌≤ℤ◌, List, length, arith, IsTrue, IsFalse}
-use Rattle.unit_program.proofs.Common.{ints, StartCostsAreWithin, ThermalUnit, PriceLists, Schedule, IsThermalUnit}
-use Rattle.unit_program.proofs.Common.{Ended, IsWrittenBack, CappedRowsAreRows, StartsAreWithinLimits, capped}
-use Rattle.unit_program.proofs.Common.{IsRowWithin, row_at, cost_at, first_at, before_at, IsEnded, IsStarted}
+use Rattle.unit_program.proofs.Common.{◌≡◌, ℕ, suc, ◌<◌, ◌≤◌, inl, inr, Option, Some, ℤ, pos, ◌≤ℤ◌, List, length, ◌∙◌}
+use Rattle.unit_program.proofs.Common.{arith, signed, IsTrue, IsFalse, StartCostsAreWithin, ThermalUnit, PriceLists}
+use Rattle.unit_program.proofs.Common.{Schedule, on_in, power_in, reserve_in, IsThermalUnit, Ended, IsSameIn, IsIdle}
+use Rattle.unit_program.proofs.Common.{IsWritten, IsWrittenBack, CappedRowsAreRows, StartsAreWithinLimits, capped}
+use Rattle.unit_program.proofs.Common.{IsRowWithin, row_at, cost_at, first_at, before_at, IsEnded, IsLatest, IsStarted}
 use Rattle.unit_table.specs.Tables.{IsFrom}
-use Rattle.unit_program.proofs.BackLaws.{IsRowBack, off_back, ended_of, back_of_row, started}
+use Rattle.unit_program.proofs.BackLaws.{dispatch-same, spell_cost-same, first_dispatch-same, same_in, same_then}
+use Rattle.unit_program.proofs.BackLaws.{idle_same, idle_part, zero_off_written}
+use Rattle.unit_program.proofs.BuildLaws.{up_to_idle, up_to_first, up_to_next}
 use Rattle.unit_program.proofs.LimitLaws.{row_here, row_real}
-use Rattle.unit_program.proofs.RowLaws.{cost-is}
+use Rattle.unit_program.proofs.TieLaws.{first_alone, first_after}
+use Rattle.unit_table.proofs.RowLaws.{cost-is, first-is, before-is}
+
+-- what the way back needs to know of a row that names a spell
+pub record IsRowBack (g : ThermalUnit) (π : PriceLists) (rows : List (Option Ended)) (l : ℕ) (e : Ended) : Type 0 where
+  pub order : e.first ≤ l
+  pub only : (a b : Schedule) → e.first ≡ 0 → IsWritten g π (length π.energy) e.first l a b →
+      IsWrittenBack g π rows l a b
+  pub before_less : 1 ≤ e.first → e.before < l
+  pub before_idle : (a b : Schedule) → 1 ≤ e.first → IsWritten g π (length π.energy) e.first l a b → IsIdle g a 0 l →
+      IsIdle g b 0 e.before
+  pub rest : (a b c : Schedule) → 1 ≤ e.first → IsIdle g a 0 l → IsWritten g π (length π.energy) e.first l a b →
+      IsWrittenBack g π rows e.before b c → IsWrittenBack g π rows l a c
 
 module _ (capped_row : CappedRowsAreRows) (low_start : StartsAreWithinLimits) (g : ThermalUnit) (π : PriceLists)
     (unit : IsThermalUnit g) (starts : StartCostsAreWithin) (rows : List (Option Ended)) (l : ℕ)
@@ -17,50 +32,136 @@ module _ (capped_row : CappedRowsAreRows) (low_start : StartsAreWithinLimits) (g
   abbrev ends : ℕ → Option ℤ
   ends = capped limits (cost_at rows)
 
+  abbrev T : ℕ
+  T = length π.energy
+
   low_here : (v : ℤ) → cost_at rows l ≡ Some v → v ≤ℤ limits l
-  low_here v is = (let same : within.value ≡ v = cc in omega (arith, ints, same))
+  low_here v is = let same : within.value ≡ v = cc in let low = within.low in omega signed
 
-  here : (v : ℤ) → cost_at rows l ≡ Some v → ends l ≡ Some v
-  here v is = row_here capped_row g π within.most rows within.filled l v is (low_here v is)
-
-  from : (v : ℤ) → cost_at rows l ≡ Some v → IsFrom g π (length π.energy) (suc (length π.energy)) ends (first_at rows)
-      (before_at rows) l v
+  from : (v : ℤ) → cost_at rows l ≡ Some v → IsFrom g π T (suc T) ends (first_at rows) (before_at rows) l v
   from v is = within.filled.table.sound l v low is (low_here v is)
 
   -- off since before the horizon
   pub back_off_within : (a : Schedule) → l ≡ 0 → IsFalse g.on0 → IsWrittenBack g π rows l a a
-  back_off_within = off_back g π rows l unit.ramp_up.at_least unit.ramp_down.at_least unit.min_down_is_one_or_more ends
-      within.filled.table.complete here from
+  back_off_within a none off = record {
+    up_to = λ v is. elim (from v is) [
+      | inl z ↦ rw (none, z.2) (up_to_idle g π T a unit.ramp_up.at_least unit.ramp_down.at_least off)
+      | inr h ↦ let on = h.1.spell.goes_on (let order = h.1.spell.order in omega arith) in cc
+    ];
+    first = λ v is other rival. record {
+      flag = λ t low agree on. let z : t ≡ 0 = omega arith in rw z (rw z at on);
+      power = λ flags k low here agree. absurd (omega arith);
+      reserve = λ flags powers k low here. absurd (omega arith);
+    };
+    later = λ t above. same_in;
+    zero_off = λ h. h;
+  }
 
-  module _ (e : Ended) (row : row_at rows l ≡ Some e) (on0 : l ≡ 0 → IsTrue g.on0) where
-    value_low : (ended : IsEnded g π (length π.energy) ends e.first e.before l e.cost)
-        (st : IsStarted g ends e.first e.before ended.entry_cost) → st.value ≤ℤ limits e.before
-    value_low ended st =
-        let under = low_here e.cost (cost-is rows l e row) in
-        low_start g π within.most limits within.filled.right unit starts e.first e.before l ended.entry_cost
-        ended.least.dispatch ends st ended.spell ended.least.keeps (omega (arith, ints, under))
+  module _ (e : Ended) (row : row_at rows l ≡ Some e) where
+    value_of : (v : ℤ) → cost_at rows l ≡ Some v → e.cost ≡ v
+    value_of v is = let here = cost-is rows l e row in cc
 
-    prior : (ended : IsEnded g π (length π.energy) ends e.first e.before l e.cost)
-        (st : IsStarted g ends e.first e.before ended.entry_cost) → cost_at rows e.before ≡ Some st.value
-    prior ended st = row_real capped_row g π within.most rows within.filled e.before st.value st.ended
-        (value_low ended st)
+    module _ (ended : IsEnded g π T ends e.first e.before l e.cost)
+        (latest : IsLatest g π T (suc T) ends e.first l e.cost)
+      where
+        here : ends l ≡ Some e.cost
+        here = row_here capped_row g π within.most rows within.filled l e.cost (cost-is rows l e row)
+            (low_here e.cost (cost-is rows l e row))
 
-    pub row_back_within : IsRowBack g π rows l e
-    row_back_within = back_of_row g π rows l unit.ramp_up.at_least unit.ramp_down.at_least unit.min_down_is_one_or_more
-        ends within.filled.table.complete here from e row on0 prior
+        started : 1 ≤ e.first → IsStarted g ends e.first e.before ended.entry_cost
+        started one = elim (ended.entry.entry) [ inl z ↦ absurd (omega arith) | inr st ↦ st ]
 
-    -- and what comes before it is within the limits
-    pub before_within : 1 ≤ e.first → IsRowWithin g π rows e.before
-    before_within one =
-        let ended = ended_of g π rows l unit.ramp_up.at_least unit.ramp_down.at_least unit.min_down_is_one_or_more ends
-        within.filled.table.complete here from e row on0 in
-        let st : IsStarted g ends e.first e.before ended.entry_cost = started g π (length π.energy) ends
-        unit.ramp_up.at_least unit.ramp_down.at_least unit.min_down_is_one_or_more e.first e.before l e.cost ended
-        one in
-        record {
-          most = within.most;
-          filled = within.filled;
-          value = st.value;
-          ended = prior ended st;
-          low = value_low ended st;
+        -- a spell that goes on from before the horizon
+        back_first : (a b : Schedule) → e.first ≡ 0 → IsWritten g π T e.first l a b → IsWrittenBack g π rows l a b
+        back_first a b none written =
+            let best = written.best ended.net ended.least in
+            let free : ended.entry_cost ≡ pos 0 = elim (ended.entry.entry)
+            [ inl z ↦ z.1 | inr st ↦ absurd (omega arith) ] in
+            record {
+              up_to = λ v is. rw (value_of v is) at (up_to_first g π T b unit.ramp_up.at_least unit.ramp_down.at_least
+                  e.first l e.cost none ended.spell written.on best.0 (omega signed));
+              first = λ v is. rw (value_of v is) at
+                  (first_alone g π ends T within.filled.table.complete e.first e.before
+                  l e.cost ended here latest b (written.tie ended.net ended.least) none);
+              later = λ t above. written.others t (inr above);
+              zero_off = zero_off_written π T e.first l a b written;
+            }
+
+        module _ (st : IsStarted g ends e.first e.before ended.entry_cost) where
+          -- what comes before the spell is within the limits, and so it is in the table
+          value_low : st.value ≤ℤ limits e.before
+          value_low =
+              let under = low_here e.cost (cost-is rows l e row) in
+              let net = ended.least.cost in
+              low_start g π within.most limits within.filled.right unit starts e.first e.before l ended.entry_cost
+              ended.least.dispatch ends st ended.spell ended.least.keeps (omega signed)
+
+          prior : cost_at rows e.before ≡ Some st.value
+          prior = row_real capped_row g π within.most rows within.filled e.before st.value st.ended value_low
+
+          -- a is the plan before the spell was written, b after it, and c after the rest was
+          module _ (a b c : Schedule) (idle : IsIdle g a 0 l) (written : IsWritten g π T e.first l a b)
+              (back : IsWrittenBack g π rows e.before b c) where
+            spell_same : (t : ℕ) → 1 ≤ t → e.first ≤ t → t ≤ l →
+                (power_in c t ≡ power_in b t) × (reserve_in c t ≡ reserve_in b t)
+            spell_same t one from until = let r = back.later t (omega arith) in (r.power, r.reserve)
+
+            idle_before : IsIdle g c e.before st.before
+            idle_before = idle_same a c e.before st.before
+                (λ t above until. same_then (written.others t (inl (omega arith))) (back.later t above))
+                (idle_part a 0 e.before st.before l (omega arith) (omega arith) idle)
+
+            back_next : IsWrittenBack g π rows l a c
+            back_next =
+                let best = written.best ended.net ended.least in
+                let order = ended.spell.order in
+                let cost = spell_cost-same g π T e.first l order b c spell_same in
+                let net = best.1 in
+                record {
+                  up_to = λ v is. rw (value_of v is) at
+                      (up_to_next g π T c unit.ramp_up.at_least unit.ramp_down.at_least
+                      e.first e.before st.before l st.value e.cost st.first (back.up_to st.value prior) st.gap
+                      unit.min_down_is_one_or_more idle_before ended.spell
+                      (λ t from until. (back.later t (omega arith)).on ∙ written.on t (omega arith) from until)
+                      (dispatch-same g π T e.first l order b c spell_same best.0) (omega signed));
+                  first = λ v is. rw (value_of v is) at (first_after g π ends T within.filled.table.complete e.first
+                      e.before l e.cost ended here latest c (first_dispatch-same g π T e.first l order b c spell_same
+                      ended.net (written.tie ended.net ended.least)) unit.min_down_is_one_or_more st idle_before.off
+                      (back.first st.value prior));
+                  later = λ t above. same_then (written.others t (inr above)) (back.later t (omega arith));
+                  zero_off = λ h. back.zero_off (zero_off_written π T e.first l a b written h);
+                }
+
+        row_back : IsRowBack g π rows l e
+        row_back = record {
+          order = ended.spell.order;
+          only = back_first;
+          before_less = λ one. let st = started one in omega arith;
+          before_idle = λ a b one written idle.
+              let st = started one in
+              idle_same a b 0 e.before (λ t above until. written.others t (inl (omega arith)))
+              (idle_part a 0 0 e.before l (omega arith) (omega arith) idle);
+          rest = λ a b c one idle written back. back_next (started one) a b c idle written back;
         }
+
+    module _ (on0 : l ≡ 0 → IsTrue g.on0) where
+      named : IsEnded g π T ends e.first e.before l e.cost × IsLatest g π T (suc T) ends e.first l e.cost
+      named = elim (from e.cost (cost-is rows l e row)) [
+        | inl h ↦ let on = on0 h.1 in cc
+        | inr h ↦ (rw (first-is rows l e row, before-is rows l e row) at h.1, rw (first-is rows l e row) at h.2)
+      ]
+
+      pub row_back_within : IsRowBack g π rows l e
+      row_back_within = row_back named.0 named.1
+
+      -- and what comes before it is within the limits
+      pub before_within : 1 ≤ e.first → IsRowWithin g π rows e.before
+      before_within one =
+          let st = started named.0 named.1 one in
+          record {
+            most = within.most;
+            filled = within.filled;
+            value = st.value;
+            ended = prior named.0 named.1 st;
+            low = value_low named.0 named.1 st;
+          }

@@ -1,11 +1,11 @@
 -- The rows and the ends as far as they are within the limits.
 use Rattle.unit_program.proofs.Common.{◌≡◌, ℕ, ◌≤◌, inl, inr, Option, Some, None, ℤ, pos, ◌+ℤ◌, ◌≤ℤ◌, List, length}
-use Rattle.unit_program.proofs.Common.{refl, arith, IfSome, IfNone, neg_ℤ, ints, EarningsAreWithin, ThermalUnit}
-use Rattle.unit_program.proofs.Common.{PriceLists, Schedule, Thermal, earnings, IsThermalUnit, ArePrices}
+use Rattle.unit_program.proofs.Common.{refl, IfSome, IfNone, signed, EarningsAreWithin, ThermalUnit}
+use Rattle.unit_program.proofs.Common.{PriceLists, Schedule, Thermal, IsThermalUnit, ArePrices}
 use Rattle.unit_program.proofs.Common.{IsThermalFeasible, Ended, Entry, CappedRowsAreRows, LimitsAreAboveTheAmount}
 use Rattle.unit_program.proofs.Common.{capped, IsFilledWithin, IsEndWithin, EachCostsMore, cost_at, IsOffRun}
 use Rattle.unit_program.proofs.Common.{IsLeastEnd}
-use Rattle.plain_lists.proofs.ListLaws.{if_some}
+use Rattle.plain_lists.proofs.ListLaws.{if_some, if_some_more}
 use Rattle.unit_program.proofs.ShapeLaws.{table_is_least}
 
 -- ---- the rows
@@ -21,7 +21,7 @@ module _ (capped_row : CappedRowsAreRows) (g : ThermalUnit) (π : PriceLists) (m
   pub row_real : (l : ℕ) (v : ℤ) → ends l ≡ Some v → v ≤ℤ filled.limits l → cost_at rows l ≡ Some v
   row_real l v is low = elim ((capped_row (filled.limits l) (cost_at rows l) v).1 is) [
     | inl h ↦ h.0
-    | inr cap ↦ absurd (omega (arith, ints, low, cap))
+    | inr cap ↦ absurd (omega signed)
   ]
 
   module _ (above_most : LimitsAreAboveTheAmount) where
@@ -32,16 +32,15 @@ module _ (capped_row : CappedRowsAreRows) (g : ThermalUnit) (π : PriceLists) (m
         let r = table_is_least g π ends (length π.energy) s right filled.table.complete in
         let limit = above_most g π most filled.limits filled.right r.0 r.1 in
         elim ((capped_row (filled.limits r.0) (cost_at rows r.0) r.3.0).1 r.3.1) [
-          | inl there ↦ let high = above r.0 r.3.0 there.0 r.2 in omega (arith, ints, high)
-          | inr cap ↦ omega (arith, ints, cap, limit)
+          | inl there ↦ let high = above r.0 r.3.0 there.0 r.2 in omega signed
+          | inr cap ↦ omega signed
         ]
 
     -- the least end is that of the capped rows
     module _ (l : ℕ) (v : ℤ) (low : v ≤ℤ most) (least : IsLeastEnd g (length π.energy) (cost_at rows) l v)
         (earliest : (k : ℕ) → cost_at rows k ≡ Some v → IsOffRun g k (length π.energy) → l ≤ k) where
       pub end_low : v ≤ℤ filled.limits l
-      end_low = (let limit = above_most g π most filled.limits filled.right l least.off.order in omega
-          (arith, ints, low, limit))
+      end_low = (let limit = above_most g π most filled.limits filled.right l least.off.order in omega signed)
 
       pub end_capped : IsLeastEnd g (length π.energy) ends l v
       end_capped = record {
@@ -51,14 +50,18 @@ module _ (capped_row : CappedRowsAreRows) (g : ThermalUnit) (π : PriceLists) (m
             (let limit = above_most g π most filled.limits filled.right k off.order in
             elim ((capped_row (filled.limits k) (cost_at rows k) u).1 is) [
               | inl there ↦ least.least k u there.0 off
-              | inr cap ↦ omega (arith, ints, low, limit, cap)
+              | inr cap ↦ omega signed
             ]);
       }
 
       pub end_earliest : (k : ℕ) → ends k ≡ Some v → IsOffRun g k (length π.energy) → l ≤ k
       end_earliest k is off =
           (let limit = above_most g π most filled.limits filled.right k off.order in earliest k
-          (row_real k v is (omega (arith, ints, low, limit))) off)
+          (row_real k v is (omega signed)) off)
+
+pub if_none_more : {X : Type 0} (P Q : Type 0) → (P → Q) → (o : Option X) → IfNone o P → IfNone o Q
+if_none_more P Q more None h = more h
+if_none_more P Q more (Some x) h = tt
 
 -- ---- an end that is found
 
@@ -71,22 +74,19 @@ module _ (g : ThermalUnit) (π : PriceLists) (most : ℤ) (rows : List (Option E
     (taken : IfSome r (λ e. (end ≡ Some e) × (e.cost ≤ℤ most)))
     (left : IfNone r ((e : Entry) → end ≡ Some e → (most +ℤ pos 1) ≤ℤ e.cost)) where
   pub found_within : IfSome r (λ e. IsEndWithin g π rows e.last e.cost)
-  found_within = by r taken
-    where
-      by : (r : Option Entry) → IfSome r (λ e. (end ≡ Some e) × (e.cost ≤ℤ most)) →
-          IfSome r (λ e. IsEndWithin g π rows e.last e.cost)
-      by None h = tt
-      by (Some e) h = record {
+  found_within = if_some_more (λ e. (end ≡ Some e) × (e.cost ≤ℤ most)) (λ e. IsEndWithin g π rows e.last e.cost)
+      (λ e h. record {
         most = most;
         filled = filled;
         low = h.1;
         least = if_some (λ e. IsLeastEnd g (length π.energy) (cost_at rows) e.last e.cost) end e h.0 some;
         earliest = if_some (λ e. (k : ℕ) → cost_at rows k ≡ Some e.cost → IsOffRun g k (length π.energy) →
             e.last ≤ k) end e h.0 earliest;
-      }
+      }) r taken
 
   pub none_found : IfNone r (EachCostsMore g π most)
-  none_found = by r left
+  none_found = if_none_more ((e : Entry) → end ≡ Some e → (most +ℤ pos 1) ≤ℤ e.cost) (EachCostsMore g π most)
+      (λ left. none_within capped_row g π most rows filled above_most (above end some none left)) r left
     where
       above : (end : Option Entry) → IfSome end (λ e. IsLeastEnd g (length π.energy) (cost_at rows) e.last e.cost) →
           IfNone end ((l : ℕ) (v : ℤ) → cost_at rows l ≡ Some v → IsOffRun g l (length π.energy) → ⊥) →
@@ -94,12 +94,7 @@ module _ (g : ThermalUnit) (π : PriceLists) (most : ℤ) (rows : List (Option E
           (l : ℕ) (v : ℤ) → cost_at rows l ≡ Some v → IsOffRun g l (length π.energy) → (most +ℤ pos 1) ≤ℤ v
       above None some none left l v is off = absurd (none l v is off)
       above (Some e) some none left l v is off =
-          (let low = some.least l v is off in let high = left e refl in omega (arith, ints, low, high))
-
-      by : (r : Option Entry) → IfNone r ((e : Entry) → end ≡ Some e → (most +ℤ pos 1) ≤ℤ e.cost) →
-          IfNone r (EachCostsMore g π most)
-      by None h = none_within capped_row g π most rows filled above_most (above end some none h)
-      by (Some e) h = tt
+          (let low = some.least l v is off in let high = left e refl in omega signed)
 
 -- no schedule costs more than an amount that nothing costs
 pub none_feasible : (law : EarningsAreWithin) (g : ThermalUnit) (π : PriceLists) (unit : IsThermalUnit g)
@@ -108,12 +103,4 @@ pub none_feasible : (law : EarningsAreWithin) (g : ThermalUnit) (π : PriceLists
 none_feasible law g π unit prices most high more s right =
     let within = (law (Thermal g) π s unit prices right).at_least in
     let above = more s right in
-    by (earnings (Thermal g) π s) most within above high
-  where
-    by : (e most : ℤ) → neg_ℤ (pos 3500000000000000000) ≤ℤ e → (most +ℤ pos 1) ≤ℤ neg_ℤ e →
-        pos 3500000000000000000 ≤ℤ most → ⊥
-    by e most within above high = omega (arith, ints, within, above, high)
-
-pub if_none_more : {X : Type 0} (P Q : Type 0) → (P → Q) → (o : Option X) → IfNone o P → IfNone o Q
-if_none_more P Q more None h = more h
-if_none_more P Q more (Some x) h = tt
+    omega signed

@@ -6,4 +6,4 @@ use Rattle.slope_list.specs.declared.slopes.Lowest.{Lowest}
 pub end_within : (ps : List Passed) (k : ℕ) (e : Lowest) → (passed_at ps k).end ≡ Some e → k < length ps
 end_within [] k e is = cc
 end_within (p ∷ ps) zero e is = omega arith
-end_within (p ∷ ps) (suc k) e is = (let low = end_within ps k e is in omega (arith, low))
+end_within (p ∷ ps) (suc k) e is = (let low = end_within ps k e is in omega arith)

@@ -1,166 +1,17 @@
 -- Of all schedules that cost the same, what the way back writes is the first: the table names the earliest end, the
--- latest
--- first period of a spell and the earliest on period before it, and each spell is written first by powers and reserves.
-use Rattle.unit_program.proofs.Common.{◌≡◌, ℕ, zero, suc, ◌<◌, ◌≤◌, true, false, inl, inr, Option, Some, ℤ, pos, ◌+ℤ◌}
-use Rattle.unit_program.proofs.Common.{◌≤ℤ◌, length, refl, sym, ap, ◌∙◌, subst, arith, IsTrue, IsFalse, slice_index}
-use Rattle.unit_program.proofs.Common.{slice_index_or, ints, cases_lt, ThermalUnit, PriceLists, Schedule, on_in}
-use Rattle.unit_program.proofs.Common.{power_in, reserve_in, IsThermalFeasible, IsDispatch, IsFirstDispatch, spell_cost}
-use Rattle.unit_program.proofs.Common.{IsStep, off_time, IsSpell, IsOffRun, start_cost_after, paid, IsEntryAfter}
+-- latest first period of a spell and the earliest on period before it, and each spell is written first by powers and
+-- reserves.
+use Rattle.unit_program.proofs.Common.{◌≡◌, ℕ, zero, suc, ◌<◌, ◌≤◌, false, inl, inr, Option, Some, ℤ, pos, ◌+ℤ◌}
+use Rattle.unit_program.proofs.Common.{◌≤ℤ◌, refl, sym, ap, ◌∙◌, arith, signed, IsTrue, IsFalse, slice_index}
+use Rattle.unit_program.proofs.Common.{slice_index_or, cases_lt, cases_Bool, ThermalUnit, PriceLists, Schedule, on_in}
+use Rattle.unit_program.proofs.Common.{power_in, reserve_in, IsThermalFeasible, IsDispatch, IsFirstDispatch}
+use Rattle.unit_program.proofs.Common.{spell_cost, IsOffRun, paid}
 use Rattle.unit_program.proofs.Common.{IsStarted, IsEnded, IsLatest, IsComplete, IsZeroOff, IsRival, HasSameFlags}
 use Rattle.unit_program.proofs.Common.{HasSamePowers, IsFirstBeside, IsFirstUpTo}
 use Rattle.unit_program.proofs.BackwardOrder.{IsNoLater}
-use Rattle.unit_program.proofs.CommitLaws.{steps_from_rules}
-use Rattle.unit_program.proofs.SpellLaws.{IsRun, dispatch_of_run, off_time-same}
-use Rattle.unit_program.proofs.ShapeLaws.{IsOffAfter, IsOnSince, shape_of, stops_after, spell_of, off_run_of, gap_of}
-use Rattle.unit_program.proofs.ShapeLaws.{known}
-
--- ---- the last spell of a schedule that costs what the table says
-
-module _ (g : ThermalUnit) (π : PriceLists) (ends : ℕ → Option ℤ) (n : ℕ) (o : Schedule) where
-  -- the spell from suc k to l starts after `last`, up to which the schedule costs what the table says too
-  pub record IsStartedRun (k l : ℕ) (v : ℤ) : Type 0 where
-    pub last : ℕ
-    pub value : ℤ
-    pub idle : IsOffAfter g π o last k
-    pub ended : ends last ≡ Some value
-    pub rival : IsRival g π n last value o
-    pub started : IsStarted g ends (suc k) last (value +ℤ start_cost_after g last k)
-    pub cost : v ≡ (value +ℤ start_cost_after g last k) +ℤ spell_cost g π (suc k) l o
-
-  pub record IsEdge (f l : ℕ) (v : ℤ) : Type 0 where
-    pub run : IsRun g o f l
-    pub spell : IsSpell g n f l
-    pub keeps : IsDispatch g n f l o
-    pub first : f ≡ 0 → v ≡ pos 0 +ℤ spell_cost g π f l o
-    pub starts : (k : ℕ) → f ≡ suc k → IsStartedRun k l v
-
-  -- the whole horizon costs v, and k is the last on period
-  pub record IsEnd (k : ℕ) (v : ℤ) : Type 0 where
-    pub low : k ≤ n
-    pub ended : ends k ≡ Some v
-    pub run : IsOffRun g k n
-    pub rival : IsRival g π n k v o
-    pub off : (u : ℕ) → k < u → u ≤ n → IsFalse (on_in g o u)
-
-module _ (g : ThermalUnit) (π : PriceLists) (ends : ℕ → Option ℤ) (o : Schedule)
-    (right : IsThermalFeasible g (length o.on) o) (complete : IsComplete g π (length o.on) (suc (length o.on)) ends)
-  where
-    steps : (k : ℕ) → k < length o.on → IsStep g o k
-    steps = steps_from_rules g o right.commitment
-
-    started_run : (f l : ℕ) (v : ℤ) → ends l ≡ Some v → paid g π o l ≡ v → IsSpell g (length o.on) f l →
-        IsDispatch g (length o.on) f l o → IsOnSince g π o f l
-        → (k : ℕ) → f ≡ suc k → IsStartedRun g π ends (length o.on) o k l v
-    started_run f l v ended paid_is spell keeps since k is =
-        let r = since.starts k is in
-        let last = r.0 in
-        let st = r.1 in
-        let gap = gap_of g π o steps f l last k since spell.end is st in
-        let after : IsTrue (on_in g o last) → last < length o.on →
-        IsFalse (on_in g o (suc last)) = λ here _. stops_after g π o last k st here in
-        let known_last = known g π o steps ends right.dispatch complete last (omega (arith, is)) after st.on in
-        let u = known_last.0 in
-        let start : IsStarted g ends f last (u +ℤ start_cost_after g last k) = record
-        { before = k; first = is; value = u; ended = known_last.1; gap = gap; cost = refl } in
-        let known_here = complete.spell f l (u +ℤ start_cost_after g last k) o (omega arith) spell
-        (last, inr start) keeps
-        in
-        let v_is : known_here.0 ≡ v = cc in
-        let u_is : paid g π o last ≡ u = omega (arith, ints, v_is, paid_is) in
-        let same = ap (λ (f : ℕ). spell_cost g π f l o) is in
-        record {
-          last = last;
-          value = u;
-          idle = st;
-          ended = known_last.1;
-          rival = record { right = right; cost = u_is; on = st.on; after = after };
-          started = record { before = k; first = refl; value = u; ended = known_last.1; gap = gap; cost = refl };
-          cost = omega (arith, ints, paid_is, u_is, same);
-        }
-
-    edge_at : (f l : ℕ) (v : ℤ) → l ≤ length o.on → ends l ≡ Some v → IsRival g π (length o.on) l v o →
-        IsTrue (on_in g o l) → IsOnSince g π o f l → IsEdge g π ends (length o.on) o f l v
-    edge_at f l v low ended rival on since =
-        let run = since.run in
-        let after = rival.after on in
-        let paid_is = rival.cost in
-        let spell = spell_of g π o steps f l since low after in
-        let keeps = dispatch_of_run g o right.dispatch f l run low after in
-        record {
-          run = run;
-          spell = spell;
-          keeps = keeps;
-          first = λ is. (let c = (since.goes_on is).1 in let z = ap (λ (f : ℕ). spell_cost g π f l o) is in omega
-              (arith, ints, c, z, paid_is));
-          starts = started_run f l v ended paid_is spell keeps since;
-        }
-
-    edge_of : (l : ℕ) (v : ℤ) → l ≤ length o.on → ends l ≡ Some v → IsRival g π (length o.on) l v o →
-        IsTrue (on_in g o l) → (f : ℕ) × IsEdge g π ends (length o.on) o f l v
-    edge_of l v low ended rival on = elim (shape_of g π o l) [
-      | inl w ↦ (w.0, edge_at w.0 l v low ended rival on w.1)
-      | inr w ↦ cc
-    ]
-
-    end_at : (v : ℤ) → ((k : ℕ) (u : ℤ) → ends k ≡ Some u → IsOffRun g k (length o.on) → v ≤ℤ u)
-        → (k : ℕ) → k ≤ length o.on → IsOffRun g k (length o.on) → (1 ≤ k → IsTrue (on_in g o k)) →
-        ((u : ℕ) → k < u → u ≤ length o.on → IsFalse (on_in g o u)) → paid g π o k ≡ v
-        → IsEnd g π ends (length o.on) o k v
-    end_at v least k low run on off paid_is =
-        let after : IsTrue (on_in g o k) → k < length o.on →
-        IsFalse (on_in g o (suc k)) = λ _ inside. off (suc k) (omega arith) (omega (arith, inside)) in
-        let r = known g π o steps ends right.dispatch complete k low after on in
-        let above = least k r.0 r.1 run in
-        let u_is : r.0 ≡ v = omega (arith, ints, above, paid_is) in
-        record {
-          low = low;
-          ended = r.1 ∙ ap Some u_is;
-          run = run;
-          rival = record { right = right; cost = paid_is; on = on; after = after };
-          off = off;
-        }
-
-    end_of : (v : ℤ) → ((k : ℕ) (u : ℤ) → ends k ≡ Some u → IsOffRun g k (length o.on) → v ≤ℤ u) →
-        paid g π o (length o.on) ≡ v → (k : ℕ) × IsEnd g π ends (length o.on) o k v
-    end_of v least paid_is = elim (shape_of g π o (length o.on)) [
-      | inl w ↦ (
-        length o.on,
-        end_at v least (length o.on) (omega arith)
-            (record {
-              order = omega arith;
-              must_run = λ _. omega arith;
-              marks = λ u above until mark.
-                  absurd (omega (arith, above, until));
-            })
-            (λ _. w.1.run.on (length o.on) w.1.run.order (omega arith))
-            (λ u above until. absurd (omega (arith, above, until))) paid_is,
-      )
-      | inr w ↦
-          let st = w.1 in (
-            w.0,
-            end_at v least w.0 st.order
-                (off_run_of g π o steps w.0 (length o.on) st (omega arith))
-                st.on st.off (omega (arith, ints, paid_is)),
-          )
-    ]
-
-module _ (g : ThermalUnit) (π : PriceLists) (ends : ℕ →
-    Option ℤ) (n : ℕ) (complete : IsComplete g π n (suc n) ends) (o : Schedule) where
-  edge_right : (l : ℕ) (v : ℤ) → l ≤ n → ends l ≡ Some v → IsRival g π n l v o → IsTrue (on_in g o l) →
-      (f : ℕ) × IsEdge g π ends n o f l v
-  edge_right l v low ended rival on =
-      subst (λ (n : ℕ). IsComplete g π n (suc n) ends → l ≤ n → IsRival g π n l v o →
-      (f : ℕ) × IsEdge g π ends n o f l v) rival.right.schedule.on
-      (λ complete low rival. edge_of g π ends o rival.right complete l v low ended rival on) complete low rival
-
-  end_right : (v : ℤ) → IsThermalFeasible g n o → ((k : ℕ) (u : ℤ) → ends k ≡ Some u → IsOffRun g k n → v ≤ℤ u) →
-      paid g π o n ≡ v → (k : ℕ) × IsEnd g π ends n o k v
-  end_right v right least paid_is =
-      subst (λ (n : ℕ). IsComplete g π n (suc n) ends → IsThermalFeasible g n o →
-      ((k : ℕ) (u : ℤ) → ends k ≡ Some u → IsOffRun g k n → v ≤ℤ u) → paid g π o n ≡ v →
-      (k : ℕ) × IsEnd g π ends n o k v)
-      right.schedule.on (λ complete right least paid_is. end_of g π ends o right complete v least paid_is) complete
-      right least paid_is
+use Rattle.unit_program.proofs.SpellLaws.{off_time-same}
+use Rattle.unit_program.proofs.ShapeLaws.{IsEdge, IsOffAfter, stops_after, known, edge_of}
+use Rattle.unit_program.proofs.ShapeLaws.{entry_of, last_on}
 
 -- ---- one spell that the table names
 
@@ -168,62 +19,60 @@ module _ (g : ThermalUnit) (π : PriceLists) (ends : ℕ → Option ℤ) (n : �
     (first before l : ℕ) (v : ℤ) (named : IsEnded g π n ends first before l v) (ended : ends l ≡ Some v)
     (latest : IsLatest g π n (suc n) ends first l v)
     (s : Schedule) (best : IsFirstDispatch g π n first l s named.net) where
-  edge_here : (o : Schedule) → IsRival g π n l v o → (f : ℕ) × IsEdge g π ends n o f l v
-  edge_here o rival =
-      let on : IsTrue (on_in g o l) = elim (cases_lt 0 l) [
-        | inl one ↦ rival.on (omega (arith, one))
-        | inr none ↦ let z : 0 ≡ l = omega (arith, none) in subst (λ (l : ℕ). IsTrue (on_in g o l)) z
-            (named.spell.goes_on (omega (arith, none)))
-      ] in
-      edge_right g π ends n complete o l v named.spell.end ended rival on
+  -- what costs as much up to l ends there with a spell that the table has too
+  module _ (o : Schedule) (rival : IsRival g π n l v o) where
+    on_there : IsTrue (on_in g o l)
+    on_there = elim (cases_lt 0 l) [
+      | inl one ↦ rival.on one
+      | inr none ↦
+          let z : l ≡ 0 = omega arith in
+          rw z (named.spell.goes_on (omega arith))
+    ]
 
-  entry_of : (o : Schedule) (f : ℕ) → IsEdge g π ends n o f l v →
-      (last : ℕ) × ((e : ℤ) × (IsEntryAfter g ends f last e) × (v ≡ e +ℤ spell_cost g π f l o))
-  entry_of o f edge = elim f as
-      (λ z. f ≡ z → (last : ℕ) × ((e : ℤ) × (IsEntryAfter g ends f last e) × (v ≡ e +ℤ spell_cost g π f l o))) [
-        | zero ↦ λ is. (0, (pos 0, inl (is, refl), edge.first is))
-        | suc k ↦ λ is.
-            let r = edge.starts k is in
-            let e : ℤ = r.value +ℤ start_cost_after g r.last k in (
-              r.last,
-              (
-                e,
-                inr (subst (λ (f : ℕ). IsStarted g ends f r.last e) (sym is) r.started),
-                r.cost ∙
-                    ap (λ (f : ℕ). e +ℤ spell_cost g π f l o) (sym is),
-              ),
-            )
-      ] refl
+    edge : (f : ℕ) × IsEdge o rival.right π ends f l
+    edge = edge_of o rival.right π ends complete l named.spell.end on_there (rival.after on_there)
 
-  -- the run of a rival that ends at l begins no later than the spell that is named
-  no_later : (o : Schedule) (f : ℕ) → IsEdge g π ends n o f l v → f ≤ first
-  no_later o f edge =
-      let e = entry_of o f edge in
-      latest f e.0 e.1.0 o (omega arith) edge.spell e.1.1 edge.keeps (sym e.1.2)
+    exact : (edge.1.cost +ℤ spell_cost g π edge.0 l o) ≡ v
+    exact =
+        let e = edge.1 in
+        let r = complete.spell edge.0 l e.cost o (omega arith) e.spell (e.last, entry_of o rival.right π ends e)
+        e.keeps in
+        let same : r.0 ≡ v = cc in
+        omega signed
 
-  -- where it begins there, its spell costs what the named one does
-  same_net : (o : Schedule) (f : ℕ) → IsEdge g π ends n o f l v → f ≡ first →
-      IsDispatch g n first l o × (spell_cost g π first l o ≡ named.net)
-  same_net o f edge is =
-      let e = entry_of o f edge in
-      let keeps = subst (λ (f : ℕ). IsDispatch g n f l o) is edge.keeps in
-      let low = named.least.least o keeps in
-      let least = named.entry.least e.1.0 (e.0, subst (λ (f : ℕ). IsEntryAfter g ends f e.0 e.1.0) is e.1.1) in
-      let same = ap (λ (f : ℕ). spell_cost g π f l o) is in
-      (keeps, omega (arith, ints, low, least, same))
+    -- it begins no later than the spell that is named
+    no_later : edge.0 ≤ first
+    no_later =
+        let e = edge.1 in
+        latest edge.0 e.last e.cost o (omega arith) e.spell (entry_of o rival.right π ends e) e.keeps exact
+
+    -- where it begins there, it costs what the named one does, and so does all before it
+    module _ (is : edge.0 ≡ first) where
+      keeps_there : IsDispatch g n first l o
+      keeps_there = rw is at edge.1.keeps
+
+      costs_there : (spell_cost g π first l o ≡ named.net) × (edge.1.cost ≡ named.entry_cost)
+      costs_there =
+          let e = edge.1 in
+          let low = named.least.least o keeps_there in
+          let least = named.entry.least e.cost (e.last, rw is at (entry_of o rival.right π ends e)) in
+          let same = ap (λ (f : ℕ). spell_cost g π f l o) is in
+          let sum = exact in
+          (omega signed, omega signed)
 
   -- a spell that goes on from before the horizon
   pub first_alone : first ≡ 0 → IsFirstUpTo g π n l v s
   first_alone none o rival =
-      let r = edge_here o rival in
-      let late = no_later o r.0 r.1 in
-      let net = same_net o r.0 r.1 (omega (arith, late, none)) in
+      let late = no_later o rival in
+      let is : (edge o rival).0 ≡ first = omega arith in
+      let keeps = keeps_there o rival is in
+      let net = (costs_there o rival is).0 in
       record {
-        flag = λ t low agree here. r.1.run.on t (omega (arith, late, none)) low;
-        power = λ flags k low here agree. best.power o net.0 net.1 k (omega (arith, none)) low
-            (λ j above inside. agree j (omega (arith, above)) inside);
-        reserve = λ flags powers k low here. best.reserve o net.0 net.1 (λ j from inside. powers j (omega arith) inside)
-            k (omega (arith, none)) low;
+        flag = λ t low agree here. (edge o rival).1.run.on t (omega arith) low;
+        power = λ flags k low here agree. best.power o keeps net k (omega arith) low
+            (λ j above inside. agree j above inside);
+        reserve = λ flags powers k low here. best.reserve o keeps net (λ j from inside. powers j (omega arith) inside) k
+            (omega arith) low;
       }
 
   -- a spell that starts after the rest, of which s is the first
@@ -231,121 +80,123 @@ module _ (g : ThermalUnit) (π : PriceLists) (ends : ℕ → Option ℤ) (n : �
       (idle : (t : ℕ) → before < t → t ≤ st.before → IsFalse (on_in g s t)) (rest : IsFirstUpTo g π n before st.value s)
     where
       off_before : IsFalse (on_in g s st.before)
-      off_before = elim (cases_lt before st.before) [
-        | inl more ↦ idle st.before more (omega arith)
-        | inr most ↦
-            let z : before ≡ st.before = omega (arith, most) in
-            let down = subst (λ (k : ℕ). g.min_down ≤ off_time g k st.before) z st.gap.min_down in
-            elim (on_in g s st.before) as (λ b. on_in g s st.before ≡ b → IsFalse b) [
-              | false ↦ λ here. refl
-              | true ↦ λ here. let none = off_time-same g s st.before here in absurd
-                  (omega (arith, none, down, some_down))
-            ] refl
+      off_before = elim (cases_Bool (on_in g s st.before)) [
+        | inr off ↦ off
+        | inl on ↦ elim (cases_lt before st.before) [
+          | inl more ↦ idle st.before more (omega arith)
+          | inr most ↦
+              let z : before ≡ st.before = omega arith in
+              let down = rw z at st.gap.min_down in
+              let none = off_time-same g s st.before on in
+              absurd (omega arith)
+        ]
       ]
 
-      same_first : (o : Schedule) (f : ℕ) → IsEdge g π ends n o f l v → on_in g o st.before ≡ on_in g s st.before →
-          f ≡ first
-      same_first o f edge same =
-          let late = no_later o f edge in
-          elim (cases_lt st.before f) [
-            | inl more ↦ omega (arith, more, late)
-            | inr most ↦ let on = edge.run.on st.before most (omega arith) in let off = off_before in cc
-          ]
+      module _ (o : Schedule) (rival : IsRival g π n l v o) where
+        same_first : on_in g o st.before ≡ on_in g s st.before → (edge o rival).0 ≡ first
+        same_first same =
+            let late = no_later o rival in
+            elim (cases_lt st.before (edge o rival).0) [
+              | inl more ↦ omega arith
+              | inr most ↦
+                  let on = (edge o rival).1.run.on st.before most (omega arith) in
+                  let off = off_before in cc
+            ]
 
-      -- both start there: so both have the same on period before it, and the rival costs as much up to that one
-      rival_before : (o : Schedule) (f : ℕ) → IsEdge g π ends n o f l v → f ≡ first →
-          HasSameFlags g o s before st.before → IsRival g π n before st.value o
-      rival_before o f edge f_is agree =
-          let r = edge.starts st.before (f_is ∙ st.first) in
-          let net = (same_net o f edge f_is).1 in
-          let e : ℤ = r.value +ℤ start_cost_after g r.last st.before in
-          let entry : IsEntryAfter g ends first r.last e = inr
-          (subst (λ (f : ℕ). IsStarted g ends f r.last e) (sym st.first) r.started) in
-          let same = ap (λ (f : ℕ). spell_cost g π f l o) st.first in
-          let e_is : e ≡ named.entry_cost = omega (arith, ints, net, same) in
-          let earliest = named.entry.earliest r.last
-          (subst (λ (z : ℤ). IsEntryAfter g ends first r.last z) e_is entry) in
-          let last_is : r.last ≡ before = elim (cases_lt before r.last) [
-            | inl more ↦
-                let s_off = idle r.last more r.idle.order in
-                let o_on = r.idle.on (omega (arith, more)) in
-                let a = agree r.last more r.idle.order in cc
-            | inr most ↦ omega (arith, most, earliest)
-          ] in
-          let value_is : r.value ≡ st.value =
-          (let a = subst (λ (l : ℕ). ends l ≡ Some r.value) last_is r.ended in cc) in
-          subst (λ (v : ℤ). IsRival g π n before v o) value_is
-          (subst (λ (l : ℕ). IsRival g π n l r.value o) last_is r.rival)
+        -- both start there: so both have the same on period before it, and the rival costs as much up to that one
+        rival_before : (edge o rival).0 ≡ first → HasSameFlags g o s before st.before → IsRival g π n before st.value o
+        rival_before is agree = elim ((edge o rival).1.begins) [
+          | inl none ↦ let zero = none.0 in absurd (omega arith)
+          | inr w ↦
+              let e = (edge o rival).1 in
+              let there : IsStarted g ends first e.last named.entry_cost =
+              rw (is, (costs_there o rival is).1) at w.0 in
+              let earliest = named.entry.earliest e.last (inr there) in
+              let k : w.0.before ≡ st.before = (let a = w.0.first in let b = st.first in omega arith) in
+              let off : IsOffAfter g o e.last st.before = rw k at w.1 in
+              let last : e.last ≡ before = elim (cases_lt before e.last) [
+                | inl more ↦
+                    let s_off = idle e.last more off.order in
+                    let o_on = off.on (omega arith) in
+                    let same = agree e.last more off.order in cc
+                | inr most ↦ omega arith
+              ] in
+              let value : w.0.value ≡ st.value = (let a = rw last at w.0.ended in let b = st.ended in cc) in
+              let sum = exact o rival in
+              let over = w.2 in
+              let same : paid g π o e.last ≡ st.value = omega signed in
+              let there : IsRival g π n e.last st.value o = record {
+                right = rival.right;
+                cost = same;
+                on = off.on;
+                after = λ on _. stops_after g o e.last st.before off on;
+              } in
+              rw last at there
+        ]
 
-      flag_after : (o : Schedule) → IsRival g π n l v o → (t : ℕ) → t ≤ l → HasSameFlags g o s t l →
-          IsTrue (on_in g s t) → IsTrue (on_in g o t)
-      flag_after o rival t low agree here =
-          let r = edge_here o rival in
-          let late = no_later o r.0 r.1 in
-          elim (cases_lt st.before t) [
-            | inl later ↦ r.1.run.on t (omega (arith, late, later)) low
-            | inr until ↦ elim (cases_lt before t) [
-              | inl gap ↦ let off = idle t gap until in cc
-              | inr under ↦ elim (cases_lt t st.before) [
-                | inl below ↦
-                    let f_is = same_first o r.0 r.1 (agree st.before below (omega arith)) in
-                    let rival' = rival_before o r.0 r.1 f_is
-                    (λ u above inside. agree u (omega (arith, above, under)) (omega (arith, inside))) in
-                    (rest o rival').flag t under (λ u above inside. agree u above (omega (arith, inside))) here
-                | inr most ↦
-                    let z : st.before ≡ t = omega (arith, most, until) in
-                    let off = subst (λ (t : ℕ). IsFalse (on_in g s t)) z off_before in cc
+        flag_after : (t : ℕ) → t ≤ l → HasSameFlags g o s t l → IsTrue (on_in g s t) → IsTrue (on_in g o t)
+        flag_after t low agree here =
+            let late = no_later o rival in
+            elim (cases_lt st.before t) [
+              | inl later ↦ (edge o rival).1.run.on t (omega arith) low
+              | inr until ↦ elim (cases_lt before t) [
+                | inl gap ↦ let off = idle t gap until in cc
+                | inr under ↦ elim (cases_lt t st.before) [
+                  | inl below ↦
+                      let is = same_first (agree st.before below (omega arith)) in
+                      let earlier = rival_before is (λ u above inside. agree u (omega arith) (omega arith)) in
+                      (rest o earlier).flag t under (λ u above inside. agree u above (omega arith)) here
+                  | inr most ↦
+                      let z : t ≡ st.before = omega arith in
+                      let off = off_before in
+                      let on = rw z at here in cc
+                ]
               ]
+            ]
+
+        -- where all flags agree, both start there
+        module _ (flags : HasSameFlags g o s 0 l) where
+          flags_at : (t : ℕ) → t ≤ l → on_in g o t ≡ on_in g s t
+          flags_at zero low = refl
+          flags_at (suc k) low = flags (suc k) (omega arith) low
+
+          starts_same : (edge o rival).0 ≡ first
+          starts_same = same_first (flags_at st.before (omega arith))
+
+          before_same : IsFirstBeside g before o s
+          before_same = rest o (rival_before starts_same (λ u above inside. flags_at u (omega arith)))
+
+          -- what holds of the powers or reserves of the spell, and of those before it, does of all on periods of s
+          by_part : (P : ℕ → Type 0) → ((k : ℕ) → first ≤ suc k → k < l → P k) → ((k : ℕ) → k < before →
+              IsTrue (on_in g s (suc k)) → P k) → (k : ℕ) → k < l → IsTrue (on_in g s (suc k)) → P k
+          by_part P inside under k low here = elim (cases_lt st.before (suc k)) [
+            | inl from ↦ inside k (omega arith) low
+            | inr until ↦ elim (cases_lt before (suc k)) [
+              | inl gap ↦ let off = idle (suc k) gap until in cc
+              | inr below ↦ under k below here
             ]
           ]
 
-      -- where all flags agree, both start there
-      module _ (o : Schedule) (rival : IsRival g π n l v o) (flags : HasSameFlags g o s 0 l) where
-        flags_at : (t : ℕ) → t ≤ l → on_in g o t ≡ on_in g s t
-        flags_at zero low = refl
-        flags_at (suc k) low = flags (suc k) (omega arith) low
+          power_after : (k : ℕ) → k < l → IsTrue (on_in g s (suc k)) → HasSamePowers o s (suc k) l →
+              power_in s (suc k) ≤ℤ power_in o (suc k)
+          power_after k low here agree =
+              by_part (λ k. HasSamePowers o s (suc k) l → power_in s (suc k) ≤ℤ power_in o (suc k))
+              (λ k from low agree. best.power o (keeps_there o rival starts_same) (costs_there o rival starts_same).0 k
+              from low agree)
+              (λ k below here agree. before_same.power
+              (λ u above inside. flags u above (omega arith)) k below here
+              (λ j above inside. agree j above (omega arith)))
+              k low here agree
 
-        starts_same : (edge_here o rival).0 ≡ first
-        starts_same =
-            let r = edge_here o rival in
-            same_first o r.0 r.1 (flags_at st.before (omega arith))
-
-        before_same : IsFirstBeside g before o s
-        before_same =
-            let r = edge_here o rival in
-            rest o (rival_before o r.0 r.1 starts_same (λ u above inside. flags_at u (omega (arith, inside))))
-
-        net_same : IsDispatch g n first l o × (spell_cost g π first l o ≡ named.net)
-        net_same = let r = edge_here o rival in same_net o r.0 r.1 starts_same
-
-        power_after : (k : ℕ) → k < l → IsTrue (on_in g s (suc k)) → HasSamePowers o s (suc k) l →
-            power_in s (suc k) ≤ℤ power_in o (suc k)
-        power_after k low here agree =
-            elim (cases_lt st.before (suc k)) [
-              | inl inside ↦ best.power o net_same.0 net_same.1 k (omega (arith, inside)) low
-                  (λ j above until. agree j (omega (arith, above)) until)
-              | inr until ↦ elim (cases_lt before (suc k)) [
-                | inl gap ↦ let off = idle (suc k) gap until in cc
-                | inr under ↦
-                    before_same.power (λ u above inside. flags u above (omega (arith, inside))) k (omega (arith, under))
-                    here
-                    (λ j above inside. agree j above (omega (arith, inside)))
-              ]
-            ]
-
-        reserve_after : HasSamePowers o s 0 l → (k : ℕ) → k < l → IsTrue (on_in g s (suc k)) →
-            reserve_in s (suc k) ≤ℤ reserve_in o (suc k)
-        reserve_after powers k low here =
-            elim (cases_lt st.before (suc k)) [
-              | inl inside ↦ best.reserve o net_same.0 net_same.1 (λ j above until. powers j (omega arith) until) k
-                  (omega (arith, inside)) low
-              | inr until ↦ elim (cases_lt before (suc k)) [
-                | inl gap ↦ let off = idle (suc k) gap until in cc
-                | inr under ↦
-                    before_same.reserve (λ u above inside. flags u above (omega (arith, inside)))
-                    (λ j above inside. powers j above (omega (arith, inside))) k (omega (arith, under)) here
-              ]
-            ]
+          reserve_after : HasSamePowers o s 0 l → (k : ℕ) → k < l → IsTrue (on_in g s (suc k)) →
+              reserve_in s (suc k) ≤ℤ reserve_in o (suc k)
+          reserve_after powers =
+              by_part (λ k. reserve_in s (suc k) ≤ℤ reserve_in o (suc k))
+              (λ k from low. best.reserve o (keeps_there o rival starts_same) (costs_there o rival starts_same).0
+              (λ j above until. powers j (omega arith) until) k from low)
+              (λ k below here. before_same.reserve
+              (λ u above inside. flags u above (omega arith)) (λ j above inside. powers j above (omega arith)) k below
+              here)
 
       pub first_after : IsFirstUpTo g π n l v s
       first_after o rival = record
@@ -353,40 +204,45 @@ module _ (g : ThermalUnit) (π : PriceLists) (ends : ℕ → Option ℤ) (n : �
 
 -- ---- the whole horizon
 
-module _ (g : ThermalUnit) (π : PriceLists) (ends : ℕ →
-    Option ℤ) (n : ℕ) (complete : IsComplete g π n (suc n) ends) (l : ℕ) (v : ℤ) (low : l ≤ n)
-    (earliest : (k : ℕ) → ends k ≡ Some v → IsOffRun g k n → l ≤ k) (least : (k : ℕ) (u : ℤ) → ends k ≡ Some u →
-    IsOffRun g k n → v ≤ℤ u)
+module _ (g : ThermalUnit) (π : PriceLists) (ends : ℕ → Option ℤ) (n : ℕ) (complete : IsComplete g π n (suc n) ends)
+    (l : ℕ) (v : ℤ) (low : l ≤ n) (earliest : (k : ℕ) → ends k ≡ Some v → IsOffRun g k n → l ≤ k)
+    (least : (k : ℕ) (u : ℤ) → ends k ≡ Some u → IsOffRun g k n → v ≤ℤ u)
     (s : Schedule) (idle : (u : ℕ) → l < u → u ≤ n → IsFalse (on_in g s u)) (zero_off : IsZeroOff g s)
     (first : IsFirstUpTo g π n l v s)
     (o : Schedule) (right : IsThermalFeasible g n o) (cost : paid g π o n ≡ v) where
   -- where the flags after l agree, the other one has its last on period there too
   rival_here : HasSameFlags g o s l n → IsRival g π n l v o
   rival_here agree =
-      let e = end_right g π ends n complete o v right least cost in
-      let k = e.0 in
-      let end = e.1 in
-      let late = earliest k end.ended end.run in
-      elim (cases_lt l k) [
+      let k = (last_on o right).0 in
+      let e = (last_on o right).1 in
+      let r = known o right π ends complete k e.low (λ _. e.after) e.on in
+      let above = least k r.0 r.1 e.run in
+      let same = e.cost π in
+      let paid_is : paid g π o k ≡ v = omega signed in
+      let value : r.0 ≡ v = (let under = r.2 in omega signed) in
+      let late = earliest k (r.1 ∙ ap Some value) e.run in
+      let z : k ≡ l = elim (cases_lt l k) [
         | inl more ↦
-            let s_off = idle k more end.low in
-            let o_on = end.rival.on (omega (arith, more)) in
-            let a = agree k more end.low in cc
-        | inr most ↦ let z : k ≡ l = omega (arith, most, late) in subst (λ (k : ℕ). IsRival g π n k v o) z end.rival
-      ]
+            let s_off = idle k more e.low in
+            let o_on = e.on (omega arith) in
+            let a = agree k more e.low in cc
+        | inr most ↦ omega arith
+      ] in
+      let there : IsRival g π n k v o = record { right = right; cost = paid_is; on = e.on; after = λ _. e.after } in
+      rw z at there
 
   flag_whole : (t : ℕ) → t ≤ n → HasSameFlags g o s t n → IsTrue (on_in g s t) → IsTrue (on_in g o t)
   flag_whole t inside agree here = elim (cases_lt l t) [
     | inl above ↦ let off = idle t above inside in cc
     | inr under ↦
-        (first o (rival_here (λ u above until. agree u (omega (arith, above, under)) until))).flag t under
-        (λ u above until. agree u above (omega (arith, until, low))) here
+        (first o (rival_here (λ u above until. agree u (omega arith) until))).flag t under
+        (λ u above until. agree u above (omega arith)) here
   ]
 
   flags_shifted : (k : ℕ) → ((j : ℕ) → k < j → j < n → slice_index_or o.on j false ≡ slice_index_or s.on j false) →
       HasSameFlags g o s (suc k) n
   flags_shifted k agree zero above until = refl
-  flags_shifted k agree (suc j) above until = agree j (omega (arith, above)) (omega (arith, until))
+  flags_shifted k agree (suc j) above until = agree j (omega arith) until
 
   -- where all flags agree
   module _ (on : o.on ≡ s.on) where
@@ -400,33 +256,31 @@ module _ (g : ThermalUnit) (π : PriceLists) (ends : ℕ →
     on_before : (k : ℕ) → k < n → IsTrue (on_in g s (suc k)) → k < l
     on_before k inside here = elim (cases_lt k l) [
       | inl less ↦ less
-      | inr most ↦ let off = idle (suc k) (omega (arith, most)) (omega (arith, inside)) in cc
+      | inr most ↦ let off = idle (suc k) (omega arith) inside in cc
     ]
 
     power_whole : (k : ℕ) → k < n → ((j : ℕ) → k < j → j < n → slice_index o.power j ≡ slice_index s.power j) →
         slice_index s.power k ≤ slice_index o.power k
-    power_whole k inside agree = elim (on_in g s (suc k)) as (λ b. on_in g s (suc k) ≡ b →
-        slice_index s.power k ≤ slice_index o.power k) [
-          | true ↦ λ here.
-              let p = beside.power (λ u above until. flags_all u) k (on_before k inside here) here
-              (λ j above until. ap pos (agree j (omega (arith, above)) (omega (arith, until, low)))) in
-              omega (arith, ints, p)
-          | false ↦ λ off. let z = (zero_off (suc k) (omega arith) off).0 in omega (arith, ints, z)
-        ] refl
+    power_whole k inside agree = elim (cases_Bool (on_in g s (suc k))) [
+      | inl here ↦
+          let p = beside.power (λ u above until. flags_all u) k (on_before k inside here) here
+          (λ j above until. ap pos (agree j (omega arith) (omega arith))) in
+          omega signed
+      | inr off ↦ let z = (zero_off (suc k) (omega arith) off).0 in omega signed
+    ]
 
     reserve_whole : o.power ≡ s.power → (k : ℕ) → k < n → slice_index s.reserve k ≤ slice_index o.reserve k
-    reserve_whole power k inside = elim (on_in g s (suc k)) as (λ b. on_in g s (suc k) ≡ b →
-        slice_index s.reserve k ≤ slice_index o.reserve k) [
-          | true ↦ λ here.
-              let p = beside.reserve (λ u above until. flags_all u)
-              (λ j above until. ap (λ xs. pos (slice_index xs j)) power) k (on_before k inside here) here in
-              omega (arith, ints, p)
-          | false ↦ λ off. let z = (zero_off (suc k) (omega arith) off).1 in omega (arith, ints, z)
-        ] refl
+    reserve_whole power k inside = elim (cases_Bool (on_in g s (suc k))) [
+      | inl here ↦
+          let p = beside.reserve (λ u above until. flags_all u)
+          (λ j above until. ap (λ xs. pos (slice_index xs j)) power) k (on_before k inside here) here in
+          omega signed
+      | inr off ↦ let z = (zero_off (suc k) (omega arith) off).1 in omega signed
+    ]
 
   pub no_later_whole : IsNoLater n o s
   no_later_whole = record {
-    on = λ k inside agree here. flag_whole (suc k) (omega (arith, inside)) (flags_shifted k agree) here;
+    on = λ k inside agree here. flag_whole (suc k) inside (flags_shifted k agree) here;
     power = power_whole;
     reserve = reserve_whole;
   }
