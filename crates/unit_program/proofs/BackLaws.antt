@@ -1,6 +1,6 @@
 -- What a spell writes, and what stays.
-use Rattle.unit_program.proofs.Common.{◌≡◌, ℕ, zero, suc, ◌+◌, ◌-◌, ◌<◌, ◌≤◌, ◌⊎◌, inl, inr, ℤ, pos, ◌-ℤ◌, ◌≤ℤ◌, refl}
-use Rattle.unit_program.proofs.Common.{sym, ap, ◌∙◌, arith, signed, IsTrue, IsFalse, cases_lt, ThermalUnit, PriceLists}
+use Rattle.unit_program.proofs.Common.{◌≡◌, ℕ, zero, suc, ◌+◌, ◌-◌, ◌<◌, ◌≤◌, ◌⊎◌, inl, inr, ℤ, pos, ◌-ℤ◌, refl}
+use Rattle.unit_program.proofs.Common.{sym, ap, ◌∙◌, arith, signed, IsTrue, cases_lt, ThermalUnit, PriceLists}
 use Rattle.unit_program.proofs.Common.{Schedule, on_in, power_in, reserve_in, sum_below-same, IsOnFromTo}
 use Rattle.unit_program.proofs.Common.{IsSameOutside, IsBestDispatch, IsFirstDispatch, over_min, IsDispatch}
 use Rattle.unit_program.proofs.Common.{IsLeastSpell, net_cost, spell_cost, IsIdle, IsSameIn, IsZeroOff, IsWritten}

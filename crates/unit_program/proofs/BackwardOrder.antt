@@ -113,10 +113,9 @@ module _ (periods : ℕ) (o s : Schedule) (shape_o : IsSchedule periods o) (shap
   pub not_before : ComesBefore o s → ⊥
   not_before less =
       let flags : length (map flag (reverse o.on)) ≡ length (map flag (reverse s.on)) =
-      length-map (reverse o.on) flag ∙ length-reverse o.on ∙ shape_o.on ∙
-      sym (length-map (reverse s.on) flag ∙ length-reverse s.on ∙ shape_s.on) in
-      let powers : length (reverse o.power) ≡ length (reverse s.power) = length-reverse o.power ∙ shape_o.power ∙
-      sym (length-reverse s.power ∙ shape_s.power) in
+      simp (length-map, length-reverse) (shape_o.on ∙ sym shape_s.on) in
+      let powers : length (reverse o.power) ≡ length (reverse s.power) =
+      simp length-reverse (shape_o.power ∙ sym shape_s.power) in
       joined (map flag (reverse o.on)) (map flag (reverse s.on)) (reverse o.power ++ reverse o.reserve)
       (reverse s.power ++ reverse s.reserve) flags flags_not_less
       (λ e. let on = backwards o.on s.on (same_flags (reverse o.on) (reverse s.on) e) in

@@ -2,8 +2,9 @@
 use Rattle.unit_program.proofs.Common.{◌≡◌, ℕ, zero, suc, ◌<◌, ◌≤◌, true, false, not, inl, inr, ℤ, pos, neg_ℤ, ◌+ℤ◌}
 use Rattle.unit_program.proofs.Common.{◌-ℤ◌, ◌≤ℤ◌, length}
 use Rattle.unit_program.proofs.Common.{refl, ap, ◌∙◌, arith, signed, IsTrue, IsFalse, cases_Bool, cases_lt, and_parts}
+use Rattle.unit_program.proofs.Common.{not-true}
 use Rattle.unit_program.proofs.Common.{ThermalUnit, Thermal, PriceLists, Schedule, on_in, above_min}
-use Rattle.unit_program.proofs.Common.{above_with_reserve, reserve_in, starts_in, time_down, cap_of, IsPeriod}
+use Rattle.unit_program.proofs.Common.{above_with_reserve, reserve_in, starts_in, stops_in, time_down, cap_of, IsPeriod}
 use Rattle.unit_program.proofs.Common.{IsSchedule, KeepsDispatch, start_cost_of, earnings, IsThermalFeasible, IsStep}
 use Rattle.unit_program.proofs.Common.{IsDispatch, spell_cost, IsSpell, IsOffRun, IsGap}
 use Rattle.unit_program.proofs.Common.{start_cost_after, paid, IsDispatchStep, MayStop, IsUpTo, IsIdle}
@@ -40,43 +41,44 @@ module _ (g : ThermalUnit) (π : PriceLists) (periods : ℕ) (s : Schedule)
           ramp_down = ramps.1;
         }
 
-    start_step : (l : ℕ) → IsFalse (on_in g s k) → IsTrue (on_in g s (suc k)) → IsDispatch g periods (suc k) l s →
+    up_step : (f l : ℕ) → IsTrue (on_in g s (suc k)) → IsDispatch g periods f l s → IsRun g s f l → f ≤ suc k →
         suc k ≤ l → IsDispatchStep g s k
-    start_step l here after d order =
-        let a = above-off g s k here in
+    up_step f l after d run from until =
         let b = above-on g s (suc k) after in
-        let least = d.least (suc k) (omega arith) (omega arith) order in
-        let greatest = d.greatest (suc k) (omega arith) (omega arith) order in
-        let start = d.start (omega arith) in
-        let enter = d.enter (omega arith) in
-        record {
-          least = λ on. omega signed;
-          greatest = λ on. omega signed;
-          start = λ st. omega signed;
-          stop = λ one st. (let no = rw here at st in cc);
-          stop_at_once = λ none st. (let no = rw here at st in cc);
-          ramp_up = omega signed;
-          ramp_down = omega signed;
-        }
-
-    on_step : (f l : ℕ) → IsTrue (on_in g s k) → IsTrue (on_in g s (suc k)) → IsDispatch g periods f l s → f ≤ k →
-        suc k ≤ l → IsDispatchStep g s k
-    on_step f l here after d from until =
-        let a = above-on g s k here in
-        let b = above-on g s (suc k) after in
-        let least = d.least (suc k) (omega arith) (omega arith) until in
-        let greatest = d.greatest (suc k) (omega arith) (omega arith) until in
-        let up = d.ramp_up k from until in
-        let down = d.ramp_down k from until in
-        record {
-          least = λ on. omega signed;
-          greatest = λ on. omega signed;
-          start = λ st. (let no = rw here at st in cc);
-          stop = λ one st. (let no = rw (here, after) at st in cc);
-          stop_at_once = λ none st. (let no = rw (here, after) at st in cc);
-          ramp_up = omega signed;
-          ramp_down = omega signed;
-        }
+        let least = d.least (suc k) (omega arith) from until in
+        let greatest = d.greatest (suc k) (omega arith) from until in
+        let stops : IsTrue (stops_in g s (suc k)) → ⊥ = λ st.
+        let off = not-true (on_in g s (suc k)) (and_parts (on_in g s k) (not (on_in g s (suc k))) st).1 in cc in
+        elim (cases_lt k f) [
+          | inl first ↦
+              let begins : f ≡ suc k = omega arith in
+              let a = above-off g s k (run.before k begins) in
+              let start = rw begins at (d.start (omega arith)) in
+              let enter = rw begins at (d.enter (omega arith)) in
+              record {
+                least = λ _. omega signed;
+                greatest = λ _. omega signed;
+                start = λ _. omega signed;
+                stop = λ _ st. absurd (stops st);
+                stop_at_once = λ _ st. absurd (stops st);
+                ramp_up = omega signed;
+                ramp_down = omega signed;
+              }
+          | inr later ↦
+              let here = run.on k later (omega arith) in
+              let a = above-on g s k here in
+              let up = d.ramp_up k later until in
+              let down = d.ramp_down k later until in
+              record {
+                least = λ _. omega signed;
+                greatest = λ _. omega signed;
+                start = λ st. let no = rw here at st in cc;
+                stop = λ _ st. absurd (stops st);
+                stop_at_once = λ _ st. absurd (stops st);
+                ramp_up = omega signed;
+                ramp_down = omega signed;
+              }
+        ]
 
   abbrev IsRight : ℕ → Type 0
   IsRight k = IsStep g s k × IsDispatchStep g s k
@@ -116,21 +118,23 @@ module _ (g : ThermalUnit) (π : PriceLists) (periods : ℕ) (s : Schedule)
   -- ---- a spell
 
   module _ (f l : ℕ) (spell : IsSpell g periods f l) (run : IsRun g s f l) (d : IsDispatch g periods f l s)
-      (before : (k : ℕ) → k < f → IsRight k) where
+      (before : (k : ℕ) → suc k < f → IsRight k) (long : (k : ℕ) → f ≡ suc k → g.min_down ≤ time_down g s k) where
     run_right : (k : ℕ) → k < l → IsRight k
-    run_right k low = elim (cases_lt k f) [
+    run_right k low = elim (cases_lt (suc k) f) [
       | inl below ↦ before k below
       | inr from ↦
-          let here = run.on k from (omega arith) in
-          let after = run.on (suc k) (omega arith) low in (
+          let after = run.on (suc k) from low in (
             record {
               must_run = λ must. after;
               stop = λ _ off. cc;
-              start = λ off _. cc;
+              start = λ off _. elim (cases_lt k f) [
+                | inl first ↦ long k (omega arith)
+                | inr later ↦ let on = run.on k later (omega arith) in cc
+              ];
               must_on = λ mark. after;
-              must_off = λ mark. absurd (spell.marks (suc k) (omega arith) (omega arith) low mark);
+              must_off = λ mark. absurd (spell.marks (suc k) (omega arith) from low mark);
             },
-            on_step k f l here after d from low,
+            up_step k f l after d run from low,
           )
     ]
 
@@ -175,14 +179,13 @@ module _ (g : ThermalUnit) (π : PriceLists) (periods : ℕ) (s : Schedule)
       ] in
       let run : IsRun g s f l = record { order = spell.order; on = all_; before = λ k is. absurd (omega arith) } in
       let free : begun g s π f ≡ pos 0 = rw none in
-      up_to f l spell run d (λ k low. absurd (omega arith)) v (omega signed)
+      up_to f l spell run d (λ k low. absurd (omega arith)) (λ k is. absurd (omega arith)) v (omega signed)
 
   -- a time off and a spell after what is right up to period l
   pub up_to_next : (f l k m : ℕ) (v w : ℤ) → f ≡ suc k → IsUpTo g π periods s l v → IsGap g l k → 1 ≤ g.min_down →
       IsIdle g s l k → IsSpell g periods f m → ((t : ℕ) → f ≤ t → t ≤ m → IsTrue (on_in g s t)) →
       IsDispatch g periods f m s → (v +ℤ start_cost_after g l k) +ℤ spell_cost g π f m s ≡ w → IsUpTo g π periods s m w
   up_to_next f l k m v w is up gap some idle spell on d cost =
-      let after = on (suc k) (omega arith) (omega arith) in
       let off : IsFalse (on_in g s k) = elim (cases_Bool (on_in g s k)) [
         | inr off ↦ off
         | inl here ↦ elim (cases_lt l k) [
@@ -198,25 +201,12 @@ module _ (g : ThermalUnit) (π : PriceLists) (periods : ℕ) (s : Schedule)
       let known = rest_known g s π l k rest in
       let time = known.0 in
       let start : start_cost_of g.lags (time_down g s k) ≡ start_cost_after g l k = ap (start_cost_of g.lags) time in
-      let before : (j : ℕ) → j < f → IsRight j = λ j low. elim (cases_lt j k) [
-        | inl less ↦ right_to l v up k (omega arith) gap.off idle j less
-        | inr most ↦
-            let z : j ≡ k = omega arith in
-            rw z (
-              record {
-                must_run = λ must. after;
-                stop = λ here _. cc;
-                start = λ _ _. omega arith;
-                must_on = λ mark. after;
-                must_off = λ mark. absurd (spell.marks (suc k) (omega arith) (omega arith) (omega arith) mark);
-              },
-              start_step k m off after (rw is at d) (omega arith),
-            )
-      ] in
+      let before : (j : ℕ) → suc j < f → IsRight j = λ j low.
+      right_to l v up k (omega arith) gap.off idle j (omega arith) in
       let run : IsRun g s f m =
       record { order = spell.order; on = on; before = λ j at. let z : j ≡ k = omega arith in rw z off } in
       let begins : begun g s π f ≡ paid g π s k +ℤ start_cost_of g.lags (time_down g s k) = rw is in
-      up_to f m spell run d before w (omega signed)
+      up_to f m spell run d before (λ j at. let z : j ≡ k = omega arith in rw z (omega arith)) w (omega signed)
 
   -- ---- to the end
 

@@ -1,6 +1,7 @@
 -- The commitment rules hold exactly where each step keeps them.
-use Rattle.unit_program.proofs.Common.{◌≡◌, ℕ, zero, suc, ◌+◌, ◌<◌, ◌≤◌, Bool, true, false, not, cond, length, refl, ap}
-use Rattle.unit_program.proofs.Common.{arith, IsTrue, IsFalse, MustOff, MustOn, ThermalUnit, Schedule, on_in}
+use Rattle.unit_program.proofs.Common.{◌≡◌, ℕ, zero, suc, ◌+◌, ◌<◌, ◌≤◌, Bool, not, inl, inr, length, ap}
+use Rattle.unit_program.proofs.Common.{arith, IsTrue, IsFalse, cases_Bool, MustOff, MustOn, ThermalUnit, Schedule}
+use Rattle.unit_program.proofs.Common.{on_in}
 use Rattle.unit_program.proofs.Common.{starts_in, stops_in, time_down, IsPeriod, KeepsCommitment, mark_in, IsStep}
 use Rattle.unit_program.proofs.Common.{held, not-true, not-false, and_parts, and_from}
 use Rattle.unit_program.proofs.RunLaws.{KeepsTimes, ends_late, keeps_times}
@@ -17,10 +18,11 @@ module _ (g : ThermalUnit) (s : Schedule) where
 
   -- the time down is the time that `off` has held
   time_down-held : (k : ℕ) → time_down g s k ≡ held off g.down0 k
-  time_down-held zero = elim (g.on0) as (λ b. cond b 0 g.down0 ≡ cond (not b) g.down0 0) [ true ↦ refl | false ↦ refl ]
-  time_down-held (suc k) =
-      elim (on (suc k)) as (λ b. cond b 0 (suc (time_down g s k)) ≡ cond (not b) (suc (held off g.down0 k)) 0)
-      [ true ↦ refl | false ↦ ap suc (time_down-held k) ]
+  time_down-held zero = elim (cases_Bool g.on0) [ inl here ↦ rw here | inr here ↦ rw here ]
+  time_down-held (suc k) = elim (cases_Bool (on (suc k))) [
+    | inl here ↦ rw here
+    | inr here ↦ rw here (ap suc (time_down-held k))
+  ]
 
   ups : KeepsCommitment g s → KeepsTimes on g.up0 g.min_up end
   ups h = record {

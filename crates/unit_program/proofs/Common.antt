@@ -21,7 +21,7 @@ pub use Rattle.unit_rows.specs.Rows.{row_at, cost_at, first_at, before_at, HasEn
 pub use Rattle.unit_table.specs.Runners.{HaveWays}
 pub use Rattle.unit_rows.specs.Spells.{IsSpell, start_cost_after, IsOffRun, paid, on_time, off_time, IsGap, period_cost}
 pub use Rattle.unit_table.specs.Tables.{IsEnded, IsLatest, IsComplete}
-pub use Rattle.unit_rows.specs.Ends.{IsStarted, IsEntryAfter, IsLeastEnd, IsEntry, HasAtMost}
+pub use Rattle.unit_rows.specs.Ends.{IsStarted, IsEntryAfter, IsLeastEnd, HasAtMost}
 pub use Rattle.unit_table.specs.declared.runner.Runner.{Runner}
 pub use Rattle.unit_rows.specs.declared.table.Ended.{Ended}
 pub use Rattle.unit_rows.specs.declared.table.Entry.{Entry}
@@ -42,7 +42,7 @@ pub use Rattle.uc_model.specs.PlainUnits.{thermal_of, prices_of, schedule_of}
 pub use Rattle.uc_model.specs.Schedules.{on_in, power_in, reserve_in, IsSchedule, IsThermalFeasible, above_min}
 pub use Rattle.uc_model.specs.Schedules.{above_with_reserve, starts_in, time_down, cap_of, IsPeriod, KeepsDispatch}
 pub use Rattle.uc_model.specs.Schedules.{stops_in, KeepsCommitment, mark_in}
-pub use Rattle.plain_lists.specs.Sums.{int_at, sum_below}
+pub use Rattle.plain_lists.specs.Sums.{int_at}
 pub use Rattle.uc_model.specs.Ties.{ComesBefore, IsLeast}
 pub use Rattle.uc_model.specs.declared.units.Mark.TheVariants.{MustOff, MustOn}
 pub use Rattle.unit_program.specs.Backs.{IsSameIn, IsZeroOff, IsWritten, IsWrittenBack}

@@ -28,7 +28,7 @@ pub mod NoteLaws
 pub mod RunLaws
 -- the run that a period of a schedule is in, and what the schedule costs up to it: no less than the tables say
 pub mod ShapeLaws
--- runs of on periods and times off of a schedule, by single steps: their dispatch, costs, times and marks
+-- runs of on periods and times off of a schedule, by single steps: their dispatch, costs and times
 pub mod SpellLaws
 -- of all schedules that cost the same, what the way back writes is the first
 pub mod TieLaws

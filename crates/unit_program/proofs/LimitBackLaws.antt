@@ -1,7 +1,7 @@
 -- One spell of the way back, where the rows are those of the table as far as they are within the limits.
 use Rattle.unit_program.proofs.Common.{◌≡◌, ℕ, suc, ◌<◌, ◌≤◌, inl, inr, Option, Some, ℤ, pos, ◌≤ℤ◌, List, length, ◌∙◌}
 use Rattle.unit_program.proofs.Common.{arith, signed, IsTrue, IsFalse, StartCostsAreWithin, ThermalUnit, PriceLists}
-use Rattle.unit_program.proofs.Common.{Schedule, on_in, power_in, reserve_in, IsThermalUnit, Ended, IsSameIn, IsIdle}
+use Rattle.unit_program.proofs.Common.{Schedule, power_in, reserve_in, IsThermalUnit, Ended, IsIdle}
 use Rattle.unit_program.proofs.Common.{IsWritten, IsWrittenBack, CappedRowsAreRows, StartsAreWithinLimits, capped}
 use Rattle.unit_program.proofs.Common.{IsRowWithin, row_at, cost_at, first_at, before_at, IsEnded, IsLatest, IsStarted}
 use Rattle.unit_table.specs.Tables.{IsFrom}

@@ -1,5 +1,5 @@
 -- The rows and the ends as far as they are within the limits.
-use Rattle.unit_program.proofs.Common.{◌≡◌, ℕ, ◌≤◌, inl, inr, Option, Some, None, ℤ, pos, ◌+ℤ◌, ◌≤ℤ◌, List, length}
+use Rattle.unit_program.proofs.Common.{◌≡◌, ℕ, ◌≤◌, ◌⊎◌, inl, inr, Option, Some, None, ℤ, pos, ◌+ℤ◌, ◌≤ℤ◌, List, length}
 use Rattle.unit_program.proofs.Common.{refl, IfSome, IfNone, signed, EarningsAreWithin, ThermalUnit}
 use Rattle.unit_program.proofs.Common.{PriceLists, Schedule, Thermal, IsThermalUnit, ArePrices}
 use Rattle.unit_program.proofs.Common.{IsThermalFeasible, Ended, Entry, CappedRowsAreRows, LimitsAreAboveTheAmount}
@@ -25,39 +25,45 @@ module _ (capped_row : CappedRowsAreRows) (g : ThermalUnit) (π : PriceLists) (m
   ]
 
   module _ (above_most : LimitsAreAboveTheAmount) where
+    -- an end of the capped rows is one of the rows, or above the amount
+    row_or_above : (l : ℕ) (v : ℤ) → l ≤ length π.energy → ends l ≡ Some v →
+        (cost_at rows l ≡ Some v) ⊎ ((most +ℤ pos 1) ≤ℤ v)
+    row_or_above l v low is =
+        let limit = above_most g π most filled.limits filled.right l low in
+        elim ((capped_row (filled.limits l) (cost_at rows l) v).1 is) [ inl h ↦ inl h.0 | inr cap ↦ inr (omega signed) ]
+
     -- no schedule costs at most the amount, where no end does
     pub none_within : ((l : ℕ) (v : ℤ) → cost_at rows l ≡ Some v → IsOffRun g l (length π.energy) →
         (most +ℤ pos 1) ≤ℤ v) → EachCostsMore g π most
     none_within above s right =
         let r = table_is_least g π ends (length π.energy) s right filled.table.complete in
-        let limit = above_most g π most filled.limits filled.right r.0 r.1 in
-        elim ((capped_row (filled.limits r.0) (cost_at rows r.0) r.3.0).1 r.3.1) [
-          | inl there ↦ let high = above r.0 r.3.0 there.0 r.2 in omega signed
-          | inr cap ↦ omega signed
+        let low = r.3.2 in
+        elim (row_or_above r.0 r.3.0 r.1 r.3.1) [
+          | inl there ↦ let high = above r.0 r.3.0 there r.2 in omega signed
+          | inr high ↦ omega signed
         ]
 
     -- the least end is that of the capped rows
     module _ (l : ℕ) (v : ℤ) (low : v ≤ℤ most) (least : IsLeastEnd g (length π.energy) (cost_at rows) l v)
         (earliest : (k : ℕ) → cost_at rows k ≡ Some v → IsOffRun g k (length π.energy) → l ≤ k) where
       pub end_low : v ≤ℤ filled.limits l
-      end_low = (let limit = above_most g π most filled.limits filled.right l least.off.order in omega signed)
+      end_low = let limit = above_most g π most filled.limits filled.right l least.off.order in omega signed
 
       pub end_capped : IsLeastEnd g (length π.energy) ends l v
       end_capped = record {
         ended = row_here l v least.ended end_low;
         off = least.off;
-        least = λ k u is off.
-            (let limit = above_most g π most filled.limits filled.right k off.order in
-            elim ((capped_row (filled.limits k) (cost_at rows k) u).1 is) [
-              | inl there ↦ least.least k u there.0 off
-              | inr cap ↦ omega signed
-            ]);
+        least = λ k u is off. elim (row_or_above k u off.order is) [
+          | inl there ↦ least.least k u there off
+          | inr high ↦ omega signed
+        ];
       }
 
       pub end_earliest : (k : ℕ) → ends k ≡ Some v → IsOffRun g k (length π.energy) → l ≤ k
-      end_earliest k is off =
-          (let limit = above_most g π most filled.limits filled.right k off.order in earliest k
-          (row_real k v is (omega signed)) off)
+      end_earliest k is off = elim (row_or_above k v off.order is) [
+        | inl there ↦ earliest k there off
+        | inr high ↦ absurd (omega signed)
+      ]
 
 pub if_none_more : {X : Type 0} (P Q : Type 0) → (P → Q) → (o : Option X) → IfNone o P → IfNone o Q
 if_none_more P Q more None h = more h

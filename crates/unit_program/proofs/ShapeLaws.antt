@@ -1,5 +1,5 @@
 -- The run that a period of a schedule is in, and what the schedule costs up to it: no less than the tables say.
-use Rattle.unit_program.proofs.Common.{◌≡◌, ℕ, zero, suc, ◌+◌, ◌<◌, ◌≤◌, ◌⊎◌, inl, inr, [], Option, ℤ, pos}
+use Rattle.unit_program.proofs.Common.{◌≡◌, ℕ, zero, suc, ◌-◌, ◌<◌, ◌≤◌, ◌⊎◌, inl, inr, [], Option, ℤ, pos}
 use Rattle.unit_program.proofs.Common.{neg_ℤ, ◌+ℤ◌, ◌-ℤ◌, ◌≤ℤ◌, refl, ap, arith, signed, IsTrue, IsFalse, cases_Bool}
 use Rattle.unit_program.proofs.Common.{cases_lt, ThermalUnit, Thermal, PriceLists, Schedule, on_in, time_down}
 use Rattle.unit_program.proofs.Common.{IsThermalFeasible, start_cost_of, earnings, net_cost, spell_cost, on_time}
@@ -8,7 +8,7 @@ use Rattle.unit_program.proofs.Common.{IsStarted, IsEntryAfter, IsComplete, IsSt
 use Rattle.unit_program.proofs.CommitLaws.{steps_from_rules}
 use Rattle.unit_program.proofs.RunLaws.{held-more, held-none}
 use Rattle.unit_program.proofs.CostLaws.{earnings-paid}
-use Rattle.unit_program.proofs.SpellLaws.{IsRun, dispatch_of_run, not_must_off, not_must_on, not_must_run, on_time-more}
+use Rattle.unit_program.proofs.SpellLaws.{IsRun, dispatch_of_run, on_time-more}
 use Rattle.unit_program.proofs.SpellLaws.{period_cost-stay, period_cost-start, period_cost-off, off_time-first}
 use Rattle.unit_program.proofs.SpellLaws.{time_down-on, time_down-more}
 use Rattle.unit_rows.proofs.RipeLaws.{off_next}
@@ -87,14 +87,21 @@ module _ (g : ThermalUnit) (s : Schedule) where
     ]
   ]
 
-  -- the on period before a time off is the last of its run
-  pub stops_after : (l t : ℕ) → IsOffAfter l t → IsTrue (on_in g s l) → IsFalse (on_in g s (suc l))
-  stops_after l t rest on = elim (cases_lt l t) [
-    | inl more ↦ rest.off (suc l) (omega arith) more
-    | inr most ↦
-        let z : t ≡ l = omega arith in
-        let off = rw z at rest.here in cc
-  ]
+  -- of n periods, the last of a run, or period 0
+  pub record IsStop (n l : ℕ) : Type 0 where
+    pub on : 1 ≤ l → IsTrue (on_in g s l)
+    pub after : IsTrue (on_in g s l) → l < n → IsFalse (on_in g s (suc l))
+
+  pub stop_before : (n l t : ℕ) → IsOffAfter l t → IsStop n l
+  stop_before n l t rest = record {
+    on = rest.on;
+    after = λ on _. elim (cases_lt l t) [
+      | inl more ↦ rest.off (suc l) (omega arith) more
+      | inr most ↦
+          let z : t ≡ l = omega arith in
+          let off = rw z at rest.here in cc
+    ];
+  }
 
   -- what is off before a run is so after an earlier on period
   pub rest_before : (k l : ℕ) → IsRun g s (suc k) l → (last : ℕ) × IsOffAfter last k
@@ -189,7 +196,10 @@ module _ {g : ThermalUnit} {n : ℕ} (s : Schedule) (right : IsThermalFeasible g
     order = run.order;
     end = low;
     goes_on = λ is. run.on 0 (omega arith) (omega arith);
-    marks = λ t one from until. not_must_off g s steps t one (omega arith) (run.on t from until);
+    marks = λ t one from until mark.
+        let z : t ≡ suc (t - 1) = omega arith in
+        let off = (steps (t - 1) (omega arith)).must_off (rw z at mark) in
+        let on = rw z at (run.on t from until) in cc;
     min_up = λ inside.
         let least = (steps l inside).stop (run.on l run.order (omega arith)) (after inside) in
         let time = (run_known g s free f l run).0 in
@@ -200,10 +210,16 @@ module _ {g : ThermalUnit} {n : ℕ} (s : Schedule) (right : IsThermalFeasible g
   off_run_of l t rest low = record {
     order = rest.order;
     must_run = λ must. elim (cases_lt l t) [
-      | inl above ↦ absurd (not_must_run g s steps t (omega arith) low rest.here must)
+      | inl above ↦
+          let z : t ≡ suc (t - 1) = omega arith in
+          let on = (steps (t - 1) (omega arith)).must_run must in
+          let off = rw z at rest.here in cc
       | inr most ↦ most
     ];
-    marks = λ u above until. not_must_on g s steps u (omega arith) (omega arith) (rest.off u above until);
+    marks = λ u above until mark.
+        let z : u ≡ suc (u - 1) = omega arith in
+        let on = (steps (u - 1) (omega arith)).must_on (rw z at mark) in
+        let off = rw z at (rest.off u above until) in cc;
   }
 
   pub gap_of : (l k : ℕ) → IsOffAfter g s l k → k < n → IsTrue (on_in g s (suc k)) → IsGap g l k
@@ -232,8 +248,7 @@ module _ {g : ThermalUnit} {n : ℕ} (s : Schedule) (right : IsThermalFeasible g
     entry_of edge = elim (edge.begins) [ inl none ↦ inl none | inr st ↦ inr st.0 ]
 
     edge_from : (f l : ℕ) → l ≤ n → IsRun g s f l → (l < n → IsFalse (on_in g s (suc l))) →
-        ((k : ℕ) → k < f → (IsTrue (on_in g s k) → IsFalse (on_in g s (suc k))) → (1 ≤ k → IsTrue (on_in g s k)) →
-        HasAtMost (ends k) (paid g π s k)) → IsEdge f l
+        ((k : ℕ) → k < f → IsStop g s n k → HasAtMost (ends k) (paid g π s k)) → IsEdge f l
     edge_from zero l low run after known =
         let all_ = (run_known g s π 0 l run).1 in
         record {
@@ -250,7 +265,7 @@ module _ {g : ThermalUnit} {n : ℕ} (s : Schedule) (right : IsThermalFeasible g
     edge_from (suc k) l low run after known =
         let w = rest_before g s k l run in
         let rest = w.1 in
-        let before = known w.0 (omega arith) (stops_after g s w.0 k rest) rest.on in
+        let before = known w.0 (omega arith) (stop_before g s n w.0 k rest) in
         let time = ap (start_cost_of g.lags) (rest_known g s π w.0 k rest).0 in
         let same = (rest_known g s π w.0 k rest).1 in
         let all_ = (run_known g s π (suc k) l run).1 in
@@ -275,16 +290,15 @@ module _ {g : ThermalUnit} {n : ℕ} (s : Schedule) (right : IsThermalFeasible g
         }
 
     module _ (complete : IsComplete g π n (suc n) ends) where
-      known_by : (m l : ℕ) → l < m → l ≤ n → (IsTrue (on_in g s l) → l < n → IsFalse (on_in g s (suc l))) →
-          (1 ≤ l → IsTrue (on_in g s l)) → HasAtMost (ends l) (paid g π s l)
-      known_by zero l near low after on = absurd (omega arith)
-      known_by (suc m) l near low after on = elim (shape_of g s l) [
+      known_by : (m l : ℕ) → l < m → l ≤ n → IsStop g s n l → HasAtMost (ends l) (paid g π s l)
+      known_by zero l near low stop = absurd (omega arith)
+      known_by (suc m) l near low stop = elim (shape_of g s l) [
         | inl w ↦
-            let edge = edge_from w.0 l low w.1 (after (w.1.on l w.1.order (omega arith)))
-            (λ k below stops on. known_by m k (omega arith) (omega arith) (λ on _. stops on) on) in
+            let edge = edge_from w.0 l low w.1 (stop.after (w.1.on l w.1.order (omega arith)))
+            (λ k below. known_by m k (omega arith) (omega arith)) in
             let r = complete.spell w.0 l edge.cost s (omega arith) edge.spell (edge.last, entry_of edge) edge.keeps in
             (r.0, r.1, omega signed)
-        | inr w ↦ idle l w.1.here on
+        | inr w ↦ idle l w.1.here stop.on
       ]
         where
           idle : (l : ℕ) → IsFalse (on_in g s l) → (1 ≤ l → IsTrue (on_in g s l)) → HasAtMost (ends l) (paid g π s l)
@@ -292,28 +306,22 @@ module _ {g : ThermalUnit} {n : ℕ} (s : Schedule) (right : IsThermalFeasible g
           idle (suc k) off on = let here = on (omega arith) in cc
 
       -- it has an end at l that costs at most what the schedule does
-      pub known : (l : ℕ) → l ≤ n → (IsTrue (on_in g s l) → l < n → IsFalse (on_in g s (suc l))) →
-          (1 ≤ l → IsTrue (on_in g s l)) → HasAtMost (ends l) (paid g π s l)
+      pub known : (l : ℕ) → l ≤ n → IsStop g s n l → HasAtMost (ends l) (paid g π s l)
       known l = known_by (suc l) l (omega arith)
 
       -- and l ends a spell of it
       pub edge_of : (l : ℕ) → l ≤ n → IsTrue (on_in g s l) → (l < n → IsFalse (on_in g s (suc l))) →
           (f : ℕ) × IsEdge f l
       edge_of l low on after = elim (shape_of g s l) [
-        | inl w ↦ (
-          w.0,
-          edge_from w.0 l low w.1 after
-              (λ k below stops on. known k (let order = w.1.order in omega arith) (λ on _. stops on) on),
-        )
+        | inl w ↦ (w.0, edge_from w.0 l low w.1 after (λ k below. known k (let order = w.1.order in omega arith)))
         | inr w ↦ let off = w.1.here in cc
       ]
 
   -- l is the last on period, or 0 where there is none
   pub record IsLastOn (l : ℕ) : Type 0 where
     pub low : l ≤ n
-    pub on : 1 ≤ l → IsTrue (on_in g s l)
+    pub stop : IsStop g s n l
     pub off : (t : ℕ) → l < t → t ≤ n → IsFalse (on_in g s t)
-    pub after : l < n → IsFalse (on_in g s (suc l))
     pub run : IsOffRun g l n
     pub cost : (π : PriceLists) → paid g π s n ≡ paid g π s l
 
@@ -323,9 +331,8 @@ module _ {g : ThermalUnit} {n : ℕ} (s : Schedule) (right : IsThermalFeasible g
       n,
       record {
         low = omega arith;
-        on = λ _. w.1.on n w.1.order (omega arith);
+        stop = record { on = λ _. w.1.on n w.1.order (omega arith); after = λ _ inside. absurd (omega arith) };
         off = λ t above until. absurd (omega arith);
-        after = λ inside. absurd (omega arith);
         run = omega arith;
         cost = λ π. refl;
       },
@@ -334,9 +341,8 @@ module _ {g : ThermalUnit} {n : ℕ} (s : Schedule) (right : IsThermalFeasible g
       w.0,
       record {
         low = w.1.order;
-        on = w.1.on;
+        stop = stop_before g s n w.0 n w.1;
         off = w.1.off;
-        after = λ inside. w.1.off (suc w.0) (omega arith) inside;
         run = off_run_of w.0 n w.1 (omega arith);
         cost = λ π. (rest_known g s π w.0 n w.1).1;
       },
@@ -349,7 +355,7 @@ pub table_is_least : (g : ThermalUnit) (π : PriceLists) (ends : ℕ → Option 
     (l : ℕ) × (l ≤ periods) × IsOffRun g l periods × HasAtMost (ends l) (neg_ℤ (earnings (Thermal g) π s))
 table_is_least g π ends periods s right complete =
     let e = last_on s right in
-    let r = known s right π ends complete e.0 e.1.low (λ _. e.1.after) e.1.on in
+    let r = known s right π ends complete e.0 e.1.low e.1.stop in
     let cost = e.1.cost π in
     let earned = earnings-paid g π s periods right.schedule in
     (e.0, e.1.low, e.1.run, (r.0, r.1, omega signed))

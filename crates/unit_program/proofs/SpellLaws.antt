@@ -1,9 +1,9 @@
--- Runs of on periods of a schedule, by single steps: their dispatch, costs, times and marks.
-use Rattle.unit_program.proofs.Common.{◌≡◌, ℕ, zero, suc, ◌+◌, ◌-◌, ◌<◌, ◌≤◌, true, false, not, inl, inr, pos, ◌+ℤ◌}
-use Rattle.unit_program.proofs.Common.{◌≤ℤ◌, ap, arith, signed, IsTrue, IsFalse, cases_Bool, and_from, MustOff}
-use Rattle.unit_program.proofs.Common.{MustOn, ThermalUnit, PriceLists, Schedule, on_in, above_min, reserve_in, cap_of}
-use Rattle.unit_program.proofs.Common.{starts_in, stops_in, time_down, IsThermalFeasible, start_cost_of, mark_in}
-use Rattle.unit_program.proofs.Common.{IsStep, over_min, IsDispatch, net_cost, on_time, off_time, period_cost}
+-- Runs of on periods of a schedule, by single steps: their dispatch, costs and times.
+use Rattle.unit_program.proofs.Common.{◌≡◌, ℕ, zero, suc, ◌-◌, ◌<◌, ◌≤◌, true, false, not, inl, inr, pos, ◌+ℤ◌}
+use Rattle.unit_program.proofs.Common.{◌≤ℤ◌, ap, arith, signed, IsTrue, IsFalse, cases_Bool, and_from}
+use Rattle.unit_program.proofs.Common.{ThermalUnit, PriceLists, Schedule, on_in, above_min, reserve_in, cap_of}
+use Rattle.unit_program.proofs.Common.{starts_in, stops_in, time_down, IsThermalFeasible, start_cost_of}
+use Rattle.unit_program.proofs.Common.{over_min, IsDispatch, net_cost, on_time, off_time, period_cost}
 
 module _ (g : ThermalUnit) (s : Schedule) where
   pub above-on : (t : ℕ) → IsTrue (on_in g s t) → above_min g s t ≡ over_min g s t
@@ -127,19 +127,3 @@ module _ (g : ThermalUnit) where
 
     pub time_down-more : (k : ℕ) → IsFalse (on_in g s (suc k)) → time_down g s (suc k) ≡ suc (time_down g s k)
     time_down-more k off = rw off
-
--- ---- marks and the must-run flag of a run and of a time off
-
-module _ (g : ThermalUnit) (s : Schedule) {n : ℕ} (steps : (k : ℕ) → k < n → IsStep g s k) where
-  -- no period of a run is marked `MustOff`, and none of a time off `MustOn`
-  pub not_must_off : (t : ℕ) → 1 ≤ t → t ≤ n → IsTrue (on_in g s t) → mark_in g.window t ≡ MustOff → ⊥
-  not_must_off zero one low on mark = absurd (omega arith)
-  not_must_off (suc k) one low on mark = let off = (steps k low).must_off mark in cc
-
-  pub not_must_on : (t : ℕ) → 1 ≤ t → t ≤ n → IsFalse (on_in g s t) → mark_in g.window t ≡ MustOn → ⊥
-  not_must_on zero one low off mark = absurd (omega arith)
-  not_must_on (suc k) one low off mark = let on = (steps k low).must_on mark in cc
-
-  pub not_must_run : (t : ℕ) → 1 ≤ t → t ≤ n → IsFalse (on_in g s t) → IsTrue g.must_run → ⊥
-  not_must_run zero one low off must = absurd (omega arith)
-  not_must_run (suc k) one low off must = let on = (steps k low).must_run must in cc

@@ -2,7 +2,7 @@
 -- latest first period of a spell and the earliest on period before it, and each spell is written first by powers and
 -- reserves.
 use Rattle.unit_program.proofs.Common.{◌≡◌, ℕ, zero, suc, ◌<◌, ◌≤◌, false, inl, inr, Option, Some, ℤ, pos, ◌+ℤ◌}
-use Rattle.unit_program.proofs.Common.{◌≤ℤ◌, refl, sym, ap, ◌∙◌, arith, signed, IsTrue, IsFalse, slice_index}
+use Rattle.unit_program.proofs.Common.{◌≤ℤ◌, refl, ap, ◌∙◌, arith, signed, IsTrue, IsFalse, slice_index}
 use Rattle.unit_program.proofs.Common.{slice_index_or, cases_lt, cases_Bool, ThermalUnit, PriceLists, Schedule, on_in}
 use Rattle.unit_program.proofs.Common.{power_in, reserve_in, IsThermalFeasible, IsDispatch, IsFirstDispatch}
 use Rattle.unit_program.proofs.Common.{spell_cost, IsOffRun, paid}
@@ -10,7 +10,7 @@ use Rattle.unit_program.proofs.Common.{IsStarted, IsEnded, IsLatest, IsComplete,
 use Rattle.unit_program.proofs.Common.{HasSamePowers, IsFirstBeside, IsFirstUpTo}
 use Rattle.unit_program.proofs.BackwardOrder.{IsNoLater}
 use Rattle.unit_program.proofs.SpellLaws.{off_time-same}
-use Rattle.unit_program.proofs.ShapeLaws.{IsEdge, IsOffAfter, stops_after, known, edge_of}
+use Rattle.unit_program.proofs.ShapeLaws.{IsEdge, IsOffAfter, stop_before, known, edge_of}
 use Rattle.unit_program.proofs.ShapeLaws.{entry_of, last_on}
 
 -- ---- one spell that the table names
@@ -129,7 +129,7 @@ module _ (g : ThermalUnit) (π : PriceLists) (ends : ℕ → Option ℤ) (n : �
                 right = rival.right;
                 cost = same;
                 on = off.on;
-                after = λ on _. stops_after g o e.last st.before off on;
+                after = (stop_before g o n e.last st.before off).after;
               } in
               rw last at there
         ]
@@ -215,7 +215,7 @@ module _ (g : ThermalUnit) (π : PriceLists) (ends : ℕ → Option ℤ) (n : �
   rival_here agree =
       let k = (last_on o right).0 in
       let e = (last_on o right).1 in
-      let r = known o right π ends complete k e.low (λ _. e.after) e.on in
+      let r = known o right π ends complete k e.low e.stop in
       let above = least k r.0 r.1 e.run in
       let same = e.cost π in
       let paid_is : paid g π o k ≡ v = omega signed in
@@ -224,11 +224,12 @@ module _ (g : ThermalUnit) (π : PriceLists) (ends : ℕ → Option ℤ) (n : �
       let z : k ≡ l = elim (cases_lt l k) [
         | inl more ↦
             let s_off = idle k more e.low in
-            let o_on = e.on (omega arith) in
+            let o_on = e.stop.on (omega arith) in
             let a = agree k more e.low in cc
         | inr most ↦ omega arith
       ] in
-      let there : IsRival g π n k v o = record { right = right; cost = paid_is; on = e.on; after = λ _. e.after } in
+      let there : IsRival g π n k v o =
+      record { right = right; cost = paid_is; on = e.stop.on; after = e.stop.after } in
       rw z at there
 
   flag_whole : (t : ℕ) → t ≤ n → HasSameFlags g o s t n → IsTrue (on_in g s t) → IsTrue (on_in g o t)
