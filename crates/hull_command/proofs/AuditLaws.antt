@@ -5,7 +5,7 @@ use Rattle.hull_command.proofs.Common.{IsWithinWork, IsReportFile, IsAudit, Plan
 use Rattle.hull_command.proofs.Common.{audit_asked, rest_with, report_of}
 use Rattle.hull_words.specs.declared.command.AuditWords.{AuditWords}
 use Rattle.report_read.specs.declared.report.Report.{Report as ReadReport}
-use Rattle.hull_command.specs.declared.ready.Task.TheVariants.{Audit}
+use Rattle.hull_command.specs.declared.ready.Purpose.TheVariants.{Audit}
 use Rattle.hull_command.proofs.ReadLaws.{got}
 
 -- the bytes of a report that was read are its text

@@ -6,7 +6,7 @@ use Rattle.hull_command.proofs.Common.{HasNumbers, rest_with}
 use Rattle.hull_words.specs.declared.command.PriceWords.{PriceWords}
 use Rattle.hull_words.specs.declared.command.TryWords.{TryWords}
 use Rattle.hull_words.specs.declared.command.BoundWords.{BoundWords}
-use Rattle.hull_command.specs.declared.ready.Task.TheVariants.{Price, Try, Bound, Fixed}
+use Rattle.hull_command.specs.declared.ready.Purpose.TheVariants.{Price, Try, Bound, Fixed}
 
 by_numbers : (P : (budget ahead : ℕ) → Type 0) (b a c d : ℕ) → b ≡ c → a ≡ d → P b a → P c d
 by_numbers P b a c d e f p = subst (P c) f (subst (λ (n : ℕ). P n a) e p)

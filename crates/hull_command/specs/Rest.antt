@@ -25,18 +25,18 @@ use Rattle.hull_command.specs.declared.ready.Before.TheVariants as befores
 use Rattle.hull_command.specs.declared.ready.Prepared.{Prepared}
 use Rattle.hull_command.specs.declared.ready.Prepared.TheVariants as prepareds
 use Rattle.hull_command.specs.declared.ready.Ready.{Ready}
-use Rattle.hull_command.specs.declared.ready.Task.{Task}
-use Rattle.hull_command.specs.declared.ready.Task.TheVariants.{Price, Try, Bound, Fixed, Audit}
+use Rattle.hull_command.specs.declared.ready.Purpose.{Purpose}
+use Rattle.hull_command.specs.declared.ready.Purpose.TheVariants.{Price, Try, Bound, Fixed, Audit}
 
 -- ---- what is left of a command
 
 -- what may still be due: the input; of an audit that, or the first line at which the report differs
-abbrev pub left_of : Task → PlannedCase → Result PlannedCase TopFault → Type 0
+abbrev pub left_of : Purpose → PlannedCase → Result PlannedCase TopFault → Type 0
 left_of (Audit report) c due = IsJudged (report_of report) c due
 left_of _ c due = due ≡ Ok c
 
 -- and which texts may be printed of it
-abbrev pub texts_of : Task → (budget ahead : ℕ) → PlannedCase → List ℕ → Type 0
+abbrev pub texts_of : Purpose → (budget ahead : ℕ) → PlannedCase → List ℕ → Type 0
 texts_of Price budget ahead = IsReportText report_text budget ahead
 texts_of (Try number) budget ahead = IsReportText (try_text number) budget ahead
 texts_of (Bound radius) budget ahead = IsBoundText budget ahead radius
@@ -44,16 +44,16 @@ texts_of Fixed budget ahead = IsFixedText budget ahead
 texts_of (Audit report) budget ahead = IsAuditText (Some (report_text (report_of report)))
 
 -- THE REST: a command that reads no more files
-abbrev pub rest_with : Task → PlannedCase → (budget ahead : ℕ) → Command
-rest_with task c budget ahead = record {
+abbrev pub rest_with : Purpose → PlannedCase → (budget ahead : ℕ) → Command
+rest_with purpose c budget ahead = record {
   name_of = no_files;
-  IsDue = λ reads. left_of task c;
-  IsText = λ reads. texts_of task budget ahead;
+  IsDue = λ reads. left_of purpose c;
+  IsText = λ reads. texts_of purpose budget ahead;
 }
 
 abbrev pub rest_of : Ready → Command
 rest_of ready =
-    rest_with ready.task (planned_run ready.terms) ready.terms.budget ready.terms.ahead
+    rest_with ready.purpose (planned_run ready.terms) ready.terms.budget ready.terms.ahead
 
 -- what the rest of a command comes to, the command comes to, over what was read
 pub record Completes (c : Command) (reads : Reads) (rest : Command) : Type 0 where
@@ -77,15 +77,15 @@ pub record EndsIn (c : Command) (gained short : List ℕ → Type 0) (status : �
 abbrev pub IsFitReport : Report → Type 0
 IsFitReport r = IsReport (report_of r) × AreInOrder 0 (map told_of r.lines.items)
 
-abbrev pub IsFitTask : Task → Type 0
-IsFitTask (Bound radius) = IsRadius radius
-IsFitTask (Audit report) = IsFitReport report
-IsFitTask _ = ⊤
+abbrev pub IsFitPurpose : Purpose → Type 0
+IsFitPurpose (Bound radius) = IsRadius radius
+IsFitPurpose (Audit report) = IsFitReport report
+IsFitPurpose _ = ⊤
 
 pub record IsReady (ready : Ready) : Type 0 where
   pub setup : IsSetup (setup_of ready.terms)
   pub workers : IsWorkers ready.terms.callers
-  pub task : IsFitTask ready.task
+  pub purpose : IsFitPurpose ready.purpose
 
 -- ---- before a run
 

@@ -9,7 +9,7 @@ ghost use Rattle.hull_command.specs.Answers.{IsTextOf, IsAnswered, IsCommandAnsw
 ghost use Rattle.hull_command.specs.Outcome.{Ends, status_at};
 ghost use Rattle.hull_command.specs.Planned.{PlannedCase};
 ghost use Rattle.hull_command.specs.Rest.{rest_with, nothing_read, IsFit, IsBeforeOf, IsUntouched};
-ghost use Rattle.hull_command.specs.declared.ready.Task.{Task};
+ghost use Rattle.hull_command.specs.declared.ready.Purpose.{Purpose};
 
 use crate::answer::{Answer, CertifiedInput, SettledInput};
 use crate::ready::{Before, Prepared};
@@ -116,9 +116,9 @@ pub fn finish<S: Sink>(answer: Result<Answer, TopFault>, out: &mut S) -> End
     requires { IfOk answer (λ answer. IsAnswered answer) }
     ensures end { IsEndOf (Gains S.held S.faults out.old out.new)
         (FallsShort S.held S.faults S.last out.old out.new) answer result }
-    ensures ends { (task : Task) (c : PlannedCase) (budget ahead : ℕ)
-        → IsCommandAnswer (rest_with task c budget ahead) nothing_read answer
-        → Ends (rest_with task c budget ahead) nothing_read
+    ensures ends { (purpose : Purpose) (c : PlannedCase) (budget ahead : ℕ)
+        → IsCommandAnswer (rest_with purpose c budget ahead) nothing_read answer
+        → Ends (rest_with purpose c budget ahead) nothing_read
         (Gains S.held S.faults out.old out.new)
         (FallsShort S.held S.faults S.last out.old out.new) result }
 {

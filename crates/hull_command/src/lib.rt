@@ -27,7 +27,7 @@ use end::end_prepared;
 pub use end::{End, finish, write_done};
 use hull_io::{Shelf, Sink};
 use prepare::prepare;
-pub use ready::{Before, Ready, Task};
+pub use ready::{Before, Purpose, Ready};
 use std::alloc::Global;
 
 /// Does all of a command that comes before a run: its words, its files and each refusal up to the

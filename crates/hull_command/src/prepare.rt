@@ -24,7 +24,7 @@ use crate::answer::{Answer, PricedInput};
 use crate::certify::{certified_input, read_mixture_file};
 use crate::files::{read_input, read_prices_file, read_report_file};
 use crate::input::{Input, within_work};
-use crate::ready::{Prepared, Ready, Task};
+use crate::ready::{Prepared, Purpose, Ready};
 use crate::settle::settled_input;
 use board_core::Terms;
 use case_make::make_case;
@@ -102,8 +102,8 @@ fn prepare_price<F: Shelf>(
     ensures shelf { IsLaterShelf F.told F.faults shelf.old shelf.new }
 {
     let terms = read_run(alloc, shelf, words)?;
-    let task = Task::Price;
-    Ok(Prepared::Ready(Ready { task, terms }))
+    let purpose = Purpose::Price;
+    Ok(Prepared::Ready(Ready { purpose, terms }))
 }
 
 /// What `hull bound` runs.
@@ -121,8 +121,8 @@ fn prepare_bound<F: Shelf>(
     ensures shelf { IsLaterShelf F.told F.faults shelf.old shelf.new }
 {
     let terms = read_run(alloc, shelf, &words.run)?;
-    let task = Task::Bound(words.radius);
-    Ok(Prepared::Ready(Ready { task, terms }))
+    let purpose = Purpose::Bound(words.radius);
+    Ok(Prepared::Ready(Ready { purpose, terms }))
 }
 
 /// What `hull fixed` runs.
@@ -139,8 +139,8 @@ fn prepare_fixed<F: Shelf>(
     ensures shelf { IsLaterShelf F.told F.faults shelf.old shelf.new }
 {
     let terms = read_run(alloc, shelf, words)?;
-    let task = Task::Fixed;
-    Ok(Prepared::Ready(Ready { task, terms }))
+    let purpose = Purpose::Fixed;
+    Ok(Prepared::Ready(Ready { purpose, terms }))
 }
 
 /// The case and the feasible schedule that a number stands for.
@@ -166,8 +166,8 @@ fn prepare_try(alloc: Global, words: &TryWords) -> Result<Prepared, TopFault>
         return Err(TopFault::Memory);
     };
     let terms = within_work(input, words.proposals, words.ahead, words.workers)?;
-    let task = Task::Try(words.number);
-    Ok(Prepared::Ready(Ready { task, terms }))
+    let purpose = Purpose::Try(words.number);
+    Ok(Prepared::Ready(Ready { purpose, terms }))
 }
 
 /// What `hull audit` runs. The limit of work is that of a run with the report's own budget.
@@ -189,8 +189,8 @@ fn prepare_audit<F: Shelf>(
     let input = read_input(alloc, shelf, case_name, schedule_name)?;
     let report = read_report_file(alloc, shelf, report_name)?;
     let terms = within_work(input, report.budget, report.ahead, words.workers)?;
-    let task = Task::Audit(report);
-    Ok(Prepared::Ready(Ready { task, terms }))
+    let purpose = Purpose::Audit(report);
+    Ok(Prepared::Ready(Ready { purpose, terms }))
 }
 
 /// The case, the schedule and the prices of the files of these names, or their first fault.

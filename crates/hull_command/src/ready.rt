@@ -6,7 +6,7 @@ use report_read::Report;
 
 /// What is done with the run of an input.
 #[derive(Drop)]
-pub enum Task {
+pub enum Purpose {
     /// Reports it.
     Price,
     /// Tells the sums of the run on the case that a number stands for.
@@ -24,7 +24,7 @@ pub enum Task {
 #[derive(Drop)]
 pub struct Ready {
     /// What is done with the run.
-    pub task: Task,
+    pub purpose: Purpose,
     /// What the run is for, with as many callers as the words ask for workers.
     pub terms: Terms,
 }

@@ -3,7 +3,7 @@ use Rattle.hull_engine.proofs.Common.{◌≡◌, ℕ, ◌≤◌, List, Option, i
 use Rattle.hull_engine.proofs.Common.{Command, Ends, HasStatus, IsReportText, report_text, rest_with, nothing_read}
 use Rattle.hull_command.specs.declared.end.End.{End}
 use Rattle.hull_command.specs.declared.end.End.TheVariants.{Done, Cut, Refused}
-use Rattle.hull_command.specs.declared.ready.Task.TheVariants.{Price}
+use Rattle.hull_command.specs.declared.ready.Purpose.TheVariants.{Price}
 
 -- no count of the sink falls
 module _ {S : Type 0} (held : S → Option (List ℕ)) (faults : S → ℕ) (last : Option ℕ) (old new : S) where

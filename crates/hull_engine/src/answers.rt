@@ -6,7 +6,7 @@ ghost use Rattle.hull_command.specs.Planned.{planned_run};
 ghost use Rattle.hull_command.specs.Sizes.{IsWorkers};
 ghost use Rattle.hull_command.specs.Answers.{IsAnswered, IsCommandAnswer};
 ghost use Rattle.hull_command.specs.Rest.{rest_with, nothing_read, IsFitReport};
-ghost use Rattle.hull_command.specs.declared.ready.Task.TheVariants as tasks;
+ghost use Rattle.hull_command.specs.declared.ready.Purpose.TheVariants as purposes;
 
 use crate::audit::right_proposals;
 use answer_workers::Gate;
@@ -28,7 +28,7 @@ pub fn answer_try<R: Threads + Wait + Sync, G: Gate>(
     gate: &G,
 ) -> Result<Answer, TopFault>
     requires { IsSetup (setup_of terms) }
-    ensures answers { IsCommandAnswer (rest_with (tasks.Try number) (planned_run terms)
+    ensures answers { IsCommandAnswer (rest_with (purposes.Try number) (planned_run terms)
         terms.budget terms.ahead) nothing_read result }
     ensures answered { IfOk result (λ answer. IsAnswered answer) }
 {
@@ -46,7 +46,7 @@ pub fn answer_bound<R: Threads + Wait + Sync, G: Gate>(
 ) -> Result<Answer, TopFault>
     requires setup { IsSetup (setup_of terms) }
     requires radius { IsRadius radius }
-    ensures answers { IsCommandAnswer (rest_with (tasks.Bound radius) (planned_run terms)
+    ensures answers { IsCommandAnswer (rest_with (purposes.Bound radius) (planned_run terms)
         terms.budget terms.ahead) nothing_read result }
     ensures answered { IfOk result (λ answer. IsAnswered answer) }
 {
@@ -61,7 +61,7 @@ pub fn answer_fixed<R: Threads + Wait + Sync, G: Gate>(
     gate: &G,
 ) -> Result<Answer, TopFault>
     requires { IsSetup (setup_of terms) }
-    ensures answers { IsCommandAnswer (rest_with tasks.Fixed (planned_run terms)
+    ensures answers { IsCommandAnswer (rest_with purposes.Fixed (planned_run terms)
         terms.budget terms.ahead) nothing_read result }
     ensures answered { IfOk result (λ answer. IsAnswered answer) }
 {
@@ -78,7 +78,7 @@ pub fn answer_audit<R: Threads + Wait + Sync>(
     requires setup { IsSetup (setup_of terms) }
     requires workers { IsWorkers terms.callers }
     requires report { IsFitReport report }
-    ensures answers { IsCommandAnswer (rest_with (tasks.Audit report) (planned_run terms)
+    ensures answers { IsCommandAnswer (rest_with (purposes.Audit report) (planned_run terms)
         terms.budget terms.ahead) nothing_read result }
     ensures answered { IfOk result (λ answer. IsAnswered answer) }
 {

@@ -11,14 +11,14 @@ ghost use Rattle.hull_command.specs.Outcome.{Ends};
 ghost use Rattle.hull_command.specs.Planned.{planned_run};
 ghost use Rattle.hull_command.specs.Rest.{rest_of, rest_with, nothing_read, IsReady};
 ghost use Rattle.hull_command.specs.Sizes.{IsWorkers};
-ghost use Rattle.hull_command.specs.declared.ready.Task.TheVariants as tasks;
+ghost use Rattle.hull_command.specs.declared.ready.Purpose.TheVariants as purposes;
 
 use crate::answers::{answer_audit, answer_bound, answer_fixed, answer_try};
 use crate::workers::manned;
 use answer_workers::Gate;
 use board_core::{Closed, Terms};
 use board_run::{Run, open_run, run_board};
-use hull_command::{End, Ready, Task, finish, write_done};
+use hull_command::{End, Purpose, Ready, finish, write_done};
 use hull_io::{Sink, WriteFailed};
 use hull_report::TopFault;
 use right_report::laws::record_report_is_right;
@@ -73,7 +73,7 @@ fn finish_price<R: Threads + Wait + Sync, S: Sink, G: Gate>(
     gate: &G,
 ) -> End
     requires { IsSetup (setup_of terms) }
-    ensures { Ends (rest_with tasks.Price (planned_run terms) terms.budget terms.ahead)
+    ensures { Ends (rest_with purposes.Price (planned_run terms) terms.budget terms.ahead)
         nothing_read (Gains S.held S.faults out.old out.new)
         (FallsShort S.held S.faults S.last out.old out.new) result }
 {
@@ -102,13 +102,13 @@ pub fn end_ready<R: Threads + Wait + Sync, S: Sink, G: Gate>(
     ensures { Ends (rest_of ready) nothing_read (Gains S.held S.faults out.old out.new)
         (FallsShort S.held S.faults S.last out.old out.new) result }
 {
-    let Ready { task, terms } = ready;
+    let Ready { purpose, terms } = ready;
     let terms = manned(terms, workers);
-    match task {
-        Task::Price => finish_price(rt, alloc, terms, out, gate),
-        Task::Try(number) => finish(answer_try(rt, alloc, terms, number, gate), out),
-        Task::Bound(radius) => finish(answer_bound(rt, alloc, terms, radius, gate), out),
-        Task::Fixed => finish(answer_fixed(rt, alloc, terms, gate), out),
-        Task::Audit(report) => finish(answer_audit(rt, alloc, terms, report), out),
+    match purpose {
+        Purpose::Price => finish_price(rt, alloc, terms, out, gate),
+        Purpose::Try(number) => finish(answer_try(rt, alloc, terms, number, gate), out),
+        Purpose::Bound(radius) => finish(answer_bound(rt, alloc, terms, radius, gate), out),
+        Purpose::Fixed => finish(answer_fixed(rt, alloc, terms, gate), out),
+        Purpose::Audit(report) => finish(answer_audit(rt, alloc, terms, report), out),
     }
 }

@@ -15,7 +15,7 @@ returns-in-Ready-clause-outcome g c =
       reads = before.2.0;
       are_reads = before.2.1;
       end = end.end;
-      ends = ends_of_rest (command_for (words_of (texts c.args.words.now))) ready.task (planned_run ready.terms)
+      ends = ends_of_rest (command_for (words_of (texts c.args.words.now))) ready.purpose (planned_run ready.terms)
           ready.terms.budget ready.terms.ahead before.2.0 before.2.2 _ _ end.end end.ends;
       status_is = end.status_is;
     }

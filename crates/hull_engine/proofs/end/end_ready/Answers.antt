@@ -1,5 +1,5 @@
 use Rattle.hull_engine.proofs.Common.{rules, w64, to_z-of_z, planned_run}
-use Rattle.hull_command.specs.declared.ready.Task.TheVariants.{Try, Bound, Fixed, Audit}
+use Rattle.hull_command.specs.declared.ready.Purpose.TheVariants.{Try, Bound, Fixed, Audit}
 use Rattle.hull_engine.proofs.end.end_ready.Goals as goal
 
 pub returns-in-Price : goal.returns-in-Price

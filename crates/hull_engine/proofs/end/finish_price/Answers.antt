@@ -1,6 +1,6 @@
 use Rattle.hull_engine.proofs.Common.{refl, ◌∙◌, planned_run, report_text, Gains, FallsShort, inr}
 use Rattle.right_report.specs.RecordReport.{report_of}
-use Rattle.hull_command.specs.declared.ready.Task.TheVariants.{Price}
+use Rattle.hull_command.specs.declared.ready.Purpose.TheVariants.{Price}
 use Rattle.hull_engine.proofs.Lemmas.{run_texts, price_done, price_cut, done_status, cut_status}
 use Rattle.hull_engine.proofs.end.finish_price.Goals as goal
 
