@@ -52,17 +52,18 @@ fn flag_at(bytes: &[u8]) -> Option<(bool, &[u8])>
     bit_at(rest)
 }
 
-/// So many prices within limits, in money for a kilowatt and period. The list is empty, with room.
+/// Fills an empty list that has room with so many prices within limits, in money for a kilowatt and
+/// period. Gives the bytes behind them.
 pub fn prices_at<'a>(
-    mut list: Numbers,
+    list: &mut Numbers,
     count: u32,
     least: i64,
     most: i64,
     bytes: &'a [u8],
-) -> Option<(Numbers, &'a [u8])>
-    requires empty { list.items ≡ [] }
-    requires room { count ≤ list.spare }
-    ensures { Finds (λ x. (x.0.items, x.1.now)) result
+) -> Option<&'a [u8]>
+    requires empty { list.old.items ≡ [] }
+    requires room { count ≤ list.old.spare }
+    ensures { Finds (λ rest. (list.new.items, rest.now)) result
         (items_at (price_spec least most) count bytes.now) }
 {
     let mut rest = bytes;
@@ -71,14 +72,15 @@ pub fn prices_at<'a>(
         list.push(price);
         rest = after;
     }
-    Some((list, rest))
+    Some(rest)
 }
 
-/// So many totals in kilowatts. The list is empty, with room.
-pub fn totals_at<'a>(mut list: Amounts, count: u32, bytes: &'a [u8]) -> Option<(Amounts, &'a [u8])>
-    requires empty { list.items ≡ [] }
-    requires room { count ≤ list.spare }
-    ensures { Finds (λ x. (x.0.items, x.1.now)) result (items_at total_spec count bytes.now) }
+/// Fills an empty list that has room with so many totals in kilowatts, and gives the bytes behind
+/// them.
+pub fn totals_at<'a>(list: &mut Amounts, count: u32, bytes: &'a [u8]) -> Option<&'a [u8]>
+    requires empty { list.old.items ≡ [] }
+    requires room { count ≤ list.old.spare }
+    ensures { Finds (λ rest. (list.new.items, rest.now)) result (items_at total_spec count bytes.now) }
 {
     let mut rest = bytes;
     for _ in 0..count {
@@ -86,14 +88,15 @@ pub fn totals_at<'a>(mut list: Amounts, count: u32, bytes: &'a [u8]) -> Option<(
         list.push(total);
         rest = after;
     }
-    Some((list, rest))
+    Some(rest)
 }
 
-/// So many powers or reserves in kilowatts. The list is empty, with room.
-pub fn powers_at<'a>(mut list: Powers, count: u32, bytes: &'a [u8]) -> Option<(Powers, &'a [u8])>
-    requires empty { list.items ≡ [] }
-    requires room { count ≤ list.spare }
-    ensures { Finds (λ x. (x.0.items, x.1.now)) result (items_at power_spec count bytes.now) }
+/// Fills an empty list that has room with so many powers or reserves in kilowatts, and gives the
+/// bytes behind them.
+pub fn powers_at<'a>(list: &mut Powers, count: u32, bytes: &'a [u8]) -> Option<&'a [u8]>
+    requires empty { list.old.items ≡ [] }
+    requires room { count ≤ list.old.spare }
+    ensures { Finds (λ rest. (list.new.items, rest.now)) result (items_at power_spec count bytes.now) }
 {
     let mut rest = bytes;
     for _ in 0..count {
@@ -101,14 +104,14 @@ pub fn powers_at<'a>(mut list: Powers, count: u32, bytes: &'a [u8]) -> Option<(P
         list.push(power);
         rest = after;
     }
-    Some((list, rest))
+    Some(rest)
 }
 
-/// So many flags. The list is empty, with room.
-pub fn flags_at<'a>(mut list: Flags, count: u32, bytes: &'a [u8]) -> Option<(Flags, &'a [u8])>
-    requires empty { list.items ≡ [] }
-    requires room { count ≤ list.spare }
-    ensures { Finds (λ x. (x.0.items, x.1.now)) result
+/// Fills an empty list that has room with so many flags, and gives the bytes behind them.
+pub fn flags_at<'a>(list: &mut Flags, count: u32, bytes: &'a [u8]) -> Option<&'a [u8]>
+    requires empty { list.old.items ≡ [] }
+    requires room { count ≤ list.old.spare }
+    ensures { Finds (λ rest. (list.new.items, rest.now)) result
         (items_at (spaced flag_spec) count bytes.now) }
 {
     let mut rest = bytes;
@@ -117,5 +120,5 @@ pub fn flags_at<'a>(mut list: Flags, count: u32, bytes: &'a [u8]) -> Option<(Fla
         list.push(flag);
         rest = after;
     }
-    Some((list, rest))
+    Some(rest)
 }

@@ -123,26 +123,24 @@ pub fn value_line<'a>(
 
 #[tactic(auto, unfolding(crate::specs::LineForms::ended, crate::specs::LineForms::after))]
 fn prices_in<'a>(
-    list: Numbers,
+    list: &mut Numbers,
     word: &[u8],
     periods: u32,
     least: i64,
     most: i64,
     bytes: &'a [u8],
-) -> Option<(Numbers, &'a [u8])>
-    requires empty { list.items ≡ [] }
-    requires room { periods ≤ list.spare }
-    ensures { Finds (λ x. (x.0.items, x.1.now)) result
+) -> Option<&'a [u8]>
+    requires empty { list.old.items ≡ [] }
+    requires room { periods ≤ list.old.spare }
+    ensures { Finds (λ rest. (list.new.items, rest.now)) result
         (word_form word.now (items_at (price_at least most) periods) bytes.now) }
 {
     let rest = behind(word, bytes)?;
-    let (list, rest) = prices_at(list, periods, least, most, rest)?;
-    let rest = behind(b"\n", rest)?;
-    Some((list, rest))
+    let rest = prices_at(list, periods, least, most, rest)?;
+    behind(b"\n", rest)
 }
 
 /// A word and the prices of all periods, from `least` to `most`.
-#[tactic(auto, using(crate::proofs::FoundLines::line_told))]
 pub fn prices_line<'a>(
     alloc: Global,
     word: &[u8],
@@ -154,30 +152,26 @@ pub fn prices_line<'a>(
     ensures { Gives (λ x. (x.0.items, x.1.now)) result
         (list_line word.now (price_at least most) periods bytes.now) }
 {
-    let list = Numbers::make(alloc, periods)?;
-    line_or_fault(prices_in(list, word, periods, least, most, bytes), bytes)
+    let mut list = Numbers::make(alloc, periods)?;
+    match prices_in(&mut list, word, periods, least, most, bytes) {
+        Some(rest) => Ok((list, rest)),
+        None => Err(Stop::Fault { left: bytes.len() }),
+    }
 }
 
 #[tactic(auto, unfolding(crate::specs::LineForms::ended, crate::specs::LineForms::after))]
-fn totals_in<'a>(
-    list: Amounts,
-    word: &[u8],
-    periods: u32,
-    bytes: &'a [u8],
-) -> Option<(Amounts, &'a [u8])>
-    requires empty { list.items ≡ [] }
-    requires room { periods ≤ list.spare }
-    ensures { Finds (λ x. (x.0.items, x.1.now)) result
+fn totals_in<'a>(list: &mut Amounts, word: &[u8], periods: u32, bytes: &'a [u8]) -> Option<&'a [u8]>
+    requires empty { list.old.items ≡ [] }
+    requires room { periods ≤ list.old.spare }
+    ensures { Finds (λ rest. (list.new.items, rest.now)) result
         (word_form word.now (items_at total_at periods) bytes.now) }
 {
     let rest = behind(word, bytes)?;
-    let (list, rest) = totals_at(list, periods, rest)?;
-    let rest = behind(b"\n", rest)?;
-    Some((list, rest))
+    let rest = totals_at(list, periods, rest)?;
+    behind(b"\n", rest)
 }
 
 /// A word and the totals of all periods.
-#[tactic(auto, using(crate::proofs::FoundLines::line_told))]
 pub fn totals_line<'a>(
     alloc: Global,
     word: &[u8],
@@ -187,30 +181,26 @@ pub fn totals_line<'a>(
     ensures { Gives (λ x. (x.0.items, x.1.now)) result
         (list_line word.now total_at periods bytes.now) }
 {
-    let list = Amounts::make(alloc, periods)?;
-    line_or_fault(totals_in(list, word, periods, bytes), bytes)
+    let mut list = Amounts::make(alloc, periods)?;
+    match totals_in(&mut list, word, periods, bytes) {
+        Some(rest) => Ok((list, rest)),
+        None => Err(Stop::Fault { left: bytes.len() }),
+    }
 }
 
 #[tactic(auto, unfolding(crate::specs::LineForms::ended, crate::specs::LineForms::after))]
-fn powers_in<'a>(
-    list: Powers,
-    word: &[u8],
-    periods: u32,
-    bytes: &'a [u8],
-) -> Option<(Powers, &'a [u8])>
-    requires empty { list.items ≡ [] }
-    requires room { periods ≤ list.spare }
-    ensures { Finds (λ x. (x.0.items, x.1.now)) result
+fn powers_in<'a>(list: &mut Powers, word: &[u8], periods: u32, bytes: &'a [u8]) -> Option<&'a [u8]>
+    requires empty { list.old.items ≡ [] }
+    requires room { periods ≤ list.old.spare }
+    ensures { Finds (λ rest. (list.new.items, rest.now)) result
         (word_form word.now (items_at power_at periods) bytes.now) }
 {
     let rest = behind(word, bytes)?;
-    let (list, rest) = powers_at(list, periods, rest)?;
-    let rest = behind(b"\n", rest)?;
-    Some((list, rest))
+    let rest = powers_at(list, periods, rest)?;
+    behind(b"\n", rest)
 }
 
 /// A word and the powers or reserves of all periods.
-#[tactic(auto, using(crate::proofs::FoundLines::line_told))]
 pub fn powers_line<'a>(
     alloc: Global,
     word: &[u8],
@@ -220,30 +210,26 @@ pub fn powers_line<'a>(
     ensures { Gives (λ x. (x.0.items, x.1.now)) result
         (list_line word.now power_at periods bytes.now) }
 {
-    let list = Powers::make(alloc, periods)?;
-    line_or_fault(powers_in(list, word, periods, bytes), bytes)
+    let mut list = Powers::make(alloc, periods)?;
+    match powers_in(&mut list, word, periods, bytes) {
+        Some(rest) => Ok((list, rest)),
+        None => Err(Stop::Fault { left: bytes.len() }),
+    }
 }
 
 #[tactic(auto, unfolding(crate::specs::LineForms::ended, crate::specs::LineForms::after))]
-fn flags_in<'a>(
-    list: Flags,
-    word: &[u8],
-    periods: u32,
-    bytes: &'a [u8],
-) -> Option<(Flags, &'a [u8])>
-    requires empty { list.items ≡ [] }
-    requires room { periods ≤ list.spare }
-    ensures { Finds (λ x. (x.0.items, x.1.now)) result
+fn flags_in<'a>(list: &mut Flags, word: &[u8], periods: u32, bytes: &'a [u8]) -> Option<&'a [u8]>
+    requires empty { list.old.items ≡ [] }
+    requires room { periods ≤ list.old.spare }
+    ensures { Finds (λ rest. (list.new.items, rest.now)) result
         (word_form word.now (items_at (spaced flag_at) periods) bytes.now) }
 {
     let rest = behind(word, bytes)?;
-    let (list, rest) = flags_at(list, periods, rest)?;
-    let rest = behind(b"\n", rest)?;
-    Some((list, rest))
+    let rest = flags_at(list, periods, rest)?;
+    behind(b"\n", rest)
 }
 
 /// A word and the on flags of all periods.
-#[tactic(auto, using(crate::proofs::FoundLines::line_told))]
 pub fn flags_line<'a>(
     alloc: Global,
     word: &[u8],
@@ -253,6 +239,9 @@ pub fn flags_line<'a>(
     ensures { Gives (λ x. (x.0.items, x.1.now)) result
         (list_line word.now (spaced flag_at) periods bytes.now) }
 {
-    let list = Flags::make(alloc, periods)?;
-    line_or_fault(flags_in(list, word, periods, bytes), bytes)
+    let mut list = Flags::make(alloc, periods)?;
+    match flags_in(&mut list, word, periods, bytes) {
+        Some(rest) => Ok((list, rest)),
+        None => Err(Stop::Fault { left: bytes.len() }),
+    }
 }
