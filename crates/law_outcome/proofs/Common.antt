@@ -1,7 +1,7 @@
 -- The names that the proofs of this crate take from its specs and from other crates, passed on from one place.
 pub use Rattle.std.proofs.Common.{◌≡◌, ℕ, ◌<◌, ◌⊎◌, inl, inr, Bool, true, false, List, [], ◌∷◌, Option, None, Some}
 pub use Rattle.std.proofs.Common.{Result, Ok, Err, refl, sym, ap, ◌∙◌, subst, arith, length, ◌-◌, ◌≤◌, slice_get, ℤ}
-pub use Rattle.std.proofs.Common.{unsigned_abs, ◌*◌, pos}
+pub use Rattle.std.proofs.Common.{unsigned_abs, ◌*◌, pos, ◌≢◌}
 pub use Rattle.std.proofs.lemmas.Bool.{ltb-true, cases_lt}
 pub use Rattle.std.proofs.lemmas.List.{length-map, get_or-map}
 pub use Rattle.std.proofs.lemmas.Option.{slice_get_within, same_Some}

@@ -15,12 +15,11 @@ use Rattle.law_outcome.proofs.Common.{Reads, bytes_of, IsCase, IsCaseFile, IsPla
 use Rattle.law_outcome.proofs.Common.{IsWithinWork, IsReportFile, IsAudit, PlannedCase, command_for, case_and_schedule}
 use Rattle.law_outcome.proofs.Common.{IsReadOf, AreReads, HasText, Ends, status_at, is_refusal, IsWritten, IsUnread}
 use Rattle.law_outcome.proofs.Common.{HasCause, IsQuiet, IsDecided, word_fault, FollowsFromWords, IsPromised}
-use Rattle.law_outcome.proofs.Common.{BytesAreThoseRead}
+use Rattle.law_outcome.proofs.Common.{BytesAreThoseRead, ◌≢◌}
 use Rattle.uc_case.specs.Files.{text, value}
 use Rattle.uc_case.specs.CaseFiles.{IsCaseOf}
 use Rattle.uc_plan.specs.PlanFiles.{IsPlanOf}
 use Rattle.hull_report.specs.declared.fault.FileKind.{FileKind}
-use Rattle.law_outcome.proofs.OneDue.{AreOne, one_due}
 use Rattle.plain_lists.specs.declared.limits.TheConstants.{MOST_WORK}
 
 -- ---- a fault by its status
@@ -401,21 +400,22 @@ module _ (w : Result Asked WordFault) (told : List ℕ → Option (List ℕ)) (r
       each (Some name) None p q = absurd (q p)
       each (Some name) (Some bytes) p q = refl
 
-  pub is_decided : AreOne → (n : ℕ) (reads : Reads) (e : End) → AreReads told rose (command_for w).name_of reads →
-      IsQuiet (command_for w) told rose gained short
-      → Ends (command_for w) reads gained short e → n ≡ status_at e → IsDecided (command_for w) n reads
-  is_decided ones n reads Done are quiet (i, due, shown, right, ends) is = record {
+  pub is_decided : ((reads : Reads) (due other : Result PlannedCase TopFault) → (command_for w).IsDue reads due →
+      (command_for w).IsDue reads other → due ≡ other) → (n : ℕ) (reads : Reads) (e : End) →
+      AreReads told rose (command_for w).name_of reads → IsQuiet (command_for w) told rose gained short →
+      Ends (command_for w) reads gained short e → n ≡ status_at e → IsDecided (command_for w) n reads
+  is_decided one n reads Done are quiet (i, due, shown, right, ends) is = record {
     read = all_read reads are quiet;
     accepted = λ j also. inl is;
-    refused = λ f also. let e = one_due ones w reads (Ok i) (Err f) due also in absurd cc;
+    refused = λ f also. let e = one reads (Ok i) (Err f) due also in absurd cc;
   }
-  is_decided ones n reads Cut are quiet (i, due, shown, right, fell) is = absurd (quiet.sink shown fell)
-  is_decided ones n reads (Refused f) are quiet (inl due, lines) is = record {
+  is_decided one n reads Cut are quiet (i, due, shown, right, fell) is = absurd (quiet.sink shown fell)
+  is_decided one n reads (Refused f) are quiet (inl due, lines) is = record {
     read = all_read reads are quiet;
-    accepted = λ j also. let e = one_due ones w reads (Err f) (Ok j) due also in absurd cc;
-    refused = λ g also. inl (is ∙ ap status_of (same_fault f g (one_due ones w reads (Err f) (Err g) due also)));
+    accepted = λ j also. let e = one reads (Err f) (Ok j) due also in absurd cc;
+    refused = λ g also. inl (is ∙ ap status_of (same_fault f g (one reads (Err f) (Err g) due also)));
   }
-  is_decided ones n reads (Refused f) are quiet (inr m, lines) is =
+  is_decided one n reads (Refused f) are quiet (inr m, lines) is =
       let s : n ≡ 7 = is ∙ ap status_of m in
       record { read = all_read reads are quiet; accepted = λ j also. inr s; refused = λ g also. inr s }
 
@@ -440,6 +440,18 @@ module _ (w : Result Asked WordFault) (gained short : List ℕ → Type 0) where
   at_1_of reads f lines z (of_prices asked nine) = absurd (omega (arith, z, nine))
   at_1_of reads f lines z (of_mixture a same ten) = absurd (omega (arith, z, ten))
   at_1_of reads f lines z (of_words x is faulty) = (x, faulty, subst Lines is lines)
+
+  at_5_of : (reads : Reads) (f : TopFault) → status_of f ≡ 5 → IsDueFault w reads f →
+      ((a : CheckAsked) → w ≡ Ok (check a) → ⊥) × ((a : SettleAsked) → w ≡ Ok (settle a) → ⊥)
+      × ((a : CertifyAsked) → w ≡ Ok (certify a) → ⊥)
+  at_5_of reads f z (unread file name is named none) = let s : status_of f ≡ 2 = ap status_of is in
+      absurd (omega (arith, z, s))
+  at_5_of reads f z (of_input low high) = absurd (omega (arith, z, high))
+  at_5_of reads f z (of_work other more third five) = (other, more, third)
+  at_5_of reads f z (of_report a same eight) = absurd (omega (arith, z, eight))
+  at_5_of reads f z (of_prices asked nine) = absurd (omega (arith, z, nine))
+  at_5_of reads f z (of_mixture a same ten) = absurd (omega (arith, z, ten))
+  at_5_of reads f z (of_words x is faulty) = let s : status_of f ≡ 1 = ap status_of is in absurd (omega (arith, z, s))
 
   at_8_of : (reads : Reads) (f : TopFault) → status_of f ≡ 8 → IsDueFault w reads f →
       (a : AuditAsked) × (w ≡ Ok (audit a))
@@ -473,86 +485,46 @@ module _ (w : Result Asked WordFault) (gained short : List ℕ → Type 0) where
   at_10_of reads f z (of_mixture a same ten) = (a, same)
   at_10_of reads f z (of_words x is faulty) = let s : status_of f ≡ 1 = ap status_of is in absurd (omega (arith, z, s))
 
-  check_never_5 : (reads : Reads) (f : TopFault) (a : CheckAsked) → w ≡ Ok (check a) → status_of f ≡ 5 →
-      IsDueFault w reads f → ⊥
-  check_never_5 reads f a same z (unread file name is named none) = let s : status_of f ≡ 2 = ap status_of is in
-      omega (arith, z, s)
-  check_never_5 reads f a same z (of_input low high) = omega (arith, z, high)
-  check_never_5 reads f a same z (of_work other more third five) = other a same
-  check_never_5 reads f a same z (of_report b also eight) = omega (arith, z, eight)
-  check_never_5 reads f a same z (of_prices asked nine) = omega (arith, z, nine)
-  check_never_5 reads f a same z (of_mixture b also ten) = omega (arith, z, ten)
-  check_never_5 reads f a same z (of_words x is faulty) = let s : status_of f ≡ 1 = ap status_of is in
-      omega (arith, z, s)
-
-  settle_never_5 : (reads : Reads) (f : TopFault) (a : SettleAsked) → w ≡ Ok (settle a) → status_of f ≡ 5 →
-      IsDueFault w reads f → ⊥
-  settle_never_5 reads f a same z (unread file name is named none) = let s : status_of f ≡ 2 = ap status_of is in
-      omega (arith, z, s)
-  settle_never_5 reads f a same z (of_input low high) = omega (arith, z, high)
-  settle_never_5 reads f a same z (of_work other more third five) = more a same
-  settle_never_5 reads f a same z (of_report b also eight) = omega (arith, z, eight)
-  settle_never_5 reads f a same z (of_prices asked nine) = omega (arith, z, nine)
-  settle_never_5 reads f a same z (of_mixture b also ten) = omega (arith, z, ten)
-  settle_never_5 reads f a same z (of_words x is faulty) = let s : status_of f ≡ 1 = ap status_of is in
-      omega (arith, z, s)
-
-  certify_never_5 : (reads : Reads) (f : TopFault) (a : CertifyAsked) → w ≡ Ok (certify a) → status_of f ≡ 5 →
-      IsDueFault w reads f → ⊥
-  certify_never_5 reads f a same z (unread file name is named none) = let s : status_of f ≡ 2 = ap status_of is in
-      omega (arith, z, s)
-  certify_never_5 reads f a same z (of_input low high) = omega (arith, z, high)
-  certify_never_5 reads f a same z (of_work other more third five) = third a same
-  certify_never_5 reads f a same z (of_report b also eight) = omega (arith, z, eight)
-  certify_never_5 reads f a same z (of_prices asked nine) = omega (arith, z, nine)
-  certify_never_5 reads f a same z (of_mixture b also ten) = omega (arith, z, ten)
-  certify_never_5 reads f a same z (of_words x is faulty) = let s : status_of f ≡ 1 = ap status_of is in
-      omega (arith, z, s)
+  -- a status that says nothing of the words but whether they are faulty
+  at_no_other : (n : ℕ) → n ≢ 1 → n ≢ 5 → n ≢ 8 → n ≢ 9 → n ≢ 10 →
+      ((x : WordFault) → word_fault w ≡ Some x → (n ≡ 1) ⊎ (n ≡ 7)) → FollowsFromWords w gained short n
+  at_no_other n one five eight nine ten faulty = record {
+    faulty = faulty;
+    at_1 = λ z. absurd (one z);
+    check_at_5 = λ a e. five;
+    settle_at_5 = λ a e. five;
+    certify_at_5 = λ a e. five;
+    at_8 = λ z. absurd (eight z);
+    at_9 = λ z. absurd (nine z);
+    at_10 = λ z. absurd (ten z);
+  }
 
   pub words_follow : (n : ℕ) (reads : Reads) (e : End) → Ends (command_for w) reads gained short e → n ≡ status_at e →
       FollowsFromWords w gained short n
-  words_follow n reads Done (i, due, shown, right, ends) is = record {
-    faulty = λ f e. let h = refused_words w f reads (Ok i) e due in absurd cc;
-    at_1 = λ z. absurd (omega (arith, is, z));
-    check_at_5 = λ a e z. omega (arith, is, z);
-    settle_at_5 = λ a e z. omega (arith, is, z);
-    certify_at_5 = λ a e z. omega (arith, is, z);
-    at_8 = λ z. absurd (omega (arith, is, z));
-    at_9 = λ z. absurd (omega (arith, is, z));
-    at_10 = λ z. absurd (omega (arith, is, z));
-  }
-  words_follow n reads Cut (i, due, shown, right, ends) is = record {
-    faulty = λ f e. let h = refused_words w f reads (Ok i) e due in absurd cc;
-    at_1 = λ z. absurd (omega (arith, is, z));
-    check_at_5 = λ a e z. omega (arith, is, z);
-    settle_at_5 = λ a e z. omega (arith, is, z);
-    certify_at_5 = λ a e z. omega (arith, is, z);
-    at_8 = λ z. absurd (omega (arith, is, z));
-    at_9 = λ z. absurd (omega (arith, is, z));
-    at_10 = λ z. absurd (omega (arith, is, z));
-  }
-  words_follow n reads (Refused f) (inl due, lines) is = record {
-    faulty = λ x e. inl (is ∙ ap status_of (same_fault f (Words x) (refused_words w x reads (Err f) e due)));
-    at_1 = λ z. at_1_of reads f lines (sym is ∙ z) (due_fault w reads f due);
-    check_at_5 = λ a e z. check_never_5 reads f a e (sym is ∙ z) (due_fault w reads f due);
-    settle_at_5 = λ a e z. settle_never_5 reads f a e (sym is ∙ z) (due_fault w reads f due);
-    certify_at_5 = λ a e z. certify_never_5 reads f a e (sym is ∙ z) (due_fault w reads f due);
-    at_8 = λ z. at_8_of reads f (sym is ∙ z) (due_fault w reads f due);
-    at_9 = λ z. at_9_of reads f (sym is ∙ z) (due_fault w reads f due);
-    at_10 = λ z. at_10_of reads f (sym is ∙ z) (due_fault w reads f due);
-  }
+  words_follow n reads Done (i, due, shown, right, ends) is =
+      at_no_other n (λ z. omega (arith, is, z)) (λ z. omega (arith, is, z)) (λ z. omega (arith, is, z))
+      (λ z. omega (arith, is, z)) (λ z. omega (arith, is, z))
+      (λ x e. let h = refused_words w x reads (Ok i) e due in absurd cc)
+  words_follow n reads Cut (i, due, shown, right, ends) is =
+      at_no_other n (λ z. omega (arith, is, z)) (λ z. omega (arith, is, z)) (λ z. omega (arith, is, z))
+      (λ z. omega (arith, is, z)) (λ z. omega (arith, is, z))
+      (λ x e. let h = refused_words w x reads (Ok i) e due in absurd cc)
+  words_follow n reads (Refused f) (inl due, lines) is =
+      let told = due_fault w reads f due in
+      record {
+        faulty = λ x e. inl (is ∙ ap status_of (same_fault f (Words x) (refused_words w x reads (Err f) e due)));
+        at_1 = λ z. at_1_of reads f lines (sym is ∙ z) told;
+        check_at_5 = λ a e z. (at_5_of reads f (sym is ∙ z) told).0 a e;
+        settle_at_5 = λ a e z. (at_5_of reads f (sym is ∙ z) told).1 a e;
+        certify_at_5 = λ a e z. (at_5_of reads f (sym is ∙ z) told).2 a e;
+        at_8 = λ z. at_8_of reads f (sym is ∙ z) told;
+        at_9 = λ z. at_9_of reads f (sym is ∙ z) told;
+        at_10 = λ z. at_10_of reads f (sym is ∙ z) told;
+      }
   words_follow n reads (Refused f) (inr m, lines) is =
       let s : n ≡ 7 = is ∙ ap status_of m in
-      record {
-        faulty = λ x e. inr s;
-        at_1 = λ z. absurd (omega (arith, s, z));
-        check_at_5 = λ a e z. omega (arith, s, z);
-        settle_at_5 = λ a e z. omega (arith, s, z);
-        certify_at_5 = λ a e z. omega (arith, s, z);
-        at_8 = λ z. absurd (omega (arith, s, z));
-        at_9 = λ z. absurd (omega (arith, s, z));
-        at_10 = λ z. absurd (omega (arith, s, z));
-      }
+      at_no_other n (λ z. omega (arith, s, z)) (λ z. omega (arith, s, z)) (λ z. omega (arith, s, z))
+      (λ z. omega (arith, s, z)) (λ z. omega (arith, s, z)) (λ x e. inr s)
 
 -- ---- what is accepted
 

@@ -72,14 +72,7 @@ pub fn each_status_has_its_cause<F: Shelf, S: Sink>()
 pub fn what_was_read_decides<F: Shelf, S: Sink>()
     ensures { WhatWasReadDecides F.told F.faults F.last S.held S.faults S.last }
 {
-    one_case();
-    one_plan();
-    one_report_has_a_text();
-    one_line_is_in_fault();
-    one_report_is_right();
-    one_line_differs();
-    one_prices();
-    one_mixture();
+    one_thing_is_due();
 }
 
 /// What the words alone say of the status, whatever is told of the files.
