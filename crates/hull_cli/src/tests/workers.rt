@@ -4,9 +4,13 @@ use crate::same::same;
 use crate::tests::runs::{SHORT, run};
 use crate::tests::texts::{TWO_UNITS, TWO_UNITS_REPORT, TWO_UNITS_SCHEDULE};
 use answer_workers::Gate;
+use std::alloc::{AllocError, Global};
+use std::process::Abort;
+use std::sync::Wait;
 use std::sync::atomic::{AtomicU64, Ordering};
 use std::test::Fail;
 use std::thread;
+use std::thread::Threads;
 
 const FOUR_IDLE: &str = "\
 {\"time_periods\":1,\"demand\":[0],\"reserves\":[0],\"thermal_generators\":{},\
@@ -60,52 +64,44 @@ fn held_up_to(last: u32) -> Held {
     }
 }
 
-#[test]
-fn two_workers_answer_at_once(rt: HostRuntime) -> Result<(), Fail> {
-    let gate = held_up_to(1);
+// What so many workers print of one proposal on a case and its schedule, held up to the last of its units. None was
+// held to the limit of looks.
+fn run_held<R: Threads + Wait + Sync + Abort>(
+    rt: &R,
+    alloc: Global,
+    last: u32,
+    workers: &str,
+    files: (&str, &str),
+) -> Result<Vec<u8>, AllocError> {
+    let gate = held_up_to(last);
     let words = [
         "price",
         "--case=c",
         "--schedule=s",
         "--proposals=1",
         "--ahead=1",
-        "--workers=2",
+        workers,
     ];
-    let (status, bytes) = run(
-        &rt,
-        &gate,
-        rt.alloc(),
-        &words,
-        (TWO_UNITS, TWO_UNITS_SCHEDULE, b"".as_slice()),
-        SHORT,
-    )?;
-    same(&rt, gate.late.load(Ordering::SeqCst), 0);
+    let (case, schedule) = files;
+    let texts = (case, schedule, b"".as_slice());
+    let (status, bytes) = run(rt, &gate, alloc, &words, texts, SHORT)?;
+    same(rt, gate.late.load(Ordering::SeqCst), 0);
+    same(rt, status, 0);
+    Ok(bytes)
+}
+
+#[test]
+fn two_workers_answer_at_once(rt: HostRuntime) -> Result<(), Fail> {
+    let files = (TWO_UNITS, TWO_UNITS_SCHEDULE);
+    let bytes = run_held(&rt, rt.alloc(), 1, "--workers=2", files)?;
     same(&rt, bytes.as_slice(), TWO_UNITS_REPORT);
-    same(&rt, status, 0);
     Ok(())
 }
 
 #[test]
 fn four_workers_answer_at_once(rt: HostRuntime) -> Result<(), Fail> {
-    let gate = held_up_to(3);
-    let words = [
-        "price",
-        "--case=c",
-        "--schedule=s",
-        "--proposals=1",
-        "--ahead=1",
-        "--workers=4",
-    ];
-    let (status, bytes) = run(
-        &rt,
-        &gate,
-        rt.alloc(),
-        &words,
-        (FOUR_IDLE, FOUR_IDLE_SCHEDULE, b"".as_slice()),
-        SHORT,
-    )?;
-    same(&rt, gate.late.load(Ordering::SeqCst), 0);
-    same(&rt, status, 0);
+    let files = (FOUR_IDLE, FOUR_IDLE_SCHEDULE);
+    let bytes = run_held(&rt, rt.alloc(), 3, "--workers=4", files)?;
     let mut lines = bytes.as_slice().split(|byte| *byte == b'\n');
     assert!(rt; lines.any(|line| line == b"chosen 1 value 0".as_slice()));
     Ok(())
