@@ -1,6 +1,7 @@
 //! Worked units, and random tiny ones beside the least best of all their schedules, over the
 //! representations of convex functions and on both benches.
-ghost use Rattle.std.specs.Prelude.{◌<◌, ◌≤◌};
+ghost use Rattle.std.specs.Prelude.{◌≡◌, ◌<◌, ◌≤◌, IfOk, length};
+ghost use Rattle.uc_model.specs.PlainUnits.{thermal_of, prices_of};
 
 use crate::same::same;
 use crate::units::{BARRED, FALLING, KINKED, OFF};
@@ -19,7 +20,7 @@ use test_tiny::parts::{small_prices, unit};
 use test_tiny::small::SmallUnit;
 use test_tiny::trying::least_by_trying;
 use test_units::best_response;
-use uc_model::units::{Answered, Mark};
+use uc_model::units::{Answered, Mark, Prices, Unit};
 use unit_choice::least_on_bench;
 use unit_program::{Bench, LastAnswers};
 
@@ -64,41 +65,43 @@ struct Row<'a> {
     reserve: &'a [u16],
 }
 
+// The unit and its prices.
+fn parts_of(alloc: Global, row: Row) -> Result<(Unit, Prices), Fail>
+    ensures { IfOk result (λ r.
+        length (thermal_of r.0).window ≡ length (prices_of r.1).energy) }
+{
+    let periods = row.energy.len();
+    if periods == 0 || periods > 168 {
+        return Err(Fail::new("a row over no periods"));
+    }
+    if row.window.len() != periods || row.reserve.len() != periods {
+        return Err(Fail::new("a row of several lengths"));
+    }
+    let unit = unit(alloc, row.unit, row.window)?;
+    let prices = small_prices(alloc, row.energy, row.reserve)?;
+    Ok((unit, prices))
+}
+
 // Its least best response.
 fn answer_of<S: Shape>(
     alloc: Global,
     home: &mut S::Home,
     row: Row,
 ) -> Result<Option<Answered>, Fail> {
-    let periods = row.energy.len();
-    if periods == 0 || periods > 168 {
-        return Err(Fail::new("a row over no periods"));
-    }
-    if row.window.len() != periods || row.reserve.len() != periods {
-        return Err(Fail::new("a row of several lengths"));
-    }
-    let unit = unit(alloc, row.unit, row.window)?;
-    let prices = small_prices(alloc, row.energy, row.reserve)?;
+    let (unit, prices) = parts_of(alloc, row)?;
     Ok(best_response::<S>(alloc, home, &unit, &prices)?)
 }
 
 // The least best response on a bench, begun with the last answer that another bench left.
 fn on_bench(alloc: Global, row: Row) -> Result<Option<Answered>, Fail> {
-    let periods = row.energy.len();
-    if periods == 0 || periods > 168 {
-        return Err(Fail::new("a row over no periods"));
-    }
-    if row.window.len() != periods || row.reserve.len() != periods {
-        return Err(Fail::new("a row of several lengths"));
-    }
-    let unit = unit(alloc, row.unit, row.window)?;
-    let prices = small_prices(alloc, row.energy, row.reserve)?;
+    let (unit, prices) = parts_of(alloc, row)?;
+    let periods = prices.energy.len() as u32;
     let points = unit.points.len() as u32;
-    let mut earlier = Bench::make(alloc, periods as u32, points)?;
-    let mut bench = Bench::make(alloc, periods as u32, points)?;
-    let last = LastAnswers::make(alloc, 1, periods as u32)?;
-    let mut first = Answered::make(alloc, periods as u32)?;
-    let mut into = Answered::make(alloc, periods as u32)?;
+    let mut earlier = Bench::make(alloc, periods, points)?;
+    let mut bench = Bench::make(alloc, periods, points)?;
+    let last = LastAnswers::make(alloc, 1, periods)?;
+    let mut first = Answered::make(alloc, periods)?;
+    let mut into = Answered::make(alloc, periods)?;
     let _ = least_on_bench(&mut earlier, &last, 0, &unit, &prices, &mut first);
     if least_on_bench(&mut bench, &last, 0, &unit, &prices, &mut into) {
         return Ok(Some(into));
@@ -108,17 +111,10 @@ fn on_bench(alloc: Global, row: Row) -> Result<Option<Answered>, Fail> {
 
 // The least best response on a bench with a pool, whose cells are all there again afterwards.
 fn in_pool(rt: &impl Abort, alloc: Global, row: Row) -> Result<Option<Answered>, Fail> {
-    let periods = row.energy.len();
-    if periods == 0 || periods > 168 {
-        return Err(Fail::new("a row over no periods"));
-    }
-    if row.window.len() != periods || row.reserve.len() != periods {
-        return Err(Fail::new("a row of several lengths"));
-    }
-    let unit = unit(alloc, row.unit, row.window)?;
-    let prices = small_prices(alloc, row.energy, row.reserve)?;
-    let mut bench = PoolBench::make(alloc, periods as u32, unit.points.len() as u32)?;
-    let mut into = Answered::make(alloc, periods as u32)?;
+    let (unit, prices) = parts_of(alloc, row)?;
+    let periods = prices.energy.len() as u32;
+    let mut bench = PoolBench::make(alloc, periods, unit.points.len() as u32)?;
+    let mut into = Answered::make(alloc, periods)?;
     let spare = bench.pool.spare();
     let is_there = best_on_bench(&mut bench, &unit, &prices, &mut into);
     same(rt, bench.pool.spare(), spare);
@@ -140,15 +136,7 @@ fn expect(rt: &impl Abort, alloc: Global, row: Row, want: Option<Figures>) -> Re
 
 // And by trying all schedules; it is feasible and earns as much by itself too.
 fn expect_tried(rt: &impl Abort, alloc: Global, row: Row, want: Figures) -> Result<(), Fail> {
-    let periods = row.energy.len();
-    if periods == 0 || periods > 168 {
-        return Err(Fail::new("a row over no periods"));
-    }
-    if row.window.len() != periods || row.reserve.len() != periods {
-        return Err(Fail::new("a row of several lengths"));
-    }
-    let unit = unit(alloc, row.unit, row.window)?;
-    let prices = small_prices(alloc, row.energy, row.reserve)?;
+    let (unit, prices) = parts_of(alloc, row)?;
     let least = least_by_trying(alloc, &unit, &prices)?;
     assert_answer(rt, &least, Some(want));
     if let Some(answer) = least {
@@ -415,8 +403,7 @@ fn compare(
         energy: &energy[..periods],
         reserve: &reserve[..periods],
     };
-    let unit = unit(alloc, row.unit, row.window)?;
-    let prices = small_prices(alloc, row.energy, row.reserve)?;
+    let (unit, prices) = parts_of(alloc, row)?;
     let tried = least_by_trying(alloc, &unit, &prices)?;
     let want = match &tried {
         Some(answered) => Some(figures_of(answered)),
