@@ -5,12 +5,11 @@ ghost use Rattle.std.specs.List.{All};
 ghost use Rattle.uc_model.specs.PlainCases.{market_of};
 ghost use Rattle.audit_rows.specs.Benches.{IsBenchOver};
 
-use crate::boards::{CASE, PLAN};
+use crate::boards::{CASE, PLAN, planned};
 use crate::same::same_of;
 use crate::texts::{Change, changed};
 use audit_check::check_report;
 use case_answers::laws::benches_serve_all;
-use plan_check::check_plan;
 use report_compare::Audit;
 use report_read::read_report;
 use std::alloc::Global;
@@ -19,10 +18,8 @@ use std::string::String;
 use std::sync::Wait;
 use std::test::Fail;
 use std::thread::Threads;
-use uc_case::read_case;
 use uc_model::cases::Case;
 use uc_model::limits::MOST_POINTS;
-use uc_plan::read_plan;
 use unit_program::Bench;
 
 pub(crate) const RIGHT: &str = "hull-report 1\n\
@@ -68,11 +65,7 @@ fn wrong_line<R: Threads + Wait + Sync>(
     requires most { count ≤ 32 }
     requires few { length text.now ≤ 67108864 }
 {
-    let case = read_case(alloc, CASE)?;
-    let plan = read_plan(alloc, &case, PLAN)?;
-    let Ok(cost) = check_plan(&case, &plan) else {
-        return Err(Fail::new("the plan isn't feasible"));
-    };
+    let (case, plan, cost) = planned(alloc, CASE, PLAN)?;
     let report = read_report(alloc, text)?;
     let benches = benches_for(alloc, &case, count)?;
     match check_report(rt, alloc, &case, &plan, cost, &report, benches)? {

@@ -3,12 +3,14 @@
 ghost use Rattle.std.specs.Prelude.{◌≡◌, ◌≤◌, ◌<◌, IfOk, IfSome, [], length};
 ghost use Rattle.board_core.specs.Setups.{IsSetup, setup_of};
 ghost use Rattle.uc_model.specs.Earnings.{earnings};
-ghost use Rattle.uc_model.specs.PlainCases.{task_unit};
+ghost use Rattle.uc_model.specs.PlainCases.{market_of, schedules_of, task_unit};
 ghost use Rattle.uc_model.specs.PlainUnits.{prices_of, schedule_of};
 ghost use Rattle.uc_model.specs.Runs.{Fits};
+ghost use Rattle.uc_model.specs.Systems.{plan_cost, IsFeasiblePlan};
 ghost use Rattle.uc_model.specs.TaskRoom.{IsTaskFor};
 
 use crate::same::same;
+use crate::texts::changed_once;
 use board_core::{Board, Claim, Differs, Posted, Terms};
 use flat_answer::best_flat;
 use plan_check::check_plan;
@@ -17,12 +19,12 @@ use std::process::Abort;
 use std::test::Fail;
 use test_tiny::trying::least_by_trying;
 use uc_case::read_case;
-use uc_model::cases::{Row, Task};
+use uc_model::cases::{Case, Plan, Row, Task};
 use uc_model::units::{Answered, UnitKind};
 use uc_plan::read_plan;
 
-pub(crate) const CASE: &[u8] =
-    b"{\"time_periods\":1,\"demand\":[0.15],\"reserves\":[0],\"thermal_generators\":{\
+pub(crate) const CASE: &str =
+    "{\"time_periods\":1,\"demand\":[0.15],\"reserves\":[0],\"thermal_generators\":{\
     \"A\":{\"must_run\":0,\"power_output_minimum\":0,\"power_output_maximum\":0.1,\
     \"ramp_up_limit\":1,\"ramp_down_limit\":1,\"ramp_startup_limit\":1,\"ramp_shutdown_limit\":1,\
     \"time_up_minimum\":1,\"time_down_minimum\":1,\"power_output_t0\":0,\"unit_on_t0\":0,\
@@ -35,22 +37,7 @@ pub(crate) const CASE: &[u8] =
     \"piecewise_production\":[{\"mw\":0.1,\"cost\":0.003}]}},\
     \"renewable_generators\":{}}";
 
-// The two units, where B gives its power for 3,100, so that the first price is 31.
-const DEARER: &[u8] =
-    b"{\"time_periods\":1,\"demand\":[0.15],\"reserves\":[0],\"thermal_generators\":{\
-    \"A\":{\"must_run\":0,\"power_output_minimum\":0,\"power_output_maximum\":0.1,\
-    \"ramp_up_limit\":1,\"ramp_down_limit\":1,\"ramp_startup_limit\":1,\"ramp_shutdown_limit\":1,\
-    \"time_up_minimum\":1,\"time_down_minimum\":1,\"power_output_t0\":0,\"unit_on_t0\":0,\
-    \"time_up_t0\":0,\"time_down_t0\":1,\"startup\":[],\
-    \"piecewise_production\":[{\"mw\":0,\"cost\":0},{\"mw\":0.1,\"cost\":0.001}]},\
-    \"B\":{\"must_run\":0,\"power_output_minimum\":0.1,\"power_output_maximum\":0.1,\
-    \"ramp_up_limit\":1,\"ramp_down_limit\":1,\"ramp_startup_limit\":1,\"ramp_shutdown_limit\":1,\
-    \"time_up_minimum\":1,\"time_down_minimum\":1,\"power_output_t0\":0,\"unit_on_t0\":0,\
-    \"time_up_t0\":0,\"time_down_t0\":1,\"startup\":[],\
-    \"piecewise_production\":[{\"mw\":0.1,\"cost\":0.0031}]}},\
-    \"renewable_generators\":{}}";
-
-pub(crate) const PLAN: &[u8] = b"{\"thermal\":{\"A\":{\"on\":[1],\"power\":[50],\"reserve\":[0]},\
+pub(crate) const PLAN: &str = "{\"thermal\":{\"A\":{\"on\":[1],\"power\":[50],\"reserve\":[0]},\
     \"B\":{\"on\":[1],\"power\":[100],\"reserve\":[0]}},\"renewable\":{}}";
 
 // What a board is made for beside its case and plan.
@@ -64,8 +51,23 @@ pub(crate) struct Sizes {
     pub callers: u32,
 }
 
+// The case and the plan of texts, and what the plan costs.
+pub(crate) fn planned(alloc: Global, case: &str, plan: &str) -> Result<(Case, Plan, i128), Fail>
+    requires case { length case.now ≤ 10000 }
+    requires plan { length plan.now ≤ 10000 }
+    ensures feasible { IfOk result (λ r. IsFeasiblePlan (market_of r.0) (schedules_of r.1)) }
+    ensures cost { IfOk result (λ r. r.2 ≡ plan_cost (market_of r.0) (schedules_of r.1)) }
+{
+    let case = read_case(alloc, case.as_bytes())?;
+    let plan = read_plan(alloc, &case, plan.as_bytes())?;
+    let Ok(cost) = check_plan(&case, &plan) else {
+        return Err(Fail::new("the plan isn't feasible"));
+    };
+    Ok((case, plan, cost))
+}
+
 // What a board for a case of one period and a plan, given as texts, is made for.
-pub(crate) fn terms_of(alloc: Global, case: &[u8], plan: &[u8], sizes: Sizes) -> Result<Terms, Fail>
+pub(crate) fn terms_of(alloc: Global, case: &str, plan: &str, sizes: Sizes) -> Result<Terms, Fail>
     requires case { length case.now ≤ 10000 }
     requires plan { length plan.now ≤ 10000 }
     requires some_budget { 1 ≤ sizes.budget }
@@ -78,11 +80,7 @@ pub(crate) fn terms_of(alloc: Global, case: &[u8], plan: &[u8], sizes: Sizes) ->
     ensures periods { IfOk result (λ terms. (setup_of terms).market.periods ≡ 1) }
     ensures callers { IfOk result (λ terms. terms.callers ≡ sizes.callers) }
 {
-    let case = read_case(alloc, case)?;
-    let plan = read_plan(alloc, &case, plan)?;
-    let Ok(cost) = check_plan(&case, &plan) else {
-        return Err(Fail::new("the plan isn't feasible"));
-    };
+    let (case, plan, cost) = planned(alloc, case, plan)?;
     if case.periods != 1 {
         return Err(Fail::new("there is another period"));
     }
@@ -102,7 +100,7 @@ pub(crate) fn terms_of(alloc: Global, case: &[u8], plan: &[u8], sizes: Sizes) ->
 }
 
 // A board for a case of one period and a plan, given as texts.
-pub(crate) fn board_of(alloc: Global, case: &[u8], plan: &[u8], sizes: Sizes) -> Result<Board, Fail>
+pub(crate) fn board_of(alloc: Global, case: &str, plan: &str, sizes: Sizes) -> Result<Board, Fail>
     requires case { length case.now ≤ 10000 }
     requires plan { length plan.now ≤ 10000 }
     requires some_budget { 1 ≤ sizes.budget }
@@ -163,14 +161,19 @@ fn post_least(alloc: Global, board: &mut Board, caller: u32, task: &Task) -> Res
     }
 }
 
-// The task of the second unit of a board at price 31.
+// The task of the second unit of a board where B gives its power for 3,100, so that the first price
+// is 31.
 pub(crate) fn dearer_task(alloc: Global) -> Result<Task, Fail> {
+    let case = changed_once(alloc, CASE, &("0.003}", "0.0031}"))?;
+    if case.len() > 10_000 {
+        return Err(Fail::new("a long case"));
+    }
     let sizes = Sizes {
         budget: 1,
         ahead: 1,
         callers: 1,
     };
-    let mut board = board_of(alloc, DEARER, PLAN, sizes)?;
+    let mut board = board_of(alloc, case.as_str(), PLAN, sizes)?;
     let mut task = Task::make(alloc, 1)?;
     if board.claim(0, &mut task) != Claim::Given || board.claim(0, &mut task) != Claim::Given {
         return Err(Fail::new("no second task"));

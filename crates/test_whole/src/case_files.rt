@@ -5,11 +5,19 @@ use crate::texts::{Change, changed, changed_once};
 use std::alloc::Global;
 use std::process::Abort;
 use std::test::Fail;
+use uc_case::fault::CaseCode::{
+    BlockOrder, CurveEnds, LagOrder, Missing, Negative, NoPeriods, NoUnits, NotFlag, NotWhole,
+    RangeOrder, TooLarge, WindowShape, WrongKind, WrongLength,
+};
 use uc_case::fault::{CaseCode, CaseFault, Field, FieldFault, Kind};
 use uc_case::read_case;
 use uc_text::{TextCode, TextFault};
 
-fn fault(code: CaseCode, field: Field, kind: Kind, unit: u32, item: u32) -> CaseFault {
+/// What is wrong, at which key, of which kind of thing, and the numbers of the unit and the item.
+type Due = (CaseCode, Field, Kind, u32, u32);
+
+fn fault(due: Due) -> CaseFault {
+    let (code, field, kind, unit, item) = due;
     CaseFault::Field(FieldFault {
         code,
         field,
@@ -30,15 +38,39 @@ fn fault_of(alloc: Global, bytes: &[u8]) -> Option<CaseFault> {
     }
 }
 
+/// A file has this fault.
+fn has_fault(rt: &impl Abort, alloc: Global, text: &str, due: Due) {
+    same_of(
+        rt,
+        &text,
+        fault_of(alloc, text.as_bytes()),
+        Some(fault(due)),
+    );
+}
+
+/// With each change the file has the fault beside it.
+fn make_faults(
+    rt: &impl Abort,
+    alloc: Global,
+    text: &str,
+    rows: &[(Change, Due)],
+) -> Result<(), Fail> {
+    for (change, due) in rows {
+        let text = changed_once(alloc, text, change)?;
+        has_fault(rt, alloc, text.as_str(), *due);
+    }
+    Ok(())
+}
+
 // One renewable unit that gives up to 100,000 kW, where just that is wanted.
-pub(crate) const SMALLEST: &[u8] =
-    b"{\"time_periods\":1,\"demand\":[100],\"reserves\":[0],\"thermal_generators\":{},\
+pub(crate) const SMALLEST: &str =
+    "{\"time_periods\":1,\"demand\":[100],\"reserves\":[0],\"thermal_generators\":{},\
     \"renewable_generators\":{\"W\":{\"power_output_minimum\":[0],\
     \"power_output_maximum\":[100]}}}";
 
 #[test]
 fn reads_the_smallest_case(rt: HostRuntime) -> Result<(), Fail> {
-    let case = read_case(rt.alloc(), SMALLEST)?;
+    let case = read_case(rt.alloc(), SMALLEST.as_bytes())?;
     same(&rt, case.periods, 1);
     same(&rt, case.demand.as_slice(), [100_000].as_slice());
     same(&rt, case.reserves.as_slice(), [0].as_slice());
@@ -54,6 +86,7 @@ fn reads_the_smallest_case(rt: HostRuntime) -> Result<(), Fail> {
 
 #[test]
 fn a_cut_file(rt: HostRuntime) -> Result<(), Fail> {
+    let file = SMALLEST.as_bytes();
     for (len, offset) in [
         (0, 0),
         (1, 1),
@@ -63,206 +96,111 @@ fn a_cut_file(rt: HostRuntime) -> Result<(), Fail> {
         (17, 17),
         (158, 158),
     ] {
-        assert!(rt; len <= SMALLEST.len());
+        assert!(rt; len <= file.len());
         let want = CaseFault::Text(TextFault {
             code: TextCode::NotJson,
             offset,
         });
-        same_of(
-            &rt,
-            &len,
-            fault_of(rt.alloc(), &SMALLEST[..len]),
-            Some(want),
-        );
+        same_of(&rt, &len, fault_of(rt.alloc(), &file[..len]), Some(want));
     }
     Ok(())
 }
 
-/// A file, and its fault: what is wrong, at which key, of which kind of thing, and the numbers of
-/// the unit and the item.
-type Faulty = (&'static [u8], CaseCode, Field, Kind, u32, u32);
+/// No units and no demand.
+const NO_UNITS: &str =
+    "{\"time_periods\":1,\"demand\":[0],\"reserves\":[0],\"thermal_generators\":{},\
+    \"renewable_generators\":{}}";
 
-const SMALL_FILES: [Faulty; 19] = [
-    (b"[]", CaseCode::WrongKind, Field::Whole, Kind::Case, 0, 0),
+const SMALL_FILES: [(&str, Due); 6] = [
+    ("[]", (WrongKind, Field::Whole, Kind::Case, 0, 0)),
+    ("{}", (Missing, Field::TimePeriods, Kind::Case, 0, 0)),
     (
-        b"{}",
-        CaseCode::Missing,
-        Field::TimePeriods,
-        Kind::Case,
-        0,
-        0,
+        NO_UNITS,
+        (NoUnits, Field::RenewableGenerators, Kind::Case, 0, 0),
     ),
     (
-        b"{\"time_periods\":1,\"demand\":[0],\"reserves\":[0],\"thermal_generators\":{},\
-            \"renewable_generators\":{}}",
-        CaseCode::NoUnits,
-        Field::RenewableGenerators,
-        Kind::Case,
-        0,
-        0,
+        "{\"time_periods\":-169}",
+        (TooLarge, Field::TimePeriods, Kind::Case, 0, 0),
     ),
     (
-        b"{\"time_periods\":1,\"demand\":[0],\"reserves\":[0],\"thermal_generators\":{},\
-            \"renewable_generators\":{},\"demand_bids\":null}",
-        CaseCode::WrongKind,
-        Field::DemandBids,
-        Kind::Case,
-        0,
-        0,
+        "{\"time_periods\":-5}",
+        (Negative, Field::TimePeriods, Kind::Case, 0, 0),
     ),
     (
-        b"{\"time_periods\":1,\"demand\":[0],\"reserves\":[0],\"thermal_generators\":{},\
-            \"renewable_generators\":{},\"demand_bids\":{\"X\":{}}}",
-        CaseCode::Missing,
-        Field::Blocks,
-        Kind::Bid,
-        1,
-        0,
-    ),
-    (
-        b"{\"time_periods\":1,\"demand\":[0],\"reserves\":[0],\"thermal_generators\":{},\
-            \"renewable_generators\":{},\"demand_bids\":{\"X\":null}}",
-        CaseCode::WrongKind,
-        Field::DemandBids,
-        Kind::Bid,
-        1,
-        0,
-    ),
-    (
-        b"{\"time_periods\":1,\"demand\":[0],\"reserves\":[0],\"thermal_generators\":{},\
-            \"renewable_generators\":{},\"demand_bids\":{\"X\":{\"blocks\":{}}}}",
-        CaseCode::WrongKind,
-        Field::Blocks,
-        Kind::Bid,
-        1,
-        0,
-    ),
-    (
-        b"{\"time_periods\":1,\"demand\":[0],\"reserves\":[0],\"thermal_generators\":{},\
-            \"renewable_generators\":{},\"demand_bids\":{\"X\":{\"blocks\":[]}}}",
-        CaseCode::WrongLength,
-        Field::Blocks,
-        Kind::Bid,
-        1,
-        0,
-    ),
-    (
-        b"{\"time_periods\":1,\"demand\":[100],\"reserves\":[0],\"thermal_generators\":{},\
-            \"renewable_generators\":{\"W\":{\"power_output_minimu\":[0],\
-            \"power_output_maximum\":[100]}}}",
-        CaseCode::Missing,
-        Field::PowerOutputMinimum,
-        Kind::Renewable,
-        1,
-        0,
-    ),
-    (
-        b"{\"time_periods\":1,\"demand\":[100],\"reserves\":[0],\"tehermal_generators\":{},\
-            \"renwable_generators\":{\"W\":{\"power_output_minimum\":[0],\
-            \"power_output_maximum\":[100]}}}",
-        CaseCode::Missing,
-        Field::ThermalGenerators,
-        Kind::Case,
-        0,
-        0,
-    ),
-    (
-        b"{\"time_periods\":1,\"demand\":[100],\"reherves\":[0],\"tsermal_generators\":{},\
-            \"renewable_generators\":{\"W\":{\"power_output_minimum\":[0],\
-            \"power_output_maximum\":[100]}}}",
-        CaseCode::Missing,
-        Field::Reserves,
-        Kind::Case,
-        0,
-        0,
-    ),
-    (
-        b"{\"time_periods\":0,\"demand\":[100],\"reserves\":[0],\"thermal_generators\":{},\
-            \"renewable_generators\":{\"W\":{\"power_output_minimum\":[0],\
-            \"power_output_maximum\":[100]}}}",
-        CaseCode::NoPeriods,
-        Field::TimePeriods,
-        Kind::Case,
-        0,
-        0,
-    ),
-    (
-        b"{\"time_periods\":1,\"demand\":[1e400],\"reserves\":[0],\"thermal_generators\":{},\
-            \"renewable_generators\":{\"W\":{\"power_output_minimum\":[0],\
-            \"power_output_maximum\":[100]}}}",
-        CaseCode::TooLarge,
-        Field::Demand,
-        Kind::Case,
-        0,
-        1,
-    ),
-    (
-        b"{\"time_periods\":1e400,\"demand\":[100],\"reserves\":[0],\"thermal_generators\":{},\
-            \"renewable_generators\":{\"W\":{\"power_output_minimum\":[0],\
-            \"power_output_maximum\":[100]}}}",
-        CaseCode::TooLarge,
-        Field::TimePeriods,
-        Kind::Case,
-        0,
-        0,
-    ),
-    (
-        b"{\"time_periods\":1e-400,\"demand\":[100],\"reserves\":[0],\"thermal_generators\":{},\
-            \"renewable_generators\":{\"W\":{\"power_output_minimum\":[0],\
-            \"power_output_maximum\":[100]}}}",
-        CaseCode::NotWhole,
-        Field::TimePeriods,
-        Kind::Case,
-        0,
-        0,
-    ),
-    (
-        b"{\"time_periods\":1,\"demand\":[100],\"reserves\":[0],\"thermal_generators\":{},\
-            \"renewable_generators\":{\"W\":{\"power_output_minimum\":[0],\
-            \"power_output_mInfinityximum\":[100]}}}",
-        CaseCode::Missing,
-        Field::PowerOutputMaximum,
-        Kind::Renewable,
-        1,
-        0,
-    ),
-    (
-        b"{\"time_periods\":-169}",
-        CaseCode::TooLarge,
-        Field::TimePeriods,
-        Kind::Case,
-        0,
-        0,
-    ),
-    (
-        b"{\"time_periods\":-5}",
-        CaseCode::Negative,
-        Field::TimePeriods,
-        Kind::Case,
-        0,
-        0,
-    ),
-    (
-        b"{\"time_periods\":1.5}",
-        CaseCode::NotWhole,
-        Field::TimePeriods,
-        Kind::Case,
-        0,
-        0,
+        "{\"time_periods\":1.5}",
+        (NotWhole, Field::TimePeriods, Kind::Case, 0, 0),
     ),
 ];
 
-/// Each file has its fault.
-fn have_faults(rt: &impl Abort, alloc: Global, rows: &[Faulty]) {
-    for (bytes, code, field, kind, unit, item) in rows {
-        let want = fault(*code, *field, *kind, *unit, *item);
-        same_of(rt, bytes, fault_of(alloc, bytes), Some(want));
-    }
-}
+/// Bids of the case without units.
+const FAULTY_BIDS: [(Change, Due); 5] = [
+    (
+        ("{}}", "{},\"demand_bids\":null}"),
+        (WrongKind, Field::DemandBids, Kind::Case, 0, 0),
+    ),
+    (
+        ("{}}", "{},\"demand_bids\":{\"X\":{}}}"),
+        (Missing, Field::Blocks, Kind::Bid, 1, 0),
+    ),
+    (
+        ("{}}", "{},\"demand_bids\":{\"X\":null}}"),
+        (WrongKind, Field::DemandBids, Kind::Bid, 1, 0),
+    ),
+    (
+        ("{}}", "{},\"demand_bids\":{\"X\":{\"blocks\":{}}}}"),
+        (WrongKind, Field::Blocks, Kind::Bid, 1, 0),
+    ),
+    (
+        ("{}}", "{},\"demand_bids\":{\"X\":{\"blocks\":[]}}}"),
+        (WrongLength, Field::Blocks, Kind::Bid, 1, 0),
+    ),
+];
+
+const FAULTY_SMALLEST: [(Change, Due); 8] = [
+    (
+        ("power_output_minimum", "power_output_minimu"),
+        (Missing, Field::PowerOutputMinimum, Kind::Renewable, 1, 0),
+    ),
+    (
+        (
+            "thermal_generators\":{},\"renew",
+            "tehermal_generators\":{},\"renw",
+        ),
+        (Missing, Field::ThermalGenerators, Kind::Case, 0, 0),
+    ),
+    (
+        ("reserves\":[0],\"thermal", "reherves\":[0],\"tsermal"),
+        (Missing, Field::Reserves, Kind::Case, 0, 0),
+    ),
+    (
+        ("time_periods\":1", "time_periods\":0"),
+        (NoPeriods, Field::TimePeriods, Kind::Case, 0, 0),
+    ),
+    (
+        ("demand\":[100]", "demand\":[1e400]"),
+        (TooLarge, Field::Demand, Kind::Case, 0, 1),
+    ),
+    (
+        ("time_periods\":1", "time_periods\":1e400"),
+        (TooLarge, Field::TimePeriods, Kind::Case, 0, 0),
+    ),
+    (
+        ("time_periods\":1", "time_periods\":1e-400"),
+        (NotWhole, Field::TimePeriods, Kind::Case, 0, 0),
+    ),
+    (
+        ("power_output_maximum", "power_output_mInfinityximum"),
+        (Missing, Field::PowerOutputMaximum, Kind::Renewable, 1, 0),
+    ),
+];
 
 #[test]
-fn faults_of_small_files(rt: HostRuntime) {
-    have_faults(&rt, rt.alloc(), &SMALL_FILES);
+fn faults_of_small_files(rt: HostRuntime) -> Result<(), Fail> {
+    for (text, due) in SMALL_FILES {
+        has_fault(&rt, rt.alloc(), text, due);
+    }
+    make_faults(&rt, rt.alloc(), NO_UNITS, &FAULTY_BIDS)?;
+    make_faults(&rt, rt.alloc(), SMALLEST, &FAULTY_SMALLEST)
 }
 
 /// Two units, A from 0 to 100 kW and B at just 100 kW; A's fields stand in another order.
@@ -280,111 +218,66 @@ const TWO_UNITS: &str =
     \"piecewise_production\":[{\"mw\":0.1,\"cost\":0.003}]}},\
     \"renewable_generators\":{}}";
 
-/// A change of the two units, at A where both have the part, and the fault as above.
-type FaultyUnits = (Change, CaseCode, Field, Kind, u32, u32);
-
-const FAULTY_UNITS: [FaultyUnits; 9] = [
+/// At A where both have the part.
+const FAULTY_UNITS: [(Change, Due); 9] = [
     (
         ("power_output_minimum\":0", "power_output_minimum\":0.2"),
-        CaseCode::RangeOrder,
-        Field::PowerOutputMinimum,
-        Kind::Thermal,
-        1,
-        0,
+        (RangeOrder, Field::PowerOutputMinimum, Kind::Thermal, 1, 0),
     ),
     (
         ("{\"mw\":0.1,", "{\"mw\":0.09,"),
-        CaseCode::CurveEnds,
-        Field::PiecewiseProduction,
-        Kind::Thermal,
-        1,
-        0,
+        (CurveEnds, Field::PiecewiseProduction, Kind::Thermal, 1, 0),
     ),
     (
         ("time_up_minimum\":1", "time_up_minimum\":1.5"),
-        CaseCode::NotWhole,
-        Field::TimeUpMinimum,
-        Kind::Thermal,
-        1,
-        0,
+        (NotWhole, Field::TimeUpMinimum, Kind::Thermal, 1, 0),
     ),
     (
         ("time_up_minimum\":1", "time_up_minimum\":1e-400"),
-        CaseCode::NotWhole,
-        Field::TimeUpMinimum,
-        Kind::Thermal,
-        1,
-        0,
+        (NotWhole, Field::TimeUpMinimum, Kind::Thermal, 1, 0),
     ),
     (
         ("time_up_minimum\":1", "time_up_minimum\":1e400"),
-        CaseCode::TooLarge,
-        Field::TimeUpMinimum,
-        Kind::Thermal,
-        1,
-        0,
+        (TooLarge, Field::TimeUpMinimum, Kind::Thermal, 1, 0),
     ),
     (
         ("unit_on_t0\":0", "unit_on_t0\":2"),
-        CaseCode::NotFlag,
-        Field::UnitOnT0,
-        Kind::Thermal,
-        1,
-        0,
+        (NotFlag, Field::UnitOnT0, Kind::Thermal, 1, 0),
     ),
     (
         ("unit_on_t0\":0", "unit_on_t0\":true"),
-        CaseCode::WrongKind,
-        Field::UnitOnT0,
-        Kind::Thermal,
-        1,
-        0,
+        (WrongKind, Field::UnitOnT0, Kind::Thermal, 1, 0),
     ),
     (
         (
             "startup\":[]",
             "startup\":[{\"lag\":3,\"cost\":1},{\"lag\":2,\"cost\":1}]",
         ),
-        CaseCode::LagOrder,
-        Field::Startup,
-        Kind::Thermal,
-        1,
-        2,
+        (LagOrder, Field::Startup, Kind::Thermal, 1, 2),
     ),
     (
         ("\"cost\":0.001", "\"cost\":10000000.000001"),
-        CaseCode::TooLarge,
-        Field::PiecewiseProduction,
-        Kind::Thermal,
-        1,
-        2,
+        (TooLarge, Field::PiecewiseProduction, Kind::Thermal, 1, 2),
     ),
 ];
 
-const FAULTY_OTHERS: [FaultyUnits; 5] = [
+#[test]
+fn faults_of_two_units(rt: HostRuntime) -> Result<(), Fail> {
+    make_faults(&rt, rt.alloc(), TWO_UNITS, &FAULTY_UNITS)
+}
+
+const FAULTY_OTHERS: [(Change, Due); 5] = [
     (
         ("0.003}]", "0.003}],\"commitment\":[1,1]"),
-        CaseCode::WindowShape,
-        Field::Commitment,
-        Kind::Thermal,
-        2,
-        0,
+        (WindowShape, Field::Commitment, Kind::Thermal, 2, 0),
     ),
     (
         ("0.003}]", "0.003}],\"commitment\":[2]"),
-        CaseCode::WindowShape,
-        Field::Commitment,
-        Kind::Thermal,
-        2,
-        1,
+        (WindowShape, Field::Commitment, Kind::Thermal, 2, 1),
     ),
     (
         ("0.003}]", "0.003}],\"commitment\":null"),
-        CaseCode::WindowShape,
-        Field::Commitment,
-        Kind::Thermal,
-        2,
-        0,
+        (WindowShape, Field::Commitment, Kind::Thermal, 2, 0),
     ),
     (
         (
@@ -393,11 +286,7 @@ const FAULTY_OTHERS: [FaultyUnits; 5] = [
             \"demand_bids\":{\"X\":{\"blocks\":[[{\"mw\":0.05,\"price\":0.04},\
             {\"mw\":0.05,\"price\":0.041}]]}}",
         ),
-        CaseCode::BlockOrder,
-        Field::Blocks,
-        Kind::Bid,
-        1,
-        1,
+        (BlockOrder, Field::Blocks, Kind::Bid, 1, 1),
     ),
     (
         (
@@ -406,34 +295,14 @@ const FAULTY_OTHERS: [FaultyUnits; 5] = [
             \"demand_bids\":{\"X\":{\"blocks\":[[{\"mw\":600000,\"price\":2},\
             {\"mw\":600000,\"price\":1}]]}}",
         ),
-        CaseCode::TooLarge,
-        Field::Blocks,
-        Kind::Bid,
-        1,
-        1,
+        (TooLarge, Field::Blocks, Kind::Bid, 1, 1),
     ),
 ];
 
-/// With each change the two units have its fault.
-fn make_faults(rt: &impl Abort, alloc: Global, rows: &[FaultyUnits]) -> Result<(), Fail> {
-    for (change, code, field, kind, unit, item) in rows {
-        let text = changed_once(alloc, TWO_UNITS, change)?;
-        let want = fault(*code, *field, *kind, *unit, *item);
-        same_of(rt, &text, fault_of(alloc, text.as_bytes()), Some(want));
-    }
-    Ok(())
-}
-
-#[test]
-fn faults_of_two_units(rt: HostRuntime) -> Result<(), Fail> {
-    make_faults(&rt, rt.alloc(), &FAULTY_UNITS)
-}
-
 #[test]
 fn faults_of_windows_and_bids(rt: HostRuntime) -> Result<(), Fail> {
-    make_faults(&rt, rt.alloc(), &FAULTY_OTHERS)
+    make_faults(&rt, rt.alloc(), TWO_UNITS, &FAULTY_OTHERS)
 }
-
 /// Changes with which the two units are read.
 const RIGHT_UNITS: [&[Change]; 5] = [
     &[

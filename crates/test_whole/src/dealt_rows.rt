@@ -7,20 +7,17 @@ ghost use Rattle.uc_model.specs.PlainCases.{market_of};
 ghost use Rattle.audit_rows.specs.Benches.{HasSchedules};
 ghost use Rattle.audit_rows.specs.Jobs.{AreFor};
 
-use crate::boards::{CASE, PLAN, same_row};
+use crate::boards::{CASE, PLAN, planned, same_row};
 use crate::same::same;
 use audit_rows::{Answerer, right_rows};
 use case_answers::laws::benches_serve_all;
 use plain_lists::lists::ReservedList;
-use plan_check::check_plan;
 use std::alloc::Global;
 use std::sync::{Arc, Wait};
 use std::test::Fail;
 use std::thread::Threads;
-use uc_case::read_case;
 use uc_model::cases::{Case, Row};
 use uc_model::limits::MOST_POINTS;
-use uc_plan::read_plan;
 use unit_program::{Bench, LastAnswers};
 
 // A job with a bench for any unit.
@@ -61,11 +58,7 @@ fn two_rows<R: Threads + Wait + Sync>(
     requires some { 1 ≤ count }
     requires most { count ≤ 32 }
 {
-    let case = read_case(alloc, CASE)?;
-    let plan = read_plan(alloc, &case, PLAN)?;
-    let Ok(cost) = check_plan(&case, &plan) else {
-        return Err(Fail::new("the plan isn't feasible"));
-    };
+    let (case, plan, cost) = planned(alloc, CASE, PLAN)?;
     let mut jobs = jobs_for(alloc, &case, count)?;
     Ok(right_rows(rt, alloc, &case, cost, 2, 1, &mut jobs)?)
 }

@@ -1,21 +1,14 @@
 //! The case of two units with its commitments held.
-use crate::boards::{CASE, PLAN};
+use crate::boards::{CASE, PLAN, planned};
 use crate::same::same;
 use fixed_price::fix_case;
-use plan_check::check_plan;
 use std::alloc::Global;
 use std::test::Fail;
-use uc_case::read_case;
 use uc_model::cases::Case;
 use uc_model::units::Mark;
-use uc_plan::read_plan;
 
 fn held_case(alloc: Global) -> Result<Case, Fail> {
-    let case = read_case(alloc, CASE)?;
-    let plan = read_plan(alloc, &case, PLAN)?;
-    let Ok(_cost) = check_plan(&case, &plan) else {
-        return Err(Fail::new("the plan isn't feasible"));
-    };
+    let (case, plan, _cost) = planned(alloc, CASE, PLAN)?;
     Ok(fix_case(alloc, &case, &plan)?)
 }
 

@@ -20,7 +20,7 @@ use std::sync::Wait;
 use std::test::Fail;
 use uc_model::cases::Task;
 
-const SMALLEST_PLAN: &[u8] = b"{\"thermal\":{},\"renewable\":{\"W\":[100000]}}";
+const SMALLEST_PLAN: &str = "{\"thermal\":{},\"renewable\":{\"W\":[100000]}}";
 
 const TWO: Sizes = Sizes {
     budget: 1,

@@ -18,8 +18,8 @@ use std::thread::Threads;
 use uc_model::cases::{Row, Task};
 
 // The two units, A with up to 4 kW for 10 each, B with just 4 kW for 120, and a demand of 6 kW.
-const CASE: &[u8] =
-    b"{\"time_periods\":1,\"demand\":[0.006],\"reserves\":[0],\"thermal_generators\":{\
+const CASE: &str =
+    "{\"time_periods\":1,\"demand\":[0.006],\"reserves\":[0],\"thermal_generators\":{\
     \"A\":{\"must_run\":0,\"power_output_minimum\":0,\"power_output_maximum\":0.004,\
     \"ramp_up_limit\":1,\"ramp_down_limit\":1,\"ramp_startup_limit\":1,\"ramp_shutdown_limit\":1,\
     \"time_up_minimum\":1,\"time_down_minimum\":1,\"power_output_t0\":0,\"unit_on_t0\":0,\
@@ -32,7 +32,7 @@ const CASE: &[u8] =
     \"piecewise_production\":[{\"mw\":0.004,\"cost\":0.00012}]}},\
     \"renewable_generators\":{}}";
 
-const PLAN: &[u8] = b"{\"thermal\":{\"A\":{\"on\":[1],\"power\":[2],\"reserve\":[0]},\
+const PLAN: &str = "{\"thermal\":{\"A\":{\"on\":[1],\"power\":[2],\"reserve\":[0]},\
     \"B\":{\"on\":[1],\"power\":[4],\"reserve\":[0]}},\"renewable\":{}}";
 
 const SIZES: Sizes = Sizes {
