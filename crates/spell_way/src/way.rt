@@ -3,7 +3,7 @@
 //! A convex function whose least power is `turn` is least, at the powers in reach of a power, at
 //! the one that is nearest to the turn. So three numbers of a step suffice to find the cheapest
 //! power before it.
-ghost use Rattle.std.specs.Prelude.{◌≡◌, ℤ, suc, ◌==◌, ◌<◌, ◌≤◌, length, Some};
+ghost use Rattle.std.specs.Prelude.{◌≡◌, ℤ, suc, ◌==◌, ◌-◌, ◌<◌, ◌≤◌, length, Some};
 ghost use Rattle.shape_law.specs.Effect.{Reaches};
 ghost use Rattle.shape_law.specs.Table.{Table, value_of};
 ghost use Rattle.slope_piece.specs.Turn.{IsTurn, IsFirst, IsLast};
@@ -76,10 +76,10 @@ fn write_period(unit: &Unit, prices: &Prices, first: u32, visit: Visit, into: &m
 }
 
 /// Leaves a dispatch of least net cost in the periods of the spell from `first` to `last`, the
-/// first of those of that cost, by what the spell left of them: by powers from the last period
-/// back, less power first, and then by reserves. `first` 0 stands for a spell that goes on from
-/// before period 1. All other periods, and what is earned, stay. Prices and `into` are over the
-/// same periods. Takes no memory.
+/// first of those of that cost, by what the spell left of them, from its first one on: by powers
+/// from the last period back, less power first, and then by reserves. `first` 0 stands for a spell
+/// that goes on from before period 1. All other periods, and what is earned, stay. Prices and `into`
+/// are over the same periods. Takes no memory.
 pub fn write_spell(
     unit: &Unit,
     prices: &Prices,
@@ -91,9 +91,9 @@ pub fn write_spell(
     requires order { first ≤ last }
     requires some { 1 ≤ last }
     requires end { last ≤ length (prices_of prices.now).energy }
-    requires room { last ≤ length passed.now }
+    requires room { last - (first - 1) ≤ length passed.now }
     requires noted { IsSpellNoted (thermal_of unit.now) (prices_of prices.now) first last
-        (passed_at passed.now) }
+        (λ k. passed_at passed.now (k - (first - 1))) }
     requires into { length (schedule_of into.old.response).on
         ≡ length (prices_of prices.now).energy }
     ensures best { (cost : ℤ)
@@ -107,7 +107,8 @@ pub fn write_spell(
     ensures earned { into.new.earned ≡ into.old.earned }
 {
     let end = last as usize - 1;
-    let left = passed[end];
+    let skipped = first.saturating_sub(1) as usize;
+    let left = passed[end - skipped];
     let Some(lowest) = left.end else {
         return;
     };
@@ -130,7 +131,7 @@ pub fn write_spell(
         let visit = Visit {
             place,
             stops: false,
-            note: passed[place].note,
+            note: passed[place - skipped].note,
             power,
         };
         power = write_period(unit, prices, first, visit, into);

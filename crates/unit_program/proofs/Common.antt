@@ -18,7 +18,7 @@ pub use Rattle.unit_rows.specs.Limits.{capped}
 pub use Rattle.unit_table.specs.Limits.{IsRowWithin, IsFilledWithin, IsEndWithin, EachCostsMore}
 pub use Rattle.unit_table.specs.Live.{places_of, HaveRoom, left_of, left_at}
 pub use Rattle.unit_rows.specs.Rows.{row_at, cost_at, first_at, before_at, HasEntryAtMost, IsWithinTimes}
-pub use Rattle.unit_table.specs.Runners.{HaveWays}
+pub use Rattle.unit_table.specs.Runners.{HaveWays, since}
 pub use Rattle.unit_rows.specs.Spells.{IsSpell, start_cost_after, IsOffRun, paid, on_time, off_time, IsGap, period_cost}
 pub use Rattle.unit_table.specs.Tables.{IsEnded, IsLatest, IsComplete}
 pub use Rattle.unit_rows.specs.Ends.{IsStarted, IsEntryAfter, IsLeastEnd, HasAtMost}

@@ -10,7 +10,7 @@ ghost use Rattle.unit_program.specs.Builds.{IsIdle};
 ghost use Rattle.unit_table.specs.Limits.{IsRowWithin, IsEndWithin};
 ghost use Rattle.unit_table.specs.Live.{left_at};
 ghost use Rattle.unit_rows.specs.Rows.{cost_at, first_at};
-ghost use Rattle.unit_table.specs.Runners.{HaveWays};
+ghost use Rattle.unit_table.specs.Runners.{HaveWays, since};
 
 use crate::answer::{clear, is_all_off, negated};
 use spell_way::write_spell;
@@ -35,7 +35,7 @@ fn write_left(
     requires runners { first < length runners.now }
     requires noted { 1 ≤ last
         → IsSpellNoted (thermal_of unit.now) (prices_of prices.now) first last
-        (left_at runners.now first) }
+        (since first (left_at runners.now first)) }
     requires into { length (schedule_of into.old.response).on
         ≡ length (prices_of prices.now).energy }
     ensures written { IsWritten (thermal_of unit.now) (prices_of prices.now)

@@ -21,7 +21,7 @@ pub use Rattle.unit_table.specs.Questions.{unit_of, prices_in, periods_in, charg
 pub use Rattle.unit_table.specs.Rosters.{IsRoster}
 pub use Rattle.unit_rows.specs.Rows.{row_at, cost_at, AreWithin, IsFirstRow, IsWithinTimes, first_at, before_at, IsPut}
 pub use Rattle.unit_table.specs.Runners.{IsTableTo, Going, AreRunners, IsRowOf, IsGoneOn, MayBeOn, IsEndLeft, IsRunner}
-pub use Rattle.unit_table.specs.Runners.{HasStandIn, AreNoted, HaveWays, IsBegun}
+pub use Rattle.unit_table.specs.Runners.{HasStandIn, AreNoted, HaveWays, IsBegun, since}
 pub use Rattle.unit_rows.specs.Spells.{StopsAtOnce, IsSpell, off_time, IsGap, on_time}
 pub use Rattle.unit_table.specs.Taken.{AreFewer, IsKeptFrom, AreKept, IsRowTo, IsRowMore, IsOneRun, IsRunOver}
 pub use Rattle.unit_table.specs.Taken.{IsSweptTo, AreAsLong}

@@ -1,6 +1,6 @@
 -- All runners over a period, one after the other.
-use Rattle.unit_table.proofs.Common.{room_of}
-use Rattle.unit_table.proofs.Common.{◌≡◌, ◌≢◌, ℕ, suc, ◌+◌, ◌<◌, ◌≤◌, ◌⊎◌, ℤ, inl, inr, true, get_or}
+use Rattle.unit_table.proofs.Common.{room_of, since}
+use Rattle.unit_table.proofs.Common.{◌≡◌, ◌≢◌, ℕ, suc, ◌+◌, ◌-◌, ◌<◌, ◌≤◌, ◌⊎◌, ℤ, inl, inr, true, get_or}
 use Rattle.unit_table.proofs.Common.{Option, Some, None, List, length, refl, sym, ap, ◌∙◌, subst, arith, slice_get}
 use Rattle.unit_table.proofs.Common.{slice_set, slice_get-get_or, slice_get_within, cases_lt, cases_eq, ThermalUnit}
 use Rattle.unit_table.proofs.Common.{PriceLists}
@@ -27,8 +27,9 @@ module _ (g : ThermalUnit) (π : PriceLists) (t charge : ℕ) where
       pub roomy : (f : ℕ) (r : Runner) → f < n → slice_get runners f ≡ Some r →
           IsRoomy (length π.energy) (suc t) charge r
       pub ends : (v : ℤ) → cost_at rows (suc t) ≡ Some v →
-          IsEndLeft g π (first_at rows (suc t)) t (left_at runners (first_at rows (suc t)) t)
-      pub left : (f k : ℕ) → k ≢ t → left_at runners f k ≡ left_at runners₀ f k
+          IsEndLeft g π (first_at rows (suc t)) t
+          (since (first_at rows (suc t)) (left_at runners (first_at rows (suc t))) t)
+      pub left : (f k : ℕ) → k ≢ t - (f - 1) → left_at runners f k ≡ left_at runners₀ f k
       pub keeps : (most periods : ℕ) → HaveRoom most periods runners₀ → HaveRoom most periods runners
       pub count_same : length runners ≡ length runners₀
 
@@ -89,13 +90,15 @@ module _ (g : ThermalUnit) (π : PriceLists) (t charge : ℕ) where
                 let first : first_at rows' (suc t) ≡ first_at rows (suc t) = first-same rows' rows (suc t) (suc t) kept
                 in
                 let before = (so_far.row.sound v was).2 in
-                let left = ap (λ o. left_of o t) (same (first_at rows (suc t)) before) in
-                subst (λ (f : ℕ). IsEndLeft g π f t (left_at runners' f t)) (sym first)
+                let left = ap (λ o. since (first_at rows (suc t)) (left_of o) t)
+                (same (first_at rows (suc t)) before) in
+                subst (λ (f : ℕ). IsEndLeft g π f t (since f (left_at runners' f) t)) (sym first)
                 (subst (IsEndLeft g π (first_at rows (suc t)) t) (sym left) (so_far.ends v was))
-            | inr named ↦ subst (λ (f : ℕ). IsEndLeft g π f t (left_at runners' f t)) (sym named.0) named.1
+            | inr named ↦ subst (λ (f : ℕ). IsEndLeft g π f t (since f (left_at runners' f) t)) (sym named.0) named.1
           ];
           left = λ f k other. elim (cases_eq f n) [
-            | inl z ↦ ap (λ (f : ℕ). left_at runners' f k) z ∙ one.left k other ∙
+            | inl z ↦ ap (λ (f : ℕ). left_at runners' f k) z ∙
+                one.left k (λ y. other (y ∙ ap (λ f. t - (f - 1)) (sym z))) ∙
                 sym (ap (λ (f : ℕ). left_at runners f k) z) ∙ so_far.left f k other
             | inr apart ↦ ap (λ o. left_of o k) (one.rest f apart) ∙ so_far.left f k other
           ];
@@ -158,8 +161,8 @@ module _ (g : ThermalUnit) (π : PriceLists) (t charge : ℕ) (rows rows' : List
     pub run_written : IsRowMore g π t i (going_of (Some old)) rows rows' →
         ((r : Going) → going_of (Some old) ≡ Some r → IsGoneOn g π t i r (going_of (Some b))) →
         (row_at rows' (suc t) ≡ row_at rows (suc t)) ⊎
-        ((first_at rows' (suc t) ≡ i) × IsEndLeft g π i t (passed_at b.passed.items t)) →
-        ((k : ℕ) → k ≢ t → passed_at b.passed.items k ≡ passed_at old.passed.items k) →
+        ((first_at rows' (suc t) ≡ i) × IsEndLeft g π i t (since i (passed_at b.passed.items) t)) →
+        ((k : ℕ) → k ≢ t - (i - 1) → passed_at b.passed.items k ≡ passed_at old.passed.items k) →
         IsRoomy (length π.energy) (suc t) charge b →
         (room_of b.running ≡ room_of old.running) × (places_of b ≡ places_of old) →
         IsOneRun g π t charge i rows rows' runners (slice_set runners i b)
@@ -173,7 +176,7 @@ module _ (g : ThermalUnit) (π : PriceLists) (t charge : ℕ) (rows rows' : List
           roomy = λ r is. (let same : b ≡ r = (let h = here in cc) in rw same at roomy);
           ends = elim ends [
             | inl kept ↦ inl kept
-            | inr named ↦ inr (named.0, rw (same_left t) named.1)
+            | inr named ↦ inr (named.0, rw (same_left (t - (i - 1))) named.1)
           ];
           left = λ k other. same_left k ∙ left k other ∙ sym (ap (λ o. left_of o k) at);
           keeps = λ most periods have.

@@ -2,7 +2,8 @@
 use Rattle.unit_table.proofs.Common.{◌≡◌, ◌≢◌, ℕ, suc, ◌-◌, ◌<◌, ◌≤◌, ◌⊎◌, inl, inr, Option, Some, None, ℤ, ◌+ℤ◌, List}
 use Rattle.unit_table.proofs.Common.{length, sym, ap, ◌∙◌, subst, arith, IfSome, IfNone, cases_lt, cases_eq, Table}
 use Rattle.unit_table.proofs.Common.{value_of, Lowest, ThermalUnit, PriceLists, Passed, IsFrontier, IsOnNoted}
-use Rattle.unit_table.proofs.Common.{IsEndNoted, IsSpellNoted, end_cost, Runner, Ended, live_at, left_at, left_of}
+use Rattle.unit_table.proofs.Common.{IsEndNoted, IsSpellNoted, since, end_cost, Runner, Ended, live_at, left_at}
+use Rattle.unit_table.proofs.Common.{left_of}
 use Rattle.unit_table.proofs.Common.{row_at, first_at, IsPut, Going, AreRunners, AreNoted, IsRowOf, IsEndLeft, HaveWays}
 use Rattle.unit_table.proofs.LiveLaws.{on_some}
 use Rattle.unit_table.proofs.RowLaws.{first-is}
@@ -18,14 +19,16 @@ before_some g π first t f h x v front next there =
     (_, c.0, c.1)
 
 pub noted_more : (g : ThermalUnit) (π : PriceLists) (first t : ℕ) (f h : Table) (left left' : ℕ → Passed) →
-    IsFrontier g π first t f → IsFrontier g π first (suc t) h → ((k : ℕ) → k ≢ t → left' k ≡ left k) →
-    ((x v : ℤ) → value_of f x ≡ Some v → IsOnNoted g π first t (left' t).note) → AreNoted g π first t f left →
+    IsFrontier g π first t f → IsFrontier g π first (suc t) h →
+    ((k : ℕ) → k ≢ t - (first - 1) → left' k ≡ left k) →
+    ((x v : ℤ) → value_of f x ≡ Some v → IsOnNoted g π first t (since first left' t).note) →
+    AreNoted g π first t f left →
     AreNoted g π first (suc t) h left'
 noted_more g π first t f h left left' front next kept noted old x v there k from until =
     let b = before_some g π first t f h x v front next there in
     elim (cases_lt k t) [
-      | inl less ↦ rw (kept k (λ z. omega arith)) (old b.0 b.1 b.2 k from less)
-      | inr most ↦ let z : t ≡ k = omega arith in subst (λ (j : ℕ). IsOnNoted g π first j (left' j).note)
+      | inl less ↦ rw (kept (k - (first - 1)) (λ z. omega arith)) (old b.0 b.1 b.2 k from less)
+      | inr most ↦ let z : t ≡ k = omega arith in subst (λ (j : ℕ). IsOnNoted g π first j (since first left' j).note)
           z (noted b.0 b.1 b.2)
     ]
 
@@ -75,12 +78,12 @@ always (Some x) P h = h
 
 -- ---- rows
 
-spell_same : (g : ThermalUnit) (π : PriceLists) (first l : ℕ) (p q : ℕ → Passed) → 1 ≤ l →
-    ((k : ℕ) → k < l → q k ≡ p k) → IsSpellNoted g π first l p → IsSpellNoted g π first l q
-spell_same g π first l p q one same h =
-    let e = same (l - 1) (omega arith) in
+spell_same : (g : ThermalUnit) (π : PriceLists) (first l : ℕ) (p q : ℕ → Passed) → 1 ≤ l → first ≤ l →
+    ((k : ℕ) → first ≤ suc k → k < l → q k ≡ p k) → IsSpellNoted g π first l p → IsSpellNoted g π first l q
+spell_same g π first l p q one order same h =
+    let e = same (l - 1) (omega arith) (omega arith) in
     record {
-      on = λ k from until. rw (same k (omega arith)) (h.on k from until);
+      on = λ k from until. rw (same k from (omega arith)) (h.on k from until);
       lowest = h.lowest;
       is_end = cc;
       end = rw e h.end;
@@ -88,8 +91,13 @@ spell_same g π first l p q one same h =
 
 pub ways_same : (g : ThermalUnit) (π : PriceLists) (t : ℕ) (ends : ℕ → Option ℤ) (firsts : ℕ → ℕ) (left left' : ℕ → ℕ →
     Passed) → ((f k : ℕ) → left' f k ≡ left f k) → HaveWays g π t ends firsts left → HaveWays g π t ends firsts left'
-ways_same g π t ends firsts left left' same ways l v one until is = spell_same g π (firsts l) l (left (firsts l))
-    (left' (firsts l)) one (λ k low. same (firsts l) k) (ways l v one until is)
+ways_same g π t ends firsts left left' same ways l v one until is =
+    let f = firsts l in
+    let old = ways l v one until is in (
+      old.0,
+      spell_same g π f l (since f (left f)) (since f (left' f)) one old.0 (λ k from low. same f (k - (f - 1)))
+          old.1,
+    )
 
 -- none ends with the period
 pub ways_none : (g : ThermalUnit) (π : PriceLists) (t : ℕ) (ends : ℕ → Option ℤ) (firsts : ℕ → ℕ) (left : ℕ → ℕ →
@@ -104,10 +112,12 @@ module _ (g : ThermalUnit) (π : PriceLists) (t n : ℕ) (ends ends' : ℕ → O
     (limits : ℕ → ℤ) (now : AreRunners g π limits ends live t n) (lefts : (f : ℕ) (r : Going) (k : ℕ) →
     live f ≡ Some r → r.left k ≡ left f k)
     (row : IsRowOf g π (length π.energy) live n (suc t) (ends' (suc t)) (firsts' (suc t)) before)
-    (ended : (v : ℤ) → ends' (suc t) ≡ Some v → IsEndLeft g π (firsts' (suc t)) t (left' (firsts' (suc t)) t))
-    (kept : (f k : ℕ) → k ≢ t → left' f k ≡ left f k)
+    (ended : (v : ℤ) → ends' (suc t) ≡ Some v → IsEndLeft g π (firsts' (suc t)) t
+    (since (firsts' (suc t)) (left' (firsts' (suc t))) t))
+    (kept : (f k : ℕ) → k ≢ t - (f - 1) → left' f k ≡ left f k)
     (same_end : (l : ℕ) → l ≢ suc t → ends' l ≡ ends l) (same_first : (l : ℕ) → l ≢ suc t → firsts' l ≡ firsts l) where
-  here : (v : ℤ) → ends' (suc t) ≡ Some v → IsSpellNoted g π (firsts' (suc t)) (suc t) (left' (firsts' (suc t)))
+  here : (v : ℤ) → ends' (suc t) ≡ Some v → (firsts' (suc t) ≤ suc t) × IsSpellNoted g π (firsts' (suc t)) (suc t)
+      (since (firsts' (suc t)) (left' (firsts' (suc t))))
   here v is =
       let first = firsts' (suc t) in
       let s = row.sound v is in
@@ -117,15 +127,18 @@ module _ (g : ThermalUnit) (π : PriceLists) (t n : ℕ) (ends ends' : ℕ → O
       let noted = e.2.1 in
       let reached = noted.frontier.sound _ noted.value noted.begins.there in
       let c = runner.frontier.complete reached.run reached.keeps in
-      let z : suc t - 1 ≡ t = omega arith in
-      record {
-        on = λ k from until.
-            (let low : k < t = omega arith in
-            rw (lefts first r k s.1 ∙ sym (kept first k (λ y. omega arith))) at (runner.noted _ c.0 c.1 k from low));
-        lowest = e.0;
-        is_end = cc;
-        end = rw z e.2;
-      }
+      let z : suc t - 1 ≡ t = omega arith in (
+        s.4.order,
+        record {
+          on = λ k from until.
+              (let low : k < t = omega arith in
+              let j = k - (first - 1) in
+              rw (lefts first r j s.1 ∙ sym (kept first j (λ y. omega arith))) at (runner.noted _ c.0 c.1 k from low));
+          lowest = e.0;
+          is_end = cc;
+          end = rw z e.2;
+        },
+      )
 
   pub ways_more : HaveWays g π t ends firsts left → HaveWays g π (suc t) ends' firsts' left'
   ways_more ways l v one until is = elim (cases_eq l (suc t)) [
@@ -134,7 +147,8 @@ module _ (g : ThermalUnit) (π : PriceLists) (t n : ℕ) (ends ends' : ℕ → O
         let low : l ≤ t = omega arith in
         let first = same_first l other in
         let old = ways l v one low (sym (same_end l other) ∙ is) in
-        let moved = spell_same g π (firsts l) l (left (firsts l)) (left' (firsts l)) one
-        (λ k less. kept (firsts l) k (λ y. omega arith)) old in
-        subst (λ (f : ℕ). IsSpellNoted g π f l (left' f)) (sym first) moved
+        let f = firsts l in
+        let moved = spell_same g π f l (since f (left f)) (since f (left' f)) one old.0
+        (λ k from less. kept f (k - (f - 1)) (λ y. omega arith)) old.1 in
+        subst (λ (f : ℕ). (f ≤ l) × IsSpellNoted g π f l (since f (left' f))) (sym first) (old.0, moved)
   ]

@@ -32,7 +32,8 @@ abbrev pub left_of : Option Runner → ℕ → Passed
 left_of None k = passed_at [] k
 left_of (Some r) k = passed_at r.passed.items k
 
--- what the runner that begins with `first` left at a place, whether it is on or not
+-- what the runner that begins with `first` left of each period from there on, whether it is on or
+-- not
 abbrev pub left_at : List Runner → ℕ → ℕ → Passed
 left_at runners first = left_of (slice_get runners first)
 

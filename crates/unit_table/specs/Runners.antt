@@ -20,12 +20,16 @@ use Rattle.unit_rows.specs.Ends.{HasAtMost, IsEntry, IsLeastEntry}
 use Rattle.unit_table.specs.Tables.{IsFrom}
 
 -- what a runner has: the on period before its first one, the cost of its entry, a function of the
--- power, and what it left at each place for the way back
+-- power, and what it left of each period from its first one on for the way back
 pub record Going : Type 0 where
   pub before : ℕ
   pub cost : ℤ
   pub function : Table
   pub left : ℕ → Passed
+
+-- by place, of what a spell that begins with `first` left from its first period on
+abbrev pub since : ℕ → (ℕ → Passed) → ℕ → Passed
+since first left k = left (k - (first - 1))
 
 -- a spell that begins with `first` may be on up to period t
 pub record MayBeOn (g : ThermalUnit) (first t : ℕ) : Type 0 where
@@ -36,7 +40,7 @@ pub record MayBeOn (g : ThermalUnit) (first t : ℕ) : Type 0 where
 abbrev pub AreNoted : ThermalUnit → PriceLists → ℕ → ℕ → Table → (ℕ → Passed) → Type 0
 AreNoted g π first t f left =
     (x v : ℤ) → value_of f x ≡ Some v → (k : ℕ) → first ≤ suc k → k < t →
-    IsOnNoted g π first k (left k).note
+    IsOnNoted g π first k (since first left k).note
 
 -- the runner that begins with `first` has the least entry, and its function is the frontier of the
 -- runs up to period t
@@ -88,8 +92,9 @@ pub record IsGoneOn (g : ThermalUnit) (π : PriceLists) (t first : ℕ) (r : Goi
   pub function : Table
   pub left : ℕ → Passed
   pub frontier : IsFrontier g π first (suc t) function
-  pub kept : (k : ℕ) → k ≢ t → left k ≡ r.left k
-  pub noted : (x v : ℤ) → value_of r.function x ≡ Some v → IsOnNoted g π first t (left t).note
+  pub kept : (k : ℕ) → k ≢ t - (first - 1) → left k ≡ r.left k
+  pub noted : (x v : ℤ) → value_of r.function x ≡ Some v →
+      IsOnNoted g π first t (since first left t).note
   pub next_is :
       (next ≡ Some (record { before = r.before; cost = r.cost; function = function; left = left }))
       ⊎ ((next ≡ None) × IsEmpty function)
@@ -103,7 +108,7 @@ abbrev pub HaveWays : ThermalUnit → PriceLists → ℕ → (ℕ → Option ℤ
     Type 0
 HaveWays g π t ends firsts left =
     (l : ℕ) (v : ℤ) → 1 ≤ l → l ≤ t → ends l ≡ Some v →
-    IsSpellNoted g π (firsts l) l (left (firsts l))
+    (firsts l ≤ l) × IsSpellNoted g π (firsts l) l (since (firsts l) (left (firsts l)))
 
 -- the rows up to period t are those of the table, as far as they cost no more than the limits, and
 -- there is none after it

@@ -1,6 +1,6 @@
 -- What a period changes: its row of the table, and the runners that are on (this project's
 -- profile).
-use Rattle.std.specs.Prelude.{◌≡◌, ◌≢◌, ℕ, suc, ◌+◌, ◌*◌, ◌<◌, ◌≤◌, ◌⊎◌, ℤ, IsTrue, List, length}
+use Rattle.std.specs.Prelude.{◌≡◌, ◌≢◌, ℕ, suc, ◌+◌, ◌-◌, ◌*◌, ◌<◌, ◌≤◌, ◌⊎◌, ℤ, IsTrue, List, length}
 use Rattle.std.specs.Prelude.{slice_get, Option, Some, None}
 use Rattle.slope_list.specs.Slopes.{count_of, room_of}
 use Rattle.uc_model.specs.Data.{ThermalUnit, PriceLists}
@@ -13,7 +13,7 @@ use Rattle.unit_table.specs.Live.{live_at, left_at, IsRoomy, AreRoomy, HaveRoom}
 use Rattle.unit_table.specs.Live.{IsFilledTo}
 use Rattle.unit_table.specs.Rosters.{IsRoster}
 use Rattle.unit_rows.specs.Rows.{row_at, cost_at, first_at, before_at, IsWithinTimes, AreWithin}
-use Rattle.unit_table.specs.Runners.{Going, MayBeOn, IsRowOf, IsGoneOn, IsEndLeft, HaveWays}
+use Rattle.unit_table.specs.Runners.{Going, MayBeOn, IsRowOf, IsGoneOn, IsEndLeft, HaveWays, since}
 
 -- no other runner is on, and those that are stay as they are
 abbrev pub AreFewer : (ℕ → Option Going) → (ℕ → Option Going) → Type 0
@@ -68,8 +68,8 @@ pub record IsOneRun (g : ThermalUnit)
   pub roomy : (r : Runner) → slice_get runners' n ≡ Some r →
       IsRoomy (length π.energy) (suc t) charge r
   pub ends : (row_at rows' (suc t) ≡ row_at rows (suc t))
-      ⊎ ((first_at rows' (suc t) ≡ n) × IsEndLeft g π n t (left_at runners' n t))
-  pub left : (k : ℕ) → k ≢ t → left_at runners' n k ≡ left_at runners n k
+      ⊎ ((first_at rows' (suc t) ≡ n) × IsEndLeft g π n t (since n (left_at runners' n) t))
+  pub left : (k : ℕ) → k ≢ t - (n - 1) → left_at runners' n k ≡ left_at runners n k
   pub keeps : (most periods : ℕ) → HaveRoom most periods runners →
       HaveRoom most periods runners'
   pub count_same : length runners' ≡ length runners
@@ -87,8 +87,9 @@ pub record IsRunOver (g : ThermalUnit)
       IsGoneOn g π t f r (live_at runners' f)
   pub off : (f : ℕ) → live_at runners f ≡ None → live_at runners' f ≡ None
   pub ends : (v : ℤ) → cost_at rows' (suc t) ≡ Some v →
-      IsEndLeft g π (first_at rows' (suc t)) t (left_at runners' (first_at rows' (suc t)) t)
-  pub left : (f k : ℕ) → k ≢ t → left_at runners' f k ≡ left_at runners f k
+      IsEndLeft g π (first_at rows' (suc t)) t
+      (since (first_at rows' (suc t)) (left_at runners' (first_at rows' (suc t))) t)
+  pub left : (f k : ℕ) → k ≢ t - (f - 1) → left_at runners' f k ≡ left_at runners f k
   pub roomy : AreRoomy (length π.energy) (suc t) charge runners'
   pub keeps : (most periods : ℕ) → HaveRoom most periods runners →
       HaveRoom most periods runners'

@@ -21,7 +21,7 @@ ghost use Rattle.unit_table.specs.Rosters.{IsRoster};
 ghost use Rattle.unit_rows.specs.Rows.{row_at, cost_at, first_at, before_at, IsWithinTimes};
 ghost use Rattle.unit_rows.specs.Rows.{AreWithin};
 ghost use Rattle.unit_table.specs.Runners.{Going, MayBeOn, AreRunners, IsRowOf, IsGoneOn};
-ghost use Rattle.unit_table.specs.Runners.{IsEndLeft, IsBegun};
+ghost use Rattle.unit_table.specs.Runners.{IsEndLeft, IsBegun, since};
 ghost use Rattle.unit_rows.specs.Spells.{on_time};
 ghost use Rattle.unit_table.specs.Taken.{AreFewer, AreKept, IsReady, IsRowMore, IsOneRun};
 ghost use Rattle.unit_table.specs.Taken.{IsRunOver};
@@ -46,7 +46,7 @@ pub struct Runner {
     pub before: u32,
     /// The least net costs by the power at the end of a period.
     pub running: Slopes,
-    /// What each period that it was taken over left for the way back, by place.
+    /// What each period that it was taken over left for the way back, from its first one on.
     pub passed: ReservedList<Passed>,
 }
 
@@ -298,8 +298,8 @@ fn take_runner(question: &Question, first: u32, place: u32, runner: &mut Runner,
     ensures ends { (row_at table.new.items (suc place) ≡ row_at table.old.items (suc place)) ⊎
         ((first_at table.new.items (suc place) ≡ first)
         × IsEndLeft (unit_of question.now) (prices_in question.now) first place
-        (passed_at runner.new.passed.items place)) }
-    ensures left { (k : ℕ) → k ≢ place → passed_at runner.new.passed.items k
+        (since first (passed_at runner.new.passed.items) place)) }
+    ensures left { (k : ℕ) → k ≢ place - (first - 1) → passed_at runner.new.passed.items k
         ≡ passed_at runner.old.passed.items k }
     ensures room { IsRoomy (periods_in question.now) (suc place)
         (charge_of question.now)
@@ -312,7 +312,7 @@ fn take_runner(question: &Question, first: u32, place: u32, runner: &mut Runner,
         last: runner.before,
     };
     let passed = run_one(question, first, place, &mut runner.running);
-    leave_at(&mut runner.passed, place, passed);
+    leave_at(&mut runner.passed, place - first.saturating_sub(1), passed);
     put_end(table, place + 1, first, &entry, cost_of(passed.end));
     retire(runner);
 }

@@ -16,16 +16,18 @@ whole c =
 
 pub write_period-power-requires-clause-noted : goal.write_period-power-requires-clause-noted
 write_period-power-requires-clause-noted c =
+    let skipped = c.saturating_sub-skipped.ensures in
     let e = end_stored c.args.unit.now.valid c.args.prices.now.valid c.requires.order c.requires.some c.requires.end
-    c.requires.noted c.in-Some.is in
-    rw c.len.ensures (e.0, e.1, (c.in-Some.lowest.value, e.2.there))
+    c.requires.noted (rw skipped at c.in-Some.is) in
+    rw (c.len.ensures, skipped) (e.0, e.1, (c.in-Some.lowest.value, e.2.there))
 
 pub loop-back-init : goal.loop-back-init
 loop-back-init c =
     let fits : FitsSigned w64 c.write_period-power.result = search rules in
-    let chosen = rw c.len.ensures at c.write_period-power.ensures.chosen in
+    let skipped = c.saturating_sub-skipped.ensures in
+    let chosen = rw (c.len.ensures, skipped) at c.write_period-power.ensures.chosen in
     let from = written_last c.args.unit.now.valid c.args.prices.now.valid c.requires.order c.requires.some
-    c.requires.end c.requires.noted c.in-Some.is chosen in
+    c.requires.end c.requires.noted (rw skipped at c.in-Some.is) chosen in
     record { from = simp to_z-of_z from; earned = c.write_period-power.ensures.earned }
 
 pub write_period-power-requires-in-loop-back-clause-noted : goal.write_period-power-requires-in-loop-back-clause-noted
@@ -36,7 +38,8 @@ write_period-power-requires-in-loop-back-clause-noted c =
     let order : c.args.first ≤ suc k = omega arith in
     let low : suc k < c.args.last = omega arith in
     let until = c.requires.end in
-    let n = c.requires.noted.on k order low in (
+    let n = c.requires.noted.on k order low in
+    rw c.saturating_sub-skipped.ensures (
       n.0,
       n.1,
       there_after c.args.unit.now.valid c.args.prices.now.valid (omega arith) order n.1
@@ -55,7 +58,8 @@ loop-back-preserved c =
     let n = c.requires.noted.on k order low in
     let v = there_after c.args.unit.now.valid c.args.prices.now.valid (omega arith) order n.1
     c.envelope_is_cost.ensures from.frontier from.way in
-    let chosen = c.write_period-power-in-loop-back.ensures.chosen n.0 v.0 n.1 v.1 in
+    let chosen = (rw c.saturating_sub-skipped.ensures at c.write_period-power-in-loop-back.ensures.chosen) n.0 v.0 n.1
+    v.1 in
     let next = written_more c.args.unit.now.valid c.args.prices.now.valid until order n.1 c.envelope_is_cost.ensures low
     from chosen in
     let here : k ≡ c.args.last - (c.loop-back.back + 1) = omega arith in

@@ -1,5 +1,5 @@
 use Rattle.unit_program.proofs.Common.{ℕ, subst, ◌≡◌, ◌<◌, ◌≤◌, length, ◌∙◌, arith, thermal_of, prices_of, schedule_of}
-use Rattle.unit_program.proofs.Common.{IsSpellNoted, left_at}
+use Rattle.unit_program.proofs.Common.{IsSpellNoted, since, left_at}
 use Rattle.unit_program.proofs.LimitBackLaws.{back_off_within, row_back_within, before_within}
 use Rattle.unit_program.proofs.Lemmas.{cost-is, first-is}
 use Rattle.unit_program.proofs.way.+write_back.Goals as goal
@@ -65,9 +65,9 @@ write_left-requires-clause-noted t c = λ one.
     let last = c.args.last in
     let first = first-is c.args.rows.now last c.in-Some.ended c.in-Some.is in
     subst (λ (f : ℕ). IsSpellNoted (thermal_of c.args.unit.now) (prices_of c.args.prices.now) f last
-    (left_at c.args.runners.now f)) first
+    (since f (left_at c.args.runners.now f))) first
     (c.requires.ways last c.in-Some.ended.cost one c.requires.last
-    (cost-is c.args.rows.now last c.in-Some.ended c.in-Some.is))
+    (cost-is c.args.rows.now last c.in-Some.ended c.in-Some.is)).1
 
 pub returns-clause-written : goal.returns-clause-written
 returns-clause-written t c =

@@ -3,9 +3,24 @@ use Rattle.unit_table.proofs.Common.{shown, count_of, room_of}
 use Rattle.unit_table.proofs.Common.{rules, ◌≡◌, ℕ, suc, ◌+◌, ◌-◌, ◌*◌, ◌<◌, ◌≤◌, inl, inr, Some, length, sym}
 use Rattle.unit_table.proofs.Common.{ap, ◌∙◌, subst, arith, FitsSigned, IfSome, w64, to_z-of_z, unit_of}
 use Rattle.unit_table.proofs.Common.{prices_in, periods_in, charge_of, going_of, Going, IsGoneOn, Lowest, passed_at}
-use Rattle.unit_table.proofs.Common.{IsOnNoted, IsWithinTimes, on_time}
+use Rattle.unit_table.proofs.Common.{IsOnNoted, IsWithinTimes, on_time, since, ◌≢◌}
 use Rattle.unit_table.proofs.Lemmas.{room_more, room_next, going_on, row_end, end_some, end_left}
 use Rattle.unit_table.proofs.runner.take_runner.Goals as goal
+use Rattle.unit_table.proofs.runner.take_runner.Goals.{After-retire}
+
+-- the period is left, and no other one
+left_here : (c : After-retire) →
+    since c.args.first (passed_at c.retire.new.runner.passed.items) c.args.place ≡ c.run_one-passed.result
+left_here c = ap (λ l. since c.args.first (passed_at l.items) c.args.place) c.retire.ensures.passed ∙
+    (rw c.saturating_sub.ensures at c.leave_at.ensures.here)
+
+left_others : (c : After-retire) → (k : ℕ) → k ≢ c.args.place - (c.args.first - 1) →
+    passed_at c.retire.new.runner.passed.items k ≡ passed_at c.args.runner.now.passed.items k
+left_others c k other = ap (λ l. passed_at l.items k) c.retire.ensures.passed ∙
+    (rw c.saturating_sub.ensures at c.leave_at.ensures.others) k other
+
+pub returns-clause-left : goal.returns-clause-left
+returns-clause-left c = left_others (goal.at.returns-clause-left c).After-retire
 
 pub returns-clause-more : goal.returns-clause-more
 returns-clause-more c =
@@ -31,10 +46,11 @@ returns-clause-more c =
 pub returns-clause-ends : goal.returns-clause-ends
 returns-clause-ends c =
     let put = simp add-one at c.put_end.ensures.some in
-    let same = ap (λ l. passed_at l.items c.args.place) c.retire.ensures.passed ∙ c.leave_at.ensures.here in
+    let same = left_here (goal.at.returns-clause-ends c).After-retire in
     end_left (unit_of c.args.question.now) (prices_in c.args.question.now) c.args.first c.args.place
     c.args.runner.now.before _ c.args.table.now.items c.put_end.new.table.items c.run_one-passed.result
-    (passed_at c.retire.new.runner.passed.items c.args.place) c.cost_of.result same c.cost_of.ensures
+    (since c.args.first (passed_at c.retire.new.runner.passed.items) c.args.place) c.cost_of.result same
+    c.cost_of.ensures
     c.put_end.ensures.none put c.run_one-passed.ensures.ended
 
 pub put_end-requires-clause-net_bound : goal.put_end-requires-clause-net_bound
@@ -49,7 +65,7 @@ pub returns-clause-goes : goal.returns-clause-goes
 returns-clause-goes c = λ r is.
     let unit = unit_of c.args.question.now in
     let prices = prices_in c.args.question.now in
-    let same = ap (λ l. passed_at l.items c.args.place) c.retire.ensures.passed ∙ c.leave_at.ensures.here in
+    let same = left_here (goal.at.returns-clause-goes c).After-retire in
     let ran = going_on
     (record {
       is_on = c.args.runner.now.is_on;
@@ -72,7 +88,7 @@ returns-clause-goes c = λ r is.
       function = shown c.run_one-passed.new.running;
       left = passed_at c.retire.new.runner.passed.items;
       frontier = c.run_one-passed.ensures.frontier;
-      kept = λ k other. ap (λ l. passed_at l.items k) c.retire.ensures.passed ∙ c.leave_at.ensures.others k other;
+      kept = left_others (goal.at.returns-clause-goes c).After-retire;
       noted = λ x v there. subst (λ p. IsOnNoted unit prices c.args.first c.args.place p.note) (sym same)
           (c.run_one-passed.ensures.noted x v there);
       next_is = elim (c.retire.ensures.next) [
