@@ -33,4 +33,4 @@ pub use Rattle.uc_model.specs.Limits.{IsOutput, IsThermalUnit, ArePrices}
 pub use Rattle.uc_model.specs.PlainUnits.{thermal_of, prices_of, schedule_of}
 pub use Rattle.plain_lists.specs.Sums.{int_at}
 pub use Rattle.uc_model.specs.declared.units.Curve.{Curve}
-pub use Rattle.test_spells.specs.Entries.{entry_of, IsSpellStart, IsUnreached, spell_first, cells_for}
+pub use Rattle.test_spells.specs.Entries.{entry_of, IsSpellStart, IsSpellCost, IsUnreached, spell_first, cells_for}

@@ -8,8 +8,9 @@ ghost use Rattle.shape_law.specs.Effect.{IsLeast};
 ghost use Rattle.shape_law.specs.Table.{IsEmpty};
 ghost use Rattle.spell_way.specs.Entries.{IsOnFromTo, IsSameOutside};
 ghost use Rattle.test_spells.specs.Entries.{cells_for, spell_first, IsSpellOf, IsUnreached};
+ghost use Rattle.test_spells.specs.Entries.{HasWay};
 ghost use Rattle.spell_run.specs.Frontier.{IsFrontier};
-ghost use Rattle.spell_way.specs.Ways.{IsChosen, IsWayFrom, stops_at};
+ghost use Rattle.spell_way.specs.Ways.{IsChosen, stops_at};
 ghost use Rattle.spell_run.specs.Spells.{IsBestDispatch, IsFirstDispatch, HasNoDispatch};
 ghost use Rattle.spell_run.specs.Spells.{IsSpellWithin};
 ghost use Rattle.spell_run.specs.Steps.{step_at, IsFairStep, IsSmall};
@@ -128,15 +129,9 @@ fn last_period<S: Shape>(
         ≡ length (prices_of prices.now).energy }
     requires frontier { IsFrontier (thermal_of unit.now) (prices_of prices.now)
         (spell_first spell.now.started spell.now.first) place (S.function home.old before.old) }
-    ensures way { IfOk result (λ best. MatchOption best
-        (HasNoDispatch (thermal_of unit.now) (length (prices_of prices.now).energy)
-        (spell_first spell.now.started spell.now.first) spell.now.last
-        × (schedule_of into.new.response ≡ schedule_of into.old.response))
-        (λ found. IsWayFrom (thermal_of unit.now) (prices_of prices.now)
-        (spell_first spell.now.started spell.now.first) place spell.now.last
-        (S.function home.old before.old) (schedule_of into.new.response) found.power found.cost
-        × IsSpellWithin (spell_first spell.now.started spell.now.first) spell.now.last found.cost
-        × IsOnFromTo (suc place) spell.now.last (schedule_of into.new.response))) }
+    ensures way { IfOk result (HasWay (thermal_of unit.now) (prices_of prices.now) spell.now place
+        (S.function home.old before.old) (schedule_of into.old.response)
+        (schedule_of into.new.response)) }
     ensures outside { IsSameOutside (suc place) spell.now.last (schedule_of into.old.response)
         (schedule_of into.new.response) }
     ensures earned { into.new.earned ≡ into.old.earned }
@@ -183,15 +178,9 @@ fn way_from<S: Shape>(
         ≡ length (prices_of prices.now).energy }
     requires frontier { IsFrontier (thermal_of unit.now) (prices_of prices.now)
         (spell_first spell.now.started spell.now.first) place (S.function home.old before.old) }
-    ensures way { IfOk result (λ best. MatchOption best
-        (HasNoDispatch (thermal_of unit.now) (length (prices_of prices.now).energy)
-        (spell_first spell.now.started spell.now.first) spell.now.last
-        × (schedule_of into.new.response ≡ schedule_of into.old.response))
-        (λ found. IsWayFrom (thermal_of unit.now) (prices_of prices.now)
-        (spell_first spell.now.started spell.now.first) place spell.now.last
-        (S.function home.old before.old) (schedule_of into.new.response) found.power found.cost
-        × IsSpellWithin (spell_first spell.now.started spell.now.first) spell.now.last found.cost
-        × IsOnFromTo (suc place) spell.now.last (schedule_of into.new.response))) }
+    ensures way { IfOk result (HasWay (thermal_of unit.now) (prices_of prices.now) spell.now place
+        (S.function home.old before.old) (schedule_of into.old.response)
+        (schedule_of into.new.response)) }
     ensures outside { IsSameOutside (suc place) spell.now.last (schedule_of into.old.response)
         (schedule_of into.new.response) }
     ensures earned { into.new.earned ≡ into.old.earned }

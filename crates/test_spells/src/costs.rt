@@ -6,6 +6,7 @@ ghost use Rattle.cost_curve.specs.CostCurve.{IsCostCurve};
 ghost use Rattle.test_shapes.specs.Cell.{Frame, Balance};
 ghost use Rattle.shape_law.specs.Table.{Table};
 ghost use Rattle.test_spells.specs.Entries.{entry_of, cells_for, spell_first, IsSpellStart};
+ghost use Rattle.test_spells.specs.Entries.{IsSpellCost};
 ghost use Rattle.spell_run.specs.Frontier.{IsFrontier};
 ghost use Rattle.spell_run.specs.Spells.{IsSpellAnswer, IsSpellWithin};
 ghost use Rattle.spell_run.specs.Steps.{IsFairStep, IsCostOf, IsStepped, IsLeastCost};
@@ -126,10 +127,8 @@ fn cost_to_stop<S: Shape>(
     requires order { spell_first started first ≤ suc place }
     requires frontier { IsFrontier (thermal_of unit.now) (prices_of prices.now)
         (spell_first started first) place (S.function home.old running.now) }
-    ensures answer { IfOk result (IsSpellAnswer (thermal_of unit.now) (prices_of prices.now)
-        (length (prices_of prices.now).energy) (spell_first started first) (suc place)) }
-    ensures within { IfOk result
-        (λ cost. IfSome cost (IsSpellWithin (spell_first started first) (suc place))) }
+    ensures answer { IfOk result (IsSpellCost (thermal_of unit.now) (prices_of prices.now)
+        (spell_first started first) (suc place)) }
     ensures frame { Frame S.Home.cell_list S.is_in S.numbers [] [] home.old home.new }
     ensures sure { S.Home.counts ≡ true
         → S.cells running.now + (length curve.now.blocks.items + 5) ≤ S.Home.sure home.old
@@ -170,10 +169,8 @@ fn pass<S: Shape>(
         (spell_first started first) place (S.function home.old running.old) }
     ensures ok { OnOk result (IsFrontier (thermal_of unit.now) (prices_of prices.now)
         (spell_first started first) (suc place) (S.function home.new running.new)) }
-    ensures answer { IfOk result (IsSpellAnswer (thermal_of unit.now) (prices_of prices.now)
-        (length (prices_of prices.now).energy) (spell_first started first) (suc place)) }
-    ensures within { IfOk result
-        (λ cost. IfSome cost (IsSpellWithin (spell_first started first) (suc place))) }
+    ensures answer { IfOk result (IsSpellCost (thermal_of unit.now) (prices_of prices.now)
+        (spell_first started first) (suc place)) }
     ensures here { S.is_in home.new running.new }
     ensures frame { Frame S.Home.cell_list S.is_in S.numbers (S.numbers home.old running.old)
         (S.numbers home.new running.new) home.old home.new }
@@ -222,11 +219,8 @@ fn fill<S: Shape>(
         (spell_first started first) (first - 1) (S.function home.old running.old) }
     ensures answers { OnOk result ((place : ℕ) → first ≤ suc place
         → place < length (prices_of prices.now).energy →
-        IsSpellAnswer (thermal_of unit.now) (prices_of prices.now)
-        (length (prices_of prices.now).energy) (spell_first started first) (suc place)
-        (slice_index_or into.new.items place None)
-        × IfSome (slice_index_or into.new.items place None)
-        (IsSpellWithin (spell_first started first) (suc place))) }
+        IsSpellCost (thermal_of unit.now) (prices_of prices.now) (spell_first started first)
+        (suc place) (slice_index_or into.new.items place None)) }
     ensures length { length into.new.items ≡ length into.old.items }
     ensures others { (place : ℕ) → (suc place < first)
         ⊎ (length (prices_of prices.now).energy ≤ place) →

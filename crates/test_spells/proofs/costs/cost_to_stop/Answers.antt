@@ -1,5 +1,5 @@
-use Rattle.test_spells.proofs.Common.{true, suc, Option, ℤ, length, sym, arith, IfSome, ◌<◌, lt-ltb, IfOk-weaker, Table}
-use Rattle.test_spells.proofs.Common.{thermal_of, prices_of, spell_first, IsSpellAnswer, IsSpellWithin, IsStepped}
+use Rattle.test_spells.proofs.Common.{true, suc, Option, ℤ, length, sym, arith, ◌<◌, lt-ltb, IfOk-weaker, Table}
+use Rattle.test_spells.proofs.Common.{thermal_of, prices_of, spell_first, IsSpellCost, IsStepped}
 use Rattle.test_spells.proofs.Common.{IsLeastCost}
 use Rattle.test_spells.proofs.Lemmas.{cost_is, small_frontier, answer_of_step}
 use Rattle.test_spells.proofs.costs.cost_to_stop.Goals as goal
@@ -26,28 +26,10 @@ returns-clause-answer g c =
     let within : c.args.place < length prices.energy = omega (arith, place) in
     IfOk-weaker c.cost_after.result (λ (cost : Option ℤ). (after : Table) ×
     IsStepped c.step_of.result c.args.curve.now before after × IsLeastCost after cost)
-    (IsSpellAnswer unit prices (length prices.energy) first (suc c.args.place))
+    (IsSpellCost unit prices first (suc c.args.place))
     (λ cost found.
-    (answer_of_step c.args.unit.now.valid c.args.prices.now.valid c.requires.curve c.envelope_is_cost.ensures within
+    answer_of_step c.args.unit.now.valid c.args.prices.now.valid c.requires.curve c.envelope_is_cost.ensures within
     c.requires.order c.requires.frontier
     (sym (lt-ltb (suc c.args.place) (length prices.energy) place))
-    (rw (c.step_of.ensures.step, c.starts_at-starts.ensures) at found.1) cost found.2).0)
-    c.cost_after.ensures.ok
-
-pub returns-clause-within : goal.returns-clause-within
-returns-clause-within g c =
-    let unit = thermal_of c.args.unit.now in
-    let prices = prices_of c.args.prices.now in
-    let first = spell_first c.args.started c.args.first in
-    let before = g.S.Shape.function c.args.home.now c.args.running.now in
-    let place = c.requires.place in
-    let within : c.args.place < length prices.energy = omega (arith, place) in
-    IfOk-weaker c.cost_after.result (λ (cost : Option ℤ). (after : Table) ×
-    IsStepped c.step_of.result c.args.curve.now before after × IsLeastCost after cost)
-    (λ (cost : Option ℤ). IfSome cost (IsSpellWithin first (suc c.args.place)))
-    (λ cost found.
-    (answer_of_step c.args.unit.now.valid c.args.prices.now.valid c.requires.curve c.envelope_is_cost.ensures within
-    c.requires.order c.requires.frontier
-    (sym (lt-ltb (suc c.args.place) (length prices.energy) place))
-    (rw (c.step_of.ensures.step, c.starts_at-starts.ensures) at found.1) cost found.2).1)
+    (rw (c.step_of.ensures.step, c.starts_at-starts.ensures) at found.1) cost found.2)
     c.cost_after.ensures.ok

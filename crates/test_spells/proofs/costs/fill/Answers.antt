@@ -1,6 +1,5 @@
-use Rattle.test_spells.proofs.Common.{◌≡◌, ℕ, suc, ◌+◌, ◌<◌, ◌≢◌, length, Option, ℤ, IfSome, ap, ◌∙◌, subst, inl, inr}
-use Rattle.test_spells.proofs.Common.{arith, length-set, thermal_of, prices_of, IsFrontier, spell_first, IsSpellAnswer}
-use Rattle.test_spells.proofs.Common.{IsSpellWithin}
+use Rattle.test_spells.proofs.Common.{◌≡◌, ℕ, suc, ◌+◌, ◌<◌, ◌≢◌, length, Option, ℤ, ap, ◌∙◌, subst, inl, inr}
+use Rattle.test_spells.proofs.Common.{arith, length-set, thermal_of, prices_of, IsFrontier, spell_first, IsSpellCost}
 use Rattle.test_spells.proofs.Lemmas.{entry_other, entries_more, never_both, one_more}
 use Rattle.test_spells.proofs.costs.fill.Goals as goal
 
@@ -24,9 +23,8 @@ loop-place-preserved g c =
       frontier = subst (λ (t : ℕ). IsFrontier unit prices first t
           (g.S.Shape.function c.pass.new.home c.pass.new.running)) next c.in_ok-cost.ensures.ok;
       answers = entries_more entries c.set.new.self.items place c.in_ok-cost.cost c.set.ensures.items
-          (λ (k : ℕ) (e : Option ℤ). IsSpellAnswer unit prices (length c.args.prices.now.energy.items) first (suc k) e ×
-          IfSome e (IsSpellWithin first (suc k)))
-          c.args.first room c.loop-place.invariant.answers (c.in_ok-cost.ensures.answer, c.in_ok-cost.ensures.within);
+          (λ (k : ℕ) (e : Option ℤ). IsSpellCost unit prices first (suc k) e) c.args.first room
+          c.loop-place.invariant.answers c.in_ok-cost.ensures.answer;
       others = λ k out.
           let ne : k ≢ place = λ z. elim out [
             | inl low ↦ absurd (omega (arith, low, z))

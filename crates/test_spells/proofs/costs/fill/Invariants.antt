@@ -1,5 +1,5 @@
-use Rattle.test_spells.proofs.Common.{◌≡◌, ℕ, suc, ◌+◌, ◌*◌, ◌<◌, ◌≤◌, ◌⊎◌, length, get_or, None, IfSome, true, Frame}
-use Rattle.test_spells.proofs.Common.{thermal_of, prices_of, IsFrontier, spell_first, IsSpellAnswer, IsSpellWithin}
+use Rattle.test_spells.proofs.Common.{◌≡◌, ℕ, suc, ◌+◌, ◌*◌, ◌<◌, ◌≤◌, ◌⊎◌, length, get_or, None, true, Frame}
+use Rattle.test_spells.proofs.Common.{thermal_of, prices_of, IsFrontier, spell_first, IsSpellCost}
 use Rattle.test_spells.proofs.costs.fill.Given as goal
 
 abbrev pub invariant-loop-place : goal.invariant-loop-place
@@ -8,9 +8,8 @@ invariant-loop-place g l = record {
   frontier : IsFrontier (thermal_of l.unit) (prices_of l.prices) (spell_first l.started l.first) l.place
       (g.S.Shape.function l.home l.running);
   answers : (k : ℕ) → l.first ≤ suc k → k < l.place →
-      IsSpellAnswer (thermal_of l.unit) (prices_of l.prices) (length l.prices.energy.items)
-      (spell_first l.started l.first) (suc k) (get_or l.into.items k None)
-      × IfSome (get_or l.into.items k None) (IsSpellWithin (spell_first l.started l.first) (suc k));
+      IsSpellCost (thermal_of l.unit) (prices_of l.prices) (spell_first l.started l.first) (suc k)
+      (get_or l.into.items k None);
   others : (k : ℕ) → (suc k < l.first) ⊎ (length l.prices.energy.items ≤ k) →
       get_or l.into.items k None ≡ get_or l.fn.into.items k None;
   same_length : length l.into.items ≡ length l.fn.into.items;

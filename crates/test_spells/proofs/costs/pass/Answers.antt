@@ -1,24 +1,16 @@
-use Rattle.test_spells.proofs.Common.{IfSome, ◌≡◌, suc, eqb, ◌<◌, length, sym, subst, arith, Table, thermal_of}
-use Rattle.test_spells.proofs.Common.{prices_of, IsFrontier, spell_first, IsSpellAnswer, IsSpellWithin}
+use Rattle.test_spells.proofs.Common.{◌≡◌, suc, eqb, ◌<◌, length, sym, subst, arith, Table, thermal_of}
+use Rattle.test_spells.proofs.Common.{prices_of, IsFrontier, spell_first}
 use Rattle.test_spells.proofs.Lemmas.{never_both, alike_of, range_of, stays, kept, answer_at_end, answer_alike}
-use Rattle.test_spells.proofs.costs.pass.Given.{Over}
 use Rattle.test_spells.proofs.costs.pass.Goals as goal
-use Rattle.test_spells.proofs.costs.pass.Goals.{After-least_cost, After-least_cost_in}
 
-at_end : (g : Over) (c : After-least_cost g) →
-    IsSpellAnswer (thermal_of c.args.unit.now) (prices_of c.args.prices.now) (length c.args.prices.now.energy.items)
-    (spell_first c.args.started c.args.first) (suc c.args.place) c.least_cost.result ×
-    IfSome c.least_cost.result (IsSpellWithin (spell_first c.args.started c.args.first) (suc c.args.place))
-at_end g c =
+pub returns-then-place-len-clause-answer : goal.returns-then-place-len-clause-answer
+returns-then-place-len-clause-answer g c =
     let end : suc c.args.place ≡ length c.args.prices.now.energy.items = omega arith in
     answer_at_end c.args.unit.now.valid c.args.prices.now.valid c.requires.curve c.envelope_is_cost.ensures
     c.requires.place c.requires.order c.in_ok-run_on.ensures.ok end c.least_cost.result c.least_cost.ensures
 
-at_range : (g : Over) (c : After-least_cost_in g) →
-    IsSpellAnswer (thermal_of c.args.unit.now) (prices_of c.args.prices.now) (length c.args.prices.now.energy.items)
-    (spell_first c.args.started c.args.first) (suc c.args.place) c.least_cost_in.result ×
-    IfSome c.least_cost_in.result (IsSpellWithin (spell_first c.args.started c.args.first) (suc c.args.place))
-at_range g c =
+pub returns-then-is_alike-clause-answer : goal.returns-then-is_alike-clause-answer
+returns-then-is_alike-clause-answer g c =
     let unit = thermal_of c.args.unit.now in
     let prices = prices_of c.args.prices.now in
     let first = spell_first c.args.started c.args.first in
@@ -33,22 +25,6 @@ at_range g c =
     c.least_cost_in.result c.least_cost_in.ensures in
     answer_alike c.args.unit.now.valid c.args.prices.now.valid c.requires.curve c.envelope_is_cost.ensures
     c.requires.place c.requires.order c.in_ok-run_on-2.ensures.ok before alike c.least_cost_in.result least
-
-pub returns-then-place-len-clause-answer : goal.returns-then-place-len-clause-answer
-returns-then-place-len-clause-answer g c =
-    (at_end g (goal.at.returns-then-place-len-clause-answer g c).After-least_cost).0
-
-pub returns-then-place-len-clause-within : goal.returns-then-place-len-clause-within
-returns-then-place-len-clause-within g c =
-    (at_end g (goal.at.returns-then-place-len-clause-within g c).After-least_cost).1
-
-pub returns-then-is_alike-clause-answer : goal.returns-then-is_alike-clause-answer
-returns-then-is_alike-clause-answer g c =
-    (at_range g (goal.at.returns-then-is_alike-clause-answer g c).After-least_cost_in).0
-
-pub returns-then-is_alike-clause-within : goal.returns-then-is_alike-clause-within
-returns-then-is_alike-clause-within g c =
-    (at_range g (goal.at.returns-then-is_alike-clause-within g c).After-least_cost_in).1
 
 pub returns-in_err-cost-clause-frame : goal.returns-in_err-cost-clause-frame
 returns-in_err-cost-clause-frame g c =
