@@ -52,45 +52,6 @@ fn copy_bid(from: &Bid, into: &mut Bid)
     copy_blocks(&from.blocks, &mut into.blocks);
 }
 
-fn copy_thermal(from: &Unit, into: &mut Task)
-    requires horizon { length (thermal_of from.now).window ≡ length into.old.prices.energy.items }
-    requires room { IsTaskFor (length into.old.prices.energy.items) into.old }
-    ensures unit { task_unit into.new ≡ Thermal (thermal_of from.now) }
-    ensures room { IsTaskFor (length into.new.prices.energy.items) into.new }
-    ensures prices { into.new.prices ≡ into.old.prices }
-    ensures proposal { into.new.proposal ≡ into.old.proposal }
-    ensures number { into.new.unit ≡ into.old.unit }
-{
-    into.kind = UnitKind::Thermal;
-    copy_unit(from, &mut into.thermal);
-}
-
-fn copy_flat(from: &Renewable, into: &mut Task)
-    requires horizon { length (renewable_of from.now).least ≡ length into.old.prices.energy.items }
-    requires room { IsTaskFor (length into.old.prices.energy.items) into.old }
-    ensures unit { task_unit into.new ≡ Flat (renewable_of from.now) }
-    ensures room { IsTaskFor (length into.new.prices.energy.items) into.new }
-    ensures prices { into.new.prices ≡ into.old.prices }
-    ensures proposal { into.new.proposal ≡ into.old.proposal }
-    ensures number { into.new.unit ≡ into.old.unit }
-{
-    into.kind = UnitKind::Flat;
-    copy_renewable(from, &mut into.flat);
-}
-
-fn copy_bid_of(from: &Bid, into: &mut Task)
-    requires horizon { length (bid_of from.now).blocks ≡ length into.old.prices.energy.items }
-    requires room { IsTaskFor (length into.old.prices.energy.items) into.old }
-    ensures unit { task_unit into.new ≡ BidOf (bid_of from.now) }
-    ensures room { IsTaskFor (length into.new.prices.energy.items) into.new }
-    ensures prices { into.new.prices ≡ into.old.prices }
-    ensures proposal { into.new.proposal ≡ into.old.proposal }
-    ensures number { into.new.unit ≡ into.old.unit }
-{
-    into.kind = UnitKind::Bid;
-    copy_bid(from, &mut into.bid);
-}
-
 // Leaves the unit of a number in a task; the rest of the task stays.
 fn copy_unit_of(case: &Case, unit: u32, into: &mut Task)
     requires unit { unit < unit_count (market_of case.now) }
@@ -102,9 +63,18 @@ fn copy_unit_of(case: &Case, unit: u32, into: &mut Task)
     ensures number { into.new.unit ≡ into.old.unit }
 {
     match case.unit_at(unit as usize).unit {
-        UnitRef::Thermal(from) => copy_thermal(from, into),
-        UnitRef::Renewable(from) => copy_flat(from, into),
-        UnitRef::Bid(from) => copy_bid_of(from, into),
+        UnitRef::Thermal(from) => {
+            into.kind = UnitKind::Thermal;
+            copy_unit(from, &mut into.thermal);
+        }
+        UnitRef::Renewable(from) => {
+            into.kind = UnitKind::Flat;
+            copy_renewable(from, &mut into.flat);
+        }
+        UnitRef::Bid(from) => {
+            into.kind = UnitKind::Bid;
+            copy_bid(from, &mut into.bid);
+        }
     }
 }
 
