@@ -36,13 +36,19 @@ use uc_model::cases::{Case, Plan, Row};
 use uc_model::laws::{dual_values_are_within, plan_costs_are_within};
 use uplift_settle::settle;
 
+// The chosen row, and its place among all rows.
+#[derive(Clone, Copy)]
+struct Choice<'a> {
+    place: usize,
+    row: &'a Row,
+}
+
 // All lines, one part after another, where the desk has the money at the prices of the chosen row.
 fn report_same(
     case: &Case,
     cost: i128,
     rows: &[Row],
-    chosen: usize,
-    row: &Row,
+    choice: &Choice<'_>,
     report: &Report,
     desk: &mut Desk,
 ) -> Result<u32, WrongLine>
@@ -50,21 +56,21 @@ fn report_same(
     requires desk { IsDeskFor (market_of case.now) desk.old }
     requires earned { length desk.old.earned.items ≡ unit_count (market_of case.now) }
     requires rows { length rows.now ≤ MOST_PROPOSALS }
-    requires chosen { chosen ≤ MOST_PROPOSALS }
-    requires horizon { length (prices_of row.now.prices).energy ≡ (market_of case.now).periods }
+    requires chosen { choice.now.place ≤ MOST_PROPOSALS }
+    requires horizon { length (prices_of choice.now.row.now.prices).energy ≡ (market_of case.now).periods }
     requires cost { IsWorth cost }
-    requires value { IsWorth row.now.value }
+    requires value { IsWorth choice.now.row.now.value }
     requires units { report.now.units ≤ MOST_UNITS }
     requires lines { length report.now.lines.items ≡ report.now.units }
     ensures { (responses : List Schedule)
-        → AllZip (λ u s. Fits u (prices_of row.now.prices) s) (units (market_of case.now)) responses
+        → AllZip (λ u s. Fits u (prices_of choice.now.row.now.prices) s) (units (market_of case.now)) responses
         → Compares 1 result
         (whole_lines (report_of report.now)
         (flat_map told_lines (map told_of report.now.lines.items)))
         (whole_lines (right_of (market_of case.now)
         (answers_of desk.old.earned.items desk.old.settlement responses)
         (report_of report.now).budget (report_of report.now).ahead cost
-        (map proposal_of rows.now) (chosen + 1) row.now.value
+        (map proposal_of rows.now) (choice.now.place + 1) choice.now.row.now.value
         desk.old.settlement.surplus desk.old.settlement.total)
         (flat_map told_lines (told_from
         (answers_of desk.old.earned.items desk.old.settlement responses)
@@ -72,19 +78,15 @@ fn report_same(
 {
     let line = head_same(case, cost, rows.len(), report)?;
     let line = rows_same(line, report.rows.as_slice(), rows)?;
-    let line = chosen_same(line, chosen + 1, row.value, report)?;
+    let line = chosen_same(line, choice.place + 1, choice.row.value, report)?;
     let line = units_same(
         line,
-        &mut desk.bench,
-        &desk.last,
         case,
-        &row.prices,
-        desk.earned.as_slice(),
-        &desk.settlement,
+        &choice.row.prices,
         report.lines.as_slice(),
-        &mut desk.answer,
+        desk,
     )?;
-    foot_same(line, &desk.settlement, cost - row.value, report)
+    foot_same(line, &desk.settlement, cost - choice.row.value, report)
 }
 
 /// The first line, from 1, at which the text of a report within the bounds of `read_report` differs
@@ -134,7 +136,8 @@ pub fn first_difference(
         desk.earned.as_slice(),
         &mut desk.settlement,
     );
-    match report_same(case, cost, rows, chosen, row, report, desk) {
+    let choice = Choice { place: chosen, row };
+    match report_same(case, cost, rows, &choice, report, desk) {
         Ok(_) => None,
         Err(wrong) => Some(wrong.line),
     }

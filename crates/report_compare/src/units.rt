@@ -7,13 +7,15 @@ ghost use Rattle.uc_model.specs.PlainCases.{market_of};
 ghost use Rattle.uc_model.specs.PlainUnits.{prices_of, schedule_of};
 ghost use Rattle.uc_model.specs.Runs.{Fits};
 ghost use Rattle.plain_lists.specs.Sums.{int_at};
-ghost use Rattle.case_answers.specs.Tops.{HasSchedules, IsBenchOver};
+ghost use Rattle.case_answers.specs.Tops.{HasSchedules};
 ghost use Rattle.report_form.specs.ReportText.{owed_line};
 ghost use Rattle.report_read.specs.Plain.{told_of};
 ghost use Rattle.report_compare.specs.Compared.{Compares};
+ghost use Rattle.report_compare.specs.Desks.{IsDeskFor};
 ghost use Rattle.report_compare.specs.ReportLines.{response_lines, unit_lines, told_lines};
 ghost use Rattle.report_compare.specs.RightLines.{answers_of, titles, told_from};
 
+use crate::desk::Desk;
 use crate::due::{Title, title_at};
 use crate::lines::{same_flags, same_name, same_powers};
 use crate::wrong::{WrongLine, all_same};
@@ -24,9 +26,7 @@ use report_read::UnitLine;
 use uc_model::cases::Case;
 use uc_model::kinds::Kind;
 use uc_model::laws::one_schedule_is_least;
-use uc_model::units::{Answered, Prices, Response};
-use unit_program::{Bench, LastAnswers};
-use uplift_settle::Settlement;
+use uc_model::units::{Prices, Response};
 
 // Whether the money is what a unit earns and is owed.
 fn same_money(mine: &UnitLine, owed: &Owed) -> bool
@@ -88,59 +88,61 @@ fn unit_same(
 }
 
 // What the unit of a number earns at best and in the plan, and what it is owed.
-fn owed_at(earned: &[i64], settlement: &Settlement, number: usize) -> Owed
-    requires earned { number < length earned.now }
-    requires scheduled { number < length settlement.now.scheduled.items }
-    requires payments { number < length settlement.now.payments.items }
-    ensures earned { result.earned ≡ int_at earned.now number }
-    ensures scheduled { result.scheduled ≡ int_at settlement.now.scheduled.items number }
-    ensures payment { result.payment ≡ int_at settlement.now.payments.items number }
+fn owed_at(desk: &Desk, number: usize) -> Owed
+    requires earned { number < length desk.now.earned.items }
+    requires scheduled { number < length desk.now.settlement.scheduled.items }
+    requires payments { number < length desk.now.settlement.payments.items }
+    ensures earned { result.earned ≡ int_at desk.now.earned.items number }
+    ensures scheduled { result.scheduled ≡ int_at desk.now.settlement.scheduled.items number }
+    ensures payment { result.payment ≡ int_at desk.now.settlement.payments.items number }
 {
     Owed {
-        earned: earned[number],
-        scheduled: *settlement.scheduled.get(number),
-        payment: *settlement.payments.get(number),
+        earned: *desk.earned.get(number),
+        scheduled: *desk.settlement.scheduled.get(number),
+        payment: *desk.settlement.payments.get(number),
     }
 }
 
-/// The lines of all units and bids, of which the first has the number `first`. `earned` and
-/// `settlement` have the money of each at the prices. Each has a feasible schedule, the bench
-/// suffices for each thermal unit, and prices and `answer` are over the periods of the case.
+/// The lines of all units and bids, of which the first has the number `first`. The desk suffices for
+/// the case and has the money of each unit at the prices, which are over the periods of the case.
+/// Each unit has a feasible schedule.
 pub fn units_same(
     first: u32,
-    bench: &mut Bench,
-    last: &LastAnswers,
     case: &Case,
     prices: &Prices,
-    earned: &[i64],
-    settlement: &Settlement,
     lines: &[UnitLine],
-    answer: &mut Answered,
+    desk: &mut Desk,
 ) -> Result<u32, WrongLine>
     requires some { HasSchedules (market_of case.now) }
-    requires bench { IsBenchOver (market_of case.now) bench.old }
+    requires desk { IsDeskFor (market_of case.now) desk.old }
+    requires earned { length desk.old.earned.items ≡ unit_count (market_of case.now) }
     requires horizon { length (prices_of prices.now).energy ≡ (market_of case.now).periods }
-    requires answer { length (schedule_of answer.old.response).on ≡ (market_of case.now).periods }
-    requires earned { length earned.now ≡ unit_count (market_of case.now) }
-    requires scheduled { length settlement.now.scheduled.items ≡ unit_count (market_of case.now) }
-    requires payments { length settlement.now.payments.items ≡ unit_count (market_of case.now) }
     requires lines { length lines.now ≡ unit_count (market_of case.now) }
     requires numbers { first + 4 * length lines.now < 2 ^ 32 }
     ensures lines { (responses : List Schedule)
         → AllZip (λ u s. Fits u (prices_of prices.now) s) (units (market_of case.now)) responses
         → Compares first result (flat_map told_lines (map told_of lines.now))
-        (flat_map told_lines (told_from (answers_of earned.now settlement.now responses)
+        (flat_map told_lines (told_from
+        (answers_of desk.old.earned.items desk.old.settlement responses)
         0 (titles (market_of case.now)))) }
     ensures few { IfOk result (λ next. next ≤ first + 4 * length lines.now) }
+    ensures settlement { desk.new.settlement ≡ desk.old.settlement }
 {
     one_schedule_is_least();
     units_can_answer();
     let mut line = first;
     for number in 0..lines.len() {
-        answer_at(bench, last, case, prices, number, answer);
-        let owed = owed_at(earned, settlement, number);
+        answer_at(
+            &mut desk.bench,
+            &desk.last,
+            case,
+            prices,
+            number,
+            &mut desk.answer,
+        );
+        let owed = owed_at(desk, number);
         let title = title_at(case, number);
-        line = unit_same(line, &lines[number], &title, &owed, &answer.response)?;
+        line = unit_same(line, &lines[number], &title, &owed, &desk.answer.response)?;
     }
     Ok(line)
 }

@@ -18,8 +18,8 @@ returns-in_err-line c = λ (responses : List Schedule) fits.
     let r = report_of c.args.report.now in
     let desk = c.args.desk.now in
     let a = answers_of desk.earned.items desk.settlement responses in
-    let q = right_of m a r.budget r.ahead c.args.cost (map proposal_of c.args.rows.now) (c.args.chosen + 1)
-    c.args.row.now.value desk.settlement.surplus desk.settlement.total in
+    let q = right_of m a r.budget r.ahead c.args.cost (map proposal_of c.args.rows.now) (c.args.choice.now.place + 1)
+    c.args.choice.now.row.now.value desk.settlement.surplus desk.settlement.total in
     let p = err_from_is_err_and c.from_residual.result c.from_residual.ensures.1 in
     let head = rw (to_z-of_z w128 c.args.cost c.ranges.cost) at c.in_err-line.ensures.lines in
     rw (p.1, p.2)
@@ -35,8 +35,8 @@ returns-in_err-line-2 c = λ (responses : List Schedule) fits.
     let r = report_of c.args.report.now in
     let desk = c.args.desk.now in
     let a = answers_of desk.earned.items desk.settlement responses in
-    let q = right_of m a r.budget r.ahead c.args.cost (map proposal_of c.args.rows.now) (c.args.chosen + 1)
-    c.args.row.now.value desk.settlement.surplus desk.settlement.total in
+    let q = right_of m a r.budget r.ahead c.args.cost (map proposal_of c.args.rows.now) (c.args.choice.now.place + 1)
+    c.args.choice.now.row.now.value desk.settlement.surplus desk.settlement.total in
     let p = err_from_is_err_and c.from_residual-in_err-line-2.result c.from_residual-in_err-line-2.ensures.1 in
     let head = rw (to_z-of_z w128 c.args.cost c.ranges.cost) at c.in_ok-line.ensures.lines in
     let rows = rw c.as_slice.ensures at c.in_err-line-2.ensures.lines in
@@ -53,12 +53,12 @@ returns-in_err-line-3 c = λ (responses : List Schedule) fits.
     let r = report_of c.args.report.now in
     let desk = c.args.desk.now in
     let a = answers_of desk.earned.items desk.settlement responses in
-    let q = right_of m a r.budget r.ahead c.args.cost (map proposal_of c.args.rows.now) (c.args.chosen + 1)
-    c.args.row.now.value desk.settlement.surplus desk.settlement.total in
+    let q = right_of m a r.budget r.ahead c.args.cost (map proposal_of c.args.rows.now) (c.args.choice.now.place + 1)
+    c.args.choice.now.row.now.value desk.settlement.surplus desk.settlement.total in
     let p = err_from_is_err_and c.from_residual-in_err-line-3.result c.from_residual-in_err-line-3.ensures.1 in
     let head = rw (to_z-of_z w128 c.args.cost c.ranges.cost) at c.in_ok-line.ensures.lines in
     let rows = rw c.as_slice.ensures at c.in_ok-line-2.ensures.lines in
-    let chosen = rw (to_z-of_z w128 c.args.row.now.value (search rules)) at c.in_err-line-3.ensures.lines in
+    let chosen = rw (to_z-of_z w128 c.args.choice.now.row.now.value (search rules)) at c.in_err-line-3.ensures.lines in
     rw (p.1, p.2)
     (whole_third r q (flat_map told_lines (map told_of c.args.report.now.lines.items))
     (flat_map told_lines (told_from a 0 (titles m))) c.in_ok-line.line c.in_ok-line-2.line c.in_err-line-3.field-0.0
@@ -72,13 +72,13 @@ returns-in_err-line-4 c = λ (responses : List Schedule) fits.
     let r = report_of c.args.report.now in
     let desk = c.args.desk.now in
     let a = answers_of desk.earned.items desk.settlement responses in
-    let q = right_of m a r.budget r.ahead c.args.cost (map proposal_of c.args.rows.now) (c.args.chosen + 1)
-    c.args.row.now.value desk.settlement.surplus desk.settlement.total in
+    let q = right_of m a r.budget r.ahead c.args.cost (map proposal_of c.args.rows.now) (c.args.choice.now.place + 1)
+    c.args.choice.now.row.now.value desk.settlement.surplus desk.settlement.total in
     let p = err_from_is_err_and c.from_residual-in_err-line-4.result c.from_residual-in_err-line-4.ensures.1 in
     let head = rw (to_z-of_z w128 c.args.cost c.ranges.cost) at c.in_ok-line.ensures.lines in
     let rows = rw c.as_slice.ensures at c.in_ok-line-2.ensures.lines in
-    let chosen = rw (to_z-of_z w128 c.args.row.now.value (search rules)) at c.in_ok-line-3.ensures.lines in
-    let units = rw (c.as_slice-2.ensures, c.as_slice-3.ensures) at (c.in_err-line-4.ensures.lines responses fits) in
+    let chosen = rw (to_z-of_z w128 c.args.choice.now.row.now.value (search rules)) at c.in_ok-line-3.ensures.lines in
+    let units = rw c.as_slice-2.ensures at (c.in_err-line-4.ensures.lines responses fits) in
     rw (p.1, p.2)
     (whole_fourth r q (flat_map told_lines (map told_of c.args.report.now.lines.items))
     (flat_map told_lines (told_from a 0 (titles m))) c.in_ok-line.line c.in_ok-line-2.line c.in_ok-line-3.line
@@ -93,17 +93,18 @@ returns c = λ (responses : List Schedule) fits.
     let r = report_of c.args.report.now in
     let desk = c.args.desk.now in
     let a = answers_of desk.earned.items desk.settlement responses in
-    let q = right_of m a r.budget r.ahead c.args.cost (map proposal_of c.args.rows.now) (c.args.chosen + 1)
-    c.args.row.now.value desk.settlement.surplus desk.settlement.total in
+    let q = right_of m a r.budget r.ahead c.args.cost (map proposal_of c.args.rows.now) (c.args.choice.now.place + 1)
+    c.args.choice.now.row.now.value desk.settlement.surplus desk.settlement.total in
     let head = rw (to_z-of_z w128 c.args.cost c.ranges.cost) at c.in_ok-line.ensures.lines in
     let rows = rw c.as_slice.ensures at c.in_ok-line-2.ensures.lines in
-    let chosen = rw (to_z-of_z w128 c.args.row.now.value (search rules)) at c.in_ok-line-3.ensures.lines in
-    let units = rw (c.as_slice-2.ensures, c.as_slice-3.ensures) at (c.in_ok-line-4.ensures.lines responses fits) in
-    let fits_gap = worth_gap c.args.cost c.args.row.now.value c.requires.cost c.requires.value in
+    let chosen = rw (to_z-of_z w128 c.args.choice.now.row.now.value (search rules)) at c.in_ok-line-3.ensures.lines in
+    let units = rw c.as_slice-2.ensures at (c.in_ok-line-4.ensures.lines responses fits) in
+    let fits_gap = worth_gap c.args.cost c.args.choice.now.row.now.value c.requires.cost c.requires.value in
     let gap = rw (
+      c.in_ok-line-4.ensures.settlement,
       to_z-of_z w128 c.args.cost c.ranges.cost,
-      to_z-of_z w128 c.args.row.now.value (search rules),
-      to_z-of_z w128 (c.args.cost -ℤ c.args.row.now.value) fits_gap,
+      to_z-of_z w128 c.args.choice.now.row.now.value (search rules),
+      to_z-of_z w128 (c.args.cost -ℤ c.args.choice.now.row.now.value) fits_gap,
     ) at c.foot_same.ensures in
     whole_compared r q (flat_map told_lines (map told_of c.args.report.now.lines.items))
     (flat_map told_lines (told_from a 0 (titles m))) c.in_ok-line.line c.in_ok-line-2.line c.in_ok-line-3.line

@@ -9,15 +9,17 @@ returns-in_err-line-clause-lines c = λ (responses : List Schedule) fits.
     let m = market_of c.args.case.now in
     let number = c.loop-number.number in
     let mine = c.index-lines-number.result in
-    let a = answers_of c.args.earned.now c.args.settlement.now responses in
+    let a = answers_of c.args.desk.now.earned.items c.args.desk.now.settlement responses in
     let t : Title = record { kind = c.title_at-title.result.kind; name = c.title_at-title.result.name.now } in
     let at = c.answer_at.ensures.answer in
     let same = c.one_schedule_is_least.ensures at.unit (prices_of c.args.prices.now)
     (schedule_of c.answer_at.new.into.response) _ at.fit
     (zip_at (λ u s. Fits u (prices_of c.args.prices.now) s) (units m) responses number at.unit idle fits at.is)
     in
-    let due = due_lines a number t.kind t.name _ _ _ _ c.owed_at-owed.ensures.earned c.owed_at-owed.ensures.scheduled
-    c.owed_at-owed.ensures.payment same in
+    let due = due_lines a number t.kind t.name _ _ _ _
+    (rw c.loop-number.invariant.earned at c.owed_at-owed.ensures.earned)
+    (rw c.loop-number.invariant.settlement at c.owed_at-owed.ensures.scheduled)
+    (rw c.loop-number.invariant.settlement at c.owed_at-owed.ensures.payment) same in
     let p = err_from_is_err_and c.from_residual.result c.from_residual.ensures.1 in
     rw (p.1, p.2)
     (c.loop-number.invariant.rest responses fits (Err c.in_err-line.field-0.0)
@@ -40,13 +42,15 @@ loop-number-preserved c =
     let line = c.loop-number.invariant.line in
     record {
       rest = λ (responses : List Schedule) fits result h.
-          let a = answers_of c.args.earned.now c.args.settlement.now responses in
+          let a = answers_of c.args.desk.now.earned.items c.args.desk.now.settlement responses in
           let same = c.one_schedule_is_least.ensures at.unit (prices_of c.args.prices.now)
           (schedule_of c.answer_at.new.into.response) _ at.fit
           (zip_at (λ u s. Fits u (prices_of c.args.prices.now) s) (units m) responses number at.unit idle fits
           at.is) in
-          let due = due_lines a number t.kind t.name _ _ _ _ c.owed_at-owed.ensures.earned
-          c.owed_at-owed.ensures.scheduled c.owed_at-owed.ensures.payment same in
+          let due = due_lines a number t.kind t.name _ _ _ _
+          (rw c.loop-number.invariant.earned at c.owed_at-owed.ensures.earned)
+          (rw c.loop-number.invariant.settlement at c.owed_at-owed.ensures.scheduled)
+          (rw c.loop-number.invariant.settlement at c.owed_at-owed.ensures.payment) same in
           c.loop-number.invariant.rest responses fits result
           (units_step a c.loop-number.line c.in_ok-line.line result number (map told_of c.args.lines.now) (titles m)
           (told_of mine) t
@@ -54,8 +58,15 @@ loop-number-preserved c =
           c.title_at-title.ensures
           (subst (λ (z : List (List ℕ)). Compares c.loop-number.line (Ok c.in_ok-line.line) (told_lines (told_of mine))
           z) due known.lines) h);
-      bench = c.answer_at.ensures.bench;
-      answer = c.answer_at.ensures.into;
+      desk = record {
+        bench = c.answer_at.ensures.bench;
+        answer = c.answer_at.ensures.into;
+        earned = c.loop-number.invariant.desk.earned;
+        scheduled = c.loop-number.invariant.desk.scheduled;
+        payments = c.loop-number.invariant.desk.payments;
+      };
+      earned = c.loop-number.invariant.earned;
+      settlement = c.loop-number.invariant.settlement;
       line = omega (arith, few, line);
     }
 
@@ -68,7 +79,7 @@ returns-clause-lines c = λ (responses : List Schedule) fits.
     let mine = length-map c.args.lines.now told_of in
     let right = titles_length m in
     c.loop-number.invariant.rest responses fits (Ok c.loop-number.line)
-    (units_end (answers_of c.args.earned.now c.args.settlement.now responses) c.loop-number.line number
+    (units_end (answers_of c.args.desk.now.earned.items c.args.desk.now.settlement responses) c.loop-number.line number
     (map told_of c.args.lines.now) (titles m) (omega (arith, done, mine)) (omega (arith, done, count, right)))
 
 pub answer_at-requires-clause-some : goal.answer_at-requires-clause-some
