@@ -4,4 +4,4 @@
 mod slopes;
 
 pub use slope_read::read::Spot;
-pub use slopes::{Lowest, Slopes};
+pub use slopes::{Lowest, Slopes, Spare};

@@ -1,5 +1,5 @@
-//! The function, and room for the next one.
-ghost use Rattle.std.specs.Prelude.{◌≡◌, ◌≤◌, length, vec_capacity, IfSome, MatchOption};
+//! The function, and room for the next one, which several functions may share.
+ghost use Rattle.std.specs.Prelude.{◌≡◌, ◌≤◌, length, vec_capacity, IfOk, IfSome, MatchOption};
 ghost use Rattle.shape_law.specs.Effect.{IsLeast};
 ghost use Rattle.shape_law.specs.Table.{IsEmpty};
 ghost use Rattle.slope_step.specs.After.{table_after, ArePiecesAfter, AreWithinAfter};
@@ -21,13 +21,19 @@ use uc_model::units::Curve;
 pub struct Slopes {
     made: Option<Made>,
     turn: i64,
-    /// For how many pieces each list has memory.
+    /// For how many pieces the list has memory.
     room: usize,
     pieces: Vec<Piece>,
-    spare: Vec<Piece>,
     ghost valid: { AreKept made pieces.items },
     ghost pieces_room: { room ≤ vec_capacity pieces },
-    ghost spare_room: { room ≤ vec_capacity spare },
+}
+
+/// Room for the pieces that a step makes. Functions of as much room take turns with one.
+pub struct Spare {
+    /// For how many pieces the list has memory.
+    room: usize,
+    pieces: Vec<Piece>,
+    ghost pieces_room: { room ≤ vec_capacity pieces },
 }
 
 // Written out, so that a drop of it is a call, and not one for each list.
@@ -38,8 +44,25 @@ impl Drop for Slopes {
             turn: _,
             room: _,
             pieces: _,
-            spare: _,
         } = self;
+    }
+}
+
+impl Drop for Spare {
+    fn drop(self) {
+        let Spare { room: _, pieces: _ } = self;
+    }
+}
+
+impl Spare {
+    ghost use Rattle.slope_list.specs.Slopes.{space_of};
+
+    /// Room for so many pieces.
+    pub fn make(alloc: Global, room: usize) -> Result<Spare, AllocError>
+        ensures { IfOk result (λ s. space_of s ≡ room) }
+    {
+        let list = Vec::with_capacity(alloc, room)?;
+        Ok(Spare { room, pieces: list })
     }
 }
 
@@ -95,7 +118,8 @@ impl Slopes {
     ghost use Rattle.shape_law.specs.Table.{Table, value_of, IsPlace, IsAmount, IsEmpty, HasNone};
     ghost use Rattle.slope_read.specs.Below.{IsShift, IsNowhereAbove, IsAbove};
     ghost use Rattle.slope_piece.specs.Turn.{IsTurn, IsFirst, IsLast};
-    ghost use Rattle.slope_list.specs.Slopes.{shown, room_of, count_of, turn_of};
+    ghost use Rattle.slope_list.specs.Slopes.{shown, room_of, count_of, turn_of, space_of};
+    ghost use Rattle.slope_list.specs.Slopes.{MayGrow, IsGrown};
 
     /// A function on an empty interval, and room for so many pieces.
     pub fn make(alloc: Global, room: usize) -> Result<Slopes, AllocError>
@@ -104,13 +128,11 @@ impl Slopes {
         ensures room { IfOk result (λ s. room_of s ≡ room) }
     {
         let pieces = Vec::with_capacity(alloc, room)?;
-        let spare = Vec::with_capacity(alloc, room)?;
         Ok(Slopes {
             made: None,
             turn: 0,
             room,
             pieces,
-            spare,
         })
     }
 
@@ -130,52 +152,49 @@ impl Slopes {
         self.made = Some(Made { start, used: 0 });
     }
 
-    /// Takes a step.
-    pub fn step(&mut self, step: Step, curve: &Curve)
+    /// Takes a step. The list of its pieces and the spare one change places.
+    pub fn step(&mut self, step: Step, curve: &Curve, spare: &mut Spare)
         requires step { IsFairStep step }
         requires curve { IsCostOf step curve.now }
         requires small { IsSmall (shown self.old) }
-        requires room { count_of self.old + length curve.now.blocks.items + 3 ≤ room_of self.old }
+        requires room { MayGrow (length curve.now.blocks.items + 3) self.old spare.old }
         ensures stepped { IsStepped step curve.now (shown self.old) (shown self.new) }
         ensures turn { (y w : ℤ) → value_of (shown self.old) y ≡ Some w
             → IsTurn step (shown self.old) (turn_of self.new) }
-        ensures count { count_of self.new ≤ count_of self.old + length curve.now.blocks.items + 3 }
-        ensures room { room_of self.new ≡ room_of self.old }
+        ensures grown { IsGrown (length curve.now.blocks.items + 3) self.old self.new spare.old
+            spare.new }
     {
         let made = match self.made {
             Some(made) => made,
             None => return,
         };
-        lengthen(&mut self.spare, made.used + curve.blocks.len() + 3);
+        lengthen(&mut spare.pieces, made.used + curve.blocks.len() + 3);
         let pieces = &self.pieces[..made.used];
-        let stepped = slope_step(pieces, made.start, step, curve, &mut self.spare);
+        let stepped = slope_step(pieces, made.start, step, curve, &mut spare.pieces);
         self.made = stepped.made;
         self.turn = stepped.turn;
-        mem::swap(&mut self.pieces, &mut self.spare);
+        mem::swap(&mut self.pieces, &mut spare.pieces);
     }
 
     /// The least value of what a step makes, which isn't taken, or None where it makes nothing.
     /// What it makes is drawn in the spare room.
-    pub fn least_beside(&mut self, step: Step, curve: &Curve) -> Option<Lowest>
+    pub fn least_beside(&self, step: Step, curve: &Curve, spare: &mut Spare) -> Option<Lowest>
         requires step { IsFairStep step }
         requires curve { IsCostOf step curve.now }
-        requires small { IsSmall (shown self.old) }
-        requires room { count_of self.old + length curve.now.blocks.items + 3 ≤ room_of self.old }
-        ensures least { (after : Table) × IsStepped step curve.now (shown self.old) after
+        requires small { IsSmall (shown self.now) }
+        requires room { count_of self.now + length curve.now.blocks.items + 3 ≤ space_of spare.old }
+        ensures least { (after : Table) × IsStepped step curve.now (shown self.now) after
             × MatchOption result (IsEmpty after) (λ r. IsLeast after r.value r.at
-            × IsTurn step (shown self.old) r.turn) }
-        ensures shown { shown self.new ≡ shown self.old }
-        ensures count { count_of self.new ≡ count_of self.old }
-        ensures room { room_of self.new ≡ room_of self.old }
-        ensures turn { turn_of self.new ≡ turn_of self.old }
+            × IsTurn step (shown self.now) r.turn) }
+        ensures spare { space_of spare.new ≡ space_of spare.old }
     {
         let Some(made) = self.made else {
             return None;
         };
-        lengthen(&mut self.spare, made.used + curve.blocks.len() + 3);
+        lengthen(&mut spare.pieces, made.used + curve.blocks.len() + 3);
         let pieces = &self.pieces[..made.used];
-        let stepped = slope_step(pieces, made.start, step, curve, &mut self.spare);
-        lowest_of(&self.spare, stepped)
+        let stepped = slope_step(pieces, made.start, step, curve, &mut spare.pieces);
+        lowest_of(&spare.pieces, stepped)
     }
 
     /// The least value and its least power, or None on an empty interval.

@@ -12,6 +12,15 @@ pub struct Note {
     pub last: i64,
 }
 
+/// A period that a spell goes over.
+#[derive(Clone, Copy)]
+pub struct Passage {
+    /// The first period of the spell; 0 stands for one that goes on from before period 1.
+    pub first: u32,
+    /// The place of the period.
+    pub place: usize,
+}
+
 /// What a spell leaves of a period for the way back.
 #[derive(Clone, Copy)]
 pub struct Passed {

@@ -3,7 +3,7 @@ ghost use Rattle.std.specs.Prelude.{◌≡◌, ℤ, suc, ◌==◌, ◌+◌, ◌-
 ghost use Rattle.std.specs.Prelude.{IfSome, IfNone, None};
 ghost use Rattle.cost_curve.specs.CostCurve.{IsCostCurve};
 ghost use Rattle.shape_law.specs.Table.{value_of};
-ghost use Rattle.slope_list.specs.Slopes.{shown, count_of, room_of};
+ghost use Rattle.slope_list.specs.Slopes.{shown, count_of, room_of, MayGrow, IsGrown};
 ghost use Rattle.slope_piece.specs.Turn.{IsFirst, IsLast};
 ghost use Rattle.spell_run.specs.Frontier.{IsFrontier};
 ghost use Rattle.spell_run.specs.Notes.{IsNoted, IsEndNoted, end_cost};
@@ -11,10 +11,10 @@ ghost use Rattle.spell_run.specs.Spells.{IsSpellAnswer, IsSpellWithin};
 ghost use Rattle.uc_model.specs.Data.{PriceLists};
 ghost use Rattle.uc_model.specs.PlainUnits.{thermal_of, prices_of};
 
-use crate::notes::{Note, Passed};
+use crate::notes::{Note, Passage, Passed};
 use crate::step::{is_alike, starts_in, step_of};
 use cost_curve::laws::envelope_is_cost;
-use slope_list::{Lowest, Slopes, Spot};
+use slope_list::{Lowest, Slopes, Spare, Spot};
 use uc_model::units::{Curve, Prices, Unit};
 
 /// The first and the last power of a function.
@@ -66,36 +66,36 @@ fn interval_of(running: &Slopes) -> Interval
 }
 
 /// Takes a spell over the period at a place, as far as no stop follows, and answers what the step
-/// leaves for the way back, which is open where no power is left. `first` 0 stands for a spell that
-/// goes on from before period 1. `curve` is the curve of the unit's points.
+/// leaves for the way back, which is open where no power is left. `curve` is the curve of the unit's
+/// points.
 #[inline(always)]
 pub fn run_over(
     unit: &Unit,
     curve: &Curve,
     prices: &Prices,
-    first: u32,
-    place: usize,
+    passage: Passage,
     running: &mut Slopes,
+    spare: &mut Spare,
 ) -> Note
     requires curve { IsCostCurve (thermal_of unit.now).points curve.now }
-    requires place { place < length (prices_of prices.now).energy }
-    requires order { first ≤ suc place }
-    requires frontier { IsFrontier (thermal_of unit.now) (prices_of prices.now) first place
+    requires place { passage.place < length (prices_of prices.now).energy }
+    requires order { passage.first ≤ suc passage.place }
+    requires frontier { IsFrontier (thermal_of unit.now) (prices_of prices.now) passage.first passage.place
         (shown running.old) }
-    requires room { count_of running.old + length curve.now.blocks.items + 3 ≤ room_of running.old }
-    ensures frontier { IsFrontier (thermal_of unit.now) (prices_of prices.now) first (suc place)
+    requires room { MayGrow (length curve.now.blocks.items + 3) running.old spare.old }
+    ensures frontier { IsFrontier (thermal_of unit.now) (prices_of prices.now) passage.first (suc passage.place)
         (shown running.new) }
     ensures noted { (x v : ℤ) → value_of (shown running.old) x ≡ Some v →
-        IsNoted (thermal_of unit.now) (prices_of prices.now) first place false result
+        IsNoted (thermal_of unit.now) (prices_of prices.now) passage.first passage.place false result
         (shown running.new) }
-    ensures count { count_of running.new
-        ≤ count_of running.old + length curve.now.blocks.items + 3 }
-    ensures room { room_of running.new ≡ room_of running.old }
+    ensures grown { IsGrown (length curve.now.blocks.items + 3) running.old running.new spare.old
+        spare.new }
 {
     envelope_is_cost();
+    let Passage { first, place } = passage;
     let starts = starts_in(first, place);
     let before = interval_of(running);
-    running.step(step_of(unit, prices, place, starts, false), curve);
+    running.step(step_of(unit, prices, place, starts, false), curve, spare);
     Note {
         turn: running.turn(),
         first: before.first,
@@ -130,33 +130,33 @@ pub fn end_and_run(
     unit: &Unit,
     curve: &Curve,
     prices: &Prices,
-    first: u32,
-    place: usize,
+    passage: Passage,
     running: &mut Slopes,
+    spare: &mut Spare,
 ) -> Passed
     requires curve { IsCostCurve (thermal_of unit.now).points curve.now }
-    requires place { place < length (prices_of prices.now).energy }
-    requires order { first ≤ suc place }
-    requires frontier { IsFrontier (thermal_of unit.now) (prices_of prices.now) first place
+    requires place { passage.place < length (prices_of prices.now).energy }
+    requires order { passage.first ≤ suc passage.place }
+    requires frontier { IsFrontier (thermal_of unit.now) (prices_of prices.now) passage.first passage.place
         (shown running.old) }
-    requires room { count_of running.old + length curve.now.blocks.items + 3 ≤ room_of running.old }
+    requires room { MayGrow (length curve.now.blocks.items + 3) running.old spare.old }
     ensures answer { IsSpellAnswer (thermal_of unit.now) (prices_of prices.now)
-        (length (prices_of prices.now).energy) first (suc place) (end_cost result.end) }
-    ensures within { IfSome result.end (λ e. IsSpellWithin first (suc place) e.value) }
+        (length (prices_of prices.now).energy) passage.first (suc passage.place) (end_cost result.end) }
+    ensures within { IfSome result.end (λ e. IsSpellWithin passage.first (suc passage.place) e.value) }
     ensures ended { IfSome result.end
-        (IsEndNoted (thermal_of unit.now) (prices_of prices.now) first place result.note) }
-    ensures frontier { IsFrontier (thermal_of unit.now) (prices_of prices.now) first (suc place)
+        (IsEndNoted (thermal_of unit.now) (prices_of prices.now) passage.first passage.place result.note) }
+    ensures frontier { IsFrontier (thermal_of unit.now) (prices_of prices.now) passage.first (suc passage.place)
         (shown running.new) }
     ensures noted { (x v : ℤ) → value_of (shown running.old) x ≡ Some v →
-        IsNoted (thermal_of unit.now) (prices_of prices.now) first place false result.note
+        IsNoted (thermal_of unit.now) (prices_of prices.now) passage.first passage.place false result.note
         (shown running.new) }
-    ensures count { count_of running.new
-        ≤ count_of running.old + length curve.now.blocks.items + 3 }
-    ensures room { room_of running.new ≡ room_of running.old }
+    ensures grown { IsGrown (length curve.now.blocks.items + 3) running.old running.new spare.old
+        spare.new }
 {
     envelope_is_cost();
+    let Passage { first, place } = passage;
     if place + 1 == prices.energy.len() {
-        let note = run_over(unit, curve, prices, first, place, running);
+        let note = run_over(unit, curve, prices, passage, running, spare);
         let end = lowest_at(running.least(), note.turn);
         return Passed { note, end };
     }
@@ -164,11 +164,11 @@ pub fn end_and_run(
     let on = step_of(unit, prices, place, starts, false);
     let last = step_of(unit, prices, place, starts, true);
     if is_alike(on, last) {
-        let note = run_over(unit, curve, prices, first, place, running);
+        let note = run_over(unit, curve, prices, passage, running, spare);
         let end = lowest_at(running.least_in(last.least, last.most), note.turn);
         return Passed { note, end };
     }
-    let end = running.least_beside(last, curve);
-    let note = run_over(unit, curve, prices, first, place, running);
+    let end = running.least_beside(last, curve, spare);
+    let note = run_over(unit, curve, prices, passage, running, spare);
     Passed { note, end }
 }

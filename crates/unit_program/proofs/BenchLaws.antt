@@ -1,16 +1,11 @@
 -- What a bench is made for stays.
 use Rattle.unit_program.proofs.Common.{◌≡◌, ℕ, zero, suc, ◌+◌, ◌-◌, ◌*◌, ◌≤◌, ◌⊎◌, inl, inr, Some, List, [], ◌∷◌, ◌++◌}
 use Rattle.unit_program.proofs.Common.{length, sym, ap, ◌∙◌, subst, arith, slice_get, mul-le-mul_left, Runner}
-use Rattle.unit_program.proofs.Common.{places_of, HaveRoom, room_of}
+use Rattle.unit_program.proofs.Common.{places_of, HaveRoom, room_of, space_of}
 use Rattle.unit_program.specs.declared.bench.Bench.{Bench}
 use Rattle.unit_program.proofs.Common.{◌<◌, Option, None, IfSome, ThermalUnit, PriceLists, Entry, IsEndWithin}
 use Rattle.unit_program.proofs.Common.{HaveWays, cost_at, first_at, left_at}
 use Rattle.unit_program.specs.Benches.{IsBenchFor, HasWayFrom}
-
-pub room_less : (most less periods : ℕ) (runners : List Runner) → less ≤ most →
-    HaveRoom most periods runners → HaveRoom less periods runners
-room_less most less periods runners low have f r is =
-    (let there = (have f r is).0 in (omega (arith, low, there), (have f r is).1))
 
 -- a curve of so many points asks for no more
 pub charge_less : (periods points blocks : ℕ) → blocks ≤ 2 * (points - 1) →
@@ -20,17 +15,18 @@ charge_less periods points blocks few = mul-le-mul_left periods (omega (arith, f
 pub bench_kept : (periods points : ℕ) (old new : Bench) →
     length old.curve.blocks.items + old.curve.blocks.spare ≡ length new.curve.blocks.items + new.curve.blocks.spare →
     length new.runners.items ≡ length old.runners.items →
-    ((most periods : ℕ) → HaveRoom most periods old.runners.items →
-    HaveRoom most periods new.runners.items) →
+    ((room periods : ℕ) → HaveRoom room periods old.runners.items →
+    HaveRoom room periods new.runners.items) → space_of new.spare ≡ space_of old.spare →
     length new.table.items ≡ length old.table.items →
     length new.origins.list.items ≡ length old.origins.list.items →
     length new.roster.firsts.items ≡ length old.roster.firsts.items →
     length new.limits.items ≡ length old.limits.items → IsBenchFor periods points old → IsBenchFor periods points new
-bench_kept periods points old new curve count keeps rows list firsts each b =
+bench_kept periods points old new curve count keeps spare rows list firsts each b =
     record {
       blocks = omega (arith, curve);
       count = omega (arith, count);
-      room = keeps (periods * (2 * points + 3)) periods b.room;
+      space = omega (arith, spare, b.space);
+      room = rw spare (keeps (space_of old.spare) periods b.room);
       rows = omega (arith, rows);
       origins = omega (arith, list);
       roster = omega (arith, firsts);
@@ -58,10 +54,10 @@ get_append (y ∷ ys) r zero x h = inl h
 get_append (y ∷ ys) r (suc i) x h = get_append ys r i x h
 
 pub room_more : (most periods : ℕ) (runners runners' : List Runner) (r : Runner) →
-    runners' ≡ runners ++ r ∷ [] → most ≤ room_of r.running → periods ≤ places_of r →
+    runners' ≡ runners ++ r ∷ [] → most ≡ room_of r.running → periods ≤ places_of r →
     HaveRoom most periods runners → HaveRoom most periods runners'
 room_more most periods runners runners' r is fits long have f x there =
     elim (get_append runners r f x (ap (λ xs. slice_get xs f) (sym is) ∙ there)) [
       | inl before ↦ have f x before
-      | inr same ↦ subst (λ x. (most ≤ room_of x.running) × (periods ≤ places_of x)) same (fits, long)
+      | inr same ↦ subst (λ x. (most ≡ room_of x.running) × (periods ≤ places_of x)) same (fits, long)
     ]

@@ -25,7 +25,7 @@ pub use Rattle.unit_rows.specs.Ends.{IsStarted, IsEntryAfter, IsLeastEnd, HasAtM
 pub use Rattle.unit_table.specs.declared.runner.Runner.{Runner}
 pub use Rattle.unit_rows.specs.declared.table.Ended.{Ended}
 pub use Rattle.unit_rows.specs.declared.table.Entry.{Entry}
-pub use Rattle.slope_list.specs.Slopes.{room_of}
+pub use Rattle.slope_list.specs.Slopes.{room_of, space_of}
 pub use Rattle.spell_way.specs.Entries.{IsOnFromTo, IsSameOutside}
 pub use Rattle.spell_run.specs.Notes.{passed_at, IsSpellNoted}
 pub use Rattle.spell_run.specs.Spells.{IsBestDispatch, IsFirstDispatch, over_min, IsDispatch, IsLeastSpell, spell_cost}

@@ -1,6 +1,6 @@
 -- The lemmas that answers cite, passed on from one place.
 pub use Rattle.unit_program.proofs.BackLaws.{written_none, written_first}
-pub use Rattle.unit_program.proofs.BenchLaws.{room_less, charge_less, bench_kept, room_more, way_found}
+pub use Rattle.unit_program.proofs.BenchLaws.{charge_less, bench_kept, room_more, way_found}
 pub use Rattle.unit_program.proofs.BestLaws.{best_of, least_of, cleared_idle, cleared_zero}
 pub use Rattle.unit_program.proofs.EndLaws.{IsLeastOf, one_more, least_end_of_all, earliest_of_all, no_end_of_all}
 pub use Rattle.unit_program.proofs.LimitLaws.{end_capped, end_earliest, end_low, if_none_more, none_feasible}

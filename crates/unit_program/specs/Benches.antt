@@ -1,7 +1,7 @@
 -- What a bench is made for, and what it holds once a unit's least end is found (this project's
 -- profile).
 use Rattle.std.specs.Prelude.{ℕ, ◌+◌, ◌*◌, ◌<◌, ◌≤◌, length}
-use Rattle.slope_list.specs.Slopes.{room_of}
+use Rattle.slope_list.specs.Slopes.{space_of}
 use Rattle.uc_model.specs.Data.{ThermalUnit, PriceLists}
 use Rattle.unit_program.specs.declared.bench.Bench.{Bench}
 use Rattle.unit_table.specs.Limits.{IsEndWithin}
@@ -14,7 +14,8 @@ use Rattle.unit_rows.specs.declared.table.Entry.{Entry}
 pub record IsBenchFor (periods points : ℕ) (b : Bench) : Type 0 where
   pub blocks : 2 * points ≤ length b.curve.blocks.items + b.curve.blocks.spare
   pub count : periods < length b.runners.items
-  pub room : HaveRoom (periods * (2 * points + 3)) periods b.runners.items
+  pub space : periods * (2 * points + 3) ≤ space_of b.spare
+  pub room : HaveRoom (space_of b.spare) periods b.runners.items
   pub rows : periods < length b.table.items
   pub origins : periods < length b.origins.list.items
   pub roster : periods < length b.roster.firsts.items

@@ -1,7 +1,6 @@
 //! What answers need, taken once: with a bench an answer takes no memory.
 ghost use Rattle.std.specs.Prelude.{◌≡◌, ℕ, ◌≤◌, ℤ, pos, neg_ℤ, ◌+ℤ◌, ◌≤ℤ◌, length, IfOk, IfSome};
 ghost use Rattle.std.specs.Prelude.{IfNone, Some};
-ghost use Rattle.slope_list.specs.Slopes.{room_of};
 ghost use Rattle.plain_lists.specs.Ranges.{IsFrom};
 ghost use Rattle.uc_model.specs.PlainUnits.{thermal_of, prices_of};
 ghost use Rattle.unit_program.specs.Benches.{IsBenchFor, HasWayFrom};
@@ -16,7 +15,7 @@ use crate::last::LastAnswers;
 use crate::way::write_noted;
 use cost_curve::curves::curve_into;
 use plain_lists::lists::{Numbers, ReservedList};
-use slope_list::Slopes;
+use slope_list::{Slopes, Spare};
 use std::alloc::{AllocError, Global};
 use uc_model::laws::earnings_are_within;
 use uc_model::units::{Answered, Blocks, Curve, Prices, Unit};
@@ -35,6 +34,8 @@ pub struct Bench {
     curve: Curve,
     // The spells that go forward together.
     runners: Vec<Runner>,
+    // Room for the next step of one of them.
+    spare: Spare,
     // The ends that the next start may follow.
     origins: Origins,
     // Which spells go forward.
@@ -52,6 +53,7 @@ impl Drop for Bench {
         let Bench {
             curve: _,
             runners: _,
+            spare: _,
             origins: _,
             roster: _,
             table: _,
@@ -110,6 +112,7 @@ fn fill_bench(bench: &mut Bench, unit: &Unit, prices: &Prices, most: i64)
         &mut bench.roster,
         bench.runners.as_mut_slice(),
         &mut bench.table,
+        &mut bench.spare,
     );
 }
 
@@ -174,6 +177,7 @@ impl Bench {
         let roster = Roster::make(alloc, periods)?;
         let blocks = Blocks::make(alloc, 2 * points)?;
         let kept = Kept::make(alloc, periods)?;
+        let spare = Spare::make(alloc, pieces as usize)?;
         // The runners come last, so that no early return has to drop them.
         let runners = make_runners(alloc, rows, pieces as usize)?;
         Ok(Bench {
@@ -183,6 +187,7 @@ impl Bench {
                 blocks,
             },
             runners,
+            spare,
             origins,
             roster,
             table,

@@ -6,7 +6,7 @@ pub use Rattle.unit_table.proofs.LiveLaws.{kept_then, kept_written, kept_roomy, 
 pub use Rattle.unit_table.proofs.LiveLaws.{begun_one, off_roomy, all_off, fewer_none, fewer_then, fewer_off}
 pub use Rattle.unit_table.proofs.LiveLaws.{fewer_small}
 pub use Rattle.unit_table.proofs.LiveLaws.{fewer_but, below_of, under_of, beyond_of, small_of}
-pub use Rattle.unit_table.proofs.LiveLaws.{going_off, on_same, room_more, room_next, have_room}
+pub use Rattle.unit_table.proofs.LiveLaws.{going_off, on_same, room_more, room_next, still_roomy}
 pub use Rattle.unit_table.proofs.NoteLaws.{passed_append, passed_here, passed_other}
 pub use Rattle.unit_table.proofs.OriginLaws.{origins_to, origins_within, entry_beyond}
 pub use Rattle.unit_table.proofs.PeriodLaws.{filled_whole, period_off, period_run, period_filled}

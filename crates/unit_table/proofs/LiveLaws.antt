@@ -200,8 +200,8 @@ module _ (old new : List Runner) (kept : AreKept old new) where
         ];
       }
 
-  pub kept_room : (most periods : ℕ) → HaveRoom most periods old → HaveRoom most periods new
-  kept_room most periods have f r is =
+  pub kept_room : (room periods : ℕ) → HaveRoom room periods old → HaveRoom room periods new
+  kept_room room periods have f r is =
       let k = kept.each f r is in
       let there = (have f k.0 k.1).0 in
       let places = (have f k.0 k.1).1 in
@@ -219,18 +219,22 @@ module _ (old new : List Runner) (kept : AreKept old new) where
   ] refl
 
 -- where none is on, the room of each is all its own
-pub off_roomy : (periods t charge : ℕ) (runners : List Runner) →
-    ((f : ℕ) → live_at runners f ≡ None) → HaveRoom (periods * charge) periods runners →
+pub off_roomy : (room periods t charge : ℕ) (runners : List Runner) →
+    ((f : ℕ) → live_at runners f ≡ None) → periods * charge ≤ room → HaveRoom room periods runners →
     AreRoomy periods t charge runners
-off_roomy periods t charge runners off have f r is = record {
-  whole = (have f r is).0;
+off_roomy room periods t charge runners off fits have f r is = record {
+  whole = (let same = (have f r is).0 in omega arith);
   places = (have f r is).1;
   rest = λ on. (let none = off f in let live = ap going_of is ∙ going_on r on in absurd (cc));
 }
 
-pub have_room : (periods t charge : ℕ) (runners : List Runner) →
-    AreRoomy periods t charge runners → HaveRoom (periods * charge) periods runners
-have_room periods t charge runners roomy f r is = ((roomy f r is).whole, (roomy f r is).places)
+pub still_roomy : (periods t u charge : ℕ) (runners : List Runner) →
+    ((f : ℕ) → live_at runners f ≡ None) → AreRoomy periods t charge runners → AreRoomy periods u charge runners
+still_roomy periods t u charge runners off roomy f r is = record {
+  whole = (roomy f r is).whole;
+  places = (roomy f r is).places;
+  rest = λ on. (let none = off f in let live = ap going_of is ∙ going_on r on in absurd (cc));
+}
 
 -- ---- fewer on
 

@@ -30,7 +30,7 @@ module _ (g : ThermalUnit) (π : PriceLists) (t charge : ℕ) where
           IsEndLeft g π (first_at rows (suc t)) t
           (since (first_at rows (suc t)) (left_at runners (first_at rows (suc t))) t)
       pub left : (f k : ℕ) → k ≢ t - (f - 1) → left_at runners f k ≡ left_at runners₀ f k
-      pub keeps : (most periods : ℕ) → HaveRoom most periods runners₀ → HaveRoom most periods runners
+      pub keeps : (room periods : ℕ) → HaveRoom room periods runners₀ → HaveRoom room periods runners
       pub count_same : length runners ≡ length runners₀
 
     pub run_begins : AreWithin rows₀ → cost_at rows₀ (suc t) ≡ None → IsRunTo 0 rows₀ runners₀
@@ -46,7 +46,7 @@ module _ (g : ThermalUnit) (π : PriceLists) (t charge : ℕ) where
       roomy = λ f r low is. absurd (omega arith);
       ends = λ v is. cc;
       left = λ f k other. refl;
-      keeps = λ most periods have. have;
+      keeps = λ room periods have. have;
       count_same = refl;
     }
 
@@ -102,7 +102,7 @@ module _ (g : ThermalUnit) (π : PriceLists) (t charge : ℕ) where
                 sym (ap (λ (f : ℕ). left_at runners f k) z) ∙ so_far.left f k other
             | inr apart ↦ ap (λ o. left_of o k) (one.rest f apart) ∙ so_far.left f k other
           ];
-          keeps = λ most periods have. one.keeps most periods (so_far.keeps most periods have);
+          keeps = λ room periods have. one.keeps room periods (so_far.keeps room periods have);
           count_same = one.count_same ∙ so_far.count_same;
         })
 
@@ -179,9 +179,9 @@ module _ (g : ThermalUnit) (π : PriceLists) (t charge : ℕ) (rows rows' : List
             | inr named ↦ inr (named.0, rw (same_left (t - (i - 1))) named.1)
           ];
           left = λ k other. same_left k ∙ left k other ∙ sym (ap (λ o. left_of o k) at);
-          keeps = λ most periods have.
+          keeps = λ room periods have.
               each_written runners (slice_set runners i b) i b (slice_get_within runners i old at) refl
-              (λ r. (most ≤ room_of r.running) × (periods ≤ places_of r))
+              (λ r. (room ≡ room_of r.running) × (periods ≤ places_of r))
               (let there = (have i old at).0 in
               let long = (have i old at).1 in
               (omega arith, omega arith)) have;
@@ -212,6 +212,6 @@ module _ (g : ThermalUnit) (π : PriceLists) (t charge : ℕ) (rows rows' : List
         });
     ends = inl refl;
     left = λ k other. refl;
-    keeps = λ most periods have. have;
+    keeps = λ room periods have. have;
     count_same = refl;
   }

@@ -75,10 +75,10 @@ abbrev pub IsBelow : Table → ℤ → Table → ℤ → Type 0
 IsBelow f e f' e' =
     (x v : ℤ) → value_of f' x ≡ Some v → (u : ℤ) × (value_of f x ≡ Some u) × ((e +ℤ u) ≤ℤ (e' +ℤ v))
 
--- each runner has room for so many pieces and periods
+-- each runner has room for just so many pieces, and for so many periods
 abbrev pub HaveRoom : ℕ → ℕ → List Runner → Type 0
-HaveRoom most periods runners =
-    (first : ℕ) (r : Runner) → slice_get runners first ≡ Some r → (most ≤ room_of r.running)
+HaveRoom room periods runners =
+    (first : ℕ) (r : Runner) → slice_get runners first ≡ Some r → (room ≡ room_of r.running)
     × (periods ≤ places_of r)
 
 -- the rows up to period t are those of the table, and each run has a runner that stands for it

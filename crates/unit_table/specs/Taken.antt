@@ -70,8 +70,8 @@ pub record IsOneRun (g : ThermalUnit)
   pub ends : (row_at rows' (suc t) ≡ row_at rows (suc t))
       ⊎ ((first_at rows' (suc t) ≡ n) × IsEndLeft g π n t (since n (left_at runners' n) t))
   pub left : (k : ℕ) → k ≢ t - (n - 1) → left_at runners' n k ≡ left_at runners n k
-  pub keeps : (most periods : ℕ) → HaveRoom most periods runners →
-      HaveRoom most periods runners'
+  pub keeps : (room periods : ℕ) → HaveRoom room periods runners →
+      HaveRoom room periods runners'
   pub count_same : length runners' ≡ length runners
 
 -- all runners have gone over period suc t: its row is theirs, no other row is changed, and what
@@ -91,8 +91,8 @@ pub record IsRunOver (g : ThermalUnit)
       (since (first_at rows' (suc t)) (left_at runners' (first_at rows' (suc t))) t)
   pub left : (f k : ℕ) → k ≢ t - (f - 1) → left_at runners' f k ≡ left_at runners f k
   pub roomy : AreRoomy (length π.energy) (suc t) charge runners'
-  pub keeps : (most periods : ℕ) → HaveRoom most periods runners →
-      HaveRoom most periods runners'
+  pub keeps : (room periods : ℕ) → HaveRoom room periods runners →
+      HaveRoom room periods runners'
   pub count_same : length runners' ≡ length runners
 
 -- the table is filled up to period t, the runners go on from there, and the way back is left
@@ -118,5 +118,5 @@ pub record AreAsLong (rows rows' : List (Option Ended))
   pub rows_length : length rows' ≡ length rows
   pub count_same : length runners' ≡ length runners
   pub firsts_same : length roster'.firsts.items ≡ length roster.firsts.items
-  pub keeps : (most periods : ℕ) → HaveRoom most periods runners →
-      HaveRoom most periods runners'
+  pub keeps : (room periods : ℕ) → HaveRoom room periods runners →
+      HaveRoom room periods runners'

@@ -13,5 +13,5 @@ pub mod roster;
 pub mod runner;
 
 pub use periods::fill_by_periods;
-pub use question::Question;
+pub use question::{Period, Question};
 pub use runner::Runner;

@@ -6,6 +6,7 @@
 //! for less than it costs. Nor does one go on, or start, that costs more than a limit, since it
 //! can't come within the amount that the limits are for.
 ghost use Rattle.std.specs.Prelude.{◌≡◌, ◌≢◌, ℕ, suc, ◌+◌, ◌*◌, ◌<◌, ◌≤◌, ℤ, Option, None, length};
+ghost use Rattle.slope_list.specs.Slopes.{space_of};
 ghost use Rattle.uc_model.specs.Data.{PriceLists};
 ghost use Rattle.uc_model.specs.PlainUnits.{thermal_of};
 ghost use Rattle.uc_model.specs.declared.limits.TheConstants.{MOST_PERIODS};
@@ -22,11 +23,12 @@ ghost use Rattle.unit_rows.specs.Rows.{row_at, cost_at, first_at, IsWithinTimes}
 ghost use Rattle.unit_table.specs.Runners.{AreRunners, HaveWays};
 ghost use Rattle.unit_rows.specs.Ends.{IsLeastEntry};
 
-use crate::question::Question;
+use crate::question::{Period, Question};
 use crate::roster::Roster;
 use crate::runner::{
     Runner, begin_at, drop_beyond, is_less, is_undercut, prune, run_all, stop_all,
 };
+use slope_list::Spare;
 use spell_run::laws::{dispatches_are_runs, dispatches_go_on, runs_go_on};
 use uc_model::laws::start_costs_are_within;
 use uc_model::units::Unit;
@@ -110,31 +112,36 @@ fn start(
 
 // Fills the row of the period at a place.
 fn take_period(
-    question: &Question,
-    place: u32,
+    period: &Period,
     origins: &Origins,
     roster: &mut Roster,
     runners: &mut [Runner],
     table: &mut Table,
+    spare: &mut Spare,
 )
-    requires place { place < periods_in question.now }
-    requires long { AreLonger (periods_in question.now) table.old.items runners.old roster.old
+    requires long { AreLonger (periods_in period.now.question.now) table.old.items runners.old roster.old
         origins.now }
+    requires have { HaveRoom (space_of spare.old) (periods_in period.now.question.now) runners.old }
     requires limits { (most : ℤ)
-        × AreLimits (unit_of question.now) (prices_in question.now) most
-        (limits_in question.now) }
-    requires now { IsSweptTo (unit_of question.now) (prices_in question.now)
-        (limits_in question.now) place (charge_of question.now) table.old.items runners.old
+        × AreLimits (unit_of period.now.question.now) (prices_in period.now.question.now) most
+        (limits_in period.now.question.now) }
+    requires now { IsSweptTo (unit_of period.now.question.now) (prices_in period.now.question.now)
+        (limits_in period.now.question.now) period.now.place (charge_of period.now.question.now)
+        table.old.items runners.old
         roster.old }
-    requires origins { AreOrigins (unit_of question.now) (cost_at table.old.items)
-        place origins.now }
-    ensures now { IsSweptTo (unit_of question.now) (prices_in question.now)
-        (limits_in question.now) (suc place) (charge_of question.now) table.new.items runners.new
+    requires origins { AreOrigins (unit_of period.now.question.now) (cost_at table.old.items)
+        period.now.place origins.now }
+    ensures now { IsSweptTo (unit_of period.now.question.now) (prices_in period.now.question.now)
+        (limits_in period.now.question.now) (suc period.now.place) (charge_of period.now.question.now)
+        table.new.items runners.new
         roster.new }
-    ensures others { (l : ℕ) → l ≢ suc place → row_at table.new.items l ≡ row_at table.old.items l }
+    ensures others { (l : ℕ) → l ≢ suc period.now.place → row_at table.new.items l ≡ row_at table.old.items l }
+    ensures spare { space_of spare.new ≡ space_of spare.old }
     ensures same { AreAsLong table.old.items table.new.items runners.old runners.new
         roster.old roster.new }
 {
+    let question = period.question;
+    let place = period.place;
     if is_must_off(question.unit, place) {
         stop_all(runners);
         roster.clear();
@@ -145,7 +152,7 @@ fn take_period(
     dispatches_are_runs();
     let limit = *question.limits.get(place as usize);
     start(question.unit, place, limit, origins, roster, runners);
-    run_all(question, place, roster, runners, table);
+    run_all(period, roster, runners, table, spare);
     drop_beyond(
         place + 1,
         *question.limits.get(place as usize + 1),
@@ -182,8 +189,8 @@ fn begin_all(unit: &Unit, roster: &mut Roster, runners: &mut [Runner], table: &m
     ensures filled { (π : PriceLists) (limits : ℕ → ℤ) → 1 ≤ length π.energy
         → IsFilledTo (thermal_of unit.now) π limits 0 table.new.items
         (live_at runners.new) }
-    ensures room { (periods charge : ℕ) → HaveRoom (periods * charge) periods runners.old
-        → AreRoomy periods 0 charge runners.new }
+    ensures room { (room periods charge : ℕ) → periods * charge ≤ room
+        → HaveRoom room periods runners.old → AreRoomy periods 0 charge runners.new }
     ensures roster { IsRoster (live_at runners.new) 1 roster.new }
     ensures same { AreAsLong table.old.items table.new.items runners.old runners.new
         roster.old roster.new }
@@ -195,21 +202,22 @@ fn begin_all(unit: &Unit, roster: &mut Roster, runners: &mut [Runner], table: &m
 }
 
 /// Fills the table for a question over T periods, as far as its rows are within the limits of some
-/// amount; the other rows are open. There are at least T + 1 runners, each with room for T (B + 3)
-/// pieces, where the curve has B blocks, and for T periods; `origins` and `roster` have room for T
-/// periods, and `table` has at least T + 1 rows. Leaves with the runners what the way back from
-/// each row needs. Takes no memory.
+/// amount; the other rows are open. There are at least T + 1 runners, each with room for T periods,
+/// and, as `spare`, for T (B + 3) pieces, where the curve has B blocks; `origins` and `roster` have
+/// room for T periods, and `table` has at least T + 1 rows. Leaves with the runners what the way
+/// back from each row needs. Takes no memory.
 pub fn fill_by_periods(
     question: &Question,
     origins: &mut Origins,
     roster: &mut Roster,
     runners: &mut [Runner],
     table: &mut Table,
+    spare: &mut Spare,
 )
     requires long { AreLonger (periods_in question.now) table.old.items runners.old roster.old
         origins.old }
-    requires room { HaveRoom (periods_in question.now * charge_of question.now)
-        (periods_in question.now) runners.old }
+    requires room { periods_in question.now * charge_of question.now ≤ space_of spare.old }
+    requires have { HaveRoom (space_of spare.old) (periods_in question.now) runners.old }
     requires limits { (most : ℤ)
         × AreLimits (unit_of question.now) (prices_in question.now) most
         (limits_in question.now) }
@@ -219,6 +227,7 @@ pub fn fill_by_periods(
     ensures ways { HaveWays (unit_of question.now) (prices_in question.now)
         (periods_in question.now) (cost_at table.new.items) (first_at table.new.items)
         (left_at runners.new) }
+    ensures spare { space_of spare.new ≡ space_of spare.old }
     ensures same { AreAsLong table.old.items table.new.items runners.old runners.new
         roster.old roster.new }
     ensures list { length origins.new.list.items ≡ length origins.old.list.items }
@@ -229,7 +238,11 @@ pub fn fill_by_periods(
     origins.begin(unit, table.as_slice());
     let periods = question.prices.energy.len() as u32;
     for place in 0..periods {
-        take_period(question, place, origins, roster, runners, table);
+        let period = Period {
+            question: &*question,
+            place,
+        };
+        take_period(&period, origins, roster, runners, table, spare);
         origins.go_on(unit, place, table.as_slice());
     }
 }

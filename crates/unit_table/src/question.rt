@@ -20,3 +20,11 @@ pub struct Question<'a> {
     ghost is_curve: { IsCostCurve (thermal_of unit.now).points curve.now } by { Prim.hlevel props },
     ghost each: { length (prices_of prices.now).energy < length limits.now.items },
 }
+
+/// A period of a question's horizon.
+#[derive(Clone, Copy)]
+pub struct Period<'a> {
+    pub question: &'a Question<'a>,
+    pub place: u32,
+    ghost inside: { place < length (prices_of question.now.prices.now).energy },
+}

@@ -5,7 +5,7 @@ ghost use Rattle.std.specs.Prelude.{None, Option, slice_get};
 ghost use Rattle.std.specs.Bool.{OnTrue};
 ghost use Rattle.cost_curve.specs.CostCurve.{IsCostCurve};
 ghost use Rattle.shape_law.specs.Table.{Table, value_of, IsEmpty};
-ghost use Rattle.slope_list.specs.Slopes.{shown, count_of, room_of};
+ghost use Rattle.slope_list.specs.Slopes.{shown, count_of, room_of, space_of, MayGrow, IsGrown};
 ghost use Rattle.spell_run.specs.Frontier.{IsFrontier};
 ghost use Rattle.spell_run.specs.Notes.{IsOnNoted, IsEndNoted, passed_at, end_cost};
 ghost use Rattle.spell_run.specs.Spells.{IsSpellAnswer, IsSpellWithin};
@@ -27,11 +27,11 @@ ghost use Rattle.unit_table.specs.Taken.{AreFewer, AreKept, IsReady, IsRowMore, 
 ghost use Rattle.unit_table.specs.Taken.{IsRunOver};
 
 use crate::notes::leave_at;
-use crate::question::Question;
+use crate::question::Period;
 use crate::roster::Roster;
 use plain_lists::lists::ReservedList;
-use slope_list::{Lowest, Slopes};
-use spell_run::{Passed, begin, end_and_run, run_over};
+use slope_list::{Lowest, Slopes, Spare};
+use spell_run::{Passage, Passed, begin, end_and_run, run_over};
 use uc_model::units::Unit;
 use unit_rows::commitment::{is_long_enough, may_end};
 use unit_rows::table::{Entry, Table, put_end, sum_of};
@@ -220,36 +220,48 @@ pub fn is_undercut(runners: &[Runner], roster: &Roster, power: i64, cost: i64) -
 
 // Takes a runner over the period at a place, and answers what is left for the way back, with the
 // least net cost of the spells that end with the period, where the unit may stop after it.
-fn run_one(question: &Question, first: u32, place: u32, running: &mut Slopes) -> Passed
-    requires place { place < periods_in question.now }
-    requires order { first ≤ suc place }
-    requires frontier { IsFrontier (unit_of question.now) (prices_in question.now) first place
+fn run_one(period: &Period, first: u32, running: &mut Slopes, spare: &mut Spare) -> Passed
+    requires order { first ≤ suc period.now.place }
+    requires frontier { IsFrontier (unit_of period.now.question.now) (prices_in period.now.question.now)
+        first period.now.place
         (shown running.old) }
-    requires room { count_of running.old + charge_of question.now ≤ room_of running.old }
-    ensures answer { (suc place < periods_in question.now
-        → (unit_of question.now).min_up ≤ on_time (unit_of question.now) first (suc place)) →
-        IsSpellAnswer (unit_of question.now) (prices_in question.now) (periods_in question.now)
+    requires room { MayGrow (charge_of period.now.question.now) running.old spare.old }
+    ensures answer { (suc period.now.place < periods_in period.now.question.now
+        → (unit_of period.now.question.now).min_up ≤ on_time (unit_of period.now.question.now) first
+        (suc period.now.place)) →
+        IsSpellAnswer (unit_of period.now.question.now) (prices_in period.now.question.now) (periods_in
+        period.now.question.now)
         first
-        (suc place) (end_cost result.end) }
-    ensures may { IfSome result.end (λ _. suc place < periods_in question.now
-        → (unit_of question.now).min_up ≤ on_time (unit_of question.now) first (suc place)) }
-    ensures within { IfSome result.end (λ e. IsSpellWithin first (suc place) e.value) }
+        (suc period.now.place) (end_cost result.end) }
+    ensures may { IfSome result.end (λ _. suc period.now.place < periods_in period.now.question.now
+        → (unit_of period.now.question.now).min_up ≤ on_time (unit_of period.now.question.now) first
+        (suc period.now.place)) }
+    ensures within { IfSome result.end (λ e. IsSpellWithin first (suc period.now.place) e.value) }
     ensures ended { IfSome result.end
-        (IsEndNoted (unit_of question.now) (prices_in question.now) first place result.note) }
+        (IsEndNoted (unit_of period.now.question.now) (prices_in period.now.question.now) first
+        period.now.place result.note) }
     ensures noted { (x v : ℤ) → value_of (shown running.old) x ≡ Some v
-        → IsOnNoted (unit_of question.now) (prices_in question.now) first place result.note }
-    ensures frontier { IsFrontier (unit_of question.now) (prices_in question.now) first (suc place)
+        → IsOnNoted (unit_of period.now.question.now) (prices_in period.now.question.now) first
+        period.now.place result.note }
+    ensures frontier { IsFrontier (unit_of period.now.question.now) (prices_in period.now.question.now)
+        first (suc period.now.place)
         (shown running.new) }
-    ensures count { count_of running.new ≤ count_of running.old + charge_of question.now }
-    ensures room { room_of running.new ≡ room_of running.old }
+    ensures grown { IsGrown (charge_of period.now.question.now) running.old running.new spare.old
+        spare.new }
 {
+    let question = period.question;
+    let place = period.place;
     let unit = question.unit;
     let curve = question.curve;
     let prices = question.prices;
+    let passage = Passage {
+        first,
+        place: place as usize,
+    };
     if may_end(unit, prices.energy.len() as u32, first, place + 1) {
-        end_and_run(unit, curve, prices, first, place as usize, running)
+        end_and_run(unit, curve, prices, passage, running, spare)
     } else {
-        let note = run_over(unit, curve, prices, first, place as usize, running);
+        let note = run_over(unit, curve, prices, passage, running, spare);
         Passed { note, end: None }
     }
 }
@@ -280,90 +292,104 @@ fn retire(runner: &mut Runner)
 
 // Takes a runner that is on over the period at a place, and puts the spells that end with it into
 // the table.
-fn take_runner(question: &Question, first: u32, place: u32, runner: &mut Runner, table: &mut Table)
-    requires place { place < periods_in question.now }
+fn take_runner(
+    period: &Period,
+    first: u32,
+    runner: &mut Runner,
+    table: &mut Table,
+    spare: &mut Spare,
+)
     requires on { runner.old.is_on ≡ true }
-    requires ready { IsReady (unit_of question.now) (prices_in question.now) place first
+    requires ready { IsReady (unit_of period.now.question.now) (prices_in period.now.question.now)
+        period.now.place first
         (state_of runner.old) }
-    requires room { IsRoomy (periods_in question.now) place
-        (charge_of question.now)
+    requires room { IsRoomy (periods_in period.now.question.now) period.now.place
+        (charge_of period.now.question.now)
         runner.old }
-    requires rows { periods_in question.now < length table.old.items }
+    requires alike { space_of spare.old ≡ room_of runner.old.running }
+    requires rows { periods_in period.now.question.now < length table.old.items }
     requires within { AreWithin table.old.items }
-    ensures more { IsRowMore (unit_of question.now) (prices_in question.now) place first
+    ensures more { IsRowMore (unit_of period.now.question.now) (prices_in period.now.question.now)
+        period.now.place first
         (going_of (Some runner.old)) table.old.items table.new.items }
     ensures goes { (r : Going) → going_of (Some runner.old) ≡ Some r
-        → IsGoneOn (unit_of question.now) (prices_in question.now) place first r
+        → IsGoneOn (unit_of period.now.question.now) (prices_in period.now.question.now) period.now.place first r
         (going_of (Some runner.new)) }
-    ensures ends { (row_at table.new.items (suc place) ≡ row_at table.old.items (suc place)) ⊎
-        ((first_at table.new.items (suc place) ≡ first)
-        × IsEndLeft (unit_of question.now) (prices_in question.now) first place
-        (since first (passed_at runner.new.passed.items) place)) }
-    ensures left { (k : ℕ) → k ≢ place - (first - 1) → passed_at runner.new.passed.items k
+    ensures ends { (row_at table.new.items (suc period.now.place) ≡ row_at table.old.items (suc
+        period.now.place)) ⊎
+        ((first_at table.new.items (suc period.now.place) ≡ first)
+        × IsEndLeft (unit_of period.now.question.now) (prices_in period.now.question.now) first period.now.place
+        (since first (passed_at runner.new.passed.items) period.now.place)) }
+    ensures left { (k : ℕ) → k ≢ period.now.place - (first - 1) → passed_at runner.new.passed.items k
         ≡ passed_at runner.old.passed.items k }
-    ensures room { IsRoomy (periods_in question.now) (suc place)
-        (charge_of question.now)
+    ensures room { IsRoomy (periods_in period.now.question.now) (suc period.now.place)
+        (charge_of period.now.question.now)
         runner.new }
     ensures same { (room_of runner.new.running ≡ room_of runner.old.running)
         × (places_of runner.new ≡ places_of runner.old) }
+    ensures spare { space_of spare.new ≡ space_of spare.old }
 {
     let entry = Entry {
         cost: runner.cost,
         last: runner.before,
     };
-    let passed = run_one(question, first, place, &mut runner.running);
+    let passed = run_one(period, first, &mut runner.running, spare);
+    let place = period.place;
     leave_at(&mut runner.passed, place - first.saturating_sub(1), passed);
     put_end(table, place + 1, first, &entry, cost_of(passed.end));
     retire(runner);
 }
 
 // Takes the runner that begins with a period over the period at a place, if it is on.
-fn run_at(question: &Question, place: u32, first: u32, runners: &mut [Runner], table: &mut Table)
-    requires place { place < periods_in question.now }
+fn run_at(period: &Period, first: u32, runners: &mut [Runner], table: &mut Table, spare: &mut Spare)
     requires runners { first < length runners.old }
     requires ready { (r : Going) → live_at runners.old first ≡ Some r
-        → IsReady (unit_of question.now) (prices_in question.now) place first r }
+        → IsReady (unit_of period.now.question.now) (prices_in period.now.question.now) period.now.place first r }
     requires room { (r : Runner) → slice_get runners.old first ≡ Some r
-        → IsRoomy (periods_in question.now) place (charge_of question.now) r }
-    requires rows { periods_in question.now < length table.old.items }
+        → IsRoomy (periods_in period.now.question.now) period.now.place (charge_of period.now.question.now) r }
+    requires alike { (r : Runner) → slice_get runners.old first ≡ Some r
+        → space_of spare.old ≡ room_of r.running }
+    requires rows { periods_in period.now.question.now < length table.old.items }
     requires within { AreWithin table.old.items }
-    ensures { IsOneRun (unit_of question.now) (prices_in question.now) place
-        (charge_of question.now) first table.old.items table.new.items runners.old runners.new }
+    ensures run { IsOneRun (unit_of period.now.question.now) (prices_in period.now.question.now) period.now.place
+        (charge_of period.now.question.now) first table.old.items table.new.items runners.old runners.new }
+    ensures spare { space_of spare.new ≡ space_of spare.old }
 {
     if runner_at(runners, first).is_on {
-        take_runner(question, first, place, &mut runners[first as usize], table);
+        take_runner(period, first, &mut runners[first as usize], table, spare);
     }
 }
 
 /// Takes all runners that begin up to the period at a place over it, and fills its row. The roster
 /// has all that are on.
 pub fn run_all(
-    question: &Question,
-    place: u32,
+    period: &Period,
     roster: &Roster,
     runners: &mut [Runner],
     table: &mut Table,
+    spare: &mut Spare,
 )
-    requires place { place < periods_in question.now }
-    requires open { mark_in (unit_of question.now).window (suc place) ≡ MustOff → ⊥ }
-    requires runners { periods_in question.now < length runners.old }
+    requires open { mark_in (unit_of period.now.question.now).window (suc period.now.place) ≡ MustOff → ⊥ }
+    requires runners { periods_in period.now.question.now < length runners.old }
     requires now { (limits : ℕ → ℤ)
-        × AreRunners (unit_of question.now) (prices_in question.now) limits
+        × AreRunners (unit_of period.now.question.now) (prices_in period.now.question.now) limits
         (cost_at table.old.items)
-        (live_at runners.old) place (suc (suc place)) }
-    requires roster { IsRoster (live_at runners.old) (suc (suc place)) roster.now }
-    requires room { AreRoomy (periods_in question.now) place
-        (charge_of question.now)
+        (live_at runners.old) period.now.place (suc (suc period.now.place)) }
+    requires roster { IsRoster (live_at runners.old) (suc (suc period.now.place)) roster.now }
+    requires room { AreRoomy (periods_in period.now.question.now) period.now.place
+        (charge_of period.now.question.now)
         runners.old }
-    requires rows { periods_in question.now < length table.old.items }
+    requires have { HaveRoom (space_of spare.old) (periods_in period.now.question.now) runners.old }
+    requires rows { periods_in period.now.question.now < length table.old.items }
     requires within { AreWithin table.old.items }
-    requires none { cost_at table.old.items (suc place) ≡ None }
-    ensures { IsRunOver (unit_of question.now) (prices_in question.now) place
-        (charge_of question.now) table.old.items table.new.items runners.old runners.new }
+    requires none { cost_at table.old.items (suc period.now.place) ≡ None }
+    ensures run { IsRunOver (unit_of period.now.question.now) (prices_in period.now.question.now) period.now.place
+        (charge_of period.now.question.now) table.old.items table.new.items runners.old runners.new }
+    ensures spare { space_of spare.new ≡ space_of spare.old }
 {
     for index in 0..roster.count {
         let first = *roster.firsts.get(index as usize);
-        run_at(question, place, first, runners, table);
+        run_at(period, first, runners, table, spare);
     }
 }
 

@@ -1,6 +1,6 @@
 use Rattle.slope_list.specs.Slopes.{shown}
 use Rattle.spell_run.proofs.Common
-use Common.{rules, ◌≡◌, ◌⊎◌, pos, false, suc, true, eqb, ◌<◌, length, sym, arith, w64, FitsSigned, MatchOption}
+use Common.{rules, ◌≡◌, ◌⊎◌, pos, false, suc, true, eqb, ◌<◌, length, sym, ◌∙◌, arith, w64, FitsSigned, MatchOption}
 use Common.{lt-ltb, to_z-of_z, IsLeastIn, HasNone, IsTurn, thermal_of, prices_of, int_at, end_cost, cap_at, step_at}
 use Rattle.spell_run.proofs.EndLaws.{end_least, end_least_in, end_least_after, end_within, ended_last, ended_alike}
 use Rattle.spell_run.proofs.EndLaws.{ended_beside}
@@ -10,8 +10,9 @@ use Rattle.spell_run.proofs.running.end_and_run.Goals as goal
 use Rattle.spell_run.proofs.running.end_and_run.Goals.{After-lowest_at-end, After-lowest_at-end-then-is_alike}
 use Rattle.spell_run.proofs.running.end_and_run.Goals.{After-run_over-note-2}
 
-at_end : (c : After-lowest_at-end) → IsAnswer (thermal_of c.args.unit.now) (prices_of c.args.prices.now) c.args.first
-    c.args.place (end_cost c.lowest_at-end.result)
+at_end : (c : After-lowest_at-end) →
+    IsAnswer (thermal_of c.args.unit.now) (prices_of c.args.prices.now) c.args.passage.first
+    c.args.passage.place (end_cost c.lowest_at-end.result)
 at_end c =
     answer_at_end c.args.unit.now.valid c.args.prices.now.valid c.requires.curve c.envelope_is_cost.ensures
     c.requires.place c.requires.order c.run_over-note.ensures.frontier (omega arith) (end_cost c.lowest_at-end.result)
@@ -22,7 +23,8 @@ pub returns-then-place-len-clause-answer : goal.returns-then-place-len-clause-an
 returns-then-place-len-clause-answer c = (at_end (goal.at.returns-then-place-len-clause-answer c).After-lowest_at-end).0
 
 pub returns-then-place-len-clause-within : goal.returns-then-place-len-clause-within
-returns-then-place-len-clause-within c = end_within c.args.first (suc c.args.place) c.lowest_at-end.result
+returns-then-place-len-clause-within c =
+    end_within c.args.passage.first (suc c.args.passage.place) c.lowest_at-end.result
     (at_end (goal.at.returns-then-place-len-clause-within c).After-lowest_at-end).1
 
 pub returns-then-place-len-clause-ended : goal.returns-then-place-len-clause-ended
@@ -34,26 +36,28 @@ returns-then-place-len-clause-ended c =
 
 -- a stop changes nothing but the range of the power
 alike : (c : After-lowest_at-end-then-is_alike) →
-    (int_at (prices_of c.args.prices.now).reserve c.args.place ≡ pos 0)
-    ⊎ (cap_at (thermal_of c.args.unit.now) (eqb c.args.first (suc c.args.place)) true ≡ cap_at
-    (thermal_of c.args.unit.now) (eqb c.args.first (suc c.args.place)) false)
+    (int_at (prices_of c.args.prices.now).reserve c.args.passage.place ≡ pos 0)
+    ⊎ (cap_at (thermal_of c.args.unit.now) (eqb c.args.passage.first (suc c.args.passage.place)) true ≡ cap_at
+    (thermal_of c.args.unit.now) (eqb c.args.passage.first (suc c.args.passage.place)) false)
 alike c =
-    alike_of (thermal_of c.args.unit.now) (prices_of c.args.prices.now) c.args.place c.step_of-last.ensures.step
+    alike_of (thermal_of c.args.unit.now) (prices_of c.args.prices.now) c.args.passage.place c.step_of-last.ensures.step
     c.starts_in-starts.ensures c.step_of-on.ensures.step c.if-is_alike.ensures
 
 least : (c : After-lowest_at-end-then-is_alike) → let h = shown c.run_over-note-then-is_alike.new.running in
     let low = (thermal_of c.args.unit.now).min_power in
-    let high = (step_at (thermal_of c.args.unit.now) (prices_of c.args.prices.now) c.args.place
-    (eqb c.args.first (suc c.args.place)) true).most in
+    let high = (step_at (thermal_of c.args.unit.now) (prices_of c.args.prices.now) c.args.passage.place
+    (eqb c.args.passage.first (suc c.args.passage.place)) true).most in
     MatchOption c.least_in.result (HasNone low high h) (λ r. IsLeastIn low high h r.value r.at)
 least c =
     let h = shown c.run_over-note-then-is_alike.new.running in
-    range_moved (thermal_of c.args.unit.now) (prices_of c.args.prices.now) c.args.place c.step_of-last.ensures.step
+    range_moved (thermal_of c.args.unit.now) (prices_of c.args.prices.now) c.args.passage.place
+    c.step_of-last.ensures.step
     c.starts_in-starts.ensures c.step_of-last.ensures.fair
     (λ lo hi. MatchOption c.least_in.result (HasNone lo hi h) (λ r. IsLeastIn lo hi h r.value r.at)) c.least_in.ensures
 
 at_range : (c : After-lowest_at-end-then-is_alike) → IsAnswer (thermal_of c.args.unit.now)
-    (prices_of c.args.prices.now) c.args.first c.args.place (end_cost c.lowest_at-end-then-is_alike.result)
+    (prices_of c.args.prices.now) c.args.passage.first c.args.passage.place
+    (end_cost c.lowest_at-end-then-is_alike.result)
 at_range c =
     answer_alike c.args.unit.now.valid c.args.prices.now.valid c.requires.curve c.envelope_is_cost.ensures
     c.requires.place c.requires.order c.run_over-note-then-is_alike.ensures.frontier (omega arith) (alike c)
@@ -67,13 +71,14 @@ returns-then-is_alike-clause-answer c =
     (at_range (goal.at.returns-then-is_alike-clause-answer c).After-lowest_at-end-then-is_alike).0
 
 pub returns-then-is_alike-clause-within : goal.returns-then-is_alike-clause-within
-returns-then-is_alike-clause-within c = end_within c.args.first (suc c.args.place) c.lowest_at-end-then-is_alike.result
+returns-then-is_alike-clause-within c =
+    end_within c.args.passage.first (suc c.args.passage.place) c.lowest_at-end-then-is_alike.result
     (at_range (goal.at.returns-then-is_alike-clause-within c).After-lowest_at-end-then-is_alike).1
 
 pub returns-then-is_alike-clause-ended : goal.returns-then-is_alike-clause-ended
 returns-then-is_alike-clause-ended c =
     let at = (goal.at.returns-then-is_alike-clause-ended c).After-lowest_at-end-then-is_alike in
-    let price = (c.args.prices.now.valid.reserve c.args.place (pos 0) (omega arith)).at_least in
+    let price = (c.args.prices.now.valid.reserve c.args.passage.place (pos 0) (omega arith)).at_least in
     let fits : FitsSigned w64 c.run_over-note-then-is_alike.result.turn = search rules in
     ended_alike c.requires.frontier c.run_over-note-then-is_alike.ensures.frontier
     c.run_over-note-then-is_alike.ensures.noted (omega arith) c.args.unit.now.valid price (alike at) c.least_in.result _
@@ -88,17 +93,19 @@ least_beside-end-requires-clause-curve c =
 pub least_beside-end-requires-clause-small : goal.least_beside-end-requires-clause-small
 least_beside-end-requires-clause-small c = small_frontier (omega arith) c.requires.frontier
 
-pub run_over-note-requires-2-clause-frontier : goal.run_over-note-requires-2-clause-frontier
-run_over-note-requires-2-clause-frontier c = rw c.least_beside-end.ensures.shown c.requires.frontier
+pub run_over-note-requires-2-clause-room : goal.run_over-note-requires-2-clause-room
+run_over-note-requires-2-clause-room c =
+    record { fits = c.requires.room.fits; alike = c.least_beside-end.ensures.spare ∙ c.requires.room.alike }
 
-by_step : (c : After-run_over-note-2) → IsAnswer (thermal_of c.args.unit.now) (prices_of c.args.prices.now) c.args.first
-    c.args.place (end_cost c.least_beside-end.result)
+by_step : (c : After-run_over-note-2) →
+    IsAnswer (thermal_of c.args.unit.now) (prices_of c.args.prices.now) c.args.passage.first
+    c.args.passage.place (end_cost c.least_beside-end.result)
 by_step c =
-    let before : suc c.args.place < length c.args.prices.now.energy.items = omega arith in
+    let before : suc c.args.passage.place < length c.args.prices.now.energy.items = omega arith in
     let found = c.least_beside-end.ensures.least in
     answer_of_step c.args.unit.now.valid c.args.prices.now.valid c.requires.curve c.envelope_is_cost.ensures
     c.requires.place c.requires.order c.requires.frontier
-    (sym (lt-ltb (suc c.args.place) (length c.args.prices.now.energy.items) before))
+    (sym (lt-ltb (suc c.args.passage.place) (length c.args.prices.now.energy.items) before))
     (rw (c.step_of-last.ensures.step, c.starts_in-starts.ensures) at found.1) (end_cost c.least_beside-end.result)
     (end_least_after found.0 (λ r. IsTurn c.step_of-last.result (shown c.args.running.now) r.turn)
     c.least_beside-end.result found.2)
@@ -107,18 +114,19 @@ pub returns-clause-answer : goal.returns-clause-answer
 returns-clause-answer c = (by_step (goal.at.returns-clause-answer c).After-run_over-note-2).0
 
 pub returns-clause-within : goal.returns-clause-within
-returns-clause-within c = end_within c.args.first (suc c.args.place) c.least_beside-end.result
+returns-clause-within c = end_within c.args.passage.first (suc c.args.passage.place) c.least_beside-end.result
     (by_step (goal.at.returns-clause-within c).After-run_over-note-2).1
 
 pub returns-clause-ended : goal.returns-clause-ended
 returns-clause-ended c =
     let found = c.least_beside-end.ensures.least in
-    let price = (c.args.prices.now.valid.reserve c.args.place (pos 0) (omega arith)).at_least in
-    let same = c.least_beside-end.ensures.shown in
+    let price = (c.args.prices.now.valid.reserve c.args.passage.place (pos 0) (omega arith)).at_least in
     ended_beside c.requires.frontier c.run_over-note-2.ensures.frontier
-    (λ x v there. c.run_over-note-2.ensures.noted x v (cc)) (omega arith) c.args.unit.now.valid price
+    c.run_over-note-2.ensures.noted (omega arith) c.args.unit.now.valid price
     c.requires.curve (rw (c.step_of-last.ensures.step, c.starts_in-starts.ensures) at found.1)
     c.least_beside-end.result (rw (c.step_of-last.ensures.step, c.starts_in-starts.ensures) at found.2)
 
-pub returns-clause-noted : goal.returns-clause-noted
-returns-clause-noted c = λ x v there. c.run_over-note-2.ensures.noted x v (cc)
+pub returns-clause-grown : goal.returns-clause-grown
+returns-clause-grown c =
+    let grown = c.run_over-note-2.ensures.grown in
+    record { count = grown.count; room = grown.room; space = grown.space ∙ c.least_beside-end.ensures.spare }

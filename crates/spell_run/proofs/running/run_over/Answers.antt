@@ -28,7 +28,8 @@ returns-clause-noted c = λ x v there.
     let first = c.interval_of-before.ensures.first x v there in
     let n : Note = record
     { turn = c.turn.result; first = c.interval_of-before.result.first; last = c.interval_of-before.result.last } in
-    let here : IsNoted (thermal_of c.args.unit.now) (prices_of c.args.prices.now) c.args.first c.args.place false n
+    let here : IsNoted (thermal_of c.args.unit.now) (prices_of c.args.prices.now) c.args.passage.first
+    c.args.passage.place false n
     (shown c.step.new.self) = record {
       curve = c.args.curve.now;
       is_curve = c.requires.curve;

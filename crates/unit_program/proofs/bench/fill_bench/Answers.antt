@@ -1,8 +1,10 @@
-use Rattle.unit_program.proofs.Common.{rules, ◌+◌, ◌-◌, ◌*◌, ◌<◌, ◌≤◌, List, length, sym, ap, ◌∙◌, subst, with_items_is}
+use Rattle.unit_program.proofs.Common.{arith, rules, ◌+◌, ◌-◌, ◌*◌, ◌<◌, ◌≤◌, List, length, sym, ap, ◌∙◌, subst}
+use Rattle.unit_program.proofs.Common.{with_items_is}
 use Rattle.unit_program.proofs.Common.{to_z-of_z, FitsSigned, w64, thermal_of, prices_of, Runner, HaveRoom, left_at}
+use Rattle.unit_program.proofs.Common.{space_of}
 use Rattle.unit_program.proofs.Common.{cost_at, first_at, HaveWays}
 use Rattle.std.specs.Vec.{with_items}
-use Rattle.unit_program.proofs.Lemmas.{room_less, charge_less, bench_kept}
+use Rattle.unit_program.proofs.Lemmas.{charge_less, bench_kept}
 use Rattle.unit_program.proofs.bench.fill_bench.Goals as goal
 
 pub fill_by_periods-requires-clause-room : goal.fill_by_periods-requires-clause-room
@@ -11,10 +13,13 @@ fill_by_periods-requires-clause-room c =
     let points = length c.args.unit.now.points.items in
     let blocks = length c.curve_into.new.into.blocks.items in
     let few : blocks ≤ 2 * (points - 1) = rw c.as_slice.ensures at c.curve_into.ensures.curve.count in
-    let have = room_less (periods * (2 * points + 3)) (periods * (blocks + 3)) periods
-    c.args.bench.now.runners.items (charge_less periods points blocks few) c.requires.bench.room in
-    subst (λ (xs : List Runner). HaveRoom (periods * (blocks + 3)) periods xs)
-    (sym c.as_mut_slice.ensures.value) have
+    let less = charge_less periods points blocks few in
+    omega (arith, less, c.requires.bench.space)
+
+pub fill_by_periods-requires-clause-have : goal.fill_by_periods-requires-clause-have
+fill_by_periods-requires-clause-have c =
+    subst (λ (xs : List Runner). HaveRoom (space_of c.args.bench.now.spare) (length c.args.prices.now.energy.items) xs)
+    (sym c.as_mut_slice.ensures.value) c.requires.bench.room
 
 pub returns-clause-bench : goal.returns-clause-bench
 returns-clause-bench c = λ periods points b.
@@ -26,6 +31,7 @@ returns-clause-bench c = λ periods points b.
       curve = c.curve_into.new.into;
       runners = with_items c.args.bench.now.runners
           c.fill_by_periods.new.runners;
+      spare = c.fill_by_periods.new.spare;
       origins = c.fill_by_periods.new.origins;
       roster = c.fill_by_periods.new.roster;
       table = c.fill_by_periods.new.table;
@@ -33,10 +39,10 @@ returns-clause-bench c = λ periods points b.
       kept = c.args.bench.now.kept;
     })
     (sym c.curve_into.ensures.room) (ap length same ∙ c.fill_by_periods.ensures.same.count_same ∙ ap length lent.value)
-    (λ most periods have.
-    subst (λ (xs : List Runner). HaveRoom most periods xs) (sym same)
-    (c.fill_by_periods.ensures.same.keeps most periods
-    (subst (λ (xs : List Runner). HaveRoom most periods xs) (sym lent.value) have)))
+    (λ room periods have.
+    subst (λ (xs : List Runner). HaveRoom room periods xs) (sym same)
+    (c.fill_by_periods.ensures.same.keeps room periods
+    (subst (λ (xs : List Runner). HaveRoom room periods xs) (sym lent.value) have))) c.fill_by_periods.ensures.spare
     c.fill_by_periods.ensures.same.rows_length c.fill_by_periods.ensures.list c.fill_by_periods.ensures.same.firsts_same
     c.fill_limits.ensures.length b
 

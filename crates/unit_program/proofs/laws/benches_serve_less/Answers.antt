@@ -6,11 +6,12 @@ returns c = λ periods points fewer less b few low h.
     let wide : fewer * (2 * less + 3) ≤ fewer * (2 * points + 3) = mul-le-mul_left fewer (omega arith) in
     let long : fewer * (2 * points + 3) ≤ periods * (2 * points + 3) = mul-le-mul_right (2 * points + 3) few in
     record {
-      blocks = omega arith;
-      count = omega arith;
-      room = λ f r is. (let there = h.room f r is in (omega arith, omega arith));
-      rows = omega arith;
-      origins = omega arith;
-      roster = omega arith;
-      limits = omega arith;
+      blocks = omega (arith, low);
+      count = omega (arith, few);
+      space = omega (arith, wide, long, h.space);
+      room = λ f r is. (let there = h.room f r is in (there.0, omega (arith, few)));
+      rows = omega (arith, few);
+      origins = omega (arith, few);
+      roster = omega (arith, few);
+      limits = omega (arith, few);
     }

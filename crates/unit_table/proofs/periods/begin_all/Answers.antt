@@ -1,4 +1,4 @@
-use Rattle.unit_table.proofs.Common.{◌*◌, thermal_of, cost_at}
+use Rattle.unit_table.proofs.Common.{thermal_of, cost_at}
 use Rattle.unit_table.proofs.Lemmas.{kept_then, kept_room, kept_roomy, off_roomy}
 use Rattle.unit_table.proofs.RowByRowLaws.{table_begun}
 use Rattle.unit_table.proofs.periods.begin_all.Goals as goal
@@ -14,10 +14,10 @@ returns-clause-filled c = λ π limits some.
     }
 
 pub returns-clause-room : goal.returns-clause-room
-returns-clause-room c = λ periods charge have.
+returns-clause-room c = λ room periods charge fits have.
     kept_roomy _ _ c.go_on.ensures.kept periods 0 charge
-    (off_roomy periods 0 charge c.stop_all.new.runners c.stop_all.ensures.off
-    (kept_room _ _ c.stop_all.ensures.kept (periods * charge) periods have))
+    (off_roomy room periods 0 charge c.stop_all.new.runners c.stop_all.ensures.off fits
+    (kept_room _ _ c.stop_all.ensures.kept room periods have))
 
 pub returns-clause-same : goal.returns-clause-same
 returns-clause-same c =

@@ -1,5 +1,5 @@
 use Rattle.unit_table.proofs.Common.{◌≡◌, ℕ, suc, ◌+◌, List, Option, length, sym, ◌∙◌, subst, arith}
-use Rattle.unit_table.proofs.Common.{Ended, live_at, left_at, AreOrigins}
+use Rattle.unit_table.proofs.Common.{Ended, refl, space_of, live_at, left_at, AreOrigins}
 use Rattle.unit_table.proofs.Common.{cost_at, first_at, HaveWays, ap, unit_of, prices_in, periods_in, charge_of}
 use Rattle.unit_table.proofs.Common.{limits_in}
 use Rattle.unit_table.proofs.Lemmas.{origins_to, filled_whole, cost-same}
@@ -11,12 +11,14 @@ loop-place-init c = record {
     filled = c.begin_all.ensures.filled (prices_in c.args.question.now) (limits_in c.args.question.now)
         c.args.question.now.prices.now.valid.horizon.at_least;
     ways = λ l v one until is. absurd (omega arith);
-    roomy = c.begin_all.ensures.room (periods_in c.args.question.now) (charge_of c.args.question.now) c.requires.room;
+    roomy = c.begin_all.ensures.room (space_of c.args.spare.now) (periods_in c.args.question.now)
+        (charge_of c.args.question.now) c.requires.room c.requires.have;
     roster_is = c.begin_all.ensures.roster;
   };
   same = c.begin_all.ensures.same;
   origins = rw c.as_slice.ensures at c.begin.ensures.origins;
   list_same = c.begin.ensures.length;
+  space = refl;
 }
 
 pub loop-place-preserved : goal.loop-place-preserved
@@ -30,12 +32,13 @@ loop-place-preserved c =
         rows_length = cc;
         count_same = cc;
         firsts_same = cc;
-        keeps = λ most periods have. more.keeps most periods (before.keeps most periods have);
+        keeps = λ room periods have. more.keeps room periods (before.keeps room periods have);
       };
       origins = rw next at
           (subst (λ (rows : List (Option Ended)). AreOrigins (unit_of c.args.question.now) (cost_at rows)
           (suc c.loop-place.place) c.go_on.new.self) c.as_slice-in-loop-place.ensures c.go_on.ensures.origins);
       list_same = cc;
+      space = c.take_period.ensures.spare ∙ c.loop-place.invariant.space;
     }
 
 pub take_period-requires-clause-long : goal.take_period-requires-clause-long
@@ -46,6 +49,10 @@ take_period-requires-clause-long c =
       firsts_end = omega arith;
       list_end = omega arith;
     }
+
+pub take_period-requires-clause-have : goal.take_period-requires-clause-have
+take_period-requires-clause-have c =
+    rw c.loop-place.invariant.space (c.loop-place.invariant.same.keeps _ _ c.requires.have)
 
 pub go_on-requires-clause-origins : goal.go_on-requires-clause-origins
 go_on-requires-clause-origins c =

@@ -1,5 +1,5 @@
 use Rattle.unit_table.proofs.Common.{◌≡◌, length, IsSweptTo, AreAsLong, AreOrigins}
-use Rattle.unit_table.proofs.Common.{cost_at, unit_of, prices_in, charge_of, limits_in}
+use Rattle.unit_table.proofs.Common.{space_of, cost_at, unit_of, prices_in, charge_of, limits_in}
 use Rattle.unit_table.proofs.periods.fill_by_periods.Given as goal
 
 abbrev pub invariant-loop-place : goal.invariant-loop-place
@@ -8,5 +8,6 @@ invariant-loop-place l = record {
       (charge_of l.question) l.table.items l.runners l.roster;
   same : AreAsLong l.fn.table.items l.table.items l.fn.runners l.runners l.fn.roster l.roster;
   origins : AreOrigins (unit_of l.question) (cost_at l.table.items) l.place l.origins;
+  space : space_of l.spare ≡ space_of l.fn.spare;
   list_same : length l.origins.list.items ≡ length l.fn.origins.list.items;
 }

@@ -2,9 +2,9 @@ use Rattle.unit_table.proofs.Common.{rules, ◌≡◌, ℕ, suc, ◌+◌, ◌*�
 use Rattle.unit_table.proofs.Common.{of_z, FitsSigned, w64, to_z-of_z, get_or_from_slice_get, ℤ, Some, List, slice_get}
 use Rattle.unit_table.proofs.Common.{unit_of, prices_in, periods_in, charge_of, limits_in, int_at, live_at, left_at}
 use Rattle.unit_table.proofs.Common.{cost_at, first_at, AreRunners, AreSmall, add-one}
-use Rattle.unit_table.proofs.Lemmas.{small_of, have_room, origins_within, period_off, period_run, period_filled}
+use Rattle.unit_table.proofs.Lemmas.{small_of, still_roomy, origins_within, period_off, period_run, period_filled}
 use Rattle.unit_table.proofs.Lemmas.{none_listed, still_listed, cost-same, first-same, left_live, ways_same, ways_none}
-use Rattle.unit_table.proofs.Lemmas.{ways_more, kept_then, kept_room, kept_roomy, kept_left, off_roomy, fewer_then}
+use Rattle.unit_table.proofs.Lemmas.{ways_more, kept_then, kept_room, kept_roomy, kept_left, fewer_then}
 use Rattle.unit_table.proofs.Lemmas.{fewer_off, fewer_small}
 use Rattle.unit_table.proofs.periods.take_period.Goals as goal
 use Rattle.unit_table.proofs.periods.take_period.Goals.{After-start, After-run_all}
@@ -13,28 +13,28 @@ use Rattle.unit_table.proofs.periods.take_period.Goals.{After-start, After-run_a
 
 pub returns-then-is_must_off-clause-now : goal.returns-then-is_must_off-clause-now
 returns-then-is_must_off-clause-now c =
-    let g = unit_of c.args.question.now in
-    let π = prices_in c.args.question.now in
+    let g = unit_of c.args.period.now.question.now in
+    let π = prices_in c.args.period.now.question.now in
     let rows = c.args.table.now.items in
     let old = c.args.runners.now in
     let now = c.requires.now in
     let off = c.stop_all.ensures.off in
     let kept = c.stop_all.ensures.kept in
-    let none = now.filled.table.none (suc c.args.place) (omega arith) in
+    let none = now.filled.table.none (suc c.args.period.now.place) (omega arith) in
     record {
-      filled = period_off g π (limits_in c.args.question.now) c.args.question.now.unit.now.valid c.args.place rows
-          (live_at old) now.filled c.requires.place
+      filled = period_off g π (limits_in c.args.period.now.question.now) c.args.period.now.question.now.unit.now.valid
+          c.args.period.now.place rows
+          (live_at old) now.filled c.args.period.now.inside
           (live_at c.stop_all.new.runners) off (c.is_must_off.ensures.yes c.if-is_must_off.true);
-      ways = ways_same g π (suc c.args.place) (cost_at rows) (first_at rows) (left_at old)
+      ways = ways_same g π (suc c.args.period.now.place) (cost_at rows) (first_at rows) (left_at old)
           (left_at c.stop_all.new.runners) (kept_left _ _ kept)
-          (ways_none g π c.args.place (cost_at rows) (first_at rows) (left_at old) none now.ways);
-      roomy = off_roomy (periods_in c.args.question.now) (suc c.args.place)
-          (charge_of c.args.question.now) c.stop_all.new.runners off
-          (kept_room _ _ kept (periods_in c.args.question.now * charge_of c.args.question.now)
-          (periods_in c.args.question.now)
-          (have_room (periods_in c.args.question.now) c.args.place (charge_of c.args.question.now) old
-          now.roomy));
-      roster_is = none_listed (live_at c.stop_all.new.runners) (suc (suc c.args.place)) c.clear.new.self
+          (ways_none g π c.args.period.now.place (cost_at rows) (first_at rows) (left_at old) none now.ways);
+      roomy = still_roomy (periods_in c.args.period.now.question.now) c.args.period.now.place
+          (suc c.args.period.now.place)
+          (charge_of c.args.period.now.question.now) c.stop_all.new.runners off
+          (kept_roomy _ _ kept (periods_in c.args.period.now.question.now) c.args.period.now.place
+          (charge_of c.args.period.now.question.now) now.roomy);
+      roster_is = none_listed (live_at c.stop_all.new.runners) (suc (suc c.args.period.now.place)) c.clear.new.self
           c.clear.ensures.count off;
     }
 
@@ -53,50 +53,66 @@ limit_at : (limits : List ℤ) (k : ℕ) (x : ℤ) → FitsSigned w64 x → slic
 limit_at limits k x fits is = get_or_from_slice_get limits k x (pos 0) is ∙ sym (to_z-of_z w64 x fits)
 
 -- after a start
-begun : (c : After-start) → AreRunners (unit_of c.args.question.now) (prices_in c.args.question.now)
-    (limits_in c.args.question.now) (cost_at c.args.table.now.items) (live_at c.start.new.runners) c.args.place
-    (suc (suc c.args.place))
-begun c = c.start.ensures.stands (prices_in c.args.question.now) (limits_in c.args.question.now)
-    (cost_at c.args.table.now.items) (limit_at c.args.question.now.limits.now.items c.args.place c.get-limit.result.now
+begun : (c : After-start) → AreRunners (unit_of c.args.period.now.question.now)
+    (prices_in c.args.period.now.question.now)
+    (limits_in c.args.period.now.question.now) (cost_at c.args.table.now.items) (live_at c.start.new.runners)
+    c.args.period.now.place
+    (suc (suc c.args.period.now.place))
+begun c = c.start.ensures.stands (prices_in c.args.period.now.question.now) (limits_in c.args.period.now.question.now)
+    (cost_at c.args.table.now.items)
+    (limit_at c.args.period.now.question.now.limits.now.items c.args.period.now.place c.get-limit.result.now
     (search rules) c.get-limit.ensures.item) c.requires.origins c.requires.now.filled.runners
 
 -- and over the period
-ran : (c : After-run_all) → AreRunners (unit_of c.args.question.now) (prices_in c.args.question.now)
-    (limits_in c.args.question.now) (cost_at c.args.table.now.items) (live_at c.start.new.runners) c.args.place
-    (suc (suc c.args.place)) → AreRunners (unit_of c.args.question.now) (prices_in c.args.question.now)
-    (limits_in c.args.question.now) (cost_at c.args.table.now.items) (live_at c.run_all.new.runners) (suc c.args.place)
-    (suc (suc c.args.place))
-ran c now = period_run _ _ _ c.args.question.now.unit.now.valid _ _ _ c.requires.now.filled c.requires.place
+ran : (c : After-run_all) → AreRunners (unit_of c.args.period.now.question.now)
+    (prices_in c.args.period.now.question.now)
+    (limits_in c.args.period.now.question.now) (cost_at c.args.table.now.items) (live_at c.start.new.runners)
+    c.args.period.now.place
+    (suc (suc c.args.period.now.place)) →
+    AreRunners (unit_of c.args.period.now.question.now) (prices_in c.args.period.now.question.now)
+    (limits_in c.args.period.now.question.now) (cost_at c.args.table.now.items) (live_at c.run_all.new.runners)
+    (suc c.args.period.now.place)
+    (suc (suc c.args.period.now.place))
+ran c now = period_run _ _ _ c.args.period.now.question.now.unit.now.valid _ _ _ c.requires.now.filled
+    c.args.period.now.inside
     c.run_all.new.table.items _ _ now c.requires.limits.0 c.requires.limits.1 c.runs_go_on.ensures
-    (c.is_must_off.ensures.no c.if-is_must_off.false) c.run_all.ensures.goes c.run_all.ensures.off
+    (c.is_must_off.ensures.no c.if-is_must_off.false) c.run_all.ensures.run.goes c.run_all.ensures.run.off
 
-ran_small : (c : After-run_all) → AreRunners (unit_of c.args.question.now) (prices_in c.args.question.now)
-    (limits_in c.args.question.now) (cost_at c.args.table.now.items) (live_at c.start.new.runners) c.args.place
-    (suc (suc c.args.place)) → AreSmall (live_at c.run_all.new.runners)
-ran_small c now = small_of _ _ _ _ _ (suc c.args.place) (suc (suc c.args.place)) (omega arith) (omega arith) (ran c now)
+ran_small : (c : After-run_all) →
+    AreRunners (unit_of c.args.period.now.question.now) (prices_in c.args.period.now.question.now)
+    (limits_in c.args.period.now.question.now) (cost_at c.args.table.now.items) (live_at c.start.new.runners)
+    c.args.period.now.place
+    (suc (suc c.args.period.now.place)) → AreSmall (live_at c.run_all.new.runners)
+ran_small c now = small_of _ _ _ _ _ (suc c.args.period.now.place) (suc (suc c.args.period.now.place)) (omega arith)
+    (omega arith) (ran c now)
 
 pub start-requires-clause-within : goal.start-requires-clause-within
 start-requires-clause-within c =
-    origins_within (unit_of c.args.question.now) c.args.table.now.items c.args.place c.args.origins.now
+    origins_within (unit_of c.args.period.now.question.now) c.args.table.now.items c.args.period.now.place
+    c.args.origins.now
     c.requires.origins c.requires.now.filled.within (omega arith)
 
 pub start-requires-clause-small : goal.start-requires-clause-small
 start-requires-clause-small c =
-    small_of (unit_of c.args.question.now) (prices_in c.args.question.now) (limits_in c.args.question.now) _
-    (live_at c.args.runners.now) c.args.place (suc c.args.place)
+    small_of (unit_of c.args.period.now.question.now) (prices_in c.args.period.now.question.now)
+    (limits_in c.args.period.now.question.now) _
+    (live_at c.args.runners.now) c.args.period.now.place (suc c.args.period.now.place)
     (omega arith) (omega arith) c.requires.now.filled.runners
 
 pub run_all-requires-clause-room : goal.run_all-requires-clause-room
 run_all-requires-clause-room c =
-    kept_roomy _ _ c.start.ensures.kept (periods_in c.args.question.now) c.args.place
-    (charge_of c.args.question.now) c.requires.now.roomy
+    kept_roomy _ _ c.start.ensures.kept (periods_in c.args.period.now.question.now) c.args.period.now.place
+    (charge_of c.args.period.now.question.now) c.requires.now.roomy
+
+pub run_all-requires-clause-have : goal.run_all-requires-clause-have
+run_all-requires-clause-have c = kept_room _ _ c.start.ensures.kept _ _ c.requires.have
 
 pub run_all-requires-clause-now : goal.run_all-requires-clause-now
 run_all-requires-clause-now c =
-    (limits_in c.args.question.now, begun (goal.at.run_all-requires-clause-now c).After-start)
+    (limits_in c.args.period.now.question.now, begun (goal.at.run_all-requires-clause-now c).After-start)
 
 pub run_all-requires-clause-none : goal.run_all-requires-clause-none
-run_all-requires-clause-none c = c.requires.now.filled.table.none (suc c.args.place) (omega arith)
+run_all-requires-clause-none c = c.requires.now.filled.table.none (suc c.args.period.now.place) (omega arith)
 
 pub run_all-requires-clause-open : goal.run_all-requires-clause-open
 run_all-requires-clause-open c = c.is_must_off.ensures.no c.if-is_must_off.false
@@ -113,24 +129,24 @@ prune-requires-clause-small c =
 
 pub drop_beyond-requires-clause-roster : goal.drop_beyond-requires-clause-roster
 drop_beyond-requires-clause-roster c =
-    still_listed (live_at c.start.new.runners) (live_at c.run_all.new.runners) (suc (suc c.args.place))
-    (suc (c.args.place + 1)) c.start.new.roster (omega arith)
-    c.run_all.ensures.off c.start.ensures.roster
+    still_listed (live_at c.start.new.runners) (live_at c.run_all.new.runners) (suc (suc c.args.period.now.place))
+    (suc (c.args.period.now.place + 1)) c.start.new.roster (omega arith)
+    c.run_all.ensures.run.off c.start.ensures.roster
 
 pub prune-requires-clause-roster : goal.prune-requires-clause-roster
 prune-requires-clause-roster c =
-    still_listed (live_at c.start.new.runners) (live_at c.drop_beyond.new.runners) (suc (suc c.args.place))
-    (suc (c.args.place + 1)) c.start.new.roster (omega arith)
-    (λ f off. fewer_off _ _ c.drop_beyond.ensures.fewer f (c.run_all.ensures.off f off)) c.start.ensures.roster
+    still_listed (live_at c.start.new.runners) (live_at c.drop_beyond.new.runners) (suc (suc c.args.period.now.place))
+    (suc (c.args.period.now.place + 1)) c.start.new.roster (omega arith)
+    (λ f off. fewer_off _ _ c.drop_beyond.ensures.fewer f (c.run_all.ensures.run.off f off)) c.start.ensures.roster
 
 pub keep-requires-clause-roster : goal.keep-requires-clause-roster
 keep-requires-clause-roster c = (
-  suc (suc c.args.place),
+  suc (suc c.args.period.now.place),
   omega arith,
-  still_listed (live_at c.start.new.runners) (live_at c.prune.new.runners) (suc (suc c.args.place))
-      (suc (suc c.args.place)) c.start.new.roster (omega arith)
+  still_listed (live_at c.start.new.runners) (live_at c.prune.new.runners) (suc (suc c.args.period.now.place))
+      (suc (suc c.args.period.now.place)) c.start.new.roster (omega arith)
       (λ f off. fewer_off _ _ (fewer_then _ _ _ c.drop_beyond.ensures.fewer c.prune.ensures.fewer) f
-      (c.run_all.ensures.off f off)) c.start.ensures.roster,
+      (c.run_all.ensures.run.off f off)) c.start.ensures.roster,
 )
 
 -- ---- the period
@@ -138,40 +154,48 @@ keep-requires-clause-roster c = (
 pub returns-clause-now : goal.returns-clause-now
 returns-clause-now c =
     let at = goal.at.returns-clause-now c in
-    let g = unit_of c.args.question.now in
-    let π = prices_in c.args.question.now in
-    let limits = limits_in c.args.question.now in
+    let g = unit_of c.args.period.now.question.now in
+    let π = prices_in c.args.period.now.question.now in
+    let limits = limits_in c.args.period.now.question.now in
     let rows = c.args.table.now.items in
     let now = begun at.After-start in
     let ran_on = ran at.After-run_all now in
-    let next_is = limit_at c.args.question.now.limits.now.items (c.args.place + 1) c.get.result.now (search rules)
+    let next_is = limit_at c.args.period.now.question.now.limits.now.items (c.args.period.now.place + 1)
+    c.get.result.now
+    (search rules)
     c.get.ensures.item in
-    let pruned = rw add-one at (c.prune.ensures.stands π limits (cost_at rows) (suc (suc c.args.place))
-    (c.drop_beyond.ensures.stands g π limits (cost_at rows) (c.args.place + 1) (suc (suc c.args.place)) next_is
+    let pruned = rw add-one at (c.prune.ensures.stands π limits (cost_at rows) (suc (suc c.args.period.now.place))
+    (c.drop_beyond.ensures.stands g π limits (cost_at rows) (c.args.period.now.place + 1)
+    (suc (suc c.args.period.now.place))
+    next_is
     (rw add-one ran_on))) in
     let rows' = c.run_all.new.table.items in
-    let run = c.run_all.ensures in
+    let run = c.run_all.ensures.run in
     let kept = kept_then _ _ _ c.drop_beyond.ensures.kept c.prune.ensures.kept in
     let fewer = fewer_then _ _ _ c.drop_beyond.ensures.fewer c.prune.ensures.fewer in
     let old_left = left_at c.args.runners.now in
-    let left = ways_same g π c.args.place (cost_at rows) (first_at rows) old_left (left_at c.start.new.runners)
+    let left = ways_same g π c.args.period.now.place (cost_at rows) (first_at rows) old_left
+    (left_at c.start.new.runners)
     (kept_left _ _ c.start.ensures.kept) c.requires.now.ways in
-    let ways = ways_more g π c.args.place (suc (suc c.args.place)) (cost_at rows) (cost_at rows') (first_at rows)
+    let ways = ways_more g π c.args.period.now.place (suc (suc c.args.period.now.place)) (cost_at rows) (cost_at rows')
+    (first_at rows)
     (first_at rows') _ (left_at c.start.new.runners) (left_at c.run_all.new.runners)
     (live_at c.start.new.runners) limits now (left_live c.start.new.runners) run.row run.ends run.left
     (λ l other. cost-same rows' rows l l (run.others l other))
     (λ l other. first-same rows' rows l l (run.others l other)) left in
     record {
-      filled = period_filled _ _ _ c.args.question.now.unit.now.valid _ _ _ c.requires.now.filled c.requires.place
+      filled = period_filled _ _ _ c.args.period.now.question.now.unit.now.valid _ _ _ c.requires.now.filled
+          c.args.period.now.inside
           rows' _ (live_at c.run_all.new.runners) now c.requires.limits.0 c.requires.limits.1 c.dispatches_go_on.ensures
           c.dispatches_are_runs.ensures (live_at c.prune.new.runners) pruned run.row run.others run.within;
-      ways = ways_same g π (suc c.args.place) (cost_at rows') (first_at rows') (left_at c.run_all.new.runners)
+      ways = ways_same g π (suc c.args.period.now.place) (cost_at rows') (first_at rows')
+          (left_at c.run_all.new.runners)
           (left_at c.prune.new.runners) (kept_left _ _ kept) ways;
-      roomy = kept_roomy _ _ kept (periods_in c.args.question.now) (suc c.args.place)
-          (charge_of c.args.question.now) run.roomy;
-      roster_is = c.keep.ensures.roster (suc (suc c.args.place))
-          (still_listed (live_at c.start.new.runners) (live_at c.prune.new.runners) (suc (suc c.args.place))
-          (suc (suc c.args.place)) c.start.new.roster (omega arith)
+      roomy = kept_roomy _ _ kept (periods_in c.args.period.now.question.now) (suc c.args.period.now.place)
+          (charge_of c.args.period.now.question.now) run.roomy;
+      roster_is = c.keep.ensures.roster (suc (suc c.args.period.now.place))
+          (still_listed (live_at c.start.new.runners) (live_at c.prune.new.runners) (suc (suc c.args.period.now.place))
+          (suc (suc c.args.period.now.place)) c.start.new.roster (omega arith)
           (λ f off. fewer_off _ _ fewer f (run.off f off)) c.start.ensures.roster);
     }
 
@@ -179,23 +203,24 @@ pub returns-clause-same : goal.returns-clause-same
 returns-clause-same c =
     let kept = kept_then _ _ _ c.drop_beyond.ensures.kept c.prune.ensures.kept in
     record {
-      rows_length = c.run_all.ensures.rows_length;
-      count_same = kept.count_same ∙ c.run_all.ensures.count_same ∙ c.start.ensures.kept.count_same;
+      rows_length = c.run_all.ensures.run.rows_length;
+      count_same = kept.count_same ∙ c.run_all.ensures.run.count_same ∙ c.start.ensures.kept.count_same;
       firsts_same = c.keep.ensures.length ∙ c.start.ensures.list;
-      keeps = λ most periods have.
-          kept_room _ _ kept most periods
-          (c.run_all.ensures.keeps most periods
-          (kept_room _ _ c.start.ensures.kept most periods have));
+      keeps = λ room periods have.
+          kept_room _ _ kept room periods
+          (c.run_all.ensures.run.keeps room periods
+          (kept_room _ _ c.start.ensures.kept room periods have));
     }
 
 -- ---- places and lengths
 
 pub drop_beyond-requires-clause-end : goal.drop_beyond-requires-clause-end
 drop_beyond-requires-clause-end c =
-    let same = c.run_all.ensures.count_same ∙ c.start.ensures.kept.count_same in
+    let same = c.run_all.ensures.run.count_same ∙ c.start.ensures.kept.count_same in
     omega arith
 
 pub prune-requires-clause-end : goal.prune-requires-clause-end
 prune-requires-clause-end c =
-    let same = c.drop_beyond.ensures.kept.count_same ∙ c.run_all.ensures.count_same ∙ c.start.ensures.kept.count_same in
+    let same = c.drop_beyond.ensures.kept.count_same ∙ c.run_all.ensures.run.count_same ∙
+    c.start.ensures.kept.count_same in
     omega arith

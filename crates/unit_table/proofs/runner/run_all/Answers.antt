@@ -1,67 +1,88 @@
-use Rattle.unit_table.proofs.Common.{suc, sym, ap, ◌∙◌, arith, going_of, unit_of, prices_in, charge_of}
+use Rattle.unit_table.proofs.Common.{suc, refl, sym, ap, ◌∙◌, arith, going_of, unit_of, prices_in, charge_of}
 use Rattle.unit_table.proofs.Lemmas.{none_run, run_before, one_run, run_whole, run_begins, run_over, may_next}
 use Rattle.unit_table.proofs.runner.run_all.Goals as goal
 
 pub loop-index-init : goal.loop-index-init
 loop-index-init c =
-    let g = unit_of c.args.question.now in
-    let π = prices_in c.args.question.now in
-    let charge = charge_of c.args.question.now in
-    none_run g π c.args.place charge c.args.table.now.items c.args.runners.now c.args.roster.now
-    (suc (suc c.args.place))
-    (run_begins g π c.args.place charge c.args.table.now.items c.args.runners.now
-    c.requires.within c.requires.none)
+    let g = unit_of c.args.period.now.question.now in
+    let π = prices_in c.args.period.now.question.now in
+    let charge = charge_of c.args.period.now.question.now in
+    record {
+      run = none_run g π c.args.period.now.place charge c.args.table.now.items c.args.runners.now c.args.roster.now
+          (suc (suc c.args.period.now.place))
+          (run_begins g π c.args.period.now.place charge c.args.table.now.items c.args.runners.now
+          c.requires.within c.requires.none);
+      space = refl;
+    }
 
 pub run_at-requires-clause-ready : goal.run_at-requires-clause-ready
 run_at-requires-clause-ready c = λ r is.
     let first = c.get-first.result.now in
-    let run = run_before (unit_of c.args.question.now) (prices_in c.args.question.now)
-    c.args.place (charge_of c.args.question.now)
-    c.args.table.now.items c.args.runners.now c.requires.room c.args.roster.now (suc (suc c.args.place))
+    let run = run_before (unit_of c.args.period.now.question.now) (prices_in c.args.period.now.question.now)
+    c.args.period.now.place (charge_of c.args.period.now.question.now)
+    c.args.table.now.items c.args.runners.now c.requires.room c.args.roster.now (suc (suc c.args.period.now.place))
     c.requires.roster
-    c.loop-index.index c.loop-index.table.items c.loop-index.runners c.loop-index.invariant c.loop-index-test.true first
+    c.loop-index.index c.loop-index.table.items c.loop-index.runners c.loop-index.invariant.run c.loop-index-test.true
+    first
     c.get-first.ensures.item in
     let same = ap going_of (run.rest first (omega arith)) in
     let runner = c.requires.now.1.right first r (sym same ∙ is) in
     record {
       order = omega arith;
       frontier = runner.1.frontier;
-      may = may_next (unit_of c.args.question.now) first c.args.place c.requires.open runner.1.may;
+      may = may_next (unit_of c.args.period.now.question.now) first c.args.period.now.place c.requires.open
+          runner.1.may;
       within = runner.1.within;
     }
 
 pub run_at-requires-clause-room : goal.run_at-requires-clause-room
 run_at-requires-clause-room c = λ r is.
     let first = c.get-first.result.now in
-    let run = run_before (unit_of c.args.question.now) (prices_in c.args.question.now)
-    c.args.place (charge_of c.args.question.now)
-    c.args.table.now.items c.args.runners.now c.requires.room c.args.roster.now (suc (suc c.args.place))
+    let run = run_before (unit_of c.args.period.now.question.now) (prices_in c.args.period.now.question.now)
+    c.args.period.now.place (charge_of c.args.period.now.question.now)
+    c.args.table.now.items c.args.runners.now c.requires.room c.args.roster.now (suc (suc c.args.period.now.place))
     c.requires.roster
-    c.loop-index.index c.loop-index.table.items c.loop-index.runners c.loop-index.invariant c.loop-index-test.true first
+    c.loop-index.index c.loop-index.table.items c.loop-index.runners c.loop-index.invariant.run c.loop-index-test.true
+    first
     c.get-first.ensures.item in
     c.requires.room first r (sym (run.rest first (omega arith)) ∙ is)
 
-pub loop-index-preserved : goal.loop-index-preserved
-loop-index-preserved c =
-    one_run (unit_of c.args.question.now) (prices_in c.args.question.now) c.args.place
-    (charge_of c.args.question.now)
-    c.args.table.now.items c.args.runners.now c.requires.room c.args.roster.now (suc (suc c.args.place))
+pub run_at-requires-clause-alike : goal.run_at-requires-clause-alike
+run_at-requires-clause-alike c = λ r is.
+    let first = c.get-first.result.now in
+    let run = run_before (unit_of c.args.period.now.question.now) (prices_in c.args.period.now.question.now)
+    c.args.period.now.place (charge_of c.args.period.now.question.now)
+    c.args.table.now.items c.args.runners.now c.requires.room c.args.roster.now (suc (suc c.args.period.now.place))
     c.requires.roster
-    c.loop-index.index c.loop-index.table.items c.loop-index.runners c.loop-index.invariant c.loop-index-test.true
-    c.get-first.result.now c.get-first.ensures.item
-    c.run_at.new.table.items c.run_at.new.runners c.run_at.ensures
+    c.loop-index.index c.loop-index.table.items c.loop-index.runners c.loop-index.invariant.run c.loop-index-test.true
+    first
+    c.get-first.ensures.item in
+    c.loop-index.invariant.space ∙ (c.requires.have first r (sym (run.rest first (omega arith)) ∙ is)).0
 
-pub returns : goal.returns
-returns c =
-    let g = unit_of c.args.question.now in
-    let π = prices_in c.args.question.now in
-    let charge = charge_of c.args.question.now in
+pub loop-index-preserved : goal.loop-index-preserved
+loop-index-preserved c = record {
+  run = one_run (unit_of c.args.period.now.question.now) (prices_in c.args.period.now.question.now)
+      c.args.period.now.place
+      (charge_of c.args.period.now.question.now)
+      c.args.table.now.items c.args.runners.now c.requires.room c.args.roster.now (suc (suc c.args.period.now.place))
+      c.requires.roster
+      c.loop-index.index c.loop-index.table.items c.loop-index.runners c.loop-index.invariant.run c.loop-index-test.true
+      c.get-first.result.now c.get-first.ensures.item
+      c.run_at.new.table.items c.run_at.new.runners c.run_at.ensures.run;
+  space = c.run_at.ensures.spare ∙ c.loop-index.invariant.space;
+}
+
+pub returns-clause-run : goal.returns-clause-run
+returns-clause-run c =
+    let g = unit_of c.args.period.now.question.now in
+    let π = prices_in c.args.period.now.question.now in
+    let charge = charge_of c.args.period.now.question.now in
     let rows = c.args.table.now.items in
     let runners = c.args.runners.now in
-    run_over g π c.args.place charge rows runners c.loop-index.table.items c.loop-index.runners
-    (run_whole g π c.args.place charge rows runners c.requires.room c.args.roster.now
-    (suc (suc c.args.place)) c.requires.roster
-    c.loop-index.index c.loop-index.table.items c.loop-index.runners c.loop-index.invariant c.loop-index-test.false)
+    run_over g π c.args.period.now.place charge rows runners c.loop-index.table.items c.loop-index.runners
+    (run_whole g π c.args.period.now.place charge rows runners c.requires.room c.args.roster.now
+    (suc (suc c.args.period.now.place)) c.requires.roster
+    c.loop-index.index c.loop-index.table.items c.loop-index.runners c.loop-index.invariant.run c.loop-index-test.false)
     (λ f r is. (c.requires.now.1.right f r is).0) c.requires.room
 
 pub run_at-requires-clause-runners : goal.run_at-requires-clause-runners

@@ -1,9 +1,11 @@
-use Rattle.unit_table.proofs.Common.{suc, unit_of, prices_in, charge_of}
+use Rattle.unit_table.proofs.Common.{◌≡◌, suc, space_of, unit_of, prices_in, charge_of}
 use Rattle.unit_table.proofs.Lemmas.{IsListRun}
 use Rattle.unit_table.proofs.runner.run_all.Given as goal
 
 abbrev pub invariant-loop-index : goal.invariant-loop-index
-invariant-loop-index l =
-    IsListRun (unit_of l.question) (prices_in l.question) l.place (charge_of l.question)
-    l.fn.table.items l.fn.runners
-    l.roster (suc (suc l.place)) l.index l.table.items l.runners
+invariant-loop-index l = record {
+  run : IsListRun (unit_of l.period.question.now) (prices_in l.period.question.now) l.period.place
+      (charge_of l.period.question.now) l.fn.table.items l.fn.runners l.roster (suc (suc l.period.place)) l.index
+      l.table.items l.runners;
+  space : space_of l.spare ≡ space_of l.fn.spare;
+}

@@ -17,19 +17,27 @@ pub take_runner-requires-clause-room : goal.take_runner-requires-clause-room
 take_runner-requires-clause-room c =
     c.requires.room _ (item_at c.args.runners.now c.args.first c.requires.runners c.index-runners-first.result)
 
-pub returns-then-runner_at : goal.returns-then-runner_at
-returns-then-runner_at c =
+pub take_runner-requires-clause-alike : goal.take_runner-requires-clause-alike
+take_runner-requires-clause-alike c =
+    c.requires.alike _ (item_at c.args.runners.now c.args.first c.requires.runners c.index-runners-first.result)
+
+pub returns-then-runner_at-clause-run : goal.returns-then-runner_at-clause-run
+returns-then-runner_at-clause-run c =
     let at = item_at c.args.runners.now c.args.first c.requires.runners c.index-runners-first.result in
     let on = on_same _ c.runner_at.result.now _ c.runner_at.ensures at c.if-runner_at.true in
     let taken = c.take_runner.ensures in
-    run_written (unit_of c.args.question.now) (prices_in c.args.question.now) c.args.place
-    (charge_of c.args.question.now) c.args.table.now.items c.take_runner.new.table.items c.args.runners.now c.args.first
+    run_written (unit_of c.args.period.now.question.now) (prices_in c.args.period.now.question.now)
+    c.args.period.now.place
+    (charge_of c.args.period.now.question.now) c.args.table.now.items c.take_runner.new.table.items c.args.runners.now
+    c.args.first
     _ c.take_runner.new.runner at on taken.more taken.goes taken.ends taken.left taken.room taken.same
 
-pub returns-else-runner_at : goal.returns-else-runner_at
-returns-else-runner_at c =
-    run_skipped (unit_of c.args.question.now) (prices_in c.args.question.now) c.args.place
-    (charge_of c.args.question.now) c.args.table.now.items c.args.table.now.items c.args.runners.now c.args.first
+pub returns-else-runner_at-clause-run : goal.returns-else-runner_at-clause-run
+returns-else-runner_at-clause-run c =
+    run_skipped (unit_of c.args.period.now.question.now) (prices_in c.args.period.now.question.now)
+    c.args.period.now.place
+    (charge_of c.args.period.now.question.now) c.args.table.now.items c.args.table.now.items c.args.runners.now
+    c.args.first
     (off_from c.args.runners.now c.args.first _ c.runner_at.ensures c.if-runner_at.false)
     c.requires.within c.requires.room
 

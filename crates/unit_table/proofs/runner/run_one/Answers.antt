@@ -5,10 +5,10 @@ use Rattle.unit_table.proofs.runner.run_one.Goals as goal
 
 pub returns-then-may_end-clause-may : goal.returns-then-may_end-clause-may
 returns-then-may_end-clause-may c =
-    let u = unit_of c.args.question.now in
-    let next : c.args.place + 1 ≡ suc c.args.place = omega arith in
-    always c.end_and_run.result.end (suc c.args.place < periods_in c.args.question.now →
-    u.min_up ≤ on_time u c.args.first (suc c.args.place))
+    let u = unit_of c.args.period.now.question.now in
+    let next : c.args.period.now.place + 1 ≡ suc c.args.period.now.place = omega arith in
+    always c.end_and_run.result.end (suc c.args.period.now.place < periods_in c.args.period.now.question.now →
+    u.min_up ≤ on_time u c.args.first (suc c.args.period.now.place))
     (λ low. rw next at (c.may_end.ensures.yes c.if-may_end.true (omega arith)))
 
 pub returns-then-may_end-clause-noted : goal.returns-then-may_end-clause-noted

@@ -10,11 +10,11 @@ use Rattle.unit_table.proofs.runner.take_runner.Goals.{After-retire}
 
 -- the period is left, and no other one
 left_here : (c : After-retire) →
-    since c.args.first (passed_at c.retire.new.runner.passed.items) c.args.place ≡ c.run_one-passed.result
-left_here c = ap (λ l. since c.args.first (passed_at l.items) c.args.place) c.retire.ensures.passed ∙
+    since c.args.first (passed_at c.retire.new.runner.passed.items) c.args.period.now.place ≡ c.run_one-passed.result
+left_here c = ap (λ l. since c.args.first (passed_at l.items) c.args.period.now.place) c.retire.ensures.passed ∙
     (rw c.saturating_sub.ensures at c.leave_at.ensures.here)
 
-left_others : (c : After-retire) → (k : ℕ) → k ≢ c.args.place - (c.args.first - 1) →
+left_others : (c : After-retire) → (k : ℕ) → k ≢ c.args.period.now.place - (c.args.first - 1) →
     passed_at c.retire.new.runner.passed.items k ≡ passed_at c.args.runner.now.passed.items k
 left_others c k other = ap (λ l. passed_at l.items k) c.retire.ensures.passed ∙
     (rw c.saturating_sub.ensures at c.leave_at.ensures.others) k other
@@ -26,18 +26,21 @@ pub returns-clause-more : goal.returns-clause-more
 returns-clause-more c =
     let ready = c.requires.ready in
     let fits : FitsSigned w64 c.args.runner.now.cost = search rules in
-    let next : c.args.place + 1 ≡ suc c.args.place = omega arith in
+    let next : c.args.period.now.place + 1 ≡ suc c.args.period.now.place = omega arith in
     let put = simp (to_z-of_z, add-one) at c.put_end.ensures.some in
     record {
-      row = λ live is. row_end (unit_of c.args.question.now) (prices_in c.args.question.now) live c.args.first
-          c.args.place c.args.table.now.items c.put_end.new.table.items
+      row = λ live is. row_end (unit_of c.args.period.now.question.now) (prices_in c.args.period.now.question.now) live
+          c.args.first
+          c.args.period.now.place c.args.table.now.items c.put_end.new.table.items
           (state_of c.args.runner.now)
           (is ∙ going_on c.args.runner.now c.requires.on)
-          c.requires.place ready.order ready.may c.cost_of.result (rw c.cost_of.ensures c.run_one-passed.ensures.answer)
+          c.args.period.now.inside ready.order ready.may c.cost_of.result
+          (rw c.cost_of.ensures c.run_one-passed.ensures.answer)
           (end_some c.run_one-passed.result.end c.cost_of.result
-          (λ _. suc c.args.place < periods_in c.args.question.now →
-          (unit_of c.args.question.now).min_up ≤ on_time (unit_of c.args.question.now) c.args.first
-          (suc c.args.place)) c.cost_of.ensures c.run_one-passed.ensures.may) c.put_end.ensures.none put;
+          (λ _. suc c.args.period.now.place < periods_in c.args.period.now.question.now →
+          (unit_of c.args.period.now.question.now).min_up ≤ on_time (unit_of c.args.period.now.question.now)
+          c.args.first
+          (suc c.args.period.now.place)) c.cost_of.ensures c.run_one-passed.ensures.may) c.put_end.ensures.none put;
       others = λ l other. c.put_end.ensures.others l (λ z. other (z ∙ next));
       within = c.put_end.ensures.within;
       rows_length = c.put_end.ensures.length;
@@ -47,24 +50,26 @@ pub returns-clause-ends : goal.returns-clause-ends
 returns-clause-ends c =
     let put = simp add-one at c.put_end.ensures.some in
     let same = left_here (goal.at.returns-clause-ends c).After-retire in
-    end_left (unit_of c.args.question.now) (prices_in c.args.question.now) c.args.first c.args.place
+    end_left (unit_of c.args.period.now.question.now) (prices_in c.args.period.now.question.now) c.args.first
+    c.args.period.now.place
     c.args.runner.now.before _ c.args.table.now.items c.put_end.new.table.items c.run_one-passed.result
-    (since c.args.first (passed_at c.retire.new.runner.passed.items) c.args.place) c.cost_of.result same
+    (since c.args.first (passed_at c.retire.new.runner.passed.items) c.args.period.now.place) c.cost_of.result same
     c.cost_of.ensures
     c.put_end.ensures.none put c.run_one-passed.ensures.ended
 
 pub put_end-requires-clause-net_bound : goal.put_end-requires-clause-net_bound
 put_end-requires-clause-net_bound c =
-    let next : suc c.args.place ≡ c.args.place + 1 = omega arith in
-    end_some c.run_one-passed.result.end c.cost_of.result (IsWithinTimes (suc (c.args.place + 1) - c.args.first))
+    let next : suc c.args.period.now.place ≡ c.args.period.now.place + 1 = omega arith in
+    end_some c.run_one-passed.result.end c.cost_of.result
+    (IsWithinTimes (suc (c.args.period.now.place + 1) - c.args.first))
     c.cost_of.ensures
     (subst (λ (l : ℕ). IfSome c.run_one-passed.result.end
     (λ (e : Lowest). IsWithinTimes (suc l - c.args.first) e.value)) next c.run_one-passed.ensures.within)
 
 pub returns-clause-goes : goal.returns-clause-goes
 returns-clause-goes c = λ r is.
-    let unit = unit_of c.args.question.now in
-    let prices = prices_in c.args.question.now in
+    let unit = unit_of c.args.period.now.question.now in
+    let prices = prices_in c.args.period.now.question.now in
     let same = left_here (goal.at.returns-clause-goes c).After-retire in
     let ran = going_on
     (record {
@@ -83,13 +88,14 @@ returns-clause-goes c = λ r is.
     })) c.retire.ensures.passed in
     let at = going_on c.args.runner.now c.requires.on in
     let here : state_of c.args.runner.now ≡ r = (cc) in
-    subst (λ (r : Going). IsGoneOn unit prices c.args.place c.args.first r (going_of (Some c.retire.new.runner)))
+    subst (λ (r : Going). IsGoneOn unit prices c.args.period.now.place c.args.first r
+    (going_of (Some c.retire.new.runner)))
     here (record {
       function = shown c.run_one-passed.new.running;
       left = passed_at c.retire.new.runner.passed.items;
       frontier = c.run_one-passed.ensures.frontier;
       kept = left_others (goal.at.returns-clause-goes c).After-retire;
-      noted = λ x v there. subst (λ p. IsOnNoted unit prices c.args.first c.args.place p.note) (sym same)
+      noted = λ x v there. subst (λ p. IsOnNoted unit prices c.args.first c.args.period.now.place p.note) (sym same)
           (c.run_one-passed.ensures.noted x v there);
       next_is = elim (c.retire.ensures.next) [
         | inl on ↦ inl (on ∙ ran ∙ sym left)
@@ -98,10 +104,13 @@ returns-clause-goes c = λ r is.
     })
 
 pub run_one-passed-requires-clause-room : goal.run_one-passed-requires-clause-room
-run_one-passed-requires-clause-room c =
-    room_more (count_of c.args.runner.now.running) (periods_in c.args.question.now) c.args.place
-    (charge_of c.args.question.now) (room_of c.args.runner.now.running)
-    c.requires.place (c.requires.room.rest c.requires.on)
+run_one-passed-requires-clause-room c = record {
+  fits = room_more (count_of c.args.runner.now.running) (periods_in c.args.period.now.question.now)
+      c.args.period.now.place
+      (charge_of c.args.period.now.question.now) (room_of c.args.runner.now.running)
+      c.args.period.now.inside (c.requires.room.rest c.requires.on);
+  alike = c.requires.alike;
+}
 
 pub put_end-requires-clause-bound : goal.put_end-requires-clause-bound
 put_end-requires-clause-bound c =
@@ -111,21 +120,22 @@ put_end-requires-clause-bound c =
 
 pub returns-clause-same : goal.returns-clause-same
 returns-clause-same c = (
-  ap room_of c.retire.ensures.running ∙ c.run_one-passed.ensures.room,
+  ap room_of c.retire.ensures.running ∙ c.run_one-passed.ensures.grown.room,
   ap (λ l. length l.items + l.spare) c.retire.ensures.passed ∙ c.leave_at.ensures.room,
 )
 
 pub returns-clause-room : goal.returns-clause-room
 returns-clause-room c =
     let old = c.args.runner.now in
-    let charge = charge_of c.args.question.now in
-    let periods = periods_in c.args.question.now in
-    let same = ap room_of c.retire.ensures.running ∙ c.run_one-passed.ensures.room in
+    let charge = charge_of c.args.period.now.question.now in
+    let periods = periods_in c.args.period.now.question.now in
+    let same = ap room_of c.retire.ensures.running ∙ c.run_one-passed.ensures.grown.room in
     let count_same = ap count_of c.retire.ensures.running in
-    let count = c.run_one-passed.ensures.count in
+    let count = c.run_one-passed.ensures.grown.count in
     let places_same = ap (λ l. length l.items + l.spare) c.retire.ensures.passed ∙ c.leave_at.ensures.room in
-    let rest = room_next (count_of old.running) (count_of c.run_one-passed.new.running) periods c.args.place charge
-    (room_of old.running) c.requires.place (c.requires.room.rest c.requires.on) count in
+    let rest = room_next (count_of old.running) (count_of c.run_one-passed.new.running) periods c.args.period.now.place
+    charge
+    (room_of old.running) c.args.period.now.inside (c.requires.room.rest c.requires.on) count in
     record {
       whole = omega arith;
       places = omega arith;

@@ -1,4 +1,4 @@
-use Rattle.unit_program.proofs.Common.{length, ap, arith, length-replicate}
+use Rattle.unit_program.proofs.Common.{length, ap, ◌∙◌, arith, length-replicate}
 use Rattle.unit_program.proofs.bench.Bench.make.Goals as goal
 
 pub returns : goal.returns
@@ -10,11 +10,11 @@ returns c =
     record {
       blocks = omega (arith, c.in_ok-blocks.ensures.room);
       count = omega (arith, c.in_ok-runners.ensures.count);
+      space = omega (arith, c.in_ok-spare.ensures);
       room = λ f r is.
           let have = c.in_ok-runners.ensures.room f r is in
-          let most = have.0 in
           let places = have.1 in
-          (most, omega (arith, places));
+          (c.in_ok-spare.ensures ∙ have.0, omega (arith, places));
       rows = omega (arith, rows);
       origins = origins;
       roster = roster;
