@@ -28,3 +28,8 @@ pub use Rattle.uc_model.specs.Schedules.{IsThermalFeasible, mark_in}
 pub use Rattle.uc_model.specs.declared.units.Mark.TheVariants.{MustOff}
 pub use Rattle.unit_program.specs.Backs.{IsWritten, IsWrittenBack}
 pub use Rattle.test_units.specs.Rows.{IsFilled, net_at, IsAdded, IsOpenUntil, IsUpdate}
+pub use Rattle.std.proofs.Common.{Bool, cond}
+pub use Rattle.unit_program.specs.Backs.{IsSameIn}
+pub use Rattle.unit_program.specs.Builds.{IsIdle}
+pub use Rattle.unit_rows.specs.Spells.{off_time}
+pub use Rattle.uc_model.specs.Schedules.{on_in, power_in, reserve_in}

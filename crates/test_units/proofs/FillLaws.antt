@@ -5,7 +5,7 @@ use Rattle.test_units.proofs.Common.{ThermalUnit, PriceLists, IsSpellAnswer, End
 use Rattle.test_units.proofs.Common.{IsEntry, IsLeastEntry, IsTable, IsUpdate, StopsAtOnceCostNothing, row_at, cost_at}
 use Rattle.test_units.proofs.Common.{first_at, before_at, AreWithin, IsFilled, IsAdded, IsFirstRow}
 use Rattle.test_units.proofs.RowLaws.{cost_from}
-use Rattle.unit_program.proofs.RowLaws.{cost-is, first-is, before-is}
+use Rattle.unit_table.proofs.RowLaws.{cost-is, first-is, before-is}
 use Rattle.test_units.proofs.TableLaws.{table_none, table_skip, table_more}
 
 module _ (g : ThermalUnit) (π : PriceLists) where

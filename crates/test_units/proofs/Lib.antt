@@ -17,8 +17,10 @@ pub mod FillLaws
 -- what two calls leave of the shapes that were there before
 pub mod FrameLaws
 -- ---- src/answer.rt and src/laws.rt
--- one spell of the way back, and the rows where the table is whole
+-- one spell of the way back
 pub mod BackLaws
+-- a row of the whole table, and what the way back from it needs to know
+pub mod RowBackLaws
 -- where the table has no end, there is no schedule
 pub mod BestLaws
 -- The lemmas that answers cite.

@@ -3,7 +3,7 @@ use Rattle.test_units.proofs.Common.{◌≡◌, ◌≢◌, ℕ, ◌+◌, ◌<◌
 use Rattle.test_units.proofs.Common.{◌∙◌, subst, arith, ints, cases_eq, cases_lt, ThermalUnit, Ended, IsSpell}
 use Rattle.test_units.proofs.Common.{HasAtMost, IsUpdate, row_at, cost_at, first_at, before_at, AreWithin}
 use Rattle.test_units.proofs.RowLaws.{cost-same, first-same, before-same}
-use Rattle.unit_program.proofs.RowLaws.{cost-is, first-is, before-is}
+use Rattle.unit_table.proofs.RowLaws.{cost-is, first-is, before-is}
 
 module _ (g : ThermalUnit) (periods first before : ℕ) (e : ℤ) (nets : ℕ → Option ℤ) (rows : List (Option Ended)) where
   -- the row is the old one, or that of a spell from first to l
