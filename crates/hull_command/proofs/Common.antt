@@ -38,7 +38,7 @@ unfoldable pub use Rattle.hull_words.specs.Words.{found_in, words_of}
 pub use Rattle.hull_words.specs.declared.fault.WordFault.{WordFault}
 pub use Rattle.report_form.specs.ReportText.{Report, report_text}
 unfoldable pub use Rattle.report_read.specs.Plain.{report_of}
-pub use Rattle.uc_case.specs.Files.{text, value}
+pub use Rattle.uc_file.specs.Files.{text, value}
 pub use Rattle.uc_model.specs.Data.{unit_count, Market}
 pub use Rattle.uc_model.specs.PlainCases.{market_of, schedules_of}
 pub use Rattle.uc_model.specs.PlainUnits.{prices_of}

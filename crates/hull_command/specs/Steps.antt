@@ -10,7 +10,7 @@ use Rattle.uc_model.specs.Systems.{IsFeasiblePlan, plan_cost}
 use Rattle.uc_model.specs.Refusals.{refusals}
 use Rattle.plain_lists.specs.declared.limits.TheConstants.{MOST_BYTES, MOST_WORK}
 use Rattle.case_make.specs.Made.{made}
-use Rattle.uc_case.specs.Files.{FileFault, text, value}
+use Rattle.uc_file.specs.Files.{FileFault, text, value}
 use Rattle.uc_case.specs.CaseFiles.{IsCaseOf}
 use Rattle.uc_case.specs.declared.fault.FieldFault.{FieldFault}
 use Rattle.uc_plan.specs.PlanFiles.{IsPlanOf}

@@ -14,13 +14,13 @@ use Rattle.uc_text.specs.declared.fault.TextFault.{TextFault}
 use Rattle.uc_text.specs.Grammar.{end}
 unfoldable use Rattle.uc_case.specs.Cases.{thermal, renewable, bid, units, bids, with_units, case_of}
 use Rattle.uc_case.specs.Cases.{whole}
-use Rattle.uc_case.specs.Files.{IsFile, of_value, reading_of}
+use Rattle.uc_file.specs.Files.{IsFile, of_value, reading_of}
 use Rattle.uc_case.specs.Forms.{Read, Keys, keys, key, key_or_none, object, under, time_within}
-unfoldable use Rattle.uc_case.specs.Inside.{value_of}
+unfoldable use Rattle.uc_file.specs.Inside.{value_of}
 use Rattle.uc_case.specs.Sites.{site, field_at, key_of}
 use Rattle.uc_case.specs.Tables.{thermal_unit, renewable_unit, bid_unit, powers}
-unfoldable use Rattle.uc_case.specs.Words.{each}
-use Rattle.uc_case.specs.Words.{◌>>=◌, ◌>>◌, refuse, need, position}
+unfoldable use Rattle.uc_file.specs.Words.{each}
+use Rattle.uc_file.specs.Words.{◌>>=◌, ◌>>◌, refuse, need, position}
 use Rattle.uc_case.specs.declared.fault.Field.{Field}
 use Rattle.uc_case.specs.declared.fault.Field.TheVariants as fields
 use Rattle.uc_case.specs.declared.fault.Site.{Site}

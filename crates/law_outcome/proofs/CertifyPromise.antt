@@ -8,7 +8,7 @@ use Rattle.law_outcome.proofs.Common.{with_mixture, HasText, Ends, status_at, Ov
 use Rattle.law_outcome.proofs.Common.{HasNoMixture, WordsHaveSizes, words_of, BytesAreThoseRead, SettlementsAddUp}
 use Rattle.law_outcome.proofs.Common.{mixture_fault, MixtureLists, IsMixture}
 use Rattle.gap_proof.specs.Laws.{ArePriced}
-use Rattle.uc_case.specs.Files.{text, value}
+use Rattle.uc_file.specs.Files.{text, value}
 use Rattle.uc_case.specs.Laws.{CasesAreWithin}
 use Rattle.uc_mixture.specs.Laws.{OneMixture}
 use Rattle.uc_mixture.specs.MixtureFiles.{IsMixtureFileOf}

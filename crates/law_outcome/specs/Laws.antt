@@ -12,7 +12,7 @@ use Rattle.uc_model.specs.Limits.{IsMarket}
 use Rattle.uc_model.specs.PriceRule.{Proposal}
 use Rattle.uc_model.specs.Systems.{IsFeasiblePlan, plan_cost, IsDualValue, IsSettled}
 use Rattle.uc_case.specs.CaseFiles.{IsCaseOf}
-use Rattle.uc_case.specs.Files.{FileFault}
+use Rattle.uc_file.specs.Files.{FileFault}
 use Rattle.uc_plan.specs.PlanFiles.{IsPlanOf}
 use Rattle.uc_prices.specs.PricesFiles.{IsPricesOf}
 use Rattle.uc_prices.specs.declared.fault.PriceFault.{PriceFault}

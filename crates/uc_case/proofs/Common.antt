@@ -15,14 +15,15 @@ pub use Rattle.std.specs.Prelude.{FitsSigned, nat_abs, not}
 pub use Rattle.uc_case.specs.Cases.{each_member, whole}
 unfoldable pub use Rattle.uc_case.specs.Cases.{units, thermal, renewable, bid, bids, with_units, case_of}
 pub use Rattle.uc_case.specs.CaseFiles.{IsCaseOf}
-pub use Rattle.uc_case.proofs.EachLaws.{goes_on, ends, counted, is_done}
-pub use Rattle.uc_case.specs.Files.{FileFault, text, value, IsFile, reading_of, of_value}
+pub use Rattle.uc_file.proofs.EachLaws.{goes_on, ends, counted, is_done}
+pub use Rattle.uc_file.specs.Files.{FileFault, text, value, IsFile, reading_of, of_value}
 pub use Rattle.uc_case.specs.Forms.{Read, items, Keys, keys, key, key_or_none, under, part, decimal}
 unfoldable pub use Rattle.uc_case.specs.Forms.{amount, cost, time_within, flag}
-unfoldable pub use Rattle.uc_case.specs.Inside.{value_of}
+unfoldable pub use Rattle.uc_file.specs.Inside.{value_of}
 pub use Rattle.uc_case.specs.Kept.{IsRange, AreRamps, IsPast, AreLags, ArePoints, AreBlocks, IsPointList, IsThermalOf}
 pub use Rattle.uc_case.specs.Kept.{IsRenewableOf, IsBidOf}
-pub use Rattle.uc_case.specs.Laws.{OneCase, SomeFile, OneFile}
+pub use Rattle.uc_case.specs.Laws.{OneCase}
+pub use Rattle.uc_file.specs.Laws.{SomeFile, OneFile}
 pub use Rattle.uc_case.specs.Sites.{fault, site, item_at, field_at}
 pub use Rattle.uc_case.specs.Tables.{first_crossed, ends_miss, one_power, mark, at_least_one}
 unfoldable pub use Rattle.uc_case.specs.Tables.{
@@ -42,8 +43,8 @@ unfoldable pub use Rattle.uc_case.specs.Tables.{
   blocks,
   bid_unit,
 }
-pub use Rattle.uc_case.specs.Words.{position, last_is, need, refuse}
-unfoldable pub use Rattle.uc_case.specs.Words.{each}
+pub use Rattle.uc_file.specs.Words.{position, last_is, need, refuse}
+unfoldable pub use Rattle.uc_file.specs.Words.{each}
 pub use Rattle.uc_case.specs.declared.fault.FieldFault.{FieldFault}
 pub use Rattle.uc_case.specs.declared.fault.Site.{Site}
 pub use Rattle.plain_lists.specs.Ranges.{IsFrom}

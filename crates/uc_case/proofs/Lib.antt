@@ -1,13 +1,7 @@
 -- The names from elsewhere that the proofs here cite.
 pub mod Common
--- laws.rt: a file is one value, or has one first fault
-pub mod FileLaws
 -- forms.rt: numbers that passed their tests are within their limits
 pub mod Fits
--- inside.rt: a key looked for, member by member
-pub mod Finds
--- what `each` reads, item by item, as a loop does; uc_plan cites it too
-pub mod EachLaws
 -- lists.rt, listed.rt, windows.rt, bids.rt: the items of a list, read one after the other as a loop does
 pub mod Loops
 -- lists.rt, bids.rt: lists whose items keep an order, one item more at the end

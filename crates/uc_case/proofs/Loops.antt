@@ -4,9 +4,9 @@ use Rattle.uc_case.proofs.Common.{subst, ◌∙◌, length-map, map_push, Reserv
 use Rattle.uc_case.proofs.Common.{Pair, view, views, member_view, member_views, Branch, Member, goes_on, ends, site}
 use Rattle.uc_case.proofs.Common.{item_at, each, position, Read, Site, FieldFault}
 use Rattle.uc_model.specs.declared.kinds.Kind.{Kind}
-use Rattle.uc_case.specs.Given.{Fails}
+use Rattle.uc_file.specs.Given.{Fails}
 use Rattle.uc_case.specs.declared.fault.Field.{Field}
-use Rattle.uc_case.specs.declared.stop.Stop.{Stop}
+use Rattle.uc_file.specs.declared.stop.Stop.{Stop}
 
 -- ---- the same for items, each at the site of its position
 

@@ -8,8 +8,8 @@ use Rattle.uc_case.proofs.Common.{field_at, units, site}
 use Rattle.uc_model.specs.declared.kinds.Kind.{Kind}
 use Rattle.uc_model.specs.declared.limits.TheConstants.{MOST_OF_A_KIND}
 use Rattle.uc_case.specs.Forms.{object}
-use Rattle.uc_case.specs.Magnitudes.{most_power, most_cost}
-use Rattle.uc_case.specs.Words.{◌>>=◌, ◌>>◌}
+use Rattle.uc_file.specs.Magnitudes.{most_power, most_cost}
+use Rattle.uc_file.specs.Words.{◌>>=◌, ◌>>◌}
 use Rattle.uc_case.specs.declared.fault.Field.{Field}
 use Rattle.uc_case.proofs.Fits.{not_above, within}
 

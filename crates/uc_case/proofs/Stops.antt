@@ -1,16 +1,16 @@
 -- The last test of a thermal unit that fails, after the others passed.
 use Rattle.uc_case.proofs.Common.{◌≡◌, ℕ, List, Result, Ok, refl, Lag, Point, Value, Pair, Site, FieldFault}
 use Rattle.uc_case.specs.Forms.{object, keys, key, key_or_none}
-use Rattle.uc_case.specs.Given.{Fails}
+use Rattle.uc_file.specs.Given.{Fails}
 use Rattle.uc_case.specs.Tables.{startup, piecewise, commitment, output, ramps, past}
 unfoldable use Rattle.uc_case.specs.Tables.{thermal_unit}
-use Rattle.uc_case.specs.Words.{◌>>=◌}
+use Rattle.uc_file.specs.Words.{◌>>=◌}
 use Rattle.uc_case.specs.declared.fault.Field.TheVariants.{Startup, PiecewiseProduction, Commitment}
 use Rattle.uc_case.specs.declared.parts.Output.{Output}
 use Rattle.uc_case.specs.declared.parts.Ramps.{Ramps}
 use Rattle.uc_case.specs.declared.parts.Past.{Past}
-use Rattle.uc_case.specs.declared.stop.Stop.{Stop}
-use Rattle.uc_case.specs.declared.stop.Stop.TheVariants as stops
+use Rattle.uc_file.specs.declared.stop.Stop.{Stop}
+use Rattle.uc_file.specs.declared.stop.Stop.TheVariants as stops
 
 bind_fails : {A B F : Type 0} (e : Stop F) (r : Result A F) (f : A → Result B F) → Fails e r → Fails e (r >>= f)
 bind_fails stops.Memory r f h = tt

@@ -20,7 +20,7 @@ use Rattle.uc_model.specs.declared.limits.TheConstants.{MOST_OF_A_KIND, POWER_LI
 use Rattle.uc_model.specs.declared.units.Mark.{Mark}
 use Rattle.uc_model.specs.declared.units.Mark.TheVariants.{Free}
 use Rattle.uc_case.specs.Forms.{list, object}
-use Rattle.uc_case.specs.Magnitudes.{most_power, most_output, most_price}
+use Rattle.uc_file.specs.Magnitudes.{most_power, most_output, most_price}
 use Rattle.uc_case.specs.declared.fault.Field.TheVariants as fields
 use Rattle.uc_case.specs.declared.parts.Output.{Output}
 use Rattle.uc_case.specs.declared.parts.Ramps.{Ramps}

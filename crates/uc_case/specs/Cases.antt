@@ -8,7 +8,7 @@ use Rattle.uc_model.specs.Data.{NamedThermalUnit, NamedRenewableUnit, NamedBidUn
 use Rattle.text_tree.specs.Values.{Value}
 use Rattle.text_tree.specs.Parts.{Pair}
 use Rattle.uc_case.specs.Sites.{fault, field_at, site}
-use Rattle.uc_case.specs.Words.{◌>>=◌, ◌>>◌, refuse, each, position}
+use Rattle.uc_file.specs.Words.{◌>>=◌, ◌>>◌, refuse, each, position}
 use Rattle.uc_case.specs.Forms.{Read, Keys, keys, key, key_or_none, object, time_within}
 use Rattle.uc_case.specs.Tables.{thermal_unit, renewable_unit, bid_unit, powers}
 use Rattle.uc_case.specs.declared.fault.CaseCode.TheVariants.{TooLarge, NoUnits, NoPeriods}

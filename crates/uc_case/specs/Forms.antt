@@ -6,10 +6,10 @@ use Rattle.uc_num.specs.declared.Decimal.{Decimal}
 use Rattle.uc_num.specs.Rounding.{rounded}
 use Rattle.text_tree.specs.Values.{Value}
 use Rattle.text_tree.specs.Parts.{Pair}
-use Rattle.uc_case.specs.Inside.{number_in, list_in, object_in, value_of, is_whole, bit_of}
+use Rattle.uc_file.specs.Inside.{number_in, list_in, object_in, value_of, is_whole, bit_of}
 use Rattle.uc_case.specs.Sites.{fault, field_at, item_at, key_of}
-use Rattle.uc_case.specs.Magnitudes.{most_cost}
-use Rattle.uc_case.specs.Words.{◌>>=◌, ◌>>◌, refuse, need, each, position}
+use Rattle.uc_file.specs.Magnitudes.{most_cost}
+use Rattle.uc_file.specs.Words.{◌>>=◌, ◌>>◌, refuse, need, each, position}
 use Rattle.uc_case.specs.declared.fault.CaseCode.TheVariants.{Missing, WrongKind, NotWhole}
 use Rattle.uc_case.specs.declared.fault.CaseCode.TheVariants.{Negative, TooLarge, NotFlag}
 use Rattle.uc_case.specs.declared.fault.Field.{Field}

@@ -2,18 +2,9 @@
 use Rattle.std.specs.Prelude.{◌≡◌, ℕ, List, Result, Ok}
 use Rattle.uc_model.specs.Data.{Market}
 use Rattle.uc_model.specs.Limits.{IsMarket}
-use Rattle.text_tree.specs.Values.{Value}
-use Rattle.uc_text.specs.declared.fault.TextFault.{TextFault}
 use Rattle.uc_case.specs.CaseFiles.{IsCaseOf}
-use Rattle.uc_case.specs.Files.{FileFault, IsFile}
+use Rattle.uc_file.specs.Files.{FileFault}
 use Rattle.uc_case.specs.declared.fault.FieldFault.{FieldFault}
-
-abbrev pub SomeFile : Type 0
-SomeFile = (bytes : List ℕ) → (found : Result Value TextFault) × IsFile bytes found
-
-abbrev pub OneFile : Type 0
-OneFile = (bytes : List ℕ) (found other : Result Value TextFault)
-    → IsFile bytes found → IsFile bytes other → found ≡ other
 
 abbrev pub SomeCase : Type 0
 SomeCase = (bytes : List ℕ) → (r : Result Market (FileFault FieldFault)) × IsCaseOf bytes r

@@ -1,12 +1,7 @@
 pub mod Sites
-pub mod Inside
-pub mod Words
-pub mod Magnitudes
 pub mod Forms
 pub mod Tables
 pub mod Cases
-pub mod Files
 pub mod CaseFiles
-pub mod Given
 pub mod Kept
 pub mod Laws

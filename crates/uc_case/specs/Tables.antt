@@ -14,10 +14,10 @@ use Rattle.uc_model.specs.declared.limits.TheConstants.{MOST_BLOCKS, POWER_LIMIT
 use Rattle.uc_model.specs.Data.{ThermalUnit, RenewableUnit, BidUnit}
 use Rattle.plain_lists.specs.Sums.{total}
 use Rattle.text_tree.specs.Values.{Value, scalar, null, number}
-use Rattle.uc_case.specs.Inside.{list_in, bit_of}
-use Rattle.uc_case.specs.Magnitudes.{most_power, most_output, most_price}
+use Rattle.uc_file.specs.Inside.{list_in, bit_of}
+use Rattle.uc_file.specs.Magnitudes.{most_power, most_output, most_price}
 use Rattle.uc_case.specs.Sites.{fault, field_at, item_at}
-use Rattle.uc_case.specs.Words.{◌>>=◌, ◌>>◌, refuse, need, each, last_is}
+use Rattle.uc_file.specs.Words.{◌>>=◌, ◌>>◌, refuse, need, each, last_is}
 use Rattle.uc_case.specs.Forms.{Read, Keys, keys, key, key_or_none, part, items, list}
 use Rattle.uc_case.specs.Forms.{object, amount, power, cost, start_cost, time, flag}
 use Rattle.uc_case.specs.declared.fault.CaseCode.TheVariants.{TooLarge, WrongLength, CurveOrder}

@@ -9,9 +9,9 @@ ghost use Rattle.uc_model.specs.declared.units.Block.{Block as PlainBlock};
 ghost use Rattle.uc_model.specs.declared.limits.TheConstants.{MOST_BLOCKS, MOST_OF_A_KIND};
 ghost use Rattle.uc_model.specs.declared.limits.TheConstants.{MOST_PERIODS};
 ghost use Rattle.text_tree.specs.View.{view, views, member_views};
-ghost use Rattle.uc_case.specs.Given.{Gives};
+ghost use Rattle.uc_file.specs.Given.{Gives};
 ghost use Rattle.uc_case.specs.Kept.{AreBlocks};
-ghost use Rattle.uc_case.specs.Words.{each, last_is};
+ghost use Rattle.uc_file.specs.Words.{each, last_is};
 ghost use Rattle.uc_case.specs.Forms.{key, keys, items};
 ghost use Rattle.uc_case.specs.Tables.{block, period_blocks, blocks, bid_unit};
 

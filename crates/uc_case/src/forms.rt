@@ -4,18 +4,18 @@ ghost use Rattle.plain_lists.specs.Ranges.{IsFrom};
 ghost use Rattle.uc_model.specs.Limits.{IsCost};
 ghost use Rattle.uc_model.specs.declared.limits.TheConstants.{MOST_TIME};
 ghost use Rattle.text_tree.specs.View.{view, items_in, members_in, member_views};
-ghost use Rattle.uc_case.specs.Given.{Gives};
+ghost use Rattle.uc_file.specs.Given.{Gives};
 ghost use Rattle.uc_case.specs.Sites.{fault};
 ghost use Rattle.uc_case.specs.Forms.{decimal, list, object, amount, power, cost};
 ghost use Rattle.uc_case.specs.Forms.{time_within, flag, under, part};
-ghost use Rattle.uc_case.specs.declared.stop.Stop.TheVariants as stops;
+ghost use Rattle.uc_file.specs.declared.stop.Stop.TheVariants as stops;
 
 use crate::fault::{CaseCode, FieldFault, Site};
-use crate::inside::{bit, find};
 use crate::limits::COST;
-use crate::stop::Stop;
 use std::alloc::Global;
 use text_tree::{Branch, ListBranch, Member, ObjectBranch};
+use uc_file::inside::{bit, find};
+use uc_file::stop::Stop;
 use uc_num::{Decimal, is_whole, whole};
 
 /// Why the reading of a case stops.

@@ -4,15 +4,15 @@ ghost use Rattle.std.specs.Option.{option_map};
 ghost use Rattle.plain_lists.specs.Ranges.{IsFrom};
 ghost use Rattle.uc_model.specs.declared.limits.TheConstants.{MOST_TIME};
 ghost use Rattle.text_tree.specs.View.{view, member_views};
-ghost use Rattle.uc_case.specs.Given.{Gives};
-ghost use Rattle.uc_case.specs.Inside.{value_of};
+ghost use Rattle.uc_file.specs.Given.{Gives};
+ghost use Rattle.uc_file.specs.Inside.{value_of};
 ghost use Rattle.uc_case.specs.Sites.{key_of, field_at};
 ghost use Rattle.uc_case.specs.Forms.{keys, key, under, flag, power, time_within};
 
 use crate::fault::{Field, Site};
 use crate::forms::{FieldStop, read_flag, read_power, read_time, value_under};
-use crate::inside::find;
 use text_tree::{Branch, Member};
+use uc_file::inside::find;
 
 /// A unit or the case: the site of its faults but for the field, and its members.
 #[derive(Drop)]

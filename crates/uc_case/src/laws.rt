@@ -1,18 +1,7 @@
 //! Laws over the definitions: each is the contract of a function that does nothing.
-ghost use Rattle.uc_case.specs.Laws.{SomeFile, OneFile, SomeCase, OneCase, CasesAreWithin};
+ghost use Rattle.uc_case.specs.Laws.{SomeCase, OneCase, CasesAreWithin};
 
-use uc_text::laws::{never_both, one_fault, one_value, text_or_fault};
-
-/// Each list of bytes has a value or a first fault as a text of at most 32 levels, and one alone.
-pub fn one_file()
-    ensures some { SomeFile }
-    ensures one { OneFile }
-{
-    text_or_fault();
-    never_both();
-    one_value();
-    one_fault();
-}
+use uc_file::laws::one_file;
 
 /// Each list of bytes is a case or has a first fault.
 pub fn case_or_fault()

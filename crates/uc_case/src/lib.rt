@@ -6,7 +6,6 @@ mod bids;
 mod cases;
 pub mod fault;
 mod forms;
-pub mod inside;
 mod keys;
 pub mod laws;
 mod limits;
@@ -14,7 +13,6 @@ mod listed;
 mod lists;
 mod parts;
 mod read;
-pub mod stop;
 mod units;
 mod windows;
 

@@ -6,7 +6,7 @@ ghost use Rattle.uc_model.specs.PlainUnits.{named_thermal_of, named_renewable_of
 ghost use Rattle.uc_model.specs.declared.limits.TheConstants.{MOST_OF_A_KIND, MOST_PERIODS};
 ghost use Rattle.text_tree.specs.Parts.{Pair};
 ghost use Rattle.text_tree.specs.View.{view, member_view, member_views};
-ghost use Rattle.uc_case.specs.Given.{Gives};
+ghost use Rattle.uc_file.specs.Given.{Gives};
 ghost use Rattle.uc_case.specs.Kept.{IsThermalOf, IsRenewableOf, IsBidOf};
 ghost use Rattle.uc_case.specs.Forms.{Read};
 ghost use Rattle.uc_case.specs.Sites.{site};

@@ -4,7 +4,7 @@ ghost use Rattle.uc_model.specs.PlainUnits.{thermal_of, renewable_of};
 ghost use Rattle.uc_model.specs.Limits.{IsThermalUnit, IsRenewableUnit};
 ghost use Rattle.uc_model.specs.declared.limits.TheConstants.{MOST_PERIODS};
 ghost use Rattle.text_tree.specs.View.{view, member_views};
-ghost use Rattle.uc_case.specs.Given.{Gives};
+ghost use Rattle.uc_file.specs.Given.{Gives};
 ghost use Rattle.uc_case.specs.Kept.{IsRange, AreRamps, IsPast};
 ghost use Rattle.uc_case.specs.Forms.{keys};
 ghost use Rattle.uc_case.specs.Tables.{thermal_unit, renewable_unit, first_crossed, at_least_one};

@@ -3,16 +3,16 @@ ghost use Rattle.std.specs.Prelude.{◌≡◌, ◌≤◌, [], length, IfOk};
 ghost use Rattle.uc_model.specs.declared.limits.TheConstants.{MOST_OF_A_KIND, MOST_PERIODS};
 ghost use Rattle.uc_text.specs.Values.{scalar, number as number_spec};
 ghost use Rattle.text_tree.specs.View.{view, views, member_views};
-ghost use Rattle.uc_case.specs.Given.{Gives};
+ghost use Rattle.uc_file.specs.Given.{Gives};
 ghost use Rattle.uc_case.specs.Forms.{keys, key_or_none, items};
 ghost use Rattle.uc_case.specs.Tables.{mark, mark_in, commitment};
 
 use crate::fault::{CaseCode, Field, Site};
 use crate::forms::FieldStop;
-use crate::inside::bit;
 use crate::keys::Keys;
 use std::alloc::Global;
 use text_tree::Branch;
+use uc_file::inside::bit;
 use uc_model::units::{Mark, Marks};
 use uc_num::Decimal;
 

@@ -21,12 +21,12 @@ pub use Rattle.text_tree.specs.Parts.{Pair}
 pub use Rattle.text_tree.specs.Values.{Value}
 pub use Rattle.text_tree.specs.View.{view, views, members_in}
 pub use Rattle.text_tree.specs.declared.branch.Branch.{Branch}
-pub use Rattle.uc_case.proofs.EachLaws.{goes_on, ends, is_done, counted}
-pub use Rattle.uc_case.specs.Files.{FileFault, text, value, reading_of, of_value}
-pub use Rattle.uc_case.specs.Given.{Fails}
-pub use Rattle.uc_case.specs.Words.{◌>>=◌, ◌>>◌, need, position}
-unfoldable pub use Rattle.uc_case.specs.Words.{each}
-pub use Rattle.uc_case.specs.declared.stop.Stop.{Stop}
+pub use Rattle.uc_file.proofs.EachLaws.{goes_on, ends, is_done, counted}
+pub use Rattle.uc_file.specs.Files.{FileFault, text, value, reading_of, of_value}
+pub use Rattle.uc_file.specs.Given.{Fails}
+pub use Rattle.uc_file.specs.Words.{◌>>=◌, ◌>>◌, need, position}
+unfoldable pub use Rattle.uc_file.specs.Words.{each}
+pub use Rattle.uc_file.specs.declared.stop.Stop.{Stop}
 pub use Rattle.uc_model.specs.Data.{Market, NamedThermalUnit, thermal_names}
 pub use Rattle.uc_model.specs.PlainCases.{market_of}
 pub use Rattle.uc_mixture.specs.Faults.{site_of_unit, entry_at, within, stop_within}

@@ -8,8 +8,8 @@ use Rattle.mixture_bound.specs.Mixtures.{WeighedSchedule, MixtureLists, most_who
 use Rattle.plain_lists.specs.Sums.{total}
 use Rattle.text_tree.specs.Parts.{Pair}
 use Rattle.text_tree.specs.Values.{Value}
-use Rattle.uc_case.specs.Inside.{number_in, list_in, object_in, value_of, is_whole}
-use Rattle.uc_case.specs.Words.{◌>>=◌, ◌>>◌, refuse, need, each, position}
+use Rattle.uc_file.specs.Inside.{number_in, list_in, object_in, value_of, is_whole}
+use Rattle.uc_file.specs.Words.{◌>>=◌, ◌>>◌, refuse, need, each, position}
 use Rattle.uc_model.specs.Data.{Market, thermal_names}
 use Rattle.uc_model.specs.declared.kinds.Kind.TheVariants.{Thermal}
 use Rattle.uc_num.specs.Rounding.{rounded}

@@ -2,7 +2,7 @@
 ghost use Rattle.std.specs.Prelude.{◌≡◌, ◌≤◌, Result, IfOk, length};
 ghost use Rattle.mixture_bound.specs.Mixtures.{MixtureLists, mixture_of, HasMixtureShape};
 ghost use Rattle.plain_lists.specs.declared.limits.TheConstants.{MOST_BYTES};
-ghost use Rattle.uc_case.specs.Files.{FileFault};
+ghost use Rattle.uc_file.specs.Files.{FileFault};
 ghost use Rattle.uc_model.specs.PlainCases.{market_of};
 ghost use Rattle.uc_mixture.specs.MixtureFiles.{IsMixtureFileOf, IfRead};
 ghost use Rattle.uc_mixture.specs.declared.fault.ShareFault.{ShareFault as PlainFault};
@@ -12,7 +12,7 @@ use crate::laws::one_mixture;
 use crate::mixtures::mixture_of_tree;
 use mixture_bound::Mixture;
 use std::alloc::Global;
-use uc_case::stop::Stop;
+use uc_file::stop::Stop;
 use uc_model::cases::Case;
 use uc_text::{TextError, read_tree};
 

@@ -9,13 +9,13 @@ pub use Rattle.std.proofs.lemmas.Result.{err_from_is_err_and}
 pub use Rattle.std.specs.List.{All}
 pub use Rattle.std.specs.Option.{option_map}
 pub use Rattle.indexmap.specs.IndexSet.{contains_by}
-pub use Rattle.uc_case.proofs.EachLaws.{goes_on, ends, is_done, counted}
-pub use Rattle.uc_case.specs.Files.{FileFault, text, value, reading_of, of_value}
-pub use Rattle.uc_case.specs.Given.{Fails}
-unfoldable pub use Rattle.uc_case.specs.Inside.{value_of}
-pub use Rattle.uc_case.specs.Words.{◌>>=◌, ◌>>◌, need, position}
-unfoldable pub use Rattle.uc_case.specs.Words.{each}
-pub use Rattle.uc_case.specs.declared.stop.Stop.{Stop}
+pub use Rattle.uc_file.proofs.EachLaws.{goes_on, ends, is_done, counted}
+pub use Rattle.uc_file.specs.Files.{FileFault, text, value, reading_of, of_value}
+pub use Rattle.uc_file.specs.Given.{Fails}
+unfoldable pub use Rattle.uc_file.specs.Inside.{value_of}
+pub use Rattle.uc_file.specs.Words.{◌>>=◌, ◌>>◌, need, position}
+unfoldable pub use Rattle.uc_file.specs.Words.{each}
+pub use Rattle.uc_file.specs.declared.stop.Stop.{Stop}
 pub use Rattle.uc_model.specs.Data.{Market, Schedule, NamedThermalUnit, NamedRenewableUnit, NamedBidUnit, thermal_names}
 pub use Rattle.uc_model.specs.Data.{renewable_names, bid_names}
 pub use Rattle.uc_model.specs.Laws.{HasPlanShape}

@@ -11,9 +11,9 @@ use Rattle.uc_num.specs.declared.Decimal.{Decimal}
 use Rattle.uc_num.specs.Rounding.{rounded}
 use Rattle.text_tree.specs.Values.{Value}
 use Rattle.text_tree.specs.Parts.{Pair}
-use Rattle.uc_case.specs.Inside.{number_in, list_in, object_in, value_of, is_whole, bit_of}
-use Rattle.uc_case.specs.Magnitudes.{most_power}
-use Rattle.uc_case.specs.Words.{◌>>=◌, ◌>>◌, refuse, need, each, position}
+use Rattle.uc_file.specs.Inside.{number_in, list_in, object_in, value_of, is_whole, bit_of}
+use Rattle.uc_file.specs.Magnitudes.{most_power}
+use Rattle.uc_file.specs.Words.{◌>>=◌, ◌>>◌, refuse, need, each, position}
 use Rattle.uc_plan.specs.Shapes.{fault}
 use Rattle.uc_plan.specs.declared.fault.ShapeSite.{ShapeSite}
 use Rattle.uc_plan.specs.declared.fault.ShapeCode.TheVariants.{UnknownUnit, MissingUnit}

@@ -4,7 +4,7 @@ ghost use Rattle.std.specs.Option.{option_map};
 ghost use Rattle.indexmap.specs.IndexMap.{get_by_text};
 ghost use Rattle.indexmap.specs.IndexSet.{contains_by};
 ghost use Rattle.text_tree.specs.View.{view, member_views, members_in};
-ghost use Rattle.uc_case.specs.Inside.{value_of};
+ghost use Rattle.uc_file.specs.Inside.{value_of};
 ghost use Rattle.uc_plan.specs.Plans.{is_among, first_unknown};
 
 use crate::named::Named;

@@ -3,14 +3,14 @@ ghost use Rattle.std.specs.Prelude.{◌≡◌, ◌≤◌, IfOk, length};
 ghost use Rattle.uc_model.specs.declared.limits.TheConstants.{MOST_PERIODS};
 ghost use Rattle.uc_num.specs.Rounding.{rounded};
 ghost use Rattle.text_tree.specs.View.{view, views, items_in};
-ghost use Rattle.uc_case.specs.Given.{Gives};
+ghost use Rattle.uc_file.specs.Given.{Gives};
 ghost use Rattle.uc_plan.specs.Plans.{kilowatts_of, kilowatts_in, flag_in, numbers};
 
 use crate::fault::{ShapeCode, ShapeSite, ShapeStop};
 use plain_lists::lists::Flags;
 use std::alloc::Global;
 use text_tree::{Branch, ListBranch};
-use uc_case::inside::bit;
+use uc_file::inside::bit;
 use uc_model::limits::POWER_LIMIT;
 use uc_model::units::Powers;
 use uc_num::{Decimal, is_whole, whole};

@@ -8,8 +8,8 @@ ghost use Rattle.uc_model.specs.PlainUnits.{schedule_of};
 ghost use Rattle.uc_model.specs.declared.limits.TheConstants.{MOST_OF_A_KIND, MOST_PERIODS};
 ghost use Rattle.text_tree.specs.Parts.{Pair};
 ghost use Rattle.text_tree.specs.View.{view, members_in};
-ghost use Rattle.uc_case.specs.Given.{Gives};
-ghost use Rattle.uc_case.specs.Inside.{value_of};
+ghost use Rattle.uc_file.specs.Given.{Gives};
+ghost use Rattle.uc_file.specs.Inside.{value_of};
 ghost use Rattle.uc_plan.specs.Added.{Adds, IsShaped};
 ghost use Rattle.uc_plan.specs.Plans.{named, schedules, all_known, all_named};
 ghost use Rattle.uc_plan.specs.Plans.{all_schedules, plan_of};
@@ -23,9 +23,9 @@ use crate::units::read_schedule;
 use indexmap::IndexMap;
 use std::alloc::Global;
 use text_tree::{Branch, ObjectBranch};
-use uc_case::fault::Kind;
-use uc_case::stop::Stop;
+use uc_file::stop::Stop;
 use uc_model::cases::{Case, Plan};
+use uc_model::kinds::Kind;
 use uc_model::units::{Response, ResponseList};
 
 /// Refuses the first member whose name isn't that of a unit, with `UnknownUnit` at its position

@@ -2,8 +2,8 @@
 ghost use Rattle.std.specs.Prelude.{◌≡◌, IfSome, [], length, codes};
 ghost use Rattle.std.specs.Option.{option_map};
 ghost use Rattle.text_tree.specs.View.{view, items_in, member_views, members_in};
-ghost use Rattle.uc_case.specs.Given.{Gives};
-ghost use Rattle.uc_case.specs.Inside.{value_of};
+ghost use Rattle.uc_file.specs.Given.{Gives};
+ghost use Rattle.uc_file.specs.Inside.{value_of};
 ghost use Rattle.uc_plan.specs.Plans.{full_list as full_list_spec, bids_in, groups};
 ghost use Rattle.uc_plan.specs.Plans.{list_under as list_under_spec};
 ghost use Rattle.uc_plan.specs.Plans.{object_under as object_under_spec};
@@ -13,8 +13,8 @@ ghost use Rattle.uc_plan.specs.Views.{groups_of, lists_of, AreFull};
 use crate::fault::{ShapeCode, ShapeSite, ShapeStop};
 use std::alloc::Global;
 use text_tree::{Branch, ListBranch, Member, ObjectBranch};
-use uc_case::fault::Kind;
-use uc_case::inside::find;
+use uc_file::inside::find;
+use uc_model::kinds::Kind;
 
 /// A list of an item for each period.
 pub fn full_list<'a>(branch: Branch<'a>, periods: u32) -> Option<ListBranch<'a>>

@@ -3,7 +3,7 @@ ghost use Rattle.std.specs.Prelude.{◌≡◌, ◌≤◌, IfOk, length};
 ghost use Rattle.uc_model.specs.PlainUnits.{schedule_of};
 ghost use Rattle.uc_model.specs.declared.limits.TheConstants.{MOST_PERIODS};
 ghost use Rattle.text_tree.specs.View.{view};
-ghost use Rattle.uc_case.specs.Given.{Gives};
+ghost use Rattle.uc_file.specs.Given.{Gives};
 ghost use Rattle.uc_plan.specs.Added.{HasLengths, IsFlat, IsShaped};
 ghost use Rattle.uc_plan.specs.Plans.{listed_schedule, thermal_schedule, flat_schedule, schedule};
 ghost use Rattle.uc_plan.specs.Views.{lists_of, AreFull};
@@ -14,7 +14,7 @@ use crate::shapes::{ThermalLists, full_list, thermal_lists};
 use plain_lists::lists::Flags;
 use std::alloc::Global;
 use text_tree::Branch;
-use uc_case::fault::Kind;
+use uc_model::kinds::Kind;
 use uc_model::units::{Powers, Response};
 
 /// The schedule of a thermal unit by its lists. `PlanNumber` at the first wrong item: of the flags,

@@ -13,12 +13,12 @@ use Rattle.std.specs.Prelude.{Option, not, ◌==◌, codes}
 use Rattle.text_tree.specs.Values.{Value}
 use Rattle.uc_num.specs.Rounding.{rounded}
 use Rattle.uc_text.specs.declared.fault.TextFault.{TextFault}
-use Rattle.uc_case.specs.Inside.{number_in, list_in, object_in, value_of}
-use Rattle.uc_case.specs.Words.{◌>>=◌, ◌>>◌, refuse, need}
+use Rattle.uc_file.specs.Inside.{number_in, list_in, object_in, value_of}
+use Rattle.uc_file.specs.Words.{◌>>=◌, ◌>>◌, refuse, need}
 use Rattle.uc_prices.specs.Faults.{site, fault}
 use Rattle.uc_prices.specs.Laws.{HaveForm}
 use Rattle.uc_prices.specs.PricesFiles.{IsPricesOf}
-use Rattle.uc_case.specs.Laws.{OneFile}
+use Rattle.uc_file.specs.Laws.{OneFile}
 use Rattle.text_tree.specs.Parts.{Pair}
 use Rattle.uc_prices.specs.declared.fault.PriceCode.TheVariants.{WrongKind, Negative, TooLarge, WrongLength}
 use Rattle.uc_prices.specs.declared.fault.PriceField.{PriceField}

@@ -4,8 +4,8 @@ use Rattle.uc_prices.proofs.Common.{subst, ◌∙◌, view, views, goes_on, ends
 use Rattle.uc_prices.proofs.Common.{prices, Read, PriceSite}
 use Rattle.text_tree.specs.Values.{Value}
 use Rattle.text_tree.specs.declared.branch.Branch.{Branch}
-use Rattle.uc_case.specs.Given.{Fails}
-use Rattle.uc_case.specs.declared.stop.Stop.{Stop}
+use Rattle.uc_file.specs.Given.{Fails}
+use Rattle.uc_file.specs.declared.stop.Stop.{Stop}
 use Rattle.uc_prices.specs.declared.fault.PriceFault.{PriceFault}
 
 -- one of the prices, with those before it

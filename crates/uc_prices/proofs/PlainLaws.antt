@@ -15,8 +15,8 @@ use Rattle.text_tree.specs.Parts.{Pair}
 use Rattle.text_tree.specs.Values.{Value}
 use Rattle.uc_num.specs.Rounding.{RoundsToNearest, rounded}
 use Rattle.uc_num.specs.declared.Decimal.{Decimal}
-use Rattle.uc_case.specs.Inside.{number_in, list_in, object_in, value_of}
-use Rattle.uc_case.specs.Words.{◌>>=◌, ◌>>◌, refuse, need}
+use Rattle.uc_file.specs.Inside.{number_in, list_in, object_in, value_of}
+use Rattle.uc_file.specs.Words.{◌>>=◌, ◌>>◌, refuse, need}
 use Rattle.uc_prices.specs.Faults.{site, fault}
 use Rattle.uc_prices.specs.Plain.{ReadsAs, IsItem, IsTooLarge, IsItemFault, IsItemAt, IsPriceList, IsListFault}
 use Rattle.uc_prices.specs.Plain.{AreEnergyPrices, AreReservePrices, IsEnergyFault, IsReserveFault, HasFault}

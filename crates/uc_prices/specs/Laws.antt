@@ -5,8 +5,8 @@ use Rattle.uc_model.specs.Data.{PriceLists}
 use Rattle.text_tree.specs.Parts.{Pair}
 use Rattle.text_tree.specs.Values.{Value}
 use Rattle.uc_text.specs.Texts.{IsText}
-use Rattle.uc_case.specs.Files.{FileFault}
-use Rattle.uc_case.specs.Inside.{object_in, value_of}
+use Rattle.uc_file.specs.Files.{FileFault}
+use Rattle.uc_file.specs.Inside.{object_in, value_of}
 use Rattle.uc_prices.specs.Kept.{IsPriceOf}
 use Rattle.uc_prices.specs.Plain.{IsReadAs}
 use Rattle.uc_prices.specs.PricesFiles.{IsPricesOf}

@@ -9,7 +9,7 @@ use Rattle.uc_num.specs.declared.Decimal.{Decimal}
 use Rattle.uc_num.specs.Rounding.{IsRounded}
 use Rattle.text_tree.specs.Parts.{Pair}
 use Rattle.text_tree.specs.Values.{Value}
-use Rattle.uc_case.specs.Inside.{number_in, list_in, object_in, value_of}
+use Rattle.uc_file.specs.Inside.{number_in, list_in, object_in, value_of}
 use Rattle.uc_prices.specs.Kept.{IsPriceOf}
 use Rattle.uc_prices.specs.declared.fault.PriceCode.{PriceCode}
 use Rattle.uc_prices.specs.declared.fault.PriceCode.TheVariants.{Missing, WrongKind, Negative}

@@ -6,9 +6,9 @@ use Rattle.std.specs.Prelude.{Result, Ok, Err}
 use Rattle.uc_model.specs.Data.{PriceLists}
 use Rattle.uc_num.specs.Rounding.{rounded}
 use Rattle.text_tree.specs.Values.{Value}
-use Rattle.uc_case.specs.Inside.{number_in, list_in, object_in, value_of}
-use Rattle.uc_case.specs.Magnitudes.{most_price}
-use Rattle.uc_case.specs.Words.{◌>>=◌, ◌>>◌, refuse, need, each, position}
+use Rattle.uc_file.specs.Inside.{number_in, list_in, object_in, value_of}
+use Rattle.uc_file.specs.Magnitudes.{most_price}
+use Rattle.uc_file.specs.Words.{◌>>=◌, ◌>>◌, refuse, need, each, position}
 use Rattle.uc_prices.specs.Faults.{site, item_at, fault}
 use Rattle.uc_prices.specs.declared.fault.PriceCode.TheVariants.{Missing, WrongKind, Negative}
 use Rattle.uc_prices.specs.declared.fault.PriceCode.TheVariants.{TooLarge, WrongLength}

@@ -2,7 +2,7 @@
 ghost use Rattle.uc_prices.specs.Laws.{SomePrices, OnePrices, PricesHaveForm};
 ghost use Rattle.uc_prices.specs.Laws.{ValuesAreReadAs};
 
-use uc_case::laws::one_file;
+use uc_file::laws::one_file;
 use uc_num::laws::rounds_to_nearest;
 
 /// Each list of bytes has prices over so many periods or a first fault.

@@ -4,8 +4,8 @@ ghost use Rattle.std.specs.List.{All};
 ghost use Rattle.uc_model.specs.PlainUnits.{prices_of};
 ghost use Rattle.uc_model.specs.declared.limits.TheConstants.{MOST_PERIODS};
 ghost use Rattle.text_tree.specs.View.{view, member_views};
-ghost use Rattle.uc_case.specs.Given.{Gives};
-ghost use Rattle.uc_case.specs.Inside.{value_of};
+ghost use Rattle.uc_file.specs.Given.{Gives};
+ghost use Rattle.uc_file.specs.Inside.{value_of};
 ghost use Rattle.uc_prices.specs.Kept.{IsPriceOf};
 ghost use Rattle.uc_prices.specs.Tables.{list, energy, reserve, prices_in};
 
@@ -14,7 +14,7 @@ use crate::fault::{PriceCode, PriceField, PriceSite, PriceStop};
 use plain_lists::lists::Numbers;
 use std::alloc::Global;
 use text_tree::{Branch, Member};
-use uc_case::inside::find;
+use uc_file::inside::find;
 use uc_model::units::Prices;
 
 /// The prices of a list, one for each period. It is tried in the order `WrongKind`, `WrongLength`,

@@ -1,6 +1,6 @@
 use Rattle.uc_case.proofs.Common.{◌≡◌, Ok, rules, err_from_is_err_and, view, member_views}
 use Rattle.uc_case.specs.Forms.{keys, key, key_or_none}
-use Rattle.uc_case.specs.Given.{Fails}
+use Rattle.uc_file.specs.Given.{Fails}
 use Rattle.uc_case.specs.Tables.{piecewise, commitment}
 use Rattle.uc_case.specs.declared.fault.Field.TheVariants.{PiecewiseProduction, Commitment}
 use Rattle.uc_case.proofs.Lemmas.{power_stored, output_stored, thermal_fits, window_fails}

@@ -1,6 +1,6 @@
 //! Why a reader of a file's value stops.
 ghost use Rattle.std.specs.Prelude.{◌≡◌};
-ghost use Rattle.uc_case.specs.declared.stop.Stop.TheVariants.{Memory};
+ghost use Rattle.uc_file.specs.declared.stop.Stop.TheVariants.{Memory};
 
 use std::alloc::{AllocError, AllocFailed};
 

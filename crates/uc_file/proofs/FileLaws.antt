@@ -1,6 +1,6 @@
 -- A file is one value, or has one first fault.
-use Rattle.uc_case.proofs.Common.{List, ℕ, Result, Ok, Err, ◌⊎◌, inl, inr, ap, IsText, IsFirstFault, Value, IsFile}
-use Rattle.uc_case.proofs.Common.{SomeFile, OneFile}
+use Rattle.uc_file.proofs.Common.{List, ℕ, Result, Ok, Err, ◌⊎◌, inl, inr, ap, IsText, IsFirstFault, Value, IsFile}
+use Rattle.uc_file.proofs.Common.{SomeFile, OneFile}
 use Rattle.uc_text.specs.Laws.{TextOrFault, NeverBoth, OneValue, OneFault}
 use Rattle.uc_text.specs.declared.fault.TextFault.{TextFault}
 

@@ -1,6 +1,6 @@
 -- A key looked for, member by member.
-use Rattle.uc_case.proofs.Common.{◌≡◌, ℕ, suc, ◌+◌, ◌<◌, List, ◌∷◌, length, get_or, drop, Some, cond, bytes_eq, refl}
-use Rattle.uc_case.proofs.Common.{sym, ap, ◌∙◌, drop-cons, add-one, member_view, member_views, Member, value_of}
+use Rattle.uc_file.proofs.Common.{◌≡◌, ℕ, suc, ◌+◌, ◌<◌, List, ◌∷◌, length, get_or, drop, Some, cond, bytes_eq, refl}
+use Rattle.uc_file.proofs.Common.{sym, ap, ◌∙◌, drop-cons, add-one, member_view, member_views, Member, value_of}
 
 pub value_step : (key : List ℕ) (ms : List Member) (i : ℕ) (m : Member) → i < length ms → m ≡ get_or ms i m
     → value_of key (member_views (drop i ms)) ≡ cond (bytes_eq (member_view m).name key) (Some (member_view m).value)

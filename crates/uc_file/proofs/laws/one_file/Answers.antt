@@ -1,5 +1,5 @@
-use Rattle.uc_case.proofs.FileLaws.{some_file, one_file}
-use Rattle.uc_case.proofs.laws.one_file.Goals as goal
+use Rattle.uc_file.proofs.FileLaws.{some_file, one_file}
+use Rattle.uc_file.proofs.laws.one_file.Goals as goal
 
 pub returns-clause-some : goal.returns-clause-some
 returns-clause-some c = some_file c.text_or_fault.ensures

@@ -3,10 +3,10 @@ use Rattle.std.proofs.Common.{◌≡◌, ℕ, ◌+◌, ◌<◌, ◌≤◌, List,
 use Rattle.std.proofs.Common.{drop, Result, Ok, Err, refl, sym, ap, ◌∙◌, drop-cons, add-one, arith}
 use Rattle.std.proofs.lemmas.Grind.{common_steps}
 use Rattle.std.proofs.lemmas.List.{nil_from_length, length-drop}
-use Rattle.uc_case.specs.Given.{Fails}
-use Rattle.uc_case.specs.Words.{each}
-use Rattle.uc_case.specs.declared.stop.Stop.{Stop}
-use Rattle.uc_case.specs.declared.stop.Stop.TheVariants as stops
+use Rattle.uc_file.specs.Given.{Fails}
+use Rattle.uc_file.specs.Words.{each}
+use Rattle.uc_file.specs.declared.stop.Stop.{Stop}
+use Rattle.uc_file.specs.declared.stop.Stop.TheVariants as stops
 
 -- what is still to be read, beginning with this one
 split : {T B : Type 0} (seen : T → B) (ts : List T) (i : ℕ) (t : T)

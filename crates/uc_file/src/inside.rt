@@ -2,7 +2,7 @@
 ghost use Rattle.std.specs.Prelude.{◌≡◌};
 ghost use Rattle.std.specs.Option.{option_map};
 ghost use Rattle.text_tree.specs.View.{view, member_views};
-ghost use Rattle.uc_case.specs.Inside.{value_of, bit_of};
+ghost use Rattle.uc_file.specs.Inside.{value_of, bit_of};
 
 use text_tree::{Branch, Member};
 use uc_num::{Decimal, is_whole, whole};

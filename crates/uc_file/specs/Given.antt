@@ -1,7 +1,7 @@
 -- What a reader of a tree returned, beside what the tests give.
 use Rattle.std.specs.Prelude.{◌≡◌, Result, Ok, Err}
-use Rattle.uc_case.specs.declared.stop.Stop.{Stop}
-use Rattle.uc_case.specs.declared.stop.Stop.TheVariants as stops
+use Rattle.uc_file.specs.declared.stop.Stop.{Stop}
+use Rattle.uc_file.specs.declared.stop.Stop.TheVariants as stops
 
 abbrev pub Fails : {Y F : Type 0} → Stop F → Result Y F → Type 0
 Fails stops.Memory read = Unit {0}
