@@ -4,10 +4,13 @@ pub use Rattle.std.proofs.Common.{arith, ◌-ℤ◌, ◌≤ℤ◌, ◌<ℤ◌, s
 pub use Rattle.std.proofs.Common.{◌⊎◌, inl, inr, negsuc, Bool, true, false, List, [], ◌∷◌, take, ltb, eqb, length}
 pub use Rattle.std.proofs.Common.{IfSome, ◌-◌, ◌≢◌, get_or, set, get_or-set_same, get_or-set_other, cond, IsSome, ◌*◌}
 pub use Rattle.std.proofs.Common.{length-set, replicate, rules}
+pub use Rattle.std.proofs.Common.{◌++◌, length-append, add-one}
 pub use Rattle.std.proofs.Math.IntN.{zero-*ℤ, *ℤ-one, *ℤ_comm}
-pub use Rattle.std.proofs.lemmas.Bool.{lt-ltb, le-ltb, cases_lt, eqb-true, ltb-true, eq-eqb}
+pub use Rattle.std.proofs.lemmas.Bool.{lt-ltb, le-ltb, cases_lt, eqb-true, ltb-true, eq-eqb, cond-true, cond-false}
+pub use Rattle.std.proofs.lemmas.Bool.{ne_eqb}
 pub use Rattle.std.proofs.lemmas.Int.{to_z-of_z, by_lt_z}
-pub use Rattle.std.proofs.lemmas.List.{length-replicate, get_or-replicate, get_or_past}
+pub use Rattle.std.proofs.lemmas.List.{length-replicate, get_or-replicate, get_or_past, get_or_append_left}
+pub use Rattle.std.proofs.lemmas.List.{get_or_push}
 pub use Rattle.std.proofs.lemmas.Option.{get_or_from_slice_get}
 pub use Rattle.std.specs.Int.{int_min}
 pub use Rattle.std.specs.Option.{option_map}
@@ -23,14 +26,18 @@ pub use Rattle.spell_run.proofs.Arithmetic.{signed, bounded}
 pub use Rattle.spell_run.proofs.Options.{same_some}
 pub use Rattle.spell_run.specs.Frontier.{IsFrontier, IsReached}
 pub use Rattle.spell_run.specs.Laws.{best_reserve, most_reserve, IsReserve, ReserveIsAKink, ReserveIsBest}
-pub use Rattle.spell_run.specs.Notes.{IsNoted, IsEndNoted, end_cost}
+pub use Rattle.spell_run.specs.Logs.{entry_at, left_from, AreLogged, left_by, IsTrail}
+pub use Rattle.spell_run.specs.Notes.{passed_at, IsNoted, IsEndNoted, end_cost}
 pub use Rattle.spell_run.specs.Spells.{IsSpellWithin, IsDispatch, spell_cost, IsSpellAnswer}
 pub use Rattle.unit_rows.specs.NetCosts.{net_cost_at, net_cost}
 pub use Rattle.spell_run.specs.Spells.{over_min}
 pub use Rattle.spell_run.specs.Steps.{IsFairStep, IsCostOf, IsKinked, IsSmall, cap_at, step_at, IsStepped, IsLeastCost}
 pub use Rattle.spell_run.specs.Steps.{IsLeastCostIn, IsMove, IsRun}
 unfoldable pub use Rattle.spell_run.specs.Steps.{level}
+pub use Rattle.spell_run.specs.declared.notes.Logged.{Logged}
 pub use Rattle.spell_run.specs.declared.notes.Note.{Note}
+pub use Rattle.spell_run.specs.declared.notes.Passed.{Passed}
+pub use Rattle.spell_run.specs.declared.notes.Trail.{Trail}
 pub use Rattle.plain_lists.proofs.IntLaws.{mul-sub, mul-mono_of, sum_below-same}
 pub use Rattle.plain_lists.proofs.SignedLaws.{IsWithin, product_within, fits_within}
 pub use Rattle.uc_model.specs.Data.{Schedule, ThermalUnit, PriceLists}

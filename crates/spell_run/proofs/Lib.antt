@@ -14,6 +14,8 @@ pub mod FairLaws
 pub mod FrontierLaws
 -- a period of one spell behind a run of another
 pub mod JoinLaws
+-- entries of spells in a log
+pub mod LogLaws
 -- the best reserve for given powers
 pub mod ReserveLaws
 -- runs of periods: one more period, the periods that two schedules share, and dispatches

@@ -10,5 +10,5 @@ pub mod notes;
 pub mod running;
 pub mod step;
 
-pub use notes::{Note, Passage, Passed};
+pub use notes::{Log, Logged, Note, Passage, Passed, Trail};
 pub use running::{begin, end_and_run, run_over};

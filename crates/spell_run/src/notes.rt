@@ -1,4 +1,8 @@
-//! What the steps of a spell leave for the way back over it.
+//! What the steps of a spell leave for the way back over it, and the log that it is kept in.
+ghost use Rattle.std.specs.Prelude.{◌≡◌, ◌≢◌, ℕ, suc, ◌^◌, ◌<◌, ◌≤◌, length};
+ghost use Rattle.spell_run.specs.Logs.{left_by, IsTrail};
+
+use plain_lists::lists::ReservedList;
 use slope_list::Lowest;
 
 /// What a step leaves for the way back, in kilowatts.
@@ -29,4 +33,77 @@ pub struct Passed {
     /// The least cost of the spells that end with the period, its power, and the turn of their last
     /// step; None where there is none.
     pub end: Option<Lowest>,
+}
+
+/// What a spell left of a period, and which entry of the log it wrote before this one.
+#[derive(Clone, Copy)]
+pub struct Logged {
+    /// What the spell left of the period.
+    pub passed: Passed,
+    /// The place of the spell's entry for the period before; open in its first one.
+    pub before: u32,
+}
+
+/// What spells left of their periods, in the order of time. Spells that go forward side by side
+/// write by turns, so memory is touched only as far as there is something to leave.
+pub type Log = ReservedList<Logged>;
+
+/// The entries of one spell in a log, one for each period that it was taken over.
+#[derive(Clone, Copy)]
+pub struct Trail {
+    /// The place of the last one, where there is one.
+    pub last: u32,
+    /// How many there are.
+    pub count: u32,
+}
+
+impl Trail {
+    /// No entry.
+    pub fn none() -> Trail
+        ensures { result.count ≡ 0 }
+    {
+        Trail { last: 0, count: 0 }
+    }
+}
+
+/// Leaves one entry more of a spell, for which the log has memory, and answers all of the spell.
+pub fn leave(log: &mut Log, trail: Trail, passed: Passed) -> Trail
+    requires spare { 1 ≤ log.old.spare }
+    requires small { length log.old.items < 2 ^ 32 }
+    requires few { suc trail.count < 2 ^ 32 }
+    requires trail { IsTrail log.old.items trail }
+    ensures trail { IsTrail log.new.items result }
+    ensures count { result.count ≡ suc trail.count }
+    ensures here { left_by log.new.items result trail.count ≡ passed }
+    ensures earlier { (k : ℕ) → k ≢ trail.count
+        → left_by log.new.items result k ≡ left_by log.old.items trail k }
+    ensures others { (other : Trail) → IsTrail log.old.items other → IsTrail log.new.items other
+        × ((k : ℕ) → left_by log.new.items other k ≡ left_by log.old.items other k) }
+    ensures items { length log.new.items ≡ suc (length log.old.items) }
+    ensures spare { suc log.new.spare ≡ log.old.spare }
+{
+    let last = log.len() as u32;
+    log.push(Logged {
+        passed,
+        before: trail.last,
+    });
+    Trail {
+        last,
+        count: trail.count + 1,
+    }
+}
+
+/// The first entries of a spell in a log, so many of them.
+pub fn first_of(log: &[Logged], trail: Trail, count: u32) -> Trail
+    requires trail { IsTrail log.now trail }
+    requires fewer { count ≤ trail.count }
+    ensures trail { IsTrail log.now result }
+    ensures count { result.count ≡ count }
+    ensures same { (k : ℕ) → k < count → left_by log.now result k ≡ left_by log.now trail k }
+{
+    let mut last = trail.last;
+    for _ in 0..trail.count - count {
+        last = log[last as usize].before;
+    }
+    Trail { last, count }
 }

@@ -1,10 +1,10 @@
 -- The names that the proofs of this crate take from its specs and from other crates, passed on from one place.
 pub use Rattle.std.proofs.Common.{◌≡◌, ℕ, ◌+◌, ◌≤◌, ℤ, pos, ◌+ℤ◌, ◌*ℤ◌, Some, refl, ap, ◌∙◌, subst}
 pub use Rattle.std.proofs.Common.{arith, nat_abs, ◌-ℤ◌, ◌≤ℤ◌, ◌<ℤ◌, sym, w64, FitsSigned, to_z, of_z, zero, suc, ◌<◌}
-pub use Rattle.std.proofs.Common.{◌⊎◌, inl, inr, Bool, true, false, ltb, eqb, length}
+pub use Rattle.std.proofs.Common.{◌⊎◌, inl, inr, Bool, true, false, ltb, eqb, List, length}
 pub use Rattle.std.proofs.Common.{◌-◌, get_or}
 pub use Rattle.std.proofs.Common.{◌&&◌, rules}
-pub use Rattle.std.proofs.lemmas.Bool.{cases_lt, eq-eqb, ne_eqb, and_right}
+pub use Rattle.std.proofs.lemmas.Bool.{cases_lt, eq-eqb, ne_eqb, and_right, cond-true}
 pub use Rattle.std.proofs.lemmas.Int.{to_z-of_z, by_lt_z}
 pub use Rattle.std.specs.Int.{int_min, int_max}
 pub use Rattle.std.specs.Option.{option_map}
@@ -39,3 +39,7 @@ pub use Rattle.uc_model.specs.PlainUnits.{thermal_of, prices_of, schedule_of}
 pub use Rattle.uc_model.specs.Schedules.{power_in, reserve_in}
 pub use Rattle.plain_lists.specs.Sums.{int_at, sum_below}
 pub use Rattle.uc_model.specs.declared.units.Curve.{Curve}
+pub use Rattle.spell_run.specs.Logs.{entry_at, left_from, AreLogged, left_by, IsTrail}
+pub use Rattle.spell_run.specs.declared.notes.Logged.{Logged}
+pub use Rattle.spell_run.specs.declared.notes.Passed.{Passed}
+pub use Rattle.spell_run.specs.declared.notes.Trail.{Trail}

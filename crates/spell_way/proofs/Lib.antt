@@ -2,6 +2,8 @@
 pub mod Common
 -- the powers and the reserve of a period as they are stored, and that they stay within limits
 pub mod ChoiceLaws
+-- the entries of a spell in a log, read from the last one back
+pub mod LogLaws
 -- the way back by what the steps noted
 pub mod NoteLaws
 -- periods that are on, and one before them

@@ -5,4 +5,4 @@
 pub mod way;
 pub mod write;
 
-pub use way::write_spell;
+pub use way::{Left, write_spell};

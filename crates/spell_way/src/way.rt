@@ -9,7 +9,8 @@ ghost use Rattle.shape_law.specs.Table.{Table, value_of};
 ghost use Rattle.slope_piece.specs.Turn.{IsTurn, IsFirst, IsLast};
 ghost use Rattle.spell_way.specs.Entries.{IsOnFromTo, IsSameOutside};
 ghost use Rattle.spell_way.specs.Ways.{IsChosen};
-ghost use Rattle.spell_run.specs.Notes.{IsNoted, IsSpellNoted, passed_at};
+ghost use Rattle.spell_run.specs.Logs.{left_by, IsTrail};
+ghost use Rattle.spell_run.specs.Notes.{IsNoted, IsSpellNoted};
 ghost use Rattle.spell_way.specs.Ways.{IsCheapest};
 ghost use Rattle.spell_run.specs.Spells.{IsBestDispatch, IsFirstDispatch};
 ghost use Rattle.spell_run.specs.Steps.{step_at, IsFairStep};
@@ -18,8 +19,9 @@ ghost use Rattle.uc_model.specs.PlainUnits.{thermal_of, prices_of, schedule_of};
 
 use crate::write::write_best;
 use cost_curve::laws::envelope_is_cost;
+use spell_run::notes::first_of;
 use spell_run::step::{Step, starts_in, step_of};
-use spell_run::{Note, Passed};
+use spell_run::{Logged, Note, Trail};
 use uc_model::units::{Answered, Prices, Unit};
 
 /// A period on the way back.
@@ -33,6 +35,15 @@ struct Visit {
     note: Note,
     /// The power at its end, in kilowatts.
     power: i64,
+}
+
+/// What a spell left: its entries in a log.
+#[derive(Clone, Copy)]
+pub struct Left<'a> {
+    /// What all spells of the unit left.
+    pub log: &'a [Logged],
+    /// Which entries are this spell's.
+    pub trail: Trail,
 }
 
 /// The cheapest power before a step to a power, the least of those.
@@ -76,7 +87,7 @@ fn write_period(unit: &Unit, prices: &Prices, first: u32, visit: Visit, into: &m
 }
 
 /// Leaves a dispatch of least net cost in the periods of the spell from `first` to `last`, the
-/// first of those of that cost, by what the spell left of them, from its first one on: by powers
+/// first of those of that cost, by what the spell left of them: by powers
 /// from the last period back, less power first, and then by reserves. `first` 0 stands for a spell
 /// that goes on from before period 1. All other periods, and what is earned, stay. Prices and `into`
 /// are over the same periods. Takes no memory.
@@ -85,15 +96,16 @@ pub fn write_spell(
     prices: &Prices,
     first: u32,
     last: u32,
-    passed: &[Passed],
+    left: Left,
     into: &mut Answered,
 )
     requires order { first ≤ last }
     requires some { 1 ≤ last }
     requires end { last ≤ length (prices_of prices.now).energy }
-    requires room { last - (first - 1) ≤ length passed.now }
+    requires trail { IsTrail left.log.now left.trail }
+    requires room { last - (first - 1) ≤ left.trail.count }
     requires noted { IsSpellNoted (thermal_of unit.now) (prices_of prices.now) first last
-        (λ k. passed_at passed.now (k - (first - 1))) }
+        (λ k. left_by left.log.now left.trail (k - (first - 1))) }
     requires into { length (schedule_of into.old.response).on
         ≡ length (prices_of prices.now).energy }
     ensures best { (cost : ℤ)
@@ -106,17 +118,17 @@ pub fn write_spell(
         (schedule_of into.new.response) }
     ensures earned { into.new.earned ≡ into.old.earned }
 {
-    let end = last as usize - 1;
-    let skipped = first.saturating_sub(1) as usize;
-    let left = passed[end - skipped];
-    let Some(lowest) = left.end else {
+    let trail = first_of(left.log, left.trail, last - first.saturating_sub(1));
+    let entry = left.log[trail.last as usize];
+    let Some(lowest) = entry.passed.end else {
         return;
     };
     let note = Note {
         turn: lowest.turn,
-        first: left.note.first,
-        last: left.note.last,
+        first: entry.passed.note.first,
+        last: entry.passed.note.last,
     };
+    let end = last as usize - 1;
     envelope_is_cost();
     let stops = (last as usize) < prices.energy.len();
     let visit = Visit {
@@ -126,14 +138,16 @@ pub fn write_spell(
         power: lowest.at,
     };
     let mut power = write_period(unit, prices, first, visit, into);
+    let mut at = entry.before;
     for back in 1..last + 1 - first.max(1) {
-        let place = end - back as usize;
+        let entry = left.log[at as usize];
         let visit = Visit {
-            place,
+            place: end - back as usize,
             stops: false,
-            note: passed[place - skipped].note,
+            note: entry.passed.note,
             power,
         };
         power = write_period(unit, prices, first, visit, into);
+        at = entry.before;
     }
 }

@@ -1,7 +1,7 @@
 -- What a bench is made for stays.
 use Rattle.unit_program.proofs.Common.{◌≡◌, ℕ, zero, suc, ◌+◌, ◌-◌, ◌*◌, ◌≤◌, ◌⊎◌, inl, inr, Some, List, [], ◌∷◌, ◌++◌}
 use Rattle.unit_program.proofs.Common.{length, sym, ap, ◌∙◌, subst, arith, slice_get, mul-le-mul_left, Runner}
-use Rattle.unit_program.proofs.Common.{places_of, HaveRoom, room_of, space_of}
+use Rattle.unit_program.proofs.Common.{AreTrails, HaveRoom, room_of, space_of}
 use Rattle.unit_program.specs.declared.bench.Bench.{Bench}
 use Rattle.unit_program.proofs.Common.{◌<◌, Option, None, IfSome, ThermalUnit, PriceLists, Entry, IsEndWithin}
 use Rattle.unit_program.proofs.Common.{HaveWays, cost_at, first_at, left_at}
@@ -15,18 +15,20 @@ charge_less periods points blocks few = mul-le-mul_left periods (omega (arith, f
 pub bench_kept : (periods points : ℕ) (old new : Bench) →
     length old.curve.blocks.items + old.curve.blocks.spare ≡ length new.curve.blocks.items + new.curve.blocks.spare →
     length new.runners.items ≡ length old.runners.items →
-    ((room periods : ℕ) → HaveRoom room periods old.runners.items →
-    HaveRoom room periods new.runners.items) → space_of new.spare ≡ space_of old.spare →
+    ((room : ℕ) → HaveRoom room old.runners.items → HaveRoom room new.runners.items) →
+    space_of new.shared.spare ≡ space_of old.shared.spare →
+    length new.shared.log.items + new.shared.log.spare ≡ length old.shared.log.items + old.shared.log.spare →
     length new.table.items ≡ length old.table.items →
     length new.origins.list.items ≡ length old.origins.list.items →
     length new.roster.firsts.items ≡ length old.roster.firsts.items →
     length new.limits.items ≡ length old.limits.items → IsBenchFor periods points old → IsBenchFor periods points new
-bench_kept periods points old new curve count keeps spare rows list firsts each b =
+bench_kept periods points old new curve count keeps spare log rows list firsts each b =
     record {
       blocks = omega (arith, curve);
       count = omega (arith, count);
       space = omega (arith, spare, b.space);
-      room = rw spare (keeps (space_of old.spare) periods b.room);
+      room = rw spare (keeps (space_of old.shared.spare) b.room);
+      log = omega (arith, log, b.log);
       rows = omega (arith, rows);
       origins = omega (arith, list);
       roster = omega (arith, firsts);
@@ -37,12 +39,13 @@ bench_kept periods points old new curve count keeps spare rows list firsts each 
 
 pub way_found : (u : ThermalUnit) (π : PriceLists) (b : Bench) (found : Option Entry) →
     IfSome found (λ e. IsEndWithin u π b.table.items e.last e.cost) →
-    HaveWays u π (length π.energy) (cost_at b.table.items) (first_at b.table.items) (left_at b.runners.items) →
+    HaveWays u π (length π.energy) (cost_at b.table.items) (first_at b.table.items)
+    (left_at b.shared.log.items b.runners.items) → AreTrails b.shared.log.items b.runners.items →
     length π.energy < length b.table.items → length π.energy < length b.runners.items →
     IfSome found (λ e. HasWayFrom u π e b)
-way_found u π b None least ways rows runners = tt
-way_found u π b (Some e) least ways rows runners =
-    record { least = least; ways = ways; rows = rows; runners = runners }
+way_found u π b None least ways trails rows runners = tt
+way_found u π b (Some e) least ways trails rows runners =
+    record { least = least; ways = ways; trails = trails; rows = rows; runners = runners }
 
 -- ---- runners made one by one
 
@@ -53,11 +56,10 @@ get_append [] r (suc i) x h = cc
 get_append (y ∷ ys) r zero x h = inl h
 get_append (y ∷ ys) r (suc i) x h = get_append ys r i x h
 
-pub room_more : (most periods : ℕ) (runners runners' : List Runner) (r : Runner) →
-    runners' ≡ runners ++ r ∷ [] → most ≡ room_of r.running → periods ≤ places_of r →
-    HaveRoom most periods runners → HaveRoom most periods runners'
-room_more most periods runners runners' r is fits long have f x there =
+pub room_more : (most : ℕ) (runners runners' : List Runner) (r : Runner) →
+    runners' ≡ runners ++ r ∷ [] → most ≡ room_of r.running → HaveRoom most runners → HaveRoom most runners'
+room_more most runners runners' r is fits have f x there =
     elim (get_append runners r f x (ap (λ xs. slice_get xs f) (sym is) ∙ there)) [
       | inl before ↦ have f x before
-      | inr same ↦ subst (λ x. (most ≡ room_of x.running) × (periods ≤ places_of x)) same (fits, long)
+      | inr same ↦ subst (λ x. most ≡ room_of x.running) same fits
     ]

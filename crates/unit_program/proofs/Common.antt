@@ -16,7 +16,7 @@ pub use Rattle.std.specs.Prelude.{IsTrue, IsFalse, IfSome, slice_index, slice_in
 pub use Rattle.unit_table.specs.Laws.{CappedRowsAreRows, StartsAreWithinLimits, LimitsAreAboveTheAmount}
 pub use Rattle.unit_rows.specs.Limits.{capped}
 pub use Rattle.unit_table.specs.Limits.{IsRowWithin, IsFilledWithin, IsEndWithin, EachCostsMore}
-pub use Rattle.unit_table.specs.Live.{places_of, HaveRoom, left_of, left_at}
+pub use Rattle.unit_table.specs.Live.{HaveRoom, AreTrails, left_of, left_at}
 pub use Rattle.unit_rows.specs.Rows.{row_at, cost_at, first_at, before_at, HasEntryAtMost, IsWithinTimes}
 pub use Rattle.unit_table.specs.Runners.{HaveWays, since}
 pub use Rattle.unit_rows.specs.Spells.{IsSpell, start_cost_after, IsOffRun, paid, on_time, off_time, IsGap, period_cost}
@@ -27,7 +27,10 @@ pub use Rattle.unit_rows.specs.declared.table.Ended.{Ended}
 pub use Rattle.unit_rows.specs.declared.table.Entry.{Entry}
 pub use Rattle.slope_list.specs.Slopes.{room_of, space_of}
 pub use Rattle.spell_way.specs.Entries.{IsOnFromTo, IsSameOutside}
-pub use Rattle.spell_run.specs.Notes.{passed_at, IsSpellNoted}
+pub use Rattle.std.proofs.lemmas.Nat.{mul-le}
+pub use Rattle.spell_run.specs.Logs.{left_from, entry_at}
+pub use Rattle.spell_run.specs.declared.notes.Logged.{Logged}
+pub use Rattle.spell_run.specs.Notes.{IsSpellNoted}
 pub use Rattle.spell_run.specs.Spells.{IsBestDispatch, IsFirstDispatch, over_min, IsDispatch, IsLeastSpell, spell_cost}
 pub use Rattle.spell_run.proofs.Arithmetic.{signed}
 pub use Rattle.unit_rows.specs.NetCosts.{net_cost}

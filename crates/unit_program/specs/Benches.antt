@@ -5,7 +5,7 @@ use Rattle.slope_list.specs.Slopes.{space_of}
 use Rattle.uc_model.specs.Data.{ThermalUnit, PriceLists}
 use Rattle.unit_program.specs.declared.bench.Bench.{Bench}
 use Rattle.unit_table.specs.Limits.{IsEndWithin}
-use Rattle.unit_table.specs.Live.{HaveRoom, left_at}
+use Rattle.unit_table.specs.Live.{HaveRoom, HasRoomFor, AreTrails, left_at}
 use Rattle.unit_rows.specs.Rows.{cost_at, first_at}
 use Rattle.unit_table.specs.Runners.{HaveWays}
 use Rattle.unit_rows.specs.declared.table.Entry.{Entry}
@@ -14,8 +14,9 @@ use Rattle.unit_rows.specs.declared.table.Entry.{Entry}
 pub record IsBenchFor (periods points : ℕ) (b : Bench) : Type 0 where
   pub blocks : 2 * points ≤ length b.curve.blocks.items + b.curve.blocks.spare
   pub count : periods < length b.runners.items
-  pub space : periods * (2 * points + 3) ≤ space_of b.spare
-  pub room : HaveRoom (space_of b.spare) periods b.runners.items
+  pub space : periods * (2 * points + 3) ≤ space_of b.shared.spare
+  pub room : HaveRoom (space_of b.shared.spare) b.runners.items
+  pub log : HasRoomFor periods b.shared.log
   pub rows : periods < length b.table.items
   pub origins : periods < length b.origins.list.items
   pub roster : periods < length b.roster.firsts.items
@@ -27,11 +28,12 @@ BenchesServeLess =
     (periods points fewer less : ℕ) (b : Bench) → fewer ≤ periods → less ≤ points →
     IsBenchFor periods points b → IsBenchFor fewer less b
 
--- its table has this end as the least, and its runners have left what the way back needs
+-- its table has this end as the least, and its log has what the way back needs
 pub record HasWayFrom (u : ThermalUnit) (π : PriceLists) (end : Entry) (b : Bench) : Type 0 where
   pub least : IsEndWithin u π b.table.items end.last end.cost
   pub ways :
       HaveWays u π (length π.energy) (cost_at b.table.items) (first_at b.table.items)
-      (left_at b.runners.items)
+      (left_at b.shared.log.items b.runners.items)
+  pub trails : AreTrails b.shared.log.items b.runners.items
   pub rows : length π.energy < length b.table.items
   pub runners : length π.energy < length b.runners.items

@@ -5,17 +5,18 @@ ghost use Rattle.plain_lists.specs.Ranges.{IsFrom};
 ghost use Rattle.uc_model.specs.PlainUnits.{thermal_of, prices_of};
 ghost use Rattle.unit_program.specs.Benches.{IsBenchFor, HasWayFrom};
 ghost use Rattle.unit_table.specs.Limits.{IsFilledWithin, EachCostsMore};
-ghost use Rattle.unit_table.specs.Live.{left_at, HaveRoom};
+ghost use Rattle.unit_table.specs.Live.{left_at, AreTrails, HaveRoom};
 ghost use Rattle.unit_rows.specs.Rows.{cost_at, first_at};
 ghost use Rattle.unit_table.specs.Runners.{HaveWays};
 
 use crate::answer::least_end;
 use crate::kept::{Kept, NO_BOUND};
 use crate::last::LastAnswers;
-use crate::way::write_noted;
+use crate::way::{Ways, write_noted};
 use cost_curve::curves::curve_into;
-use plain_lists::lists::{Numbers, ReservedList};
-use slope_list::{Slopes, Spare};
+use plain_lists::lists::Numbers;
+use slope_list::Slopes;
+use spell_run::Trail;
 use std::alloc::{AllocError, Global};
 use uc_model::laws::earnings_are_within;
 use uc_model::units::{Answered, Blocks, Curve, Prices, Unit};
@@ -27,6 +28,7 @@ use unit_table::periods::fill_by_periods;
 use unit_table::question::Question;
 use unit_table::roster::Roster;
 use unit_table::runner::Runner;
+use unit_table::shared::Shared;
 
 /// Memory for the answers of units over so many periods, with so many cost points. What it holds
 /// between two calls is open.
@@ -34,8 +36,8 @@ pub struct Bench {
     curve: Curve,
     // The spells that go forward together.
     runners: Vec<Runner>,
-    // Room for the next step of one of them.
-    spare: Spare,
+    // What they write to by turns.
+    shared: Shared,
     // The ends that the next start may follow.
     origins: Origins,
     // Which spells go forward.
@@ -53,7 +55,7 @@ impl Drop for Bench {
         let Bench {
             curve: _,
             runners: _,
-            spare: _,
+            shared: _,
             origins: _,
             roster: _,
             table: _,
@@ -63,21 +65,20 @@ impl Drop for Bench {
     }
 }
 
-// So many runners, none of them on, each with room for so many pieces and as many periods.
+// So many runners, none of them on, each with room for so many pieces.
 fn make_runners(alloc: Global, count: u32, pieces: usize) -> Result<Vec<Runner>, AllocError>
     ensures count { IfOk result (λ v. length v.items ≡ count) }
-    ensures room { IfOk result (λ v. HaveRoom pieces count v.items) }
+    ensures room { IfOk result (λ v. HaveRoom pieces v.items) }
 {
     let mut runners = Vec::with_capacity(alloc, count as usize)?;
     for _ in 0..count {
         let running = Slopes::make(alloc, pieces)?;
-        let passed = ReservedList::make(alloc, count)?;
         let runner = Runner {
             is_on: false,
             cost: 0,
             before: 0,
             running,
-            passed,
+            trail: Trail::none(),
         };
         runners.push_reserved(runner);
     }
@@ -94,7 +95,9 @@ fn fill_bench(bench: &mut Bench, unit: &Unit, prices: &Prices, most: i64)
         bench.new.table.items }
     ensures ways { HaveWays (thermal_of unit.now) (prices_of prices.now)
         (length (prices_of prices.now).energy) (cost_at bench.new.table.items)
-        (first_at bench.new.table.items) (left_at bench.new.runners.items) }
+        (first_at bench.new.table.items)
+        (left_at bench.new.shared.log.items bench.new.runners.items) }
+    ensures trails { AreTrails bench.new.shared.log.items bench.new.runners.items }
     ensures bench { (periods points : ℕ) → IsBenchFor periods points bench.old
         → IsBenchFor periods points bench.new }
 {
@@ -112,7 +115,7 @@ fn fill_bench(bench: &mut Bench, unit: &Unit, prices: &Prices, most: i64)
         &mut bench.roster,
         bench.runners.as_mut_slice(),
         &mut bench.table,
-        &mut bench.spare,
+        &mut bench.shared,
     );
 }
 
@@ -177,7 +180,7 @@ impl Bench {
         let roster = Roster::make(alloc, periods)?;
         let blocks = Blocks::make(alloc, 2 * points)?;
         let kept = Kept::make(alloc, periods)?;
-        let spare = Spare::make(alloc, pieces as usize)?;
+        let shared = Shared::make(alloc, periods, pieces as usize)?;
         // The runners come last, so that no early return has to drop them.
         let runners = make_runners(alloc, rows, pieces as usize)?;
         Ok(Bench {
@@ -187,7 +190,7 @@ impl Bench {
                 blocks,
             },
             runners,
-            spare,
+            shared,
             origins,
             roster,
             table,
@@ -244,14 +247,10 @@ impl Bench {
         ensures earned { into.new.earned ≡ earnings (Thermal (thermal_of unit.now))
             (prices_of prices.now) (schedule_of into.new.response) }
     {
-        write_noted(
-            unit,
-            prices,
-            self.table.as_slice(),
-            self.runners.as_slice(),
-            end,
-            into,
-        );
+        let runners = self.runners.as_slice();
+        let log = self.shared.log.as_slice();
+        let ways = Ways { runners, log };
+        write_noted(unit, prices, self.table.as_slice(), ways, end, into);
     }
 
     /// Keeps the answer to prices of the unit of a number for the next time, if it can.

@@ -8,34 +8,38 @@ ghost use Rattle.uc_model.specs.Ties.{IsLeast};
 ghost use Rattle.unit_program.specs.Backs.{IsWritten, IsWrittenBack};
 ghost use Rattle.unit_program.specs.Builds.{IsIdle};
 ghost use Rattle.unit_table.specs.Limits.{IsRowWithin, IsEndWithin};
-ghost use Rattle.unit_table.specs.Live.{left_at};
+ghost use Rattle.unit_table.specs.Live.{left_at, AreTrails};
 ghost use Rattle.unit_rows.specs.Rows.{cost_at, first_at};
 ghost use Rattle.unit_table.specs.Runners.{HaveWays, since};
 
 use crate::answer::{clear, is_all_off, negated};
-use spell_way::write_spell;
+use spell_run::Logged;
+use spell_way::{Left, write_spell};
 use uc_model::laws::start_costs_are_within;
 use uc_model::units::{Answered, Prices, Unit};
 use unit_rows::table::{Ended, Entry};
 use unit_table::laws::limits_keep_rows;
 use unit_table::runner::Runner;
 
+/// What all spells of a table left.
+#[derive(Clone, Copy)]
+pub struct Ways<'a> {
+    /// A runner for each first period, each with its last entry of the log.
+    pub runners: &'a [Runner],
+    /// The entries of all of them.
+    pub log: &'a [Logged],
+}
+
 // Writes a dispatch of least net cost of the spell from `first` to `last`; nothing where it ends
 // before period 1.
-fn write_left(
-    unit: &Unit,
-    prices: &Prices,
-    runners: &[Runner],
-    first: u32,
-    last: u32,
-    into: &mut Answered,
-)
+fn write_left(unit: &Unit, prices: &Prices, ways: Ways, first: u32, last: u32, into: &mut Answered)
     requires order { first ≤ last }
     requires end { last ≤ length (prices_of prices.now).energy }
-    requires runners { first < length runners.now }
+    requires runners { first < length ways.runners.now }
+    requires trails { AreTrails ways.log.now ways.runners.now }
     requires noted { 1 ≤ last
         → IsSpellNoted (thermal_of unit.now) (prices_of prices.now) first last
-        (since first (left_at runners.now first)) }
+        (since first (left_at ways.log.now ways.runners.now first)) }
     requires into { length (schedule_of into.old.response).on
         ≡ length (prices_of prices.now).energy }
     ensures written { IsWritten (thermal_of unit.now) (prices_of prices.now)
@@ -45,8 +49,11 @@ fn write_left(
         ≡ length (schedule_of into.old.response).on }
 {
     if last > 0 {
-        let passed = runners[first as usize].passed.as_slice();
-        write_spell(unit, prices, first, last, passed, into);
+        let left = Left {
+            log: ways.log,
+            trail: ways.runners[first as usize].trail,
+        };
+        write_spell(unit, prices, first, last, left, into);
     }
 }
 
@@ -55,16 +62,17 @@ fn write_back(
     unit: &Unit,
     prices: &Prices,
     rows: &[Option<Ended>],
-    runners: &[Runner],
+    ways: Ways,
     last: u32,
     into: &mut Answered,
 )
     requires within { IsRowWithin (thermal_of unit.now) (prices_of prices.now) rows.now last }
     requires ways { HaveWays (thermal_of unit.now) (prices_of prices.now)
         (length (prices_of prices.now).energy) (cost_at rows.now) (first_at rows.now)
-        (left_at runners.now) }
+        (left_at ways.log.now ways.runners.now) }
+    requires trails { AreTrails ways.log.now ways.runners.now }
     requires room { length (prices_of prices.now).energy < length rows.now }
-    requires runners { length (prices_of prices.now).energy < length runners.now }
+    requires runners { length (prices_of prices.now).energy < length ways.runners.now }
     requires last { last ≤ length (prices_of prices.now).energy }
     requires into { length (schedule_of into.old.response).on
         ≡ length (prices_of prices.now).energy }
@@ -82,30 +90,31 @@ fn write_back(
     if is_all_off(unit, last) {
         return;
     }
-    write_left(unit, prices, runners, ended.first, last, into);
+    write_left(unit, prices, ways, ended.first, last, into);
     if ended.first == 0 {
         return;
     }
-    write_back(unit, prices, rows, runners, ended.before, into);
+    write_back(unit, prices, rows, ways, ended.before, into);
 }
 
 /// Leaves in `into` the least best response, which the table names from the earliest of its least
 /// ends, and what it earns. Unit, prices and `into` are over the same T periods, `end` is that end
-/// and within the limits of the rows, and the runners have left what the way back from each needs.
+/// and within the limits of the rows, and `ways` has what the way back from each needs.
 /// Takes no memory.
 pub fn write_noted(
     unit: &Unit,
     prices: &Prices,
     rows: &[Option<Ended>],
-    runners: &[Runner],
+    ways: Ways,
     end: &Entry,
     into: &mut Answered,
 )
     requires ways { HaveWays (thermal_of unit.now) (prices_of prices.now)
         (length (prices_of prices.now).energy) (cost_at rows.now) (first_at rows.now)
-        (left_at runners.now) }
+        (left_at ways.log.now ways.runners.now) }
+    requires trails { AreTrails ways.log.now ways.runners.now }
     requires room { length (prices_of prices.now).energy < length rows.now }
-    requires runners { length (prices_of prices.now).energy < length runners.now }
+    requires runners { length (prices_of prices.now).energy < length ways.runners.now }
     requires end { IsEndWithin (thermal_of unit.now) (prices_of prices.now) rows.now end.now.last
         end.now.cost }
     requires into { length (schedule_of into.old.response).on
@@ -119,6 +128,6 @@ pub fn write_noted(
 {
     limits_keep_rows();
     clear(into);
-    write_back(unit, prices, rows, runners, end.last, into);
+    write_back(unit, prices, rows, ways, end.last, into);
     into.earned = negated(end.cost);
 }

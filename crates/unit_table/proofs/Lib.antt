@@ -6,8 +6,8 @@ pub mod BeginLaws
 pub mod LimitLaws
 -- a list of runners, and one of them written
 pub mod LiveLaws
--- the places of a list that a spell left, read and written
-pub mod NoteLaws
+-- how many entries of a log a period takes at most
+pub mod LogLaws
 -- the ends that the next start may follow, as a period of the table asks for them
 pub mod OriginLaws
 -- a period of the table, from its runners

@@ -4,7 +4,9 @@ use Rattle.unit_table.proofs.Common.{count_of, room_of}
 use Rattle.unit_table.proofs.Common.{◌≡◌, ◌≢◌, ℕ, zero, suc, ◌+◌, ◌-◌, ◌*◌, ◌<◌, ◌≤◌, inl, inr, Bool, true, false, cond}
 use Rattle.unit_table.proofs.Common.{Option, Some, None, ℤ, pos, ◌+ℤ◌, ◌-ℤ◌, ◌≤ℤ◌, ◌<ℤ◌, List, [], ◌∷◌, length, refl}
 use Rattle.unit_table.proofs.Common.{sym, ap, ◌∙◌, subst, arith, IfSome, slice_get, slice_set, ints}
-use Rattle.unit_table.proofs.Common.{cases_eq, Table, value_of, ThermalUnit, PriceLists, passed_at, Runner, Passed}
+use Rattle.unit_table.proofs.Common.{cases_eq, Table, value_of, ThermalUnit, PriceLists, Runner, Logged, Trail}
+use Rattle.unit_table.proofs.Common.{HaveSameRooms, left_by, IsTrail, AreTrails, ◌⊎◌}
+use Rattle.spell_run.specs.Logs.{AreLogged}
 use Rattle.unit_table.proofs.Common.{going_of, live_at, left_of, left_at, AreRoomy, AreSmall, IsUnder, IsBeyond}
 use Rattle.unit_table.proofs.Common.{IsBelow, HaveRoom, Going, AreRunners, AreFewer, IsKeptFrom, AreKept, length-set}
 use Rattle.plain_lists.proofs.ListLaws.{get_set_same, get_set_other}
@@ -62,10 +64,10 @@ pub below_of : (f f' : Table) (e e' shift : ℤ) → shift ≡ e -ℤ e' →
 below_of f f' e e' shift is below x v there =
     (let u = below x v there in (u.0, u.1, omega (arith, ints)))
 
-pub under_of : (f : Table) (e power cost v sum : ℤ) (before : ℕ) (left : ℕ → Passed) → value_of f power ≡ Some v →
+pub under_of : (f : Table) (e power cost v sum : ℤ) (before : ℕ) → value_of f power ≡ Some v →
     sum ≡ e +ℤ v → (sum +ℤ pos 1) ≤ℤ cost →
-    IsUnder power cost (record { before = before; cost = e; function = f; left = left })
-under_of f e power cost v sum before left there is less = (v, there, omega (arith, ints))
+    IsUnder power cost (record { before = before; cost = e; function = f })
+under_of f e power cost v sum before there is less = (v, there, omega (arith, ints))
 
 pub beyond_of : (f : Table) (e limit : ℤ) → ((x v : ℤ) → value_of f x ≡ Some v → limit <ℤ (v +ℤ e)) → IsBeyond limit e f
 beyond_of f e limit above x v there = (let over = above x v there in omega (arith, ints))
@@ -130,15 +132,15 @@ slice_get_none (x ∷ xs) (suc f) h = (let e = slice_get_none xs f h in omega ar
 -- ---- the same runners, of which some were stopped or begun
 
 kept_one : (r : Runner) → IsKeptFrom r r
-kept_one r = record { room_same = refl; passed = refl; pieces = λ on. inr (on, refl) }
+kept_one r = record { room_same = refl; trail = refl; pieces = λ on. inr (on, refl) }
 
-pub stopped_one : (old a : Runner) → a.is_on ≡ false → a.running ≡ old.running → a.passed ≡ old.passed →
+pub stopped_one : (old a : Runner) → a.is_on ≡ false → a.running ≡ old.running → a.trail ≡ old.trail →
     IsKeptFrom old a
-stopped_one old a off same passed = record { room_same = ap room_of same; passed = passed; pieces = λ on. absurd (cc) }
+stopped_one old a off same trail = record { room_same = ap room_of same; trail = trail; pieces = λ on. absurd (cc) }
 
 pub begun_one : (old a : Runner) → count_of a.running ≡ 0 → room_of a.running ≡ room_of old.running →
-    a.passed ≡ old.passed → IsKeptFrom old a
-begun_one old a none same passed = record { room_same = same; passed = passed; pieces = λ on. inl none }
+    a.trail ≡ old.trail → IsKeptFrom old a
+begun_one old a none same trail = record { room_same = same; trail = trail; pieces = λ on. inl none }
 
 pub kept_none : (runners : List Runner) → AreKept runners runners
 kept_none runners = record { count_same = refl; each = λ f r is. (r, is, kept_one r) }
@@ -153,7 +155,7 @@ kept_then a b d early late = record {
         o.1,
         record {
           room_same = cc;
-          passed = cc;
+          trail = n.2.trail ∙ o.2.trail;
           pieces = λ on. elim (n.2.pieces on) [
             | inl none ↦ inl none
             | inr h ↦ elim (o.2.pieces h.0) [
@@ -184,56 +186,94 @@ kept_written runners runners' i a old low set was kept = record {
 }
 
 module _ (old new : List Runner) (kept : AreKept old new) where
-  pub kept_roomy : (periods t charge : ℕ) → AreRoomy periods t charge old →
-      AreRoomy periods t charge new
-  kept_roomy periods t charge roomy f r is =
+  -- those that are on were so before, or begin with a period that is still to come
+  pub kept_roomy : (periods t charge : ℕ) →
+      ((f : ℕ) → ((live_at new f ≡ live_at old f) ⊎ (live_at new f ≡ None)) ⊎ (t ≤ f - 1)) →
+      AreRoomy periods t charge old → AreRoomy periods t charge new
+  kept_roomy periods t charge fresh roomy f r is =
       let k = kept.each f r is in
       let o = roomy f k.0 k.1 in
       let whole = o.whole in
-      let length_same = ap (λ p. length p.items + p.spare) k.2.passed in
+      let same = k.2.room_same in
+      let count_same = ap (λ (x : Trail). x.count) k.2.trail in
       record {
         whole = omega arith;
-        places = omega arith;
         rest = λ on. elim (k.2.pieces on) [
           | inl none ↦ (let rest = room_none periods t charge (room_of k.0.running) whole in omega arith)
           | inr h ↦ (let rest = o.rest h.0 in omega arith)
         ];
+        count = λ on. elim (fresh f) [
+          | inl before ↦ elim before [
+            | inl live ↦ (let was = o.count
+                (on_from old f k.0 k.1 (state_of r) (sym live ∙ live_from new f r is on)) in omega arith)
+            | inr off ↦ (let live = live_from new f r is on in absurd (cc))
+          ]
+          | inr early ↦ (let none = o.none early in omega arith)
+        ];
+        none = λ early. (let none = o.none early in omega arith);
       }
 
-  pub kept_room : (room periods : ℕ) → HaveRoom room periods old → HaveRoom room periods new
-  kept_room room periods have f r is =
-      let k = kept.each f r is in
-      let there = (have f k.0 k.1).0 in
-      let places = (have f k.0 k.1).1 in
-      let length_same = ap (λ p. length p.items + p.spare) k.2.passed in
-      (omega arith, omega arith)
+  pub kept_room : (room : ℕ) → HaveRoom room old → HaveRoom room new
+  kept_room room have f r is = (let k = kept.each f r is in have f k.0 k.1 ∙ sym k.2.room_same)
 
-  pub kept_left : (f k : ℕ) → left_at new f k ≡ left_at old f k
-  kept_left f k = elim (slice_get new f) as (λ o. slice_get new f ≡ o → left_of o k ≡ left_at old f k) [
+  pub kept_left : (log : List Logged) (f k : ℕ) → left_at log new f k ≡ left_at log old f k
+  kept_left log f k = elim (slice_get new f) as (λ o. slice_get new f ≡ o → left_of log o k ≡ left_at log old f k) [
     | None ↦ λ is. (
         let past = kept.count_same in
         let end = slice_get_none new f is in
-        sym (ap (λ o. left_of o k) (slice_get_past old f (omega arith))))
-    | Some r ↦ λ is. (let o = kept.each f r is in ap (λ p. passed_at p.items k) o.2.passed ∙
-        sym (ap (λ o. left_of o k) o.1))
+        sym (ap (λ o. left_of log o k) (slice_get_past old f (omega arith))))
+    | Some r ↦ λ is. (let o = kept.each f r is in ap (λ (t : Trail). left_by log t k) o.2.trail ∙
+        sym (ap (λ o. left_of log o k) o.1))
   ] refl
+
+  pub kept_trails : (log : List Logged) → AreTrails log old → AreTrails log new
+  kept_trails log trails f r is =
+      (let k = kept.each f r is in subst (IsTrail log) (sym k.2.trail) (trails f k.0 k.1))
+
+-- nothing is left yet
+pub none_trails : (log : List Logged) (runners : List Runner) →
+    ((f : ℕ) (r : Runner) → slice_get runners f ≡ Some r → r.trail.count ≡ 0) → AreTrails log runners
+none_trails log runners none f r is = subst (AreLogged log r.trail.last) (sym (none f r is)) tt
+
+-- ---- rooms
+
+pub room_one : (runners : List Runner) → HaveSameRooms runners runners
+room_one runners = record { count_same = refl; keeps = λ room have. have }
+
+pub rooms_then : (a b d : List Runner) → HaveSameRooms a b → HaveSameRooms b d → HaveSameRooms a d
+rooms_then a b d early late = record {
+  count_same = late.count_same ∙ early.count_same;
+  keeps = λ room have. late.keeps room (early.keeps room have);
+}
+
+pub rooms_written : (runners runners' : List Runner) (i : ℕ) (a old : Runner) → i < length runners →
+    runners' ≡ slice_set runners i a → slice_get runners i ≡ Some old → a.running ≡ old.running →
+    HaveSameRooms runners runners'
+rooms_written runners runners' i a old low set was same = record {
+  count_same = ap (λ (xs : List Runner). length xs) set ∙ length-set runners i a;
+  keeps = λ room have. each_written runners runners' i a low set (λ r. room ≡ room_of r.running)
+      (have i old was ∙ sym (ap room_of same)) have;
+}
 
 -- where none is on, the room of each is all its own
 pub off_roomy : (room periods t charge : ℕ) (runners : List Runner) →
-    ((f : ℕ) → live_at runners f ≡ None) → periods * charge ≤ room → HaveRoom room periods runners →
-    AreRoomy periods t charge runners
-off_roomy room periods t charge runners off fits have f r is = record {
-  whole = (let same = (have f r is).0 in omega arith);
-  places = (have f r is).1;
+    ((f : ℕ) → live_at runners f ≡ None) →
+    ((f : ℕ) (r : Runner) → slice_get runners f ≡ Some r → r.trail.count ≡ 0) →
+    periods * charge ≤ room → HaveRoom room runners → AreRoomy periods t charge runners
+off_roomy room periods t charge runners off none fits have f r is = record {
+  whole = (let same = have f r is in omega arith);
   rest = λ on. (let none = off f in let live = ap going_of is ∙ going_on r on in absurd (cc));
+  count = λ on. (let none = off f in let live = ap going_of is ∙ going_on r on in absurd (cc));
+  none = λ early. none f r is;
 }
 
-pub still_roomy : (periods t u charge : ℕ) (runners : List Runner) →
+pub still_roomy : (periods t u charge : ℕ) (runners : List Runner) → t ≤ u →
     ((f : ℕ) → live_at runners f ≡ None) → AreRoomy periods t charge runners → AreRoomy periods u charge runners
-still_roomy periods t u charge runners off roomy f r is = record {
+still_roomy periods t u charge runners later off roomy f r is = record {
   whole = (roomy f r is).whole;
-  places = (roomy f r is).places;
   rest = λ on. (let none = off f in let live = ap going_of is ∙ going_on r on in absurd (cc));
+  count = λ on. (let none = off f in let live = ap going_of is ∙ going_on r on in absurd (cc));
+  none = λ early. (roomy f r is).none (omega arith);
 }
 
 -- ---- fewer on

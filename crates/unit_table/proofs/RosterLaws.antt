@@ -2,7 +2,7 @@
 use Rattle.unit_table.proofs.Common.{◌≡◌, ◌≢◌, ℕ, suc, ◌+◌, ◌<◌, ◌≤◌, ◌⊎◌, inl, inr, Option, Some, None, ℤ, List}
 use Rattle.unit_table.proofs.Common.{length, refl, sym, ap, ◌∙◌, subst, arith, slice_get, slice_set}
 use Rattle.unit_table.proofs.Common.{cases_lt, cases_eq, ThermalUnit, PriceLists, Runner, Ended, going_of}
-use Rattle.unit_table.proofs.Common.{live_at, AreRoomy, IsRoster, Going, IsRowOf, IsOneRun}
+use Rattle.unit_table.proofs.Common.{live_at, AreRoomy, IsRoster, Going, IsRowOf, IsOneRun, Logged, Reserved}
 use Rattle.unit_table.specs.declared.roster.Roster.{Roster}
 use Rattle.unit_table.proofs.LiveLaws.{going_on}
 use Rattle.plain_lists.proofs.ListLaws.{get_set_same, get_set_other}
@@ -221,19 +221,20 @@ row_further g π periods live n m l end first before more off row = record {
 }
 
 module _ (g : ThermalUnit) (π : PriceLists) (t charge : ℕ) (rows₀ : List (Option Ended)) (runners₀ : List Runner)
+    (log₀ : Reserved Logged)
   where
     -- the first i of the list have run
     pub record IsListRun (roster : Roster) (bound i : ℕ) (rows : List (Option Ended))
-        (runners : List Runner) : Type 0
+        (runners : List Runner) (log : Reserved Logged) : Type 0
       where
         pub until : ℕ
         pub most : until ≤ bound
-        pub run : IsRunTo g π t charge rows₀ runners₀ until rows runners
+        pub run : IsRunTo g π t charge rows₀ runners₀ log₀ until rows runners log
         pub done : (j f : ℕ) → j < i → slice_get roster.firsts.items j ≡ Some f → f < until
         pub left : (j f : ℕ) → i ≤ j → j < roster.count → slice_get roster.firsts.items j ≡ Some f → until ≤ f
 
-    pub none_run : (roster : Roster) (bound : ℕ) → IsRunTo g π t charge rows₀ runners₀ 0 rows₀
-        runners₀ → IsListRun roster bound 0 rows₀ runners₀
+    pub none_run : (roster : Roster) (bound : ℕ) → IsRunTo g π t charge rows₀ runners₀ log₀ 0 rows₀
+        runners₀ log₀ → IsListRun roster bound 0 rows₀ runners₀ log₀
     none_run roster bound run = record {
       until = 0;
       most = omega arith;
@@ -243,11 +244,11 @@ module _ (g : ThermalUnit) (π : PriceLists) (t charge : ℕ) (rows₀ : List (O
     }
 
     module _ (roomy₀ : AreRoomy (length π.energy) t charge runners₀) where
-      run_skip : (n m : ℕ) (rows : List (Option Ended)) (runners : List Runner) → n ≤ m →
+      run_skip : (n m : ℕ) (rows : List (Option Ended)) (runners : List Runner) (log : Reserved Logged) → n ≤ m →
           ((f : ℕ) → n ≤ f → f < m → live_at runners₀ f ≡ None) →
-          IsRunTo g π t charge rows₀ runners₀ n rows runners →
-          IsRunTo g π t charge rows₀ runners₀ m rows runners
-      run_skip n m rows runners more none run = record {
+          IsRunTo g π t charge rows₀ runners₀ log₀ n rows runners log →
+          IsRunTo g π t charge rows₀ runners₀ log₀ m rows runners log
+      run_skip n m rows runners log more none run = record {
         row = row_further g π (length π.energy) (live_at runners₀) n m (suc t) _ _ _ more none run.row;
         others = run.others;
         within = run.within;
@@ -267,20 +268,29 @@ module _ (g : ThermalUnit) (π : PriceLists) (t charge : ℕ) (rows₀ : List (O
               let before : slice_get runners₀ f ≡ Some r = sym (run.rest f from) ∙ is in
               record {
                 whole = (roomy₀ f r before).whole;
-                places = (roomy₀ f r before).places;
                 rest = λ on. (let off = none f from low in let live = ap going_of before ∙
                     going_on r on in absurd (cc));
+                count = λ on. (let off = none f from low in let live = ap going_of before ∙
+                    going_on r on in absurd (cc));
+                none = λ early. (roomy₀ f r before).none (omega arith);
               }
         ];
         ends = run.ends;
+        noted = λ f r x v low on. elim (cases_lt f n) [
+          | inl less ↦ run.noted f r x v less on
+          | inr from ↦ (let off = none f from low in absurd (cc))
+        ];
         left = run.left;
+        trails = run.trails;
+        entries = (let few = run.entries in omega arith);
+        log_same = run.log_same;
         keeps = run.keeps;
         count_same = run.count_same;
       }
 
       module _ (roster : Roster) (bound : ℕ) (list : IsRoster (live_at runners₀) bound roster) where
-        module _ (i : ℕ) (rows : List (Option Ended)) (runners : List Runner)
-            (so_far : IsListRun roster bound i rows runners) (inside : i < roster.count) (first : ℕ)
+        module _ (i : ℕ) (rows : List (Option Ended)) (runners : List Runner) (log : Reserved Logged)
+            (so_far : IsListRun roster bound i rows runners log) (inside : i < roster.count) (first : ℕ)
             (is : slice_get roster.firsts.items i ≡ Some first) where
           off_between : (f : ℕ) → so_far.until ≤ f → f < first → live_at runners₀ f ≡ None
           off_between f from low = elim (live_at runners₀ f) as (λ o. live_at runners₀ f ≡ o →
@@ -301,18 +311,18 @@ module _ (g : ThermalUnit) (π : PriceLists) (t charge : ℕ) (rows₀ : List (O
                     absurd contradiction
               ] refl
 
-          pub run_before : IsRunTo g π t charge rows₀ runners₀ first rows runners
-          run_before = run_skip so_far.until first rows runners
+          pub run_before : IsRunTo g π t charge rows₀ runners₀ log₀ first rows runners log
+          run_before = run_skip so_far.until first rows runners log
               (so_far.left i first (omega arith) inside is) off_between
               so_far.run
 
-          pub one_run : (rows' : List (Option Ended)) (runners' : List Runner) →
-              IsOneRun g π t charge first rows rows' runners runners' →
-              IsListRun roster bound (i + 1) rows' runners'
-          one_run rows' runners' one = record {
+          pub one_run : (rows' : List (Option Ended)) (runners' : List Runner) (log' : Reserved Logged) →
+              IsOneRun g π t charge first rows rows' runners runners' log log' →
+              IsListRun roster bound (i + 1) rows' runners' log'
+          one_run rows' runners' log' one = record {
             until = first + 1;
             most = (let below = list.below i first inside is in omega arith);
-            run = run_more g π t charge rows₀ runners₀ first rows rows' runners runners' run_before
+            run = run_more g π t charge rows₀ runners₀ log₀ first rows rows' runners runners' log log' run_before
                 one;
             done = λ j f low there. elim (cases_eq j i) [
               | inl z ↦ (let e = ap (slice_get roster.firsts.items) z in let same : f ≡ first = (cc) in omega arith)
@@ -322,13 +332,13 @@ module _ (g : ThermalUnit) (π : PriceLists) (t charge : ℕ) (rows₀ : List (O
                 (let later = list.rising i j first f (omega arith) low is there in omega arith);
           }
 
-        module _ (i : ℕ) (rows : List (Option Ended)) (runners : List Runner)
-            (all : IsListRun roster bound i rows runners) (end : roster.count ≤ i) where
+        module _ (i : ℕ) (rows : List (Option Ended)) (runners : List Runner) (log : Reserved Logged)
+            (all : IsListRun roster bound i rows runners log) (end : roster.count ≤ i) where
           pub none_later : (f : ℕ) (r : Going) → live_at runners₀ f ≡ Some r → f < all.until
           none_later f r on = (let h = list.all f r on in all.done h.0 f (omega arith) h.2)
 
-          pub run_whole : IsRunTo g π t charge rows₀ runners₀ bound rows runners
-          run_whole = run_skip all.until bound rows runners all.most
+          pub run_whole : IsRunTo g π t charge rows₀ runners₀ log₀ bound rows runners log
+          run_whole = run_skip all.until bound rows runners log all.most
               (λ f from low. elim (live_at runners₀ f) as (λ o. live_at runners₀ f ≡ o → o ≡ None) [
                 | None ↦ λ e. refl
                 | Some r ↦ λ on. (let before = none_later f r on in absurd (omega arith))

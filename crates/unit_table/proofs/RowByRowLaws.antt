@@ -44,7 +44,6 @@ runners_to g π limits a b live t n same now = record {
           may = old.may;
           order = old.order;
           within = old.within;
-          noted = old.noted;
         },
       );
   all = λ f e d low may entry run under. now.all f e d low may

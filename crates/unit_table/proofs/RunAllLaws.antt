@@ -4,18 +4,21 @@ use Rattle.unit_table.proofs.Common.{◌≡◌, ◌≢◌, ℕ, suc, ◌+◌, �
 use Rattle.unit_table.proofs.Common.{Option, Some, None, List, length, refl, sym, ap, ◌∙◌, subst, arith, slice_get}
 use Rattle.unit_table.proofs.Common.{slice_set, slice_get-get_or, slice_get_within, cases_lt, cases_eq, ThermalUnit}
 use Rattle.unit_table.proofs.Common.{PriceLists}
-use Rattle.unit_table.proofs.Common.{passed_at, Runner, Ended, going_of, live_at, left_of, left_at, IsRoomy, AreRoomy}
+use Rattle.unit_table.proofs.Common.{shown, value_of, state_of, Logged, Reserved, IsTrail, AreTrails, IsOnNoted}
+use Rattle.unit_table.proofs.Common.{IsEntryMore, left_by, Runner, Ended, going_of, live_at, left_of, left_at}
+use Rattle.unit_table.proofs.Common.{IsRoomy, AreRoomy}
 use Rattle.unit_table.proofs.Common.{HaveRoom, row_at, cost_at, first_at, before_at, AreWithin, Going, IsGoneOn}
-use Rattle.unit_table.proofs.Common.{IsEndLeft, IsRowTo, IsRowMore, IsOneRun, IsRunOver, places_of, length-set}
+use Rattle.unit_table.proofs.Common.{IsEndLeft, IsRowTo, IsRowMore, IsOneRun, IsRunOver, length-set}
 use Rattle.unit_table.proofs.LiveLaws.{going_on, live_from, each_written}
 use Rattle.plain_lists.proofs.ListLaws.{get_set_same, get_set_other}
 use Rattle.unit_table.proofs.RowLaws.{cost-same, first-same}
 use Rattle.unit_table.proofs.RunnerRowLaws.{row_none, row_skip}
 
 module _ (g : ThermalUnit) (π : PriceLists) (t charge : ℕ) where
-  module _ (rows₀ : List (Option Ended)) (runners₀ : List Runner) where
+  module _ (rows₀ : List (Option Ended)) (runners₀ : List Runner) (log₀ : Reserved Logged) where
     -- what those before n have changed
-    pub record IsRunTo (n : ℕ) (rows : List (Option Ended)) (runners : List Runner) : Type 0 where
+    pub record IsRunTo (n : ℕ) (rows : List (Option Ended)) (runners : List Runner) (log : Reserved Logged) :
+        Type 0 where
       pub row : IsRowTo g π t (live_at runners₀) n rows
       pub others : (l : ℕ) → l ≢ suc t → row_at rows l ≡ row_at rows₀ l
       pub within : AreWithin rows
@@ -25,16 +28,22 @@ module _ (g : ThermalUnit) (π : PriceLists) (t charge : ℕ) where
       pub off : (f : ℕ) → f < n → live_at runners₀ f ≡ None → live_at runners f ≡ None
       pub rest : (f : ℕ) → n ≤ f → slice_get runners f ≡ slice_get runners₀ f
       pub roomy : (f : ℕ) (r : Runner) → f < n → slice_get runners f ≡ Some r →
-          IsRoomy (length π.energy) (suc t) charge r
+          IsRoomy (length π.energy) (suc t) charge f r
       pub ends : (v : ℤ) → cost_at rows (suc t) ≡ Some v →
           IsEndLeft g π (first_at rows (suc t)) t
-          (since (first_at rows (suc t)) (left_at runners (first_at rows (suc t))) t)
-      pub left : (f k : ℕ) → k ≢ t - (f - 1) → left_at runners f k ≡ left_at runners₀ f k
-      pub keeps : (room periods : ℕ) → HaveRoom room periods runners₀ → HaveRoom room periods runners
+          (since (first_at rows (suc t)) (left_at log.items runners (first_at rows (suc t))) t)
+      pub noted : (f : ℕ) (r : Going) (x v : ℤ) → f < n → live_at runners₀ f ≡ Some r →
+          value_of r.function x ≡ Some v → IsOnNoted g π f t (since f (left_at log.items runners f) t).note
+      pub left : (f k : ℕ) → k ≢ t - (f - 1) → left_at log.items runners f k ≡ left_at log₀.items runners₀ f k
+      pub trails : AreTrails log.items runners
+      pub entries : length log.items ≤ length log₀.items + n
+      pub log_same : length log.items + log.spare ≡ length log₀.items + log₀.spare
+      pub keeps : (room : ℕ) → HaveRoom room runners₀ → HaveRoom room runners
       pub count_same : length runners ≡ length runners₀
 
-    pub run_begins : AreWithin rows₀ → cost_at rows₀ (suc t) ≡ None → IsRunTo 0 rows₀ runners₀
-    run_begins within none = record {
+    pub run_begins : AreWithin rows₀ → cost_at rows₀ (suc t) ≡ None → AreTrails log₀.items runners₀ →
+        IsRunTo 0 rows₀ runners₀ log₀
+    run_begins within none trails = record {
       row = row_none g π (length π.energy) (live_at runners₀) 0 (suc t) (cost_at rows₀ (suc t))
           (first_at rows₀ (suc t)) (before_at rows₀ (suc t)) none;
       others = λ l other. refl;
@@ -45,8 +54,12 @@ module _ (g : ThermalUnit) (π : PriceLists) (t charge : ℕ) where
       rest = λ f from. refl;
       roomy = λ f r low is. absurd (omega arith);
       ends = λ v is. cc;
+      noted = λ f r x v low is. absurd (omega arith);
       left = λ f k other. refl;
-      keeps = λ room periods have. have;
+      trails = trails;
+      entries = omega arith;
+      log_same = refl;
+      keeps = λ room have. have;
       count_same = refl;
     }
 
@@ -56,16 +69,17 @@ module _ (g : ThermalUnit) (π : PriceLists) (t charge : ℕ) where
       | inr most ↦ let z : n ≡ f = omega arith in subst P z here
     ]
 
-    pub run_more : (n : ℕ) (rows rows' : List (Option Ended)) (runners runners' : List Runner) →
-        IsRunTo n rows runners → IsOneRun g π t charge n rows rows' runners runners' →
-        IsRunTo (n + 1) rows' runners'
-    run_more n rows rows' runners runners' so_far one =
+    pub run_more : (n : ℕ) (rows rows' : List (Option Ended)) (runners runners' : List Runner)
+        (log log' : Reserved Logged) →
+        IsRunTo n rows runners log → IsOneRun g π t charge n rows rows' runners runners' log log' →
+        IsRunTo (n + 1) rows' runners' log'
+    run_more n rows rows' runners runners' log log' so_far one =
         let here : live_at runners n ≡ live_at runners₀ n = ap going_of
         (so_far.rest n (omega arith)) in
         let same : (f : ℕ) → f < n → slice_get runners' f ≡ slice_get runners f = λ f less.
         one.rest f (λ z. omega arith) in
         let next : suc n ≡ n + 1 = omega arith in
-        subst (λ (m : ℕ). IsRunTo m rows' runners') next (record {
+        subst (λ (m : ℕ). IsRunTo m rows' runners' log') next (record {
           row = one.more.row (live_at runners₀) (sym here) so_far.row;
           others = λ l other. one.more.others l other ∙ so_far.others l other;
           within = one.more.within;
@@ -81,7 +95,7 @@ module _ (g : ThermalUnit) (π : PriceLists) (t charge : ℕ) where
               (λ is. one.off (here ∙ is));
           rest = λ f from. one.rest f (λ z. omega arith) ∙ so_far.rest f (omega arith);
           roomy = λ f r low. at_last (λ (f : ℕ). slice_get runners' f ≡ Some r →
-              IsRoomy (length π.energy) (suc t) charge r) n f low
+              IsRoomy (length π.energy) (suc t) charge f r) n f low
               (λ less is. so_far.roomy f r less (sym (same f less) ∙ is))
               (λ is. one.roomy r is);
           ends = λ v is. elim (one.ends) [
@@ -90,24 +104,34 @@ module _ (g : ThermalUnit) (π : PriceLists) (t charge : ℕ) where
                 let first : first_at rows' (suc t) ≡ first_at rows (suc t) = first-same rows' rows (suc t) (suc t) kept
                 in
                 let before = (so_far.row.sound v was).2 in
-                let left = ap (λ o. since (first_at rows (suc t)) (left_of o) t)
-                (same (first_at rows (suc t)) before) in
-                subst (λ (f : ℕ). IsEndLeft g π f t (since f (left_at runners' f) t)) (sym first)
+                let left = one.left_others (first_at rows (suc t)) (t - (first_at rows (suc t) - 1))
+                (λ z. omega arith) in
+                subst (λ (f : ℕ). IsEndLeft g π f t (since f (left_at log'.items runners' f) t)) (sym first)
                 (subst (IsEndLeft g π (first_at rows (suc t)) t) (sym left) (so_far.ends v was))
-            | inr named ↦ subst (λ (f : ℕ). IsEndLeft g π f t (since f (left_at runners' f) t)) (sym named.0) named.1
+            | inr named ↦ subst (λ (f : ℕ). IsEndLeft g π f t (since f (left_at log'.items runners' f) t)) (sym named.0)
+                named.1
           ];
+          noted = λ f r x v low. at_last (λ (f : ℕ). live_at runners₀ f ≡ Some r → value_of r.function x ≡ Some v →
+              IsOnNoted g π f t (since f (left_at log'.items runners' f) t).note) n f low
+              (λ less is there. rw (one.left_others f (t - (f - 1)) (λ z. omega arith))
+              (so_far.noted f r x v less is there))
+              (λ is there. one.noted r x v (here ∙ is) there);
           left = λ f k other. elim (cases_eq f n) [
-            | inl z ↦ ap (λ (f : ℕ). left_at runners' f k) z ∙
+            | inl z ↦ ap (λ (f : ℕ). left_at log'.items runners' f k) z ∙
                 one.left k (λ y. other (y ∙ ap (λ f. t - (f - 1)) (sym z))) ∙
-                sym (ap (λ (f : ℕ). left_at runners f k) z) ∙ so_far.left f k other
-            | inr apart ↦ ap (λ o. left_of o k) (one.rest f apart) ∙ so_far.left f k other
+                sym (ap (λ (f : ℕ). left_at log.items runners f k) z) ∙ so_far.left f k other
+            | inr apart ↦ one.left_others f k apart ∙ so_far.left f k other
           ];
-          keeps = λ room periods have. one.keeps room periods (so_far.keeps room periods have);
+          trails = one.trails;
+          entries = (let before = so_far.entries in let more = one.entries in omega arith);
+          log_same = one.log_same ∙ so_far.log_same;
+          keeps = λ room have. one.keeps room (so_far.keeps room have);
           count_same = one.count_same ∙ so_far.count_same;
         })
 
     -- none begins later
-    module _ (rows : List (Option Ended)) (runners : List Runner) (all : IsRunTo (suc (suc t)) rows runners)
+    module _ (rows : List (Option Ended)) (runners : List Runner) (log : Reserved Logged)
+        (all : IsRunTo (suc (suc t)) rows runners log)
         (none : (f : ℕ) (r : Going) → live_at runners₀ f ≡ Some r → f < suc (suc t))
         (roomy₀ : AreRoomy (length π.energy) t charge runners₀) where
       all_roomy : AreRoomy (length π.energy) (suc t) charge runners
@@ -117,14 +141,17 @@ module _ (g : ThermalUnit) (π : PriceLists) (t charge : ℕ) where
             let before : slice_get runners₀ f ≡ Some r = sym (all.rest f from) ∙ is in
             record {
               whole = (roomy₀ f r before).whole;
-              places = (roomy₀ f r before).places;
               rest = λ on.
                   let low = none f _ (ap going_of before ∙ going_on r on) in
                   absurd (omega arith);
+              count = λ on.
+                  let low = none f _ (ap going_of before ∙ going_on r on) in
+                  absurd (omega arith);
+              none = λ early. (roomy₀ f r before).none (omega arith);
             }
       ]
 
-      pub run_over : IsRunOver g π t charge rows₀ rows runners₀ runners
+      pub run_over : IsRunOver g π t charge rows₀ rows runners₀ runners log₀ log
       run_over = record {
         row = all.row;
         others = all.others;
@@ -136,7 +163,11 @@ module _ (g : ThermalUnit) (π : PriceLists) (t charge : ℕ) where
           | inr from ↦ ap going_of (all.rest f from) ∙ is
         ];
         ends = all.ends;
+        noted = λ f r x v is there. all.noted f r x v (none f r is) is there;
         left = all.left;
+        trails = all.trails;
+        entries = all.entries;
+        log_same = all.log_same;
         roomy = all_roomy;
         keeps = all.keeps;
         count_same = all.count_same;
@@ -149,24 +180,36 @@ pub item_at : (runners : List Runner) (i : ℕ) → i < length runners → (d : 
 item_at runners i low d = slice_get-get_or runners i d low
 
 module _ (g : ThermalUnit) (π : PriceLists) (t charge : ℕ) (rows rows' : List (Option Ended)) (runners : List Runner)
-    (i : ℕ) where
+    (i : ℕ) (log : Reserved Logged) where
   -- the runner at i is on, and goes to b
-  module _ (old b : Runner) (at : slice_get runners i ≡ Some old) (on : old.is_on ≡ true) where
+  module _ (old b : Runner) (at : slice_get runners i ≡ Some old) (on : old.is_on ≡ true) (log' : Reserved Logged) where
     here : slice_get (slice_set runners i b) i ≡ Some b
     here = get_set_same runners i b (slice_get_within runners i old at)
 
-    same_left : (k : ℕ) → left_at (slice_set runners i b) i k ≡ passed_at b.passed.items k
-    same_left k = ap (λ o. left_of o k) here
+    same_left : (k : ℕ) → left_at log'.items (slice_set runners i b) i k ≡ left_by log'.items b.trail k
+    same_left k = ap (λ o. left_of log'.items o k) here
+
+    -- what the others left
+    others_left : AreTrails log.items runners → IsEntryMore log log' old.trail b.trail → (f k : ℕ) → f ≢ i →
+        left_at log'.items (slice_set runners i b) f k ≡ left_at log.items runners f k
+    others_left trails entry f k other =
+        ap (λ o. left_of log'.items o k) (get_set_other runners i f b other) ∙
+        (elim (slice_get runners f) as (λ o. slice_get runners f ≡ o →
+        left_of log'.items o k ≡ left_of log.items o k) [
+          | None ↦ λ is. refl
+          | Some r ↦ λ is. (entry.others r.trail (trails f r is)).1 k
+        ] refl)
 
     pub run_written : IsRowMore g π t i (going_of (Some old)) rows rows' →
         ((r : Going) → going_of (Some old) ≡ Some r → IsGoneOn g π t i r (going_of (Some b))) →
         (row_at rows' (suc t) ≡ row_at rows (suc t)) ⊎
-        ((first_at rows' (suc t) ≡ i) × IsEndLeft g π i t (since i (passed_at b.passed.items) t)) →
-        ((k : ℕ) → k ≢ t - (i - 1) → passed_at b.passed.items k ≡ passed_at old.passed.items k) →
-        IsRoomy (length π.energy) (suc t) charge b →
-        (room_of b.running ≡ room_of old.running) × (places_of b ≡ places_of old) →
-        IsOneRun g π t charge i rows rows' runners (slice_set runners i b)
-    run_written more goes ends left roomy same =
+        ((first_at rows' (suc t) ≡ i) × IsEndLeft g π i t (since i (left_by log'.items b.trail) t)) →
+        ((x v : ℤ) → value_of (shown old.running) x ≡ Some v →
+        IsOnNoted g π i t (since i (left_by log'.items b.trail) t).note) →
+        AreTrails log.items runners → IsEntryMore log log' old.trail b.trail → old.trail.count ≡ t - (i - 1) →
+        IsRoomy (length π.energy) (suc t) charge i b → room_of b.running ≡ room_of old.running →
+        IsOneRun g π t charge i rows rows' runners (slice_set runners i b) log log'
+    run_written more goes ends noted trails entry count roomy same =
         let live = ap going_of at in
         record {
           more = rw live more;
@@ -178,21 +221,29 @@ module _ (g : ThermalUnit) (π : PriceLists) (t charge : ℕ) (rows rows' : List
             | inl kept ↦ inl kept
             | inr named ↦ inr (named.0, rw (same_left (t - (i - 1))) named.1)
           ];
-          left = λ k other. same_left k ∙ left k other ∙ sym (ap (λ o. left_of o k) at);
-          keeps = λ room periods have.
+          noted = λ r x v is there.
+              let same_state : state_of old ≡ r = (let live = live_from runners i old at on in cc) in
+              rw (same_left (t - (i - 1)))
+              (noted x v (ap (λ (r : Going). value_of r.function x) same_state ∙ there));
+          left = λ k other. same_left k ∙ entry.earlier k (λ z. other (z ∙ count)) ∙
+              sym (ap (λ o. left_of log.items o k) at);
+          left_others = others_left trails entry;
+          trails =
               each_written runners (slice_set runners i b) i b (slice_get_within runners i old at) refl
-              (λ r. (room ≡ room_of r.running) × (periods ≤ places_of r))
-              (let there = (have i old at).0 in
-              let long = (have i old at).1 in
-              (omega arith, omega arith)) have;
+              (λ r. IsTrail log'.items r.trail) entry.there (λ j r is. (entry.others r.trail (trails j r is)).0);
+          entries = (let more = entry.entries in omega arith);
+          log_same = (let more = entry.entries in let spare = entry.spare in omega arith);
+          keeps = λ room have.
+              each_written runners (slice_set runners i b) i b (slice_get_within runners i old at) refl
+              (λ r. room ≡ room_of r.running) (have i old at ∙ sym same) have;
           count_same = length-set runners i b;
         }
 
   -- it is off
   pub run_skipped : live_at runners i ≡ None → AreWithin rows →
-      ((r : Runner) → slice_get runners i ≡ Some r → IsRoomy (length π.energy) t charge r) →
-      IsOneRun g π t charge i rows rows runners runners
-  run_skipped off within roomy = record {
+      ((r : Runner) → slice_get runners i ≡ Some r → IsRoomy (length π.energy) t charge i r) →
+      AreTrails log.items runners → IsOneRun g π t charge i rows rows runners runners log log
+  run_skipped off within roomy trails = record {
     more = record {
       row = λ live is row. row_skip g π (length π.energy) live i (suc t) _ _ _ row
           (λ r d on spell dispatch. (let none = is ∙ off in cc));
@@ -207,11 +258,17 @@ module _ (g : ThermalUnit) (π : PriceLists) (t charge : ℕ) (rows rows' : List
         let old = roomy r is in
         record {
           whole = old.whole;
-          places = old.places;
           rest = λ on. (let live = live_from runners i r is on in absurd (cc));
+          count = λ on. (let live = live_from runners i r is on in absurd (cc));
+          none = λ early. old.none (omega arith);
         });
     ends = inl refl;
+    noted = λ r x v is. absurd (cc);
     left = λ k other. refl;
-    keeps = λ room periods have. have;
+    left_others = λ f k other. refl;
+    trails = trails;
+    entries = omega arith;
+    log_same = refl;
+    keeps = λ room have. have;
     count_same = refl;
   }

@@ -6,7 +6,6 @@ use Rattle.unit_table.proofs.Common.{mark_in, IsFrontier, RunsGoOn, net_cost, sp
 use Rattle.unit_table.proofs.Common.{on_time, IsEntry, IsLeastEntry, Going, MayBeOn, IsRunner, HasStandIn, AreRunners}
 use Rattle.unit_table.proofs.Common.{IsGoneOn}
 use Rattle.unit_table.proofs.RangeLaws.{move_in_range, before_low}
-use Rattle.unit_table.proofs.WaysLaws.{noted_more}
 use Rattle.unit_table.proofs.SumLaws.{sum_from_to-more, sum_from_to-none}
 
 -- a start comes from the least power
@@ -240,7 +239,7 @@ module _ (g : ThermalUnit) (π : PriceLists) (limits : ℕ → ℤ) (ends : ℕ 
           elim (h.next_is) [
             | inr gone ↦ (cc)
             | inl here ↦
-                let new : Going = record { before = r.before; cost = r.cost; function = h.function; left = h.left } in
+                let new : Going = record { before = r.before; cost = r.cost; function = h.function } in
                 let z : new ≡ x = (cc) in
                 let runner : IsRunner g π ends (suc t) f new = record {
                   entry = old.1.entry;
@@ -248,8 +247,6 @@ module _ (g : ThermalUnit) (π : PriceLists) (limits : ℕ → ℤ) (ends : ℕ 
                   may = may_next g f t open_next old.1.may;
                   order = omega arith;
                   within = old.1.within;
-                  noted = noted_more g π f t r.function h.function r.left h.left old.1.frontier h.frontier h.kept
-                      h.noted old.1.noted;
                 } in
                 (low, rw z at runner)
           ]
@@ -266,7 +263,7 @@ module _ (g : ThermalUnit) (π : PriceLists) (limits : ℕ → ℤ) (ends : ℕ 
         let w = value h.function h.frontier in
         elim (h.next_is) [
           | inl here ↦ (
-            record { before = r.before; cost = r.cost; function = h.function; left = h.left },
+            record { before = r.before; cost = r.cost; function = h.function },
             w.0,
             here,
             w.1,

@@ -22,7 +22,6 @@ module _ (g : ThermalUnit) (π : PriceLists) (limits : ℕ → ℤ) (ends : ℕ 
         may = record { goes_on = λ none. absurd (omega arith); marks = λ m one from until mark. absurd (omega arith) };
         order = omega arith;
         within = record { at_least = omega (arith, ints); at_most = omega (arith, ints) };
-        noted = λ x v there k from until. absurd (omega arith);
       }
 
   pub started : AreRunners g π limits ends live t (suc t) → AreRunners g π limits ends live' t (suc (suc t))
@@ -61,7 +60,6 @@ module _ (g : ThermalUnit) (π : PriceLists) (limits : ℕ → ℤ) (ends : ℕ 
       may = record { goes_on = λ none. on0; marks = λ m one from until mark. absurd (omega arith) };
       order = omega arith;
       within = record { at_least = omega (arith, ints); at_most = omega (arith, ints) };
-      noted = λ x v there k from until. absurd (omega arith);
     }
 
     stand_in : (e : ℤ) (d : Schedule) → IsEntry g ends 0 e → HasStandIn g π live' 0 0 e d

@@ -2,10 +2,9 @@
 use Rattle.unit_table.proofs.Common.{◌≡◌, ◌≢◌, ℕ, suc, ◌-◌, ◌<◌, ◌≤◌, ◌⊎◌, inl, inr, Option, Some, None, ℤ, ◌+ℤ◌, List}
 use Rattle.unit_table.proofs.Common.{length, sym, ap, ◌∙◌, subst, arith, IfSome, IfNone, cases_lt, cases_eq, Table}
 use Rattle.unit_table.proofs.Common.{value_of, Lowest, ThermalUnit, PriceLists, Passed, IsFrontier, IsOnNoted}
-use Rattle.unit_table.proofs.Common.{IsEndNoted, IsSpellNoted, since, end_cost, Runner, Ended, live_at, left_at}
-use Rattle.unit_table.proofs.Common.{left_of}
+use Rattle.unit_table.proofs.Common.{IsEndNoted, IsSpellNoted, since, end_cost, Ended, refl, AreFewer, IsGoneOn}
+use Rattle.unit_table.proofs.Common.{AreAllNoted}
 use Rattle.unit_table.proofs.Common.{row_at, first_at, IsPut, Going, AreRunners, AreNoted, IsRowOf, IsEndLeft, HaveWays}
-use Rattle.unit_table.proofs.LiveLaws.{on_some}
 use Rattle.unit_table.proofs.RowLaws.{first-is}
 
 -- ---- a period more
@@ -32,13 +31,47 @@ noted_more g π first t f h left left' front next kept noted old x v there k fro
           z (noted b.0 b.1 b.2)
     ]
 
--- ---- what a runner that is on left
+-- each one that is on, where it goes on
+pub noted_all : (g : ThermalUnit) (π : PriceLists) (t : ℕ) (live live' : ℕ → Option Going) (left left' : ℕ → ℕ →
+    Passed) → ((f : ℕ) (r : Going) → live f ≡ Some r → IsFrontier g π f t r.function) →
+    ((f : ℕ) (r : Going) → live f ≡ Some r → IsGoneOn g π t f r (live' f)) →
+    ((f : ℕ) → live f ≡ None → live' f ≡ None) → ((f k : ℕ) → k ≢ t - (f - 1) → left' f k ≡ left f k) →
+    ((f : ℕ) (r : Going) (x v : ℤ) → live f ≡ Some r → value_of r.function x ≡ Some v →
+    IsOnNoted g π f t (since f (left' f) t).note) →
+    AreAllNoted g π t live left → AreAllNoted g π (suc t) live' left'
+noted_all g π t live live' left left' front goes off kept noted old f y is =
+    elim (live f) as (λ o. live f ≡ o → AreNoted g π f (suc t) y.function (left' f)) [
+      | None ↦ λ none. (let gone = off f none in absurd (cc))
+      | Some r ↦ λ on.
+          let h = goes f r on in
+          elim (h.next_is) [
+            | inl here ↦
+                let new : Going = record { before = r.before; cost = r.cost; function = h.function } in
+                let z : new ≡ y = (cc) in
+                subst (λ (y : Going). AreNoted g π f (suc t) y.function (left' f)) z
+                (noted_more g π f t r.function h.function (left f) (left' f) (front f r on) h.frontier (kept f)
+                (λ x v there. noted f r x v on there) (old f r on))
+            | inr gone ↦ (let none = gone.0 in absurd (cc))
+          ]
+    ] refl
 
-pub left_live : (runners : List Runner) (f : ℕ) (r : Going) (k : ℕ) →
-    live_at runners f ≡ Some r → r.left k ≡ left_at runners f k
-left_live runners f r k is =
-    let s = on_some _ r is in
-    ap (λ (r : Going). r.left k) s.3 ∙ sym (ap (λ o. left_of o k) s.1)
+-- where some were stopped
+pub noted_fewer : (g : ThermalUnit) (π : PriceLists) (t : ℕ) (live live' : ℕ → Option Going) (left left' : ℕ → ℕ →
+    Passed) → AreFewer live live' → ((f k : ℕ) → left' f k ≡ left f k) → AreAllNoted g π t live left →
+    AreAllNoted g π t live' left'
+noted_fewer g π t live live' left left' fewer same noted f r on x v there k from until = elim (fewer f) [
+  | inl kept ↦ rw (same f (k - (f - 1))) (noted f r (sym kept ∙ on) x v there k from until)
+  | inr none ↦ absurd (cc)
+]
+
+-- where one begins with the next period
+pub noted_start : (g : ThermalUnit) (π : PriceLists) (t : ℕ) (live live' : ℕ → Option Going) (left left' : ℕ → ℕ →
+    Passed) → ((f : ℕ) → f ≢ suc t → live' f ≡ live f) → ((f k : ℕ) → left' f k ≡ left f k) →
+    AreAllNoted g π t live left → AreAllNoted g π t live' left'
+noted_start g π t live live' left left' others same noted f r on x v there k from until = elim (cases_eq f (suc t)) [
+  | inl z ↦ absurd (omega arith)
+  | inr other ↦ rw (same f (k - (f - 1))) (noted f r (sym (others f other) ∙ on) x v there k from until)
+]
 
 -- ---- an end that is put into its row
 
@@ -109,8 +142,7 @@ ways_none g π t ends firsts left none ways l v one until is = elim (cases_lt l 
 
 module _ (g : ThermalUnit) (π : PriceLists) (t n : ℕ) (ends ends' : ℕ → Option ℤ) (firsts firsts' : ℕ →
     ℕ) (before : ℕ) (left left' : ℕ → ℕ → Passed) (live : ℕ → Option Going)
-    (limits : ℕ → ℤ) (now : AreRunners g π limits ends live t n) (lefts : (f : ℕ) (r : Going) (k : ℕ) →
-    live f ≡ Some r → r.left k ≡ left f k)
+    (limits : ℕ → ℤ) (now : AreRunners g π limits ends live t n) (all_noted : AreAllNoted g π t live left)
     (row : IsRowOf g π (length π.energy) live n (suc t) (ends' (suc t)) (firsts' (suc t)) before)
     (ended : (v : ℤ) → ends' (suc t) ≡ Some v → IsEndLeft g π (firsts' (suc t)) t
     (since (firsts' (suc t)) (left' (firsts' (suc t))) t))
@@ -133,7 +165,7 @@ module _ (g : ThermalUnit) (π : PriceLists) (t n : ℕ) (ends ends' : ℕ → O
           on = λ k from until.
               (let low : k < t = omega arith in
               let j = k - (first - 1) in
-              rw (lefts first r j s.1 ∙ sym (kept first j (λ y. omega arith))) at (runner.noted _ c.0 c.1 k from low));
+              rw (sym (kept first j (λ y. omega arith))) at (all_noted first r s.1 _ c.0 c.1 k from low));
           lowest = e.0;
           is_end = cc;
           end = rw z e.2;

@@ -2,10 +2,13 @@
 -- project's profile).
 use Rattle.std.specs.Prelude.{◌≡◌, ℕ, suc, ◌+◌, ◌-◌, ◌*◌, ◌≤◌, ℤ, pos, ◌+ℤ◌, ◌≤ℤ◌, if◌then◌else◌}
 use Rattle.std.specs.Prelude.{IsTrue, List, [], length, slice_get, Option, Some, None}
+use Rattle.plain_lists.specs.Reserved.{Reserved}
 use Rattle.shape_law.specs.Table.{Table, value_of}
 use Rattle.slope_list.specs.Slopes.{shown, count_of, room_of}
 use Rattle.uc_model.specs.Data.{ThermalUnit, PriceLists}
+use Rattle.spell_run.specs.declared.notes.Logged.{Logged}
 use Rattle.spell_run.specs.declared.notes.Passed.{Passed}
+use Rattle.spell_run.specs.Logs.{left_by, IsTrail}
 use Rattle.spell_run.specs.Notes.{passed_at}
 use Rattle.unit_table.specs.declared.runner.Runner.{Runner}
 use Rattle.unit_rows.specs.declared.table.Ended.{Ended}
@@ -17,7 +20,6 @@ state_of r = record {
   before = r.before;
   cost = r.cost;
   function = shown r.running;
-  left = passed_at r.passed.items;
 }
 
 abbrev pub going_of : Option Runner → Option Going
@@ -28,30 +30,33 @@ going_of (Some r) = if r.is_on then Some (state_of r) else None
 abbrev pub live_at : List Runner → ℕ → Option Going
 live_at runners first = going_of (slice_get runners first)
 
-abbrev pub left_of : Option Runner → ℕ → Passed
-left_of None k = passed_at [] k
-left_of (Some r) k = passed_at r.passed.items k
+abbrev pub left_of : List Logged → Option Runner → ℕ → Passed
+left_of log None k = passed_at [] k
+left_of log (Some r) k = left_by log r.trail k
 
 -- what the runner that begins with `first` left of each period from there on, whether it is on or
 -- not
-abbrev pub left_at : List Runner → ℕ → ℕ → Passed
-left_at runners first = left_of (slice_get runners first)
+abbrev pub left_at : List Logged → List Runner → ℕ → ℕ → Passed
+left_at log runners first = left_of log (slice_get runners first)
 
--- for how many periods a runner has memory for what it leaves
-abbrev pub places_of : Runner → ℕ
-places_of r = length r.passed.items + r.passed.spare
+-- the log has what each runner left
+abbrev pub AreTrails : List Logged → List Runner → Type 0
+AreTrails log runners =
+    (first : ℕ) (r : Runner) → slice_get runners first ≡ Some r → IsTrail log r.trail
 
 -- a runner has room for all periods, and for those after period t where it is on; each asks for as
--- many pieces as `charge`
-pub record IsRoomy (periods t charge : ℕ) (r : Runner) : Type 0 where
+-- many pieces as `charge`. Where it is on, it left what it did of each period up to t, and nothing
+-- where it can't have begun
+pub record IsRoomy (periods t charge first : ℕ) (r : Runner) : Type 0 where
   pub whole : periods * charge ≤ room_of r.running
-  pub places : periods ≤ places_of r
   pub rest : IsTrue r.is_on → count_of r.running + (periods - t) * charge ≤ room_of r.running
+  pub count : IsTrue r.is_on → r.trail.count ≡ t - (first - 1)
+  pub none : t ≤ first - 1 → r.trail.count ≡ 0
 
 abbrev pub AreRoomy : ℕ → ℕ → ℕ → List Runner → Type 0
 AreRoomy periods t charge runners =
     (first : ℕ) (r : Runner) → slice_get runners first ≡ Some r →
-    IsRoomy periods t charge r
+    IsRoomy periods t charge first r
 
 -- its cost and its values are far within the limits
 pub record IsSmallGoing (r : Going) : Type 0 where
@@ -75,11 +80,15 @@ abbrev pub IsBelow : Table → ℤ → Table → ℤ → Type 0
 IsBelow f e f' e' =
     (x v : ℤ) → value_of f' x ≡ Some v → (u : ℤ) × (value_of f x ≡ Some u) × ((e +ℤ u) ≤ℤ (e' +ℤ v))
 
--- each runner has room for just so many pieces, and for so many periods
-abbrev pub HaveRoom : ℕ → ℕ → List Runner → Type 0
-HaveRoom room periods runners =
-    (first : ℕ) (r : Runner) → slice_get runners first ≡ Some r → (room ≡ room_of r.running)
-    × (periods ≤ places_of r)
+-- each runner has room for just so many pieces
+abbrev pub HaveRoom : ℕ → List Runner → Type 0
+HaveRoom room runners =
+    (first : ℕ) (r : Runner) → slice_get runners first ≡ Some r → room ≡ room_of r.running
+
+-- a log has memory for all that runners may leave of so many periods: of each as many entries as
+-- runners may have begun by then
+abbrev pub HasRoomFor : ℕ → Reserved Logged → Type 0
+HasRoomFor periods log = periods * (periods + 3) ≤ 2 * (length log.items + log.spare)
 
 -- the rows up to period t are those of the table, and each run has a runner that stands for it
 pub record IsFilledTo (g : ThermalUnit) (π : PriceLists) (limits : ℕ →

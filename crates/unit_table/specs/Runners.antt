@@ -19,13 +19,12 @@ use Rattle.unit_rows.specs.Spells.{IsSpell, on_time}
 use Rattle.unit_rows.specs.Ends.{HasAtMost, IsEntry, IsLeastEntry}
 use Rattle.unit_table.specs.Tables.{IsFrom}
 
--- what a runner has: the on period before its first one, the cost of its entry, a function of the
--- power, and what it left of each period from its first one on for the way back
+-- what a runner has: the on period before its first one, the cost of its entry, and a function of
+-- the power
 pub record Going : Type 0 where
   pub before : ℕ
   pub cost : ℤ
   pub function : Table
-  pub left : ℕ → Passed
 
 -- by place, of what a spell that begins with `first` left from its first period on
 abbrev pub since : ℕ → (ℕ → Passed) → ℕ → Passed
@@ -42,6 +41,12 @@ AreNoted g π first t f left =
     (x v : ℤ) → value_of f x ≡ Some v → (k : ℕ) → first ≤ suc k → k < t →
     IsOnNoted g π first k (since first left k).note
 
+-- so it is for each runner that is on
+abbrev pub AreAllNoted : ThermalUnit → PriceLists → ℕ → (ℕ → Option Going) → (ℕ → ℕ → Passed) →
+    Type 0
+AreAllNoted g π t live left =
+    (first : ℕ) (r : Going) → live first ≡ Some r → AreNoted g π first t r.function (left first)
+
 -- the runner that begins with `first` has the least entry, and its function is the frontier of the
 -- runs up to period t
 pub record IsRunner (g : ThermalUnit) (π : PriceLists) (ends : ℕ →
@@ -51,7 +56,6 @@ pub record IsRunner (g : ThermalUnit) (π : PriceLists) (ends : ℕ →
   pub may : MayBeOn g first t
   pub order : first ≤ suc t
   pub within : IsWithinTimes (2 * first + 1) r.cost
-  pub noted : AreNoted g π first t r.function r.left
 
 -- a runner was just begun after an entry
 pub record IsBegun (g : ThermalUnit) (first last : ℕ) (e : ℤ) (r : Going) : Type 0 where
@@ -85,18 +89,13 @@ pub record AreRunners (g : ThermalUnit) (π : PriceLists) (limits : ℕ → ℤ)
       IsEntry g ends first e → IsRun g first t d → (e +ℤ spell_cost g π first t d) ≤ℤ limits t →
       HasStandIn g π live t first e d
 
--- what becomes of a runner in period suc t: its frontier is a period further, with the step noted,
--- or it is gone, where no run is left
+-- what becomes of a runner in period suc t: its frontier is a period further, or it is gone, where
+-- no run is left
 pub record IsGoneOn (g : ThermalUnit) (π : PriceLists) (t first : ℕ) (r : Going)
     (next : Option Going) : Type 0 where
   pub function : Table
-  pub left : ℕ → Passed
   pub frontier : IsFrontier g π first (suc t) function
-  pub kept : (k : ℕ) → k ≢ t - (first - 1) → left k ≡ r.left k
-  pub noted : (x v : ℤ) → value_of r.function x ≡ Some v →
-      IsOnNoted g π first t (since first left t).note
-  pub next_is :
-      (next ≡ Some (record { before = r.before; cost = r.cost; function = function; left = left }))
+  pub next_is : (next ≡ Some (record { before = r.before; cost = r.cost; function = function }))
       ⊎ ((next ≡ None) × IsEmpty function)
 
 -- a spell ends with period suc k, as is noted

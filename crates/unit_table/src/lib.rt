@@ -6,12 +6,13 @@
 #![tactic(auto)]
 
 pub mod laws;
-pub mod notes;
 pub mod periods;
 pub mod question;
 pub mod roster;
 pub mod runner;
+pub mod shared;
 
 pub use periods::fill_by_periods;
 pub use question::{Period, Question};
 pub use runner::Runner;
+pub use shared::Shared;

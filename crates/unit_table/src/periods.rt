@@ -5,14 +5,14 @@
 //! as soon, is nowhere above it; and a start isn't made where a running spell is at the least power
 //! for less than it costs. Nor does one go on, or start, that costs more than a limit, since it
 //! can't come within the amount that the limits are for.
-ghost use Rattle.std.specs.Prelude.{◌≡◌, ◌≢◌, ℕ, suc, ◌+◌, ◌*◌, ◌<◌, ◌≤◌, ℤ, Option, None, length};
+ghost use Rattle.std.specs.Prelude.{◌≡◌, ◌≢◌, ℕ, suc, ◌+◌, ◌*◌, ◌<◌, ◌≤◌, ℤ, Option, None, [], length};
 ghost use Rattle.slope_list.specs.Slopes.{space_of};
 ghost use Rattle.uc_model.specs.Data.{PriceLists};
 ghost use Rattle.uc_model.specs.PlainUnits.{thermal_of};
 ghost use Rattle.uc_model.specs.declared.limits.TheConstants.{MOST_PERIODS};
 ghost use Rattle.unit_rows.specs.Limits.{AreLimits};
 ghost use Rattle.unit_table.specs.Limits.{IsFilledWithin};
-ghost use Rattle.unit_table.specs.Live.{live_at, left_at, AreRoomy, AreSmall, HaveRoom};
+ghost use Rattle.unit_table.specs.Live.{live_at, left_at, AreTrails, AreRoomy, AreSmall, HaveRoom};
 ghost use Rattle.unit_table.specs.Live.{IsFilledTo};
 ghost use Rattle.unit_table.specs.Questions.{unit_of, prices_in, periods_in, charge_of};
 ghost use Rattle.unit_table.specs.Questions.{limits_in};
@@ -26,9 +26,10 @@ ghost use Rattle.unit_rows.specs.Ends.{IsLeastEntry};
 use crate::question::{Period, Question};
 use crate::roster::Roster;
 use crate::runner::{
-    Runner, begin_at, drop_beyond, is_less, is_undercut, prune, run_all, stop_all,
+    Runner, begin_at, drop_beyond, forget_all, is_less, is_undercut, prune, run_all, stop_all,
 };
-use slope_list::Spare;
+use crate::shared::Shared;
+use spell_run::Log;
 use spell_run::laws::{dispatches_are_runs, dispatches_go_on, runs_go_on};
 use uc_model::laws::start_costs_are_within;
 use uc_model::units::Unit;
@@ -59,6 +60,7 @@ fn start_after(
         (suc place) →
         AreRunners (thermal_of unit.now) π limits ends (live_at runners.new) place
         (suc (suc place)) }
+    ensures others { (f : ℕ) → f ≢ suc place → live_at runners.new f ≡ live_at runners.old f }
     ensures kept { AreKept runners.old runners.new }
     ensures roster { IsRoster (live_at runners.new) (suc (suc place)) roster.new }
     ensures list { length roster.new.firsts.items ≡ length roster.old.firsts.items }
@@ -96,6 +98,7 @@ fn start(
         (suc place) →
         AreRunners (thermal_of unit.now) π limits ends (live_at runners.new) place
         (suc (suc place)) }
+    ensures others { (f : ℕ) → f ≢ suc place → live_at runners.new f ≡ live_at runners.old f }
     ensures kept { AreKept runners.old runners.new }
     ensures roster { IsRoster (live_at runners.new) (suc (suc place)) roster.new }
     ensures list { length roster.new.firsts.items ≡ length roster.old.firsts.items }
@@ -117,28 +120,28 @@ fn take_period(
     roster: &mut Roster,
     runners: &mut [Runner],
     table: &mut Table,
-    spare: &mut Spare,
+    shared: &mut Shared,
 )
     requires long { AreLonger (periods_in period.now.question.now) table.old.items runners.old roster.old
-        origins.now }
-    requires have { HaveRoom (space_of spare.old) (periods_in period.now.question.now) runners.old }
+        origins.now shared.old.log }
+    requires have { HaveRoom (space_of shared.old.spare) runners.old }
     requires limits { (most : ℤ)
         × AreLimits (unit_of period.now.question.now) (prices_in period.now.question.now) most
         (limits_in period.now.question.now) }
     requires now { IsSweptTo (unit_of period.now.question.now) (prices_in period.now.question.now)
         (limits_in period.now.question.now) period.now.place (charge_of period.now.question.now)
         table.old.items runners.old
-        roster.old }
+        roster.old shared.old.log.items }
     requires origins { AreOrigins (unit_of period.now.question.now) (cost_at table.old.items)
         period.now.place origins.now }
     ensures now { IsSweptTo (unit_of period.now.question.now) (prices_in period.now.question.now)
         (limits_in period.now.question.now) (suc period.now.place) (charge_of period.now.question.now)
         table.new.items runners.new
-        roster.new }
+        roster.new shared.new.log.items }
     ensures others { (l : ℕ) → l ≢ suc period.now.place → row_at table.new.items l ≡ row_at table.old.items l }
-    ensures spare { space_of spare.new ≡ space_of spare.old }
+    ensures spare { space_of shared.new.spare ≡ space_of shared.old.spare }
     ensures same { AreAsLong table.old.items table.new.items runners.old runners.new
-        roster.old roster.new }
+        roster.old roster.new shared.old.log shared.new.log }
 {
     let question = period.question;
     let place = period.place;
@@ -152,7 +155,14 @@ fn take_period(
     dispatches_are_runs();
     let limit = *question.limits.get(place as usize);
     start(question.unit, place, limit, origins, roster, runners);
-    run_all(period, roster, runners, table, spare);
+    run_all(
+        period,
+        roster,
+        runners,
+        table,
+        &mut shared.spare,
+        &mut shared.log,
+    );
     drop_beyond(
         place + 1,
         *question.limits.get(place as usize + 1),
@@ -182,7 +192,13 @@ fn go_on(unit: &Unit, roster: &mut Roster, runners: &mut [Runner])
 }
 
 // The table and the runners before the first period.
-fn begin_all(unit: &Unit, roster: &mut Roster, runners: &mut [Runner], table: &mut Table)
+fn begin_all(
+    unit: &Unit,
+    roster: &mut Roster,
+    runners: &mut [Runner],
+    table: &mut Table,
+    log: &mut Log,
+)
     requires runners { 1 ≤ length runners.old }
     requires list { 1 ≤ length roster.old.firsts.items }
     requires rows { 1 ≤ length table.old.items }
@@ -190,34 +206,37 @@ fn begin_all(unit: &Unit, roster: &mut Roster, runners: &mut [Runner], table: &m
         → IsFilledTo (thermal_of unit.now) π limits 0 table.new.items
         (live_at runners.new) }
     ensures room { (room periods charge : ℕ) → periods * charge ≤ room
-        → HaveRoom room periods runners.old → AreRoomy periods 0 charge runners.new }
+        → HaveRoom room runners.old → AreRoomy periods 0 charge runners.new }
+    ensures trails { AreTrails log.new.items runners.new }
+    ensures log { log.new.items ≡ [] }
     ensures roster { IsRoster (live_at runners.new) 1 roster.new }
     ensures same { AreAsLong table.old.items table.new.items runners.old runners.new
-        roster.old roster.new }
+        roster.old roster.new log.old log.new }
 {
     begin_table(unit, table);
-    stop_all(runners);
+    forget_all(runners);
+    log.clear();
     roster.clear();
     go_on(unit, roster, runners);
 }
 
 /// Fills the table for a question over T periods, as far as its rows are within the limits of some
-/// amount; the other rows are open. There are at least T + 1 runners, each with room for T periods,
-/// and, as `spare`, for T (B + 3) pieces, where the curve has B blocks; `origins` and `roster` have
-/// room for T periods, and `table` has at least T + 1 rows. Leaves with the runners what the way
-/// back from each row needs. Takes no memory.
+/// amount; the other rows are open. There are at least T + 1 runners, each with room for as many
+/// pieces as `shared`, T (B + 3) at least where the curve has B blocks; `origins`, `roster` and the
+/// log of `shared` have room for T periods, and `table` has at least T + 1 rows. Leaves in the log
+/// what the way back from each row needs. Takes no memory.
 pub fn fill_by_periods(
     question: &Question,
     origins: &mut Origins,
     roster: &mut Roster,
     runners: &mut [Runner],
     table: &mut Table,
-    spare: &mut Spare,
+    shared: &mut Shared,
 )
     requires long { AreLonger (periods_in question.now) table.old.items runners.old roster.old
-        origins.old }
-    requires room { periods_in question.now * charge_of question.now ≤ space_of spare.old }
-    requires have { HaveRoom (space_of spare.old) (periods_in question.now) runners.old }
+        origins.old shared.old.log }
+    requires room { periods_in question.now * charge_of question.now ≤ space_of shared.old.spare }
+    requires have { HaveRoom (space_of shared.old.spare) runners.old }
     requires limits { (most : ℤ)
         × AreLimits (unit_of question.now) (prices_in question.now) most
         (limits_in question.now) }
@@ -226,15 +245,16 @@ pub fn fill_by_periods(
         → IsFilledWithin (unit_of question.now) (prices_in question.now) most table.new.items }
     ensures ways { HaveWays (unit_of question.now) (prices_in question.now)
         (periods_in question.now) (cost_at table.new.items) (first_at table.new.items)
-        (left_at runners.new) }
-    ensures spare { space_of spare.new ≡ space_of spare.old }
+        (left_at shared.new.log.items runners.new) }
+    ensures trails { AreTrails shared.new.log.items runners.new }
+    ensures spare { space_of shared.new.spare ≡ space_of shared.old.spare }
     ensures same { AreAsLong table.old.items table.new.items runners.old runners.new
-        roster.old roster.new }
+        roster.old roster.new shared.old.log shared.new.log }
     ensures list { length origins.new.list.items ≡ length origins.old.list.items }
 {
     start_costs_are_within();
     let unit = question.unit;
-    begin_all(unit, roster, runners, table);
+    begin_all(unit, roster, runners, table, &mut shared.log);
     origins.begin(unit, table.as_slice());
     let periods = question.prices.energy.len() as u32;
     for place in 0..periods {
@@ -242,7 +262,7 @@ pub fn fill_by_periods(
             question: &*question,
             place,
         };
-        take_period(&period, origins, roster, runners, table, spare);
+        take_period(&period, origins, roster, runners, table, shared);
         origins.go_on(unit, place, table.as_slice());
     }
 }

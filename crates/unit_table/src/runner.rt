@@ -1,5 +1,5 @@
 //! The spells with one first period, as far as they have gone.
-ghost use Rattle.std.specs.Prelude.{◌≡◌, ◌≢◌, ℕ, suc, ◌+◌, ◌-◌, ◌*◌, ◌<◌, ◌≤◌, ℤ, pos, ◌+ℤ◌, ◌-ℤ◌};
+ghost use Rattle.std.specs.Prelude.{◌≡◌, ◌≢◌, ℕ, suc, ◌+◌, ◌-◌, ◌*◌, ◌^◌, ◌<◌, ◌≤◌, ℤ, pos, ◌+ℤ◌, ◌-ℤ◌};
 ghost use Rattle.std.specs.Prelude.{◌≤ℤ◌, ◌⊎◌, true, false, IsTrue, IsFalse, IfSome, length, Some};
 ghost use Rattle.std.specs.Prelude.{None, Option, slice_get};
 ghost use Rattle.std.specs.Bool.{OnTrue};
@@ -7,14 +7,15 @@ ghost use Rattle.cost_curve.specs.CostCurve.{IsCostCurve};
 ghost use Rattle.shape_law.specs.Table.{Table, value_of, IsEmpty};
 ghost use Rattle.slope_list.specs.Slopes.{shown, count_of, room_of, space_of, MayGrow, IsGrown};
 ghost use Rattle.spell_run.specs.Frontier.{IsFrontier};
-ghost use Rattle.spell_run.specs.Notes.{IsOnNoted, IsEndNoted, passed_at, end_cost};
+ghost use Rattle.spell_run.specs.Logs.{left_by, IsTrail};
+ghost use Rattle.spell_run.specs.Notes.{IsOnNoted, IsEndNoted, end_cost};
 ghost use Rattle.spell_run.specs.Spells.{IsSpellAnswer, IsSpellWithin};
 ghost use Rattle.uc_model.specs.declared.units.Mark.TheVariants.{MustOff};
 ghost use Rattle.uc_model.specs.Data.{ThermalUnit, PriceLists};
 ghost use Rattle.uc_model.specs.PlainUnits.{thermal_of, prices_of};
 ghost use Rattle.uc_model.specs.Schedules.{mark_in};
 ghost use Rattle.uc_model.specs.declared.limits.TheConstants.{MOST_PERIODS};
-ghost use Rattle.unit_table.specs.Live.{state_of, going_of, live_at, left_at, places_of, IsRoomy, AreRoomy};
+ghost use Rattle.unit_table.specs.Live.{state_of, going_of, live_at, IsRoomy, AreRoomy};
 ghost use Rattle.unit_table.specs.Live.{AreSmall, IsUnder, IsBeyond, IsBelow, HaveRoom};
 ghost use Rattle.unit_table.specs.Questions.{unit_of, prices_in, periods_in, charge_of};
 ghost use Rattle.unit_table.specs.Rosters.{IsRoster};
@@ -24,14 +25,14 @@ ghost use Rattle.unit_table.specs.Runners.{Going, MayBeOn, AreRunners, IsRowOf, 
 ghost use Rattle.unit_table.specs.Runners.{IsEndLeft, IsBegun, since};
 ghost use Rattle.unit_rows.specs.Spells.{on_time};
 ghost use Rattle.unit_table.specs.Taken.{AreFewer, AreKept, IsReady, IsRowMore, IsOneRun};
+ghost use Rattle.unit_table.specs.Taken.{HaveSameRooms, IsEntryMore, IsLogFor};
 ghost use Rattle.unit_table.specs.Taken.{IsRunOver};
 
-use crate::notes::leave_at;
 use crate::question::Period;
 use crate::roster::Roster;
-use plain_lists::lists::ReservedList;
 use slope_list::{Lowest, Slopes, Spare};
-use spell_run::{Passage, Passed, begin, end_and_run, run_over};
+use spell_run::notes::leave;
+use spell_run::{Log, Passage, Passed, Trail, begin, end_and_run, run_over};
 use uc_model::units::Unit;
 use unit_rows::commitment::{is_long_enough, may_end};
 use unit_rows::table::{Entry, Table, put_end, sum_of};
@@ -46,8 +47,8 @@ pub struct Runner {
     pub before: u32,
     /// The least net costs by the power at the end of a period.
     pub running: Slopes,
-    /// What each period that it was taken over left for the way back, from its first one on.
-    pub passed: ReservedList<Passed>,
+    /// What it left in the log of the periods that it was taken over, whether it is on or not.
+    pub trail: Trail,
 }
 
 // Written out, so that a drop of it is a call, and not one for each list.
@@ -58,7 +59,7 @@ impl Drop for Runner {
             cost: _,
             before: _,
             running: _,
-            passed: _,
+            trail: _,
         } = self;
     }
 }
@@ -72,7 +73,7 @@ fn begin_runner(unit: &Unit, first: u32, entry: &Entry, runner: &mut Runner)
         → IsFrontier (thermal_of unit.now) π first (first - 1) (shown runner.new.running) }
     ensures count { count_of runner.new.running ≡ 0 }
     ensures room { room_of runner.new.running ≡ room_of runner.old.running }
-    ensures passed { runner.new.passed ≡ runner.old.passed }
+    ensures trail { runner.new.trail ≡ runner.old.trail }
 {
     runner.is_on = true;
     runner.cost = entry.cost;
@@ -84,7 +85,7 @@ fn begin_runner(unit: &Unit, first: u32, entry: &Entry, runner: &mut Runner)
 fn stop(runner: &mut Runner)
     ensures off { runner.new.is_on ≡ false }
     ensures running { runner.new.running ≡ runner.old.running }
-    ensures passed { runner.new.passed ≡ runner.old.passed }
+    ensures trail { runner.new.trail ≡ runner.old.trail }
 {
     runner.is_on = false;
 }
@@ -141,6 +142,38 @@ fn stop_at(runners: &mut [Runner], place: usize)
     ensures kept { AreKept runners.old runners.new }
 {
     stop(&mut runners[place]);
+}
+
+// Stops a runner, and forgets what it left.
+fn forget(runner: &mut Runner)
+    ensures off { runner.new.is_on ≡ false }
+    ensures running { runner.new.running ≡ runner.old.running }
+    ensures trail { runner.new.trail.count ≡ 0 }
+{
+    stop(runner);
+    runner.trail = Trail::none();
+}
+
+// Stops the runner at a place, and forgets what it left.
+fn forget_at(runners: &mut [Runner], place: usize)
+    requires { place < length runners.old }
+    ensures off { live_at runners.new place ≡ None }
+    ensures none { (r : Runner) → slice_get runners.new place ≡ Some r → r.trail.count ≡ 0 }
+    ensures others { (f : ℕ) → f ≢ place → slice_get runners.new f ≡ slice_get runners.old f }
+    ensures rooms { HaveSameRooms runners.old runners.new }
+{
+    forget(&mut runners[place]);
+}
+
+/// Stops all runners, and forgets what they left.
+pub fn forget_all(runners: &mut [Runner])
+    ensures off { (first : ℕ) → live_at runners.new first ≡ None }
+    ensures none { (first : ℕ) (r : Runner) → slice_get runners.new first ≡ Some r → r.trail.count ≡ 0 }
+    ensures rooms { HaveSameRooms runners.old runners.new }
+{
+    for place in 0..runners.len() {
+        forget_at(runners, place);
+    }
 }
 
 /// Stops all runners.
@@ -280,7 +313,7 @@ fn cost_of(end: Option<Lowest>) -> Option<i64>
 fn retire(runner: &mut Runner)
     requires { runner.old.is_on ≡ true }
     ensures running { runner.new.running ≡ runner.old.running }
-    ensures passed { runner.new.passed ≡ runner.old.passed }
+    ensures trail { runner.new.trail ≡ runner.old.trail }
     ensures next { (going_of (Some runner.new) ≡ going_of (Some runner.old))
         ⊎ ((going_of (Some runner.new) ≡ None)
         × IsEmpty (shown runner.old.running)) }
@@ -290,14 +323,15 @@ fn retire(runner: &mut Runner)
     }
 }
 
-// Takes a runner that is on over the period at a place, and puts the spells that end with it into
-// the table.
+// Takes a runner that is on over the period at a place, leaves in the log what its way back needs,
+// and puts the spells that end with the period into the table.
 fn take_runner(
     period: &Period,
     first: u32,
     runner: &mut Runner,
     table: &mut Table,
     spare: &mut Spare,
+    log: &mut Log,
 )
     requires on { runner.old.is_on ≡ true }
     requires ready { IsReady (unit_of period.now.question.now) (prices_in period.now.question.now)
@@ -305,10 +339,13 @@ fn take_runner(
         (state_of runner.old) }
     requires room { IsRoomy (periods_in period.now.question.now) period.now.place
         (charge_of period.now.question.now)
-        runner.old }
+        first runner.old }
     requires alike { space_of spare.old ≡ room_of runner.old.running }
     requires rows { periods_in period.now.question.now < length table.old.items }
     requires within { AreWithin table.old.items }
+    requires trail { IsTrail log.old.items runner.old.trail }
+    requires entry { 1 ≤ log.old.spare }
+    requires small_log { length log.old.items < 2 ^ 32 }
     ensures more { IsRowMore (unit_of period.now.question.now) (prices_in period.now.question.now)
         period.now.place first
         (going_of (Some runner.old)) table.old.items table.new.items }
@@ -319,14 +356,16 @@ fn take_runner(
         period.now.place)) ⊎
         ((first_at table.new.items (suc period.now.place) ≡ first)
         × IsEndLeft (unit_of period.now.question.now) (prices_in period.now.question.now) first period.now.place
-        (since first (passed_at runner.new.passed.items) period.now.place)) }
-    ensures left { (k : ℕ) → k ≢ period.now.place - (first - 1) → passed_at runner.new.passed.items k
-        ≡ passed_at runner.old.passed.items k }
+        (since first (left_by log.new.items runner.new.trail) period.now.place)) }
+    ensures noted { (x v : ℤ) → value_of (shown runner.old.running) x ≡ Some v
+        → IsOnNoted (unit_of period.now.question.now) (prices_in period.now.question.now) first
+        period.now.place
+        (since first (left_by log.new.items runner.new.trail) period.now.place).note }
+    ensures entry { IsEntryMore log.old log.new runner.old.trail runner.new.trail }
     ensures room { IsRoomy (periods_in period.now.question.now) (suc period.now.place)
         (charge_of period.now.question.now)
-        runner.new }
-    ensures same { (room_of runner.new.running ≡ room_of runner.old.running)
-        × (places_of runner.new ≡ places_of runner.old) }
+        first runner.new }
+    ensures same { room_of runner.new.running ≡ room_of runner.old.running }
     ensures spare { space_of spare.new ≡ space_of spare.old }
 {
     let entry = Entry {
@@ -335,28 +374,45 @@ fn take_runner(
     };
     let passed = run_one(period, first, &mut runner.running, spare);
     let place = period.place;
-    leave_at(&mut runner.passed, place - first.saturating_sub(1), passed);
+    runner.trail = leave(log, runner.trail, passed);
     put_end(table, place + 1, first, &entry, cost_of(passed.end));
     retire(runner);
 }
 
 // Takes the runner that begins with a period over the period at a place, if it is on.
-fn run_at(period: &Period, first: u32, runners: &mut [Runner], table: &mut Table, spare: &mut Spare)
+fn run_at(
+    period: &Period,
+    first: u32,
+    runners: &mut [Runner],
+    table: &mut Table,
+    spare: &mut Spare,
+    log: &mut Log,
+)
     requires runners { first < length runners.old }
     requires ready { (r : Going) → live_at runners.old first ≡ Some r
         → IsReady (unit_of period.now.question.now) (prices_in period.now.question.now) period.now.place first r }
     requires room { (r : Runner) → slice_get runners.old first ≡ Some r
-        → IsRoomy (periods_in period.now.question.now) period.now.place (charge_of period.now.question.now) r }
+        → IsRoomy (periods_in period.now.question.now) period.now.place (charge_of period.now.question.now)
+        first r }
     requires alike { (r : Runner) → slice_get runners.old first ≡ Some r
         → space_of spare.old ≡ room_of r.running }
     requires rows { periods_in period.now.question.now < length table.old.items }
     requires within { AreWithin table.old.items }
+    requires log { IsLogFor 1 log.old runners.old }
     ensures run { IsOneRun (unit_of period.now.question.now) (prices_in period.now.question.now) period.now.place
-        (charge_of period.now.question.now) first table.old.items table.new.items runners.old runners.new }
+        (charge_of period.now.question.now) first table.old.items table.new.items runners.old runners.new
+        log.old log.new }
     ensures spare { space_of spare.new ≡ space_of spare.old }
 {
     if runner_at(runners, first).is_on {
-        take_runner(period, first, &mut runners[first as usize], table, spare);
+        take_runner(
+            period,
+            first,
+            &mut runners[first as usize],
+            table,
+            spare,
+            log,
+        );
     }
 }
 
@@ -368,6 +424,7 @@ pub fn run_all(
     runners: &mut [Runner],
     table: &mut Table,
     spare: &mut Spare,
+    log: &mut Log,
 )
     requires open { mark_in (unit_of period.now.question.now).window (suc period.now.place) ≡ MustOff → ⊥ }
     requires runners { periods_in period.now.question.now < length runners.old }
@@ -379,17 +436,19 @@ pub fn run_all(
     requires room { AreRoomy (periods_in period.now.question.now) period.now.place
         (charge_of period.now.question.now)
         runners.old }
-    requires have { HaveRoom (space_of spare.old) (periods_in period.now.question.now) runners.old }
+    requires have { HaveRoom (space_of spare.old) runners.old }
+    requires log { IsLogFor (suc (suc period.now.place)) log.old runners.old }
     requires rows { periods_in period.now.question.now < length table.old.items }
     requires within { AreWithin table.old.items }
     requires none { cost_at table.old.items (suc period.now.place) ≡ None }
     ensures run { IsRunOver (unit_of period.now.question.now) (prices_in period.now.question.now) period.now.place
-        (charge_of period.now.question.now) table.old.items table.new.items runners.old runners.new }
+        (charge_of period.now.question.now) table.old.items table.new.items runners.old runners.new
+        log.old log.new }
     ensures spare { space_of spare.new ≡ space_of spare.old }
 {
     for index in 0..roster.count {
         let first = *roster.firsts.get(index as usize);
-        run_at(period, first, runners, table, spare);
+        run_at(period, first, runners, table, spare, log);
     }
 }
 

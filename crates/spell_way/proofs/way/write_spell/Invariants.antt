@@ -1,5 +1,5 @@
 use Rattle.spell_way.proofs.Common.{◌≡◌, ◌-◌, thermal_of, prices_of, schedule_of}
-use Rattle.spell_way.proofs.Lemmas.{IsWrittenFrom}
+use Rattle.spell_way.proofs.Lemmas.{IsWrittenFrom, IsRest}
 use Rattle.spell_way.proofs.way.write_spell.Given as goal
 
 abbrev pub invariant-loop-back : goal.invariant-loop-back
@@ -7,4 +7,5 @@ invariant-loop-back l = record {
   from : IsWrittenFrom (thermal_of l.unit) (prices_of l.prices) l.first (l.last - l.back) l.last
       (schedule_of l.fn.into.response) (schedule_of l.into.response) l.power;
   earned : l.into.earned ≡ l.fn.into.earned;
+  rest : IsRest l.left.log.now l.left.trail l.at ((l.last - (l.first - 1)) - l.back);
 }

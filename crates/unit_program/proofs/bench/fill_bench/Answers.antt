@@ -1,6 +1,7 @@
 use Rattle.unit_program.proofs.Common.{arith, rules, ◌+◌, ◌-◌, ◌*◌, ◌<◌, ◌≤◌, List, length, sym, ap, ◌∙◌, subst}
 use Rattle.unit_program.proofs.Common.{with_items_is}
-use Rattle.unit_program.proofs.Common.{to_z-of_z, FitsSigned, w64, thermal_of, prices_of, Runner, HaveRoom, left_at}
+use Rattle.unit_program.proofs.Common.{to_z-of_z, FitsSigned, w64, thermal_of}
+use Rattle.unit_program.proofs.Common.{prices_of, Runner, HaveRoom, AreTrails, left_at}
 use Rattle.unit_program.proofs.Common.{space_of}
 use Rattle.unit_program.proofs.Common.{cost_at, first_at, HaveWays}
 use Rattle.std.specs.Vec.{with_items}
@@ -18,7 +19,7 @@ fill_by_periods-requires-clause-room c =
 
 pub fill_by_periods-requires-clause-have : goal.fill_by_periods-requires-clause-have
 fill_by_periods-requires-clause-have c =
-    subst (λ (xs : List Runner). HaveRoom (space_of c.args.bench.now.spare) (length c.args.prices.now.energy.items) xs)
+    subst (λ (xs : List Runner). HaveRoom (space_of c.args.bench.now.shared.spare) xs)
     (sym c.as_mut_slice.ensures.value) c.requires.bench.room
 
 pub returns-clause-bench : goal.returns-clause-bench
@@ -31,7 +32,7 @@ returns-clause-bench c = λ periods points b.
       curve = c.curve_into.new.into;
       runners = with_items c.args.bench.now.runners
           c.fill_by_periods.new.runners;
-      spare = c.fill_by_periods.new.spare;
+      shared = c.fill_by_periods.new.shared;
       origins = c.fill_by_periods.new.origins;
       roster = c.fill_by_periods.new.roster;
       table = c.fill_by_periods.new.table;
@@ -39,10 +40,11 @@ returns-clause-bench c = λ periods points b.
       kept = c.args.bench.now.kept;
     })
     (sym c.curve_into.ensures.room) (ap length same ∙ c.fill_by_periods.ensures.same.count_same ∙ ap length lent.value)
-    (λ room periods have.
-    subst (λ (xs : List Runner). HaveRoom room periods xs) (sym same)
-    (c.fill_by_periods.ensures.same.keeps room periods
-    (subst (λ (xs : List Runner). HaveRoom room periods xs) (sym lent.value) have))) c.fill_by_periods.ensures.spare
+    (λ room have.
+    subst (λ (xs : List Runner). HaveRoom room xs) (sym same)
+    (c.fill_by_periods.ensures.same.keeps room
+    (subst (λ (xs : List Runner). HaveRoom room xs) (sym lent.value) have))) c.fill_by_periods.ensures.spare
+    c.fill_by_periods.ensures.same.log_same
     c.fill_by_periods.ensures.same.rows_length c.fill_by_periods.ensures.list c.fill_by_periods.ensures.same.firsts_same
     c.fill_limits.ensures.length b
 
@@ -53,8 +55,15 @@ returns-clause-ways c =
     (c.fill_by_periods.ensures.same.count_same ∙ lent.len) in
     subst (λ (xs : List Runner). HaveWays (thermal_of c.args.unit.now) (prices_of c.args.prices.now)
     (length c.args.prices.now.energy.items) (cost_at c.fill_by_periods.new.table.items)
-    (first_at c.fill_by_periods.new.table.items) (left_at xs)) (sym same)
+    (first_at c.fill_by_periods.new.table.items) (left_at c.fill_by_periods.new.shared.log.items xs)) (sym same)
     c.fill_by_periods.ensures.ways
+
+pub returns-clause-trails : goal.returns-clause-trails
+returns-clause-trails c =
+    let lent = c.as_mut_slice.ensures in
+    let same = with_items_is c.args.bench.now.runners c.fill_by_periods.new.runners
+    (c.fill_by_periods.ensures.same.count_same ∙ lent.len) in
+    subst (AreTrails c.fill_by_periods.new.shared.log.items) (sym same) c.fill_by_periods.ensures.trails
 
 pub returns-clause-filled : goal.returns-clause-filled
 returns-clause-filled c =
@@ -71,4 +80,5 @@ fill_by_periods-requires-clause-long c =
           (sym c.as_mut_slice.ensures.value) bench.count;
       firsts_end = bench.roster;
       list_end = bench.origins;
+      log_end = bench.log;
     }

@@ -8,7 +8,6 @@ loop-preserved c =
     record {
       count = omega (arith, simp length-append at (ap length items));
       capacity = omega (arith, c.push_reserved.ensures.capacity);
-      room = room_more c.args.pieces c.args.count c.loop.runners.items c.push_reserved.new.self.items _ items
-          (omega (arith, c.in_ok-running.ensures.room)) (omega (arith, c.in_ok-passed.ensures.room))
-          c.loop.invariant.room;
+      room = room_more c.args.pieces c.loop.runners.items c.push_reserved.new.self.items _ items
+          (omega (arith, c.in_ok-running.ensures.room)) c.loop.invariant.room;
     }

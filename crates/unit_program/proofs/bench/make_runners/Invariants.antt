@@ -5,5 +5,5 @@ abbrev pub invariant-loop : goal.invariant-loop
 invariant-loop l = record {
   count : length l.runners.items ≡ l.counter;
   capacity : l.count ≤ vec_capacity l.runners;
-  room : HaveRoom l.pieces l.count l.runners.items;
+  room : HaveRoom l.pieces l.runners.items;
 }

@@ -49,7 +49,8 @@ write_back-requires t c =
     let measure : c.in-Some.ended.before < t = omega arith in
     let into : length c.write_left.new.into.response.on.items ≡ length c.args.prices.now.energy.items =
     c.write_left.ensures.length ∙ c.requires.into in
-    (measure, (ended, (c.requires.ways, (c.requires.room, (c.requires.runners, (low, (into, idle)))))))
+    (measure, (ended, (c.requires.ways, (c.requires.trails, (c.requires.room, (c.requires.runners,
+        (low, (into, idle))))))))
 
 pub write_left-requires-clause-runners : goal.write_left-requires-clause-runners
 write_left-requires-clause-runners t c =
@@ -65,7 +66,7 @@ write_left-requires-clause-noted t c = λ one.
     let last = c.args.last in
     let first = first-is c.args.rows.now last c.in-Some.ended c.in-Some.is in
     subst (λ (f : ℕ). IsSpellNoted (thermal_of c.args.unit.now) (prices_of c.args.prices.now) f last
-    (since f (left_at c.args.runners.now f))) first
+    (since f (left_at c.args.ways.log.now c.args.ways.runners.now f))) first
     (c.requires.ways last c.in-Some.ended.cost one c.requires.last
     (cost-is c.args.rows.now last c.in-Some.ended c.in-Some.is)).1
 

@@ -1,5 +1,5 @@
-use Rattle.unit_program.proofs.Common.{◌-◌, ◌≤◌, List, length, sym, ap, ◌∙◌, subst, arith, slice_get-get_or, Passed}
-use Rattle.unit_program.proofs.Common.{IsSpellNoted, passed_at, since, left_of, thermal_of, prices_of, schedule_of}
+use Rattle.unit_program.proofs.Common.{◌-◌, ◌≤◌, length, sym, ap, ◌∙◌, subst, arith, slice_get-get_or, get_or}
+use Rattle.unit_program.proofs.Common.{IsSpellNoted, since, left_of, thermal_of, prices_of, schedule_of}
 use Rattle.unit_program.proofs.Lemmas.{written_none, written_first}
 use Rattle.unit_program.proofs.NoteLaws.{end_within}
 use Rattle.unit_program.proofs.way.write_left.Goals as goal
@@ -7,21 +7,25 @@ use Rattle.unit_program.proofs.way.write_left.Goals as goal
 pub write_spell-requires-clause-noted : goal.write_spell-requires-clause-noted
 write_spell-requires-clause-noted c =
     let one : 1 ≤ c.args.last = omega arith in
-    let item = slice_get-get_or c.args.runners.now c.args.first c.index-runners-first.result c.requires.runners in
+    let item = slice_get-get_or c.args.ways.runners.now c.args.first c.index-ways-first.result c.requires.runners in
     subst (IsSpellNoted (thermal_of c.args.unit.now) (prices_of c.args.prices.now) c.args.first c.args.last)
-    (ap (λ o. since c.args.first (left_of o)) item ∙
-    ap (λ ps. since c.args.first (passed_at ps)) (sym c.as_slice-passed.ensures))
+    (ap (λ o. since c.args.first (left_of c.args.ways.log.now o)) item)
     (c.requires.noted one)
+
+pub write_spell-requires-clause-trail : goal.write_spell-requires-clause-trail
+write_spell-requires-clause-trail c =
+    c.requires.trails c.args.first _
+    (slice_get-get_or c.args.ways.runners.now c.args.first c.index-ways-first.result c.requires.runners)
 
 pub write_spell-requires-clause-room : goal.write_spell-requires-clause-room
 write_spell-requires-clause-room c =
     let one : 1 ≤ c.args.last = omega arith in
-    let item = slice_get-get_or c.args.runners.now c.args.first c.index-runners-first.result c.requires.runners in
+    let item = slice_get-get_or c.args.ways.runners.now c.args.first c.index-ways-first.result c.requires.runners in
     let noted = c.requires.noted one in
     let k = c.args.last - 1 - (c.args.first - 1) in
-    let low = end_within c.as_slice-passed.result.now k noted.lowest
-    (ap (λ (ps : List Passed). (passed_at ps k).end) c.as_slice-passed.ensures ∙
-    sym (ap (λ o. (left_of o k).end) item) ∙ noted.is_end) in
+    let trail = (get_or c.args.ways.runners.now c.args.first c.index-ways-first.result).trail in
+    let low = end_within c.args.ways.log.now trail.last trail.count k noted.lowest
+    (sym (ap (λ o. (left_of c.args.ways.log.now o k).end) item) ∙ noted.is_end) in
     omega (arith, low)
 
 pub returns-then-last-gt0-clause-written : goal.returns-then-last-gt0-clause-written

@@ -1,5 +1,5 @@
-use Rattle.unit_table.proofs.Common.{thermal_of, cost_at}
-use Rattle.unit_table.proofs.Lemmas.{kept_then, kept_room, kept_roomy, off_roomy}
+use Rattle.unit_table.proofs.Common.{thermal_of, cost_at, inr, arith, ap, ◌∙◌, length}
+use Rattle.unit_table.proofs.Lemmas.{kept_room, kept_roomy, kept_trails, none_trails, off_roomy}
 use Rattle.unit_table.proofs.RowByRowLaws.{table_begun}
 use Rattle.unit_table.proofs.periods.begin_all.Goals as goal
 
@@ -15,16 +15,27 @@ returns-clause-filled c = λ π limits some.
 
 pub returns-clause-room : goal.returns-clause-room
 returns-clause-room c = λ room periods charge fits have.
-    kept_roomy _ _ c.go_on.ensures.kept periods 0 charge
-    (off_roomy room periods 0 charge c.stop_all.new.runners c.stop_all.ensures.off fits
-    (kept_room _ _ c.stop_all.ensures.kept room periods have))
+    kept_roomy _ _ c.go_on.ensures.kept periods 0 charge (λ f. inr (omega arith))
+    (off_roomy room periods 0 charge c.forget_all.new.runners c.forget_all.ensures.off c.forget_all.ensures.none fits
+    (c.forget_all.ensures.rooms.keeps room have))
+
+pub returns-clause-trails : goal.returns-clause-trails
+returns-clause-trails c =
+    kept_trails _ _ c.go_on.ensures.kept _ (none_trails _ c.forget_all.new.runners c.forget_all.ensures.none)
 
 pub returns-clause-same : goal.returns-clause-same
 returns-clause-same c =
-    let kept = kept_then _ _ _ c.stop_all.ensures.kept c.go_on.ensures.kept in
+    let kept = c.go_on.ensures.kept in
+    let rooms = c.forget_all.ensures.rooms in
+    let none = ap length c.clear.ensures.items in
+    let spare = c.clear.ensures.spare in
     record {
       rows_length = c.begin_table.ensures.length;
-      count_same = kept.count_same;
+      count_same = kept.count_same ∙ rooms.count_same;
       firsts_same = cc;
-      keeps = kept_room _ _ kept;
+      log_same = omega arith;
+      keeps = λ room have. kept_room _ _ kept room (rooms.keeps room have);
     }
+
+pub returns-clause-log : goal.returns-clause-log
+returns-clause-log c = c.clear.ensures.items

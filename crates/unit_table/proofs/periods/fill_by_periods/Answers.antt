@@ -10,8 +10,11 @@ loop-place-init c = record {
   now = record {
     filled = c.begin_all.ensures.filled (prices_in c.args.question.now) (limits_in c.args.question.now)
         c.args.question.now.prices.now.valid.horizon.at_least;
+    noted = λ f r on x v there k from until. absurd (omega arith);
     ways = λ l v one until is. absurd (omega arith);
-    roomy = c.begin_all.ensures.room (space_of c.args.spare.now) (periods_in c.args.question.now)
+    trails = c.begin_all.ensures.trails;
+    entries = (let none = ap length c.begin_all.ensures.log in omega arith);
+    roomy = c.begin_all.ensures.room (space_of c.args.shared.now.spare) (periods_in c.args.question.now)
         (charge_of c.args.question.now) c.requires.room c.requires.have;
     roster_is = c.begin_all.ensures.roster;
   };
@@ -32,7 +35,8 @@ loop-place-preserved c =
         rows_length = cc;
         count_same = cc;
         firsts_same = cc;
-        keeps = λ room periods have. more.keeps room periods (before.keeps room periods have);
+        log_same = more.log_same ∙ before.log_same;
+        keeps = λ room have. more.keeps room (before.keeps room have);
       };
       origins = rw next at
           (subst (λ (rows : List (Option Ended)). AreOrigins (unit_of c.args.question.now) (cost_at rows)
@@ -48,11 +52,12 @@ take_period-requires-clause-long c =
       runners_end = omega arith;
       firsts_end = omega arith;
       list_end = omega arith;
+      log_end = (let same = c.loop-place.invariant.same.log_same in let end = c.requires.long.log_end in omega arith);
     }
 
 pub take_period-requires-clause-have : goal.take_period-requires-clause-have
 take_period-requires-clause-have c =
-    rw c.loop-place.invariant.space (c.loop-place.invariant.same.keeps _ _ c.requires.have)
+    rw c.loop-place.invariant.space (c.loop-place.invariant.same.keeps _ c.requires.have)
 
 pub go_on-requires-clause-origins : goal.go_on-requires-clause-origins
 go_on-requires-clause-origins c =
@@ -76,7 +81,8 @@ pub returns-clause-ways : goal.returns-clause-ways
 returns-clause-ways c =
     let end : c.loop-place.place ≡ periods_in c.args.question.now = omega arith in
     subst (λ (t : ℕ). HaveWays (unit_of c.args.question.now) (prices_in c.args.question.now) t
-    (cost_at c.loop-place.table.items) (first_at c.loop-place.table.items) (left_at c.loop-place.runners)) end
+    (cost_at c.loop-place.table.items) (first_at c.loop-place.table.items)
+    (left_at c.loop-place.shared.log.items c.loop-place.runners)) end
     c.loop-place.invariant.now.ways
 
 pub begin-requires-clause-rows : goal.begin-requires-clause-rows

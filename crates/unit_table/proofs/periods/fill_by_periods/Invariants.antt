@@ -5,9 +5,10 @@ use Rattle.unit_table.proofs.periods.fill_by_periods.Given as goal
 abbrev pub invariant-loop-place : goal.invariant-loop-place
 invariant-loop-place l = record {
   now : IsSweptTo (unit_of l.question) (prices_in l.question) (limits_in l.question) l.place
-      (charge_of l.question) l.table.items l.runners l.roster;
-  same : AreAsLong l.fn.table.items l.table.items l.fn.runners l.runners l.fn.roster l.roster;
+      (charge_of l.question) l.table.items l.runners l.roster l.shared.log.items;
+  same : AreAsLong l.fn.table.items l.table.items l.fn.runners l.runners l.fn.roster l.roster l.fn.shared.log
+      l.shared.log;
   origins : AreOrigins (unit_of l.question) (cost_at l.table.items) l.place l.origins;
-  space : space_of l.spare ≡ space_of l.fn.spare;
+  space : space_of l.shared.spare ≡ space_of l.fn.shared.spare;
   list_same : length l.origins.list.items ≡ length l.fn.origins.list.items;
 }

@@ -41,3 +41,9 @@ returns-in-None-clause-kept c = kept_none c.args.runners.now
 
 pub returns-then-not-is_within-clause-kept : goal.returns-then-not-is_within-clause-kept
 returns-then-not-is_within-clause-kept c = kept_none c.args.runners.now
+
+pub returns-in-None-clause-others : goal.returns-in-None-clause-others
+returns-in-None-clause-others c = λ f other. refl
+
+pub returns-then-not-is_within-clause-others : goal.returns-then-not-is_within-clause-others
+returns-then-not-is_within-clause-others c = λ f other. refl

@@ -1,6 +1,6 @@
 use Rattle.unit_table.proofs.Common.{rules, ◌≡◌, ℕ, suc, ◌+◌, pos, ◌+ℤ◌, ◌≤ℤ◌, Some, length}
 use Rattle.unit_table.proofs.Common.{arith, FitsSigned, w64, ints, to_z-of_z, thermal_of, live_at, IsUnder}
-use Rattle.unit_table.proofs.Common.{Going, add-one}
+use Rattle.unit_table.proofs.Common.{Going, add-one, refl}
 use Rattle.unit_table.proofs.Lemmas.{kept_none, still_listed}
 use Rattle.unit_table.proofs.Lemmas.{start_undercut, start_beyond, started}
 use Rattle.unit_table.proofs.periods.start_after.Goals as goal
@@ -59,3 +59,12 @@ returns-then-is_undercut-clause-kept c = kept_none c.args.runners.now
 
 pub returns-then-is_less-clause-kept : goal.returns-then-is_less-clause-kept
 returns-then-is_less-clause-kept c = kept_none c.args.runners.now
+
+pub returns-clause-others : goal.returns-clause-others
+returns-clause-others c = rw add-one at c.begin_at.ensures.others
+
+pub returns-then-is_undercut-clause-others : goal.returns-then-is_undercut-clause-others
+returns-then-is_undercut-clause-others c = λ f other. refl
+
+pub returns-then-is_less-clause-others : goal.returns-then-is_less-clause-others
+returns-then-is_less-clause-others c = λ f other. refl

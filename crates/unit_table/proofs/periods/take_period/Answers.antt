@@ -1,10 +1,12 @@
 use Rattle.unit_table.proofs.Common.{rules, ◌≡◌, ℕ, suc, ◌+◌, ◌*◌, pos, length, refl, sym, ap, ◌∙◌, arith, to_z}
 use Rattle.unit_table.proofs.Common.{of_z, FitsSigned, w64, to_z-of_z, get_or_from_slice_get, ℤ, Some, List, slice_get}
 use Rattle.unit_table.proofs.Common.{unit_of, prices_in, periods_in, charge_of, limits_in, int_at, live_at, left_at}
-use Rattle.unit_table.proofs.Common.{cost_at, first_at, AreRunners, AreSmall, add-one}
+use Rattle.unit_table.proofs.Common.{cost_at, first_at, AreRunners, AreSmall, add-one, inl, inr, cases_eq}
 use Rattle.unit_table.proofs.Lemmas.{small_of, still_roomy, origins_within, period_off, period_run, period_filled}
-use Rattle.unit_table.proofs.Lemmas.{none_listed, still_listed, cost-same, first-same, left_live, ways_same, ways_none}
+use Rattle.unit_table.proofs.Lemmas.{none_listed, still_listed, cost-same, first-same, ways_same, ways_none}
 use Rattle.unit_table.proofs.Lemmas.{ways_more, kept_then, kept_room, kept_roomy, kept_left, fewer_then}
+use Rattle.unit_table.proofs.Lemmas.{kept_trails, noted_start, noted_all, noted_fewer}
+use Rattle.unit_table.proofs.Lemmas.{entries_more, entries_fit, entries_small}
 use Rattle.unit_table.proofs.Lemmas.{fewer_off, fewer_small}
 use Rattle.unit_table.proofs.periods.take_period.Goals as goal
 use Rattle.unit_table.proofs.periods.take_period.Goals.{After-start, After-run_all}
@@ -17,6 +19,7 @@ returns-then-is_must_off-clause-now c =
     let π = prices_in c.args.period.now.question.now in
     let rows = c.args.table.now.items in
     let old = c.args.runners.now in
+    let log = c.args.shared.now.log.items in
     let now = c.requires.now in
     let off = c.stop_all.ensures.off in
     let kept = c.stop_all.ensures.kept in
@@ -26,14 +29,17 @@ returns-then-is_must_off-clause-now c =
           c.args.period.now.place rows
           (live_at old) now.filled c.args.period.now.inside
           (live_at c.stop_all.new.runners) off (c.is_must_off.ensures.yes c.if-is_must_off.true);
-      ways = ways_same g π (suc c.args.period.now.place) (cost_at rows) (first_at rows) (left_at old)
-          (left_at c.stop_all.new.runners) (kept_left _ _ kept)
-          (ways_none g π c.args.period.now.place (cost_at rows) (first_at rows) (left_at old) none now.ways);
+      noted = λ f r on x v there k from until. (let none = off f in absurd (cc));
+      ways = ways_same g π (suc c.args.period.now.place) (cost_at rows) (first_at rows) (left_at log old)
+          (left_at log c.stop_all.new.runners) (kept_left _ _ kept log)
+          (ways_none g π c.args.period.now.place (cost_at rows) (first_at rows) (left_at log old) none now.ways);
+      trails = kept_trails _ _ kept log now.trails;
+      entries = entries_more (length log) c.args.period.now.place (length log) now.entries (omega arith);
       roomy = still_roomy (periods_in c.args.period.now.question.now) c.args.period.now.place
           (suc c.args.period.now.place)
-          (charge_of c.args.period.now.question.now) c.stop_all.new.runners off
+          (charge_of c.args.period.now.question.now) c.stop_all.new.runners (omega arith) off
           (kept_roomy _ _ kept (periods_in c.args.period.now.question.now) c.args.period.now.place
-          (charge_of c.args.period.now.question.now) now.roomy);
+          (charge_of c.args.period.now.question.now) (λ f. inl (inr (off f))) now.roomy);
       roster_is = none_listed (live_at c.stop_all.new.runners) (suc (suc c.args.period.now.place)) c.clear.new.self
           c.clear.ensures.count off;
     }
@@ -43,6 +49,7 @@ returns-then-is_must_off-clause-same c = record {
   rows_length = refl;
   count_same = c.stop_all.ensures.kept.count_same;
   firsts_same = ap (λ l. length l.items) c.clear.ensures.firsts;
+  log_same = refl;
   keeps = kept_room _ _ c.stop_all.ensures.kept;
 }
 
@@ -102,10 +109,24 @@ start-requires-clause-small c =
 pub run_all-requires-clause-room : goal.run_all-requires-clause-room
 run_all-requires-clause-room c =
     kept_roomy _ _ c.start.ensures.kept (periods_in c.args.period.now.question.now) c.args.period.now.place
-    (charge_of c.args.period.now.question.now) c.requires.now.roomy
+    (charge_of c.args.period.now.question.now) (λ f. elim (cases_eq f (suc c.args.period.now.place)) [
+      | inl z ↦ inr (omega arith)
+      | inr other ↦ inl (inl (c.start.ensures.others f other))
+    ]) c.requires.now.roomy
+
+pub run_all-requires-clause-log : goal.run_all-requires-clause-log
+run_all-requires-clause-log c =
+    let log = c.args.shared.now.log in
+    let few = c.requires.now.entries in
+    record {
+      trails = kept_trails _ _ c.start.ensures.kept log.items c.requires.now.trails;
+      spare = entries_fit (length log.items) log.spare c.args.period.now.place
+          (periods_in c.args.period.now.question.now) c.args.period.now.inside few c.requires.long.log_end;
+      small = entries_small (length log.items) c.args.period.now.place few (omega arith);
+    }
 
 pub run_all-requires-clause-have : goal.run_all-requires-clause-have
-run_all-requires-clause-have c = kept_room _ _ c.start.ensures.kept _ _ c.requires.have
+run_all-requires-clause-have c = kept_room _ _ c.start.ensures.kept _ c.requires.have
 
 pub run_all-requires-clause-now : goal.run_all-requires-clause-now
 run_all-requires-clause-now c =
@@ -173,14 +194,20 @@ returns-clause-now c =
     let run = c.run_all.ensures.run in
     let kept = kept_then _ _ _ c.drop_beyond.ensures.kept c.prune.ensures.kept in
     let fewer = fewer_then _ _ _ c.drop_beyond.ensures.fewer c.prune.ensures.fewer in
-    let old_left = left_at c.args.runners.now in
-    let left = ways_same g π c.args.period.now.place (cost_at rows) (first_at rows) old_left
-    (left_at c.start.new.runners)
-    (kept_left _ _ c.start.ensures.kept) c.requires.now.ways in
+    let log = c.args.shared.now.log.items in
+    let log' = c.run_all.new.log.items in
+    let old_left = left_at log c.args.runners.now in
+    let start_left = left_at log c.start.new.runners in
+    let ran_left = left_at log' c.run_all.new.runners in
+    let left = ways_same g π c.args.period.now.place (cost_at rows) (first_at rows) old_left start_left
+    (kept_left _ _ c.start.ensures.kept log) c.requires.now.ways in
+    let started = noted_start g π c.args.period.now.place (live_at c.args.runners.now) (live_at c.start.new.runners)
+    old_left start_left c.start.ensures.others (kept_left _ _ c.start.ensures.kept log) c.requires.now.noted in
+    let noted = noted_all g π c.args.period.now.place (live_at c.start.new.runners) (live_at c.run_all.new.runners)
+    start_left ran_left (λ f r on. (now.right f r on).1.frontier) run.goes run.off run.left run.noted started in
     let ways = ways_more g π c.args.period.now.place (suc (suc c.args.period.now.place)) (cost_at rows) (cost_at rows')
     (first_at rows)
-    (first_at rows') _ (left_at c.start.new.runners) (left_at c.run_all.new.runners)
-    (live_at c.start.new.runners) limits now (left_live c.start.new.runners) run.row run.ends run.left
+    (first_at rows') _ start_left ran_left (live_at c.start.new.runners) limits now started run.row run.ends run.left
     (λ l other. cost-same rows' rows l l (run.others l other))
     (λ l other. first-same rows' rows l l (run.others l other)) left in
     record {
@@ -188,11 +215,15 @@ returns-clause-now c =
           c.args.period.now.inside
           rows' _ (live_at c.run_all.new.runners) now c.requires.limits.0 c.requires.limits.1 c.dispatches_go_on.ensures
           c.dispatches_are_runs.ensures (live_at c.prune.new.runners) pruned run.row run.others run.within;
-      ways = ways_same g π (suc c.args.period.now.place) (cost_at rows') (first_at rows')
-          (left_at c.run_all.new.runners)
-          (left_at c.prune.new.runners) (kept_left _ _ kept) ways;
+      noted = noted_fewer g π (suc c.args.period.now.place) (live_at c.run_all.new.runners)
+          (live_at c.prune.new.runners) ran_left (left_at log' c.prune.new.runners) fewer (kept_left _ _ kept log')
+          noted;
+      ways = ways_same g π (suc c.args.period.now.place) (cost_at rows') (first_at rows') ran_left
+          (left_at log' c.prune.new.runners) (kept_left _ _ kept log') ways;
+      trails = kept_trails _ _ kept log' run.trails;
+      entries = entries_more (length log) c.args.period.now.place (length log') c.requires.now.entries run.entries;
       roomy = kept_roomy _ _ kept (periods_in c.args.period.now.question.now) (suc c.args.period.now.place)
-          (charge_of c.args.period.now.question.now) run.roomy;
+          (charge_of c.args.period.now.question.now) (λ f. inl (fewer f)) run.roomy;
       roster_is = c.keep.ensures.roster (suc (suc c.args.period.now.place))
           (still_listed (live_at c.start.new.runners) (live_at c.prune.new.runners) (suc (suc c.args.period.now.place))
           (suc (suc c.args.period.now.place)) c.start.new.roster (omega arith)
@@ -206,10 +237,10 @@ returns-clause-same c =
       rows_length = c.run_all.ensures.run.rows_length;
       count_same = kept.count_same ∙ c.run_all.ensures.run.count_same ∙ c.start.ensures.kept.count_same;
       firsts_same = c.keep.ensures.length ∙ c.start.ensures.list;
-      keeps = λ room periods have.
-          kept_room _ _ kept room periods
-          (c.run_all.ensures.run.keeps room periods
-          (kept_room _ _ c.start.ensures.kept room periods have));
+      log_same = c.run_all.ensures.run.log_same;
+      keeps = λ room have.
+          kept_room _ _ kept room
+          (c.run_all.ensures.run.keeps room (kept_room _ _ c.start.ensures.kept room have));
     }
 
 -- ---- places and lengths

@@ -8,10 +8,11 @@ loop-index-init c =
     let π = prices_in c.args.period.now.question.now in
     let charge = charge_of c.args.period.now.question.now in
     record {
-      run = none_run g π c.args.period.now.place charge c.args.table.now.items c.args.runners.now c.args.roster.now
+      run = none_run g π c.args.period.now.place charge c.args.table.now.items c.args.runners.now c.args.log.now
+          c.args.roster.now
           (suc (suc c.args.period.now.place))
-          (run_begins g π c.args.period.now.place charge c.args.table.now.items c.args.runners.now
-          c.requires.within c.requires.none);
+          (run_begins g π c.args.period.now.place charge c.args.table.now.items c.args.runners.now c.args.log.now
+          c.requires.within c.requires.none c.requires.log.trails);
       space = refl;
     }
 
@@ -20,9 +21,11 @@ run_at-requires-clause-ready c = λ r is.
     let first = c.get-first.result.now in
     let run = run_before (unit_of c.args.period.now.question.now) (prices_in c.args.period.now.question.now)
     c.args.period.now.place (charge_of c.args.period.now.question.now)
-    c.args.table.now.items c.args.runners.now c.requires.room c.args.roster.now (suc (suc c.args.period.now.place))
+    c.args.table.now.items c.args.runners.now c.args.log.now c.requires.room c.args.roster.now
+    (suc (suc c.args.period.now.place))
     c.requires.roster
-    c.loop-index.index c.loop-index.table.items c.loop-index.runners c.loop-index.invariant.run c.loop-index-test.true
+    c.loop-index.index c.loop-index.table.items c.loop-index.runners c.loop-index.log c.loop-index.invariant.run
+    c.loop-index-test.true
     first
     c.get-first.ensures.item in
     let same = ap going_of (run.rest first (omega arith)) in
@@ -40,9 +43,11 @@ run_at-requires-clause-room c = λ r is.
     let first = c.get-first.result.now in
     let run = run_before (unit_of c.args.period.now.question.now) (prices_in c.args.period.now.question.now)
     c.args.period.now.place (charge_of c.args.period.now.question.now)
-    c.args.table.now.items c.args.runners.now c.requires.room c.args.roster.now (suc (suc c.args.period.now.place))
+    c.args.table.now.items c.args.runners.now c.args.log.now c.requires.room c.args.roster.now
+    (suc (suc c.args.period.now.place))
     c.requires.roster
-    c.loop-index.index c.loop-index.table.items c.loop-index.runners c.loop-index.invariant.run c.loop-index-test.true
+    c.loop-index.index c.loop-index.table.items c.loop-index.runners c.loop-index.log c.loop-index.invariant.run
+    c.loop-index-test.true
     first
     c.get-first.ensures.item in
     c.requires.room first r (sym (run.rest first (omega arith)) ∙ is)
@@ -52,23 +57,46 @@ run_at-requires-clause-alike c = λ r is.
     let first = c.get-first.result.now in
     let run = run_before (unit_of c.args.period.now.question.now) (prices_in c.args.period.now.question.now)
     c.args.period.now.place (charge_of c.args.period.now.question.now)
-    c.args.table.now.items c.args.runners.now c.requires.room c.args.roster.now (suc (suc c.args.period.now.place))
+    c.args.table.now.items c.args.runners.now c.args.log.now c.requires.room c.args.roster.now
+    (suc (suc c.args.period.now.place))
     c.requires.roster
-    c.loop-index.index c.loop-index.table.items c.loop-index.runners c.loop-index.invariant.run c.loop-index-test.true
+    c.loop-index.index c.loop-index.table.items c.loop-index.runners c.loop-index.log c.loop-index.invariant.run
+    c.loop-index-test.true
     first
     c.get-first.ensures.item in
-    c.loop-index.invariant.space ∙ (c.requires.have first r (sym (run.rest first (omega arith)) ∙ is)).0
+    c.loop-index.invariant.space ∙ c.requires.have first r (sym (run.rest first (omega arith)) ∙ is)
+
+pub run_at-requires-clause-log : goal.run_at-requires-clause-log
+run_at-requires-clause-log c =
+    let first = c.get-first.result.now in
+    let run = run_before (unit_of c.args.period.now.question.now) (prices_in c.args.period.now.question.now)
+    c.args.period.now.place (charge_of c.args.period.now.question.now)
+    c.args.table.now.items c.args.runners.now c.args.log.now c.requires.room c.args.roster.now
+    (suc (suc c.args.period.now.place))
+    c.requires.roster
+    c.loop-index.index c.loop-index.table.items c.loop-index.runners c.loop-index.log c.loop-index.invariant.run
+    c.loop-index-test.true
+    first
+    c.get-first.ensures.item in
+    let below = c.requires.roster.below c.loop-index.index first (omega arith) c.get-first.ensures.item in
+    let few = run.entries in
+    let same = run.log_same in
+    let spare = c.requires.log.spare in
+    let small = c.requires.log.small in
+    record { trails = run.trails; spare = omega arith; small = omega arith }
 
 pub loop-index-preserved : goal.loop-index-preserved
 loop-index-preserved c = record {
   run = one_run (unit_of c.args.period.now.question.now) (prices_in c.args.period.now.question.now)
       c.args.period.now.place
       (charge_of c.args.period.now.question.now)
-      c.args.table.now.items c.args.runners.now c.requires.room c.args.roster.now (suc (suc c.args.period.now.place))
+      c.args.table.now.items c.args.runners.now c.args.log.now c.requires.room c.args.roster.now
+      (suc (suc c.args.period.now.place))
       c.requires.roster
-      c.loop-index.index c.loop-index.table.items c.loop-index.runners c.loop-index.invariant.run c.loop-index-test.true
+      c.loop-index.index c.loop-index.table.items c.loop-index.runners c.loop-index.log c.loop-index.invariant.run
+      c.loop-index-test.true
       c.get-first.result.now c.get-first.ensures.item
-      c.run_at.new.table.items c.run_at.new.runners c.run_at.ensures.run;
+      c.run_at.new.table.items c.run_at.new.runners c.run_at.new.log c.run_at.ensures.run;
   space = c.run_at.ensures.spare ∙ c.loop-index.invariant.space;
 }
 
@@ -79,10 +107,13 @@ returns-clause-run c =
     let charge = charge_of c.args.period.now.question.now in
     let rows = c.args.table.now.items in
     let runners = c.args.runners.now in
-    run_over g π c.args.period.now.place charge rows runners c.loop-index.table.items c.loop-index.runners
-    (run_whole g π c.args.period.now.place charge rows runners c.requires.room c.args.roster.now
+    let log = c.args.log.now in
+    run_over g π c.args.period.now.place charge rows runners log c.loop-index.table.items c.loop-index.runners
+    c.loop-index.log
+    (run_whole g π c.args.period.now.place charge rows runners log c.requires.room c.args.roster.now
     (suc (suc c.args.period.now.place)) c.requires.roster
-    c.loop-index.index c.loop-index.table.items c.loop-index.runners c.loop-index.invariant.run c.loop-index-test.false)
+    c.loop-index.index c.loop-index.table.items c.loop-index.runners c.loop-index.log c.loop-index.invariant.run
+    c.loop-index-test.false)
     (λ f r is. (c.requires.now.1.right f r is).0) c.requires.room
 
 pub run_at-requires-clause-runners : goal.run_at-requires-clause-runners

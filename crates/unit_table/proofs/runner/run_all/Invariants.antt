@@ -5,7 +5,7 @@ use Rattle.unit_table.proofs.runner.run_all.Given as goal
 abbrev pub invariant-loop-index : goal.invariant-loop-index
 invariant-loop-index l = record {
   run : IsListRun (unit_of l.period.question.now) (prices_in l.period.question.now) l.period.place
-      (charge_of l.period.question.now) l.fn.table.items l.fn.runners l.roster (suc (suc l.period.place)) l.index
-      l.table.items l.runners;
+      (charge_of l.period.question.now) l.fn.table.items l.fn.runners l.fn.log l.roster (suc (suc l.period.place))
+      l.index l.table.items l.runners l.log;
   space : space_of l.spare ≡ space_of l.fn.spare;
 }

@@ -21,7 +21,7 @@ pub returns-clause-kept : goal.returns-clause-kept
 returns-clause-kept c =
     kept_written c.args.runners.now _ c.args.place c.stop.new.runner _ c.requires refl
     (item_at c.args.runners.now c.args.place c.requires _)
-    (stopped_one _ _ c.stop.ensures.off c.stop.ensures.running c.stop.ensures.passed)
+    (stopped_one _ _ c.stop.ensures.off c.stop.ensures.running c.stop.ensures.trail)
 
 pub offset_bounds-runners-place : goal.offset_bounds-runners-place
 offset_bounds-runners-place c = scaled_Fits c.args.place (length c.args.runners.now) _ c.requires (search rules)

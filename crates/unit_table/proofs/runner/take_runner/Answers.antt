@@ -2,25 +2,39 @@ use Rattle.unit_table.proofs.Common.{state_of, add-one}
 use Rattle.unit_table.proofs.Common.{shown, count_of, room_of}
 use Rattle.unit_table.proofs.Common.{rules, ◌≡◌, ℕ, suc, ◌+◌, ◌-◌, ◌*◌, ◌<◌, ◌≤◌, inl, inr, Some, length, sym}
 use Rattle.unit_table.proofs.Common.{ap, ◌∙◌, subst, arith, FitsSigned, IfSome, w64, to_z-of_z, unit_of}
-use Rattle.unit_table.proofs.Common.{prices_in, periods_in, charge_of, going_of, Going, IsGoneOn, Lowest, passed_at}
-use Rattle.unit_table.proofs.Common.{IsOnNoted, IsWithinTimes, on_time, since, ◌≢◌}
+use Rattle.unit_table.proofs.Common.{prices_in, periods_in, charge_of, going_of, Going, IsGoneOn, Lowest, left_by}
+use Rattle.unit_table.proofs.Common.{IsOnNoted, IsWithinTimes, on_time, since, IsEntryMore, Trail}
 use Rattle.unit_table.proofs.Lemmas.{room_more, room_next, going_on, row_end, end_some, end_left}
 use Rattle.unit_table.proofs.runner.take_runner.Goals as goal
 use Rattle.unit_table.proofs.runner.take_runner.Goals.{After-retire}
 
--- the period is left, and no other one
+-- the period is left
 left_here : (c : After-retire) →
-    since c.args.first (passed_at c.retire.new.runner.passed.items) c.args.period.now.place ≡ c.run_one-passed.result
-left_here c = ap (λ l. since c.args.first (passed_at l.items) c.args.period.now.place) c.retire.ensures.passed ∙
-    (rw c.saturating_sub.ensures at c.leave_at.ensures.here)
+    since c.args.first (left_by c.leave-runner.new.log.items c.retire.new.runner.trail) c.args.period.now.place ≡
+    c.run_one-passed.result
+left_here c =
+    ap (λ (t : Trail). since c.args.first (left_by c.leave-runner.new.log.items t) c.args.period.now.place)
+    c.retire.ensures.trail ∙ (rw (c.requires.room.count c.requires.on) at c.leave-runner.ensures.here)
 
-left_others : (c : After-retire) → (k : ℕ) → k ≢ c.args.period.now.place - (c.args.first - 1) →
-    passed_at c.retire.new.runner.passed.items k ≡ passed_at c.args.runner.now.passed.items k
-left_others c k other = ap (λ l. passed_at l.items k) c.retire.ensures.passed ∙
-    (rw c.saturating_sub.ensures at c.leave_at.ensures.others) k other
+pub leave-runner-requires-clause-few : goal.leave-runner-requires-clause-few
+leave-runner-requires-clause-few c = (let count = c.requires.room.count c.requires.on in omega arith)
 
-pub returns-clause-left : goal.returns-clause-left
-returns-clause-left c = left_others (goal.at.returns-clause-left c).After-retire
+pub returns-clause-entry : goal.returns-clause-entry
+returns-clause-entry c =
+    subst (IsEntryMore c.args.log.now c.leave-runner.new.log c.args.runner.now.trail) (sym c.retire.ensures.trail)
+    (record {
+      there = c.leave-runner.ensures.trail;
+      earlier = c.leave-runner.ensures.earlier;
+      others = c.leave-runner.ensures.others;
+      entries = c.leave-runner.ensures.items;
+      spare = c.leave-runner.ensures.spare;
+    })
+
+pub returns-clause-noted : goal.returns-clause-noted
+returns-clause-noted c = λ x v there.
+    let same = left_here (goal.at.returns-clause-noted c).After-retire in
+    subst (λ p. IsOnNoted (unit_of c.args.period.now.question.now) (prices_in c.args.period.now.question.now)
+    c.args.first c.args.period.now.place p.note) (sym same) (c.run_one-passed.ensures.noted x v there)
 
 pub returns-clause-more : goal.returns-clause-more
 returns-clause-more c =
@@ -53,7 +67,8 @@ returns-clause-ends c =
     end_left (unit_of c.args.period.now.question.now) (prices_in c.args.period.now.question.now) c.args.first
     c.args.period.now.place
     c.args.runner.now.before _ c.args.table.now.items c.put_end.new.table.items c.run_one-passed.result
-    (since c.args.first (passed_at c.retire.new.runner.passed.items) c.args.period.now.place) c.cost_of.result same
+    (since c.args.first (left_by c.leave-runner.new.log.items c.retire.new.runner.trail) c.args.period.now.place)
+    c.cost_of.result same
     c.cost_of.ensures
     c.put_end.ensures.none put c.run_one-passed.ensures.ended
 
@@ -70,35 +85,23 @@ pub returns-clause-goes : goal.returns-clause-goes
 returns-clause-goes c = λ r is.
     let unit = unit_of c.args.period.now.question.now in
     let prices = prices_in c.args.period.now.question.now in
-    let same = left_here (goal.at.returns-clause-goes c).After-retire in
     let ran = going_on
     (record {
       is_on = c.args.runner.now.is_on;
       cost = c.args.runner.now.cost;
       before = c.args.runner.now.before;
       running = c.run_one-passed.new.running;
-      passed = c.leave_at.new.list;
+      trail = c.leave-runner.result;
     }) c.requires.on in
-    let left = ap (λ l. Some
-    (record {
-      before = c.args.runner.now.before;
-      cost = c.args.runner.now.cost;
-      function = shown c.run_one-passed.new.running;
-      left = passed_at l.items;
-    })) c.retire.ensures.passed in
     let at = going_on c.args.runner.now c.requires.on in
     let here : state_of c.args.runner.now ≡ r = (cc) in
     subst (λ (r : Going). IsGoneOn unit prices c.args.period.now.place c.args.first r
     (going_of (Some c.retire.new.runner)))
     here (record {
       function = shown c.run_one-passed.new.running;
-      left = passed_at c.retire.new.runner.passed.items;
       frontier = c.run_one-passed.ensures.frontier;
-      kept = left_others (goal.at.returns-clause-goes c).After-retire;
-      noted = λ x v there. subst (λ p. IsOnNoted unit prices c.args.first c.args.period.now.place p.note) (sym same)
-          (c.run_one-passed.ensures.noted x v there);
       next_is = elim (c.retire.ensures.next) [
-        | inl on ↦ inl (on ∙ ran ∙ sym left)
+        | inl on ↦ inl (on ∙ ran)
         | inr gone ↦ inr gone
       ];
     })
@@ -119,25 +122,26 @@ put_end-requires-clause-bound c =
     c.requires.ready.within
 
 pub returns-clause-same : goal.returns-clause-same
-returns-clause-same c = (
-  ap room_of c.retire.ensures.running ∙ c.run_one-passed.ensures.grown.room,
-  ap (λ l. length l.items + l.spare) c.retire.ensures.passed ∙ c.leave_at.ensures.room,
-)
+returns-clause-same c = ap room_of c.retire.ensures.running ∙ c.run_one-passed.ensures.grown.room
 
 pub returns-clause-room : goal.returns-clause-room
 returns-clause-room c =
     let old = c.args.runner.now in
     let charge = charge_of c.args.period.now.question.now in
     let periods = periods_in c.args.period.now.question.now in
+    let whole = c.requires.room.whole in
     let same = ap room_of c.retire.ensures.running ∙ c.run_one-passed.ensures.grown.room in
     let count_same = ap count_of c.retire.ensures.running in
     let count = c.run_one-passed.ensures.grown.count in
-    let places_same = ap (λ l. length l.items + l.spare) c.retire.ensures.passed ∙ c.leave_at.ensures.room in
+    let order = c.requires.ready.order in
+    let left = c.requires.room.count c.requires.on in
+    let more = ap (λ (t : Trail). t.count) c.retire.ensures.trail ∙ c.leave-runner.ensures.count in
     let rest = room_next (count_of old.running) (count_of c.run_one-passed.new.running) periods c.args.period.now.place
     charge
     (room_of old.running) c.args.period.now.inside (c.requires.room.rest c.requires.on) count in
     record {
       whole = omega arith;
-      places = omega arith;
       rest = λ on. omega arith;
+      count = λ on. omega arith;
+      none = λ early. absurd (omega arith);
     }

@@ -1,7 +1,7 @@
 use Rattle.unit_table.proofs.Common.{state_of}
 use Rattle.unit_table.proofs.Common.{shown}
 use Rattle.unit_table.proofs.Common.{rules, ◌≡◌, pos, ◌+ℤ◌, ◌≤ℤ◌, Some, to_z, of_z, FitsSigned, w64, OnTrue_from}
-use Rattle.unit_table.proofs.Common.{to_z-of_z, value_of, passed_at, IsUnder, IsWithinTimes}
+use Rattle.unit_table.proofs.Common.{to_z-of_z, value_of, IsUnder, IsWithinTimes}
 use Rattle.unit_table.proofs.Lemmas.{under_of}
 use Rattle.unit_table.proofs.runner.undercuts.Goals as goal
 
@@ -28,4 +28,4 @@ returns-in-Some c =
     (λ t.
     let less : (c.sum_of.result +ℤ pos 1) ≤ℤ c.args.cost = simp to_z-of_z at (c.is_less.ensures t) in
     under_of (shown c.args.runner.now.running) c.args.runner.now.cost c.args.power c.args.cost c.in-Some.value
-    c.sum_of.result c.args.runner.now.before (passed_at c.args.runner.now.passed.items) there sum less)
+    c.sum_of.result c.args.runner.now.before there sum less)

@@ -10,11 +10,9 @@ returns c =
     record {
       blocks = omega (arith, c.in_ok-blocks.ensures.room);
       count = omega (arith, c.in_ok-runners.ensures.count);
-      space = omega (arith, c.in_ok-spare.ensures);
-      room = λ f r is.
-          let have = c.in_ok-runners.ensures.room f r is in
-          let places = have.1 in
-          (c.in_ok-spare.ensures ∙ have.0, omega (arith, places));
+      space = omega (arith, c.in_ok-shared.ensures.spare);
+      room = λ f r is. c.in_ok-shared.ensures.spare ∙ c.in_ok-runners.ensures.room f r is;
+      log = c.in_ok-shared.ensures.log;
       rows = omega (arith, rows);
       origins = origins;
       roster = roster;

@@ -7,10 +7,11 @@ write_noted-requires-clause-ways c =
     let u = thermal_of c.args.unit.now in
     let π = prices_of c.args.prices.now in
     let T = length c.args.prices.now.energy.items in
-    subst (λ (xs : List Runner). HaveWays u π T (cost_at c.as_slice.result.now)
-    (first_at c.as_slice.result.now) (left_at xs)) (sym c.as_slice-2.ensures.value)
-    (subst (λ (rows : List (Option Ended)). HaveWays u π T (cost_at rows) (first_at rows)
-    (left_at c.args.self.now.runners.items)) (sym c.as_slice.ensures) c.requires.way.ways)
+    rw (c.as_slice-runners.ensures.value, c.as_slice-log.ensures, c.as_slice.ensures) c.requires.way.ways
+
+pub write_noted-requires-clause-trails : goal.write_noted-requires-clause-trails
+write_noted-requires-clause-trails c =
+    rw (c.as_slice-runners.ensures.value, c.as_slice-log.ensures) c.requires.way.trails
 
 pub write_noted-requires-clause-room : goal.write_noted-requires-clause-room
 write_noted-requires-clause-room c = subst (λ (rows : List (Option Ended)). length c.args.prices.now.energy.items <
@@ -18,7 +19,7 @@ write_noted-requires-clause-room c = subst (λ (rows : List (Option Ended)). len
 
 pub write_noted-requires-clause-runners : goal.write_noted-requires-clause-runners
 write_noted-requires-clause-runners c = subst (λ (xs : List Runner). length c.args.prices.now.energy.items <
-    length xs) (sym c.as_slice-2.ensures.value) c.requires.way.runners
+    length xs) (sym c.as_slice-runners.ensures.value) c.requires.way.runners
 
 pub write_noted-requires-clause-end : goal.write_noted-requires-clause-end
 write_noted-requires-clause-end c = subst (λ (rows : List (Option Ended)). IsEndWithin (thermal_of c.args.unit.now)
