@@ -3,7 +3,7 @@ use Rattle.unit_table.proofs.Common.{state_of, cases_lt}
 use Rattle.unit_table.proofs.Common.{count_of, room_of}
 use Rattle.unit_table.proofs.Common.{◌≡◌, ◌≢◌, ℕ, zero, suc, ◌+◌, ◌-◌, ◌*◌, ◌<◌, ◌≤◌, inl, inr, Bool, true, false, cond}
 use Rattle.unit_table.proofs.Common.{Option, Some, None, ℤ, pos, ◌+ℤ◌, ◌-ℤ◌, ◌≤ℤ◌, ◌<ℤ◌, List, [], ◌∷◌, length, refl}
-use Rattle.unit_table.proofs.Common.{sym, ap, ◌∙◌, subst, arith, IfSome, slice_get, slice_set, ints}
+use Rattle.unit_table.proofs.Common.{sym, ap, ◌∙◌, subst, arith, slice_get, slice_set, ints}
 use Rattle.unit_table.proofs.Common.{cases_eq, Table, value_of, ThermalUnit, PriceLists, Runner, Logged, Trail}
 use Rattle.unit_table.proofs.Common.{HaveSameRooms, left_by, IsTrail, AreTrails, ◌⊎◌}
 use Rattle.spell_run.specs.Logs.{AreLogged}

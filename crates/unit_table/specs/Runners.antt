@@ -2,7 +2,7 @@
 -- costs of its runs by the power at their end (Bellman's principle), until another runner stands
 -- for all that it may become (dominance between the labels of a shortest path; this project's
 -- profile).
-use Rattle.std.specs.Prelude.{◌≡◌, ◌≢◌, ℕ, suc, ◌+◌, ◌-◌, ◌*◌, ◌<◌, ◌≤◌, ℤ, pos, ◌+ℤ◌, ◌≤ℤ◌, ◌⊎◌, IsTrue}
+use Rattle.std.specs.Prelude.{◌≡◌, ℕ, suc, ◌+◌, ◌-◌, ◌*◌, ◌<◌, ◌≤◌, ℤ, pos, ◌+ℤ◌, ◌≤ℤ◌, ◌⊎◌, IsTrue}
 use Rattle.std.specs.Prelude.{IsFalse, Option, Some, None}
 use Rattle.shape_law.specs.Table.{Table, value_of, IsEmpty}
 use Rattle.uc_model.specs.declared.units.Mark.TheVariants.{MustOff}

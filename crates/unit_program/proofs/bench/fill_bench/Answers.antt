@@ -1,4 +1,4 @@
-use Rattle.unit_program.proofs.Common.{arith, rules, ◌+◌, ◌-◌, ◌*◌, ◌<◌, ◌≤◌, List, length, sym, ap, ◌∙◌, subst}
+use Rattle.unit_program.proofs.Common.{arith, rules, ◌-◌, ◌*◌, ◌<◌, ◌≤◌, List, length, sym, ap, ◌∙◌, subst}
 use Rattle.unit_program.proofs.Common.{with_items_is}
 use Rattle.unit_program.proofs.Common.{to_z-of_z, FitsSigned, w64, thermal_of}
 use Rattle.unit_program.proofs.Common.{prices_of, Runner, HaveRoom, AreTrails, left_at}

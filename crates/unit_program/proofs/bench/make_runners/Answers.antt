@@ -1,4 +1,4 @@
-use Rattle.unit_program.proofs.Common.{length, ap, arith, length-append, room_of}
+use Rattle.unit_program.proofs.Common.{length, ap, arith, length-append}
 use Rattle.unit_program.proofs.Lemmas.{room_more}
 use Rattle.unit_program.proofs.bench.make_runners.Goals as goal
 

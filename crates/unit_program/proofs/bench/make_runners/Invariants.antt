@@ -1,4 +1,4 @@
-use Rattle.unit_program.proofs.Common.{◌≡◌, ◌≤◌, length, vec_capacity, room_of, HaveRoom}
+use Rattle.unit_program.proofs.Common.{◌≡◌, ◌≤◌, length, vec_capacity, HaveRoom}
 use Rattle.unit_program.proofs.bench.make_runners.Given as goal
 
 abbrev pub invariant-loop : goal.invariant-loop

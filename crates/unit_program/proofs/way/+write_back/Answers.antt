@@ -48,9 +48,25 @@ write_back-requires t c =
     let low : c.in-Some.ended.before ≤ length c.args.prices.now.energy.items = omega (arith, less) in
     let measure : c.in-Some.ended.before < t = omega arith in
     let into : length c.write_left.new.into.response.on.items ≡ length c.args.prices.now.energy.items =
-    c.write_left.ensures.length ∙ c.requires.into in
-    (measure, (ended, (c.requires.ways, (c.requires.trails, (c.requires.room, (c.requires.runners,
-        (low, (into, idle))))))))
+    c.write_left.ensures.length ∙ c.requires.into in (
+      measure,
+      (
+        ended,
+        (
+          c.requires.ways,
+          (
+            c.requires.trails,
+            (
+              c.requires.room,
+              (
+                c.requires.runners,
+                (low, (into, idle)),
+              ),
+            ),
+          ),
+        ),
+      ),
+    )
 
 pub write_left-requires-clause-runners : goal.write_left-requires-clause-runners
 write_left-requires-clause-runners t c =

@@ -1,4 +1,4 @@
-use Rattle.unit_table.proofs.Common.{rules, ◌≡◌, ℕ, suc, ◌+◌, ◌*◌, pos, length, refl, sym, ap, ◌∙◌, arith, to_z}
+use Rattle.unit_table.proofs.Common.{rules, ◌≡◌, ℕ, suc, ◌+◌, pos, length, refl, sym, ap, ◌∙◌, arith, to_z}
 use Rattle.unit_table.proofs.Common.{of_z, FitsSigned, w64, to_z-of_z, get_or_from_slice_get, ℤ, Some, List, slice_get}
 use Rattle.unit_table.proofs.Common.{unit_of, prices_in, periods_in, charge_of, limits_in, int_at, live_at, left_at}
 use Rattle.unit_table.proofs.Common.{cost_at, first_at, AreRunners, AreSmall, add-one, inl, inr, cases_eq}

@@ -1,6 +1,6 @@
 use Rattle.unit_table.proofs.Common.{state_of, add-one}
 use Rattle.unit_table.proofs.Common.{shown, count_of, room_of}
-use Rattle.unit_table.proofs.Common.{rules, ◌≡◌, ℕ, suc, ◌+◌, ◌-◌, ◌*◌, ◌<◌, ◌≤◌, inl, inr, Some, length, sym}
+use Rattle.unit_table.proofs.Common.{rules, ◌≡◌, ℕ, suc, ◌+◌, ◌-◌, ◌*◌, ◌<◌, ◌≤◌, inl, inr, Some, sym}
 use Rattle.unit_table.proofs.Common.{ap, ◌∙◌, subst, arith, FitsSigned, IfSome, w64, to_z-of_z, unit_of}
 use Rattle.unit_table.proofs.Common.{prices_in, periods_in, charge_of, going_of, Going, IsGoneOn, Lowest, left_by}
 use Rattle.unit_table.proofs.Common.{IsOnNoted, IsWithinTimes, on_time, since, IsEntryMore, Trail}

@@ -1,5 +1,5 @@
 use Rattle.unit_program.proofs.Common.{◌<◌, List, Option, length, sym, subst, thermal_of, prices_of, Runner, Ended}
-use Rattle.unit_program.proofs.Common.{IsEndWithin, left_at, cost_at, first_at, HaveWays}
+use Rattle.unit_program.proofs.Common.{IsEndWithin}
 use Rattle.unit_program.proofs.bench.Bench.write_answer.Goals as goal
 
 pub write_noted-requires-clause-ways : goal.write_noted-requires-clause-ways
