@@ -2,9 +2,8 @@
 ghost use Rattle.law_audit.specs.Laws.{RightReportsAreInForm, PrintedReportsAreInForm};
 
 use gap_proof::laws::run_prices_are_within;
-use law_names::laws::case_names_are_utf8;
+use law_cases::laws::{case_names_are_utf8, cases_are_within};
 use right_report::laws::{report_payments_make_up_the_gap, right_report_has_form};
-use uc_case::laws::cases_are_within;
 use uc_model::laws::{
     dual_values_are_within, earnings_are_within, nothing_is_paid_back, outputs_are_within,
     plan_costs_are_within, totals_are_within, units_are_within,

@@ -9,7 +9,7 @@ use Rattle.law_outcome.proofs.Common.{HasNoMixture, WordsHaveSizes, words_of, By
 use Rattle.law_outcome.proofs.Common.{mixture_fault, MixtureLists, IsMixture}
 use Rattle.gap_proof.specs.Laws.{ArePriced}
 use Rattle.uc_file.specs.Files.{text, value}
-use Rattle.uc_case.specs.Laws.{CasesAreWithin}
+use Rattle.law_cases.specs.Laws.{CasesAreWithin}
 use Rattle.uc_mixture.specs.Laws.{OneMixture}
 use Rattle.uc_mixture.specs.MixtureFiles.{IsMixtureFileOf}
 use Rattle.uc_prices.specs.Laws.{OnePrices, HaveForm, PricesHaveForm}

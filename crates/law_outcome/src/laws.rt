@@ -11,6 +11,7 @@ use gap_proof::laws::{run_bounds_hold, run_prices_are_within};
 use hull_command::laws::{bytes_are_those_read, report_bytes_are_its_text, words_have_sizes};
 use hull_io::{Shelf, Sink};
 use law_audit::laws::printed_reports_are_in_form;
+use law_cases::laws::cases_are_within;
 use mixture_bound::laws::{
     mixture_bound_holds, mixture_bound_reaches_centre, mixtures_break_no_rule, payments_reach_least,
 };
@@ -22,7 +23,7 @@ use right_report::laws::{
     one_report_is_right, one_row_is_chosen, one_side_is_right, report_payments_make_up_the_gap,
     right_report_has_form, side_payments_make_up_the_gap,
 };
-use uc_case::laws::{cases_are_within, one_case};
+use uc_case::laws::one_case;
 use uc_mixture::laws::one_mixture;
 use uc_model::laws::{feasible_plans_have_shape, nothing_is_paid_back};
 use uc_plan::laws::one_plan;

@@ -8,10 +8,6 @@ pub mod Loops
 pub mod Ordered
 -- units.rt, bids.rt: what was read for a unit is within the limits of its type
 pub mod Limited
--- laws.rt: what tests that passed say
-pub mod Passed
--- laws.rt: what a case file is read as is within the limits of a case
-pub mod Within
 -- units.rt: the last test of a thermal unit that fails, after the others passed
 pub mod Stops
 -- read.rt: the answer of the reader is the only one

@@ -1,35 +1,35 @@
 -- What a case file is read as is within the limits of a case.
-use Rattle.uc_case.proofs.Common.{◌≡◌, ℕ, ◌+◌, ◌≤◌, ◌==◌, ◌&&◌, false, List, [], length, map, Option, Some, None}
-use Rattle.uc_case.proofs.Common.{Result, Ok, Err, refl, subst, ◌∙◌, arith, nat_tests, ltb-false, ℤ, codes, int_lt}
-use Rattle.uc_case.proofs.Common.{nat_lt, replicate, length-replicate, All, All-nil, All-push, Lag, Point, Block}
-use Rattle.uc_case.proofs.Common.{IsPower, IsLag, IsPoint, IsBlock, IsBlockList, IsThermalUnit, IsRenewableUnit}
-use Rattle.uc_case.proofs.Common.{IsBidUnit, IsMarket, ThermalUnit, RenewableUnit, BidUnit, NamedThermalUnit}
-use Rattle.uc_case.proofs.Common.{NamedRenewableUnit, NamedBidUnit, Market, Value, Pair, Keys, keys, key, key_or_none}
-use Rattle.uc_case.proofs.Common.{part, amount, cost, time_within, flag, items, each, need, position, last_is, Site}
-use Rattle.uc_case.proofs.Common.{item_at, IsRange, AreRamps, IsPast, AreLags, ArePoints, AreBlocks, IsPointList, lag}
-use Rattle.uc_case.proofs.Common.{startup, point, piecewise, commitment, mark, output, ramps, past, at_least_one}
-use Rattle.uc_case.proofs.Common.{thermal_unit, one_power, powers, first_crossed, renewable_unit, block, period_blocks}
-use Rattle.uc_case.proofs.Common.{blocks, bid_unit, thermal, renewable, bid, units, bids, with_units, case_of, whole}
-use Rattle.uc_case.proofs.Common.{reading_of, of_value, IsThermalOf, IsRenewableOf, IsBidOf}
+use Rattle.law_cases.proofs.Common.{◌≡◌, ℕ, ◌+◌, ◌≤◌, ◌==◌, ◌&&◌, false, List, [], length, map, Option, Some, None}
+use Rattle.law_cases.proofs.Common.{Result, Ok, Err, refl, subst, ◌∙◌, arith, nat_tests, ltb-false, ℤ, codes, int_lt}
+use Rattle.law_cases.proofs.Common.{nat_lt, replicate, length-replicate, All, All-nil, All-push, Lag, Point, Block}
+use Rattle.law_cases.proofs.Common.{IsPower, IsLag, IsPoint, IsBlock, IsBlockList, IsThermalUnit, IsRenewableUnit}
+use Rattle.law_cases.proofs.Common.{IsBidUnit, IsMarket, ThermalUnit, RenewableUnit, BidUnit, NamedThermalUnit}
+use Rattle.law_cases.proofs.Common.{NamedRenewableUnit, NamedBidUnit, Market, Value, Pair, Keys, keys, key, key_or_none}
+use Rattle.law_cases.proofs.Common.{part, amount, cost, time_within, flag, items, each, need, position, last_is, Site}
+use Rattle.law_cases.proofs.Common.{item_at, IsRange, AreRamps, IsPast, AreLags, ArePoints, AreBlocks, IsPointList, lag}
+use Rattle.law_cases.proofs.Common.{startup, point, piecewise, commitment, mark, output, ramps, past, at_least_one}
+use Rattle.law_cases.proofs.Common.{thermal_unit, one_power, powers, first_crossed, renewable_unit, block}
+use Rattle.law_cases.proofs.Common.{period_blocks, blocks, bid_unit, thermal, renewable, bid, units, bids, with_units}
+use Rattle.law_cases.proofs.Common.{case_of, whole, reading_of, IsThermalOf, IsRenewableOf, IsBidOf}
 use Rattle.plain_lists.specs.Sums.{total}
 use Rattle.text_tree.specs.Inside.{list_in}
 use Rattle.uc_text.specs.declared.fault.TextFault.{TextFault}
-use Rattle.uc_model.specs.declared.kinds.Kind.TheVariants as kinds
 use Rattle.uc_model.specs.declared.limits.TheConstants.{MOST_PERIODS, MOST_TIME, MOST_LAGS, MOST_POINTS, MOST_BLOCKS}
 use Rattle.uc_model.specs.declared.limits.TheConstants.{MOST_OF_A_KIND, POWER_LIMIT}
 use Rattle.uc_model.specs.declared.units.Mark.{Mark}
 use Rattle.uc_model.specs.declared.units.Mark.TheVariants.{Free}
 use Rattle.uc_case.specs.Forms.{list, object}
 use Rattle.uc_file.specs.Magnitudes.{most_power, most_output, most_price}
-use Rattle.uc_case.specs.declared.fault.Field.TheVariants as fields
 use Rattle.uc_case.specs.declared.parts.Output.{Output}
 use Rattle.uc_case.specs.declared.parts.Ramps.{Ramps}
 use Rattle.uc_case.specs.declared.parts.Past.{Past}
-use Rattle.uc_case.proofs.Passed.{ok_same, bind_ok, passed, same_count, each_keeps, each_count, items_count, part_ok}
-use Rattle.uc_case.proofs.Passed.{key_ok, amount_ok, power_ok, start_cost_ok, cost_ok, time_ok, units_ok}
+use Rattle.law_cases.proofs.Passed.{ok_same, bind_ok, passed, same_count, each_keeps, each_count, items_count, part_ok}
+use Rattle.law_cases.proofs.Passed.{key_ok, amount_ok, power_ok, start_cost_ok, cost_ok, time_ok, units_ok, of_value_ok}
 use Rattle.uc_case.proofs.Limited.{thermal_fits, renewable_fits}
 use Rattle.uc_case.proofs.Ordered.{int_not_below, no_lags, lags_push, no_points, points_push, no_blocks, blocks_push}
 use Rattle.uc_case.proofs.Ordered.{is_point_list}
+use Rattle.uc_model.specs.declared.kinds.Kind.TheVariants as kinds
+use Rattle.uc_case.specs.declared.fault.Field.TheVariants as fields
 
 -- ---- start costs
 
@@ -386,10 +386,6 @@ case_ok v m e =
     let d = powers_ok periods.0 least horizon _ demand_at.0 demand.0 demand_at.1 in
     let r = powers_ok periods.0 least horizon _ reserves_at.0 reserves.0 reserves_at.1 in
     with_units_ok periods.0 least horizon c demand.0 reserves.0 m d.0 d.1 r.0 r.1 reserves.2
-
-of_value_ok : {A F : Type 0} (r : Result A F) (x : A) → of_value r ≡ Ok x → r ≡ Ok x
-of_value_ok (Ok y) x e = let same : y ≡ x = cc in cc
-of_value_ok (Err f) x e = absurd cc
 
 pub market_ok : (found : Result Value TextFault) (m : Market) → reading_of case_of found ≡ Ok m → IsMarket m
 market_ok (Ok v) m e = case_ok v m (of_value_ok (case_of v) m e)

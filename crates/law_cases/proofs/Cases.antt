@@ -1,7 +1,7 @@
 -- The names of the units of a case are UTF-8.
-use Rattle.law_names.proofs.Common.{◌≡◌, ℕ, Bool, true, false, cond, List, [], ◌∷◌, ◌++◌, map, Option, Some, None}
-use Rattle.law_names.proofs.Common.{Result, Ok, Err, refl, sym, ap, subst, ℤ, All-from_recursion, AllByRecursion}
-use Rattle.law_names.proofs.Common.{IsUtf8, bytes_eq}
+use Rattle.law_cases.proofs.Common.{◌≡◌, ℕ, Bool, true, false, cond, List, [], ◌∷◌, ◌++◌, map, Option, Some, None}
+use Rattle.law_cases.proofs.Common.{Result, Ok, Err, refl, sym, ap, subst, ℤ, All-from_recursion, AllByRecursion}
+use Rattle.law_cases.proofs.Common.{IsUtf8, bytes_eq}
 use Rattle.uc_model.specs.declared.kinds.Kind.{Kind}
 use Rattle.uc_model.specs.declared.kinds.Kind.TheVariants as kinds
 use Rattle.uc_model.specs.declared.limits.TheConstants.{MOST_PERIODS}
@@ -20,31 +20,18 @@ unfoldable use Rattle.uc_file.specs.Inside.{value_of}
 use Rattle.uc_case.specs.Sites.{site, field_at, key_of}
 use Rattle.uc_case.specs.Tables.{thermal_unit, renewable_unit, bid_unit, powers}
 unfoldable use Rattle.uc_file.specs.Words.{each}
-use Rattle.uc_file.specs.Words.{◌>>=◌, ◌>>◌, refuse, need, position}
+use Rattle.uc_file.specs.Words.{need, position}
 use Rattle.uc_case.specs.declared.fault.Field.{Field}
 use Rattle.uc_case.specs.declared.fault.Field.TheVariants as fields
 use Rattle.uc_case.specs.declared.fault.Site.{Site}
-use Rattle.law_names.specs.Laws.{CaseNamesAreUtf8}
-use Rattle.law_names.proofs.Keys.{IsKept, tokens_kept}
-use Rattle.law_names.proofs.Values.{AreNamed, IsNamedPair, value_named, object_named}
-
--- ---- one test after the other
-
-bind_ok : {A B F : Type 0} (r : Result A F) (f : A → Result B F) (y : B) → (r >>= f) ≡ Ok y →
-    (x : A) × (r ≡ Ok x) × (f x ≡ Ok y)
-bind_ok (Ok x) f y e = (x, refl, e)
-bind_ok (Err d) f y e = absurd cc
-
-passed : {B F : Type 0} (f : F) (b : Bool) (r : Result B F) (y : B) → (refuse f b >> r) ≡ Ok y → r ≡ Ok y
-passed f true r y e = absurd cc
-passed f false r y e = e
+use Rattle.law_cases.specs.Laws.{CaseNamesAreUtf8}
+use Rattle.law_cases.proofs.Keys.{IsKept, tokens_kept}
+use Rattle.law_cases.proofs.Passed.{ok_same, bind_ok, passed, of_value_ok}
+use Rattle.law_cases.proofs.Values.{AreNamed, IsNamedPair, value_named, object_named}
 
 need_ok : {A F : Type 0} (f : F) (o : Option A) (x : A) → need f o ≡ Ok x → o ≡ Some x
 need_ok f None x e = absurd cc
 need_ok f (Some y) x e = cc
-
-ok_same : {A F : Type 0} (x y : A) → ◌≡◌ {A = Result A F} (Ok x) (Ok y) → x ≡ y
-ok_same x y e = cc
 
 -- ---- the value of a key
 
@@ -85,7 +72,7 @@ units_named : {A : Type 0} (name : A → List ℕ) (field : Field) (kind : Kind)
 unfolding units
 units_named name field kind read same at v all h e =
     let ms = bind_ok (object at v) _ all e in
-    let few = passed _ _ _ all ms.2 in
+    let few = (passed _ _ _ all ms.2).1 in
     each_named name (λ before. read (site field kind (position before))) (λ front m x is. same _ m x is) ms.0 [] all
     (object_named v ms.0 h (need_ok _ (object_in v) ms.0 ms.1)) tt few
 
@@ -147,7 +134,7 @@ with_units_named c periods demand reserves m h e =
     let f = bind_ok (key c fields.RenewableGenerators
     (units fields.RenewableGenerators kinds.Renewable (renewable periods))) _ m g.2 in
     let b = bind_ok (key_or_none c fields.DemandBids (bids periods)) _ m f.2 in
-    let made = passed _ _ _ m b.2 in
+    let made = (passed _ _ _ m b.2).1 in
     let g_at = key_named c fields.ThermalGenerators (units fields.ThermalGenerators kinds.Thermal (thermal periods)) g.0
     h g.1 in
     let f_at = key_named c fields.RenewableGenerators
@@ -168,7 +155,7 @@ case_named v m h e =
     let ms = bind_ok (object whole v) _ m e in
     let c = keys whole ms.0 in
     let periods = bind_ok (key c fields.TimePeriods (time_within MOST_PERIODS)) _ m ms.2 in
-    let some = passed _ _ _ m periods.2 in
+    let some = (passed _ _ _ m periods.2).1 in
     let demand = bind_ok (key c fields.Demand (powers periods.0)) _ m some in
     let reserves = bind_ok (key c fields.Reserves (powers periods.0)) _ m demand.2 in
     with_units_named c periods.0 demand.0 reserves.0 m (object_named v ms.0 h (need_ok _ (object_in v) ms.0 ms.1))
@@ -178,10 +165,6 @@ all_of : (xs ys : List (List ℕ)) → AllByRecursion IsUtf8 xs → AllByRecursi
     AllByRecursion IsUtf8 (xs ++ ys)
 all_of [] ys h i = i
 all_of (x ∷ xs) ys h i = (h.0, all_of xs ys h.1 i)
-
-of_value_ok : {A F : Type 0} (r : Result A F) (x : A) → of_value r ≡ Ok x → r ≡ Ok x
-of_value_ok (Ok y) x e = let same : y ≡ x = cc in cc
-of_value_ok (Err f) x e = absurd cc
 
 file_named : (bytes : List ℕ) (found : Result Value TextFault) (m : Market) → IsFile bytes found →
     reading_of case_of found ≡ Ok m → HasUtf8Names m

@@ -1,12 +1,12 @@
 -- What a string says is UTF-8: the text so far and the bytes that are still to be read are UTF-8 together.
-use Rattle.law_names.proofs.Common.{◌≡◌, ℕ, zero, suc, ◌+◌, ◌-◌, ◌*◌, ◌<◌, ◌≤◌, Bool, true, false, cond, List, [], ◌∷◌}
-use Rattle.law_names.proofs.Common.{◌++◌, length, min, get_or, take, drop, Option, Some, None, refl, sym, ap, ◌∙◌}
-use Rattle.law_names.proofs.Common.{subst, arith, inl, inr, ◌⊎◌, append_assoc, length-append, nat_tests}
-use Rattle.law_names.proofs.Common.{get_or-append_right, get_or-drop, get_or-take, length-take, take-append-le}
-use Rattle.law_names.proofs.Common.{take_all, IsUtf8-encode, IsUtf8-append, IsUtf8-take, IsUtf8-drop}
-use Rattle.law_names.proofs.Common.{IsUtf8-from_is_utf8, IsCharBoundary-before_ascii, IsCharBoundary-after_ascii}
-use Rattle.law_names.proofs.Common.{encode_utf8, IsScalar, IsUtf8, nat_lt, nat_eq, option_map, option_and_then}
-use Rattle.law_names.proofs.Common.{slice_index, is_utf8}
+use Rattle.law_cases.proofs.Common.{◌≡◌, ℕ, zero, suc, ◌+◌, ◌-◌, ◌*◌, ◌<◌, ◌≤◌, Bool, true, false, cond, List, [], ◌∷◌}
+use Rattle.law_cases.proofs.Common.{◌++◌, length, min, get_or, take, drop, Option, Some, None, refl, sym, ap, ◌∙◌}
+use Rattle.law_cases.proofs.Common.{subst, arith, inl, inr, ◌⊎◌, append_assoc, length-append, nat_tests}
+use Rattle.law_cases.proofs.Common.{get_or-append_right, get_or-drop, get_or-take, length-take, take-append-le}
+use Rattle.law_cases.proofs.Common.{take_all, IsUtf8-encode, IsUtf8-append, IsUtf8-take, IsUtf8-drop}
+use Rattle.law_cases.proofs.Common.{IsUtf8-from_is_utf8, IsCharBoundary-before_ascii, IsCharBoundary-after_ascii}
+use Rattle.law_cases.proofs.Common.{encode_utf8, IsScalar, IsUtf8, nat_lt, nat_eq, option_map, option_and_then}
+use Rattle.law_cases.proofs.Common.{slice_index, is_utf8}
 unfoldable use Rattle.text_tokens.specs.Strings.{
   short_of,
   hex_of,

@@ -1,10 +1,10 @@
 -- What tests that passed say: the parts of a reading that gave a value.
-use Rattle.uc_case.proofs.Common.{◌≡◌, ℕ, ◌+◌, ◌≤◌, ◌==◌, Bool, true, false, List, [], ◌∷◌, ◌++◌, length, Result, Ok}
-use Rattle.uc_case.proofs.Common.{Err, refl, subst, ap, arith, true≢false, ltb-false, eqb-true, not, ℤ, pos, negsuc}
-use Rattle.uc_case.proofs.Common.{unsigned_abs, nat_abs, nat_lt, int_lt, length-append, All, All-nil, All-push, IsFrom}
-use Rattle.uc_case.proofs.Common.{IsPower, IsCost, IsStartCost, Value, Pair, Read, Keys, key, under, part, items}
-use Rattle.uc_case.proofs.Common.{decimal, amount, cost, time_within, rounded, each, refuse, position, Site, item_at}
-use Rattle.uc_case.proofs.Common.{field_at, units, site}
+use Rattle.law_cases.proofs.Common.{◌≡◌, ℕ, ◌+◌, ◌≤◌, ◌==◌, Bool, true, false, List, [], ◌∷◌, ◌++◌, length, Result, Ok}
+use Rattle.law_cases.proofs.Common.{Err, refl, subst, ap, arith, true≢false, ltb-false, eqb-true, not, ℤ, pos, negsuc}
+use Rattle.law_cases.proofs.Common.{unsigned_abs, nat_abs, nat_lt, int_lt, length-append, All, All-nil, All-push}
+use Rattle.law_cases.proofs.Common.{IsFrom, IsPower, IsCost, IsStartCost, Value, Pair, Read, Keys, key, under, part}
+use Rattle.law_cases.proofs.Common.{items, decimal, amount, cost, time_within, rounded, each, refuse, position, Site}
+use Rattle.law_cases.proofs.Common.{item_at, field_at, units, site, of_value}
 use Rattle.uc_model.specs.declared.kinds.Kind.{Kind}
 use Rattle.uc_model.specs.declared.limits.TheConstants.{MOST_OF_A_KIND}
 use Rattle.uc_case.specs.Forms.{object}
@@ -22,6 +22,10 @@ pub bind_ok : {A B F : Type 0} (r : Result A F) (f : A → Result B F) (y : B) �
     (x : A) × (r ≡ Ok x) × (f x ≡ Ok y)
 bind_ok (Ok x) f y e = (x, refl, e)
 bind_ok (Err d) f y e = absurd cc
+
+pub of_value_ok : {A F : Type 0} (r : Result A F) (x : A) → of_value r ≡ Ok x → r ≡ Ok x
+of_value_ok (Ok y) x e = let same : y ≡ x = cc in cc
+of_value_ok (Err f) x e = absurd cc
 
 pub passed : {B F : Type 0} (f : F) (b : Bool) (r : Result B F) (y : B) → (refuse f b >> r) ≡ Ok y →
     (b ≡ false) × (r ≡ Ok y)

@@ -1,6 +1,6 @@
 -- The keys and texts among the tokens of a file are UTF-8.
-use Rattle.law_names.proofs.Common.{◌≡◌, ℕ, zero, suc, ◌-◌, Bool, true, false, cond, List, [], ◌∷◌, take, drop, Option}
-use Rattle.law_names.proofs.Common.{Some, None, refl, AllByRecursion, IsUtf8}
+use Rattle.law_cases.proofs.Common.{◌≡◌, ℕ, zero, suc, ◌-◌, Bool, true, false, cond, List, [], ◌∷◌, take, drop, Option}
+use Rattle.law_cases.proofs.Common.{Some, None, refl, AllByRecursion, IsUtf8}
 unfoldable use Rattle.text_tokens.specs.Numbers.{
   number_token,
   power_digits,
@@ -20,7 +20,7 @@ unfoldable use Rattle.text_tokens.specs.Strings.{string_of, string_at}
 use Rattle.text_tokens.specs.Strings.{Piece, string_token}
 unfoldable use Rattle.text_tokens.specs.Tokens.{token_at, tokens_from}
 use Rattle.text_tokens.specs.Tokens.{lexed, Read, is_blank, is_letter, word_of, word_at, number_at, kinds}
-use Rattle.law_names.proofs.Strings.{says_utf8}
+use Rattle.law_cases.proofs.Strings.{says_utf8}
 
 -- a text is UTF-8; nothing is said of other tokens
 abbrev IsKeptText : Token → Type 0

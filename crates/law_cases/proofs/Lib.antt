@@ -1,5 +1,9 @@
 -- The names from elsewhere that the proofs here cite.
 pub mod Common
+-- what tests that passed say
+pub mod Passed
+-- what a case file is read as is within the limits of a case
+pub mod Within
 -- what a string says is UTF-8
 pub mod Strings
 -- the keys among tokens are UTF-8

@@ -1,0 +1,2 @@
+-- what holds of the cases that files are
+pub mod Laws

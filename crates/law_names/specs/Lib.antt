@@ -1,2 +1,0 @@
--- the names of a case
-pub mod Laws
