@@ -1,10 +1,9 @@
 -- The names of the units of a case are UTF-8.
 use Rattle.law_cases.proofs.Common.{◌≡◌, ℕ, Bool, true, false, cond, List, [], ◌∷◌, ◌++◌, map, Option, Some, None}
-use Rattle.law_cases.proofs.Common.{Result, Ok, Err, refl, sym, ap, subst, ℤ, All-from_recursion, AllByRecursion}
+use Rattle.law_cases.proofs.Common.{Result, Ok, Err, refl, sym, ap, subst, All-from_recursion, AllByRecursion}
 use Rattle.law_cases.proofs.Common.{IsUtf8, bytes_eq}
 use Rattle.uc_model.specs.declared.kinds.Kind.{Kind}
 use Rattle.uc_model.specs.declared.kinds.Kind.TheVariants as kinds
-use Rattle.uc_model.specs.declared.limits.TheConstants.{MOST_PERIODS}
 use Rattle.uc_model.specs.Data.{NamedThermalUnit, NamedRenewableUnit, NamedBidUnit, Market, thermal_names}
 use Rattle.uc_model.specs.Data.{renewable_names, bid_names, unit_names}
 use Rattle.text_tree.specs.Values.{Value}
@@ -12,13 +11,13 @@ use Rattle.text_tree.specs.Parts.{Pair}
 use Rattle.text_tree.specs.Inside.{object_in}
 use Rattle.uc_text.specs.declared.fault.TextFault.{TextFault}
 use Rattle.uc_text.specs.Grammar.{end}
-unfoldable use Rattle.uc_case.specs.Cases.{thermal, renewable, bid, units, bids, with_units, case_of}
-use Rattle.uc_case.specs.Cases.{whole}
-use Rattle.uc_file.specs.Files.{IsFile, of_value, reading_of}
-use Rattle.uc_case.specs.Forms.{Read, Keys, keys, key, key_or_none, object, under, time_within}
+unfoldable use Rattle.uc_case.specs.Cases.{thermal, renewable, bid, units, bids, all_units, keyed_case, case_of}
+use Rattle.uc_case.specs.Cases.{whole, AllUnits, horizon, needs}
+use Rattle.uc_file.specs.Files.{IsFile, reading_of}
+use Rattle.uc_case.specs.Forms.{Read, Keys, keys, key, key_or_none, object, under}
 unfoldable use Rattle.uc_file.specs.Inside.{value_of}
 use Rattle.uc_case.specs.Sites.{site, field_at, key_of}
-use Rattle.uc_case.specs.Tables.{thermal_unit, renewable_unit, bid_unit, powers}
+use Rattle.uc_case.specs.Tables.{thermal_unit, renewable_unit, bid_unit}
 unfoldable use Rattle.uc_file.specs.Words.{each}
 use Rattle.uc_file.specs.Words.{need, position}
 use Rattle.uc_case.specs.declared.fault.Field.{Field}
@@ -120,26 +119,25 @@ bids_named periods at name ms (Some v) ns h found e =
 
 -- ---- a case
 
-record HasUtf8Names (m : Market) : Type 0 where
-  pub thermal : AllByRecursion IsUtf8 (thermal_names m)
-  pub renewable : AllByRecursion IsUtf8 (renewable_names m)
-  pub bids : AllByRecursion IsUtf8 (bid_names m)
+record HasUtf8Names (us : AllUnits) : Type 0 where
+  pub thermal : AllByRecursion IsUtf8 (map (λ (n : NamedThermalUnit). n.name) us.thermal)
+  pub renewable : AllByRecursion IsUtf8 (map (λ (n : NamedRenewableUnit). n.name) us.flat)
+  pub bids : AllByRecursion IsUtf8 (map (λ (n : NamedBidUnit). n.name) us.bids)
 
-with_units_named : (c : Keys) (periods : ℕ) (demand reserves : List ℤ) (m : Market) →
-    AllByRecursion IsNamedPair c.members → with_units c periods demand reserves ≡ Ok m → HasUtf8Names m
-unfolding with_units
-with_units_named c periods demand reserves m h e =
+all_units_named : (periods : ℕ) (c : Keys) (us : AllUnits) → AllByRecursion IsNamedPair c.members →
+    all_units periods c ≡ Ok us → HasUtf8Names us
+unfolding all_units
+all_units_named periods c us h e =
     let g = bind_ok (key c fields.ThermalGenerators (units fields.ThermalGenerators kinds.Thermal (thermal periods))) _
-    m e in
+    us e in
     let f = bind_ok (key c fields.RenewableGenerators
-    (units fields.RenewableGenerators kinds.Renewable (renewable periods))) _ m g.2 in
-    let b = bind_ok (key_or_none c fields.DemandBids (bids periods)) _ m f.2 in
-    let made = (passed _ _ _ m b.2).1 in
+    (units fields.RenewableGenerators kinds.Renewable (renewable periods))) _ us g.2 in
+    let b = bind_ok (key_or_none c fields.DemandBids (bids periods)) _ us f.2 in
     let g_at = key_named c fields.ThermalGenerators (units fields.ThermalGenerators kinds.Thermal (thermal periods)) g.0
     h g.1 in
     let f_at = key_named c fields.RenewableGenerators
     (units fields.RenewableGenerators kinds.Renewable (renewable periods)) f.0 h f.1 in
-    subst HasUtf8Names (ok_same _ m made)
+    subst HasUtf8Names (ok_same _ us b.2)
     (record {
       thermal = units_named (λ (n : NamedThermalUnit). n.name) fields.ThermalGenerators kinds.Thermal (thermal periods)
           (thermal_name periods) _ g_at.0 g.0 g_at.1 g_at.2;
@@ -149,17 +147,20 @@ with_units_named c periods demand reserves m h e =
           b.0 h refl b.1;
     })
 
-case_named : (v : Value) (m : Market) → AreNamed v → case_of v ≡ Ok m → HasUtf8Names m
-unfolding case_of
+abbrev units_in : Market → AllUnits
+units_in m = record { thermal = m.thermal; flat = m.flat; bids = m.bids }
+
+case_named : (v : Value) (m : Market) → AreNamed v → case_of v ≡ Ok m → HasUtf8Names (units_in m)
+unfolding case_of keyed_case
 case_named v m h e =
     let ms = bind_ok (object whole v) _ m e in
     let c = keys whole ms.0 in
-    let periods = bind_ok (key c fields.TimePeriods (time_within MOST_PERIODS)) _ m ms.2 in
-    let some = (passed _ _ _ m periods.2).1 in
-    let demand = bind_ok (key c fields.Demand (powers periods.0)) _ m some in
-    let reserves = bind_ok (key c fields.Reserves (powers periods.0)) _ m demand.2 in
-    with_units_named c periods.0 demand.0 reserves.0 m (object_named v ms.0 h (need_ok _ (object_in v) ms.0 ms.1))
-    reserves.2
+    let periods = bind_ok (horizon c) _ m ms.2 in
+    let n = bind_ok (needs periods.0 c) _ m periods.2 in
+    let us = bind_ok (all_units periods.0 c) _ m n.2 in
+    let some = passed _ _ _ m us.2 in
+    subst (λ (k : Market). HasUtf8Names (units_in k)) (ok_same _ m some.1)
+    (all_units_named periods.0 c us.0 (object_named v ms.0 h (need_ok _ (object_in v) ms.0 ms.1)) us.1)
 
 all_of : (xs ys : List (List ℕ)) → AllByRecursion IsUtf8 xs → AllByRecursion IsUtf8 ys →
     AllByRecursion IsUtf8 (xs ++ ys)
@@ -167,7 +168,7 @@ all_of [] ys h i = i
 all_of (x ∷ xs) ys h i = (h.0, all_of xs ys h.1 i)
 
 file_named : (bytes : List ℕ) (found : Result Value TextFault) (m : Market) → IsFile bytes found →
-    reading_of case_of found ≡ Ok m → HasUtf8Names m
+    reading_of case_of found ≡ Ok m → HasUtf8Names (units_in m)
 file_named bytes (Err f) m file e = absurd cc
 file_named bytes (Ok v) m file e =
     case_named v m (value_named v (end ∷ []) (subst (AllByRecursion IsKept) file.0 (tokens_kept 0 0 bytes)))

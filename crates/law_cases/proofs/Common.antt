@@ -15,18 +15,20 @@ pub use Rattle.std.specs.Prelude.{IsUtf8, min, nat_lt, nat_eq, bytes_eq, option_
 pub use Rattle.std.specs.Prelude.{negsuc, unsigned_abs, int_lt, codes, nat_abs, not}
 pub use Rattle.std.specs.Str.{is_utf8}
 pub use Rattle.std.proofs.lemmas.Bool.{ltb-false, eqb-true}
-pub use Rattle.uc_case.specs.Cases.{whole}
-unfoldable pub use Rattle.uc_case.specs.Cases.{units, thermal, renewable, bid, bids, with_units, case_of}
+pub use Rattle.uc_case.specs.Cases.{whole, AllUnits, HorizonNeeds}
+unfoldable pub use Rattle.uc_case.specs.Cases.{units, thermal, renewable, bid, bids, all_units, horizon, needs}
+unfoldable pub use Rattle.uc_case.specs.Cases.{keyed_case, case_of}
 pub use Rattle.uc_file.specs.Files.{reading_of, of_value}
-pub use Rattle.uc_case.specs.Forms.{Read, items, Keys, keys, key, key_or_none, under, part, decimal}
-unfoldable pub use Rattle.uc_case.specs.Forms.{amount, cost, time_within, flag}
+pub use Rattle.uc_case.specs.Forms.{Read, at_item, items, Keys, keys, key, key_or_none, under, part, decimal}
+unfoldable pub use Rattle.uc_case.specs.Forms.{amount, cost, time_within, flag, few, full}
 pub use Rattle.uc_case.specs.Kept.{IsRange, AreRamps, IsPast, AreLags, ArePoints, AreBlocks, IsPointList, IsThermalOf}
-pub use Rattle.uc_case.specs.Kept.{IsRenewableOf, IsBidOf}
+pub use Rattle.uc_case.specs.Kept.{IsRenewableOf, IsBidOf, AreUnitLists, AreNeeds, AreAllUnits}
 pub use Rattle.uc_case.specs.Sites.{site, item_at, field_at}
-pub use Rattle.uc_case.specs.Tables.{first_crossed, one_power, mark, at_least_one}
+pub use Rattle.uc_case.specs.Tables.{first_crossed, one_power, mark, at_least_one, UnitLists}
 unfoldable pub use Rattle.uc_case.specs.Tables.{lag, startup, point, piecewise, commitment, output, ramps, past}
 unfoldable pub use Rattle.uc_case.specs.Tables.{thermal_unit, powers, renewable_unit, block, period_blocks, blocks}
-unfoldable pub use Rattle.uc_case.specs.Tables.{bid_unit}
+unfoldable pub use Rattle.uc_case.specs.Tables.{bid_unit, lag_in, point_in, block_in, window_items, window, unit_lists}
+unfoldable pub use Rattle.uc_case.specs.Tables.{keyed_unit, keyed_renewable}
 pub use Rattle.uc_file.specs.Words.{position, last_is, need, refuse}
 unfoldable pub use Rattle.uc_file.specs.Words.{each}
 pub use Rattle.uc_case.specs.declared.fault.Site.{Site}

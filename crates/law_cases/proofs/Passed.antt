@@ -1,13 +1,13 @@
 -- What tests that passed say: the parts of a reading that gave a value.
-use Rattle.law_cases.proofs.Common.{◌≡◌, ℕ, ◌+◌, ◌≤◌, ◌==◌, Bool, true, false, List, [], ◌∷◌, ◌++◌, length, Result, Ok}
-use Rattle.law_cases.proofs.Common.{Err, refl, subst, ap, arith, true≢false, ltb-false, eqb-true, not, ℤ, pos, negsuc}
-use Rattle.law_cases.proofs.Common.{unsigned_abs, nat_abs, nat_lt, int_lt, length-append, All, All-nil, All-push}
-use Rattle.law_cases.proofs.Common.{IsFrom, IsPower, IsCost, IsStartCost, Value, Pair, Read, Keys, key, under, part}
-use Rattle.law_cases.proofs.Common.{items, decimal, amount, cost, time_within, rounded, each, refuse, position, Site}
-use Rattle.law_cases.proofs.Common.{item_at, field_at, units, site, of_value}
+use Rattle.law_cases.proofs.Common.{few, full, ◌≡◌, ℕ, ◌+◌, ◌≤◌, ◌==◌, Bool, true, false, List, [], ◌∷◌, ◌++◌, length}
+use Rattle.law_cases.proofs.Common.{Result, Ok, Err, refl, subst, ap, arith, true≢false, ltb-false, eqb-true, not, ℤ}
+use Rattle.law_cases.proofs.Common.{pos, negsuc, unsigned_abs, nat_abs, nat_lt, int_lt, length-append, All, All-nil}
+use Rattle.law_cases.proofs.Common.{All-push, IsFrom, IsPower, IsCost, IsStartCost, Value, Pair, Read, Keys, key, under}
+use Rattle.law_cases.proofs.Common.{part, items, decimal, amount, cost, time_within, rounded, each, refuse, position}
+use Rattle.law_cases.proofs.Common.{Site, item_at, field_at, units, site, of_value}
 use Rattle.uc_model.specs.declared.kinds.Kind.{Kind}
 use Rattle.uc_model.specs.declared.limits.TheConstants.{MOST_OF_A_KIND}
-use Rattle.uc_case.specs.Forms.{object}
+use Rattle.uc_case.specs.Forms.{list, object}
 use Rattle.uc_file.specs.Magnitudes.{most_power, most_cost}
 use Rattle.uc_file.specs.Words.{◌>>=◌, ◌>>◌}
 use Rattle.uc_case.specs.declared.fault.Field.{Field}
@@ -64,6 +64,26 @@ pub items_count : {A : Type 0} (read : Site → List A → Value → Read A) (at
     items read at vs ≡ Ok all → length all ≡ length vs
 items_count read at vs all e =
     let count = each_count (λ before. read (item_at at (position before)) before) vs [] all e in omega arith
+
+pub few_ok : {A : Type 0} (Kept : List A → Type 0) (read : Site → List A → Value → Read A) (most : ℕ) (at : Site)
+    (v : Value) (all : List A) → Kept [] →
+    ((front : List A) (w : Value) (x : A) → Kept front → read at front w ≡ Ok x → Kept (front ++ x ∷ []))
+    → few read most at v ≡ Ok all → (length all ≤ most) × Kept all
+unfolding few
+few_ok Kept read most at v all none step e =
+    let vs = bind_ok (list at v) _ all e in
+    let within = passed _ _ _ all vs.2 in
+    let count = each_count (read at) vs.0 [] all within.1 in
+    let le = ltb-false most (length vs.0) within.0 in
+    (omega (arith, count, le), each_keeps Kept (read at) step vs.0 [] all none within.1)
+
+pub full_ok : (periods : ℕ) (at : Site) (v : Value) (vs : List Value) → full periods at v ≡ Ok vs → length vs ≡ periods
+unfolding full
+full_ok periods at v vs e =
+    let found = bind_ok (list at v) _ vs e in
+    let sized = passed _ _ _ vs found.2 in
+    subst (λ (ws : List Value). length ws ≡ periods) (ok_same found.0 vs sized.1)
+    (same_count (length found.0) periods sized.0)
 
 -- ---- a key
 

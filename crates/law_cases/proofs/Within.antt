@@ -1,16 +1,18 @@
 -- What a case file is read as is within the limits of a case.
-use Rattle.law_cases.proofs.Common.{◌≡◌, ℕ, ◌+◌, ◌≤◌, ◌==◌, ◌&&◌, false, List, [], length, map, Option, Some, None}
-use Rattle.law_cases.proofs.Common.{Result, Ok, Err, refl, subst, ◌∙◌, arith, nat_tests, ltb-false, ℤ, codes, int_lt}
-use Rattle.law_cases.proofs.Common.{nat_lt, replicate, length-replicate, All, All-nil, All-push, Lag, Point, Block}
-use Rattle.law_cases.proofs.Common.{IsPower, IsLag, IsPoint, IsBlock, IsBlockList, IsThermalUnit, IsRenewableUnit}
-use Rattle.law_cases.proofs.Common.{IsBidUnit, IsMarket, ThermalUnit, RenewableUnit, BidUnit, NamedThermalUnit}
-use Rattle.law_cases.proofs.Common.{NamedRenewableUnit, NamedBidUnit, Market, Value, Pair, Keys, keys, key, key_or_none}
-use Rattle.law_cases.proofs.Common.{part, amount, cost, time_within, flag, items, each, need, position, last_is, Site}
-use Rattle.law_cases.proofs.Common.{item_at, IsRange, AreRamps, IsPast, AreLags, ArePoints, AreBlocks, IsPointList, lag}
-use Rattle.law_cases.proofs.Common.{startup, point, piecewise, commitment, mark, output, ramps, past, at_least_one}
-use Rattle.law_cases.proofs.Common.{thermal_unit, one_power, powers, first_crossed, renewable_unit, block}
-use Rattle.law_cases.proofs.Common.{period_blocks, blocks, bid_unit, thermal, renewable, bid, units, bids, with_units}
-use Rattle.law_cases.proofs.Common.{case_of, whole, reading_of, IsThermalOf, IsRenewableOf, IsBidOf}
+use Rattle.law_cases.proofs.Common.{AllUnits, HorizonNeeds, all_units, horizon, needs, keyed_case, at_item, few, full}
+use Rattle.law_cases.proofs.Common.{AreUnitLists, AreNeeds, AreAllUnits, UnitLists, lag_in, point_in, block_in}
+use Rattle.law_cases.proofs.Common.{window_items, window, unit_lists, keyed_unit, keyed_renewable, ◌≡◌, ℕ, ◌≤◌, ◌==◌}
+use Rattle.law_cases.proofs.Common.{false, List, [], length, map, Option, Some, None, Result, Ok, Err, refl, subst, ◌∙◌}
+use Rattle.law_cases.proofs.Common.{arith, nat_tests, ltb-false, ℤ, codes, int_lt, nat_lt, replicate, length-replicate}
+use Rattle.law_cases.proofs.Common.{All, All-nil, All-push, Lag, Point, Block, IsPower, IsLag, IsPoint, IsBlock}
+use Rattle.law_cases.proofs.Common.{IsBlockList, IsThermalUnit, IsRenewableUnit, IsBidUnit, IsMarket, ThermalUnit}
+use Rattle.law_cases.proofs.Common.{RenewableUnit, BidUnit, NamedThermalUnit, NamedRenewableUnit, NamedBidUnit, Market}
+use Rattle.law_cases.proofs.Common.{Value, Pair, Keys, keys, key, key_or_none, part, amount, cost, time_within, flag}
+use Rattle.law_cases.proofs.Common.{need, position, last_is, Site, item_at, IsRange, AreRamps, IsPast, AreLags}
+use Rattle.law_cases.proofs.Common.{ArePoints, AreBlocks, IsPointList, lag, startup, point, piecewise, commitment, mark}
+use Rattle.law_cases.proofs.Common.{output, ramps, past, at_least_one, thermal_unit, one_power, powers, first_crossed}
+use Rattle.law_cases.proofs.Common.{renewable_unit, block, period_blocks, blocks, bid_unit, thermal, renewable, bid}
+use Rattle.law_cases.proofs.Common.{units, bids, case_of, whole, reading_of, IsThermalOf, IsRenewableOf, IsBidOf}
 use Rattle.plain_lists.specs.Sums.{total}
 use Rattle.text_tree.specs.Inside.{list_in}
 use Rattle.uc_text.specs.declared.fault.TextFault.{TextFault}
@@ -18,14 +20,15 @@ use Rattle.uc_model.specs.declared.limits.TheConstants.{MOST_PERIODS, MOST_TIME,
 use Rattle.uc_model.specs.declared.limits.TheConstants.{MOST_OF_A_KIND, POWER_LIMIT}
 use Rattle.uc_model.specs.declared.units.Mark.{Mark}
 use Rattle.uc_model.specs.declared.units.Mark.TheVariants.{Free}
-use Rattle.uc_case.specs.Forms.{list, object}
+use Rattle.uc_case.specs.Forms.{object}
 use Rattle.uc_file.specs.Magnitudes.{most_power, most_output, most_price}
 use Rattle.uc_case.specs.declared.parts.Output.{Output}
 use Rattle.uc_case.specs.declared.parts.Ramps.{Ramps}
 use Rattle.uc_case.specs.declared.parts.Past.{Past}
-use Rattle.law_cases.proofs.Passed.{ok_same, bind_ok, passed, same_count, each_keeps, each_count, items_count, part_ok}
-use Rattle.law_cases.proofs.Passed.{key_ok, amount_ok, power_ok, start_cost_ok, cost_ok, time_ok, units_ok, of_value_ok}
-use Rattle.uc_case.proofs.Limited.{thermal_fits, renewable_fits}
+use Rattle.law_cases.proofs.Passed.{ok_same, bind_ok, passed, same_count, each_keeps, items_count, part_ok, key_ok}
+use Rattle.law_cases.proofs.Passed.{amount_ok, power_ok, start_cost_ok, cost_ok, time_ok, units_ok, of_value_ok, few_ok}
+use Rattle.law_cases.proofs.Passed.{full_ok}
+use Rattle.uc_case.proofs.Limited.{thermal_fits, renewable_fits, market_fits}
 use Rattle.uc_case.proofs.Ordered.{int_not_below, no_lags, lags_push, no_points, points_push, no_blocks, blocks_push}
 use Rattle.uc_case.proofs.Ordered.{is_point_list}
 use Rattle.uc_model.specs.declared.kinds.Kind.TheVariants as kinds
@@ -35,7 +38,7 @@ use Rattle.uc_case.specs.declared.fault.Field.TheVariants as fields
 
 lag_ok : (at : Site) (before : List Lag) (v : Value) (l : Lag) → lag at before v ≡ Ok l →
     IsLag l × (last_is (λ (b : Lag). nat_lt l.lag b.lag) before ≡ false)
-unfolding lag
+unfolding lag lag_in
 lag_ok at before v l e =
     let o = bind_ok (object at v) _ l e in
     let n = bind_ok (part at (codes "lag") (time_within MOST_TIME) o.0) _ l o.2 in
@@ -48,22 +51,14 @@ lag_ok at before v l e =
 
 startup_ok : (at : Site) (v : Value) (ls : List Lag) → startup at v ≡ Ok ls → (length ls ≤ MOST_LAGS) × AreLags ls
 unfolding startup
-startup_ok at v ls e =
-    let vs = bind_ok (list at v) _ ls e in
-    let few = passed _ _ _ ls vs.2 in
-    let count = items_count lag at vs.0 ls few.1 in
-    let le = ltb-false MOST_LAGS (length vs.0) few.0 in (
-      omega (arith, count, le),
-      each_keeps AreLags (λ before. lag (item_at at (position before)) before)
-          (λ front w l kept is. (let h = lag_ok _ front w l is in lags_push front l kept h.0 h.1)) vs.0 [] ls no_lags
-          few.1,
-    )
+startup_ok at v ls e = few_ok AreLags (at_item lag) MOST_LAGS at v ls no_lags
+    (λ front w l kept is. (let h = lag_ok _ front w l is in lags_push front l kept h.0 h.1)) e
 
 -- ---- the points of a cost
 
 point_ok : (at : Site) (before : List Point) (v : Value) (p : Point) → point at before v ≡ Ok p →
     IsPoint p × (last_is (λ (b : Point). int_lt p.at b.at) before ≡ false)
-unfolding point
+unfolding point point_in
 point_ok at before v p e =
     let o = bind_ok (object at v) _ p e in
     let mw = bind_ok (part at (codes "mw") (amount 3 most_power) o.0) _ p o.2 in
@@ -78,17 +73,12 @@ piecewise_ok : (low high : ℤ) (at : Site) (v : Value) (ps : List Point) → pi
     IsPointList ps low high
 unfolding piecewise
 piecewise_ok low high at v ps e =
-    let vs = bind_ok (list at v) _ ps e in
-    let few = passed _ _ _ ps vs.2 in
-    let read = bind_ok (items point at vs.0) _ ps few.1 in
+    let read = bind_ok (few (at_item point) MOST_POINTS at v) _ ps e in
     let reached = passed _ _ _ ps read.2 in
-    let count = items_count point at vs.0 read.0 read.1 in
-    let le = ltb-false MOST_POINTS (length vs.0) few.0 in
-    let kept = each_keeps ArePoints (λ before. point (item_at at (position before)) before)
-    (λ front w p old is. (let h = point_ok _ front w p is in points_push front p old h.0 h.1)) vs.0 [] read.0
-    no_points read.1 in
+    let kept = few_ok ArePoints (at_item point) MOST_POINTS at v read.0 no_points
+    (λ front w p old is. (let h = point_ok _ front w p is in points_push front p old h.0 h.1)) read.1 in
     subst (λ (qs : List Point). IsPointList qs low high) (ok_same read.0 ps reached.1)
-    (is_point_list low high read.0 (omega (arith, count, le)) kept reached.0)
+    (is_point_list low high read.0 kept.0 kept.1 reached.0)
 
 -- ---- windows
 
@@ -97,12 +87,14 @@ all_free n = length-replicate n Free
 
 commitment_ok : (periods : ℕ) (at : Site) (v : Option Value) (ms : List Mark) → commitment periods at v ≡ Ok ms →
     length ms ≡ periods
-unfolding commitment
+unfolding commitment window window_items
 commitment_ok periods at None ms e = subst (λ (l : List Mark). length l ≡ periods) (ok_same _ ms e) (all_free periods)
 commitment_ok periods at (Some v) ms e =
-    let vs = bind_ok (need _ (list_in v)) _ ms e in
-    let sized = passed _ _ _ ms vs.2 in
-    items_count mark at vs.0 ms sized.1 ∙ same_count (length vs.0) periods sized.0
+    let vs = bind_ok (window_items periods at v) _ ms e in
+    let found = bind_ok (need _ (list_in v)) _ vs.0 vs.1 in
+    let sized = passed _ _ _ vs.0 found.2 in
+    items_count mark at vs.0 ms vs.2 ∙ subst (λ (ws : List Value). length ws ≡ periods)
+    (ok_same found.0 vs.0 sized.1) (same_count (length found.0) periods sized.0)
 
 -- ---- a thermal unit
 
@@ -171,27 +163,38 @@ past_ok u p e =
     })
 
 module _ (periods : ℕ) (some : 1 ≤ periods) (horizon : periods ≤ MOST_PERIODS) where
+  lists_ok : (o : Output) (u : Keys) (l : UnitLists) → unit_lists periods o u ≡ Ok l → AreUnitLists o periods l
+  unfolding unit_lists
+  lists_ok o u l e =
+      let lags = bind_ok (key u fields.Startup startup) _ l e in
+      let points = bind_ok (key u fields.PiecewiseProduction (piecewise o.least o.most)) _ l lags.2 in
+      let window = bind_ok (key_or_none u fields.Commitment (commitment periods)) _ l points.2 in
+      let lags_at = key_ok u fields.Startup startup lags.0 lags.1 in
+      let starts = startup_ok _ lags_at.0 lags.0 lags_at.1 in
+      let points_at = key_ok u fields.PiecewiseProduction (piecewise o.least o.most) points.0 points.1 in
+      subst (λ (k : UnitLists). AreUnitLists o periods k) (ok_same _ l window.2)
+      (record {
+        lag_count = starts.0;
+        lags = starts.1;
+        points = piecewise_ok o.least o.most _ points_at.0 points.0 points_at.1;
+        window = commitment_ok periods _ _ window.0 window.1;
+      })
+
   thermal_unit_ok : (at : Site) (v : Value) (g : ThermalUnit) → thermal_unit periods at v ≡ Ok g →
       IsThermalUnit g × (length g.window ≡ periods)
-  unfolding thermal_unit
+  unfolding thermal_unit keyed_unit
   thermal_unit_ok at v g e =
       let ms = bind_ok (object at v) _ g e in
       let u = keys at ms.0 in
       let o = bind_ok (output u) _ g ms.2 in
       let r = bind_ok (ramps u) _ g o.2 in
       let p = bind_ok (past u) _ g r.2 in
-      let lags = bind_ok (key u fields.Startup startup) _ g p.2 in
-      let points = bind_ok (key u fields.PiecewiseProduction (piecewise o.0.least o.0.most)) _ g lags.2 in
-      let window = bind_ok (key_or_none u fields.Commitment (commitment periods)) _ g points.2 in
-      let lags_at = key_ok u fields.Startup startup lags.0 lags.1 in
-      let starts = startup_ok _ lags_at.0 lags.0 lags_at.1 in
-      let points_at = key_ok u fields.PiecewiseProduction (piecewise o.0.least o.0.most) points.0 points.1 in
-      let cost = piecewise_ok o.0.least o.0.most _ points_at.0 points.0 points_at.1 in
-      let count = commitment_ok periods _ _ window.0 window.1 in
-      subst (λ (h : ThermalUnit). IsThermalUnit h × (length h.window ≡ periods)) (ok_same _ g window.2) (
-        thermal_fits o.0 r.0 p.0 lags.0 points.0 window.0 periods (output_ok u o.0 o.1) (ramps_ok u r.0 r.1)
-            (past_ok u p.0 p.1) starts.0 starts.1 cost.count cost.some cost.points cost.span count some horizon,
-        count,
+      let l = bind_ok (unit_lists periods o.0 u) _ g p.2 in
+      let lists = lists_ok o.0 u l.0 l.1 in
+      subst (λ (h : ThermalUnit). IsThermalUnit h × (length h.window ≡ periods)) (ok_same _ g l.2) (
+        thermal_fits o.0 r.0 p.0 l.0 periods (output_ok u o.0 o.1) (ramps_ok u r.0 r.1) (past_ok u p.0 p.1) lists some
+            horizon,
+        lists.window,
       )
 
   -- ---- a renewable unit, and the lists of the case
@@ -200,17 +203,15 @@ module _ (periods : ℕ) (some : 1 ≤ periods) (horizon : periods ≤ MOST_PERI
       (length ns ≡ periods) × All IsPower ns
   unfolding powers
   powers_ok at v ns e =
-      let vs = bind_ok (list at v) _ ns e in
-      let sized = passed _ _ _ ns vs.2 in (
-        items_count one_power at vs.0 ns sized.1 ∙ same_count (length vs.0) periods sized.0,
+      let vs = bind_ok (full periods at v) _ ns e in (
+        items_count one_power at vs.0 ns vs.2 ∙ full_ok periods at v vs.0 vs.1,
         each_keeps (All IsPower) (λ before. one_power (item_at at (position before)) before)
-            (λ front w n kept is. All-push IsPower front n kept (power_ok _ w n is)) vs.0 [] ns (All-nil IsPower)
-            sized.1,
+            (λ front w n kept is. All-push IsPower front n kept (power_ok _ w n is)) vs.0 [] ns (All-nil IsPower) vs.2,
       )
 
   renewable_unit_ok : (at : Site) (v : Value) (r : RenewableUnit) → renewable_unit periods at v ≡ Ok r →
       IsRenewableUnit r × (length r.least ≡ periods)
-  unfolding renewable_unit
+  unfolding renewable_unit keyed_renewable
   renewable_unit_ok at v r e =
       let ms = bind_ok (object at v) _ r e in
       let u = keys at ms.0 in
@@ -231,7 +232,7 @@ module _ (periods : ℕ) (some : 1 ≤ periods) (horizon : periods ≤ MOST_PERI
 
   block_ok : (at : Site) (before : List Block) (v : Value) (b : Block) → block at before v ≡ Ok b →
       IsBlock b × (last_is (λ (a : Block). int_lt a.price b.price) before ≡ false)
-  unfolding block
+  unfolding block block_in
   block_ok at before v b e =
       let o = bind_ok (object at v) _ b e in
       let mw = bind_ok (part at (codes "mw") (amount 3 most_power) o.0) _ b o.2 in
@@ -249,34 +250,28 @@ module _ (periods : ℕ) (some : 1 ≤ periods) (horizon : periods ≤ MOST_PERI
       period_blocks at before v ≡ Ok bs → IsBlockList bs
   unfolding period_blocks
   period_ok at before v bs e =
-      let vs = bind_ok (list at v) _ bs e in
-      let few = passed _ _ _ bs vs.2 in
-      let read = bind_ok (each (block at) [] vs.0) _ bs few.1 in
+      let read = bind_ok (few block MOST_BLOCKS at v) _ bs e in
       let wide = passed _ _ _ bs read.2 in
-      let count = each_count (block at) vs.0 [] read.0 read.1 in
-      let le = ltb-false MOST_BLOCKS (length vs.0) few.0 in
-      let kept = each_keeps AreBlocks (block at)
-      (λ front w b old is. (let h = block_ok at front w b is in blocks_push front b old h.0 h.1)) vs.0 [] read.0
-      no_blocks read.1 in
+      let kept = few_ok AreBlocks block MOST_BLOCKS at v read.0 no_blocks
+      (λ front w b old is. (let h = block_ok at front w b is in blocks_push front b old h.0 h.1)) read.1 in
       subst (λ (cs : List Block). IsBlockList cs) (ok_same read.0 bs wide.1)
       (record {
-        count = omega (arith, count, le);
-        blocks = kept.blocks;
+        count = kept.0;
+        blocks = kept.1.blocks;
         width =
             int_not_below POWER_LIMIT (total (map (λ (b : Block). b.width) read.0)) wide.0;
-        falling = kept.falling;
+        falling = kept.1.falling;
       })
 
   blocks_ok : (at : Site) (v : Value) (bs : List (List Block)) → blocks periods at v ≡ Ok bs →
       (length bs ≡ periods) × All IsBlockList bs
   unfolding blocks
   blocks_ok at v bs e =
-      let vs = bind_ok (list at v) _ bs e in
-      let sized = passed _ _ _ bs vs.2 in (
-        items_count period_blocks at vs.0 bs sized.1 ∙ same_count (length vs.0) periods sized.0,
+      let vs = bind_ok (full periods at v) _ bs e in (
+        items_count period_blocks at vs.0 bs vs.2 ∙ full_ok periods at v vs.0 vs.1,
         each_keeps (All IsBlockList) (λ before. period_blocks (item_at at (position before)) before)
             (λ front w b kept is. All-push IsBlockList front b kept (period_ok _ front w b is)) vs.0 [] bs
-            (All-nil IsBlockList) sized.1,
+            (All-nil IsBlockList) vs.2,
       )
 
   bid_unit_ok : (at : Site) (v : Value) (b : BidUnit) → bid_unit periods at v ≡ Ok b →
@@ -328,19 +323,14 @@ module _ (periods : ℕ) (some : 1 ≤ periods) (horizon : periods ≤ MOST_PERI
 
   -- ---- the case
 
-  some_unit : (a b : ℕ) → (a == 0 && b == 0) ≡ false → 1 ≤ a + b
-  some_unit a b e = grind (arith, nat_tests)
-
-  with_units_ok : (c : Keys) (demand reserves : List ℤ) (m : Market) → length demand ≡ periods → All IsPower demand →
-      length reserves ≡ periods → All IsPower reserves → with_units c periods demand reserves ≡ Ok m → IsMarket m
-  unfolding with_units
-  with_units_ok c demand reserves m demand_count demand_fits reserves_count reserves_fits e =
+  all_units_ok : (c : Keys) (us : AllUnits) → all_units periods c ≡ Ok us → AreAllUnits periods us
+  unfolding all_units
+  all_units_ok c us e =
       let g = bind_ok (key c fields.ThermalGenerators (units fields.ThermalGenerators kinds.Thermal (thermal periods)))
-      _ m e in
+      _ us e in
       let f = bind_ok (key c fields.RenewableGenerators
-      (units fields.RenewableGenerators kinds.Renewable (renewable periods))) _ m g.2 in
-      let b = bind_ok (key_or_none c fields.DemandBids (bids periods)) _ m f.2 in
-      let none = passed _ _ _ m b.2 in
+      (units fields.RenewableGenerators kinds.Renewable (renewable periods))) _ us g.2 in
+      let b = bind_ok (key_or_none c fields.DemandBids (bids periods)) _ us f.2 in
       let g_at = key_ok c fields.ThermalGenerators (units fields.ThermalGenerators kinds.Thermal (thermal periods)) g.0
       g.1 in
       let f_at = key_ok c fields.RenewableGenerators
@@ -350,42 +340,53 @@ module _ (periods : ℕ) (some : 1 ≤ periods) (horizon : periods ≤ MOST_PERI
       let fs = units_ok (IsRenewableOf periods) fields.RenewableGenerators kinds.Renewable (renewable periods)
       renewable_ok _ f_at.0 f.0 f_at.1 in
       let bs = bids_ok _ _ b.0 b.1 in
-      subst (λ (k : Market). IsMarket k) (ok_same _ m none.1)
+      subst (λ (k : AllUnits). AreAllUnits periods k) (ok_same _ us b.2)
       (record {
-        horizon = record { at_least = some; at_most = horizon };
-        demand_length = demand_count;
-        demand = demand_fits;
-        reserves_length = reserves_count;
-        reserves = reserves_fits;
         thermal_count = gs.0;
         flat_count = fs.0;
         bid_count = bs.0;
-        some_unit = some_unit (length g.0) (length f.0) none.0;
         thermal = gs.1;
         flat = fs.1;
         bids = bs.1;
       })
 
+  needs_ok : (c : Keys) (n : HorizonNeeds) → needs periods c ≡ Ok n → AreNeeds periods n
+  unfolding needs
+  needs_ok c n e =
+      let demand = bind_ok (key c fields.Demand (powers periods)) _ n e in
+      let reserves = bind_ok (key c fields.Reserves (powers periods)) _ n demand.2 in
+      let demand_at = key_ok c fields.Demand (powers periods) demand.0 demand.1 in
+      let reserves_at = key_ok c fields.Reserves (powers periods) reserves.0 reserves.1 in
+      let d = powers_ok _ demand_at.0 demand.0 demand_at.1 in
+      let r = powers_ok _ reserves_at.0 reserves.0 reserves_at.1 in
+      subst (λ (k : HorizonNeeds). AreNeeds periods k) (ok_same _ n reserves.2)
+      (record { demand_count = d.0; demand = d.1; reserves_count = r.0; reserves = r.1 })
+
 not_none : (n : ℕ) → (n == 0) ≡ false → 1 ≤ n
 not_none n e = grind (arith, nat_tests)
 
+horizon_ok : (c : Keys) (n : ℕ) → horizon c ≡ Ok n → (1 ≤ n) × (n ≤ MOST_PERIODS)
+unfolding horizon
+horizon_ok c n e =
+    let periods = bind_ok (key c fields.TimePeriods (time_within MOST_PERIODS)) _ n e in
+    let some = passed _ _ _ n periods.2 in
+    let at = key_ok c fields.TimePeriods (time_within MOST_PERIODS) periods.0 periods.1 in
+    subst (λ k. (1 ≤ k) × (k ≤ MOST_PERIODS)) (ok_same periods.0 n some.1)
+    (not_none periods.0 some.0, time_ok MOST_PERIODS _ at.0 periods.0 at.1)
+
 case_ok : (v : Value) (m : Market) → case_of v ≡ Ok m → IsMarket m
-unfolding case_of
+unfolding case_of keyed_case
 case_ok v m e =
     let ms = bind_ok (object whole v) _ m e in
     let c = keys whole ms.0 in
-    let periods = bind_ok (key c fields.TimePeriods (time_within MOST_PERIODS)) _ m ms.2 in
-    let some = passed _ _ _ m periods.2 in
-    let demand = bind_ok (key c fields.Demand (powers periods.0)) _ m some.1 in
-    let reserves = bind_ok (key c fields.Reserves (powers periods.0)) _ m demand.2 in
-    let at = key_ok c fields.TimePeriods (time_within MOST_PERIODS) periods.0 periods.1 in
-    let horizon = time_ok MOST_PERIODS _ at.0 periods.0 at.1 in
-    let least = not_none periods.0 some.0 in
-    let demand_at = key_ok c fields.Demand (powers periods.0) demand.0 demand.1 in
-    let reserves_at = key_ok c fields.Reserves (powers periods.0) reserves.0 reserves.1 in
-    let d = powers_ok periods.0 least horizon _ demand_at.0 demand.0 demand_at.1 in
-    let r = powers_ok periods.0 least horizon _ reserves_at.0 reserves.0 reserves_at.1 in
-    with_units_ok periods.0 least horizon c demand.0 reserves.0 m d.0 d.1 r.0 r.1 reserves.2
+    let periods = bind_ok (horizon c) _ m ms.2 in
+    let n = bind_ok (needs periods.0 c) _ m periods.2 in
+    let us = bind_ok (all_units periods.0 c) _ m n.2 in
+    let some = passed _ _ _ m us.2 in
+    let limits = horizon_ok c periods.0 periods.1 in
+    subst (λ (k : Market). IsMarket k) (ok_same _ m some.1)
+    (market_fits periods.0 n.0 us.0 limits.0 limits.1 (needs_ok periods.0 limits.0 limits.1 c n.0 n.1)
+    (all_units_ok periods.0 limits.0 limits.1 c us.0 us.1) some.0)
 
 pub market_ok : (found : Result Value TextFault) (m : Market) → reading_of case_of found ≡ Ok m → IsMarket m
 market_ok (Ok v) m e = case_ok v m (of_value_ok (case_of v) m e)

@@ -2,14 +2,12 @@
 pub mod Common
 -- forms.rt: numbers that passed their tests are within their limits
 pub mod Fits
--- lists.rt, listed.rt, windows.rt, bids.rt: the items of a list, read one after the other as a loop does
+-- listed.rt, bids.rt: the items of a list, read one after the other as a loop does
 pub mod Loops
 -- lists.rt, bids.rt: lists whose items keep an order, one item more at the end
 pub mod Ordered
--- units.rt, bids.rt: what was read for a unit is within the limits of its type
+-- cases.rt, units.rt, bids.rt: what was read is within the limits of its type
 pub mod Limited
--- units.rt: the last test of a thermal unit that fails, after the others passed
-pub mod Stops
 -- read.rt: the answer of the reader is the only one
 pub mod Answered
 -- the definition of a case, on trees that were worked by hand

@@ -1,13 +1,13 @@
 -- What was read for a unit is within the limits of its type.
-use Rattle.uc_case.proofs.Common.{◌≡◌, ℕ, zero, suc, ◌<◌, ◌≤◌, Bool, true, false, List, [], ◌∷◌, length, map, get_or}
+use Rattle.uc_case.proofs.Common.{◌≡◌, ℕ, zero, suc, ◌+◌, ◌<◌, ◌≤◌, ◌==◌, ◌&&◌, Bool, true, false, List, [], ◌∷◌}
+use Rattle.uc_case.proofs.Common.{length, map, get_or, nat_tests, IsMarket, AreNeeds, AreAllUnits, AreUnitLists}
+use Rattle.uc_case.proofs.Common.{UnitLists, joined_unit, HorizonNeeds, AllUnits, no_unit, joined_case, few}
 use Rattle.uc_case.proofs.Common.{Ok, Err, refl, sym, ◌∙◌, if◌then◌else◌, arith, w64, to_z, of_z, ℤ, pos, ◌≤ℤ◌, int_lt}
-use Rattle.uc_case.proofs.Common.{nat_lt, All, ints, to_z-of_z, Lag, Point, Block, IsPower, IsOutput, IsThermalUnit}
-use Rattle.uc_case.proofs.Common.{IsRenewableUnit, Spans, Value, IsRange, AreRamps, IsPast, AreLags, ArePoints, fault}
-use Rattle.uc_case.proofs.Common.{each, first_crossed, block, period_blocks, Site}
-use Rattle.uc_model.specs.declared.units.Mark.{Mark}
+use Rattle.uc_case.proofs.Common.{All, ints, to_z-of_z, Block, IsPower, IsOutput, IsThermalUnit}
+use Rattle.uc_case.proofs.Common.{IsRenewableUnit, Value, IsRange, AreRamps, IsPast, fault}
+use Rattle.uc_case.proofs.Common.{first_crossed, block, period_blocks, Site}
 use Rattle.plain_lists.specs.Sums.{total}
-use Rattle.uc_model.specs.declared.limits.TheConstants.{MOST_PERIODS, MOST_LAGS, MOST_POINTS, MOST_BLOCKS, POWER_LIMIT}
-use Rattle.uc_case.specs.Forms.{list}
+use Rattle.uc_model.specs.declared.limits.TheConstants.{MOST_PERIODS, MOST_BLOCKS, POWER_LIMIT}
 use Rattle.uc_case.specs.declared.fault.CaseCode.TheVariants as codes
 use Rattle.uc_case.specs.declared.parts.Output.{Output}
 use Rattle.uc_case.specs.declared.parts.Ramps.{Ramps}
@@ -21,55 +21,53 @@ power_stored n is = to_z-of_z w64 n (omega (arith, ints, is.at_least, is.at_most
 pub output_stored : (n : ℤ) → IsOutput n → to_z w64 (of_z w64 n) ≡ n
 output_stored n is = to_z-of_z w64 n (omega (arith, ints, is.at_least, is.at_most))
 
-pub thermal_fits : (o : Output) (r : Ramps) (p : Past) (lags : List Lag) (points : List Point) (window : List Mark)
-    (periods : ℕ)
-    → IsRange o → AreRamps r → IsPast p → length lags ≤ MOST_LAGS → AreLags lags → length points ≤ MOST_POINTS →
-    1 ≤ length points → ArePoints points → Spans points o.least o.most
-    → length window ≡ periods → 1 ≤ periods → periods ≤ MOST_PERIODS
-    → IsThermalUnit (record {
-      must_run = o.must_run;
-      min_power = o.least;
-      max_power = o.most;
-      ramp_up = r.up;
-      ramp_down = r.down;
-      start_limit = r.start;
-      stop_limit = r.stop;
-      min_up = p.min_up;
-      min_down = p.min_down;
-      power0 = p.power;
-      on0 = p.on;
-      up0 = p.up;
-      down0 = p.down;
-      lags = lags;
-      points = points;
-      window = window;
-    })
-thermal_fits o r p lags points window periods range ramps past few_lags are_lags few_points some_point are_points span
-    count some horizon = record {
-      min_power = range.least;
-      max_power = range.most;
-      range = range.range;
-      ramp_up = ramps.up;
-      ramp_down = ramps.down;
-      start_limit = ramps.start;
-      stop_limit = ramps.stop;
-      min_up = past.min_up;
-      min_up_is_one_or_more = past.some_up;
-      min_down = past.min_down;
-      min_down_is_one_or_more = past.some_down;
-      power0 = past.power;
-      up0 = past.up;
-      down0 = past.down;
-      lag_count = few_lags;
-      lags = are_lags.lags;
-      lags_ordered = are_lags.ordered;
-      point_count = few_points;
-      some_point = some_point;
-      points = are_points.points;
-      points_ordered = are_points.ordered;
-      span = span;
-      horizon = record { at_least = omega (arith, count, some); at_most = omega (arith, count, horizon) };
-    }
+pub thermal_fits : (o : Output) (r : Ramps) (p : Past) (l : UnitLists) (periods : ℕ) → IsRange o → AreRamps r →
+    IsPast p → AreUnitLists o periods l → 1 ≤ periods → periods ≤ MOST_PERIODS → IsThermalUnit (joined_unit o r p l)
+thermal_fits o r p l periods range ramps past lists some horizon = record {
+  min_power = range.least;
+  max_power = range.most;
+  range = range.range;
+  ramp_up = ramps.up;
+  ramp_down = ramps.down;
+  start_limit = ramps.start;
+  stop_limit = ramps.stop;
+  min_up = past.min_up;
+  min_up_is_one_or_more = past.some_up;
+  min_down = past.min_down;
+  min_down_is_one_or_more = past.some_down;
+  power0 = past.power;
+  up0 = past.up;
+  down0 = past.down;
+  lag_count = lists.lag_count;
+  lags = lists.lags.lags;
+  lags_ordered = lists.lags.ordered;
+  point_count = lists.points.count;
+  some_point = lists.points.some;
+  points = lists.points.points.points;
+  points_ordered = lists.points.points.ordered;
+  span = lists.points.span;
+  horizon = record { at_least = omega (arith, lists.window, some); at_most = omega (arith, lists.window, horizon) };
+}
+
+some_unit : (a b : ℕ) → (a == 0 && b == 0) ≡ false → 1 ≤ a + b
+some_unit a b e = grind (arith, nat_tests)
+
+pub market_fits : (periods : ℕ) (n : HorizonNeeds) (us : AllUnits) → 1 ≤ periods → periods ≤ MOST_PERIODS →
+    AreNeeds periods n → AreAllUnits periods us → no_unit us ≡ false → IsMarket (joined_case periods n us)
+market_fits periods n us some horizon needs units e = record {
+  horizon = record { at_least = some; at_most = horizon };
+  demand_length = needs.demand_count;
+  demand = needs.demand;
+  reserves_length = needs.reserves_count;
+  reserves = needs.reserves;
+  thermal_count = units.thermal_count;
+  flat_count = units.flat_count;
+  bid_count = units.bid_count;
+  some_unit = some_unit (length us.thermal) (length us.flat) e;
+  thermal = units.thermal;
+  flat = units.flat;
+  bids = units.bids;
+}
 
 first_fails : (b : Bool) (j r : ℕ) → 0 < j → (if b then j else r) ≤ 0 → (b ≡ false) × (r ≤ 0)
 first_fails true j r some none = absurd (omega (arith, some, none))
@@ -102,18 +100,13 @@ renewable_fits least most periods crossed count count_most some horizon least_fi
 
 -- ---- the blocks of a period
 
-few : (n : ℕ) → n ≤ MOST_BLOCKS → nat_lt MOST_BLOCKS n ≡ false
-few n le = grind (arith, le)
-
-pub period_read : (at : Site) (v : Value) (vs : List Value) (bs : List Block) → list at v ≡ Ok vs →
-    length vs ≤ MOST_BLOCKS → each (block at) [] vs ≡ Ok bs →
+pub period_read : (at : Site) (v : Value) (bs : List Block) → few block MOST_BLOCKS at v ≡ Ok bs →
     int_lt POWER_LIMIT (total (map (λ (b : Block). b.width) bs)) ≡ false → period_blocks at [] v ≡ Ok bs
 unfolding period_blocks
-period_read at v vs bs listed count read fits = rw (listed, few (length vs) count, read, fits) refl
+period_read at v bs read fits = rw (read, fits) refl
 
-pub period_refused : (at : Site) (v : Value) (vs : List Value) (bs : List Block) → list at v ≡ Ok vs →
-    length vs ≤ MOST_BLOCKS → each (block at) [] vs ≡ Ok bs →
+pub period_refused : (at : Site) (v : Value) (bs : List Block) → few block MOST_BLOCKS at v ≡ Ok bs →
     int_lt POWER_LIMIT (total (map (λ (b : Block). b.width) bs)) ≡ true →
     period_blocks at [] v ≡ Err (fault at codes.TooLarge)
 unfolding period_blocks
-period_refused at v vs bs listed count read wide = rw (listed, few (length vs) count, read, wide) refl
+period_refused at v bs read wide = rw (read, wide) refl

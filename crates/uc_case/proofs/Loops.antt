@@ -8,31 +8,6 @@ use Rattle.uc_file.specs.Given.{Fails}
 use Rattle.uc_case.specs.declared.fault.Field.{Field}
 use Rattle.uc_file.specs.declared.stop.Stop.{Stop}
 
--- ---- the same for items, each at the site of its position
-
--- the reading of one item, as the code calls it
-here : {A : Type 0} (read : Site → List A → Value → Read A) (at p : Site) (front l : List A) (n : ℕ) (v : Value) →
-    p ≡ item_at at (n + 1) → n ≡ length front → l ≡ front → read p l v ≡ read (item_at at (position front)) front v
-here read at p front l n v p-is n-is l-is = rw (p-is, n-is, l-is) refl
-
-pub item_goes_on : {A : Type 0} (read : Site → List A → Value → Read A) (at p : Site) (ts : List Branch) (i : ℕ)
-    (t : Branch) (front l : List A) (n : ℕ) (x : A) (total : Read (List A)) → i < length ts → t ≡ get_or ts i t
-    → p ≡ item_at at (n + 1) → n ≡ length front → l ≡ front → read p l (view t) ≡ Ok x
-    → each (λ before. read (item_at at (position before)) before) front (views (drop i ts)) ≡ total →
-    each (λ before. read (item_at at (position before)) before) (front ++ x ∷ []) (views (drop (i + 1) ts)) ≡ total
-item_goes_on read at p ts i t front l n x total lt is p-is n-is l-is h so_far =
-    goes_on (λ before. read (item_at at (position before)) before) view ts i t front x total lt is
-    (sym (here read at p front l n (view t) p-is n-is l-is) ∙ h) so_far
-
-pub item_ends : {A : Type 0} (e : Stop FieldFault) (read : Site → List A → Value → Read A) (at p : Site)
-    (ts : List Branch) (i : ℕ) (t : Branch) (front l : List A) (n : ℕ) (total : Read (List A)) → i < length ts →
-    t ≡ get_or ts i t
-    → p ≡ item_at at (n + 1) → n ≡ length front → l ≡ front → Fails e (read p l (view t))
-    → each (λ before. read (item_at at (position before)) before) front (views (drop i ts)) ≡ total → Fails e total
-item_ends {A = A} e read at p ts i t front l n total lt is p-is n-is l-is h so_far =
-    ends e (λ before. read (item_at at (position before)) before) view ts i t front total lt is
-    (subst (λ (r : Read A). Fails e r) (here read at p front l n (view t) p-is n-is l-is) h) so_far
-
 -- ---- the same for members, each at the site of its position
 
 one_here : {A X : Type 0} (one : Site → Pair → Read A) (named : X → A) (field : Field) (kind : Kind) (p : Site)

@@ -3,7 +3,6 @@ use Rattle.uc_case.proofs.Common.{◌≡◌, ℕ, zero, suc, ◌-◌, ◌<◌, �
 use Rattle.uc_case.proofs.Common.{length, get_or, Some, refl, sym, ap, ◌∙◌, arith, true≢false, ℤ, ◌≤ℤ◌, nat_lt, int_lt}
 use Rattle.uc_case.proofs.Common.{slice_get, ltb-false, ints, All-nil, All-push, Lag, Point, Block, IsLag, IsPoint}
 use Rattle.uc_case.proofs.Common.{IsBlock, Spans, ends_miss, AreLags, ArePoints, AreBlocks, IsPointList, last_is}
-use Rattle.uc_case.proofs.Common.{length-map, Branch, Value, view, views}
 use Rattle.std.specs.Option.{option_map_or}
 use Rattle.uc_model.specs.declared.limits.TheConstants.{MOST_POINTS}
 use Rattle.std.proofs.lemmas.Option.{slice_get-get_or}
@@ -103,10 +102,3 @@ pub is_point_list : (low high : ℤ) (ps : List Point) → length ps ≤ MOST_PO
     ends_miss low high ps ≡ false → IsPointList ps low high
 is_point_list low high ps count are reached =
     record { count = count; some = some_point low high ps reached; points = are; span = spans low high ps reached }
-
--- a point for each item of a list
-pub points_few : (ps : List Point) (ts : List Branch) (vs : List Value) → length ps ≡ length ts → views ts ≡ vs →
-    length vs ≤ MOST_POINTS → length ps ≤ MOST_POINTS
-points_few ps ts vs count says few =
-    let same : length ts ≡ length vs = sym (length-map ts view) ∙ ap length says in
-    omega (arith, count, same, few)

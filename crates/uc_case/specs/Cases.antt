@@ -1,6 +1,6 @@
 -- The table of a case file: the case of a value, or the fault of the first test that fails
 -- (pglib-uc; bids and limits are this project's profile). Keys that no table names are skipped.
-use Rattle.std.specs.Prelude.{ℕ, ℤ, ◌&&◌, ◌==◌, nat_lt, List, [], length, Option, Some, None, Ok}
+use Rattle.std.specs.Prelude.{ℕ, ℤ, Bool, ◌&&◌, ◌==◌, nat_lt, List, [], length, Option, Some, None, Ok}
 use Rattle.uc_model.specs.declared.kinds.Kind.{Kind}
 use Rattle.uc_model.specs.declared.kinds.Kind.TheVariants.{Case, Thermal, Renewable, Bid}
 use Rattle.uc_model.specs.declared.limits.TheConstants.{MOST_PERIODS, MOST_OF_A_KIND}
@@ -54,29 +54,58 @@ bids periods at (Some v) = units DemandBids Bid (bid periods) at v
 abbrev pub whole : Site
 whole = site Whole Case 0
 
--- the units and bids, behind the horizon's lists
-unfoldable pub with_units : Keys → ℕ → List ℤ → List ℤ → Read Market
-with_units c periods demand reserves = do
+-- the units and bids of a case
+pub record AllUnits : Type 0 where
+  pub thermal : List NamedThermalUnit
+  pub flat : List NamedRenewableUnit
+  pub bids : List NamedBidUnit
+
+unfoldable pub all_units : ℕ → Keys → Read AllUnits
+all_units periods c = do
   thermal ← key c ThermalGenerators (units ThermalGenerators Thermal (thermal periods))
   flat ← key c RenewableGenerators (units RenewableGenerators Renewable (renewable periods))
   bids ← key_or_none c DemandBids (bids periods)
-  refuse (fault (field_at whole RenewableGenerators) NoUnits)
-      (length thermal == 0 && length flat == 0)
-  Ok (record {
-    periods = periods;
-    demand = demand;
-    reserves = reserves;
-    thermal = thermal;
-    flat = flat;
-    bids = bids;
-  })
+  Ok (record { thermal = thermal; flat = flat; bids = bids })
+
+unfoldable pub horizon : Keys → Read ℕ
+horizon c = do
+  periods ← key c TimePeriods (time_within MOST_PERIODS)
+  refuse (fault (field_at whole TimePeriods) NoPeriods) (periods == 0)
+  Ok periods
+
+-- what each period wants
+pub record HorizonNeeds : Type 0 where
+  pub demand : List ℤ
+  pub reserves : List ℤ
+
+unfoldable pub needs : ℕ → Keys → Read HorizonNeeds
+needs periods c = do
+  demand ← key c Demand (powers periods)
+  reserves ← key c Reserves (powers periods)
+  Ok (record { demand = demand; reserves = reserves })
+
+abbrev pub no_unit : AllUnits → Bool
+no_unit us = length us.thermal == 0 && length us.flat == 0
+
+abbrev pub joined_case : ℕ → HorizonNeeds → AllUnits → Market
+joined_case periods n us = record {
+  periods = periods;
+  demand = n.demand;
+  reserves = n.reserves;
+  thermal = us.thermal;
+  flat = us.flat;
+  bids = us.bids;
+}
+
+unfoldable pub keyed_case : Keys → Read Market
+keyed_case c = do
+  periods ← horizon c
+  n ← needs periods c
+  us ← all_units periods c
+  refuse (fault (field_at whole RenewableGenerators) NoUnits) (no_unit us)
+  Ok (joined_case periods n us)
 
 unfoldable pub case_of : Value → Read Market
 case_of v = do
   ms ← object whole v
-  let c = keys whole ms
-  periods ← key c TimePeriods (time_within MOST_PERIODS)
-  refuse (fault (field_at whole TimePeriods) NoPeriods) (periods == 0)
-  demand ← key c Demand (powers periods)
-  reserves ← key c Reserves (powers periods)
-  with_units c periods demand reserves
+  keyed_case (keys whole ms)

@@ -1,5 +1,5 @@
 -- The forms of a case file's fields: each reads one value at a site, with its tests in order.
-use Rattle.std.specs.Prelude.{ℕ, Bool, List, [], Option, Result, Ok, ℤ, pos}
+use Rattle.std.specs.Prelude.{ℕ, ◌==◌, Bool, List, [], length, Option, Result, Ok, ℤ, pos}
 use Rattle.std.specs.Prelude.{nat_abs, unsigned_abs, nat_lt, int_lt, not}
 use Rattle.uc_model.specs.declared.limits.TheConstants.{MOST_TIME}
 use Rattle.uc_num.specs.declared.Decimal.{Decimal}
@@ -11,7 +11,7 @@ use Rattle.uc_case.specs.Sites.{fault, field_at, item_at, key_of}
 use Rattle.uc_file.specs.Magnitudes.{most_cost}
 use Rattle.uc_file.specs.Words.{◌>>=◌, ◌>>◌, refuse, need, each, position}
 use Rattle.uc_case.specs.declared.fault.CaseCode.TheVariants.{Missing, WrongKind, NotWhole}
-use Rattle.uc_case.specs.declared.fault.CaseCode.TheVariants.{Negative, TooLarge, NotFlag}
+use Rattle.uc_case.specs.declared.fault.CaseCode.TheVariants.{Negative, TooLarge, WrongLength, NotFlag}
 use Rattle.uc_case.specs.declared.fault.Field.{Field}
 use Rattle.uc_case.specs.declared.fault.FieldFault.{FieldFault}
 use Rattle.uc_case.specs.declared.fault.Site.{Site}
@@ -98,7 +98,27 @@ key o f form = do
 abbrev pub key_or_none : {A : Type 0} → Keys → Field → (Site → Option Value → Read A) → Read A
 key_or_none o f form = form (field_at o.at f) (value_of (key_of f) o.members)
 
+-- an item of a list, at the site of its position
+abbrev pub at_item : {A : Type 0} → (Site → List A → Value → Read A)
+    → Site → List A → Value → Read A
+at_item read at before v = read (item_at at (position before)) before v
+
 -- the items of a list, each at the site of its position
 abbrev pub items : {A : Type 0} → (Site → List A → Value → Read A)
     → Site → List Value → Read (List A)
 items read at vs = each (λ before. read (item_at at (position before)) before) [] vs
+
+-- the items of a list of at most so many
+unfoldable pub few : {A : Type 0} → (Site → List A → Value → Read A) → ℕ
+    → Site → Value → Read (List A)
+few read most at v = do
+  vs ← list at v
+  refuse (fault at TooLarge) (nat_lt most (length vs))
+  each (read at) [] vs
+
+-- a list of an item for each period
+unfoldable pub full : ℕ → Site → Value → Read (List Value)
+full periods at v = do
+  vs ← list at v
+  refuse (fault at WrongLength) (not (length vs == periods))
+  Ok vs

@@ -4,11 +4,13 @@ use Rattle.std.specs.List.{All}
 use Rattle.uc_model.specs.declared.units.Lag.{Lag}
 use Rattle.uc_model.specs.declared.units.Point.{Point}
 use Rattle.uc_model.specs.declared.units.Block.{Block}
-use Rattle.uc_model.specs.declared.limits.TheConstants.{MOST_POINTS}
+use Rattle.uc_model.specs.declared.limits.TheConstants.{MOST_LAGS, MOST_POINTS, MOST_OF_A_KIND}
 use Rattle.uc_model.specs.Limits.{IsLag, AreLagsOrdered, IsPoint, ArePointsOrdered}
 use Rattle.uc_model.specs.Limits.{IsBlock, IsPower, IsOutput, IsTime, Spans}
 use Rattle.uc_model.specs.Limits.{IsThermalUnit, IsRenewableUnit, IsBidUnit}
 use Rattle.uc_model.specs.Data.{NamedThermalUnit, NamedRenewableUnit, NamedBidUnit}
+use Rattle.uc_case.specs.Cases.{AllUnits, HorizonNeeds}
+use Rattle.uc_case.specs.Tables.{UnitLists}
 use Rattle.uc_case.specs.declared.parts.Output.{Output}
 use Rattle.uc_case.specs.declared.parts.Ramps.{Ramps}
 use Rattle.uc_case.specs.declared.parts.Past.{Past}
@@ -54,6 +56,12 @@ pub record IsPast (p : Past) : Type 0 where
   pub up : IsTime p.up
   pub down : IsTime p.down
 
+pub record AreUnitLists (o : Output) (periods : ℕ) (l : UnitLists) : Type 0 where
+  pub lag_count : length l.lags ≤ MOST_LAGS
+  pub lags : AreLags l.lags
+  pub points : IsPointList l.points o.least o.most
+  pub window : length l.window ≡ periods
+
 -- a unit over the periods of its case
 abbrev pub IsThermalOf : ℕ → NamedThermalUnit → Type 0
 IsThermalOf periods n = IsThermalUnit n.unit × (length n.unit.window ≡ periods)
@@ -63,3 +71,19 @@ IsRenewableOf periods n = IsRenewableUnit n.unit × (length n.unit.least ≡ per
 
 abbrev pub IsBidOf : ℕ → NamedBidUnit → Type 0
 IsBidOf periods n = IsBidUnit n.unit × (length n.unit.blocks ≡ periods)
+
+-- a demand and a required reserve for each of so many periods
+pub record AreNeeds (periods : ℕ) (n : HorizonNeeds) : Type 0 where
+  pub demand_count : length n.demand ≡ periods
+  pub demand : All IsPower n.demand
+  pub reserves_count : length n.reserves ≡ periods
+  pub reserves : All IsPower n.reserves
+
+-- the units and bids of a case over so many periods
+pub record AreAllUnits (periods : ℕ) (us : AllUnits) : Type 0 where
+  pub thermal_count : length us.thermal ≤ MOST_OF_A_KIND
+  pub flat_count : length us.flat ≤ MOST_OF_A_KIND
+  pub bid_count : length us.bids ≤ MOST_OF_A_KIND
+  pub thermal : All (IsThermalOf periods) us.thermal
+  pub flat : All (IsRenewableOf periods) us.flat
+  pub bids : All (IsBidOf periods) us.bids

@@ -4,4 +4,5 @@ pub mod Tables
 pub mod Cases
 pub mod CaseFiles
 pub mod Kept
+pub mod Parts
 pub mod Laws

@@ -1,15 +1,16 @@
 //! The whole case.
-ghost use Rattle.std.specs.Prelude.{◌≡◌, ◌≤◌, IfOk, length, map};
+ghost use Rattle.std.specs.Prelude.{◌≡◌, ◌≤◌, IfOk, false, length, map};
 ghost use Rattle.std.specs.List.{All};
 ghost use Rattle.uc_model.specs.PlainCases.{market_of};
 ghost use Rattle.uc_model.specs.PlainUnits.{named_thermal_of, named_renewable_of, named_bid_of};
-ghost use Rattle.uc_model.specs.Limits.{IsPower};
 ghost use Rattle.uc_model.specs.declared.limits.TheConstants.{MOST_OF_A_KIND, MOST_PERIODS};
 ghost use Rattle.text_tree.specs.View.{view, member_views};
 ghost use Rattle.uc_file.specs.Given.{Gives};
-ghost use Rattle.uc_case.specs.Kept.{IsThermalOf, IsRenewableOf, IsBidOf};
+ghost use Rattle.uc_case.specs.Kept.{IsThermalOf, IsRenewableOf, IsBidOf, AreNeeds, AreAllUnits};
+ghost use Rattle.uc_case.specs.Parts.{needs_of, units_of};
 ghost use Rattle.uc_case.specs.Forms.{keys, key, key_or_none};
-ghost use Rattle.uc_case.specs.Cases.{thermal, renewable, units, bids, whole, with_units, case_of};
+ghost use Rattle.uc_case.specs.Cases.{thermal, renewable, units, bids, whole, horizon, needs};
+ghost use Rattle.uc_case.specs.Cases.{all_units, no_unit, joined_case, keyed_case, case_of};
 
 use crate::fault::{CaseCode, Field, Kind};
 use crate::forms::{FieldStop, members_of};
@@ -17,7 +18,7 @@ use crate::keys::Keys;
 use crate::limits::PERIODS;
 use crate::listed::{read_units, unit_site};
 use crate::lists::read_powers;
-use plain_lists::lists::Numbers;
+use crate::parts::{Needs, Units};
 use std::alloc::Global;
 use text_tree::Branch;
 use uc_model::cases::Case;
@@ -72,42 +73,94 @@ fn read_demand_bids(alloc: Global, c: &Keys, periods: u32) -> Result<BidList, Fi
     read_units::<NamedBid>(alloc, at, Kind::Bid, branch, periods)
 }
 
-/// The case with these lists over its horizon: its units and bids are read last.
-#[tactic(auto, unfolding(crate::specs::Cases::with_units))]
-fn read_with_units(
-    alloc: Global,
-    c: &Keys,
-    periods: u32,
-    demand: Numbers,
-    reserves: Numbers,
-) -> Result<Case, FieldStop>
-    requires at { c.now.at ≡ whole }
+#[tactic(auto, unfolding(crate::specs::Cases::all_units))]
+fn read_all_units(alloc: Global, c: &Keys, periods: u32) -> Result<Units, FieldStop>
     requires some { 1 ≤ periods }
     requires horizon { periods ≤ MOST_PERIODS }
-    requires demand_count { length demand.items ≡ periods }
-    requires demand_fits { All (λ n. IsPower n) demand.items }
-    requires reserves_count { length reserves.items ≡ periods }
-    requires reserves_fits { All (λ n. IsPower n) reserves.items }
-    ensures { Gives market_of result (with_units
-        (keys c.now.at (member_views c.now.members.items)) periods demand.items reserves.items) }
+    ensures fits { IfOk result (λ us. AreAllUnits periods (units_of us)) }
+    ensures value { Gives units_of result
+        (all_units periods (keys c.now.at (member_views c.now.members.items))) }
 {
     let thermal = read_thermal_units(alloc, c, periods)?;
     let flat = read_renewable_units(alloc, c, periods)?;
     let bids = read_demand_bids(alloc, c, periods)?;
-    if thermal.len() == 0 && flat.len() == 0 {
+    Ok(Units {
+        thermal,
+        flat,
+        bids,
+    })
+}
+
+/// The number of periods; `NoPeriods` where it is 0.
+#[tactic(auto, unfolding(crate::specs::Cases::horizon))]
+fn read_horizon(c: &Keys) -> Result<u32, FieldStop>
+    requires { c.now.at ≡ whole }
+    ensures some { IfOk result (λ n. 1 ≤ n) }
+    ensures limit { IfOk result (λ n. n ≤ MOST_PERIODS) }
+    ensures value { Gives (λ n. n) result
+        (horizon (keys c.now.at (member_views c.now.members.items))) }
+{
+    let periods = c.time(Field::TimePeriods, PERIODS)?;
+    if periods == 0 {
+        return Err(c.at.field(Field::TimePeriods).stop(CaseCode::NoPeriods));
+    }
+    Ok(periods)
+}
+
+#[tactic(auto, unfolding(crate::specs::Cases::needs))]
+fn read_needs(alloc: Global, c: &Keys, periods: u32) -> Result<Needs, FieldStop>
+    requires { periods ≤ MOST_PERIODS }
+    ensures fits { IfOk result (λ n. AreNeeds periods (needs_of n)) }
+    ensures value { Gives needs_of result
+        (needs periods (keys c.now.at (member_views c.now.members.items))) }
+{
+    let demand = read_powers(alloc, c, Field::Demand, periods)?;
+    let reserves = read_powers(alloc, c, Field::Reserves, periods)?;
+    Ok(Needs { demand, reserves })
+}
+
+/// Whether there is neither a thermal nor a renewable unit.
+fn lacks_units(units: &Units) -> bool
+    ensures { result ≡ no_unit (units_of units.now) }
+{
+    units.thermal.len() == 0 && units.flat.len() == 0
+}
+
+/// The case of these parts.
+fn case_of_parts(periods: u32, needs: Needs, units: Units) -> Case
+    requires some { 1 ≤ periods }
+    requires horizon { periods ≤ MOST_PERIODS }
+    requires needs { AreNeeds periods (needs_of needs) }
+    requires units { AreAllUnits periods (units_of units) }
+    requires some_unit { no_unit (units_of units) ≡ false }
+    ensures { market_of result ≡ joined_case periods (needs_of needs) (units_of units) }
+{
+    Case {
+        periods,
+        demand: needs.demand,
+        reserves: needs.reserves,
+        thermal: units.thermal,
+        flat: units.flat,
+        bids: units.bids,
+    }
+}
+
+#[tactic(auto, unfolding(crate::specs::Cases::keyed_case))]
+fn read_keyed_case(alloc: Global, c: &Keys) -> Result<Case, FieldStop>
+    requires { c.now.at ≡ whole }
+    ensures { Gives market_of result
+        (keyed_case (keys c.now.at (member_views c.now.members.items))) }
+{
+    let periods = read_horizon(c)?;
+    let needs = read_needs(alloc, c, periods)?;
+    let units = read_all_units(alloc, c, periods)?;
+    if lacks_units(&units) {
         return Err(
             c.at.field(Field::RenewableGenerators)
                 .stop(CaseCode::NoUnits),
         );
     }
-    Ok(Case {
-        periods,
-        demand,
-        reserves,
-        thermal,
-        flat,
-        bids,
-    })
+    Ok(case_of_parts(periods, needs, units))
 }
 
 /// The case of a tree's root, or the fault of the first test that fails.
@@ -120,11 +173,5 @@ pub fn case_of_tree(alloc: Global, root: Branch<'_>) -> Result<Case, FieldStop>
         at,
         members: members_of(alloc, at, root)?,
     };
-    let periods = c.time(Field::TimePeriods, PERIODS)?;
-    if periods == 0 {
-        return Err(at.field(Field::TimePeriods).stop(CaseCode::NoPeriods));
-    }
-    let demand = read_powers(alloc, &c, Field::Demand, periods)?;
-    let reserves = read_powers(alloc, &c, Field::Reserves, periods)?;
-    read_with_units(alloc, &c, periods, demand, reserves)
+    read_keyed_case(alloc, &c)
 }

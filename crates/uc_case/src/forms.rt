@@ -1,12 +1,12 @@
 //! The forms of fields: each reads one value, and its faults are at the site.
-ghost use Rattle.std.specs.Prelude.{◌≡◌, ◌≤◌, ◌^◌, IfOk, pos};
+ghost use Rattle.std.specs.Prelude.{◌≡◌, ◌≤◌, ◌^◌, IfOk, length, pos};
 ghost use Rattle.plain_lists.specs.Ranges.{IsFrom};
 ghost use Rattle.uc_model.specs.Limits.{IsCost};
 ghost use Rattle.uc_model.specs.declared.limits.TheConstants.{MOST_TIME};
 ghost use Rattle.text_tree.specs.View.{view, items_in, members_in, member_views};
 ghost use Rattle.uc_file.specs.Given.{Gives};
 ghost use Rattle.uc_case.specs.Sites.{fault};
-ghost use Rattle.uc_case.specs.Forms.{decimal, list, object, amount, power, cost};
+ghost use Rattle.uc_case.specs.Forms.{decimal, list, full, object, amount, power, cost};
 ghost use Rattle.uc_case.specs.Forms.{time_within, flag, under, part};
 ghost use Rattle.uc_file.specs.declared.stop.Stop.TheVariants as stops;
 
@@ -58,6 +58,20 @@ pub fn object_of(at: Site, branch: Branch<'_>) -> Result<ObjectBranch<'_>, Field
         Some(object) => Ok(object),
         None => Err(at.stop(CaseCode::WrongKind)),
     }
+}
+
+/// The list of an item for each period that a value is; `WrongKind` where it is none, and
+/// `WrongLength` where it has more items or fewer. It takes no memory.
+#[tactic(auto, unfolding(crate::specs::Forms::full))]
+pub fn full_list(at: Site, branch: Branch<'_>, periods: u32) -> Result<ListBranch<'_>, FieldStop>
+    ensures count { IfOk result (λ l. length (items_in l) ≡ periods) }
+    ensures value { Gives items_in result (full periods at (view branch.entry)) }
+{
+    let list = list_of(at, branch)?;
+    if list.len() != periods as usize {
+        return Err(at.stop(CaseCode::WrongLength));
+    }
+    Ok(list)
 }
 
 /// The members of an object, in file order; `WrongKind` where the value is none.

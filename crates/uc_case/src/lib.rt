@@ -6,6 +6,7 @@ mod bids;
 mod cases;
 pub mod fault;
 mod forms;
+mod items;
 mod keys;
 pub mod laws;
 mod limits;

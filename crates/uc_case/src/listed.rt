@@ -1,5 +1,5 @@
 //! The units or bids of a kind, which an object lists by name.
-ghost use Rattle.std.specs.Prelude.{◌≡◌, ◌≤◌, ℕ, IfOk, length, map};
+ghost use Rattle.std.specs.Prelude.{◌≡◌, ◌≤◌, ℕ, [], IfOk, length, map};
 ghost use Rattle.std.specs.List.{All};
 ghost use Rattle.uc_model.specs.Data.{NamedThermalUnit, NamedRenewableUnit, NamedBidUnit};
 ghost use Rattle.uc_model.specs.PlainUnits.{named_thermal_of, named_renewable_of, named_bid_of};
@@ -131,10 +131,35 @@ impl Listed for NamedBid {
     }
 }
 
+/// Adds the units or bids of these members to a list that is empty and has room for them.
+fn read_into<N: Listed + Drop>(
+    alloc: Global,
+    at: Site,
+    members: &[Member<'_>],
+    periods: u32,
+    list: &mut ReservedList<N>,
+) -> Result<(), FieldStop>
+    requires few { length members.now ≤ MOST_OF_A_KIND }
+    requires some { 1 ≤ periods }
+    requires horizon { periods ≤ MOST_PERIODS }
+    requires empty { list.old.items ≡ [] }
+    requires room { length members.now ≤ list.old.spare }
+    ensures count { IfOk result (λ _. length list.new.items ≡ length members.now) }
+    ensures fits { IfOk result (λ _. All (λ n. N.Keeps periods n) (map N.plain_of list.new.items)) }
+    ensures value { Gives (λ _. map N.plain_of list.new.items) result
+        (each_member at.field at.kind (N.reading periods) (member_views members.now)) }
+{
+    for member in members {
+        let site = unit_site(at.field, at.kind, list.len() as u32 + 1);
+        let unit = N::read(alloc, site, member, periods)?;
+        list.push(unit);
+    }
+    Ok(())
+}
+
 fn read_members<N: Listed + Drop>(
     alloc: Global,
-    field: Field,
-    kind: Kind,
+    at: Site,
     members: &[Member<'_>],
     periods: u32,
 ) -> Result<ReservedList<N>, FieldStop>
@@ -144,14 +169,10 @@ fn read_members<N: Listed + Drop>(
     ensures count { IfOk result (λ l. length l.items ≡ length members.now) }
     ensures fits { IfOk result (λ l. All (λ n. N.Keeps periods n) (map N.plain_of l.items)) }
     ensures value { Gives (λ l. map N.plain_of l.items) result
-        (each_member field kind (N.reading periods) (member_views members.now)) }
+        (each_member at.field at.kind (N.reading periods) (member_views members.now)) }
 {
     let mut list: ReservedList<N> = ReservedList::make(alloc, members.len() as u32)?;
-    for member in members {
-        let at = unit_site(field, kind, list.len() as u32 + 1);
-        let unit = N::read(alloc, at, member, periods)?;
-        list.push(unit);
-    }
+    read_into(alloc, at, members, periods, &mut list)?;
     Ok(list)
 }
 
@@ -177,5 +198,5 @@ pub fn read_units<N: Listed + Drop>(
         return Err(at.stop(CaseCode::TooLarge));
     }
     let members = object.members(alloc)?;
-    read_members(alloc, at.field, kind, &members, periods)
+    read_members(alloc, Site { kind, ..at }, &members, periods)
 }

@@ -1,4 +1,7 @@
-//! Groups of keys of a thermal unit.
+//! Groups of keys of a thermal unit and of the case.
+
+use plain_lists::lists::Numbers;
+use uc_model::units::{BidList, FlatList, Lags, Marks, Points, ThermalList};
 
 /// Whether the unit must run, and its least and greatest power.
 #[derive(Clone, Copy)]
@@ -39,4 +42,35 @@ pub struct Past {
     pub up: u32,
     /// How many periods it had been off, where it was off.
     pub down: u32,
+}
+
+/// The lists of a thermal unit.
+#[derive(Drop)]
+pub struct Lists {
+    /// What a start costs, by the time down before it.
+    pub lags: Lags,
+    /// What a power costs in a period.
+    pub points: Points,
+    /// One mark for each period.
+    pub window: Marks,
+}
+
+/// What each period of a case wants, in kilowatts.
+#[derive(Drop)]
+pub struct Needs {
+    /// The demand.
+    pub demand: Numbers,
+    /// The required reserve.
+    pub reserves: Numbers,
+}
+
+/// The units and bids of a case.
+#[derive(Drop)]
+pub struct Units {
+    /// The thermal units.
+    pub thermal: ThermalList,
+    /// The renewable units.
+    pub flat: FlatList,
+    /// The demand bids.
+    pub bids: BidList,
 }

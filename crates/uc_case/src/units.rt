@@ -5,17 +5,18 @@ ghost use Rattle.uc_model.specs.Limits.{IsThermalUnit, IsRenewableUnit};
 ghost use Rattle.uc_model.specs.declared.limits.TheConstants.{MOST_PERIODS};
 ghost use Rattle.text_tree.specs.View.{view, member_views};
 ghost use Rattle.uc_file.specs.Given.{Gives};
-ghost use Rattle.uc_case.specs.Kept.{IsRange, AreRamps, IsPast};
+ghost use Rattle.uc_case.specs.Kept.{IsRange, AreRamps, IsPast, AreUnitLists};
+ghost use Rattle.uc_case.specs.Parts.{lists_of};
 ghost use Rattle.uc_case.specs.Forms.{keys};
-ghost use Rattle.uc_case.specs.Tables.{thermal_unit, renewable_unit, first_crossed, at_least_one};
-ghost use Rattle.uc_case.specs.Tables.{output, ramps, past};
+ghost use Rattle.uc_case.specs.Tables.{thermal_unit, renewable_unit, keyed_renewable, first_crossed};
+ghost use Rattle.uc_case.specs.Tables.{output, ramps, past, unit_lists, keyed_unit, joined_unit, at_least_one};
 
 use crate::fault::{CaseCode, Field, Site};
 use crate::forms::{FieldStop, members_of};
 use crate::keys::Keys;
 use crate::limits::{OUTPUT, POWER, TIME};
 use crate::lists::{read_piecewise, read_powers, read_startup};
-use crate::parts::{Output, Past, Ramps};
+use crate::parts::{Lists, Output, Past, Ramps};
 use crate::windows::read_commitment;
 use std::alloc::Global;
 use text_tree::Branch;
@@ -89,6 +90,70 @@ fn read_past(u: &Keys) -> Result<Past, FieldStop>
     })
 }
 
+#[tactic(auto, unfolding(crate::specs::Tables::unit_lists))]
+fn read_lists(alloc: Global, u: &Keys, output: Output, periods: u32) -> Result<Lists, FieldStop>
+    requires { periods ≤ MOST_PERIODS }
+    ensures fits { IfOk result (λ l. AreUnitLists output periods (lists_of l)) }
+    ensures value { Gives lists_of result
+        (unit_lists periods output (keys u.now.at (member_views u.now.members.items))) }
+{
+    let lags = read_startup(alloc, u)?;
+    let points = read_piecewise(alloc, u, output.least, output.most)?;
+    let window = read_commitment(alloc, u, periods)?;
+    Ok(Lists {
+        lags,
+        points,
+        window,
+    })
+}
+
+/// The thermal unit of these parts.
+fn unit_of_parts(output: Output, ramps: Ramps, past: Past, lists: Lists, periods: u32) -> Unit
+    requires some { 1 ≤ periods }
+    requires horizon { periods ≤ MOST_PERIODS }
+    requires range { IsRange output }
+    requires ramps { AreRamps ramps }
+    requires past { IsPast past }
+    requires lists { AreUnitLists output periods (lists_of lists) }
+    ensures fits { IsThermalUnit (thermal_of result) × (length result.window.items ≡ periods) }
+    ensures value { thermal_of result ≡ joined_unit output ramps past (lists_of lists) }
+{
+    Unit {
+        must_run: output.must_run,
+        min_power: output.least,
+        max_power: output.most,
+        ramp_up: ramps.up,
+        ramp_down: ramps.down,
+        start_limit: ramps.start,
+        stop_limit: ramps.stop,
+        min_up: past.min_up,
+        min_down: past.min_down,
+        power0: past.power,
+        on0: past.on,
+        up0: past.up,
+        down0: past.down,
+        lags: lists.lags,
+        points: lists.points,
+        window: lists.window,
+    }
+}
+
+#[tactic(auto, unfolding(crate::specs::Tables::keyed_unit))]
+fn read_keyed_unit(alloc: Global, u: &Keys, periods: u32) -> Result<Unit, FieldStop>
+    requires some { 1 ≤ periods }
+    requires horizon { periods ≤ MOST_PERIODS }
+    ensures fits { IfOk result (λ u. IsThermalUnit (thermal_of u)
+        × (length u.window.items ≡ periods)) }
+    ensures value { Gives thermal_of result
+        (keyed_unit periods (keys u.now.at (member_views u.now.members.items))) }
+{
+    let output = read_output(u)?;
+    let ramps = read_ramps(u)?;
+    let past = read_past(u)?;
+    let lists = read_lists(alloc, u, output, periods)?;
+    Ok(unit_of_parts(output, ramps, past, lists, periods))
+}
+
 /// A thermal unit, or the first of its faults in the order of its fields.
 #[tactic(auto, unfolding(crate::specs::Tables::thermal_unit))]
 pub fn read_unit(
@@ -107,30 +172,7 @@ pub fn read_unit(
         at,
         members: members_of(alloc, at, branch)?,
     };
-    let output = read_output(&u)?;
-    let ramps = read_ramps(&u)?;
-    let past = read_past(&u)?;
-    let lags = read_startup(alloc, &u)?;
-    let points = read_piecewise(alloc, &u, output.least, output.most)?;
-    let window = read_commitment(alloc, &u, periods)?;
-    Ok(Unit {
-        must_run: output.must_run,
-        min_power: output.least,
-        max_power: output.most,
-        ramp_up: ramps.up,
-        ramp_down: ramps.down,
-        start_limit: ramps.start,
-        stop_limit: ramps.stop,
-        min_up: past.min_up,
-        min_down: past.min_down,
-        power0: past.power,
-        on0: past.on,
-        up0: past.up,
-        down0: past.down,
-        lags,
-        points,
-        window,
-    })
+    read_keyed_unit(alloc, &u, periods)
 }
 
 /// The position of the first least power above its greatest, or 0.
@@ -148,6 +190,28 @@ fn first_crossing(least: &[i64], most: &[i64]) -> u32
         }
     }
     0
+}
+
+#[tactic(auto, unfolding(crate::specs::Tables::keyed_renewable))]
+fn read_keyed_renewable(alloc: Global, u: &Keys, periods: u32) -> Result<Renewable, FieldStop>
+    requires some { 1 ≤ periods }
+    requires horizon { periods ≤ MOST_PERIODS }
+    ensures fits { IfOk result (λ r. IsRenewableUnit (renewable_of r)
+        × (length r.least.items ≡ periods)) }
+    ensures value { Gives renewable_of result
+        (keyed_renewable periods (keys u.now.at (member_views u.now.members.items))) }
+{
+    let least = read_powers(alloc, u, Field::PowerOutputMinimum, periods)?;
+    let most = read_powers(alloc, u, Field::PowerOutputMaximum, periods)?;
+    let crossed = first_crossing(least.as_slice(), most.as_slice());
+    if crossed > 0 {
+        return Err(
+            u.at.field(Field::PowerOutputMinimum)
+                .item(crossed)
+                .stop(CaseCode::RangeOrder),
+        );
+    }
+    Ok(Renewable { least, most })
 }
 
 /// A renewable unit, or the first of its faults in the order of its fields; then `RangeOrder` at
@@ -169,15 +233,5 @@ pub fn read_renewable(
         at,
         members: members_of(alloc, at, branch)?,
     };
-    let least = read_powers(alloc, &u, Field::PowerOutputMinimum, periods)?;
-    let most = read_powers(alloc, &u, Field::PowerOutputMaximum, periods)?;
-    let crossed = first_crossing(least.as_slice(), most.as_slice());
-    if crossed > 0 {
-        return Err(
-            at.field(Field::PowerOutputMinimum)
-                .item(crossed)
-                .stop(CaseCode::RangeOrder),
-        );
-    }
-    Ok(Renewable { least, most })
+    read_keyed_renewable(alloc, &u, periods)
 }

@@ -1,17 +1,18 @@
 //! The commitment window of a unit.
-ghost use Rattle.std.specs.Prelude.{◌≡◌, ◌≤◌, [], length, IfOk};
-ghost use Rattle.uc_model.specs.declared.limits.TheConstants.{MOST_OF_A_KIND, MOST_PERIODS};
+ghost use Rattle.std.specs.Prelude.{◌≡◌, ◌≤◌, length, IfOk};
+ghost use Rattle.uc_model.specs.declared.limits.TheConstants.{MOST_PERIODS};
 ghost use Rattle.uc_text.specs.Values.{scalar, number as number_spec};
-ghost use Rattle.text_tree.specs.View.{view, views, member_views};
+ghost use Rattle.text_tree.specs.View.{view, items_in, member_views};
 ghost use Rattle.uc_file.specs.Given.{Gives};
-ghost use Rattle.uc_case.specs.Forms.{keys, key_or_none, items};
-ghost use Rattle.uc_case.specs.Tables.{mark, mark_in, commitment};
+ghost use Rattle.uc_case.specs.Forms.{keys, key_or_none, at_item};
+ghost use Rattle.uc_case.specs.Tables.{mark, mark_in, window_items, window, commitment};
 
 use crate::fault::{CaseCode, Field, Site};
 use crate::forms::FieldStop;
+use crate::items::{Item, read_items};
 use crate::keys::Keys;
 use std::alloc::Global;
-use text_tree::Branch;
+use text_tree::{Branch, ListBranch};
 use uc_file::inside::bit;
 use uc_model::units::{Mark, Marks};
 use uc_num::Decimal;
@@ -36,27 +37,52 @@ fn mark_of(branch: Branch<'_>) -> Option<Mark>
     mark_set(branch.number()?)
 }
 
-fn read_mark(at: Site, branch: Branch<'_>) -> Result<Mark, FieldStop>
-    ensures { Gives (λ m. m) result (mark at [] (view branch.entry)) }
-{
-    match mark_of(branch) {
-        Some(mark) => Ok(mark),
-        None => Err(at.stop(CaseCode::WindowShape)),
+impl Item for Mark {
+    ghost reading = { at_item mark };
+
+    ghost Keeps = { λ _. Unit {0} };
+
+    fn read(
+        _alloc: Global,
+        at: Site,
+        before: &[Mark],
+        branch: Branch<'_>,
+    ) -> Result<Mark, FieldStop> {
+        match mark_of(branch) {
+            Some(mark) => Ok(mark),
+            None => Err(at.item(before.len() as u32 + 1).stop(CaseCode::WindowShape)),
+        }
     }
 }
 
-fn read_marks(alloc: Global, at: Site, branches: &[Branch<'_>]) -> Result<Marks, FieldStop>
-    requires { length branches.now ≤ MOST_OF_A_KIND }
-    ensures count { IfOk result (λ ms. length ms.items ≡ length branches.now) }
-    ensures value { Gives (λ ms. ms.items) result (items mark at (views branches.now)) }
+/// The list of a window; `WindowShape` where the value is no list of an item for each period.
+#[tactic(auto, unfolding(crate::specs::Tables::window_items))]
+fn window_list(at: Site, branch: Branch<'_>, periods: u32) -> Result<ListBranch<'_>, FieldStop>
+    ensures count { IfOk result (λ l. length (items_in l) ≡ periods) }
+    ensures value { Gives items_in result (window_items periods at (view branch.entry)) }
 {
-    let mut marks = Marks::make(alloc, branches.len() as u32)?;
-    for branch in branches {
-        let site = at.item(marks.len() as u32 + 1);
-        let mark = read_mark(site, *branch)?;
-        marks.push(mark);
+    let Some(list) = branch.list() else {
+        return Err(at.stop(CaseCode::WindowShape));
+    };
+    if list.len() != periods as usize {
+        return Err(at.stop(CaseCode::WindowShape));
     }
-    Ok(marks)
+    Ok(list)
+}
+
+#[tactic(auto, unfolding(crate::specs::Tables::window))]
+fn read_window(
+    alloc: Global,
+    at: Site,
+    branch: Branch<'_>,
+    periods: u32,
+) -> Result<Marks, FieldStop>
+    requires { periods ≤ MOST_PERIODS }
+    ensures count { IfOk result (λ ms. length ms.items ≡ periods) }
+    ensures value { Gives (λ ms. ms.items) result (window periods at (view branch.entry)) }
+{
+    let list = window_list(at, branch, periods)?;
+    read_items::<Mark>(alloc, at, list)
 }
 
 /// The commitment window of a unit, a mark for each period, and all of them free where it has none.
@@ -69,16 +95,8 @@ pub fn read_commitment(alloc: Global, u: &Keys, periods: u32) -> Result<Marks, F
         (key_or_none (keys u.now.at (member_views u.now.members.items)) Field.Commitment
         (commitment periods)) }
 {
-    let at = u.at.field(Field::Commitment);
-    let Some(branch) = u.find(Field::Commitment) else {
-        return Ok(Marks::filled(alloc, periods, Mark::Free)?);
-    };
-    let Some(list) = branch.list() else {
-        return Err(at.stop(CaseCode::WindowShape));
-    };
-    if list.len() != periods as usize {
-        return Err(at.stop(CaseCode::WindowShape));
+    match u.find(Field::Commitment) {
+        Some(branch) => read_window(alloc, u.at.field(Field::Commitment), branch, periods),
+        None => Ok(Marks::filled(alloc, periods, Mark::Free)?),
     }
-    let branches = list.items(alloc)?;
-    read_marks(alloc, at, &branches)
 }

@@ -1,5 +1,4 @@
-use Rattle.uc_case.proofs.Common.{arith, w64, rules, FitsSigned, to_z-of_z, view}
-use Rattle.text_tree.specs.View.{items_in as values_in}
+use Rattle.uc_case.proofs.Common.{w64, rules, FitsSigned, to_z-of_z, view}
 use Rattle.uc_case.proofs.Lemmas.{period_read, period_refused}
 use Rattle.uc_case.proofs.bids.read_period.Goals as goal
 
@@ -8,16 +7,12 @@ returns-then-total_width-gt-POWER_LIMIT-clause-value c =
     let fits : FitsSigned w64 c.total_width.result = search rules in
     let sum = rw (c.as_slice.ensures) at c.total_width.ensures in
     let wide = rw (to_z-of_z w64 c.total_width.result fits) at c.if-total_width-gt-POWER_LIMIT.true in
-    rw c.stop-then-total_width-gt-POWER_LIMIT.ensures
-    (period_refused c.args.at (view c.args.branch) (values_in c.in_ok-list.list) _ c.in_ok-list.ensures
-    (omega (arith, c.if-len-gt-BLOCKS.false))
-    (rw (c.deref.ensures.value, c.in_ok-branches.ensures) at c.in_ok-blocks.ensures.value) (rw (← sum) wide))
+    rw c.stop.ensures
+    (period_refused c.args.at (view c.args.branch) _ c.in_ok-blocks.ensures.value (rw (← sum) wide))
 
 pub returns-clause-value : goal.returns-clause-value
 returns-clause-value c =
     let fits : FitsSigned w64 c.total_width.result = search rules in
     let sum = rw (c.as_slice.ensures) at c.total_width.ensures in
     let narrow = rw (to_z-of_z w64 c.total_width.result fits) at c.if-total_width-gt-POWER_LIMIT.false in
-    period_read c.args.at (view c.args.branch) (values_in c.in_ok-list.list) _ c.in_ok-list.ensures
-    (omega (arith, c.if-len-gt-BLOCKS.false))
-    (rw (c.deref.ensures.value, c.in_ok-branches.ensures) at c.in_ok-blocks.ensures.value) (rw (← sum) narrow)
+    period_read c.args.at (view c.args.branch) _ c.in_ok-blocks.ensures.value (rw (← sum) narrow)

@@ -1,11 +1,11 @@
 use Rattle.uc_case.proofs.Common.{map, arith, map_push, err_from_is_err_and, IsBlockList, items_in, view, views}
 use Rattle.uc_case.proofs.Common.{item_at, position, items, period_blocks, counted, is_done, All-push}
 use Rattle.uc_case.proofs.Lemmas.{period_goes_on, period_ends}
-use Rattle.uc_case.proofs.bids.read_periods.Goals as goal
+use Rattle.uc_case.proofs.bids.read_into.Goals as goal
 
 pub returns-in_err-blocks-clause-value : goal.returns-in_err-blocks-clause-value
 returns-in_err-blocks-clause-value c =
-    let p = err_from_is_err_and c.from_residual-in_err-blocks.result c.from_residual-in_err-blocks.ensures.1 in
+    let p = err_from_is_err_and c.from_residual.result c.from_residual.ensures.1 in
     rw (p.1, p.2) (period_ends c.in_err-blocks.field-0.0 c.args.at c.item-site.result c.args.branches.now
     c.loop-branch.branch-index c.branch-item.result c.loop-branch.lists.items c.len.result
     (items period_blocks c.args.at (views c.args.branches.now)) c.loop-branch-test.true c.branch-item.is

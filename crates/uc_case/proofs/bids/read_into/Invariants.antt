@@ -1,6 +1,6 @@
 use Rattle.uc_case.proofs.Common.{◌≡◌, ◌+◌, ◌≤◌, length, drop, map, All, IsBlockList, items_in, views, item_at, each}
 use Rattle.uc_case.proofs.Common.{position, items, period_blocks}
-use Rattle.uc_case.proofs.bids.read_periods.Given as goal
+use Rattle.uc_case.proofs.bids.read_into.Given as goal
 
 abbrev pub invariant-loop-branch : goal.invariant-loop-branch
 invariant-loop-branch l = record {

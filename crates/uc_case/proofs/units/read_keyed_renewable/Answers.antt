@@ -1,6 +1,6 @@
 use Rattle.uc_case.proofs.Common.{◌≡◌, first_crossed}
 use Rattle.uc_case.proofs.Lemmas.{renewable_fits}
-use Rattle.uc_case.proofs.units.read_renewable.Goals as goal
+use Rattle.uc_case.proofs.units.read_keyed_renewable.Goals as goal
 
 pub invariant_of-result : goal.invariant_of-result
 invariant_of-result c =
