@@ -15,18 +15,17 @@ ghost use Rattle.uc_mixture.specs.Views.{names_of};
 
 use crate::entries::{Frame, read_unit};
 use crate::fault::{ShareCode, ShareSite, ShareStop};
-use indexmap::IndexMap;
 use mixture_bound::{Entries, EntryLists};
 use std::alloc::Global;
 use text_tree::{Branch, ObjectBranch};
 use uc_model::units::NamedUnit;
 use uc_plan::fault::ShapeCode;
-use uc_plan::lookup::values_of;
+use uc_plan::lookup::{Values, values_of};
 
 #[tactic(auto, unfolding(crate::specs::Tables::named))]
 fn read_named(
     alloc: Global,
-    values: &IndexMap<String, Branch<'_>>,
+    values: &Values<'_>,
     at: ShareSite,
     name: &str,
     frame: Frame,
@@ -34,10 +33,10 @@ fn read_named(
     requires { IsFrame frame }
     ensures fits { IfOk result (λ l. AreEntries frame.periods frame.whole (entries_of l)) }
     ensures value { (ms : List Pair)
-        → ((q : List ℕ) → option_map view (get_by_text values.now q) ≡ value_of q ms)
+        → ((q : List ℕ) → option_map view (get_by_text values.now.by_key q) ≡ value_of q ms)
         → Gives entries_of result (named frame ms at name.now) }
 {
-    match values.get(name) {
+    match values.by_key.get(name) {
         Some(branch) => read_unit(alloc, at, frame, *branch),
         None => Err(at.stop(ShareCode::Shape(ShapeCode::MissingUnit))),
     }

@@ -13,33 +13,56 @@ use std::alloc::{AllocError, Global};
 use text_tokens::text_of;
 use text_tree::{Branch, Member, ObjectBranch};
 
+/// The values of an object.
+pub struct Values<'a> {
+    /// Each under its key: of two with one key the first.
+    pub by_key: IndexMap<String, Branch<'a>>,
+}
+
+// Written out, so that a drop of it is a call, and not one for each part of the map.
+impl Drop for Values<'_> {
+    fn drop(self) {
+        let Values { by_key: _ } = self;
+    }
+}
+
+/// The names of units.
+struct Names<'a> {
+    set: IndexSet<&'a str>,
+}
+
+// Written out, so that a drop of it is a call, and not one for each part of the set.
+impl Drop for Names<'_> {
+    fn drop(self) {
+        let Names { set: _ } = self;
+    }
+}
+
 /// The members of an object by their keys. It is filled from the last member on, so that the first
 /// of equal keys stays.
-fn by_key<'a>(
-    alloc: Global,
-    members: &[Member<'a>],
-) -> Result<IndexMap<String, Branch<'a>>, AllocError>
-    ensures { IfOk result (λ m. (q : List ℕ)
-        → option_map view (get_by_text m q) ≡ value_of q (member_views members.now)) }
+fn by_key<'a>(alloc: Global, members: &[Member<'a>]) -> Result<Values<'a>, AllocError>
+    ensures { IfOk result (λ v. (q : List ℕ)
+        → option_map view (get_by_text v.by_key q) ≡ value_of q (member_views members.now)) }
 {
-    let mut values = IndexMap::with_capacity(alloc, members.len())?;
+    let by_key = IndexMap::with_capacity(alloc, members.len())?;
+    let mut values = Values { by_key };
     for done in 0..members.len() {
         let member = members[members.len() - 1 - done];
         let name = text_of(alloc, member.name)?;
-        values.insert(name, member.value)?;
+        values.by_key.insert(name, member.value)?;
     }
     Ok(values)
 }
 
-/// The names of units.
-fn names_of<'a, N: Named>(alloc: Global, units: &'a [N]) -> Result<IndexSet<&'a str>, AllocError>
+fn names_of<'a, N: Named>(alloc: Global, units: &'a [N]) -> Result<Names<'a>, AllocError>
     ensures { IfOk result (λ s. (q : List ℕ)
-        → contains_by (λ k. bytes_eq q k.now) s ≡ is_among q (map N.name_of units.now)) }
+        → contains_by (λ k. bytes_eq q k.now) s.set ≡ is_among q (map N.name_of units.now)) }
 {
-    let mut names = IndexSet::with_capacity(alloc, units.len())?;
+    let set = IndexSet::with_capacity(alloc, units.len())?;
+    let mut names = Names { set };
     for done in 0..units.len() {
         let unit = &units[units.len() - 1 - done];
-        names.insert(unit.name())?;
+        names.set.insert(unit.name())?;
     }
     Ok(names)
 }
@@ -47,18 +70,18 @@ fn names_of<'a, N: Named>(alloc: Global, units: &'a [N]) -> Result<IndexSet<&'a 
 /// The position of the first member whose key isn't one of the names, or 0.
 fn first_stranger(
     alloc: Global,
-    names: &IndexSet<&str>,
+    names: &Names<'_>,
     known: &[Member<'_>],
 ) -> Result<usize, AllocError>
     ensures { IfOk result (λ k. (ns : List (List ℕ))
-        → ((q : List ℕ) → contains_by (λ k. bytes_eq q k.now) names.now ≡ is_among q ns)
+        → ((q : List ℕ) → contains_by (λ k. bytes_eq q k.now) names.now.set ≡ is_among q ns)
         → k ≡ first_unknown ns 1 (member_views known.now)) }
 {
     let mut position = 0;
     for member in known {
         position += 1;
         let name = text_of(alloc, member.name)?;
-        if !names.contains(name.as_str()) {
+        if !names.set.contains(name.as_str()) {
             return Ok(position);
         }
     }
@@ -79,13 +102,10 @@ pub fn stranger_in<N: Named>(
     first_stranger(alloc, &names, &members)
 }
 
-/// The values of an object by key: of two with one key the first.
-pub fn values_of<'a>(
-    alloc: Global,
-    object: ObjectBranch<'a>,
-) -> Result<IndexMap<String, Branch<'a>>, AllocError>
-    ensures { IfOk result (λ m. (q : List ℕ)
-        → option_map view (get_by_text m q) ≡ value_of q (members_in object.entry)) }
+/// The values of an object.
+pub fn values_of<'a>(alloc: Global, object: ObjectBranch<'a>) -> Result<Values<'a>, AllocError>
+    ensures { IfOk result (λ v. (q : List ℕ)
+        → option_map view (get_by_text v.by_key q) ≡ value_of q (members_in object.entry)) }
 {
     let members = object.members(alloc)?;
     by_key(alloc, &members)

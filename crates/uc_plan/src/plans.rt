@@ -16,11 +16,10 @@ ghost use Rattle.uc_plan.specs.Plans.{all_schedules, plan_of};
 ghost use Rattle.uc_plan.specs.Views.{groups_of};
 
 use crate::fault::{ShapeCode, ShapeSite, ShapeStop};
-use crate::lookup::{stranger_in, values_of};
+use crate::lookup::{Values, stranger_in, values_of};
 use crate::named::Named;
 use crate::shapes::{Groups, read_groups};
 use crate::units::read_schedule;
-use indexmap::IndexMap;
 use std::alloc::Global;
 use text_tree::{Branch, ObjectBranch};
 use uc_file::stop::Stop;
@@ -54,7 +53,7 @@ pub fn check_names<N: Named>(
 #[tactic(auto, unfolding(crate::specs::Plans::named))]
 fn read_named(
     alloc: Global,
-    values: &IndexMap<String, Branch<'_>>,
+    values: &Values<'_>,
     at: ShapeSite,
     name: &str,
     periods: u32,
@@ -62,10 +61,10 @@ fn read_named(
     requires { periods ≤ MOST_PERIODS }
     ensures shape { IfOk result (λ r. IsShaped at.kind periods (schedule_of r)) }
     ensures value { (ms : List Pair)
-        → ((q : List ℕ) → option_map view (get_by_text values.now q) ≡ value_of q ms)
+        → ((q : List ℕ) → option_map view (get_by_text values.now.by_key q) ≡ value_of q ms)
         → Gives schedule_of result (named periods ms at name.now) }
 {
-    match values.get(name) {
+    match values.by_key.get(name) {
         Some(branch) => read_schedule(alloc, at, *branch, periods),
         None => Err(at.stop(0, ShapeCode::MissingUnit)),
     }

@@ -3,5 +3,5 @@ use Rattle.indexmap.specs.IndexMap.{get_by_text}
 use Rattle.uc_plan.proofs.lookup.by_key.Given as goal
 
 abbrev pub invariant-loop-done : goal.invariant-loop-done
-invariant-loop-done l = (q : List ℕ) →
-    option_map view (get_by_text l.values q) ≡ value_of q (member_views (drop (length l.members - l.done) l.members))
+invariant-loop-done l = (q : List ℕ) → option_map view (get_by_text l.values.by_key q) ≡ value_of q
+    (member_views (drop (length l.members - l.done) l.members))

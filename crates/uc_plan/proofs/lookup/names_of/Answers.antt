@@ -3,7 +3,7 @@ use Rattle.uc_plan.proofs.Lemmas.{no_name, put_name}
 use Rattle.uc_plan.proofs.lookup.names_of.Goals as goal
 
 pub loop-done-init : goal.loop-done-init
-loop-done-init g c = λ q. rw (no_name g.N.Named.name_of q c.args.units.now, c.in_ok-names.ensures.empty) (search rules)
+loop-done-init g c = λ q. rw (no_name g.N.Named.name_of q c.args.units.now, c.in_ok-set.ensures.empty) (search rules)
 
 -- a name at any address
 abbrev key : List ℕ → Bor (List ℕ)
