@@ -6,7 +6,5 @@ pub mod Fits
 pub mod Answered
 -- entries.rt: the prices of a list, read one after the other as a loop does
 pub mod Loops
--- laws.rt: what is read of a value, in plain words
-pub mod PlainLaws
 -- laws.rt: what the prices of a file keep
 pub mod FormLaws

@@ -8,15 +8,9 @@ use Rattle.uc_text.specs.Texts.{IsText}
 use Rattle.uc_file.specs.Files.{FileFault}
 use Rattle.uc_file.specs.Inside.{object_in, value_of}
 use Rattle.uc_prices.specs.Kept.{IsPriceOf}
-use Rattle.uc_prices.specs.Plain.{IsReadAs}
 use Rattle.uc_prices.specs.PricesFiles.{IsPricesOf}
-use Rattle.uc_prices.specs.Tables.{prices_in}
 use Rattle.uc_prices.specs.declared.fault.PriceFault.{PriceFault}
 use Rattle.uc_prices.specs.declared.fault.PriceField.TheVariants.{Energy, Reserve}
-
-abbrev pub SomePrices : Type 0
-SomePrices = (periods : ℕ) (bytes : List ℕ)
-    → (r : Result PriceLists (FileFault PriceFault)) × IsPricesOf periods bytes r
 
 abbrev pub OnePrices : Type 0
 OnePrices = (periods : ℕ) (bytes : List ℕ) (r s : Result PriceLists (FileFault PriceFault))
@@ -40,7 +34,3 @@ pub record HaveForm (periods : ℕ) (bytes : List ℕ) (π : PriceLists) : Type 
 abbrev pub PricesHaveForm : Type 0
 PricesHaveForm = (periods : ℕ) (bytes : List ℕ) (π : PriceLists) → IsPricesOf periods bytes (Ok π)
     → HaveForm periods bytes π
-
--- the table of a value says what stands in it
-abbrev pub ValuesAreReadAs : Type 0
-ValuesAreReadAs = (periods : ℕ) (v : Value) → IsReadAs periods v (prices_in periods v)

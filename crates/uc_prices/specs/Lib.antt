@@ -2,5 +2,4 @@ pub mod Faults
 pub mod Tables
 pub mod Kept
 pub mod PricesFiles
-pub mod Plain
 pub mod Laws

@@ -1,16 +1,7 @@
 //! Laws over the definitions: each is the contract of a function that does nothing.
-ghost use Rattle.uc_prices.specs.Laws.{SomePrices, OnePrices, PricesHaveForm};
-ghost use Rattle.uc_prices.specs.Laws.{ValuesAreReadAs};
+ghost use Rattle.uc_prices.specs.Laws.{OnePrices, PricesHaveForm};
 
 use uc_file::laws::one_file;
-use uc_num::laws::rounds_to_nearest;
-
-/// Each list of bytes has prices over so many periods or a first fault.
-pub fn prices_or_fault()
-    ensures { SomePrices }
-{
-    one_file();
-}
 
 /// A list of bytes has at most one list of prices over so many periods or at most one first fault.
 pub fn one_prices()
@@ -25,11 +16,4 @@ pub fn prices_have_form()
     ensures { PricesHaveForm }
 {
     one_file();
-}
-
-/// What is read of a value, by the value alone: its prices, or which fault it has, and where.
-pub fn values_are_read_as()
-    ensures { ValuesAreReadAs }
-{
-    rounds_to_nearest();
 }

@@ -1,8 +1,15 @@
 -- What is read of a value, in plain words.
-use Rattle.uc_prices.proofs.Common.{◌≡◌, ℕ, zero, suc, ◌+◌, ◌<◌, ℤ, pos, negsuc, neg_ℤ, Bool, true, false, true≢false}
-use Rattle.uc_prices.proofs.Common.{◌&&◌, List, [], ◌∷◌, ◌++◌, length, Option, Ok, Err, Some, None, refl, sym, ap}
-use Rattle.uc_prices.proofs.Common.{◌∙◌, subst, arith, ints, inl, inr, nat_lt, int_lt, unsigned_abs, ltb-true}
-use Rattle.uc_prices.proofs.Common.{ltb-false, PriceLists, most_price, position, each, item_at, PriceSite}
+use Rattle.std.proofs.Common.{◌≡◌, ℕ, zero, suc, ◌+◌, ◌<◌, Bool, true, false, true≢false, ◌&&◌, List, [], ◌∷◌, ◌++◌}
+use Rattle.std.proofs.Common.{length, Option, Ok, Err, Some, None, refl, sym, ap, ◌∙◌, subst, arith, inl, inr}
+use Rattle.std.proofs.lemmas.Bool.{ltb-true, ltb-false}
+use Rattle.std.proofs.lemmas.Int.{ints}
+use Rattle.std.specs.Prelude.{ℤ, pos, negsuc, neg_ℤ, unsigned_abs, nat_lt, int_lt}
+use Rattle.uc_file.specs.Magnitudes.{most_price}
+use Rattle.uc_file.specs.Words.{position}
+unfoldable use Rattle.uc_file.specs.Words.{each}
+use Rattle.uc_model.specs.Data.{PriceLists}
+use Rattle.uc_prices.specs.Faults.{item_at}
+use Rattle.uc_prices.specs.declared.fault.PriceSite.{PriceSite}
 use Rattle.uc_prices.specs.Tables.{Read, is_reserve, price, prices, list, energy, reserve, prices_in}
 use Rattle.std.proofs.Common.{append_assoc, length-append, ◌<ℤ◌}
 use Rattle.std.proofs.lemmas.Bool.{eqb-true, eq-eqb}
@@ -18,9 +25,9 @@ use Rattle.uc_num.specs.declared.Decimal.{Decimal}
 use Rattle.uc_file.specs.Inside.{number_in, list_in, object_in, value_of}
 use Rattle.uc_file.specs.Words.{◌>>=◌, ◌>>◌, refuse, need}
 use Rattle.uc_prices.specs.Faults.{site, fault}
-use Rattle.uc_prices.specs.Plain.{ReadsAs, IsItem, IsTooLarge, IsItemFault, IsItemAt, IsPriceList, IsListFault}
-use Rattle.uc_prices.specs.Plain.{AreEnergyPrices, AreReservePrices, IsEnergyFault, IsReserveFault, HasFault}
-use Rattle.uc_prices.specs.Plain.{IsReadAs}
+use Rattle.law_files.specs.Plain.{ReadsAs, IsItem, IsTooLarge, IsItemFault, IsItemAt, IsPriceList, IsListFault}
+use Rattle.law_files.specs.Plain.{AreEnergyPrices, AreReservePrices, IsEnergyFault, IsReserveFault, HasFault}
+use Rattle.law_files.specs.Plain.{IsReadAs}
 use Rattle.uc_prices.specs.declared.fault.PriceCode.{PriceCode}
 use Rattle.uc_prices.specs.declared.fault.PriceCode.TheVariants.{WrongKind, Negative, TooLarge, WrongLength}
 use Rattle.uc_prices.specs.declared.fault.PriceField.{PriceField}
