@@ -1,6 +1,6 @@
 -- A weight that passed its tests is within its limits.
-use Rattle.uc_mixture.proofs.Common.{◌≡◌, ◌≤◌, ℕ, ℤ, pos, negsuc, ◌≤ℤ◌, false, true≢false, arith, ints, ltb-false, IsFrom}
-use Rattle.uc_mixture.proofs.Common.{unsigned_abs, nat_lt, int_lt}
+use Rattle.uc_mixture.proofs.Common.{◌≡◌, ◌≤◌, ℕ, ℤ, pos, negsuc, ◌≤ℤ◌, false, true≢false, arith, ints, ltb-false}
+use Rattle.uc_mixture.proofs.Common.{IsFrom, unsigned_abs, nat_lt, int_lt}
 
 pub within : (least most n : ℤ) → pos 0 ≤ℤ least → pos 0 ≤ℤ most → nat_lt (unsigned_abs most) (unsigned_abs n) ≡ false →
     int_lt n least ≡ false → IsFrom least most n
