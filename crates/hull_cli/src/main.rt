@@ -34,8 +34,3 @@ fn main(rt: HostRuntime) -> ExitCode {
         &NoGate,
     ))
 }
-
-#[cfg(test)]
-mod same;
-#[cfg(test)]
-mod tests;

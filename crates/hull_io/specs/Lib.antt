@@ -1,5 +1,1 @@
 pub mod Edge
-pub mod Named
-pub mod OfShelf
-pub mod OfSink
-pub mod OfSure

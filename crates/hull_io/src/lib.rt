@@ -5,16 +5,11 @@ ghost use Rattle.std.specs.Prelude.{◌≡◌, ℕ, ◌+◌, ◌<◌, ◌≤◌,
 ghost use Rattle.std.specs.Prelude.{IfSome, OnErr};
 ghost use Rattle.hull_io.specs.Edge.{Rose, ReadsAt, grown, Writes};
 
-mod copies;
-pub mod memory;
 pub mod read;
 pub mod real;
-pub mod sure;
 
-pub use memory::{File, MemoryShelf, MemorySink};
 pub use read::{ReadFault, read_whole};
 pub use real::{FileShelf, StdSink};
-pub use sure::{SureShelf, SureSink};
 
 /// A read failed.
 #[derive(Debug, Clone, Copy, PartialEq, Eq)]

@@ -1,9 +1,9 @@
 // What no clause says: that calls succeed, and what real files and outputs do.
 use crate::same::{same, same_of};
 use hull_io::{
-    File, FileShelf, MemoryShelf, MemorySink, ReadFailed, ReadFault, Shelf, Sink, StdSink,
-    SureShelf, SureSink, WriteFailed, read_whole, write_whole,
+    FileShelf, ReadFailed, ReadFault, Shelf, Sink, StdSink, WriteFailed, read_whole, write_whole,
 };
+use hull_memory::{File, MemoryShelf, MemorySink, SureShelf, SureSink};
 use plain_lists::limits::MOST_BYTES;
 use std::alloc::{AllocError, Global};
 use std::test::Fail;

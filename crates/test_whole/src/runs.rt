@@ -6,7 +6,7 @@ use crate::same::same;
 use answer_workers::NoGate;
 use board_run::{Run, open_run};
 use hull_engine::finish_run;
-use hull_io::{MemorySink, SureSink};
+use hull_memory::{MemorySink, SureSink};
 use std::alloc::Global;
 use std::sync::Wait;
 use std::test::Fail;

@@ -1,8 +1,8 @@
 //! Workers that answer at once.
 
+use crate::runs::{SHORT, run};
 use crate::same::same;
-use crate::tests::runs::{SHORT, run};
-use crate::tests::texts::{TWO_UNITS, TWO_UNITS_REPORT, TWO_UNITS_SCHEDULE};
+use crate::texts::{TWO_UNITS, TWO_UNITS_REPORT, TWO_UNITS_SCHEDULE};
 use answer_workers::Gate;
 use std::alloc::{AllocError, Global};
 use std::process::Abort;

@@ -1,10 +1,11 @@
 //! A run over memory.
 
 use crate::same::same_of;
-use crate::tests::texts::{Texts, USUAL_PRICES};
+use crate::texts::{Texts, USUAL_PRICES};
 use answer_workers::{Gate, NoGate};
 use hull_engine::hull_run;
-use hull_io::{File, MemoryShelf, MemorySink, ReadFailed, Shelf};
+use hull_io::{ReadFailed, Shelf};
+use hull_memory::{File, MemoryShelf, MemorySink};
 use std::alloc::{AllocError, Global};
 use std::process::Abort;
 use std::sync::Wait;

@@ -1,8 +1,8 @@
 //! Reads that fail.
 
+use crate::runs::{Edges, SHORT, WHOLE, run};
 use crate::same::same_of;
-use crate::tests::runs::{Edges, SHORT, WHOLE, run};
-use crate::tests::texts::{
+use crate::texts::{
     AUDIT, BOUND, CHECK, FIXED, PRICE, RIGHT, TRY_FIRST, TRY_ONE, TWO_PROPOSALS_BOUND,
     TWO_PROPOSALS_FIXED, TWO_UNITS, TWO_UNITS_CHECK, TWO_UNITS_REPORT, TWO_UNITS_REPORTED,
     TWO_UNITS_SCHEDULE,

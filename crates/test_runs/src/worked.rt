@@ -1,7 +1,7 @@
 //! Runs that end as worked by hand, or as other programs do.
 
-use crate::tests::runs::{Run, runs_end};
-use crate::tests::texts::{
+use crate::runs::{Run, runs_end};
+use crate::texts::{
     AUDIT, BOUND, CERTIFY, CERTIFY_NEAR, CHECK, FIXED, NO_UNITS, ONE_BID, ONE_BID_CHECK, PRICE,
     RIGHT, SETTLE, SMALLEST, SMALLEST_REPORT, SMALLEST_SCHEDULE, TRY, TWO_BIDS, TWO_BIDS_REPORT,
     TWO_BIDS_SCHEDULE, TWO_PERIODS, TWO_PROPOSALS, TWO_PROPOSALS_BOUND, TWO_PROPOSALS_FIXED,
