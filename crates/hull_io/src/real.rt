@@ -1,5 +1,6 @@
 // Real files and real output. They tell no bytes: this is the trusted edge.
 ghost use Rattle.std.specs.Prelude.{◌≡◌, ◌≤◌, length, IfOk};
+ghost use Rattle.hull_io.specs.declared.real.TheConstants.{LONGEST};
 
 use crate::{ReadFailed, Shelf, Sink, WriteFailed};
 use std::io::{ErrorKind, Read, Seek, SeekFrom, Write};
@@ -42,35 +43,48 @@ impl<'a, R: Files> FileShelf<'a, R> {
 
     /// Whether the file that was read last goes on with this read.
     fn goes_on(&self, name: &str, offset: u64) -> bool {
-        offset != 0 && offset == self.next && self.path.get(..self.length) == Some(name.as_bytes())
+        let is_next = self.open.is_some() && offset != 0 && offset == self.next;
+        is_next && self.length == name.len() && self.path.starts_with(name.as_bytes())
     }
 
-    /// Keeps a file open for the read that goes on at `next`.
-    fn keep(&mut self, file: R::File, name: &str, next: u64)
+    /// Keeps the path of the open file.
+    fn keep_path(&mut self, name: &[u8])
+        requires { length name.now ≤ LONGEST }
         ensures { self.new.faults ≡ self.old.faults }
     {
-        let name = name.as_bytes();
-        if let Some(path) = self.path.get_mut(..name.len()) {
-            path.copy_from_slice(name);
-            self.length = name.len();
-            self.next = next;
+        self.path[..name.len()].copy_from_slice(name);
+        self.length = name.len();
+    }
+
+    /// Keeps a file open.
+    fn keep(&mut self, file: R::File, name: &str)
+        ensures { self.new.faults ≡ self.old.faults }
+    {
+        if name.len() <= LONGEST {
+            self.keep_path(name.as_bytes());
             self.open = Some(file);
         }
     }
 
-    /// Reads from the open file, or from one that it opens. After an error no file is open.
-    fn read_at(&mut self, name: &str, offset: u64, into: &mut [u8]) -> io::Result<usize>
+    /// Opens a file at an offset, and no file where it can't.
+    fn open_file(&mut self, name: &str, offset: u64)
+        ensures { self.new.faults ≡ self.old.faults }
+    {
+        self.open = None;
+        if let Ok(file) = open_at(self.rt, name, offset) {
+            self.keep(file, name);
+        }
+    }
+
+    /// Reads from the open file, where there is one.
+    fn read_open(&mut self, into: &mut [u8]) -> io::Result<usize>
         ensures within { IfOk result (λ n. n ≤ length into.old) }
         ensures same { self.new.faults ≡ self.old.faults }
     {
-        let goes_on = self.goes_on(name, offset);
-        let mut file = match self.open.take() {
-            Some(file) if goes_on => file,
-            _ => open_at(self.rt, name, offset)?,
-        };
-        let n = read_in_time(&mut file, into)?;
-        self.keep(file, name, offset.saturating_add(n as u64));
-        Ok(n)
+        match &mut self.open {
+            Some(file) => read_in_time(file, into),
+            None => Err(io::Error::from(ErrorKind::NotFound)),
+        }
     }
 }
 
@@ -106,12 +120,18 @@ fn write_in_time<W: Write>(writer: &mut W, piece: &[u8]) -> io::Result<usize>
     Err(io::Error::from(ErrorKind::WouldBlock))
 }
 
-/// Opens a file at an offset. At 0 there is no seek, so a pipe can be read too.
-fn open_at<R: Files>(rt: &R, name: &str, offset: u64) -> io::Result<R::File> {
-    let mut file = fs::open(rt, name)?;
+/// Goes to an offset. At 0 there is no seek, so a pipe can be read too.
+fn go_to<S: Seek>(file: &mut S, offset: u64) -> io::Result<()> {
     if offset != 0 {
         file.seek(SeekFrom::Start(offset))?;
     }
+    Ok(())
+}
+
+/// Opens a file at an offset.
+fn open_at<R: Files>(rt: &R, name: &str, offset: u64) -> io::Result<R::File> {
+    let mut file = fs::open(rt, name)?;
+    go_to(&mut file, offset)?;
     Ok(file)
 }
 
@@ -125,9 +145,16 @@ impl<'a, R: Files> Shelf for FileShelf<'a, R> {
     ghost last = { Some 0xffff_ffff_ffff_ffff };
 
     fn read(&mut self, name: &str, offset: u64, into: &mut [u8]) -> Result<usize, ReadFailed> {
-        match self.read_at(name, offset, into) {
-            Ok(n) => Ok(n),
+        if !self.goes_on(name, offset) {
+            self.open_file(name, offset);
+        }
+        match self.read_open(into) {
+            Ok(n) => {
+                self.next = offset.saturating_add(n as u64);
+                Ok(n)
+            }
             Err(_) => {
+                self.open = None;
                 self.faults = self.faults.saturating_add(1);
                 Err(ReadFailed)
             }
