@@ -8,8 +8,8 @@ pub use Rattle.std.proofs.lemmas.Slice.Eq.{bytes_eq-Decides, starts_is}
 pub use Rattle.std.specs.List.{find, list_all, position_or_len, before_first, after_first}
 pub use Rattle.std.specs.String.{string_bytes}
 pub use Rattle.hull_words.specs.Asked.{Found, asked_from}
-pub use Rattle.hull_words.specs.Reading.{flag, set_count, is_set, with_number, set_to, value_step, option_step}
-pub use Rattle.hull_words.specs.Reading.{plain_step, nothing, then_on, found_so_far}
+pub use Rattle.hull_words.specs.Reading.{flag, set_count, is_set, with_number, put, set_to, value_step}
+pub use Rattle.hull_words.specs.Reading.{option_step, plain_step, nothing, then_on, found_so_far}
 unfoldable pub use Rattle.hull_words.specs.Reading.{word_step, read_from}
 pub use Rattle.hull_words.specs.Spelling.{spelling, command_named, options}
 pub use Rattle.hull_words.specs.Texts.{takes_next, is_equals}

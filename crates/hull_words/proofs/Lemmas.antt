@@ -5,3 +5,4 @@ pub use Rattle.hull_words.proofs.TextLemmas.{can_be_value-first, can_be_value-em
 pub use Rattle.hull_words.proofs.TextLemmas.{number_in-below, number_in-above, number_in-within, parsed, not_parsed}
 pub use Rattle.hull_words.proofs.TextLemmas.{is_option-false, stripped, name-before, name-whole, value-behind}
 pub use Rattle.hull_words.proofs.TextLemmas.{value-none}
+pub use Rattle.hull_words.proofs.Puts.{set_is}

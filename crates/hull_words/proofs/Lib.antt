@@ -4,6 +4,8 @@ pub mod Common
 pub mod TextLemmas
 -- reading.rt: how many values are set, and what one step of the reader adds
 pub mod Counts
+-- given.rt: what was put for an option is its value, where it is set then
+pub mod Puts
 -- reading.rt: one step of the reader is the rules of that word
 pub mod Steps
 -- reading.rt: the reader's pass gives what the rules give

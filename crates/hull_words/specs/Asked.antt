@@ -69,8 +69,11 @@ price_asked w =
       ahead = w.ahead;
     }
 
+abbrev pub check_named : List ℕ → List ℕ → CheckAsked
+check_named case_name schedule_name = record { case_name = case_name; schedule_name = schedule_name }
+
 abbrev pub check_asked : CheckWords → CheckAsked
-check_asked w = record { case_name = w.case_name.items; schedule_name = w.schedule_name.items }
+check_asked w = check_named w.case_name.items w.schedule_name.items
 
 abbrev pub settle_asked : SettleWords → SettleAsked
 settle_asked w =
@@ -128,8 +131,7 @@ with_both (Some a) (Some b) f = Some (f a b)
 
 abbrev pub names_from : Found → Option CheckAsked
 names_from found =
-    with_both found.case_name found.schedule_name
-    (λ case_name schedule_name. record { case_name = case_name; schedule_name = schedule_name })
+    with_both found.case_name found.schedule_name check_named
 
 abbrev pub price_from : Found → Option PriceAsked
 price_from found = option_map (λ names. record {

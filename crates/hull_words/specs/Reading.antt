@@ -88,6 +88,18 @@ set_to Workers text found =
 set_to Ahead text found = with_number (setting Ahead text) (λ n. record found { ahead = Some n })
 set_to Radius text found = with_number (setting Radius text) (λ n. record found { radius = Some n })
 
+-- what a text says for an option, none where it is no number within the range
+abbrev pub put : OptionKind → List ℕ → Found → Found
+put Case text found = record found { case_name = Some text }
+put Schedule text found = record found { schedule_name = Some text }
+put Report text found = record found { report_name = Some text }
+put Prices text found = record found { prices_name = Some text }
+put Mixture text found = record found { mixture_name = Some text }
+put Proposals text found = record found { proposals = setting Proposals text }
+put Workers text found = record found { workers = setting Workers text }
+put Ahead text found = record found { ahead = setting Ahead text }
+put Radius text found = record found { radius = setting Radius text }
+
 -- an option with its value
 abbrev pub value_step : OptionKind → Option (List ℕ) → Found → Result Found WordCode
 value_step o None found = Err NoValue

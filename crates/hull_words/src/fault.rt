@@ -5,6 +5,7 @@ ghost use Rattle.hull_words.specs.Codes.{code_number};
 ghost use Rattle.hull_words.specs.declared.fault.WordError.TheVariants.{Fault, Memory};
 
 use std::alloc::AllocError;
+use std::fmt;
 use thiserror::Error;
 
 /// What is wrong with a word, by the number that is printed.
@@ -48,12 +49,19 @@ pub struct WordFault {
 }
 
 /// Why no command was read.
-#[derive(Debug, Drop, Error)]
+#[derive(Drop, Error)]
 pub enum WordError {
     #[error("word {}: fault {}", .0.position, .0.code.number())]
     Fault(WordFault),
     #[error("out of memory")]
     Memory,
+}
+
+// Written out, since a derived one is dear to prove.
+impl fmt::Debug for WordError {
+    fn fmt<W: fmt::Write>(&self, f: &mut fmt::Formatter<W>) -> fmt::Result {
+        fmt::Display::fmt(self, f)
+    }
 }
 
 impl From<AllocError> for WordError {

@@ -1,8 +1,7 @@
 //! The values that the words gave so far.
 ghost use Rattle.std.specs.Prelude.{◌≡◌};
-ghost use Rattle.std.specs.Option.{ok_or};
 ghost use Rattle.hull_words.specs.Texts.{number_in};
-ghost use Rattle.hull_words.specs.Reading.{found_so_far, nothing, is_set, set_to, seen};
+ghost use Rattle.hull_words.specs.Reading.{found_so_far, nothing, is_set, put, set_to, seen};
 
 use crate::fault::WordCode;
 use crate::kinds::OptionKind;
@@ -35,12 +34,12 @@ pub struct Given<'a> {
 }
 
 /// The number in the range, which is within 32 bits.
-fn small_number(text: &str, least: u32, most: u32) -> Result<u32, WordCode>
-    ensures { result ≡ ok_or (number_in least most text.now) WordCode.BadNumber }
+fn small_number(text: &str, least: u32, most: u32) -> Option<u32>
+    ensures { result ≡ number_in least most text.now }
 {
     match number(text, u64::from(least), u64::from(most)) {
-        Some(value) => Ok(value as u32),
-        None => Err(WordCode::BadNumber),
+        Some(value) => Some(value as u32),
+        None => None,
     }
 }
 
@@ -61,6 +60,25 @@ impl<'a> Given<'a> {
             radius: None,
             number: None,
         }
+    }
+
+    /// With what the text says for the option: none where it is no number within the range.
+    fn with(self, option: OptionKind, text: &'a str) -> Given<'a>
+        ensures { found_so_far result ≡ put option text.now (found_so_far self.entry) }
+    {
+        let mut given = self;
+        match option {
+            OptionKind::Case => given.case_name = Some(text),
+            OptionKind::Schedule => given.schedule_name = Some(text),
+            OptionKind::Report => given.report_name = Some(text),
+            OptionKind::Prices => given.prices_name = Some(text),
+            OptionKind::Mixture => given.mixture_name = Some(text),
+            OptionKind::Proposals => given.proposals = small_number(text, 1, MOST_PROPOSALS),
+            OptionKind::Workers => given.workers = small_number(text, 1, MOST_WORKERS),
+            OptionKind::Ahead => given.ahead = small_number(text, 1, MOST_AHEAD),
+            OptionKind::Radius => given.radius = small_number(text, 0, MOST_RADIUS),
+        }
+        given
     }
 
     /// Whether the option was given.
@@ -84,18 +102,11 @@ impl<'a> Given<'a> {
     pub fn set(self, option: OptionKind, text: &'a str) -> Result<Given<'a>, WordCode>
         ensures { seen found_so_far result ≡ set_to option text.now (found_so_far self.entry) }
     {
-        let mut given = self;
-        match option {
-            OptionKind::Case => given.case_name = Some(text),
-            OptionKind::Schedule => given.schedule_name = Some(text),
-            OptionKind::Report => given.report_name = Some(text),
-            OptionKind::Prices => given.prices_name = Some(text),
-            OptionKind::Mixture => given.mixture_name = Some(text),
-            OptionKind::Proposals => given.proposals = Some(small_number(text, 1, MOST_PROPOSALS)?),
-            OptionKind::Workers => given.workers = Some(small_number(text, 1, MOST_WORKERS)?),
-            OptionKind::Ahead => given.ahead = Some(small_number(text, 1, MOST_AHEAD)?),
-            OptionKind::Radius => given.radius = Some(small_number(text, 0, MOST_RADIUS)?),
+        let given = self.with(option, text);
+        if given.is_set(option) {
+            Ok(given)
+        } else {
+            Err(WordCode::BadNumber)
         }
-        Ok(given)
     }
 }

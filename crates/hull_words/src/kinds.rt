@@ -36,24 +36,16 @@ impl CommandKind {
     pub fn named(word: &str) -> Option<CommandKind>
         ensures { result ≡ command_named word.now }
     {
-        if word == "price" {
-            Some(CommandKind::Price)
-        } else if word == "check" {
-            Some(CommandKind::Check)
-        } else if word == "try" {
-            Some(CommandKind::Try)
-        } else if word == "bound" {
-            Some(CommandKind::Bound)
-        } else if word == "fixed" {
-            Some(CommandKind::Fixed)
-        } else if word == "audit" {
-            Some(CommandKind::Audit)
-        } else if word == "settle" {
-            Some(CommandKind::Settle)
-        } else if word == "certify" {
-            Some(CommandKind::Certify)
-        } else {
-            None
+        match word {
+            "price" => Some(CommandKind::Price),
+            "check" => Some(CommandKind::Check),
+            "try" => Some(CommandKind::Try),
+            "bound" => Some(CommandKind::Bound),
+            "fixed" => Some(CommandKind::Fixed),
+            "audit" => Some(CommandKind::Audit),
+            "settle" => Some(CommandKind::Settle),
+            "certify" => Some(CommandKind::Certify),
+            _ => None,
         }
     }
 

@@ -1,9 +1,10 @@
 //! The reader: one pass over the words.
 ghost use Rattle.std.specs.Prelude.{◌≡◌, ◌+◌, ◌*◌, ◌<◌, ◌≤◌, false, length, drop, Err, IfOk, IfErr};
-ghost use Rattle.std.specs.Prelude.{OnOk};
+ghost use Rattle.std.specs.Prelude.{OnOk, pos, unwrap_or};
 ghost use Rattle.std.specs.Option.{option_copied};
 ghost use Rattle.hull_words.specs.Asked.{asked, asked_from, check_asked, price_asked, names_from};
-ghost use Rattle.hull_words.specs.Asked.{price_from, settle_asked, settle_from};
+ghost use Rattle.hull_words.specs.Asked.{price_from, settle_asked, settle_from, check_named};
+ghost use Rattle.hull_words.specs.declared.defaults.TheConstants.{DEFAULT_RADIUS};
 ghost use Rattle.hull_words.specs.Texts.{takes_next};
 ghost use Rattle.hull_words.specs.Reading.{found_so_far, nothing, flag, option_step, plain_step};
 ghost use Rattle.hull_words.specs.Reading.{set_count, word_step, read_from, seen};
@@ -64,25 +65,28 @@ fn read_number<'a>(
     }
 }
 
-/// Takes a word that is no value, and says whether the next one is its value.
+/// Takes a word that is no value.
 #[tactic(auto, unfolding(crate::specs::Reading::word_step, crate::specs::Words::value_at))]
 fn read_word<'a>(
     command: CommandKind,
     given: Given<'a>,
     word: &'a str,
     next: Option<&'a str>,
-) -> Result<(Given<'a>, bool), WordCode>
-    ensures step { seen (λ x. found_so_far x.0) result
+) -> Result<Given<'a>, WordCode>
+    ensures { seen found_so_far result
         ≡ word_step command word.now (option_copied next.entry) (found_so_far given.entry) }
-    ensures next { IfOk result (λ x. x.1 ≡ takes_next word.now) }
 {
     match option_parts(word) {
-        Some((name, own_value)) => {
-            let given = read_option(command, given, name, own_value.or(next))?;
-            Ok((given, own_value.is_none()))
-        }
-        None => Ok((read_number(command, given, word)?, false)),
+        Some((name, own_value)) => read_option(command, given, name, own_value.or(next)),
+        None => read_number(command, given, word),
     }
+}
+
+/// Whether the word is an option whose value is the next word.
+fn takes_next(word: &str) -> bool
+    ensures { result ≡ takes_next word.now }
+{
+    matches!(option_parts(word), Some((_, None)))
 }
 
 /// The word at an index, if there is one.
@@ -118,9 +122,9 @@ fn pass_word<'a>(
     if is_value {
         return Ok((given, false));
     }
-    let next = word_at(words, index + 1);
-    match read_word(command, given, words[index].as_str(), next) {
-        Ok(read) => Ok(read),
+    let word = words[index].as_str();
+    match read_word(command, given, word, word_at(words, index + 1)) {
+        Ok(read) => Ok((read, takes_next(word))),
         Err(code) => Err(WordFault {
             code,
             position: index as u32 + 2,
@@ -136,9 +140,7 @@ fn read_later<'a>(command: CommandKind, words: &'a [String]) -> Result<Given<'a>
     let mut given = Given::nothing();
     let mut is_value = false;
     for index in 0..words.len() {
-        let (read, takes_next) = pass_word(command, words, index, is_value, given)?;
-        given = read;
-        is_value = takes_next;
+        (given, is_value) = pass_word(command, words, index, is_value, given)?;
     }
     Ok(given)
 }
@@ -156,11 +158,21 @@ fn required<T: Drop>(value: Option<T>, count: u32) -> Result<T, WordError>
     }
 }
 
-fn check_words(alloc: Global, given: &Given, count: u32) -> Result<CheckWords, WordError>
-    ensures { Gives check_asked result (or_missing (names_from (found_so_far given.now)) count) }
+/// The names of the case and of the schedule.
+fn input_names<'a>(given: &Given<'a>, count: u32) -> Result<(&'a str, &'a str), WordError>
+    ensures { Gives (λ names. check_named names.0.now names.1.now) result
+        (or_missing (names_from (found_so_far given.now)) count) }
 {
     let case_name = required(given.case_name, count)?;
     let schedule_name = required(given.schedule_name, count)?;
+    Ok((case_name, schedule_name))
+}
+
+// Here and below, what is missing is told before a name takes memory.
+fn check_words(alloc: Global, given: &Given, count: u32) -> Result<CheckWords, WordError>
+    ensures { Gives check_asked result (or_missing (names_from (found_so_far given.now)) count) }
+{
+    let (case_name, schedule_name) = input_names(given, count)?;
     Ok(CheckWords {
         case_name: Name::copied(alloc, case_name)?,
         schedule_name: Name::copied(alloc, schedule_name)?,
@@ -183,31 +195,60 @@ fn price_words(alloc: Global, given: &Given, count: u32) -> Result<PriceWords, W
     })
 }
 
-fn audit_words(alloc: Global, given: &Given, count: u32) -> Result<AuditWords, WordError>
-    ensures { Gives (λ words. asked (Command.Audit words)) result
+/// The radius, by default where absent.
+fn radius_of(given: &Given) -> i64
+    ensures { result ≡ pos (unwrap_or given.now.radius DEFAULT_RADIUS) }
+{
+    i64::from(given.radius.unwrap_or(DEFAULT_RADIUS))
+}
+
+fn try_command(given: &Given, count: u32) -> Result<Command, WordError>
+    ensures { Gives asked result
+        (or_missing (asked_from CommandKind.Try (found_so_far given.now)) count) }
+{
+    Ok(Command::Try(TryWords {
+        number: required(given.number, count)?,
+        proposals: given.proposals.unwrap_or(DEFAULT_PROPOSALS),
+        workers: given.workers.unwrap_or(DEFAULT_WORKERS),
+        ahead: given.ahead.unwrap_or(DEFAULT_AHEAD),
+    }))
+}
+
+fn bound_command(alloc: Global, given: &Given, count: u32) -> Result<Command, WordError>
+    ensures { Gives asked result
+        (or_missing (asked_from CommandKind.Bound (found_so_far given.now)) count) }
+{
+    Ok(Command::Bound(BoundWords {
+        run: price_words(alloc, given, count)?,
+        radius: radius_of(given),
+    }))
+}
+
+fn audit_command(alloc: Global, given: &Given, count: u32) -> Result<Command, WordError>
+    ensures { Gives asked result
         (or_missing (asked_from CommandKind.Audit (found_so_far given.now)) count) }
 {
+    let report_name = required(given.report_name, count)?;
     let CheckWords {
         case_name,
         schedule_name,
     } = check_words(alloc, given, count)?;
-    let report_name = required(given.report_name, count)?;
-    Ok(AuditWords {
+    Ok(Command::Audit(AuditWords {
         case_name,
         schedule_name,
         report_name: Name::copied(alloc, report_name)?,
         workers: given.workers.unwrap_or(DEFAULT_WORKERS),
-    })
+    }))
 }
 
 fn settle_words(alloc: Global, given: &Given, count: u32) -> Result<SettleWords, WordError>
     ensures { Gives settle_asked result (or_missing (settle_from (found_so_far given.now)) count) }
 {
+    let prices_name = required(given.prices_name, count)?;
     let CheckWords {
         case_name,
         schedule_name,
     } = check_words(alloc, given, count)?;
-    let prices_name = required(given.prices_name, count)?;
     Ok(SettleWords {
         case_name,
         schedule_name,
@@ -215,17 +256,16 @@ fn settle_words(alloc: Global, given: &Given, count: u32) -> Result<SettleWords,
     })
 }
 
-fn certify_words(alloc: Global, given: &Given, count: u32) -> Result<CertifyWords, WordError>
-    ensures { Gives (λ words. asked (Command.Certify words)) result
+fn certify_command(alloc: Global, given: &Given, count: u32) -> Result<Command, WordError>
+    ensures { Gives asked result
         (or_missing (asked_from CommandKind.Certify (found_so_far given.now)) count) }
 {
-    let names = settle_words(alloc, given, count)?;
     let mixture_name = required(given.mixture_name, count)?;
-    Ok(CertifyWords {
-        names,
+    Ok(Command::Certify(CertifyWords {
+        names: settle_words(alloc, given, count)?,
         mixture_name: Name::copied(alloc, mixture_name)?,
-        radius: i64::from(given.radius.unwrap_or(DEFAULT_RADIUS)),
-    })
+        radius: radius_of(given),
+    }))
 }
 
 /// The command with its values, by default where absent.
@@ -240,20 +280,12 @@ fn command_of(
     match command {
         CommandKind::Price => Ok(Command::Price(price_words(alloc, given, count)?)),
         CommandKind::Check => Ok(Command::Check(check_words(alloc, given, count)?)),
-        CommandKind::Try => Ok(Command::Try(TryWords {
-            number: required(given.number, count)?,
-            proposals: given.proposals.unwrap_or(DEFAULT_PROPOSALS),
-            workers: given.workers.unwrap_or(DEFAULT_WORKERS),
-            ahead: given.ahead.unwrap_or(DEFAULT_AHEAD),
-        })),
-        CommandKind::Bound => Ok(Command::Bound(BoundWords {
-            run: price_words(alloc, given, count)?,
-            radius: i64::from(given.radius.unwrap_or(DEFAULT_RADIUS)),
-        })),
+        CommandKind::Try => try_command(given, count),
+        CommandKind::Bound => bound_command(alloc, given, count),
         CommandKind::Fixed => Ok(Command::Fixed(price_words(alloc, given, count)?)),
-        CommandKind::Audit => Ok(Command::Audit(audit_words(alloc, given, count)?)),
+        CommandKind::Audit => audit_command(alloc, given, count),
         CommandKind::Settle => Ok(Command::Settle(settle_words(alloc, given, count)?)),
-        CommandKind::Certify => Ok(Command::Certify(certify_words(alloc, given, count)?)),
+        CommandKind::Certify => certify_command(alloc, given, count),
     }
 }
 
