@@ -1,8 +1,16 @@
 -- Products and sums within bounds.
 use Rattle.gap_proof.proofs.Common.{◌≡◌, ℕ, suc, ◌+◌, ◌*◌, ◌^◌, ◌<◌, ◌≤◌, FitsSigned, ℤ, pos, negsuc, neg_ℤ, ◌+ℤ◌, ◌-ℤ◌}
 use Rattle.gap_proof.proofs.Common.{◌*ℤ◌, sym, ap, ◌∙◌, subst, arith, ints, *ℤ-zero, mul-le-mul_right, w128, IsFrom}
-use Rattle.gap_proof.proofs.Common.{mul-sub, IsWithin, product_within, fits_within}
+use Rattle.gap_proof.proofs.Common.{mul-add, mul-sub, *ℤ_comm, suc_ℤ-*ℤ, zero-*ℤ, IsWithin, product_within, fits_within}
 use mir.Val.{hbits}
+
+pub add-mul : (a b c : ℤ) → (a +ℤ b) *ℤ c ≡ (a *ℤ c) +ℤ (b *ℤ c)
+add-mul a b c =
+    let e = *ℤ_comm (a +ℤ b) c in let f = mul-add c a b in let g = *ℤ_comm c a in let h = *ℤ_comm c b in
+    omega (arith, ints, e, f, g, h)
+
+pub one_mul : (b : ℤ) → pos 1 *ℤ b ≡ b
+one_mul b = let e = suc_ℤ-*ℤ (pos 0) b in let f = zero-*ℤ b in omega (arith, ints, e, f)
 
 mul-neg : (a b : ℤ) → a *ℤ neg_ℤ b ≡ neg_ℤ (a *ℤ b)
 mul-neg a b =

@@ -22,11 +22,9 @@ pub use Rattle.std.specs.Prelude.{slice_get}
 pub use Rattle.gap_proof.specs.Candidates.{RowRange, range_weights, candidates, prices_of_row, IsFirstLeast}
 pub use Rattle.gap_proof.specs.Candidates.{range_bound}
 pub use Rattle.gap_proof.specs.CertifiedBound.{slope_at, height_of, most_over, price_at, lowest_price, weighted}
-pub use Rattle.gap_proof.specs.CertifiedBound.{low_end, high_end}
+pub use Rattle.gap_proof.specs.CertifiedBound.{low_end, high_end, AreWeights}
 unfoldable pub use Rattle.gap_proof.specs.CertifiedBound.{certified_bound}
-pub use Rattle.gap_proof.specs.Laws.{IsAnswered, ArePriced, AreWeights, IsInBox, RunBoundsHold, RunPricesAreWithin}
-pub use Rattle.gap_proof.specs.Laws.{AnsweredRowsAreWithin}
-pub use Rattle.gap_proof.specs.Sums.{IsSlopeSum, IsHeightSum, AreSums, IsWeight, IsRowWithin}
+pub use Rattle.gap_proof.specs.Sums.{IsSlopeSum, IsHeightSum, AreSums, IsWeight, IsRowWithin, least_bound, most_bound}
 pub use Rattle.price_move.specs.Sizes.{IsRowOver}
 pub use Rattle.plain_lists.proofs.IntLaws.{mul-sub, mul-add, mul-mono_of, sum_below-le, sum_below-same, sum_below-add}
 pub use Rattle.plain_lists.proofs.IntLaws.{sum_below-zero, sum_below-sub, total-sum_below, total-mul}

@@ -66,3 +66,10 @@ least_more f i n first first' bound b bound' low h value taken kept =
       ];
       earlier = λ j after below. absurd (omega (arith, after, below, e));
     })
+
+-- which of two is taken, it is no less than what both are no less than
+pub least_from : (low bound b bound' : ℤ) (first first' start : ℕ) → low ≤ℤ bound → low ≤ℤ b →
+    (b ≤ℤ bound → (first' ≡ start) × (bound' ≡ b)) → (bound <ℤ b → (first' ≡ first) × (bound' ≡ bound)) → low ≤ℤ bound'
+least_from low bound b bound' first first' start above above' taken kept =
+    by_lt_z bound b (λ lt. let is = (kept lt).1 in omega (arith, ints, is, above))
+    (λ le. let is = (taken le).1 in omega (arith, ints, is, above'))

@@ -16,17 +16,5 @@ pub mod Least
 pub mod RangeLaws
 -- ranges.rt: the first of the candidates with the least bound
 pub mod FirstLeast
--- laws.rt: a row's plane is nowhere below the dual
-pub mod Subgradients
--- laws.rt: a weighted mean of planes bounds the dual over a box
-pub mod Mean
--- laws.rt: the centre stands in its box
-pub mod Box
--- laws.rt: what the bound of the best range says
-pub mod BestLaws
--- laws.rt: the rows of a run are answered, and their prices are within the limits
-pub mod RunRows
--- laws.rt: answered rows are far from the limits of their types
-pub mod Sizes
 -- The lemmas that answers cite.
 pub mod Lemmas

@@ -6,7 +6,7 @@ use Rattle.gap_proof.proofs.Common.{length-map-range_with_len, length-replicate,
 use Rattle.gap_proof.proofs.Common.{range_with_len, slice_get, PriceLists, Market, Proposal, total, floor_div}
 use Rattle.gap_proof.proofs.Common.{sum_below-same, range_bound, slope_at, height_of, weighted, low_end, high_end}
 use Rattle.gap_proof.proofs.Common.{most_over, certified_bound}
-use Rattle.gap_proof.proofs.Mean.{one_mul}
+use Rattle.gap_proof.proofs.Bounds.{one_mul}
 
 -- ---- bounds of equal sums
 

@@ -1,12 +1,19 @@
 -- Weighted sums of planes, as they run while a row is added before those that are summed.
 use Rattle.gap_proof.proofs.Common.{◌≡◌, ℕ, zero, suc, ◌+◌, ◌-◌, ◌*◌, ◌<◌, ◌≤◌, Bool, if◌then◌else◌, ℤ, pos, ◌+ℤ◌, ◌-ℤ◌}
-use Rattle.gap_proof.proofs.Common.{◌*ℤ◌, List, [], ◌∷◌, length, unsigned_abs, refl, sym, ap, subst, ◌∙◌, inl, inr}
-use Rattle.gap_proof.proofs.Common.{arith, cases_lt, ints, get_or_default, All-head, All-tail, int_max, All, PriceLists}
-use Rattle.gap_proof.proofs.Common.{Market, IsFrom, IsPower, IsTotal, IsMarket, Proposal, int_at, floor_div}
-use Rattle.gap_proof.proofs.Common.{sum_below-same, IsWithin, IsRowOver, slope_at, height_of, weighted, low_end}
-use Rattle.gap_proof.proofs.Common.{high_end, most_over, certified_bound, IsWeight, IsSlopeSum, IsHeightSum, AreSums}
+use Rattle.gap_proof.proofs.Common.{true, false, nat_lt, nat_tests, ◌*ℤ◌, List, [], ◌∷◌, length, unsigned_abs, refl}
+use Rattle.gap_proof.proofs.Common.{sym, ap, subst, ◌∙◌, inl, inr, arith, cases_lt, ints, get_or_default, All-head}
+use Rattle.gap_proof.proofs.Common.{All-tail, int_max, All, PriceLists, Market, IsFrom, IsPower, IsTotal, IsMarket}
+use Rattle.gap_proof.proofs.Common.{Proposal, int_at, floor_div, sum_below-same, IsWithin, IsRowOver, slope_at}
+use Rattle.gap_proof.proofs.Common.{height_of, weighted, low_end, high_end, most_over, certified_bound, IsWeight}
+use Rattle.gap_proof.proofs.Common.{IsSlopeSum, IsHeightSum, AreSums}
 use Rattle.gap_proof.proofs.Bounds.{signed_product_within, within_both}
-use Rattle.gap_proof.proofs.Subgradients.{lt_true, lt_false}
+
+-- on which side of the number of periods a price place is
+pub lt_true : (a b : ℕ) → a < b → nat_lt a b ≡ true
+lt_true a b h = grind (arith, nat_tests)
+
+pub lt_false : (a b : ℕ) → b ≤ a → nat_lt a b ≡ false
+lt_false a b h = grind (arith, nat_tests)
 
 -- what holds of each item, and of the number past the end, holds at each place
 at_place : (P : ℤ → Type 0) → P (pos 0) → (xs : List ℤ) → All P xs → (k : ℕ) → P (int_at xs k)

@@ -6,9 +6,10 @@
 -- at a corner. The box and the unit of the weights are this project's profile.
 --
 -- Price places count from 0: the energy prices of all periods, and then their reserve prices.
-use Rattle.std.specs.Prelude.{ℕ, ◌-◌, ◌*◌, ℤ, pos, neg_ℤ, ◌+ℤ◌, ◌-ℤ◌, ◌*ℤ◌, List}
-use Rattle.std.specs.Prelude.{if◌then◌else◌, nat_lt, unsigned_abs}
+use Rattle.std.specs.Prelude.{◌≡◌, ℕ, ◌-◌, ◌*◌, ℤ, pos, neg_ℤ, ◌+ℤ◌, ◌-ℤ◌, ◌*ℤ◌, ◌≤ℤ◌, ◌<ℤ◌, List}
+use Rattle.std.specs.Prelude.{length, if◌then◌else◌, nat_lt, unsigned_abs}
 use Rattle.std.specs.Int.{int_min, int_max}
+use Rattle.std.specs.List.{All}
 use Rattle.uc_model.specs.Data.{PriceLists, Market}
 use Rattle.uc_model.specs.Limits.{price_limit}
 use Rattle.uc_model.specs.PriceRule.{Proposal}
@@ -36,6 +37,12 @@ height_of m r =
 -- the sum of a number over the rows, each taken as often as its weight says
 abbrev pub weighted : (Proposal → ℤ) → List ℤ → List Proposal → ℤ
 weighted f weights rows = total (zip_with (λ (w : ℤ) (r : Proposal). w *ℤ f r) weights rows)
+
+-- one weight per row, none below 0, with a sum above 0
+pub record AreWeights (rows : List Proposal) (weights : List ℤ) : Type 0 where
+  pub count : length weights ≡ length rows
+  pub from_zero : All (λ (w : ℤ). pos 0 ≤ℤ w) weights
+  pub some : pos 0 <ℤ total weights
 
 -- the ends of a price's interval: within the radius of the centre's price, and within the limits
 abbrev pub low_end : Market → PriceLists → ℤ → ℕ → ℤ

@@ -1,4 +1,3 @@
 pub mod CertifiedBound
 pub mod Candidates
-pub mod Laws
 pub mod Sums

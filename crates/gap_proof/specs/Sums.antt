@@ -46,9 +46,12 @@ IsRise x = IsUpTo 10000000000000000000000000000000 x
 abbrev pub IsRiseSum : ℤ → Type 0
 IsRiseSum x = IsUpTo 4000000000000000000000000000000000 x
 
--- the greatest that a bound may be
+-- the greatest and the least that a bound may be
 abbrev pub most_bound : ℤ
 most_bound = pos 34000000000000000000000000000000000
+
+abbrev pub least_bound : ℤ
+least_bound = neg_ℤ most_bound
 
 -- the sums of some weighted rows, with their sizes
 pub record AreSums (m : Market) (ws : List ℤ) (rows : List Proposal) (height weight : ℤ)

@@ -4,8 +4,7 @@ ghost use Rattle.std.specs.List.{All};
 ghost use Rattle.uc_model.specs.PlainCases.{market_of, proposal_of};
 ghost use Rattle.plain_lists.specs.declared.limits.TheConstants.{MOST_PROPOSALS};
 ghost use Rattle.gap_proof.specs.Candidates.{prices_of_row};
-ghost use Rattle.gap_proof.specs.CertifiedBound.{certified_bound};
-ghost use Rattle.gap_proof.specs.Laws.{AreWeights};
+ghost use Rattle.gap_proof.specs.CertifiedBound.{certified_bound, AreWeights};
 ghost use Rattle.gap_proof.specs.Sums.{IsRowWithin, IsWeight, IsRadius};
 
 use crate::sums::{Sums, add_row, bound_by, clear_slopes};
@@ -22,12 +21,13 @@ pub fn row_at(rows: &[Row], place: usize) -> &Row
 
 /// The bound on the dual values of all prices in a box, by the mean of the rows' planes with these
 /// weights, rounded down: no whole prices within the limits, each within `radius` of that of row
-/// `centre`, have a dual value above it, `laws::bound_holds`. Rows are numbered from 1; they are
-/// at most 10,000, over the periods of the case, with values of at most 10^24 and totals of at
-/// most 10^13 in magnitude, which all answered rows are, `laws::answered_rows_are_within`. There
-/// is one weight per row, from 0 to 1,000,000, and their sum is above 0. The radius is from 0 to
-/// 20,000,000, in money for a kilowatt and period; the bound is in money. `work` has two numbers
-/// for each period, and is left with any numbers. Takes no memory.
+/// `centre`, have a dual value above it, `law_bounds::laws::bound_holds`. Rows are numbered from 1;
+/// they are at most 10,000, over the periods of the case, with values of at most 10^24 and totals
+/// of at most 10^13 in magnitude, which all answered rows are,
+/// `law_bounds::laws::answered_rows_are_within`. There is one weight per row, from 0 to 1,000,000,
+/// and their sum is above 0. The radius is from 0 to 20,000,000, in money for a kilowatt and
+/// period; the bound is in money. `work` has two numbers for each period, and is left with any
+/// numbers. Takes no memory.
 pub fn bound_of(
     case: &Case,
     rows: &[Row],

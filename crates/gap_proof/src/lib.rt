@@ -5,11 +5,10 @@
 //! nowhere below the dual (Gribik, Hogan and Pope, "Market-Clearing Electricity Prices and Energy
 //! Uplift", 2007, for the dual; the subgradient inequality and the mean of such planes are of
 //! textbook convex analysis). The greatest height of a mean of planes over a box of prices is the
-//! bound: no prices in the box have a dual value above it, `laws::bound_holds`.
+//! bound: no prices in the box have a dual value above it, `law_bounds::laws::bound_holds`.
 #![tactic(auto)]
 
 mod bound;
-pub mod laws;
 mod planes;
 mod ranges;
 mod sums;

@@ -3,9 +3,11 @@ ghost use Rattle.std.specs.Prelude.{◌≡◌, ℕ, ◌<◌, ◌≤◌, ◌*◌,
 ghost use Rattle.std.specs.List.{All};
 ghost use Rattle.uc_model.specs.PlainCases.{market_of, proposal_of};
 ghost use Rattle.uc_model.specs.PlainUnits.{prices_of};
+ghost use Rattle.plain_lists.specs.Ranges.{IsFrom};
 ghost use Rattle.plain_lists.specs.declared.limits.TheConstants.{MOST_PROPOSALS};
 ghost use Rattle.gap_proof.specs.Candidates.{prices_of_row, range_bound, IsFirstLeast};
-ghost use Rattle.gap_proof.specs.Sums.{IsRowWithin, IsRadius, AreSums, most_bound};
+ghost use Rattle.gap_proof.specs.Sums.{IsRowWithin, IsRadius, AreSums};
+ghost use Rattle.gap_proof.specs.Sums.{least_bound, most_bound};
 
 use crate::bound::row_at;
 use crate::sums::{Sums, add_row, bound_by, clear_slopes};
@@ -53,7 +55,7 @@ fn alone(case: &Case, rows: &[Row], number: u32, radius: i64, work: &mut Amounts
     ensures bound { result.bound ≡ range_bound (market_of case.now) (map proposal_of rows.now)
         (prices_of_row (map proposal_of rows.now) number) radius
         (record { first = number; last = number }) }
-    ensures most { result.bound ≤ℤ most_bound }
+    ensures limits { IsFrom least_bound most_bound result.bound }
     ensures work { length work.new.items ≡ length work.old.items }
     ensures spare { work.new.spare ≡ work.old.spare }
 {
@@ -109,6 +111,7 @@ fn trailing(
     ensures earlier { (j : ℕ) → 1 ≤ j → j < result.first →
         result.bound <ℤ range_bound (market_of case.now) (map proposal_of rows.now)
         (prices_of centre.now) radius (record { first = j; last = length rows.now }) }
+    ensures least_limit { least_bound ≤ℤ result.bound }
     ensures work { length work.new.items ≡ length work.old.items }
     ensures spare { work.new.spare ≡ work.old.spare }
 {
@@ -131,9 +134,9 @@ fn trailing(
 /// or by the rows from one of them to the last. In a tie it is the centre, and then the longest
 /// range. Rows are numbered from 1; they are at most 10,000, over the periods of the case, with
 /// values of at most 10^24 and totals of at most 10^13 in magnitude, which all answered rows are,
-/// `laws::answered_rows_are_within`. The radius is from 0 to 20,000,000, in money for a kilowatt
-/// and period. `work` has two numbers for each period, and is left with any numbers. Takes no
-/// memory.
+/// `law_bounds::laws::answered_rows_are_within`. The radius is from 0 to 20,000,000, in money for a
+/// kilowatt and period; the bound is in money, and within 10^35. `work` has two numbers for each
+/// period, and is left with any numbers. Takes no memory.
 pub fn best_range(
     case: &Case,
     rows: &[Row],
@@ -149,7 +152,7 @@ pub fn best_range(
     requires work { length work.old.items ≡ 2 * (market_of case.now).periods }
     ensures best { IsFirstLeast (market_of case.now) (map proposal_of rows.now) centre radius
         (record { first = result.first; last = result.last }) result.bound }
-    ensures most { result.bound ≤ℤ most_bound }
+    ensures limits { IsFrom least_bound most_bound result.bound }
     ensures work { length work.new.items ≡ length work.old.items }
     ensures spare { work.new.spare ≡ work.old.spare }
 {

@@ -12,7 +12,7 @@ ghost use Rattle.gap_proof.specs.CertifiedBound.{slope_at, height_of, lowest_pri
 ghost use Rattle.gap_proof.specs.CertifiedBound.{low_end, high_end, most_over};
 ghost use Rattle.gap_proof.specs.Sums.{IsRowWithin, IsWeight, IsRadius, IsHeight};
 ghost use Rattle.gap_proof.specs.Sums.{IsHeightStep, IsHeightSum, IsSlopeSum, IsRise, IsRiseSum};
-ghost use Rattle.gap_proof.specs.Sums.{most_bound};
+ghost use Rattle.gap_proof.specs.Sums.{least_bound, most_bound};
 
 use crate::planes::{add_slopes, height, price};
 use plain_lists::lists::Amounts;
@@ -151,10 +151,10 @@ fn most(case: &Case, centre: &Prices, radius: i64, slopes: &Amounts) -> i128
 
 // The whole number below the quotient, or the quotient.
 fn quotient(height: i128, weight: i64) -> i128
-    requires height { height ≤ℤ most_bound }
+    requires height { IsFrom least_bound most_bound height }
     requires weight { IsFrom (pos 1) (pos 10000000000) weight }
     ensures value { result ≡ floor_div height (unsigned_abs weight) }
-    ensures most { result ≤ℤ most_bound }
+    ensures limits { IsFrom least_bound most_bound result }
 {
     height.div_euclid(i128::from(weight))
 }
@@ -171,7 +171,7 @@ pub fn bound_by(case: &Case, centre: &Prices, radius: i64, sums: Sums, slopes: &
         (sums.height +ℤ most_over (market_of case.now) (prices_of centre.now) radius
         (int_at slopes.now.items))
         (unsigned_abs sums.weight) }
-    ensures most { result ≤ℤ most_bound }
+    ensures limits { IsFrom least_bound most_bound result }
 {
     quotient(
         sums.height + most(case, centre, radius, slopes),

@@ -22,7 +22,7 @@ pub use Rattle.uc_model.specs.PriceRule.{Proposal}
 pub use Rattle.uc_model.specs.Runs.{Fits, IsNextRow, IsRun}
 pub use Rattle.uc_model.specs.Schedules.{IsFeasible, IsSchedule}
 pub use Rattle.uc_model.specs.Systems.{total_power, total_reserve, plan_cost, IsSettled}
-pub use Rattle.gap_proof.specs.Laws.{ArePriced, RunPricesAreWithin}
+pub use Rattle.law_bounds.specs.Laws.{ArePriced, RunPricesAreWithin}
 pub use Rattle.report_form.specs.Laws.{IsFlatLine}
 pub use Rattle.report_form.specs.ReportText.{UnitLine, Report}
 pub use Rattle.right_report.specs.Laws.{RightReportHasForm, ReportPaymentsMakeUpTheGap}

@@ -1,7 +1,7 @@
 //! Laws over right reports: each is the contract of a function that does nothing.
 ghost use Rattle.law_audit.specs.Laws.{RightReportsAreInForm, PrintedReportsAreInForm};
 
-use gap_proof::laws::run_prices_are_within;
+use law_bounds::laws::run_prices_are_within;
 use law_cases::laws::{case_names_are_utf8, cases_are_within};
 use right_report::laws::{report_payments_make_up_the_gap, right_report_has_form};
 use uc_model::laws::{

@@ -7,13 +7,13 @@ use Rattle.law_outcome.proofs.Common.{IsInput, IsPriced, IsMixtureFile, PlannedC
 use Rattle.law_outcome.proofs.Common.{with_mixture, HasText, Ends, status_at, OverReads, HasNoPrices, IsCertifyPromised}
 use Rattle.law_outcome.proofs.Common.{HasNoMixture, WordsHaveSizes, words_of, BytesAreThoseRead, SettlementsAddUp}
 use Rattle.law_outcome.proofs.Common.{mixture_fault, MixtureLists, IsMixture}
-use Rattle.gap_proof.specs.Laws.{ArePriced}
+use Rattle.law_bounds.specs.Laws.{ArePriced}
 use Rattle.uc_file.specs.Files.{text, value}
 use Rattle.law_cases.specs.Laws.{CasesAreWithin}
 use Rattle.uc_mixture.specs.Laws.{OneMixture}
 use Rattle.uc_mixture.specs.MixtureFiles.{IsMixtureFileOf}
 use Rattle.uc_prices.specs.Laws.{OnePrices, HaveForm, PricesHaveForm}
-use Rattle.mixture_bound.specs.Laws.{MixtureBoundHolds, MixtureBoundReachesCentre, PaymentsReachLeast}
+use Rattle.law_bounds.specs.MixtureLaws.{MixtureBoundHolds, MixtureBoundReachesCentre, PaymentsReachLeast}
 use Rattle.mixture_bound.specs.Laws.{MixturesBreakNoRule}
 use Rattle.mixture_bound.specs.MixtureBound.{mixture_bound}
 use Rattle.mixture_bound.specs.Refused.{EntryRefusal, mixture_refusals}

@@ -9,7 +9,7 @@ pub use Rattle.std.specs.List.{All}
 pub use Rattle.std.specs.Prelude.{nat_lt, if◌then◌else◌, IsTrue, IfSome, IsSome, ◌≤ℤ◌}
 pub use Rattle.hull_command.specs.Planned.{PlannedCase}
 pub use Rattle.fixed_price.specs.FixedCase.{fixed_market}
-pub use Rattle.gap_proof.specs.Laws.{RunPricesAreWithin}
+pub use Rattle.law_bounds.specs.Laws.{RunPricesAreWithin}
 pub use Rattle.hull_command.specs.Laws.{BytesAreThoseRead, ReportBytesAreItsText, WordsHaveSizes}
 pub use Rattle.hull_command.specs.Outcome.{command_for, IsReadOf, AreReads, with_report, HasText, Ends, status_at}
 pub use Rattle.hull_command.specs.Outcome.{IsBoundText, IsFixedText, IsReportText, IsAuditText, IsSettlementText}

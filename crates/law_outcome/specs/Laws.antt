@@ -34,7 +34,7 @@ use Rattle.hull_words.specs.Words.{words_of}
 use Rattle.hull_words.specs.declared.fault.WordFault.{WordFault}
 use Rattle.fixed_price.specs.FixedCase.{fixed_market}
 use Rattle.gap_proof.specs.Candidates.{RowRange, IsFirstLeast}
-use Rattle.gap_proof.specs.Laws.{IsBoundRound, IsInBox}
+use Rattle.law_bounds.specs.Laws.{IsBoundRound, IsInBox}
 use Rattle.hull_report.specs.AuditText.{audit_text}
 use Rattle.hull_report.specs.BoundText.{bound_text}
 use Rattle.hull_report.specs.FaultLines.{status_of, fault_line}

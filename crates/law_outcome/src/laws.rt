@@ -7,14 +7,15 @@ ghost use Rattle.law_outcome.specs.Laws.{BoundsHold, BothGapsAreMadeUp, AuditsHo
 ghost use Rattle.law_outcome.specs.Laws.{SettlementsHold, CertificatesHold, WorkersAreFree};
 ghost use Rattle.law_outcome.specs.Laws.{RunsPrintTheSame};
 
-use gap_proof::laws::{run_bounds_hold, run_prices_are_within};
 use hull_command::laws::{bytes_are_those_read, report_bytes_are_its_text, words_have_sizes};
 use hull_io::{Shelf, Sink};
 use law_audit::laws::printed_reports_are_in_form;
-use law_cases::laws::cases_are_within;
-use mixture_bound::laws::{
-    mixture_bound_holds, mixture_bound_reaches_centre, mixtures_break_no_rule, payments_reach_least,
+use law_bounds::laws::{
+    mixture_bound_holds, mixture_bound_reaches_centre, payments_reach_least, run_bounds_hold,
+    run_prices_are_within,
 };
+use law_cases::laws::cases_are_within;
+use mixture_bound::laws::mixtures_break_no_rule;
 use plan_check::laws::refusals_are_exact;
 use price_settle::laws::{one_settlement, settlements_add_up};
 use report_form::laws::text_determines_the_report;

@@ -26,7 +26,6 @@ pub use Rattle.uc_model.specs.Schedules.{reserve_in, power_in, IsFeasible, IsThe
 pub use Rattle.plain_lists.specs.Sums.{int_at, total, sum_below, floor_div, zip_with}
 pub use Rattle.uc_model.specs.Systems.{IsDualValue, worth_of_demand, IsSettled, IsFeasiblePlan, plan_cost}
 pub use Rattle.gap_proof.specs.CertifiedBound.{price_at, lowest_price, low_end, high_end}
-pub use Rattle.gap_proof.specs.Laws.{IsInBox, ArePriced}
 pub use Rattle.mixture_bound.specs.Mixtures.{WeighedSchedule, MixtureLists, AreShares, AreMixed, IsMixture}
 pub use Rattle.mixture_bound.specs.MixtureBound.{weighed, weighed_over, mixture_cost, lack, short, best_sold}
 pub use Rattle.mixture_bound.specs.MixtureBound.{best_bought, flat, greatest, added, most_energy, most_reserve}

@@ -6,7 +6,7 @@ use Rattle.mixture_bound.proofs.Common.{mul-mono_of, Block, NamedRenewableUnit, 
 use Rattle.mixture_bound.proofs.Common.{blocks_at, int_at, total, best_sold, best_bought, flat, greatest, added}
 use Rattle.std.proofs.lemmas.Bool.{false≢true}
 use Rattle.std.specs.Prelude.{IsTrue, ◌↔◌}
-use Rattle.gap_proof.proofs.Mean.{add-mul, one_mul}
+use Rattle.gap_proof.proofs.Bounds.{add-mul, one_mul}
 use Rattle.mixture_bound.proofs.Greatest.{at_most_greatest, greatest_at_most}
 
 -- ---- numbers by their places

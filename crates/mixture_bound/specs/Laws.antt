@@ -1,29 +1,10 @@
--- What a mixture's bound says of all prices in its box. Each law is the clause of a public function
--- of its name.
-use Rattle.std.specs.Prelude.{◌≡◌, ℤ, pos, ◌+ℤ◌, ◌-ℤ◌, ◌≤ℤ◌, List, []}
+-- What no mixture breaks, and what payments sum to at least where a bound holds. The law is the
+-- clause of a public function of its name.
+use Rattle.std.specs.Prelude.{◌≡◌, ℤ, pos, ◌-ℤ◌, []}
 use Rattle.std.specs.Int.{int_max}
-use Rattle.gap_proof.specs.Laws.{ArePriced, IsInBox}
-use Rattle.uc_model.specs.Data.{PriceLists, Schedule, Market}
-use Rattle.uc_model.specs.Limits.{IsMarket}
-use Rattle.uc_model.specs.Systems.{IsDualValue, IsFeasiblePlan, plan_cost, IsSettled}
+use Rattle.uc_model.specs.Data.{Market}
 use Rattle.mixture_bound.specs.Mixtures.{MixtureLists, IsMixture}
-use Rattle.mixture_bound.specs.MixtureBound.{mixture_bound}
 use Rattle.mixture_bound.specs.Refused.{mixture_refusals}
-
--- no prices in the box have a dual value above the bound, whatever the mixture
-abbrev pub MixtureBoundHolds : Type 0
-MixtureBoundHolds =
-    (m : Market) (x : MixtureLists) (centre : PriceLists) (radius : ℤ) (π : PriceLists)
-    (value : ℤ) →
-    IsMarket m → IsMixture m x → IsInBox m centre radius π → IsDualValue m π value →
-    value ≤ℤ mixture_bound m x centre radius
-
--- so the bound round some prices is at least their value
-abbrev pub MixtureBoundReachesCentre : Type 0
-MixtureBoundReachesCentre =
-    (m : Market) (x : MixtureLists) (centre : PriceLists) (radius value : ℤ) →
-    IsMarket m → IsMixture m x → ArePriced m centre → pos 0 ≤ℤ radius →
-    IsDualValue m centre value → value ≤ℤ mixture_bound m x centre radius
 
 -- schedules that are feasible break no rule, so a check that answers exactly what is refused
 -- refuses no mixture
@@ -34,12 +15,3 @@ MixturesBreakNoRule =
 -- what payments and surplus sum to at least, at a cost and a bound on the dual value
 abbrev pub least_paid : ℤ → ℤ → ℤ
 least_paid cost bound = int_max (pos 0) (cost -ℤ bound)
-
--- at any prices in the box payments and surplus sum to at least what the bound says
-abbrev pub PaymentsReachLeast : Type 0
-PaymentsReachLeast =
-    (m : Market) (plan : List Schedule) (x : MixtureLists) (centre : PriceLists) (radius : ℤ)
-    (π : PriceLists) (scheduled payments : List ℤ) (surplus sum : ℤ) →
-    IsMarket m → IsFeasiblePlan m plan → IsMixture m x → IsInBox m centre radius π →
-    IsSettled m plan π scheduled payments surplus sum →
-    least_paid (plan_cost m plan) (mixture_bound m x centre radius) ≤ℤ (sum +ℤ surplus)

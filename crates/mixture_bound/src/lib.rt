@@ -7,8 +7,8 @@
 //! what renewable units and bids earn there at best: weak duality (Gribik, Hogan and Pope,
 //! "Market-Clearing Electricity Prices and Energy Uplift", 2007) for the pseudo-schedules of bundle
 //! methods (Dubost, Gonzalez and Lemarechal, 2005). The greatest of that over the box is the bound,
-//! `laws::mixture_bound_holds`. Whoever made the mixture needs no trust: a poor one gives a poor
-//! bound, and never a wrong one.
+//! `law_bounds::laws::mixture_bound_holds`. Whoever made the mixture needs no trust: a poor one
+//! gives a poor bound, and never a wrong one.
 #![tactic(auto)]
 
 mod bound;

@@ -12,17 +12,16 @@ pub use Rattle.board_core.specs.Setups.{IsSetup}
 pub use Rattle.board_history.specs.Board.{Content, IsLegalHistory}
 pub use Rattle.board_history.specs.Bounds.{RowsAreWithin}
 pub use Rattle.board_history.specs.Calls.{own_rows, has_finished}
-pub use Rattle.board_history.specs.Laws.{FinishedHasRow, FinishedIsRun}
+pub use Rattle.board_history.specs.Laws.{FinishedHasRow}
 pub use Rattle.run_settle.specs.Rounds.{IsEnded}
 pub use Rattle.case_answers.specs.Tops.{IsBenchOver, AreTops}
 pub use Rattle.right_report.specs.Laws.{OneIsChosen}
 pub use Rattle.right_report.specs.RecordReport.{chosen_of, SettlementsAreOfAllUnits, IsSettledRecord, AnswersAreTops}
 pub use Rattle.uc_model.specs.Data.{AnyUnit, Market, PriceLists, Schedule, unit_count, units}
-pub use Rattle.uc_model.specs.Limits.{IsWorth, IsMarket}
+pub use Rattle.uc_model.specs.Limits.{IsMarket}
 pub use Rattle.uc_model.specs.PlainCases.{market_of, schedules_of, proposal_of}
 pub use Rattle.uc_model.specs.PlainUnits.{prices_of}
-pub use Rattle.uc_model.specs.PriceRule.{Proposal, no_prices, chosen_number}
-pub use Rattle.uc_model.specs.Runs.{Fits}
+pub use Rattle.uc_model.specs.PriceRule.{Proposal, chosen_number}
 pub use Rattle.plain_lists.specs.Sums.{int_at}
 pub use Rattle.uc_model.specs.Systems.{IsFeasiblePlan, IsSettled}
 pub use Rattle.uplift_settle.specs.declared.settlement.Settlement.{Settlement}

@@ -9,7 +9,6 @@ ghost use Rattle.right_report.specs.RecordReport.{chosen_of};
 use crate::done::Done;
 use board_core::Closed;
 use board_history::laws::{finished_has_row, finished_is_run, rows_are_within};
-use gap_proof::laws::run_bounds_hold;
 use gap_proof::{Certified, best_range};
 use plain_lists::lists::Amounts;
 use right_report::laws::one_row_is_chosen;
@@ -39,6 +38,5 @@ pub fn certify(closed: &Closed, radius: i64, work: &mut Amounts) -> Certified
     finished_is_run();
     rows_are_within();
     one_row_is_chosen();
-    run_bounds_hold();
     best_range(closed.case(), closed.rows(), closed.chosen(), radius, work)
 }

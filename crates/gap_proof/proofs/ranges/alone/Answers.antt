@@ -55,7 +55,7 @@ returns c =
       first = refl;
       last = refl;
       bound = simp to_z-of_z bound;
-      most = simp to_z-of_z c.bound_by-bound.ensures.most;
+      limits = simp to_z-of_z c.bound_by-bound.ensures.limits;
       work = sums.same_length ∙ sym wide;
       spare = c.sums_of-sums.ensures.spare;
     }

@@ -1,9 +1,9 @@
 use Rattle.gap_proof.proofs.Common.{rules, ◌≡◌, ◌+◌, ◌-◌, pos, FitsSigned, [], ◌∷◌, length, map, refl, sym, ap, ◌∙◌}
 use Rattle.gap_proof.proofs.Common.{arith, ints, to_z-of_z, length-map, w128, market_of, proposal_of, prices_of}
-use Rattle.gap_proof.proofs.Common.{IsRowWithin}
+use Rattle.gap_proof.proofs.Common.{IsRowWithin, least_bound}
 use Rattle.gap_proof.proofs.BackSums.{back_first, back_more, back_height, back_weight, back_slopes, back_some}
 use Rattle.gap_proof.proofs.BackSums.{back_value}
-use Rattle.gap_proof.proofs.Lemmas.{least_one, least_more, back_bounds, item_of, height_size, slope_sizes}
+use Rattle.gap_proof.proofs.Lemmas.{least_one, least_more, least_from, back_bounds, item_of, height_size, slope_sizes}
 use Rattle.gap_proof.proofs.ranges.trailing.Goals as goal
 
 pub sums_of-sums-requires-clause-row : goal.sums_of-sums-requires-clause-row
@@ -53,6 +53,7 @@ loop-place-init c =
     record {
       sums = first;
       best = simp to_z-of_z least;
+      limit = simp to_z-of_z c.bound_by.ensures.limits.at_least;
       last = refl;
       spare = c.sums_of-sums.ensures.spare;
     }
@@ -142,11 +143,16 @@ loop-place-preserved c =
     let least = least_more (back_bounds m rows π c.args.radius n) i n c.loop-place.best.first c.better-best.result.first
     c.loop-place.best.bound c.bound_by-bound.result c.better-best.result.bound low known (e ∙ value) taken
     kept in
+    let bounded = c.loop-place.invariant.limit in
+    let limit = least_from least_bound c.loop-place.best.bound c.bound_by-bound.result c.better-best.result.bound
+    c.loop-place.best.first c.better-best.result.first ((i - 1) + 1) bounded
+    c.bound_by-bound.ensures.limits.at_least taken kept in
     let last = c.better-best.ensures.last in
     let spare = c.add_row-sums.ensures.spare in
     record {
       sums = next;
       best = simp to_z-of_z least;
+      limit = limit;
       last = last ∙ c.loop-place.invariant.last;
       spare = spare ∙ c.loop-place.invariant.spare;
     }
@@ -166,6 +172,7 @@ returns c =
       bound = known.is;
       least = λ j low high. known.least j (omega (arith, low, test)) high;
       earlier = λ j low below. known.earlier j (omega (arith, low, test)) below;
+      least_limit = c.loop-place.invariant.limit;
       work = c.loop-place.invariant.sums.same_length ∙ sym wide;
       spare = c.loop-place.invariant.spare;
     }

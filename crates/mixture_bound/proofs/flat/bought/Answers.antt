@@ -3,7 +3,7 @@ use Rattle.mixture_bound.proofs.Common.{arith, ints, to_z-of_z, slice_get-get_or
 use Rattle.mixture_bound.proofs.Common.{fits_within, Block, best_bought}
 use Rattle.std.specs.Int.{cast_signed}
 use Rattle.std.proofs.lemmas.List.{take_all}
-use Rattle.mixture_bound.proofs.Flats.{bought_limit}
+use Rattle.mixture_bound.proofs.Bought.{bought_limit}
 use Rattle.mixture_bound.proofs.SumLaws.{total_more}
 use Rattle.mixture_bound.proofs.flat.bought.Goals as goal
 

@@ -2,17 +2,11 @@ use Rattle.run_settle.proofs.Common.{rules, ◌≡◌, w64, to_z-of_z, List, len
 use Rattle.run_settle.proofs.Common.{length-map, Market, Proposal, proposal_of, own_rows}
 use Rattle.gap_proof.specs.Sums.{IsRowWithin}
 use Rattle.run_settle.proofs.SettleLaws.{chosen_place}
-use Rattle.run_settle.proofs.BoundLaws.{best_told}
+use Rattle.run_settle.proofs.BoundLaws.{bound_told}
 use Rattle.run_settle.proofs.bound.certify.Goals as goal
 
 pub returns-clause-told : goal.returns-clause-told
-returns-clause-told c =
-    best_told c.run_bounds_hold.ensures c.one_row_is_chosen.ensures c.finished_has_row.ensures c.finished_is_run.ensures
-    c.rows_are_within.ensures c.args.closed.now c.args.radius
-    (record { first = c.best_range.result.first; last = c.best_range.result.last }) c.best_range.result.bound
-    c.rows.ensures.setup c.rows.ensures.legal c.requires.finished c.requires.radius.at_least
-    (rw (to_z-of_z w64 c.args.radius (search rules), c.case.ensures, c.rows.ensures.rows, c.chosen.ensures) at
-    c.best_range.ensures.best) c.best_range.ensures.most
+returns-clause-told c = bound_told c.best_range.result.bound c.best_range.ensures.limits
 
 pub best_range-requires-clause-rows : goal.best_range-requires-clause-rows
 best_range-requires-clause-rows c =

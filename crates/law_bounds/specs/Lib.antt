@@ -1,0 +1,4 @@
+-- the bound by rows
+pub mod Laws
+-- the bound by a mixture
+pub mod MixtureLaws
