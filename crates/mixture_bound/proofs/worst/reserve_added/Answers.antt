@@ -2,6 +2,19 @@ use Rattle.mixture_bound.proofs.Common.{rules, ℤ, ◌*ℤ◌, ap, FitsSigned, 
 use Rattle.mixture_bound.proofs.Common.{signed_product_within, fits_within}
 use Rattle.mixture_bound.proofs.worst.reserve_added.Goals as goal
 
+pub overflow_mul-result : goal.overflow_mul-result
+overflow_mul-result c =
+    let p = c.ranges.lacking in
+    let q = c.ranges.price in
+    let a : FitsSigned w128 c.from.result = search rules in
+    let e = simp to_z-of_z at c.from.ensures in
+    let within : IsWithin 177000000000000000000000000000000 (c.args.lacking *ℤ c.from.result) =
+    rw e (signed_product_within 17700000000000000000000000 10000000 c.args.lacking c.args.price c.requires.lacking
+    c.requires.price) in
+    let fits = fits_within w128 177000000000000000000000000000000 (c.args.lacking *ℤ c.from.result) within
+    (omega arith) in
+    simp to_z-of_z fits
+
 pub returns-clause-value : goal.returns-clause-value
 returns-clause-value c =
     let p = c.ranges.lacking in
