@@ -1,7 +1,7 @@
 -- Products and sums within bounds.
-use Rattle.gap_proof.proofs.Common.{◌≡◌, ℕ, suc, ◌+◌, ◌*◌, ◌^◌, ◌<◌, ◌≤◌, FitsSigned, ℤ, pos, negsuc, neg_ℤ, ◌+ℤ◌, ◌-ℤ◌}
-use Rattle.gap_proof.proofs.Common.{◌*ℤ◌, sym, ap, ◌∙◌, subst, arith, ints, *ℤ-zero, mul-le-mul_right, w128, IsFrom}
-use Rattle.gap_proof.proofs.Common.{mul-add, mul-sub, *ℤ_comm, suc_ℤ-*ℤ, zero-*ℤ, IsWithin, product_within, fits_within}
+use Rattle.gap_proof.proofs.Common.{◌≡◌, ℕ, ◌+◌, ◌*◌, ◌^◌, ◌<◌, ◌≤◌, FitsSigned, ℤ, pos, ◌+ℤ◌, ◌*ℤ◌, arith, ints}
+use Rattle.gap_proof.proofs.Common.{mul-le-mul_right, w128, IsFrom, mul-add, *ℤ_comm, suc_ℤ-*ℤ, zero-*ℤ, IsWithin}
+use Rattle.gap_proof.proofs.Common.{fits_within}
 use mir.Val.{hbits}
 
 pub add-mul : (a b c : ℤ) → (a +ℤ b) *ℤ c ≡ (a *ℤ c) +ℤ (b *ℤ c)
@@ -11,31 +11,6 @@ add-mul a b c =
 
 pub one_mul : (b : ℤ) → pos 1 *ℤ b ≡ b
 one_mul b = let e = suc_ℤ-*ℤ (pos 0) b in let f = zero-*ℤ b in omega (arith, ints, e, f)
-
-mul-neg : (a b : ℤ) → a *ℤ neg_ℤ b ≡ neg_ℤ (a *ℤ b)
-mul-neg a b =
-    let turn : neg_ℤ b ≡ pos 0 -ℤ b = omega (arith, ints) in
-    let e = ap (λ (z : ℤ). a *ℤ z) turn ∙ mul-sub a (pos 0) b in
-    let none = *ℤ-zero a in
-    omega (arith, ints, e, none)
-
-negated_within : (n : ℕ) (z : ℤ) → IsWithin n z → IsWithin n (neg_ℤ z)
-negated_within n z h = let a = h.at_least in let b = h.at_most in
-    record { at_least = omega (arith, ints, a, b); at_most = omega (arith, ints, a, b) }
-
-pub signed_product_within : (m n : ℕ) (x y : ℤ) → IsWithin m x → IsWithin n y → IsWithin (m * n) (x *ℤ y)
-signed_product_within m n x (pos k) h i =
-    product_within m n x (pos k) h (record { at_least = omega (arith, ints); at_most = i.at_most })
-signed_product_within m n x (negsuc k) h i =
-    let low = i.at_least in
-    let up : IsFrom (pos 0) (pos n) (pos (suc k)) =
-    record { at_least = omega (arith, ints); at_most = omega (arith, ints, low) } in
-    subst (IsWithin (m * n)) (sym (mul-neg x (pos (suc k))))
-    (negated_within (m * n) (x *ℤ pos (suc k)) (product_within m n x (pos (suc k)) h up))
-
-pub wider : (m n : ℕ) (z : ℤ) → m ≤ n → IsWithin m z → IsWithin n z
-wider m n z le h = let a = h.at_least in let b = h.at_most in
-    record { at_least = omega (arith, ints, le, a); at_most = omega (arith, ints, le, b) }
 
 pub within_both : (n : ℕ) (z : ℤ) → IsFrom (pos 0) (pos n) z → IsWithin n z
 within_both n z h = let a = h.at_least in let b = h.at_most in record { at_least = omega (arith, ints, a); at_most = b }

@@ -1,5 +1,6 @@
 -- The lemmas that answers cite, passed on from one place.
-pub use Rattle.gap_proof.proofs.Bounds.{signed_product_within, within_both, sum_step}
+pub use Rattle.gap_proof.proofs.Bounds.{within_both, sum_step}
+pub use Rattle.plain_lists.proofs.SignedLaws.{signed_product_within}
 pub use Rattle.gap_proof.proofs.Least.{least_one, least_more, least_from, IsLeastBehind}
 pub use Rattle.gap_proof.proofs.RangeLaws.{one_bound}
 unfoldable pub use Rattle.gap_proof.proofs.RangeLaws.{back_bounds}

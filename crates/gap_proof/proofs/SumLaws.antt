@@ -6,7 +6,8 @@ use Rattle.gap_proof.proofs.Common.{All-tail, int_max, All, PriceLists, Market, 
 use Rattle.gap_proof.proofs.Common.{Proposal, int_at, floor_div, sum_below-same, IsWithin, IsRowOver, slope_at}
 use Rattle.gap_proof.proofs.Common.{height_of, weighted, low_end, high_end, most_over, certified_bound, IsWeight}
 use Rattle.gap_proof.proofs.Common.{IsSlopeSum, IsHeightSum, AreSums}
-use Rattle.gap_proof.proofs.Bounds.{signed_product_within, within_both}
+use Rattle.gap_proof.proofs.Bounds.{within_both}
+use Rattle.plain_lists.proofs.SignedLaws.{signed_product_within}
 
 -- on which side of the number of periods a price place is
 pub lt_true : (a b : ℕ) → a < b → nat_lt a b ≡ true

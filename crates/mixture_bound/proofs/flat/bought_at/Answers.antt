@@ -3,7 +3,7 @@ use Rattle.mixture_bound.proofs.Common.{subst, FitsSigned, arith, ints, to_z-of_
 use Rattle.mixture_bound.proofs.Common.{fits_within, get_or_from_slice_get, total, Block, NamedBidUnit, IsBidUnit}
 use Rattle.mixture_bound.proofs.Common.{IsBlockList, best_bought, blocks_at, market_of}
 use Rattle.std.specs.Int.{cast_signed}
-use Rattle.std.proofs.lemmas.List.{length-map}
+use Rattle.std.proofs.lemmas.List.{length-map, take_all}
 use Rattle.plain_lists.proofs.ListLaws.{item_of, map_item}
 use Rattle.uc_model.specs.PlainUnits.{bid_of, named_bid_of}
 use Rattle.plain_lists.specs.Reserved.{items_in}
@@ -72,3 +72,19 @@ loop-number-preserved c =
     let fits = fits_within w128 100000000000000000000 (cast_signed w128 c.loop-number.sum-bits +ℤ c.from-sum.result)
     within (omega arith) in
     record { is = simp to_z-of_z sum; limit = simp to_z-of_z limit }
+
+pub returns-clause-value : goal.returns-clause-value
+returns-clause-value c =
+    let m = market_of c.args.case.now in
+    let k = c.args.place in
+    let i = c.loop-number.number in
+    let q = c.ranges.price in
+    let mapped = length-map c.args.case.now.bids.items named_bid_of in
+    let test = c.loop-number-test.false in
+    let end = c.len-number-end.ensures in
+    let so_far : cast_signed w128 c.loop-number.sum-bits ≡ total
+    (map (λ (n : NamedBidUnit). best_bought (blocks_at n.unit k) c.args.price) (take i m.bids)) =
+    simp to_z-of_z at c.loop-number.invariant.is in
+    let whole = ap (λ l. total (map (λ (n : NamedBidUnit). best_bought (blocks_at n.unit k) c.args.price) l))
+    (take_all i m.bids (omega (arith, mapped, test, end))) in
+    so_far ∙ whole

@@ -15,8 +15,8 @@ overflow_mul-result c =
     (omega arith) in
     simp to_z-of_z fits
 
-pub returns-clause-value : goal.returns-clause-value
-returns-clause-value c =
+pub returns : goal.returns
+returns c =
     let p = c.ranges.lacking in
     let q = c.ranges.price in
     let a : FitsSigned w128 c.from.result = search rules in
@@ -26,17 +26,4 @@ returns-clause-value c =
     c.requires.price) in
     let fits = fits_within w128 177000000000000000000000000000000 (c.args.lacking *ℤ c.from.result) within
     (omega arith) in
-    simp to_z-of_z (ap (λ (z : ℤ). c.args.lacking *ℤ z) e)
-
-pub returns-clause-limit : goal.returns-clause-limit
-returns-clause-limit c =
-    let p = c.ranges.lacking in
-    let q = c.ranges.price in
-    let a : FitsSigned w128 c.from.result = search rules in
-    let e = simp to_z-of_z at c.from.ensures in
-    let within : IsWithin 177000000000000000000000000000000 (c.args.lacking *ℤ c.from.result) =
-    rw e (signed_product_within 17700000000000000000000000 10000000 c.args.lacking c.args.price c.requires.lacking
-    c.requires.price) in
-    let fits = fits_within w128 177000000000000000000000000000000 (c.args.lacking *ℤ c.from.result) within
-    (omega arith) in
-    simp to_z-of_z within
+    record { value = simp to_z-of_z (ap (λ (z : ℤ). c.args.lacking *ℤ z) e); limit = simp to_z-of_z within }
