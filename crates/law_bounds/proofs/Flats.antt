@@ -1,9 +1,9 @@
 -- What renewable units and bids earn at best, period by period, is at most what their best schedules earn.
-use Rattle.law_bounds.proofs.Common.{◌≡◌, ℕ, ◌<◌, Bool, true, false, if◌then◌else◌, ℤ, pos, negsuc, neg_ℤ, ◌-ℤ◌, ◌*ℤ◌}
-use Rattle.law_bounds.proofs.Common.{◌≤ℤ◌, int_le, int_lt, List, [], ◌∷◌, map, length, unsigned_abs, refl, sym, ap}
-use Rattle.law_bounds.proofs.Common.{subst, ◌∙◌, arith, ints, clamps, by_lt_z, *ℤ-zero, *ℤ_comm}
+use Rattle.law_bounds.proofs.Common.{◌≡◌, ℕ, ◌<◌, Bool, true, false, if◌then◌else◌, ℤ, pos, negsuc, neg_ℤ, ◌*ℤ◌}
+use Rattle.law_bounds.proofs.Common.{◌≤ℤ◌, int_le, List, [], ◌∷◌, map, length, unsigned_abs, refl, sym, ap}
+use Rattle.law_bounds.proofs.Common.{subst, ◌∙◌, arith, ints, clamps, by_lt_z}
 use Rattle.law_bounds.proofs.Common.{length-map-range_with_len, get_or-map-range_with_len, int_max, All, AllZip}
-use Rattle.law_bounds.proofs.Common.{range_with_len, slice_index, head_of, tail_of, mul-mono_of, sum_below-same}
+use Rattle.law_bounds.proofs.Common.{range_with_len, slice_index, head_of, tail_of, sum_below-same}
 use Rattle.law_bounds.proofs.Common.{sum_below-add, sum_below-zero, Block, AnyUnit, Flat, Bid, RenewableUnit, BidUnit}
 use Rattle.law_bounds.proofs.Common.{NamedRenewableUnit, NamedBidUnit, PriceLists, Schedule, IsTop, IsFrom, IsBlockList}
 use Rattle.law_bounds.proofs.Common.{IsRenewableUnit, IsBidUnit, price_limit, blocks_at, int_at, total, sum_below}

@@ -1,12 +1,12 @@
 -- No prices in the box have a dual value above the bound.
 use Rattle.law_bounds.proofs.Common.{◌≡◌, ℕ, ◌+◌, ◌<◌, ◌≤◌, Bool, if◌then◌else◌, ℤ, pos, negsuc, neg_ℤ, ◌+ℤ◌, ◌-ℤ◌}
 use Rattle.law_bounds.proofs.Common.{◌*ℤ◌, ◌≤ℤ◌, List, [], ◌∷◌, ◌++◌, map, length, unsigned_abs, refl, sym, ap, subst}
-use Rattle.law_bounds.proofs.Common.{◌∙◌, arith, ints, clamps, *ℤ_comm, int_max, All, AllZip, mul-add, mul-sub}
+use Rattle.law_bounds.proofs.Common.{◌∙◌, arith, ints, clamps, *ℤ_comm, All, AllZip, mul-add, mul-sub}
 use Rattle.law_bounds.proofs.Common.{mul-mono_of, sum_below-le, sum_below-sub, AnyUnit, Thermal, Flat, Bid}
-use Rattle.law_bounds.proofs.Common.{NamedThermalUnit, NamedRenewableUnit, NamedBidUnit, PriceLists, Schedule, Market}
+use Rattle.law_bounds.proofs.Common.{NamedThermalUnit, NamedRenewableUnit, NamedBidUnit, PriceLists, Market}
 use Rattle.law_bounds.proofs.Common.{IsTop, IsFrom, IsMarket, IsRenewableUnit, IsBidUnit, price_limit, blocks_at}
-use Rattle.law_bounds.proofs.Common.{int_at, total, sum_below, IsDualValue, worth_of_demand, IsSettled, IsFeasiblePlan}
-use Rattle.law_bounds.proofs.Common.{plan_cost, low_end, high_end, IsInBox, ArePriced, WeighedSchedule, MixtureLists}
+use Rattle.law_bounds.proofs.Common.{int_at, total, sum_below, IsDualValue, worth_of_demand}
+use Rattle.law_bounds.proofs.Common.{low_end, high_end, IsInBox, WeighedSchedule, MixtureLists}
 use Rattle.law_bounds.proofs.Common.{AreMixed, IsMixture, mixture_cost, lack, short, best_sold, best_bought, added}
 use Rattle.law_bounds.proofs.Common.{most_energy, most_reserve, mixture_bound}
 use Rattle.law_bounds.proofs.Box.{priced_in_box}

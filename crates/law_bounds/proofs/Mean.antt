@@ -2,7 +2,7 @@
 use Rattle.law_bounds.proofs.Common.{◌≡◌, ℕ, zero, suc, ◌*◌, ◌/◌, ◌<◌, ◌≤◌, ℤ, pos, negsuc, neg_ℤ, ◌+ℤ◌, ◌-ℤ◌, ◌*ℤ◌}
 use Rattle.law_bounds.proofs.Common.{◌≤ℤ◌, ◌<ℤ◌, unsigned_abs, List, [], ◌∷◌, length, refl, sym, ap, ◌∙◌, arith, ints}
 use Rattle.law_bounds.proofs.Common.{clamps, All-head, All-tail, *ℤ_comm, *ℤ-zero, zero-*ℤ, pos-*ℤ-pos, *ℤ-negsuc}
-use Rattle.law_bounds.proofs.Common.{suc_ℤ-*ℤ, pred_ℤ-*ℤ, ℤ_ind, div-lt_iff_lt-mul, mul_comm, int_max, All, PriceLists}
+use Rattle.law_bounds.proofs.Common.{pred_ℤ-*ℤ, ℤ_ind, div-lt_iff_lt-mul, mul_comm, int_max, All, PriceLists}
 use Rattle.law_bounds.proofs.Common.{Market, IsFrom, Proposal, total, sum_below, floor_div, IsDualValue, mul-add}
 use Rattle.law_bounds.proofs.Common.{mul-sub, mul-mono_of, sum_below-le, sum_below-same, sum_below-add, sum_below-zero}
 use Rattle.law_bounds.proofs.Common.{price_at, slope_at, height_of, weighted, low_end, high_end, most_over}

@@ -1,7 +1,7 @@
 -- A row's plane is nowhere below the dual.
-use Rattle.law_bounds.proofs.Common.{◌≡◌, ℕ, zero, suc, ◌+◌, ◌-◌, ◌*◌, ◌<◌, ◌≤◌, Bool, true, false, nat_lt}
+use Rattle.law_bounds.proofs.Common.{◌≡◌, ℕ, zero, suc, ◌+◌, ◌-◌, ◌*◌, ◌<◌, Bool}
 use Rattle.law_bounds.proofs.Common.{if◌then◌else◌, ℤ, pos, ◌+ℤ◌, ◌-ℤ◌, ◌*ℤ◌, ◌≤ℤ◌, List, [], ◌∷◌, map, length, refl}
-use Rattle.law_bounds.proofs.Common.{sym, ap, ◌∙◌, subst, arith, ints, nat_tests, get_or-map-range_with_len, *ℤ_comm}
+use Rattle.law_bounds.proofs.Common.{sym, ap, ◌∙◌, subst, arith, ints, get_or-map-range_with_len, *ℤ_comm}
 use Rattle.law_bounds.proofs.Common.{AllZip, zip, AnyUnit, Thermal, Flat, Bid, PriceLists, Schedule, Market, units}
 use Rattle.law_bounds.proofs.Common.{Proposal, HasTotals, Fits, int_at, total, sum_below, zip_with, total_power}
 use Rattle.law_bounds.proofs.Common.{total_reserve, worth_of_demand, IsDualValue, mul-sub, sum_below-same}

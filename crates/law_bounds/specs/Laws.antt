@@ -1,6 +1,6 @@
 -- What a bound by rows says of all prices in its box. Each law is the clause of a public
 -- function of its name.
-use Rattle.std.specs.Prelude.{◌≡◌, ℕ, ◌-◌, ◌*◌, ◌<◌, ◌≤◌, ℤ, pos, neg_ℤ, ◌≤ℤ◌, ◌<ℤ◌, Some, List}
+use Rattle.std.specs.Prelude.{◌≡◌, ℕ, ◌-◌, ◌*◌, ◌<◌, ◌≤◌, ℤ, pos, neg_ℤ, ◌≤ℤ◌, Some, List}
 use Rattle.std.specs.Prelude.{length, slice_get}
 use Rattle.std.specs.List.{All, AllZip}
 use Rattle.uc_model.specs.Data.{PriceLists, Schedule, Market, units}
