@@ -1,5 +1,5 @@
 -- What the blocks of a bid gain at best.
-use Rattle.mixture_bound.proofs.Common.{◌≡◌, ℕ, Bool, false, if◌then◌else◌, ℤ, pos, neg_ℤ, ◌-ℤ◌, ◌*ℤ◌, ◌≤ℤ◌, int_lt}
+use Rattle.mixture_bound.proofs.Common.{◌≡◌, Bool, false, if◌then◌else◌, ℤ, pos, neg_ℤ, ◌-ℤ◌, ◌*ℤ◌, ◌≤ℤ◌, int_lt}
 use Rattle.mixture_bound.proofs.Common.{List, [], ◌∷◌, refl, sym, ap, ◌∙◌, arith, ints, clamps, by_lt_z, *ℤ-zero}
 use Rattle.mixture_bound.proofs.Common.{*ℤ_comm, int_max, mul-mono_of, Block, IsFrom, IsBlockList, price_limit}
 use Rattle.mixture_bound.proofs.Common.{best_bought}

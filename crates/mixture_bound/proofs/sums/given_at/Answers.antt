@@ -1,4 +1,4 @@
-use Rattle.mixture_bound.proofs.Common.{rules, ◌≡◌, ◌<◌, ◌≤◌, ℕ, ℤ, length, suc, ◌+◌, ◌*◌, pos, ◌+ℤ◌, List, map, take}
+use Rattle.mixture_bound.proofs.Common.{rules, ◌≡◌, ◌<◌, ◌≤◌, ℕ, ℤ, suc, ◌+◌, ◌*◌, pos, ◌+ℤ◌, List, map, take}
 use Rattle.mixture_bound.proofs.Common.{ap, sym, subst, ◌∙◌, FitsSigned, arith, ints, to_z-of_z, w128, IsFrom, IsWithin}
 use Rattle.mixture_bound.proofs.Common.{fits_within, total, zip_with, Thermal, NamedThermalUnit, supply_in, power_in}
 use Rattle.mixture_bound.proofs.Common.{reserve_in, WeighedSchedule, weighed, market_of}
