@@ -1,9 +1,9 @@
 -- The names that the proofs of this crate take from its specs and from other crates, passed on from one place.
 pub use Rattle.std.proofs.Common.{◌≡◌, ℕ, zero, suc, ◌+◌, ◌-◌, ◌*◌, ◌<◌, ◌≤◌, Some, ℤ, pos, ◌+ℤ◌, ◌*ℤ◌, List, [], ◌∷◌}
 pub use Rattle.std.proofs.Common.{length, unsigned_abs, refl, sym, ap, subst, ◌∙◌, arith, Bool, true, false, ◌&&◌}
-pub use Rattle.std.proofs.Common.{nat_le, if◌then◌else◌, ◌≤ℤ◌, ◌<ℤ◌, inl, inr, negsuc, neg_ℤ, ◌-ℤ◌, int_lt, map, ◌/◌}
-pub use Rattle.std.proofs.Common.{cond, Option, take, get_or, nat_lt, int_le, ◌++◌, slice_index}
-pub use Rattle.std.proofs.Math.IntN.{*ℤ-zero, *ℤ_comm, zero-*ℤ, pos-*ℤ-pos, *ℤ-negsuc, suc_ℤ-*ℤ, pred_ℤ-*ℤ, ℤ_ind}
+pub use Rattle.std.proofs.Common.{nat_le, if◌then◌else◌, ◌≤ℤ◌, ◌<ℤ◌, inl, inr, negsuc, neg_ℤ, ◌-ℤ◌, map, ◌/◌, cond}
+pub use Rattle.std.proofs.Common.{Option, take, get_or, int_le, ◌++◌, slice_index}
+pub use Rattle.std.proofs.Math.IntN.{*ℤ-zero, *ℤ_comm, zero-*ℤ, pos-*ℤ-pos, *ℤ-negsuc, pred_ℤ-*ℤ, ℤ_ind}
 pub use Rattle.std.proofs.Math.Nat.{div-lt_iff_lt-mul, mul_comm}
 pub use Rattle.std.proofs.lemmas.Bool.{cases_lt}
 pub use Rattle.std.proofs.lemmas.Bool.Decides.{nat_tests}
@@ -33,8 +33,7 @@ pub use Rattle.uc_model.specs.PriceRule.{stepped_prices, move_of, squared_length
 pub use Rattle.uc_model.specs.PriceRule.{age, next_prices, price_rule}
 pub use Rattle.uc_model.specs.Runs.{Fits, IsNextRow, HasTotals}
 pub use Rattle.uc_model.specs.Schedules.{reserve_in, IsThermalFeasible, blocks_at}
-pub use Rattle.uc_model.specs.Systems.{IsDualValue, total_power, total_reserve, worth_of_demand, IsSettled}
-pub use Rattle.uc_model.specs.Systems.{IsFeasiblePlan, plan_cost}
+pub use Rattle.uc_model.specs.Systems.{IsDualValue, total_power, total_reserve, worth_of_demand}
 pub use Rattle.uc_model.specs.declared.units.Block.{Block}
 pub use Rattle.gap_proof.specs.Candidates.{RowRange, range_weights, candidates, prices_of_row, IsFirstLeast}
 pub use Rattle.gap_proof.specs.CertifiedBound.{slope_at, height_of, most_over, price_at, lowest_price, weighted}
