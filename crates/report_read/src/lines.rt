@@ -1,10 +1,9 @@
 //! Lines of one form each, and the line in fault where one isn't in form.
-ghost use Rattle.std.specs.Prelude.{◌≡◌, ◌≤◌, [], codes};
+ghost use Rattle.std.specs.Prelude.{◌≡◌, ◌≤◌, []};
 ghost use Rattle.report_read.specs.Words.{Finds, spaced, flag_at, items_at};
 ghost use Rattle.report_read.specs.Words.{count_at as count_found};
 ghost use Rattle.report_read.specs.LineForms.{word_line as word_form, plain_line as plain_form};
 ghost use Rattle.report_read.specs.LineForms.{value_line as value_form, amount_at as amount_found};
-ghost use Rattle.report_read.specs.LineForms.{after, both};
 ghost use Rattle.report_read.specs.Lines.{Gives, line, count_line as count_spec};
 ghost use Rattle.report_read.specs.Lines.{amount_line as amount_spec, list_line, price_at};
 ghost use Rattle.report_read.specs.Lines.{total_at, power_at};
@@ -84,27 +83,15 @@ pub struct Valued {
     pub value: i128,
 }
 
-// What stands behind the word of such a line.
-#[tactic(auto, unfolding(crate::specs::LineForms::both, crate::specs::LineForms::after))]
-fn valued_at(bytes: &[u8], least: u32, most: u32) -> Option<(Valued, &[u8])>
-    ensures { Finds (λ x. ((x.0.number, x.0.value), x.1.now)) result
-        (both (count_found least most) (after (codes " value ") amount_found) bytes.now) }
-{
-    let (number, rest) = count_at(bytes, least, most)?;
-    let rest = behind(b" value ", rest)?;
-    let (value, rest) = amount_at(rest)?;
-    Some((Valued { number, value }, rest))
-}
-
-#[tactic(auto, unfolding(crate::specs::LineForms::ended, crate::specs::LineForms::after))]
+// The value, its word and the end of the line are a line of an amount.
 fn value_in<'a>(word: &[u8], least: u32, most: u32, bytes: &'a [u8]) -> Option<(Valued, &'a [u8])>
     ensures { Finds (λ x. ((x.0.number, x.0.value), x.1.now)) result
         (value_form word.now least most bytes.now) }
 {
     let rest = behind(word, bytes)?;
-    let (valued, rest) = valued_at(rest, least, most)?;
-    let rest = behind(b"\n", rest)?;
-    Some((valued, rest))
+    let (number, rest) = count_at(rest, least, most)?;
+    let (value, rest) = amount_in(b" value ", rest)?;
+    Some((Valued { number, value }, rest))
 }
 
 /// A word, the number of a proposal from `least` to `most`, and its value in money.

@@ -2,6 +2,7 @@
 
 use plain_lists::lists::{Name, ReservedList};
 use std::alloc::Global;
+use std::fmt;
 use thiserror::Error;
 use uc_model::cases::Row;
 use uc_model::kinds::Kind;
@@ -95,7 +96,7 @@ impl Drop for Report {
 }
 
 /// Why a report wasn't read.
-#[derive(Debug, Drop, Error)]
+#[derive(Drop, Error)]
 pub enum ReportError {
     /// The first line that isn't in form or has a number out of bounds, from 1; the number of whole
     /// lines and one more where the text ends too early.
@@ -103,4 +104,11 @@ pub enum ReportError {
     Fault { line: u32 },
     #[error("out of memory")]
     Memory,
+}
+
+// Written out, since a derived one is dear to prove.
+impl fmt::Debug for ReportError {
+    fn fmt<W: fmt::Write>(&self, f: &mut fmt::Formatter<W>) -> fmt::Result {
+        fmt::Display::fmt(self, f)
+    }
 }

@@ -1,4 +1,5 @@
-use Rattle.report_read.proofs.Common.{refl, rules, w128, to_z-of_z, head_at}
+use Rattle.report_read.proofs.Common.{refl, rules, w128, to_z-of_z, head_at, err_from_is_err_and}
+use Rattle.report_read.proofs.Stopped.{no_title, no_periods, no_units, no_run}
 use Rattle.report_read.proofs.head.read_head.Goals as goal
 
 pub returns : goal.returns
@@ -11,3 +12,27 @@ returns c =
       c.in_ok-units.ensures,
       c.in_ok-lines.ensures,
     ) refl
+
+pub returns-in_err-rest : goal.returns-in_err-rest
+returns-in_err-rest c =
+    let p = err_from_is_err_and c.from_residual.result c.from_residual.ensures.1 in
+    rw (p.1, p.2) (no_title c.in_err-rest.field-0.0 c.args.bytes.now c.in_err-rest.ensures)
+
+pub returns-in_err-periods : goal.returns-in_err-periods
+returns-in_err-periods c =
+    let p = err_from_is_err_and c.from_residual-in_err-periods.result c.from_residual-in_err-periods.ensures.1 in
+    rw (p.1, p.2) (no_periods c.in_err-periods.field-0.0 c.args.bytes.now c.in_ok-rest.rest.now c.in_ok-rest.ensures
+    c.in_err-periods.ensures)
+
+pub returns-in_err-units : goal.returns-in_err-units
+returns-in_err-units c =
+    let p = err_from_is_err_and c.from_residual-in_err-units.result c.from_residual-in_err-units.ensures.1 in
+    rw (p.1, p.2) (no_units c.in_err-units.field-0.0 c.args.bytes.now c.in_ok-rest.rest.now c.in_ok-periods.periods
+    c.in_ok-periods.rest.now c.in_ok-rest.ensures c.in_ok-periods.ensures c.in_err-units.ensures)
+
+pub returns-in_err-lines : goal.returns-in_err-lines
+returns-in_err-lines c =
+    let p = err_from_is_err_and c.from_residual-in_err-lines.result c.from_residual-in_err-lines.ensures.1 in
+    rw (p.1, p.2) (no_run c.in_err-lines.field-0.0 c.args.bytes.now c.in_ok-rest.rest.now c.in_ok-periods.periods
+    c.in_ok-periods.rest.now c.in_ok-units.units c.in_ok-units.rest.now c.in_ok-rest.ensures c.in_ok-periods.ensures
+    c.in_ok-units.ensures c.in_err-lines.ensures)

@@ -1,5 +1,6 @@
-use Rattle.report_read.proofs.Common.{arith, rules}
+use Rattle.report_read.proofs.Common.{arith, rules, map, proposal_of, err_from_is_err_and}
 use Rattle.report_read.proofs.Lemmas.{head_is, head_shorter}
+use Rattle.report_read.proofs.Stopped.{no_head, no_rows, no_ending}
 use Rattle.report_read.proofs.read.report_in_front.Goals as goal
 
 pub read_rows-requires : goal.read_rows-requires
@@ -9,3 +10,21 @@ read_rows-requires c =
     let low = h.periods.at_least in
     let high = h.periods.at_most in
     record { some = low; limit = high; few = omega arith; numbers = search rules }
+
+pub returns-in_err-head-clause-exact : goal.returns-in_err-head-clause-exact
+returns-in_err-head-clause-exact c =
+    let p = err_from_is_err_and c.from_residual.result c.from_residual.ensures.1 in
+    rw (p.1, p.2) (no_head c.in_err-head.field-0.0 c.args.bytes.now c.in_err-head.ensures)
+
+pub returns-in_err-rows-clause-exact : goal.returns-in_err-rows-clause-exact
+returns-in_err-rows-clause-exact c =
+    let p = err_from_is_err_and c.from_residual-in_err-rows.result c.from_residual-in_err-rows.ensures.1 in
+    rw (p.1, p.2) (no_rows c.in_err-rows.field-0.0 c.args.bytes.now c.in_ok-head.head c.in_ok-head.rest.now
+    c.in_ok-head.ensures c.in_err-rows.ensures)
+
+pub returns-in_err-ending-clause-exact : goal.returns-in_err-ending-clause-exact
+returns-in_err-ending-clause-exact c =
+    let p = err_from_is_err_and c.from_residual-in_err-ending.result c.from_residual-in_err-ending.ensures.1 in
+    rw (p.1, p.2) (no_ending c.in_err-ending.field-0.0 c.args.bytes.now c.in_ok-head.head c.in_ok-head.rest.now
+    (map proposal_of c.in_ok-rows.rows.items) c.in_ok-rows.rest.now c.in_ok-head.ensures c.in_ok-rows.ensures
+    c.in_err-ending.ensures.exact)

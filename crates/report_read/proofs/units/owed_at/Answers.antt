@@ -12,3 +12,22 @@ returns c =
       c.in_ok-scheduled.ensures,
       c.in_ok-payment.ensures,
     ) refl
+
+pub returns-in_err-earned : goal.returns-in_err-earned
+unfolding both
+returns-in_err-earned c = rw (c.from_residual.ensures, c.in_err-earned.ensures) refl
+
+pub returns-in_err-scheduled : goal.returns-in_err-scheduled
+unfolding both
+returns-in_err-scheduled c =
+    rw (c.from_residual-in_err-scheduled.ensures, c.in_ok-earned.ensures, c.in_err-scheduled.ensures) refl
+
+pub returns-in_err-payment : goal.returns-in_err-payment
+unfolding both
+returns-in_err-payment c =
+    rw (
+      c.from_residual-in_err-payment.ensures,
+      c.in_ok-earned.ensures,
+      c.in_ok-scheduled.ensures,
+      c.in_err-payment.ensures,
+    ) refl

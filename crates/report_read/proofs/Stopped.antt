@@ -1,0 +1,134 @@
+-- Where a part isn't found, neither is what begins with it; where a line is in fault, so is what goes on with it.
+use Rattle.report_read.proofs.Common.{◌≡◌, ℕ, ℤ, pos, neg_ℤ, List, [], ◌∷◌, codes, Option, Some, None, Ok, Err, refl}
+use Rattle.report_read.proofs.Common.{Found, ◌>>=◌, behind_spec, count_at, amount_at, value_line, ended, after, both}
+use Rattle.report_read.proofs.Common.{Fails, line, then_lines, count_line, amount_line, list_line, price_at, total_at}
+use Rattle.report_read.proofs.Common.{head_at, row_at, rows_at, units_at, foot_at, report_at, Head, Proposal}
+use Rattle.report_read.proofs.Common.{MOST_PERIODS, MOST_UNITS, MOST_PROPOSALS, PRICE_LIMIT}
+use Rattle.plain_lists.specs.declared.limits.TheConstants.{MOST_AHEAD}
+use Rattle.report_read.specs.LineForms.{word_line, plain_line}
+use Rattle.report_read.specs.Words.{most_count}
+use Rattle.report_read.specs.declared.stop.Stop.{Stop}
+use Rattle.report_read.specs.declared.stop.Stop.TheVariants as stops
+
+-- ---- a number, and a line of an amount behind it
+
+abbrev with_rest : {A : Type 0} → A → List ℕ → Found A
+with_rest x rest = Some (x, rest)
+
+abbrev numbered : ℕ → ℤ × List ℕ → Found (ℕ × ℤ)
+numbered n y = Some ((n, y.0), y.1)
+
+abbrev to_end : {A : Type 0} → A × List ℕ → Found A
+to_end z = behind_spec (10 ∷ []) z.1 >>= with_rest z.0
+
+with_number : (n : ℕ) (x : ℤ) (rest : Option (List ℕ)) →
+    (rest >>= with_rest {A = ℕ × ℤ} (n, x)) ≡ ((rest >>= with_rest x) >>= numbered n)
+with_number n x None = refl
+with_number n x (Some r) = refl
+
+ended_behind : (n : ℕ) (found : Found ℤ) →
+    ((found >>= numbered n) >>= to_end {A = ℕ × ℤ}) ≡ ((found >>= to_end {A = ℤ}) >>= numbered n)
+ended_behind n None = refl
+ended_behind n (Some x) = with_number n x.0 (behind_spec (10 ∷ []) x.1)
+
+pub value_is : (word : List ℕ) (least most : ℕ) (bytes rest : List ℕ) (n : ℕ) (mid : List ℕ) →
+    behind_spec word bytes ≡ Some rest → count_at least most rest ≡ Some (n, mid)
+    → value_line word least most bytes
+    ≡ (word_line (codes " value ") amount_at mid >>= numbered n)
+unfolding ended after both
+value_is word least most bytes rest n mid found number =
+    rw (found, number) (ended_behind n (after (codes " value ") amount_at mid))
+
+-- ---- the first seven lines
+
+pub no_title : (e : Stop) (bytes : List ℕ) → Fails e (line (plain_line (codes "hull-report 1")) bytes) →
+    Fails e (head_at bytes)
+unfolding head_at
+no_title stops.Memory bytes h = tt
+no_title (stops.Fault left) bytes h = rw h refl
+
+pub no_periods : (e : Stop) (bytes rest : List ℕ) →
+    line (plain_line (codes "hull-report 1")) bytes ≡ Ok (tt, rest)
+    → Fails e (count_line (codes "periods ") 1 MOST_PERIODS rest) → Fails e (head_at bytes)
+unfolding head_at
+no_periods stops.Memory bytes rest title h = tt
+no_periods (stops.Fault left) bytes rest title h = rw (title, h) refl
+
+pub no_units : (e : Stop) (bytes rest : List ℕ) (periods : ℕ) (after : List ℕ) →
+    line (plain_line (codes "hull-report 1")) bytes ≡ Ok (tt, rest)
+    → count_line (codes "periods ") 1 MOST_PERIODS rest ≡ Ok (periods, after)
+    → Fails e (count_line (codes "units ") 1 MOST_UNITS after) → Fails e (head_at bytes)
+unfolding head_at
+no_units stops.Memory bytes rest periods after title long h = tt
+no_units (stops.Fault left) bytes rest periods after title long h = rw (title, long, h) refl
+
+pub no_run : (e : Stop) (bytes rest : List ℕ) (periods : ℕ) (after : List ℕ) (units : ℕ) (more : List ℕ) →
+    line (plain_line (codes "hull-report 1")) bytes ≡ Ok (tt, rest)
+    → count_line (codes "periods ") 1 MOST_PERIODS rest ≡ Ok (periods, after)
+    → count_line (codes "units ") 1 MOST_UNITS after ≡ Ok (units, more)
+    → Fails e (then_lines (count_line (codes "budget ") 1 MOST_PROPOSALS) (λ _.
+    then_lines (count_line (codes "ahead ") 1 MOST_AHEAD) (λ _.
+    then_lines (amount_line (codes "cost ")) (λ _.
+    count_line (codes "proposals ") 1 most_count))) more)
+    → Fails e (head_at bytes)
+unfolding head_at
+no_run stops.Memory bytes rest periods after units more title long each h = tt
+no_run (stops.Fault left) bytes rest periods after units more title long each h = rw (title, long, each, h) refl
+
+-- ---- a proposal
+
+pub no_value : (e : Stop) (periods number : ℕ) (bytes : List ℕ) →
+    Fails e (line (value_line (codes "proposal ") number number) bytes) → Fails e (row_at periods number bytes)
+unfolding row_at
+no_value stops.Memory periods number bytes h = tt
+no_value (stops.Fault left) periods number bytes h = rw h refl
+
+pub no_energy : (e : Stop) (periods number : ℕ) (bytes : List ℕ) (valued : ℕ × ℤ) (rest : List ℕ) →
+    line (value_line (codes "proposal ") number number) bytes ≡ Ok (valued, rest)
+    → Fails e (list_line (codes "energy") (price_at (neg_ℤ PRICE_LIMIT) PRICE_LIMIT) periods rest) →
+    Fails e (row_at periods number bytes)
+unfolding row_at
+no_energy stops.Memory periods number bytes valued rest value h = tt
+no_energy (stops.Fault left) periods number bytes valued rest value h = rw (value, h) refl
+
+pub no_reserve : (e : Stop) (periods number : ℕ) (bytes : List ℕ) (valued : ℕ × ℤ) (rest : List ℕ) (energy : List ℤ)
+    (after : List ℕ) → line (value_line (codes "proposal ") number number) bytes ≡ Ok (valued, rest)
+    → list_line (codes "energy") (price_at (neg_ℤ PRICE_LIMIT) PRICE_LIMIT) periods rest ≡ Ok (energy, after)
+    → Fails e (list_line (codes "reserve") (price_at (pos 0) PRICE_LIMIT) periods after) →
+    Fails e (row_at periods number bytes)
+unfolding row_at
+no_reserve stops.Memory periods number bytes valued rest energy after value prices h = tt
+no_reserve (stops.Fault left) periods number bytes valued rest energy after value prices h = rw (value, prices, h) refl
+
+pub no_totals : (e : Stop) (periods number : ℕ) (bytes : List ℕ) (valued : ℕ × ℤ) (rest : List ℕ) (energy : List ℤ)
+    (after : List ℕ) (reserve : List ℤ) (more : List ℕ) →
+    line (value_line (codes "proposal ") number number) bytes ≡ Ok (valued, rest)
+    → list_line (codes "energy") (price_at (neg_ℤ PRICE_LIMIT) PRICE_LIMIT) periods rest ≡ Ok (energy, after)
+    → list_line (codes "reserve") (price_at (pos 0) PRICE_LIMIT) periods after ≡ Ok (reserve, more)
+    → Fails e (then_lines (list_line (codes "supplied") total_at periods)
+    (λ _. list_line (codes "reserved") total_at periods) more) → Fails e (row_at periods number bytes)
+unfolding row_at
+no_totals stops.Memory periods number bytes valued rest energy after reserve more value prices others h = tt
+no_totals (stops.Fault left) periods number bytes valued rest energy after reserve more value prices others h =
+    rw (value, prices, others, h) refl
+
+-- ---- the whole report
+
+pub no_head : (e : Stop) (bytes : List ℕ) → Fails e (head_at bytes) → Fails e (report_at bytes)
+unfolding report_at
+no_head stops.Memory bytes h = tt
+no_head (stops.Fault left) bytes h = rw h refl
+
+pub no_rows : (e : Stop) (bytes : List ℕ) (head : Head) (rest : List ℕ) → head_at bytes ≡ Ok (head, rest) →
+    Fails e (rows_at head.periods 1 head.proposals rest) → Fails e (report_at bytes)
+unfolding report_at
+no_rows stops.Memory bytes head rest first h = tt
+no_rows (stops.Fault left) bytes head rest first h = rw (first, h) refl
+
+pub no_ending : (e : Stop) (bytes : List ℕ) (head : Head) (rest : List ℕ) (rows : List Proposal) (after : List ℕ) →
+    head_at bytes ≡ Ok (head, rest) → rows_at head.periods 1 head.proposals rest ≡ Ok (rows, after)
+    → Fails e (then_lines (line (value_line (codes "chosen ") 0 most_count)) (λ _.
+    then_lines (units_at head.periods 0 head.units) (λ _. foot_at)) after) → Fails e (report_at bytes)
+unfolding report_at
+no_ending stops.Memory bytes head rest rows after first each h = tt
+no_ending (stops.Fault left) bytes head rest rows after first each h = rw (first, each, h) refl
