@@ -140,9 +140,6 @@ fn write_thermal<'a, S: Sink>(
         (thermal_text (owed_line name.now owed.now (schedule_of response.now))) }
 {
     let bytes = name.as_bytes();
-    let earned = i128::from(owed.earned);
-    let scheduled = i128::from(owed.scheduled);
-    let payment = i128::from(owed.payment);
     let on = response.on.as_slice();
     let power = response.power.as_slice();
     let reserve = response.reserve.as_slice();
@@ -152,11 +149,11 @@ fn write_thermal<'a, S: Sink>(
             Part::Text(b"unit thermal "),
             Part::Name(bytes),
             Part::Text(b" earned "),
-            Part::Amount(earned),
+            Part::Amount(owed.earned as i128),
             Part::Text(b" scheduled "),
-            Part::Amount(scheduled),
+            Part::Amount(owed.scheduled as i128),
             Part::Text(b" payment "),
-            Part::Amount(payment),
+            Part::Amount(owed.payment as i128),
             Part::Text(b"\non"),
             Part::Flags(on),
             Part::Text(b"\npower"),
@@ -182,9 +179,6 @@ fn write_flat<'a, S: Sink>(
         (flat_text kind.now (owed_line name.now owed.now (schedule_of response.now))) }
 {
     let bytes = name.as_bytes();
-    let earned = i128::from(owed.earned);
-    let scheduled = i128::from(owed.scheduled);
-    let payment = i128::from(owed.payment);
     let power = response.power.as_slice();
     write_parts(
         out,
@@ -192,11 +186,11 @@ fn write_flat<'a, S: Sink>(
             Part::Text(kind),
             Part::Name(bytes),
             Part::Text(b" earned "),
-            Part::Amount(earned),
+            Part::Amount(owed.earned as i128),
             Part::Text(b" scheduled "),
-            Part::Amount(scheduled),
+            Part::Amount(owed.scheduled as i128),
             Part::Text(b" payment "),
-            Part::Amount(payment),
+            Part::Amount(owed.payment as i128),
             Part::Text(b"\npower"),
             Part::Counts(power),
             Part::Text(b"\n"),

@@ -4,15 +4,15 @@ use Rattle.report_form.proofs.report.write_flat.Goals as goal
 pub returns : goal.returns
 unfolding flat_text
 returns g c =
-    rw (← c.as_bytes-bytes.ensures.value, ← c.as_slice-power.ensures)
+    rw (
+      ← c.as_bytes-bytes.ensures.value,
+      ← c.as_slice-power.ensures,
+    )
     (rw (
-      to_z-of_z w128 c.from-earned.result (search rules),
-      c.from-earned.ensures,
       to_z-of_z w64 c.args.owed.now.earned (search rules),
-      to_z-of_z w128 c.from-scheduled.result (search rules),
-      c.from-scheduled.ensures,
       to_z-of_z w64 c.args.owed.now.scheduled (search rules),
-      to_z-of_z w128 c.from-payment.result (search rules),
-      c.from-payment.ensures,
       to_z-of_z w64 c.args.owed.now.payment (search rules),
+      to_z-of_z w128 c.args.owed.now.earned (search rules),
+      to_z-of_z w128 c.args.owed.now.scheduled (search rules),
+      to_z-of_z w128 c.args.owed.now.payment (search rules),
     ) at c.write_parts.ensures)

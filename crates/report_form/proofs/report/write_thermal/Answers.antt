@@ -11,13 +11,10 @@ returns g c =
       ← c.as_slice-reserve.ensures,
     )
     (rw (
-      to_z-of_z w128 c.from-earned.result (search rules),
-      c.from-earned.ensures,
       to_z-of_z w64 c.args.owed.now.earned (search rules),
-      to_z-of_z w128 c.from-scheduled.result (search rules),
-      c.from-scheduled.ensures,
       to_z-of_z w64 c.args.owed.now.scheduled (search rules),
-      to_z-of_z w128 c.from-payment.result (search rules),
-      c.from-payment.ensures,
       to_z-of_z w64 c.args.owed.now.payment (search rules),
+      to_z-of_z w128 c.args.owed.now.earned (search rules),
+      to_z-of_z w128 c.args.owed.now.scheduled (search rules),
+      to_z-of_z w128 c.args.owed.now.payment (search rules),
     ) at c.write_parts.ensures)
