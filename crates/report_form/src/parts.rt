@@ -6,7 +6,7 @@ ghost use Rattle.report_form.specs.Parts.{part_text, hex_of, stands_as_is, escap
 ghost use Rattle.report_form.specs.Pending.{Adds};
 
 use crate::pieces::{
-    Piece, add_amounts, add_bytes, add_counts, add_flags, add_number, add_numbers,
+    Piece, add_amounts, add_bytes, add_counts, add_flags, add_number, add_numbers, add_worded,
 };
 use hull_io::{Sink, WriteFailed, write_whole};
 
@@ -19,6 +19,10 @@ pub enum Part<'a> {
     Count(u64),
     /// A number in decimal digits, with `-` before a negative one.
     Amount(i128),
+    /// A word and a number in decimal digits.
+    CountOf(&'a [u8], u64),
+    /// A word and a number in decimal digits, with `-` before a negative one.
+    AmountOf(&'a [u8], i128),
     /// Numbers, each behind a space.
     Counts(&'a [u32]),
     /// Numbers, each behind a space.
@@ -46,8 +50,7 @@ fn add_tally<S: Sink>(
     if n == 0 {
         return Ok(());
     }
-    add_bytes(out, piece, word)?;
-    add_number(out, piece, n)
+    add_worded(out, piece, word, n)
 }
 
 /// A hexadecimal digit, in lower case.
@@ -138,6 +141,8 @@ fn add_part<S: Sink>(out: &mut S, piece: &mut Piece, part: &Part<'_>) -> Result<
         Part::Text(bytes) => add_bytes(out, piece, bytes),
         Part::Count(n) => add_number(out, piece, n),
         Part::Amount(x) => add_number(out, piece, x),
+        Part::CountOf(word, n) => add_worded(out, piece, word, n),
+        Part::AmountOf(word, x) => add_worded(out, piece, word, x),
         Part::Counts(ns) => add_counts(out, piece, ns),
         Part::Numbers(xs) => add_numbers(out, piece, xs),
         Part::Amounts(xs) => add_amounts(out, piece, xs),

@@ -1,6 +1,6 @@
 //! A text that gathers in a piece of some KiB before it is written: each write to a file or a
 //! terminal is a system call, and most parts of a text are a few bytes.
-ghost use Rattle.std.specs.Prelude.{◌≡◌, ◌+◌, ◌≤◌, [], ◌∷◌, ◌++◌, length, IsTrue, ◌↔◌};
+ghost use Rattle.std.specs.Prelude.{◌≡◌, ◌+◌, ◌≤◌, [], ◌++◌, length, IsTrue, ◌↔◌};
 ghost use Rattle.std.specs.Prelude.{if◌then◌else◌};
 ghost use Rattle.report_form.specs.Parts.{spaced, spaced_counts, flag_text, spaced_flags};
 ghost use Rattle.report_form.specs.Pending.{Adds};
@@ -102,11 +102,17 @@ pub fn add_number<S: Sink, I: Integer>(
     add_bytes(out, piece, buffer.format(n).as_bytes())
 }
 
-fn add_spaced<S: Sink, I: Integer>(out: &mut S, piece: &mut Piece, n: I) -> Result<(), WriteFailed>
+/// Adds a word, and a number in decimal digits.
+pub fn add_worded<S: Sink, I: Integer>(
+    out: &mut S,
+    piece: &mut Piece,
+    word: &[u8],
+    n: I,
+) -> Result<(), WriteFailed>
     ensures { Adds S.held S.faults S.last out.old out.new result piece.old piece.new
-        (32 ∷ I.text n) }
+        (word.now ++ I.text n) }
 {
-    add_bytes(out, piece, b" ")?;
+    add_bytes(out, piece, word)?;
     add_number(out, piece, n)
 }
 
@@ -116,7 +122,7 @@ pub fn add_counts<S: Sink>(out: &mut S, piece: &mut Piece, ns: &[u32]) -> Result
         (spaced_counts ns.now) }
 {
     for n in ns {
-        add_spaced(out, piece, *n)?;
+        add_worded(out, piece, b" ", *n)?;
     }
     Ok(())
 }
@@ -127,7 +133,7 @@ pub fn add_numbers<S: Sink>(out: &mut S, piece: &mut Piece, xs: &[i64]) -> Resul
         (spaced xs.now) }
 {
     for x in xs {
-        add_spaced(out, piece, *x)?;
+        add_worded(out, piece, b" ", *x)?;
     }
     Ok(())
 }
@@ -138,7 +144,7 @@ pub fn add_amounts<S: Sink>(out: &mut S, piece: &mut Piece, xs: &[i128]) -> Resu
         (spaced xs.now) }
 {
     for x in xs {
-        add_spaced(out, piece, *x)?;
+        add_worded(out, piece, b" ", *x)?;
     }
     Ok(())
 }

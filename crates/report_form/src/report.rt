@@ -52,18 +52,12 @@ pub fn write_head<S: Sink>(head: &Head, out: &mut S) -> Result<(), WriteFailed>
     write_parts(
         out,
         &[
-            Part::Text(b"hull-report 1\nperiods "),
-            Part::Count(head.periods as u64),
-            Part::Text(b"\nunits "),
-            Part::Count(head.units as u64),
-            Part::Text(b"\nbudget "),
-            Part::Count(head.budget as u64),
-            Part::Text(b"\nahead "),
-            Part::Count(head.ahead as u64),
-            Part::Text(b"\ncost "),
-            Part::Amount(head.cost),
-            Part::Text(b"\nproposals "),
-            Part::Count(head.proposals as u64),
+            Part::CountOf(b"hull-report 1\nperiods ", head.periods as u64),
+            Part::CountOf(b"\nunits ", head.units as u64),
+            Part::CountOf(b"\nbudget ", head.budget as u64),
+            Part::CountOf(b"\nahead ", head.ahead as u64),
+            Part::AmountOf(b"\ncost ", head.cost),
+            Part::CountOf(b"\nproposals ", head.proposals as u64),
             Part::Text(b"\n"),
         ],
     )
@@ -82,10 +76,8 @@ pub fn write_row<S: Sink>(number: u32, row: &Row, out: &mut S) -> Result<(), Wri
     write_parts(
         out,
         &[
-            Part::Text(b"proposal "),
-            Part::Count(number as u64),
-            Part::Text(b" value "),
-            Part::Amount(row.value),
+            Part::CountOf(b"proposal ", number as u64),
+            Part::AmountOf(b" value ", row.value),
             Part::Text(b"\nenergy"),
             Part::Numbers(energy),
             Part::Text(b"\nreserve"),
@@ -119,10 +111,8 @@ pub fn write_chosen<S: Sink>(number: u32, value: i128, out: &mut S) -> Result<()
     write_parts(
         out,
         &[
-            Part::Text(b"chosen "),
-            Part::Count(number as u64),
-            Part::Text(b" value "),
-            Part::Amount(value),
+            Part::CountOf(b"chosen ", number as u64),
+            Part::AmountOf(b" value ", value),
             Part::Text(b"\n"),
         ],
     )
@@ -148,12 +138,9 @@ fn write_thermal<'a, S: Sink>(
         &[
             Part::Text(b"unit thermal "),
             Part::Name(bytes),
-            Part::Text(b" earned "),
-            Part::Amount(owed.earned as i128),
-            Part::Text(b" scheduled "),
-            Part::Amount(owed.scheduled as i128),
-            Part::Text(b" payment "),
-            Part::Amount(owed.payment as i128),
+            Part::AmountOf(b" earned ", owed.earned as i128),
+            Part::AmountOf(b" scheduled ", owed.scheduled as i128),
+            Part::AmountOf(b" payment ", owed.payment as i128),
             Part::Text(b"\non"),
             Part::Flags(on),
             Part::Text(b"\npower"),
@@ -185,12 +172,9 @@ fn write_flat<'a, S: Sink>(
         &[
             Part::Text(kind),
             Part::Name(bytes),
-            Part::Text(b" earned "),
-            Part::Amount(owed.earned as i128),
-            Part::Text(b" scheduled "),
-            Part::Amount(owed.scheduled as i128),
-            Part::Text(b" payment "),
-            Part::Amount(owed.payment as i128),
+            Part::AmountOf(b" earned ", owed.earned as i128),
+            Part::AmountOf(b" scheduled ", owed.scheduled as i128),
+            Part::AmountOf(b" payment ", owed.payment as i128),
             Part::Text(b"\npower"),
             Part::Counts(power),
             Part::Text(b"\n"),
@@ -231,12 +215,9 @@ pub fn write_foot<S: Sink>(
     write_parts(
         out,
         &[
-            Part::Text(b"surplus "),
-            Part::Amount(surplus),
-            Part::Text(b"\npayments "),
-            Part::Amount(payments),
-            Part::Text(b"\ngap "),
-            Part::Amount(gap),
+            Part::AmountOf(b"surplus ", surplus),
+            Part::AmountOf(b"\npayments ", payments),
+            Part::AmountOf(b"\ngap ", gap),
             Part::Text(b"\nend\n"),
         ],
     )

@@ -27,14 +27,10 @@ pub fn write_priced<S: Sink>(
     write_parts(
         out,
         &[
-            Part::Text(b"hull-settlement 1\nperiods "),
-            Part::Count(periods as u64),
-            Part::Text(b"\nunits "),
-            Part::Count(units as u64),
-            Part::Text(b"\ncost "),
-            Part::Amount(cost),
-            Part::Text(b"\nvalue "),
-            Part::Amount(row.value),
+            Part::CountOf(b"hull-settlement 1\nperiods ", periods as u64),
+            Part::CountOf(b"\nunits ", units as u64),
+            Part::AmountOf(b"\ncost ", cost),
+            Part::AmountOf(b"\nvalue ", row.value),
             Part::Text(b"\nenergy"),
             Part::Numbers(energy),
             Part::Text(b"\nreserve"),
