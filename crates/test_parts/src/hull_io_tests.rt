@@ -3,11 +3,11 @@ use crate::same::{same, same_of};
 use hull_io::{
     FileShelf, ReadFailed, ReadFault, Shelf, Sink, StdSink, WriteFailed, read_whole, write_whole,
 };
-use hull_memory::{File, MemoryShelf, MemorySink, SureShelf, SureSink};
 use plain_lists::limits::MOST_BYTES;
 use std::alloc::{AllocError, Global};
 use std::test::Fail;
 use std::{fs, io};
+use test_memory::{File, MemoryShelf, MemorySink, SureShelf, SureSink};
 
 fn file(alloc: Global, name: &str, bytes: &[u8]) -> Result<File, AllocError> {
     Ok(File {

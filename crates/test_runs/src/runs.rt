@@ -5,11 +5,11 @@ use crate::texts::{Texts, USUAL_PRICES};
 use answer_workers::{Gate, NoGate};
 use hull_engine::hull_run;
 use hull_io::{ReadFailed, Shelf};
-use hull_memory::{File, MemoryShelf, MemorySink};
 use std::alloc::{AllocError, Global};
 use std::process::Abort;
 use std::sync::Wait;
 use std::thread::Threads;
+use test_memory::{File, MemoryShelf, MemorySink};
 
 // A shelf in memory whose reads give at most so many bytes. It tells no bytes.
 #[derive(Drop)]

@@ -6,11 +6,11 @@ use crate::same::same;
 use answer_workers::NoGate;
 use board_run::{Run, open_run};
 use hull_engine::finish_run;
-use hull_memory::{MemorySink, SureSink};
 use std::alloc::Global;
 use std::sync::Wait;
 use std::test::Fail;
 use std::thread::Threads;
+use test_memory::{MemorySink, SureSink};
 
 // The run of the two units with one proposal and two workers. Want of memory ends the test.
 fn opened(alloc: Global) -> Result<Run, Fail> {

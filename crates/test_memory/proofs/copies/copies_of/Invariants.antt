@@ -1,6 +1,6 @@
 use Rattle.std.proofs.Common.{◌≡◌, take}
-use Rattle.hull_memory.specs.Named.{entries_of}
-use Rattle.hull_memory.proofs.copies.copies_of.Given as goal
+use Rattle.test_memory.specs.Named.{entries_of}
+use Rattle.test_memory.proofs.copies.copies_of.Given as goal
 
 -- the files so far were copied
 abbrev pub invariant-loop-file : goal.invariant-loop-file

@@ -1,6 +1,6 @@
 use Rattle.std.proofs.Common.{None, Some, sym}
-use Rattle.hull_memory.proofs.EntryLemmas.{told_by_first}
-use Rattle.hull_memory.proofs.copies.bytes_of.Goals as goal
+use Rattle.test_memory.proofs.EntryLemmas.{told_by_first}
+use Rattle.test_memory.proofs.copies.bytes_of.Goals as goal
 
 pub returns-in_err-file : goal.returns-in_err-file
 returns-in_err-file c =

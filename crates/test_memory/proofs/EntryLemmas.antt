@@ -3,8 +3,8 @@ use Rattle.std.proofs.Common.{◌≡◌, ◌∙◌, ℕ, List, [], ◌∷◌, Bo
 use Rattle.std.specs.Option.{option_map}
 use Rattle.std.specs.Prelude.{string_bytes}
 use Rattle.std.specs.Str.{bytes_eq}
-use Rattle.hull_memory.specs.declared.memory.File.{File}
-use Rattle.hull_memory.specs.Named.{Entry, entry_of, entries_of, first_in, told_in}
+use Rattle.test_memory.specs.declared.memory.File.{File}
+use Rattle.test_memory.specs.Named.{Entry, entry_of, entries_of, first_in, told_in}
 
 -- the bytes of the first file whose name passes are those of the first such entry
 pub find_entry : (passes : List ℕ → Bool) (files : List File) →

@@ -2,7 +2,7 @@
 use Rattle.std.specs.Prelude.{ℕ, List, map, Option, position, find, string_bytes, unwrap_or, []}
 use Rattle.std.specs.Option.{option_map}
 use Rattle.std.specs.Str.{bytes_eq}
-use Rattle.hull_memory.specs.declared.memory.File.{File}
+use Rattle.test_memory.specs.declared.memory.File.{File}
 
 -- the name and the bytes of a file
 pub record Entry : Type 0 where

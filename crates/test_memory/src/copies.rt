@@ -2,7 +2,7 @@
 ghost use Rattle.std.specs.Prelude.{◌≡◌, ℕ, ◌-◌, ◌<◌, ◌≤◌, min, length, Some, IfOk, IfSome};
 ghost use Rattle.std.specs.Option.{option_copied};
 ghost use Rattle.hull_io.specs.Edge.{ReadsAt};
-ghost use Rattle.hull_memory.specs.Named.{entry_of, entries_of, first_in, told_in, place_in};
+ghost use Rattle.test_memory.specs.Named.{entry_of, entries_of, first_in, told_in, place_in};
 
 use crate::memory::File;
 use std::alloc::{AllocError, Global};

@@ -4,7 +4,7 @@ ghost use Rattle.std.specs.Prelude.{Some, IfOk, IfSome, OnOk, OnErr, vec_len, ve
 ghost use Rattle.std.specs.Prelude.{slice_index, if◌then◌else◌};
 ghost use Rattle.std.specs.Result.{result_ok};
 ghost use Rattle.hull_io.specs.Edge.{Rose, ReadsAt, grown};
-ghost use Rattle.hull_memory.specs.Named.{told_in};
+ghost use Rattle.test_memory.specs.Named.{told_in};
 
 use crate::copies::{bytes_of, copies_of, place_of, read_from};
 use hull_io::{ReadFailed, Shelf, Sink, WriteFailed};
@@ -33,7 +33,7 @@ pub struct MemoryShelf {
 }
 
 impl MemoryShelf {
-    ghost use Rattle.hull_memory.specs.OfShelf.{told_of, place_of, count_of, reads_of, IsNewShelf};
+    ghost use Rattle.test_memory.specs.OfShelf.{told_of, place_of, count_of, reads_of, IsNewShelf};
 
     /// Copies the files. Their names are meant to differ; of two files of one name the first is
     /// read.
@@ -69,7 +69,7 @@ impl MemoryShelf {
 
 impl Shelf for MemoryShelf {
     ghost use Rattle.std.specs.Prelude.{Some};
-    ghost use Rattle.hull_memory.specs.OfShelf.{told_of, place_of, count_of, reads_of, given_by};
+    ghost use Rattle.test_memory.specs.OfShelf.{told_of, place_of, count_of, reads_of, given_by};
 
     ghost told = { told_of };
 
@@ -127,7 +127,7 @@ pub struct MemorySink {
 }
 
 impl MemorySink {
-    ghost use Rattle.hull_memory.specs.OfSink.{taken, IsNewSink};
+    ghost use Rattle.test_memory.specs.OfSink.{taken, IsNewSink};
 
     /// Takes the room for `room` bytes. A write takes at most `most` bytes; it fails where its
     /// number is in `failing` or no room is left, and takes 0 where its number is in `empty` and
@@ -163,7 +163,7 @@ impl MemorySink {
 
 impl Sink for MemorySink {
     ghost use Rattle.std.specs.Prelude.{Some};
-    ghost use Rattle.hull_memory.specs.OfSink.{taken, faults_of, writes_of, taken_by};
+    ghost use Rattle.test_memory.specs.OfSink.{taken, faults_of, writes_of, taken_by};
 
     ghost held = { λ s. Some (taken s) };
 

@@ -3,7 +3,7 @@ ghost use Rattle.std.specs.Prelude.{◌≡◌, ℕ, List, ◌-◌, ◌≤◌, �
 ghost use Rattle.std.specs.Prelude.{IfSome, OnErr, unwrap_or};
 ghost use Rattle.std.specs.Result.{result_ok};
 ghost use Rattle.hull_io.specs.Edge.{Rose, ReadsAt, grown};
-ghost use Rattle.hull_memory.specs.Named.{told_in, sure_in};
+ghost use Rattle.test_memory.specs.Named.{told_in, sure_in};
 
 use crate::copies::{bytes_of, copies_of, read_from};
 use crate::memory::File;
@@ -17,7 +17,7 @@ pub struct SureShelf {
 }
 
 impl SureShelf {
-    ghost use Rattle.hull_memory.specs.OfSure.{sure_of};
+    ghost use Rattle.test_memory.specs.OfSure.{sure_of};
 
     /// Copies the files. Their names are meant to differ; of two files of one name the first is
     /// read.
@@ -32,7 +32,7 @@ impl SureShelf {
 
 impl Shelf for SureShelf {
     ghost use Rattle.std.specs.Prelude.{None, Some};
-    ghost use Rattle.hull_memory.specs.OfSure.{sure_of};
+    ghost use Rattle.test_memory.specs.OfSure.{sure_of};
 
     ghost told = { λ s name. Some (sure_of s name) };
 

@@ -3,8 +3,8 @@ use Rattle.std.specs.Prelude.{◌≡◌, ℕ, ◌-◌, ◌==◌, min, List, leng
 use Rattle.std.specs.Prelude.{if◌then◌else◌}
 use Rattle.std.specs.List.{list_any}
 use Rattle.std.specs.Option.{option_map, option_map_or}
-use Rattle.hull_memory.specs.declared.memory.MemoryShelf.{MemoryShelf}
-use Rattle.hull_memory.specs.Named.{told_in, place_in}
+use Rattle.test_memory.specs.declared.memory.MemoryShelf.{MemoryShelf}
+use Rattle.test_memory.specs.Named.{told_in, place_in}
 
 -- the bytes under a name
 abbrev pub told_of : MemoryShelf → List ℕ → Option (List ℕ)

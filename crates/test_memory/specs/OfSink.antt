@@ -2,7 +2,7 @@
 use Rattle.std.specs.Prelude.{◌≡◌, ℕ, ◌-◌, ◌==◌, min, List, [], length, Option, None, Some}
 use Rattle.std.specs.Prelude.{if◌then◌else◌}
 use Rattle.std.specs.List.{list_any}
-use Rattle.hull_memory.specs.declared.memory.MemorySink.{MemorySink}
+use Rattle.test_memory.specs.declared.memory.MemorySink.{MemorySink}
 
 -- what it holds
 abbrev pub taken : MemorySink → List ℕ
