@@ -1,43 +1,36 @@
 -- The names that the proofs of this crate take from its specs and from other crates, passed on from one place.
 pub use Rattle.std.proofs.Common.{◌≡◌, ℕ, ◌<◌, ◌≤◌, Bool, true, false, cond, ◌&&◌, ◌==◌, ◌⊎◌, inl, inr, Option, Some}
 pub use Rattle.std.proofs.Common.{None, List, [], ◌∷◌, ◌++◌, refl, sym, ap, ◌∙◌, subst, arith, append_assoc, length}
-pub use Rattle.std.proofs.Common.{zero, suc, ◌+◌, map, get_or, ◌-◌, take, length-append, ◌||◌, ◌↔◌, ℤ, pos, ◌*◌, neg_ℤ}
-pub use Rattle.std.proofs.Common.{◌+ℤ◌, ◌-ℤ◌, ◌*ℤ◌, ◌≤ℤ◌, rules, min}
+pub use Rattle.std.proofs.Common.{zero, suc, ◌+◌, map, get_or, ◌-◌, take, length-append, ◌||◌, ℤ, pos, ◌*◌, neg_ℤ, ◌+ℤ◌}
+pub use Rattle.std.proofs.Common.{◌-ℤ◌, ◌*ℤ◌, ◌≤ℤ◌, rules, min}
 pub use Rattle.std.proofs.Math.Path.{fun_ext}
-pub use Rattle.std.proofs.lemmas.Bool.{false≢true, cases_lt, le-leb, leb-true}
+pub use Rattle.std.proofs.lemmas.Bool.{false≢true, cases_lt, leb-true}
 pub use Rattle.std.proofs.lemmas.Bool.Decides.{nat_tests, Decides-int_eq}
 pub use Rattle.std.proofs.lemmas.Int.{ints}
-pub use Rattle.std.proofs.lemmas.List.{append-nil, take-append-le, append_cancel_left, length-map, length-replicate}
-pub use Rattle.std.proofs.lemmas.List.Elements.{filter-append, All-append, All-map, All-replicate}
-pub use Rattle.std.proofs.lemmas.List.Folds.{find-append, list_any-append}
+pub use Rattle.std.proofs.lemmas.List.{append-nil, take-append-le, length-map, length-replicate}
+pub use Rattle.std.proofs.lemmas.List.Elements.{All-append, All-map, All-replicate}
+pub use Rattle.std.proofs.lemmas.List.Folds.{find-append}
 pub use Rattle.std.proofs.lemmas.List.FromFn.{length-range_with_len, get_or-range_with_len, length-map-range_with_len}
 pub use Rattle.std.proofs.lemmas.List.Sums.{prefix_len-le-length, prefix_len_passes, prefix_len_stops}
 pub use Rattle.std.proofs.lemmas.Option.{slice_get_within, slice_get-get_or, get_or_from_slice_get}
-pub use Rattle.std.specs.List.{list_any, list_all, prefix_len, range_with_len, find, flat_map, filter, All, AllZip}
+pub use Rattle.std.specs.List.{list_any, list_all, prefix_len, range_with_len, find, flat_map, All, AllZip}
 pub use Rattle.std.specs.Option.{option_map_or, option_or, option_map}
 pub use Rattle.std.specs.Prelude.{is_none, is_some, not, nat_le, nat_lt, slice_get, IsTrue, IsFalse, slice_index}
 pub use Rattle.board_history.specs.Board.{Setup, Answer, rules_of, IsRight, row_of, no_answer, schedules_in, earned_in}
 pub use Rattle.board_history.specs.Board.{IsLegalHistory, IsLegalFor}
 pub use Rattle.board_history.specs.BoardLaws.{Extends, FrontIsClosed, IsOneEventMore, TakenTells, RoundLaws, BoardLaws}
 pub use Rattle.board_history.specs.Calls.{differs_from, own_numbers}
-pub use Rattle.board_history.specs.Counts.{is_post, posts_in, is_claim, claims_in, halts_in}
-pub use Rattle.board_history.specs.Laws.{CallsStayLegal, StepsAreMachine, PostsMean, RowsAreRight, RowsAreMade}
-pub use Rattle.board_history.specs.Laws.{FinishedIsRun, FinishedHasRow, FinishedStays, HaltsChangeNothing, AnswersFit}
-pub use Rattle.board_history.specs.Laws.{EventsAreAtMost}
-pub use Rattle.board_history.specs.OneCaller.{IsBetween, ClaimsAreGiven, GivenIsTaken, HeldIsTaken}
+pub use Rattle.board_history.specs.Laws.{RowsAreMade, FinishedIsRun, FinishedHasRow, FinishedStays, AnswersFit}
 pub use Rattle.board_history.specs.Rounds.{Rules, Event, Given, Taken, Closing, Stopped, sooner, first_some, only_at}
 pub use Rattle.board_history.specs.Rounds.{given_by, posted_by, Holders, holders, Posts, posts, with_post, prices_at}
 pub use Rattle.board_history.specs.Rounds.{opened, IsPost, IsNext, GoesOn, IsLegal, is_closed, is_halt, is_finished}
 pub use Rattle.board_history.specs.Rounds.{ClaimReply, Finished, Halted, GivenTask, NotYet, next_task, claim_reply}
 pub use Rattle.board_history.specs.Rounds.{claim_from, answer_at, answers, with_row, rows_by, prices_by, row_by}
-pub use Rattle.board_history.specs.Rounds.{rows_to, closed_front, rows_of, free_front, is_halt_of, with_claim}
-pub use Rattle.board_history.specs.Rounds.{events_after_claim, PostReply, OtherProposal, OtherUnit, OtherContent}
-pub use Rattle.board_history.specs.Rounds.{Doubled, OtherHolder, TakenPost, is_holder, post_from, post_reply}
-pub use Rattle.board_history.specs.Rounds.{post_event, with_answer, events_after_post, events_after_halt, free_in}
-pub use Rattle.board_history.specs.Rounds.{opened_in}
+pub use Rattle.board_history.specs.Rounds.{rows_to, closed_front, rows_of, free_front, PostReply, OtherProposal}
+pub use Rattle.board_history.specs.Rounds.{OtherUnit, OtherContent, Doubled, OtherHolder, TakenPost, is_holder}
+pub use Rattle.board_history.specs.Rounds.{post_from, post_reply, free_in, opened_in}
 pub use Rattle.board_history.specs.Tasks.{Difference, difference, IsOver, IsTask, first_difference, SameTask}
-pub use Rattle.board_history.specs.Words.{IsOpenTask, IsHeld, IsFirstFree, ClaimSays, no_difference, IsMachineStep}
-pub use Rattle.board_history.specs.Words.{PostSays, IsClosed, IsOpen, Means}
+pub use Rattle.board_history.specs.Words.{IsOpenTask, IsHeld, IsFirstFree, ClaimSays}
 pub use Rattle.plain_lists.proofs.SignedLaws.{IsWithin, clamped_from, wider}
 pub use Rattle.uc_model.specs.BoundLaws.{GivesWithin, OutputsAreWithin, EarningsAreWithin, UnitsAreWithin}
 pub use Rattle.uc_model.specs.BoundLaws.{TotalsAreWithin, DemandWorthIsWithin}

@@ -12,14 +12,10 @@ pub mod Fronts
 pub mod Held
 -- what is read off posts stays where posts are added: rows, prices, and what is open
 pub mod Kept
--- the machine's calls and the legal next events are one: what a call appends is legal, and each legal event is what a
--- call appends
+-- what the answer of a post that is taken tells
 pub mod Machine
 -- the first task that isn't held
 pub mod NextTask
--- rounds of one caller: between two rounds a claim is given or the board has finished, and the answer of a task that
--- was given is taken
-pub mod OneCaller
 -- what one more row opens
 pub mod Opens
 -- the board's own tasks: prices and units over the horizon, and what a post whose task nowhere differs from the
@@ -32,17 +28,12 @@ pub mod RowBounds
 pub mod RowLaws
 -- the flat list of a task tells where it ends, so two that nowhere differ as far as both go are one
 pub mod SameTask
--- a finished history stays finished, and halts change nothing
+-- a finished history stays finished
 pub mod Stays
--- how many events a legal history has: a task is claimed at most once and posted at most once, and a caller halts at
--- most once
-pub mod Tallies
 -- running totals: one more answer adds what it gives and earns to the totals of its proposal, since the missing
 -- answer gives and earns nothing. So totals that run while answers come in are those of the row at its closing
 pub mod Totals
 -- how large the earnings of one unit's feasible schedule can be, and what a schedule that is missing gives
 pub mod UnitBounds
--- the numbers of a board of rounds in words: which proposals are open for work, and when all of them are closed
-pub mod Words
 -- The lemmas that answers cite.
 pub mod Lemmas

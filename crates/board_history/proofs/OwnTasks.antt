@@ -10,14 +10,11 @@ use Rattle.board_history.proofs.Common.{Thermal, Flat, Bid, PriceLists, Schedule
 use Rattle.board_history.proofs.Common.{NamedRenewableUnit, NamedBidUnit, units, unit_count, earnings, IsMarket}
 use Rattle.board_history.proofs.Common.{Proposal, start_prices, opening_prices_of, stepped_prices, age, no_prices}
 use Rattle.board_history.proofs.Common.{next_prices, Fits, IsFeasible, IsFeasiblePlan, task_numbers, Setup, Answer}
-use Rattle.board_history.proofs.Common.{rules_of, IsRight, row_of, own_numbers, differs_from, CallsStayLegal}
-use Rattle.board_history.proofs.Common.{StepsAreMachine, PostsMean, HeldIsTaken, Posts, posts, prices_at, rows_to}
-use Rattle.board_history.proofs.Common.{with_post, is_closed, difference, IsOver, IsTask}
+use Rattle.board_history.proofs.Common.{rules_of, IsRight, own_numbers, differs_from, Posts, prices_at, rows_to}
+use Rattle.board_history.proofs.Common.{difference, IsOver, IsTask}
 use Rattle.board_history.proofs.Kept.{rows_length}
-use Rattle.board_history.proofs.Machine.{claim_stays, post_stays, halt_stays, steps_are_machine, post_says}
 use Rattle.board_history.proofs.RowLaws.{units_length}
-use Rattle.board_history.proofs.SameTask.{difference_same, no_first, same_task}
-use Rattle.board_history.proofs.Held.{held_is_open}
+use Rattle.board_history.proofs.SameTask.{no_first, same_task}
 
 -- ---- prices
 
@@ -133,42 +130,9 @@ same_is_own b p n u ρ x limits task inside none =
     (no_first (task_numbers π y) (task_numbers ρ x) none2) in
     record { prices = same.0; unit = is ∙ ap (λ (z : AnyUnit). Some z) same.1 }
 
--- the board's own task nowhere differs from itself
-pub own_is_same : (b : Setup) (p : Posts Answer) (n u : ℕ) (ρ : PriceLists) (x : AnyUnit) → IsOwn b p n u ρ x →
-    differs_from b u ρ x (prices_at (rules_of b) p n) ≡ None
-own_is_same b p n u ρ x own =
-    ap (λ (π : PriceLists). differs_from b u ρ x π) own.prices
-    ∙ ap (λ (o : Option AnyUnit). difference (option_map_or (task_numbers ρ) o []) (task_numbers ρ x)) own.unit
-    ∙ difference_same (task_numbers ρ x)
-
 pub right_of : (b : Setup) (p : Posts Answer) (n u : ℕ) (ρ : PriceLists) (x : AnyUnit) (a : Answer) →
     IsOwn b p n u ρ x → Fits x ρ a.schedule → earnings x ρ a.schedule ≡ a.earned →
     IsRight Fits b.market u (prices_at (rules_of b) p n) a
 right_of b p n u ρ x a own fit earned =
     subst (λ (π : PriceLists). IsRight Fits b.market u π a) (sym own.prices)
     (record { unit = x; is = own.unit; fit = fit; earned = earned })
-
-pub calls_stay_legal : CallsStayLegal
-calls_stay_legal b h c limits caller legal = record {
-  claim = claim_stays (rules_of b) (IsRight Fits b.market) h c caller legal;
-  post = λ n u ρ x a task fit earned.
-      post_stays (rules_of b) (IsRight Fits b.market) h (differs_from b u ρ x) c n u a caller legal
-      (λ t. right_of b (posts h) n u ρ x a (same_is_own b (posts h) n u ρ x limits task t.unit t.same) fit earned);
-  halt = halt_stays (rules_of b) (IsRight Fits b.market) h c caller legal;
-}
-
-pub steps_agree : StepsAreMachine
-steps_agree b h e = steps_are_machine (rules_of b) (IsRight Fits b.market) h e
-
-pub posts_mean : PostsMean
-posts_mean s k n u ρ x a = post_says (rules_of s.setup) s.events (differs_from s.setup u ρ x) k n u a
-
-pub held_is_taken : HeldIsTaken
-held_is_taken s k n u ρ x a legal held first prices unit =
-    let g = rules_of s.setup in
-    let h = s.events in
-    let t = held_is_open g (IsRight Fits s.setup.market) (row_of s.setup.market no_prices []) h legal n u k held in
-    let same = own_is_same s.setup (posts h) n u ρ x (record { prices = prices; unit = unit }) in (
-      cond (is_closed g (with_post (posts h) k n u a) n) (Some n) None,
-      (post_says g h (differs_from s.setup u ρ x) k n u a).taken t same first held,
-    )

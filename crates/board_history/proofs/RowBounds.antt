@@ -18,7 +18,7 @@ use Rattle.board_history.specs.Bounds.{AreWithin, IsRowWithin, RowsAreWithin, Ro
 use Rattle.board_history.proofs.Answered.{all_answer}
 use Rattle.board_history.proofs.Kept.{rows_length}
 use Rattle.board_history.proofs.OwnTasks.{own_horizon, own_reserve_horizon}
-use Rattle.board_history.proofs.RowLaws.{units_length, zip_range, fits_is_best, rows_fit, rows_are_made}
+use Rattle.board_history.proofs.RowLaws.{units_length, zip_range, fits_is_best, right_rows, rows_are_made}
 use Rattle.board_history.proofs.UnitBounds.{ModelLaws, no_output, earnings_within, lengths_of}
 
 -- numbers of a range within a bound
@@ -234,7 +234,7 @@ rows_are_within laws b h limits ahead legal k d inside =
 pub rows_are_at_most_cost : ModelLaws → DualIsAtMostCost → RowsAreAtMostCost
 rows_are_at_most_cost laws dual b h limits ahead legal plan cost k d inside =
     let within = rows_are_within laws b h limits ahead legal k d inside in
-    let next = (rows_fit b h ahead legal).each k d inside in
+    let next = (right_rows Fits fits_is_best b h ahead legal).each k d inside in
     let r = get_or (rows_of (rules_of b) (posts h)) k d in
     let low : (j : ℕ) → j < b.market.periods → pos 0 ≤ℤ int_at r.prices.reserve j = λ j i.
     (within.prices.reserve j (pos 0) (let a = within.prices.lengths in let n = within.horizon in

@@ -9,13 +9,12 @@ use Rattle.board_history.proofs.Common.{free_front, opened, is_finished, AnyUnit
 use Rattle.board_history.proofs.Common.{Schedule, Market, NamedThermalUnit, NamedRenewableUnit, NamedBidUnit, units}
 use Rattle.board_history.proofs.Common.{unit_count, IsBest, IsTop, earnings, Proposal, no_prices, price_rule}
 use Rattle.board_history.proofs.Common.{is_settled, Fits, IsNextRow, AreRightRows, IsRun, Setup, Answer, row_of}
-use Rattle.board_history.proofs.Common.{rules_of, schedules_in, earned_in, IsRight, IsLegalFor, RowsAreRight}
-use Rattle.board_history.proofs.Common.{RowsAreMade, FinishedIsRun, FinishedHasRow, FinishedStays, HaltsChangeNothing}
-use Rattle.board_history.proofs.Common.{AnswersFit}
+use Rattle.board_history.proofs.Common.{rules_of, schedules_in, earned_in, IsRight, IsLegalFor, RowsAreMade}
+use Rattle.board_history.proofs.Common.{FinishedIsRun, FinishedHasRow, FinishedStays, AnswersFit}
 use Rattle.board_history.proofs.Answered.{all_answer}
 use Rattle.board_history.proofs.Fronts.{front_le}
 use Rattle.board_history.proofs.Kept.{post_of, rows_length, rows_take, row_at, front_closed}
-use Rattle.board_history.proofs.Stays.{finished_stays, goes_after, works_legal, posts-works}
+use Rattle.board_history.proofs.Stays.{finished_stays, goes_after}
 
 pub units_length : (m : Market) → length (units m) ≡ unit_count m
 units_length m =
@@ -118,7 +117,7 @@ module _ (fits : AnyUnit → PriceLists → Schedule → Type 0)
       totals = record { supply = refl; reserve = refl };
     }
 
-    right_rows : AreRightRows fits b.market b.cost b.ahead (rows_of g p)
+    pub right_rows : AreRightRows fits b.market b.cost b.ahead (rows_of g p)
     right_rows = record {
       each = λ k d i.
           let inside : k < closed_front g p = omega (arith, i, rows_length g p (closed_front g p)) in
@@ -174,18 +173,12 @@ module _ (fits : AnyUnit → PriceLists → Schedule → Type 0)
               ];
         }
 
-  pub rows_are_right : RowsAreRight fits
-  rows_are_right b h ahead legal = right_rows b h ahead legal
-
   pub finished_is_run : FinishedIsRun fits
   finished_is_run b h ahead some legal finished = whole_run b h ahead legal some finished
 
 -- an answer is best, whether each best one fits or the least alone
 pub fits_is_best : (u : AnyUnit) (π : PriceLists) (s : Schedule) → Fits u π s → IsBest u π s
 fits_is_best u π s h = assumption h
-
-pub rows_fit : RowsAreRight Fits
-rows_fit = rows_are_right Fits fits_is_best
 
 pub run_fits : FinishedIsRun Fits
 run_fits = finished_is_run Fits fits_is_best
@@ -194,12 +187,6 @@ pub stays_finished : FinishedStays Fits
 stays_finished b h later legal fin =
     finished_stays (rules_of b) (IsRight Fits b.market) h later
     (goes_after (rules_of b) (IsRight Fits b.market) [] h later legal) fin
-
-pub halts_nothing : HaltsChangeNothing Fits
-halts_nothing b h legal = (
-  works_legal (rules_of b) (IsRight Fits b.market) h legal,
-  ap (λ (q : Posts Answer). rows_of (rules_of b) q) (posts-works (rules_of b) (IsRight Fits b.market) h),
-)
 
 pub has_row : FinishedHasRow
 has_row s ahead some finished =

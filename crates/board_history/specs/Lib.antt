@@ -2,10 +2,8 @@ pub mod Board
 pub mod BoardLaws
 pub mod Bounds
 pub mod Calls
-pub mod Counts
 pub mod Entries
 pub mod Laws
-pub mod OneCaller
 pub mod Rounds
 pub mod Tasks
 pub mod Totals

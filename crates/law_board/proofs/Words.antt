@@ -1,8 +1,8 @@
 -- The numbers of a board of rounds in words: which proposals are open for work, and when all of them are closed.
-use Rattle.board_history.proofs.Common.{◌≡◌, ℕ, suc, ◌-◌, ◌<◌, ◌≤◌, Bool, true, false, List, get_or, refl, sym, ap, ◌∙◌}
-use Rattle.board_history.proofs.Common.{subst, arith, false≢true, le-leb, leb-true, prefix_len_passes, not, is_some}
-use Rattle.board_history.proofs.Common.{Rules, Posts, is_closed, rows_to, closed_front, rows_of, free_front, opened}
-use Rattle.board_history.proofs.Common.{is_finished, IsClosed, IsOpen, Means}
+use Rattle.law_board.proofs.Common.{◌≡◌, ℕ, suc, ◌-◌, ◌<◌, ◌≤◌, Bool, true, false, List, get_or, refl, sym, ap, ◌∙◌}
+use Rattle.law_board.proofs.Common.{subst, arith, false≢true, le-leb, leb-true, prefix_len_passes, not, is_some, Rules}
+use Rattle.law_board.proofs.Common.{Posts, is_closed, rows_to, closed_front, rows_of, free_front, opened, is_finished}
+use Rattle.law_board.proofs.Common.{IsClosed, IsOpen, Means}
 use Rattle.board_history.proofs.Fronts.{range_passes, prefix_most, front_most}
 use Rattle.board_history.proofs.Kept.{post_of, rows_length, rows_take, front_closed, free_le, get_or_take_of}
 

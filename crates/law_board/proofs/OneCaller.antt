@@ -1,24 +1,24 @@
 -- Rounds of one caller: between two rounds a claim is given or the board has finished, and the answer of a task that
 -- was
 -- given is taken.
-use Rattle.board_history.proofs.Common.{◌≡◌, ℕ, zero, suc, ◌+◌, ◌<◌, ◌≤◌, ◌⊎◌, Bool, true, false, cond, ◌&&◌, ◌||◌}
-use Rattle.board_history.proofs.Common.{◌==◌, inl, inr, Option, Some, None, List, [], ◌∷◌, ◌++◌, length, refl, sym, ap}
-use Rattle.board_history.proofs.Common.{◌∙◌, subst, arith, length-append, false≢true, cases_lt, le-leb, nat_tests}
-use Rattle.board_history.proofs.Common.{filter-append, list_any-append, filter, list_all, list_any, range_with_len}
-use Rattle.board_history.proofs.Common.{is_some, is_none, Answer, rules_of, IsRight, differs_from, is_post, posts_in}
-use Rattle.board_history.proofs.Common.{IsBetween, ClaimsAreGiven, GivenIsTaken, Rules, Event, Given, Taken, Closing}
-use Rattle.board_history.proofs.Common.{sooner, only_at, is_halt, Holders, holders, Posts, posts, with_post, is_closed}
-use Rattle.board_history.proofs.Common.{prices_at, closed_front, opened, is_finished, ClaimReply, Finished, GivenTask}
-use Rattle.board_history.proofs.Common.{next_task, claim_from, claim_reply, with_claim, events_after_claim, PostReply}
-use Rattle.board_history.proofs.Common.{TakenPost, post_event, with_answer, post_reply, events_after_post, IsLegal}
-use Rattle.board_history.proofs.Common.{Fits, Difference}
+use Rattle.law_board.proofs.Common.{◌≡◌, ℕ, zero, suc, ◌+◌, ◌<◌, ◌≤◌, ◌⊎◌, Bool, true, false, cond, ◌&&◌, ◌||◌, ◌==◌}
+use Rattle.law_board.proofs.Common.{inl, inr, Option, Some, None, List, [], ◌∷◌, ◌++◌, length, refl, sym, ap, ◌∙◌}
+use Rattle.law_board.proofs.Common.{subst, arith, length-append, false≢true, cases_lt, le-leb, nat_tests, filter-append}
+use Rattle.law_board.proofs.Common.{list_any-append, filter, list_all, list_any, range_with_len, is_some, is_none}
+use Rattle.law_board.proofs.Common.{Answer, rules_of, IsRight, differs_from, is_post, posts_in, IsBetween}
+use Rattle.law_board.proofs.Common.{ClaimsAreGiven, GivenIsTaken, Rules, Event, Given, Taken, Closing, sooner, only_at}
+use Rattle.law_board.proofs.Common.{is_halt, Holders, holders, Posts, posts, with_post, is_closed, prices_at}
+use Rattle.law_board.proofs.Common.{closed_front, opened, is_finished, ClaimReply, Finished, GivenTask, next_task}
+use Rattle.law_board.proofs.Common.{claim_from, claim_reply, with_claim, events_after_claim, PostReply, TakenPost}
+use Rattle.law_board.proofs.Common.{post_event, with_answer, post_reply, events_after_post, IsLegal, Fits, Difference}
 use Rattle.board_history.proofs.Answered.{posts-given, posts-taken, posts-closing, holders-given, holders-taken}
 use Rattle.board_history.proofs.Answered.{holders-closing, only_cases}
 use Rattle.board_history.proofs.Fronts.{front_stops}
 use Rattle.board_history.proofs.Held.{given_or, given_says, free_is_unposted}
 use Rattle.board_history.proofs.Machine.{IsTakeable, closed_of, reply_taken}
 use Rattle.board_history.proofs.NextTask.{none_in_rows}
-use Rattle.board_history.proofs.OwnTasks.{IsOwn, own_is_same}
+use Rattle.board_history.proofs.OwnTasks.{IsOwn}
+use Rattle.law_board.proofs.Calls.{own_is_same}
 
 -- ---- a claim finds a task
 

@@ -5,7 +5,7 @@ use Rattle.std.specs.List.{list_any}
 use Rattle.board_history.specs.Board.{Answer, Content, IsLegalHistory}
 use Rattle.board_history.specs.Calls.{own_prices, claim_answer, after_claim, post_answer}
 use Rattle.board_history.specs.Calls.{after_post}
-use Rattle.board_history.specs.Counts.{posts_in}
+use Rattle.law_board.specs.Counts.{posts_in}
 use Rattle.board_history.specs.Rounds.{Event, holders, posts, is_halt, Finished, GivenTask}
 use Rattle.board_history.specs.Rounds.{TakenPost}
 use Rattle.uc_model.specs.Data.{AnyUnit, PriceLists, units}

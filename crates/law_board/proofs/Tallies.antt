@@ -1,19 +1,19 @@
 -- How many events a legal history has: a task is claimed at most once and posted at most once, and a caller halts at
 -- most
 -- once.
-use Rattle.board_history.proofs.Common.{◌≡◌, ℕ, zero, suc, ◌+◌, ◌*◌, ◌<◌, ◌≤◌, ◌⊎◌, Bool, true, false, cond, ◌&&◌, ◌||◌}
-use Rattle.board_history.proofs.Common.{◌==◌, inl, inr, Option, Some, None, List, [], ◌∷◌, ◌++◌, length, map, refl, sym}
-use Rattle.board_history.proofs.Common.{ap, ◌∙◌, subst, arith, length-append, false≢true, cases_lt, nat_tests}
-use Rattle.board_history.proofs.Common.{length-map, filter-append, list_any-append, length-range_with_len, filter}
-use Rattle.board_history.proofs.Common.{flat_map, list_any, range_with_len, is_some, Fits, rules_of, IsRight, is_claim}
-use Rattle.board_history.proofs.Common.{is_post, claims_in, posts_in, halts_in, EventsAreAtMost, Rules, Event, Given}
-use Rattle.board_history.proofs.Common.{Taken, Closing, Stopped, sooner, only_at, is_halt, is_halt_of, Holders, holders}
-use Rattle.board_history.proofs.Common.{Posts, posts, with_post, IsPost, IsNext, IsLegal}
-use Rattle.std.proofs.Math.Nat.{suc-mul}
-use Rattle.board_history.specs.Entries.{entry_of, entries_of}
+use Rattle.law_board.proofs.Common.{◌≡◌, ℕ, zero, suc, ◌+◌, ◌*◌, ◌<◌, ◌≤◌, ◌⊎◌, Bool, true, false, cond, ◌&&◌, ◌||◌}
+use Rattle.law_board.proofs.Common.{◌==◌, inl, inr, Option, Some, None, List, [], ◌∷◌, ◌++◌, length, map, refl, sym, ap}
+use Rattle.law_board.proofs.Common.{◌∙◌, subst, arith, length-append, false≢true, cases_lt, nat_tests, length-map}
+use Rattle.law_board.proofs.Common.{filter-append, list_any-append, length-range_with_len, filter, flat_map, list_any}
+use Rattle.law_board.proofs.Common.{range_with_len, is_some, Fits, rules_of, IsRight, is_claim, is_post, claims_in}
+use Rattle.law_board.proofs.Common.{posts_in, halts_in, EventsAreAtMost, Rules, Event, Given, Taken, Closing, Stopped}
+use Rattle.law_board.proofs.Common.{sooner, only_at, is_halt, is_halt_of, Holders, holders, Posts, posts, with_post}
+use Rattle.law_board.proofs.Common.{IsPost, IsNext, IsLegal}
 use Rattle.board_history.proofs.Answered.{posts-given, posts-stopped, posts-taken, posts-closing, holders-given}
 use Rattle.board_history.proofs.Answered.{holders-taken, holders-closing, holders-stopped}
 use Rattle.board_history.proofs.Held.{along, given_says}
+use Rattle.board_history.specs.Entries.{entry_of, entries_of}
+use Rattle.std.proofs.Math.Nat.{suc-mul}
 
 -- ---- how many items pass a test
 

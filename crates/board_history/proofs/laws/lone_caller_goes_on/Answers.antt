@@ -1,5 +1,0 @@
-use Rattle.board_history.proofs.Lemmas.{held_is_taken, claims_are_given, given_is_taken_of}
-use Rattle.board_history.proofs.laws.lone_caller_goes_on.Goals as goal
-
-pub returns : goal.returns
-returns c = record { held = held_is_taken; given = claims_are_given; taken = given_is_taken_of }
