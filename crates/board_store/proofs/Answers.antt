@@ -1,7 +1,7 @@
 -- The answers of a store, and one of them written in place.
 use Rattle.board_store.proofs.Common.{◌≡◌, ℕ, ◌<◌, ◌⊎◌, ℤ, pos, Bool, inl, inr, List, [], length, get_or, sym, ap, ◌∙◌}
 use Rattle.board_store.proofs.Common.{arith, set, length-set, get_or-set_same, get_or-set_other, int_at, Kept, Answers}
-use Rattle.board_store.proofs.Common.{nothing, answer_in, answers_in}
+use Rattle.board_store.proofs.Common.{nothing, answer_in, answers_in, least_left, replicate, length-replicate}
 use Rattle.std.proofs.lemmas.List.FromFn.{fill_by_all, length-map-range_with_len, get_or-map-range_with_len}
 
 pub same_answer : (on on2 : List Bool) (power power2 reserve reserve2 : List ℕ) (earned earned2 : ℤ) → on ≡ on2 →
@@ -11,6 +11,17 @@ pub same_answer : (on on2 : List Bool) (power power2 reserve reserve2 : List ℕ
     a ≡ b)
 same_answer on on2 power power2 reserve reserve2 earned earned2 e f g h =
     λ i. record { schedule = record { on = e i; power = f i; reserve = g i }; earned = h i }
+
+-- a new store has as many rows as earnings, and as many are left
+pub counted : {A : Type 0} (rows : List A) (earned : List ℤ) (count : ℕ) (x : A) → rows ≡ replicate count x →
+    earned ≡ replicate count (pos 0) → length rows ≡ length earned
+counted {A} rows earned count x e f =
+    ap (λ (xs : List A). length xs) e ∙ length-replicate count x
+    ∙ sym (ap (λ (xs : List ℤ). length xs) f ∙ length-replicate count (pos 0))
+
+pub least_same : (on power reserve count : ℕ) → on ≡ count → power ≡ count → reserve ≡ count →
+    least_left on power reserve ≡ count
+least_same on power reserve count e f g = omega (arith, e, f, g)
 
 module _ (on : List (List Bool)) (power reserve : List (List ℕ)) (earned : List ℤ) where
   pub length-answers_in : length (answers_in on power reserve earned) ≡ length earned
