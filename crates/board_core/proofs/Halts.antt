@@ -1,5 +1,5 @@
 -- A caller's first halt.
-use Rattle.board_core.proofs.Common.{◌≡◌, ℕ, ◌+◌, ◌<◌, ◌⊎◌, Bool, true, false, ◌||◌, ◌==◌, inl, inr, List, [], ◌∷◌}
+use Rattle.board_core.proofs.Common.{◌≡◌, ℕ, ◌+◌, ◌<◌, ◌≤◌, ◌⊎◌, Bool, true, false, ◌||◌, ◌==◌, inl, inr, List, [], ◌∷◌}
 use Rattle.board_core.proofs.Common.{◌++◌, length, get_or, refl, sym, ap, ◌∙◌, subst, arith, set, length-set, nat_tests}
 use Rattle.board_core.proofs.Common.{get_or-set_same, get_or-set_other, list_any-append, list_any, not, Setup, Answer}
 use Rattle.board_core.proofs.Common.{BoardLaws, Event, Stopped, is_halt, is_halt_of, LedgerValue, bit, unset, Lists}
@@ -23,6 +23,16 @@ one_less marks i lt was =
     let e = sum_by-set (λ (t : Bool). bit (not t)) marks i true false lt in
     let f = ap (λ (t : Bool). bit (not t)) was in
     omega (arith, e, f)
+
+-- a caller has a place among those who may halt
+pub halt_place : (b : Setup) (h : List (Event Answer)) (x : Lists) (l : LedgerValue) → IsBoard b h x l → (c : ℕ) →
+    c < b.callers → c < length x.halted
+halt_place b h x l I c caller = subst (λ (n : ℕ). c < n) (sym I.halts.count) caller
+
+-- there is room for the entry of a first halt
+pub halt_room : (entries tasks marks before after room : ℕ) → entries + tasks + marks + before ≤ room →
+    after + 1 ≡ before → entries < room
+halt_room entries tasks marks before after room h e = omega (arith, h, e)
 
 abbrev pub halted_lists : Lists → ℕ → Lists
 halted_lists x c = record x { halted = set x.halted c true; any_halt = true }

@@ -40,5 +40,7 @@ pub mod Rows
 pub mod Starts
 -- what holds of a post that isn't refused
 pub mod Takes
+-- numbers of a board and their limits
+pub mod Numbers
 -- The lemmas that answers cite.
 pub mod Lemmas

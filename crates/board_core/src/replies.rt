@@ -1,7 +1,7 @@
 //! What the calls of a board answer.
 
 /// What a claim answers: the first that applies.
-#[derive(Clone, Copy, PartialEq, Eq, Debug)]
+#[derive(Clone, Copy, PartialEq, Eq)]
 pub enum Claim {
     /// Every proposal that exists is closed.
     Finished,
@@ -14,7 +14,7 @@ pub enum Claim {
 }
 
 /// In what a task differs from the board's own.
-#[derive(Clone, Copy, PartialEq, Eq, Debug)]
+#[derive(Clone, Copy, PartialEq, Eq)]
 pub enum Differs {
     /// The task's proposal is 0 or above the last that is open.
     Proposal { task: u32, opened: u32 },
@@ -29,7 +29,7 @@ pub enum Differs {
 
 /// What a post answers: the first that applies, where a stranger task's holder comes after a second
 /// answer.
-#[derive(Clone, Copy, PartialEq, Eq, Debug)]
+#[derive(Clone, Copy, PartialEq, Eq)]
 pub enum Posted {
     /// The task isn't the board's own, or isn't held by this caller.
     Stranger(Differs),

@@ -1,10 +1,47 @@
 use Rattle.board_core.proofs.Common.{◌≡◌, ◌≤◌, ℕ, List, true, get_or, length, map, take, sym, ap, subst, ◌∙◌, arith}
 use Rattle.board_core.proofs.Common.{All, IsRowBelow, length-map, length-take, not, IsFirstUpTo, is_last_settled}
 use Rattle.board_core.proofs.Common.{values_of, proposal_of, prices_of, Proposal, next_prices, blank, with_prices}
-use Rattle.board_core.proofs.Common.{fronts_of, is_due, setup_of}
+use Rattle.board_core.proofs.Common.{fronts_of, is_due, setup_of, le_trans}
 use Rattle.board_core.proofs.Lemmas.{IsWritten, due_says, opens_it, is_early, is_over, with_one, with_none}
 use Rattle.board_core.proofs.Lemmas.{opened_fronts, opened_sums, opened_ledger}
 use Rattle.board_core.proofs.advance.open_next.Goals as goal
+
+pub is_due-requires-clause-setup : goal.is_due-requires-clause-setup
+is_due-requires-clause-setup c = c.requires.setup
+
+pub is_due-requires-clause-opened : goal.is_due-requires-clause-opened
+is_due-requires-clause-opened c = le_trans c.requires.ledger.opened c.requires.setup.budget
+
+pub is_due-requires-clause-closed : goal.is_due-requires-clause-closed
+is_due-requires-clause-closed c = le_trans c.requires.ledger.closed c.requires.setup.budget
+
+pub returns-then-not-is_due-clause-ledger : goal.returns-then-not-is_due-clause-ledger
+returns-then-not-is_due-clause-ledger c = c.requires.ledger
+
+pub returns-then-not-is_due-clause-horizon : goal.returns-then-not-is_due-clause-horizon
+returns-then-not-is_due-clause-horizon c = c.requires.horizon
+
+pub rows-requires : goal.rows-requires
+rows-requires c = subst (λ (n : ℕ). c.args.ledger.now.closed ≤ n) (sym c.requires.ledger.count) c.requires.ledger.closed
+
+pub best-requires-clause-some : goal.best-requires-clause-some
+best-requires-clause-some c = c.requires.some
+
+pub best-requires-clause-within : goal.best-requires-clause-within
+best-requires-clause-within c =
+    subst (λ (n : ℕ). c.args.ledger.now.closed ≤ n) (sym c.requires.ledger.count) c.requires.ledger.closed
+
+pub propose-requires-clause-setup : goal.propose-requires-clause-setup
+propose-requires-clause-setup c = c.requires.setup
+
+pub propose-requires-clause-horizon : goal.propose-requires-clause-horizon
+propose-requires-clause-horizon c = c.requires.horizon
+
+pub returns-then-not-propose-clause-ledger : goal.returns-then-not-propose-clause-ledger
+returns-then-not-propose-clause-ledger c = c.requires.ledger
+
+pub returns-then-not-propose-clause-horizon : goal.returns-then-not-propose-clause-horizon
+returns-then-not-propose-clause-horizon c = c.propose.ensures.horizon
 
 pub propose-requires-clause-best : goal.propose-requires-clause-best
 propose-requires-clause-best c =

@@ -1,7 +1,22 @@
-use Rattle.board_core.proofs.Common.{rules, map, sym, subst, arith, FitsSigned, ints, to_z-of_z, length-map, w128}
-use Rattle.board_core.proofs.Common.{IsWorth, market_of, proposal_of, prices_of, setup_of}
+use Rattle.board_core.proofs.Common.{rules, ℤ, map, sym, subst, arith, FitsSigned, ints, to_z-of_z, length-map, w128}
+use Rattle.board_core.proofs.Common.{All, IsWorth, IsRowBelow, market_of, proposal_of, prices_of, setup_of}
 use Rattle.board_core.proofs.Lemmas.{moved_over}
 use Rattle.board_core.proofs.advance.propose.Goals as goal
+
+pub next_prices_from-moved-requires-clause-best : goal.next_prices_from-moved-requires-clause-best
+next_prices_from-moved-requires-clause-best c = c.requires.best
+
+pub next_prices_from-moved-requires-clause-count : goal.next_prices_from-moved-requires-clause-count
+next_prices_from-moved-requires-clause-count c = c.requires.count
+
+pub next_prices_from-moved-requires-clause-rows : goal.next_prices_from-moved-requires-clause-rows
+next_prices_from-moved-requires-clause-rows c =
+    let f : FitsSigned w128 c.args.terms.now.cost = search rules in
+    subst (λ (z : ℤ). All (IsRowBelow (market_of c.args.terms.now.case) z) (map proposal_of c.args.rows.now))
+    (sym (to_z-of_z w128 c.args.terms.now.cost f)) c.requires.rows
+
+pub next_prices_from-moved-requires-clause-horizon : goal.next_prices_from-moved-requires-clause-horizon
+next_prices_from-moved-requires-clause-horizon c = c.requires.horizon
 
 pub next_prices_from-moved-requires-clause-cost : goal.next_prices_from-moved-requires-clause-cost
 next_prices_from-moved-requires-clause-cost c =

@@ -39,3 +39,6 @@ returns-clause-ledger c =
     ap (with_openings start (blank_ledger m.periods c.args.budget)) count
     ∙ ap (λ (xs : List ℤ). with_openings xs (blank_ledger m.periods c.args.budget) (min c.args.budget c.args.ahead))
     c.in_ok-start.ensures
+
+pub returns-clause-horizon : goal.returns-clause-horizon
+returns-clause-horizon c = c.open_first.ensures.horizon ∙ c.requires.horizon

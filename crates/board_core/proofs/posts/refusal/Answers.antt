@@ -1,7 +1,8 @@
 use Rattle.board_core.proofs.Common.{◌≡◌, ◌⊎◌, inl, inr, ℕ, ◌-◌, ◌<◌, ◌≤◌, length, sym, ap, ◌∙◌, subst, arith}
 use Rattle.board_core.proofs.Common.{differs_from, unit_count, task_unit, prices_of, task_number, own_prices_in}
 use Rattle.board_core.proofs.Common.{held_refusal, setup_of}
-use Rattle.board_core.proofs.Lemmas.{differing, not_differing, unopened, no_unit, past_tests}
+use Rattle.plain_lists.specs.declared.limits.TheConstants.{MOST_PROPOSALS}
+use Rattle.board_core.proofs.Lemmas.{open_within, differing, not_differing, unopened, no_unit, past_tests}
 use Rattle.board_core.proofs.posts.refusal.Goals as goal
 use Rattle.board_core.proofs.posts.refusal.Goals.{then-task-eq0-via-then-task-eq0}
 use Rattle.board_core.proofs.posts.refusal.Goals.{then-task-eq0-via-else-task-eq0+then-opened-task}
@@ -89,3 +90,38 @@ returns-then-units-task-clause-refused c =
 pub content-requires-clause-horizon : goal.content-requires-clause-horizon
 content-requires-clause-horizon c = λ d. c.requires.horizon (c.args.task.now.proposal - 1) d
     (omega (arith, c.if-task-eq0.false, c.if-opened-task.false, c.opened-opened.ensures))
+
+pub content-requires-clause-last : goal.content-requires-clause-last
+content-requires-clause-last c =
+    open_within c.args.task.now.proposal c.opened-opened.result c.args.ledger.now.opened
+    (length c.args.ledger.now.proposals) c.opened-opened.ensures c.if-opened-task.false c.requires.opened
+
+pub content-requires-clause-unit : goal.content-requires-clause-unit
+content-requires-clause-unit c =
+    subst (λ (m : ℕ). c.args.task.now.unit < m) c.unit_count-units.ensures.value c.if-units-task.false
+
+pub content-requires-clause-room : goal.content-requires-clause-room
+content-requires-clause-room c = c.requires.room
+
+pub task_number-at-requires-clause-proposals : goal.task_number-at-requires-clause-proposals
+task_number-at-requires-clause-proposals c =
+    open_within c.args.task.now.proposal c.opened-opened.result c.args.ledger.now.opened MOST_PROPOSALS
+    c.opened-opened.ensures c.if-opened-task.false c.requires.few
+
+pub task_number-at-requires-clause-inside : goal.task_number-at-requires-clause-inside
+task_number-at-requires-clause-inside c = c.if-units-task.false
+
+pub refusal_at-requires-clause-claimed : goal.refusal_at-requires-clause-claimed
+refusal_at-requires-clause-claimed c = c.requires.takers c.task_number-at.result
+
+pub returns-in-Some-clause-room : goal.returns-in-Some-clause-room
+returns-in-Some-clause-room c = c.content.ensures.room
+
+pub returns-clause-room : goal.returns-clause-room
+returns-clause-room c = c.content.ensures.room
+
+pub returns-then-task-eq0-clause-room : goal.returns-then-task-eq0-clause-room
+returns-then-task-eq0-clause-room c = c.requires.room
+
+pub returns-then-units-task-clause-room : goal.returns-then-units-task-clause-room
+returns-then-units-task-clause-room c = c.requires.room

@@ -9,7 +9,10 @@ use Rattle.board_history.specs.declared.entries.Reply.TheVariants as replies
 use Rattle.board_core.specs.Tasks.{LeavesTask, IsOwnTask}
 use Rattle.board_core.proofs.Claims.{claim_finished, claim_halted, claim_not_yet, claim_given, price_is, count_within}
 use Rattle.board_core.proofs.Claims.{claimed}
-use Rattle.board_core.proofs.Lemmas.{content, events_more, entries_more, partner, setup_in, events_in, lists_in}
+use Rattle.plain_lists.specs.declared.limits.TheConstants.{MOST_CALLERS, MOST_PROPOSALS}
+use Rattle.uc_model.specs.TaskRoom.{IsTaskFor}
+use Rattle.board_core.proofs.Lemmas.{open_place, open_few, caller_few, content, events_more, entries_more, partner}
+use Rattle.board_core.proofs.Lemmas.{setup_in, events_in, lists_in}
 use Rattle.board_core.proofs.board.Board.claim.Goals as goal
 use Rattle.board_core.proofs.board.Board.claim.Goals.{Then-open-closed, Then-self, After-unit_count-units}
 
@@ -261,3 +264,41 @@ returns-clause-task c =
       feasible = some.1;
     } in
     left c.self.view_is (given d early) c.args.into.now task own
+
+pub prices-prices-requires : goal.prices-prices-requires
+prices-prices-requires c =
+    let B = (I (goal.at.prices-prices-requires c).After-unit_count-units) in
+    open_place (c.len-number.result / c.unit_count-units.result) c.opened-open.result c.self.inside.ledger.opened
+    c.self.inside.terms.budget (length c.self.inside.ledger.proposals) c.if-open-before.false c.opened-open.ensures
+    B.ledger.opened B.ledger.count
+
+pub copy_task-requires-clause-room : goal.copy_task-requires-clause-room
+copy_task-requires-clause-room c =
+    subst (λ (v : Content). IsTaskFor v.setup.market.periods c.args.into.now) (sym c.self.view_is) c.requires.room
+
+pub entry_of-entry-requires-clause-caller : goal.entry_of-entry-requires-clause-caller
+entry_of-entry-requires-clause-caller c =
+    caller_few c.args.caller c.self.inside.terms.callers MOST_CALLERS
+    (subst (λ (v : Content). c.args.caller < v.setup.callers) (sym c.self.view_is) c.requires.caller)
+    c.self.invariant.0.setup.callers
+
+pub entry_of-entry-requires-clause-proposal : goal.entry_of-entry-requires-clause-proposal
+entry_of-entry-requires-clause-proposal c =
+    let B = c.self.invariant.0 in
+    open_few (c.len-number.result / c.unit_count-units.result) c.opened-open.result c.self.inside.ledger.opened
+    c.self.inside.terms.budget MOST_PROPOSALS c.if-open-before.false c.opened-open.ensures B.ledger.opened
+    B.setup.budget
+
+pub returns-clause-room : goal.returns-clause-room
+returns-clause-room c =
+    subst (λ (v : Content). IsTaskFor v.setup.market.periods c.copy_task.new.into) c.self.view_is
+    c.copy_task.ensures.room
+
+pub returns-then-open-closed-clause-room : goal.returns-then-open-closed-clause-room
+returns-then-open-closed-clause-room c = c.requires.room
+
+pub returns-then-self-clause-room : goal.returns-then-self-clause-room
+returns-then-self-clause-room c = c.requires.room
+
+pub returns-then-open-before-clause-room : goal.returns-then-open-before-clause-room
+returns-then-open-before-clause-room c = c.requires.room

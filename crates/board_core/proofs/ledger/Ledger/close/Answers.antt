@@ -1,8 +1,23 @@
 use Rattle.board_core.proofs.Common.{rules, ◌≡◌, ◌+◌, ◌<◌, List, length, map, sym, ap, subst, ◌∙◌, FitsSigned}
 use Rattle.board_core.proofs.Common.{to_z-of_z, w128, slice_index_or, slice_set, proposal_of, Proposal, Row}
-use Rattle.board_core.proofs.Common.{LedgerValue, with_value, IsFirstUpTo, values_of}
+use Rattle.board_core.proofs.Common.{LedgerValue, with_value, IsFirstUpTo, values_of, ℕ, length-map}
 use Rattle.board_core.proofs.Lemmas.{set_mapped, kept_first}
 use Rattle.board_core.proofs.ledger.Ledger.close.Goals as goal
+
+pub index_mut-requires : goal.index_mut-requires
+index_mut-requires c =
+    let s = c.self.inside in
+    subst (λ (n : ℕ). s.closed < n) (length-map s.proposals.items proposal_of ∙ sym s.proposals.ok.0)
+    (subst (λ (v : LedgerValue). v.closed < length v.proposals) (sym c.self.view_is) c.requires)
+
+pub returns-clause-earned : goal.returns-clause-earned
+returns-clause-earned c = ap (λ (v : LedgerValue). v.earned) c.self.view_is
+
+pub returns-clause-opened : goal.returns-clause-opened
+returns-clause-opened c = ap (λ (v : LedgerValue). v.opened) c.self.view_is
+
+pub returns-clause-closed : goal.returns-clause-closed
+returns-clause-closed c = ap (λ (v : LedgerValue). v.closed + 1) c.self.view_is
 
 pub returns-clause-proposals : goal.returns-clause-proposals
 returns-clause-proposals c =

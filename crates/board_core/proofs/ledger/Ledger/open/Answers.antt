@@ -1,7 +1,23 @@
 use Rattle.board_core.proofs.Common.{◌≡◌, ◌<◌, length, map, sym, ap, ◌∙◌, subst, refl, slice_index_or, slice_set}
 use Rattle.board_core.proofs.Common.{proposal_of, prices_of, Proposal, LedgerValue, with_prices, IsFirstUpTo, values_of}
+use Rattle.board_core.proofs.Common.{ℕ, ◌+◌, length-map}
 use Rattle.board_core.proofs.Lemmas.{at_mapped, set_mapped, same_values}
 use Rattle.board_core.proofs.ledger.Ledger.open.Goals as goal
+
+pub index_mut-requires : goal.index_mut-requires
+index_mut-requires c =
+    let s = c.self.inside in
+    subst (λ (n : ℕ). s.opened < n) (length-map s.proposals.items proposal_of ∙ sym s.proposals.ok.0)
+    (subst (λ (v : LedgerValue). v.opened < length v.proposals) (sym c.self.view_is) c.requires.place)
+
+pub returns-clause-earned : goal.returns-clause-earned
+returns-clause-earned c = ap (λ (v : LedgerValue). v.earned) c.self.view_is
+
+pub returns-clause-closed : goal.returns-clause-closed
+returns-clause-closed c = ap (λ (v : LedgerValue). v.closed) c.self.view_is
+
+pub returns-clause-opened : goal.returns-clause-opened
+returns-clause-opened c = ap (λ (v : LedgerValue). v.opened + 1) c.self.view_is
 
 pub set_prices-requires : goal.set_prices-requires
 set_prices-requires c =
