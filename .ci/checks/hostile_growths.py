@@ -32,7 +32,10 @@ from built import ROOT
 from hostile_memory import refuser_in
 
 # What a test says that hands on the error of what it calls, or compares it with what is due.
-WANTING = {101: rb"^[Ee]rror: .*\b(AllocError|AllocFailed|Memory|OutOfMemory)\b", -signal.SIGABRT: rb"^ *left: (Err|Some)\(Memory\)$"}
+WANTING = {
+    101: rb"^[Ee]rror: .*\b(AllocError|AllocFailed|Memory|OutOfMemory|out of memory)\b",
+    -signal.SIGABRT: rb"^ *left: (Err|Some)\((Memory|out of memory)\)$",
+}
 # What stands for want of memory in what other tests compare, by the crate that they are of, or the module of tests that is named after it.
 STANDS_FOR_WANTING = {
     # the code that this test gives it
