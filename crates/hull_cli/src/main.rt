@@ -3,20 +3,9 @@
 
 use answer_workers::NoGate;
 use hull_engine::hull_run;
-use hull_io::{FileShelf, StdSink};
-use std::alloc::AllocError;
+use hull_io::{FileShelf, StdSink, words_of};
+use std::io;
 use std::process::ExitCode;
-use std::rt::Env;
-use std::{env, io};
-
-/// The words after the program's name.
-fn words_of(rt: &(impl Env + AllocGlobal)) -> io::Result<Vec<String>> {
-    let mut words = Vec::new(rt.alloc());
-    for word in env::args(rt)?.skip(1) {
-        words.push(word).map_err(AllocError::from)?;
-    }
-    Ok(words)
-}
 
 /// Ends with the status of the run, and with 7 where there is no memory for the words.
 fn main(rt: HostRuntime) -> ExitCode {

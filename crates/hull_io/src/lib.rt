@@ -1,4 +1,5 @@
-//! The outside of the engine: files by name, and the place that its text goes to.
+//! The outside of the engine: files by name, the place that its text goes to, and the words that it
+//! was called with.
 #![tactic(auto)]
 
 ghost use Rattle.std.specs.Prelude.{◌≡◌, ℕ, ◌+◌, ◌<◌, ◌≤◌, List, length, take, Option, IfOk};
@@ -9,7 +10,7 @@ pub mod read;
 pub mod real;
 
 pub use read::{ReadFault, read_whole};
-pub use real::{FileShelf, StdSink};
+pub use real::{FileShelf, StdSink, words_of};
 
 /// A read failed.
 #[derive(Debug, Clone, Copy, PartialEq, Eq)]

@@ -3,10 +3,11 @@ ghost use Rattle.std.specs.Prelude.{◌≡◌, ◌≤◌, length, IfOk};
 ghost use Rattle.hull_io.specs.declared.real.TheConstants.{LONGEST};
 
 use crate::{ReadFailed, Shelf, Sink, WriteFailed};
+use std::alloc::AllocError;
 use std::io::{ErrorKind, Read, Seek, SeekFrom, Write};
-use std::rt::Files;
+use std::rt::{Env, Files};
 use std::thread::yield_now;
-use std::{fs, io};
+use std::{env, fs, io};
 
 /// The most bytes of a path that is kept open: the system opens none that is longer.
 const LONGEST: usize = 4096;
@@ -203,4 +204,14 @@ impl<W: Write + Drop> Sink for StdSink<W> {
             }
         }
     }
+}
+
+/// The words that the program was called with, without its name; `Err` where they can't be had, as
+/// for want of memory.
+pub fn words_of<R: Env + AllocGlobal>(rt: &R) -> io::Result<Vec<String>> {
+    let mut words = Vec::new(rt.alloc());
+    for word in env::args(rt)?.skip(1) {
+        words.push(word).map_err(AllocError::from)?;
+    }
+    Ok(words)
 }
