@@ -12,7 +12,7 @@ use Rattle.plain_lists.specs.declared.limits.TheConstants.{MOST_BYTES, MOST_WORK
 use Rattle.case_make.specs.Made.{made}
 use Rattle.uc_file.specs.Files.{FileFault, text, value}
 use Rattle.uc_case.specs.CaseFiles.{IsCaseOf}
-use Rattle.uc_case.specs.declared.fault.FieldFault.{FieldFault}
+use Rattle.uc_field.specs.declared.fault.FieldFault.{FieldFault}
 use Rattle.uc_plan.specs.PlanFiles.{IsPlanOf}
 use Rattle.uc_plan.specs.declared.fault.ShapeFault.{ShapeFault}
 use Rattle.hull_command.specs.Planned.{PlannedCase}

@@ -5,8 +5,8 @@ use Rattle.hull_words.specs.declared.fault.WordFault.{WordFault}
 use Rattle.hull_words.specs.Codes.{code_number as word_code}
 use Rattle.uc_text.specs.declared.fault.TextFault.{TextFault}
 use Rattle.uc_text.specs.Codes.{number_of as text_code}
-use Rattle.uc_case.specs.declared.fault.FieldFault.{FieldFault}
-use Rattle.uc_case.specs.Sites.{key_of, code_number as field_code}
+use Rattle.uc_field.specs.declared.fault.FieldFault.{FieldFault}
+use Rattle.uc_field.specs.Sites.{key_of, code_number as field_code}
 use Rattle.uc_plan.specs.declared.fault.ShapeFault.{ShapeFault}
 use Rattle.uc_plan.specs.Shapes.{shape_number as shape_code}
 use Rattle.uc_prices.specs.declared.fault.PriceFault.{PriceFault}

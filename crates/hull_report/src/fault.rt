@@ -17,7 +17,7 @@ use plan_check::RuleFault;
 use report_form::laws::texts_add_up;
 use report_form::{Part, write_parts};
 use std::alloc::AllocError;
-use uc_case::fault::FieldFault;
+use uc_field::fault::FieldFault;
 use uc_mixture::fault::ShareFault;
 use uc_model::kinds::Kind;
 use uc_plan::fault::ShapeFault;

@@ -14,15 +14,15 @@ use Rattle.uc_text.specs.Grammar.{end}
 unfoldable use Rattle.uc_case.specs.Cases.{thermal, renewable, bid, units, bids, all_units, keyed_case, case_of}
 use Rattle.uc_case.specs.Cases.{whole, AllUnits, horizon, needs}
 use Rattle.uc_file.specs.Files.{IsFile, reading_of}
-use Rattle.uc_case.specs.Forms.{Read, Keys, keys, key, key_or_none, object, under}
+use Rattle.uc_field.specs.Forms.{Read, Keys, keys, key, key_or_none, object, under}
 unfoldable use Rattle.uc_file.specs.Inside.{value_of}
-use Rattle.uc_case.specs.Sites.{site, field_at, key_of}
+use Rattle.uc_field.specs.Sites.{site, field_at, key_of}
 use Rattle.uc_case.specs.Tables.{thermal_unit, renewable_unit, bid_unit}
 unfoldable use Rattle.uc_file.specs.Words.{each}
 use Rattle.uc_file.specs.Words.{need, position}
-use Rattle.uc_case.specs.declared.fault.Field.{Field}
-use Rattle.uc_case.specs.declared.fault.Field.TheVariants as fields
-use Rattle.uc_case.specs.declared.fault.Site.{Site}
+use Rattle.uc_field.specs.declared.fault.Field.{Field}
+use Rattle.uc_field.specs.declared.fault.Field.TheVariants as fields
+use Rattle.uc_field.specs.declared.fault.Site.{Site}
 use Rattle.law_cases.specs.Laws.{CaseNamesAreUtf8}
 use Rattle.law_cases.proofs.Keys.{IsKept, tokens_kept}
 use Rattle.law_cases.proofs.Passed.{ok_same, bind_ok, passed, of_value_ok}

@@ -19,19 +19,24 @@ pub use Rattle.uc_case.specs.Cases.{whole, AllUnits, HorizonNeeds}
 unfoldable pub use Rattle.uc_case.specs.Cases.{units, thermal, renewable, bid, bids, all_units, horizon, needs}
 unfoldable pub use Rattle.uc_case.specs.Cases.{keyed_case, case_of}
 pub use Rattle.uc_file.specs.Files.{reading_of, of_value}
-pub use Rattle.uc_case.specs.Forms.{Read, at_item, items, Keys, keys, key, key_or_none, under, part, decimal}
-unfoldable pub use Rattle.uc_case.specs.Forms.{amount, cost, time_within, flag, few, full}
-pub use Rattle.uc_case.specs.Kept.{IsRange, AreRamps, IsPast, AreLags, ArePoints, AreBlocks, IsPointList, IsThermalOf}
+pub use Rattle.uc_field.specs.Forms.{Read, at_item, items, Keys, keys, key, key_or_none, under, part, decimal}
+unfoldable pub use Rattle.uc_field.specs.Forms.{amount, cost, time_within, flag, few, full}
+pub use Rattle.uc_field.specs.Kept.{AreLags, ArePoints, AreBlocks, IsPointList}
+pub use Rattle.uc_case.specs.Kept.{IsRange, AreRamps, IsPast, IsThermalOf}
 pub use Rattle.uc_case.specs.Kept.{IsRenewableOf, IsBidOf, AreUnitLists, AreNeeds, AreAllUnits}
-pub use Rattle.uc_case.specs.Sites.{site, item_at, field_at}
-pub use Rattle.uc_case.specs.Tables.{first_crossed, one_power, mark, at_least_one, UnitLists}
-unfoldable pub use Rattle.uc_case.specs.Tables.{lag, startup, point, piecewise, commitment, output, ramps, past}
-unfoldable pub use Rattle.uc_case.specs.Tables.{thermal_unit, powers, renewable_unit, block, period_blocks, blocks}
-unfoldable pub use Rattle.uc_case.specs.Tables.{bid_unit, lag_in, point_in, block_in, window_items, window, unit_lists}
+pub use Rattle.uc_field.specs.Sites.{site, item_at, field_at}
+pub use Rattle.uc_field.specs.Lists.{one_power, mark}
+pub use Rattle.uc_case.specs.Tables.{first_crossed, at_least_one, UnitLists}
+unfoldable pub use Rattle.uc_field.specs.Lists.{lag, startup, point, piecewise, commitment}
+unfoldable pub use Rattle.uc_case.specs.Tables.{output, ramps, past}
+unfoldable pub use Rattle.uc_field.specs.Lists.{powers, block, period_blocks, blocks}
+unfoldable pub use Rattle.uc_case.specs.Tables.{thermal_unit, renewable_unit}
+unfoldable pub use Rattle.uc_field.specs.Lists.{lag_in, point_in, block_in, window_items, window}
+unfoldable pub use Rattle.uc_case.specs.Tables.{bid_unit, unit_lists}
 unfoldable pub use Rattle.uc_case.specs.Tables.{keyed_unit, keyed_renewable}
 pub use Rattle.uc_file.specs.Words.{position, last_is, need, refuse}
 unfoldable pub use Rattle.uc_file.specs.Words.{each}
-pub use Rattle.uc_case.specs.declared.fault.Site.{Site}
+pub use Rattle.uc_field.specs.declared.fault.Site.{Site}
 pub use Rattle.plain_lists.specs.Ranges.{IsFrom}
 pub use Rattle.uc_model.specs.Data.{ThermalUnit, RenewableUnit, BidUnit, NamedThermalUnit, NamedRenewableUnit}
 pub use Rattle.uc_model.specs.Data.{NamedBidUnit, Market}

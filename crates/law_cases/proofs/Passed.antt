@@ -7,11 +7,11 @@ use Rattle.law_cases.proofs.Common.{part, items, decimal, amount, cost, time_wit
 use Rattle.law_cases.proofs.Common.{Site, item_at, field_at, units, site, of_value}
 use Rattle.uc_model.specs.declared.kinds.Kind.{Kind}
 use Rattle.uc_model.specs.declared.limits.TheConstants.{MOST_OF_A_KIND}
-use Rattle.uc_case.specs.Forms.{list, object}
+use Rattle.uc_field.specs.Forms.{list, object}
 use Rattle.uc_file.specs.Magnitudes.{most_power, most_cost}
 use Rattle.uc_file.specs.Words.{◌>>=◌, ◌>>◌}
-use Rattle.uc_case.specs.declared.fault.Field.{Field}
-use Rattle.uc_case.proofs.Fits.{not_above, within}
+use Rattle.uc_field.specs.declared.fault.Field.{Field}
+use Rattle.uc_field.proofs.Fits.{not_above, within}
 
 -- ---- one test after the other
 

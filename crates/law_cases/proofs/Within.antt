@@ -20,7 +20,7 @@ use Rattle.uc_model.specs.declared.limits.TheConstants.{MOST_PERIODS, MOST_TIME,
 use Rattle.uc_model.specs.declared.limits.TheConstants.{MOST_OF_A_KIND, POWER_LIMIT}
 use Rattle.uc_model.specs.declared.units.Mark.{Mark}
 use Rattle.uc_model.specs.declared.units.Mark.TheVariants.{Free}
-use Rattle.uc_case.specs.Forms.{object}
+use Rattle.uc_field.specs.Forms.{object}
 use Rattle.uc_file.specs.Magnitudes.{most_power, most_output, most_price}
 use Rattle.uc_case.specs.declared.parts.Output.{Output}
 use Rattle.uc_case.specs.declared.parts.Ramps.{Ramps}
@@ -29,10 +29,10 @@ use Rattle.law_cases.proofs.Passed.{ok_same, bind_ok, passed, same_count, each_k
 use Rattle.law_cases.proofs.Passed.{amount_ok, power_ok, start_cost_ok, cost_ok, time_ok, units_ok, of_value_ok, few_ok}
 use Rattle.law_cases.proofs.Passed.{full_ok}
 use Rattle.uc_case.proofs.Limited.{thermal_fits, renewable_fits, market_fits}
-use Rattle.uc_case.proofs.Ordered.{int_not_below, no_lags, lags_push, no_points, points_push, no_blocks, blocks_push}
-use Rattle.uc_case.proofs.Ordered.{is_point_list}
+use Rattle.uc_field.proofs.Ordered.{int_not_below, no_lags, lags_push, no_points, points_push, no_blocks, blocks_push}
+use Rattle.uc_field.proofs.Ordered.{is_point_list}
 use Rattle.uc_model.specs.declared.kinds.Kind.TheVariants as kinds
-use Rattle.uc_case.specs.declared.fault.Field.TheVariants as fields
+use Rattle.uc_field.specs.declared.fault.Field.TheVariants as fields
 
 -- ---- start costs
 

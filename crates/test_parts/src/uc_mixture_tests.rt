@@ -5,11 +5,11 @@ use mixture_bound::Entry;
 use std::alloc::Global;
 use std::process::Abort;
 use std::test::Fail;
-use uc_case::fault::Kind;
 use uc_case::read_case;
 use uc_mixture::fault::{MixtureFault, ShareCode, ShareFault};
 use uc_mixture::read_mixture;
 use uc_model::cases::Case;
+use uc_model::kinds::Kind;
 use uc_plan::fault::ShapeCode;
 
 const TWO_UNITS: &[u8] = b"{\"time_periods\":2,\"demand\":[0.1,0.1],\"reserves\":[0,0],\

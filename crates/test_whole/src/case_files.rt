@@ -5,12 +5,13 @@ use crate::texts::{Change, changed, changed_once};
 use std::alloc::Global;
 use std::process::Abort;
 use std::test::Fail;
-use uc_case::fault::CaseCode::{
+use uc_case::fault::CaseFault;
+use uc_case::read_case;
+use uc_field::fault::CaseCode::{
     BlockOrder, CurveEnds, LagOrder, Missing, Negative, NoPeriods, NoUnits, NotFlag, NotWhole,
     RangeOrder, TooLarge, WindowShape, WrongKind, WrongLength,
 };
-use uc_case::fault::{CaseCode, CaseFault, Field, FieldFault, Kind};
-use uc_case::read_case;
+use uc_field::fault::{CaseCode, Field, FieldFault, Kind};
 use uc_text::{TextCode, TextFault};
 
 /// What is wrong, at which key, of which kind of thing, and the numbers of the unit and the item.

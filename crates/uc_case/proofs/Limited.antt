@@ -1,18 +1,14 @@
 -- What was read for a unit is within the limits of its type.
 use Rattle.uc_case.proofs.Common.{◌≡◌, ℕ, zero, suc, ◌+◌, ◌<◌, ◌≤◌, ◌==◌, ◌&&◌, Bool, true, false, List, [], ◌∷◌}
-use Rattle.uc_case.proofs.Common.{length, map, get_or, nat_tests, IsMarket, AreNeeds, AreAllUnits, AreUnitLists}
-use Rattle.uc_case.proofs.Common.{UnitLists, joined_unit, HorizonNeeds, AllUnits, no_unit, joined_case, few}
-use Rattle.uc_case.proofs.Common.{Ok, Err, refl, sym, ◌∙◌, if◌then◌else◌, arith, w64, to_z, of_z, ℤ, pos, ◌≤ℤ◌, int_lt}
-use Rattle.uc_case.proofs.Common.{All, ints, to_z-of_z, Block, IsPower, IsOutput, IsThermalUnit}
-use Rattle.uc_case.proofs.Common.{IsRenewableUnit, Value, IsRange, AreRamps, IsPast, fault}
-use Rattle.uc_case.proofs.Common.{first_crossed, block, period_blocks, Site}
-use Rattle.plain_lists.specs.Sums.{total}
-use Rattle.uc_model.specs.declared.limits.TheConstants.{MOST_PERIODS, MOST_BLOCKS, POWER_LIMIT}
-use Rattle.uc_case.specs.declared.fault.CaseCode.TheVariants as codes
+use Rattle.uc_case.proofs.Common.{length, get_or, nat_tests, IsMarket, AreNeeds, AreAllUnits, AreUnitLists, UnitLists}
+use Rattle.uc_case.proofs.Common.{joined_unit, HorizonNeeds, AllUnits, no_unit, joined_case, refl, sym, ◌∙◌}
+use Rattle.uc_case.proofs.Common.{if◌then◌else◌, arith, w64, to_z, of_z, ℤ, pos, ◌≤ℤ◌, int_lt, All, ints, to_z-of_z}
+use Rattle.uc_case.proofs.Common.{IsPower, IsOutput, IsThermalUnit, IsRenewableUnit, IsRange, AreRamps, IsPast}
+use Rattle.uc_case.proofs.Common.{first_crossed}
+use Rattle.uc_model.specs.declared.limits.TheConstants.{MOST_PERIODS}
 use Rattle.uc_case.specs.declared.parts.Output.{Output}
 use Rattle.uc_case.specs.declared.parts.Ramps.{Ramps}
 use Rattle.uc_case.specs.declared.parts.Past.{Past}
-use Rattle.uc_case.proofs.Ordered.{int_not_below}
 
 -- a power and an output as they are stored
 pub power_stored : (n : ℤ) → IsPower n → to_z w64 (of_z w64 n) ≡ n
@@ -79,7 +75,8 @@ uncrossed : (j : ℕ) (ls ms : List ℤ) → 0 < j → first_crossed j ls ms ≤
 uncrossed j [] ms some none same k lt = absurd (omega (arith, lt))
 uncrossed j (l ∷ ls) [] some none same k lt = absurd (omega (arith, same))
 uncrossed j (l ∷ ls) (m ∷ ms) some none same zero lt =
-    int_not_below m l (first_fails (int_lt m l) j (first_crossed (suc j) ls ms) some none).0
+    let e : int_lt m l ≡ false = (first_fails (int_lt m l) j (first_crossed (suc j) ls ms) some none).0 in
+    omega (arith, ints, e)
 uncrossed j (l ∷ ls) (m ∷ ms) some none same (suc k) lt =
     uncrossed (suc j) ls ms (omega (arith, some)) (first_fails (int_lt m l) j (first_crossed (suc j) ls ms) some none).1
     (omega (arith, same)) k (omega (arith, lt))
@@ -97,16 +94,3 @@ renewable_fits least most periods crossed count count_most some horizon least_fi
       most = most_fits;
       range = uncrossed 1 least most (omega arith) no same;
     }
-
--- ---- the blocks of a period
-
-pub period_read : (at : Site) (v : Value) (bs : List Block) → few block MOST_BLOCKS at v ≡ Ok bs →
-    int_lt POWER_LIMIT (total (map (λ (b : Block). b.width) bs)) ≡ false → period_blocks at [] v ≡ Ok bs
-unfolding period_blocks
-period_read at v bs read fits = rw (read, fits) refl
-
-pub period_refused : (at : Site) (v : Value) (bs : List Block) → few block MOST_BLOCKS at v ≡ Ok bs →
-    int_lt POWER_LIMIT (total (map (λ (b : Block). b.width) bs)) ≡ true →
-    period_blocks at [] v ≡ Err (fault at codes.TooLarge)
-unfolding period_blocks
-period_refused at v bs read wide = rw (read, wide) refl

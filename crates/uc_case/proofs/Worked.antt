@@ -4,8 +4,8 @@ use Rattle.uc_case.proofs.Common.{number, list, object, Pair, items_of, members_
 use Rattle.uc_case.proofs.Common.{powers, full, renewable_unit, keyed_renewable, units, renewable, bids, all_units}
 use Rattle.uc_case.proofs.Common.{horizon, needs, keyed_case, case_of}
 use Rattle.uc_num.specs.Rounding.{rounded, rounded_size}
-use Rattle.uc_case.specs.declared.fault.CaseCode.TheVariants as codes_of
-use Rattle.uc_case.specs.declared.fault.Field.TheVariants as fields
+use Rattle.uc_field.specs.declared.fault.CaseCode.TheVariants as codes_of
+use Rattle.uc_field.specs.declared.fault.Field.TheVariants as fields
 use Rattle.uc_model.specs.declared.kinds.Kind.TheVariants as kinds
 
 -- a whole number, and a number of tenths

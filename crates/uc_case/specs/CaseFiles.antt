@@ -5,7 +5,7 @@ use Rattle.uc_case.specs.Cases.{case_of}
 use Rattle.uc_file.specs.Files.{FileFault, text, value, IsReading}
 use Rattle.uc_case.specs.declared.fault.CaseFault.{CaseFault}
 use Rattle.uc_case.specs.declared.fault.CaseFault.TheVariants as faults
-use Rattle.uc_case.specs.declared.fault.FieldFault.{FieldFault}
+use Rattle.uc_field.specs.declared.fault.FieldFault.{FieldFault}
 
 -- the bytes of a case file are this case, or have this fault first
 abbrev pub IsCaseOf : List ℕ → Result Market (FileFault FieldFault) → Type 0

@@ -7,16 +7,17 @@ use Rattle.uc_model.specs.declared.limits.TheConstants.{MOST_PERIODS, MOST_OF_A_
 use Rattle.uc_model.specs.Data.{NamedThermalUnit, NamedRenewableUnit, NamedBidUnit, Market}
 use Rattle.text_tree.specs.Values.{Value}
 use Rattle.text_tree.specs.Parts.{Pair}
-use Rattle.uc_case.specs.Sites.{fault, field_at, site}
+use Rattle.uc_field.specs.Sites.{fault, field_at, site}
 use Rattle.uc_file.specs.Words.{◌>>=◌, ◌>>◌, refuse, each, position}
-use Rattle.uc_case.specs.Forms.{Read, Keys, keys, key, key_or_none, object, time_within}
-use Rattle.uc_case.specs.Tables.{thermal_unit, renewable_unit, bid_unit, powers}
-use Rattle.uc_case.specs.declared.fault.CaseCode.TheVariants.{TooLarge, NoUnits, NoPeriods}
-use Rattle.uc_case.specs.declared.fault.Field.{Field}
-use Rattle.uc_case.specs.declared.fault.Field.TheVariants.{Whole, TimePeriods, Demand}
-use Rattle.uc_case.specs.declared.fault.Field.TheVariants.{Reserves, ThermalGenerators}
-use Rattle.uc_case.specs.declared.fault.Field.TheVariants.{RenewableGenerators, DemandBids}
-use Rattle.uc_case.specs.declared.fault.Site.{Site}
+use Rattle.uc_field.specs.Forms.{Read, Keys, keys, key, key_or_none, object, time_within}
+use Rattle.uc_field.specs.Lists.{powers}
+use Rattle.uc_case.specs.Tables.{thermal_unit, renewable_unit, bid_unit}
+use Rattle.uc_field.specs.declared.fault.CaseCode.TheVariants.{TooLarge, NoUnits, NoPeriods}
+use Rattle.uc_field.specs.declared.fault.Field.{Field}
+use Rattle.uc_field.specs.declared.fault.Field.TheVariants.{Whole, TimePeriods, Demand}
+use Rattle.uc_field.specs.declared.fault.Field.TheVariants.{Reserves, ThermalGenerators}
+use Rattle.uc_field.specs.declared.fault.Field.TheVariants.{RenewableGenerators, DemandBids}
+use Rattle.uc_field.specs.declared.fault.Site.{Site}
 
 unfoldable pub thermal : ℕ → Site → Pair → Read NamedThermalUnit
 thermal periods at m = do

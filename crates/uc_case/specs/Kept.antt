@@ -1,40 +1,16 @@
--- What the parts of a unit keep while they are read: limits and orders.
-use Rattle.std.specs.Prelude.{◌≡◌, ℕ, ◌<◌, ◌≤◌, suc, ◌≤ℤ◌, ℤ, List, length, slice_index_or}
+-- What the parts of a unit and of a case keep while they are read: limits and counts.
+use Rattle.std.specs.Prelude.{◌≡◌, ℕ, ◌≤◌, ◌≤ℤ◌, length}
 use Rattle.std.specs.List.{All}
-use Rattle.uc_model.specs.declared.units.Lag.{Lag}
-use Rattle.uc_model.specs.declared.units.Point.{Point}
-use Rattle.uc_model.specs.declared.units.Block.{Block}
-use Rattle.uc_model.specs.declared.limits.TheConstants.{MOST_LAGS, MOST_POINTS, MOST_OF_A_KIND}
-use Rattle.uc_model.specs.Limits.{IsLag, AreLagsOrdered, IsPoint, ArePointsOrdered}
-use Rattle.uc_model.specs.Limits.{IsBlock, IsPower, IsOutput, IsTime, Spans}
+use Rattle.uc_model.specs.declared.limits.TheConstants.{MOST_LAGS, MOST_OF_A_KIND}
+use Rattle.uc_model.specs.Limits.{IsPower, IsOutput, IsTime}
 use Rattle.uc_model.specs.Limits.{IsThermalUnit, IsRenewableUnit, IsBidUnit}
 use Rattle.uc_model.specs.Data.{NamedThermalUnit, NamedRenewableUnit, NamedBidUnit}
+use Rattle.uc_field.specs.Kept.{AreLags, IsPointList}
 use Rattle.uc_case.specs.Cases.{AllUnits, HorizonNeeds}
 use Rattle.uc_case.specs.Tables.{UnitLists}
 use Rattle.uc_case.specs.declared.parts.Output.{Output}
 use Rattle.uc_case.specs.declared.parts.Ramps.{Ramps}
 use Rattle.uc_case.specs.declared.parts.Past.{Past}
-
-pub record AreLags (ls : List Lag) : Type 0 where
-  pub lags : All IsLag ls
-  pub ordered : AreLagsOrdered ls
-
-pub record ArePoints (ps : List Point) : Type 0 where
-  pub points : All IsPoint ps
-  pub ordered : ArePointsOrdered ps
-
--- the points of a cost from a least to a greatest power
-pub record IsPointList (ps : List Point) (low high : ℤ) : Type 0 where
-  pub count : length ps ≤ MOST_POINTS
-  pub some : 1 ≤ length ps
-  pub points : ArePoints ps
-  pub span : Spans ps low high
-
--- no price is above the one before it
-pub record AreBlocks (bs : List Block) : Type 0 where
-  pub blocks : All IsBlock bs
-  pub falling : (k : ℕ) (d : Block) → suc k < length bs
-      → (slice_index_or bs (suc k) d).price ≤ℤ (slice_index_or bs k d).price
 
 pub record IsRange (o : Output) : Type 0 where
   pub least : IsPower o.least

@@ -1,5 +1,3 @@
-pub mod Sites
-pub mod Forms
 pub mod Tables
 pub mod Cases
 pub mod CaseFiles

@@ -1,109 +1,28 @@
--- The tables of a unit in a case file: each test in order, with its fault (pglib-uc; windows, bids
--- and limits are this project's profile).
-use Rattle.std.specs.Prelude.{ℕ, ◌-◌, suc, Bool, true, not, ◌||◌, ◌==◌, nat_lt}
-use Rattle.std.specs.Prelude.{int_lt, List, ◌∷◌, length, map, if◌then◌else◌}
-use Rattle.std.specs.Prelude.{codes, Option, Some, None, replicate, Ok, slice_get, ℤ}
-use Rattle.std.specs.Option.{option_map, option_map_or}
+-- The tables of a unit in a case file: each test in order, with its fault (pglib-uc; bids are this
+-- project's profile).
+use Rattle.std.specs.Prelude.{ℕ, suc, ◌==◌, nat_lt, int_lt, List, ◌∷◌, if◌then◌else◌, Ok, ℤ}
 use Rattle.uc_model.specs.declared.units.Lag.{Lag}
 use Rattle.uc_model.specs.declared.units.Point.{Point}
-use Rattle.uc_model.specs.declared.units.Block.{Block}
 use Rattle.uc_model.specs.declared.units.Mark.{Mark}
-use Rattle.uc_model.specs.declared.units.Mark.TheVariants.{Free, MustOff, MustOn}
-use Rattle.uc_model.specs.declared.limits.TheConstants.{MOST_LAGS, MOST_POINTS}
-use Rattle.uc_model.specs.declared.limits.TheConstants.{MOST_BLOCKS, POWER_LIMIT}
 use Rattle.uc_model.specs.Data.{ThermalUnit, RenewableUnit, BidUnit}
-use Rattle.plain_lists.specs.Sums.{total}
-use Rattle.text_tree.specs.Values.{Value, scalar, null, number}
-use Rattle.text_tree.specs.Parts.{Pair}
-use Rattle.uc_file.specs.Inside.{list_in, bit_of}
-use Rattle.uc_file.specs.Magnitudes.{most_power, most_output, most_price}
-use Rattle.uc_case.specs.Sites.{fault, field_at, item_at}
-use Rattle.uc_file.specs.Words.{◌>>=◌, ◌>>◌, refuse, need, last_is}
-use Rattle.uc_case.specs.Forms.{Read, Keys, keys, key, key_or_none, part, at_item, items, few, full}
-use Rattle.uc_case.specs.Forms.{object, amount, power, cost, start_cost, time, flag}
-use Rattle.uc_case.specs.declared.fault.CaseCode.TheVariants.{TooLarge, CurveOrder}
-use Rattle.uc_case.specs.declared.fault.CaseCode.TheVariants.{CurveEnds, LagOrder, RangeOrder}
-use Rattle.uc_case.specs.declared.fault.CaseCode.TheVariants.{WindowShape, BlockOrder}
-use Rattle.uc_case.specs.declared.fault.Field.TheVariants.{MustRun, PowerOutputMinimum}
-use Rattle.uc_case.specs.declared.fault.Field.TheVariants.{PowerOutputMaximum, RampUpLimit}
-use Rattle.uc_case.specs.declared.fault.Field.TheVariants.{RampDownLimit, RampStartupLimit}
-use Rattle.uc_case.specs.declared.fault.Field.TheVariants.{RampShutdownLimit, TimeUpMinimum}
-use Rattle.uc_case.specs.declared.fault.Field.TheVariants.{TimeDownMinimum, PowerOutputT0}
-use Rattle.uc_case.specs.declared.fault.Field.TheVariants.{UnitOnT0, TimeUpT0, TimeDownT0, Startup}
-use Rattle.uc_case.specs.declared.fault.Field.TheVariants.{PiecewiseProduction, Commitment, Blocks}
-use Rattle.uc_case.specs.declared.fault.Site.{Site}
+use Rattle.text_tree.specs.Values.{Value}
+use Rattle.uc_file.specs.Magnitudes.{most_power, most_output}
+use Rattle.uc_field.specs.Sites.{fault, field_at, item_at}
+use Rattle.uc_file.specs.Words.{◌>>=◌, ◌>>◌, refuse}
+use Rattle.uc_field.specs.Forms.{Read, Keys, keys, key, key_or_none, object, power, time, flag}
+use Rattle.uc_field.specs.Lists.{startup, piecewise, commitment, powers, blocks}
+use Rattle.uc_field.specs.declared.fault.CaseCode.TheVariants.{RangeOrder}
+use Rattle.uc_field.specs.declared.fault.Field.TheVariants.{MustRun, PowerOutputMinimum}
+use Rattle.uc_field.specs.declared.fault.Field.TheVariants.{PowerOutputMaximum, RampUpLimit}
+use Rattle.uc_field.specs.declared.fault.Field.TheVariants.{RampDownLimit, RampStartupLimit}
+use Rattle.uc_field.specs.declared.fault.Field.TheVariants.{RampShutdownLimit, TimeUpMinimum}
+use Rattle.uc_field.specs.declared.fault.Field.TheVariants.{TimeDownMinimum, PowerOutputT0}
+use Rattle.uc_field.specs.declared.fault.Field.TheVariants.{UnitOnT0, TimeUpT0, TimeDownT0, Startup}
+use Rattle.uc_field.specs.declared.fault.Field.TheVariants.{PiecewiseProduction, Commitment, Blocks}
+use Rattle.uc_field.specs.declared.fault.Site.{Site}
 use Rattle.uc_case.specs.declared.parts.Output.{Output}
 use Rattle.uc_case.specs.declared.parts.Ramps.{Ramps}
 use Rattle.uc_case.specs.declared.parts.Past.{Past}
-
--- ---- startup
-
-unfoldable pub lag_in : Site → List Lag → List Pair → Read Lag
-lag_in at before o = do
-  lag ← part at (codes "lag") time o
-  cost ← part at (codes "cost") start_cost o
-  refuse (fault at LagOrder) (last_is (λ (b : Lag). nat_lt lag b.lag) before)
-  Ok (record { lag = lag; cost = cost })
-
-unfoldable pub lag : Site → List Lag → Value → Read Lag
-lag at before v = do
-  o ← object at v
-  lag_in at before o
-
-unfoldable pub startup : Site → Value → Read (List Lag)
-startup at v = few (at_item lag) MOST_LAGS at v
-
--- ---- piecewise_production
-
-unfoldable pub point_in : Site → List Point → List Pair → Read Point
-point_in at before o = do
-  mw ← part at (codes "mw") (power most_power) o
-  cost ← part at (codes "cost") cost o
-  refuse (fault at CurveOrder) (last_is (λ (b : Point). int_lt mw b.at) before)
-  Ok (record { at = mw; cost = cost })
-
-unfoldable pub point : Site → List Point → Value → Read Point
-point at before v = do
-  o ← object at v
-  point_in at before o
-
--- there is no first point at most at low, or no last point at least at high
-abbrev pub ends_miss : ℤ → ℤ → List Point → Bool
-ends_miss low high ps =
-    option_map_or (λ (p : Point). int_lt low p.at) (slice_get ps 0) true
-    || option_map_or (λ (p : Point). int_lt p.at high) (slice_get ps (length ps - 1)) true
-
-unfoldable pub piecewise : ℤ → ℤ → Site → Value → Read (List Point)
-piecewise low high at v = do
-  ps ← few (at_item point) MOST_POINTS at v
-  refuse (fault at CurveEnds) (ends_miss low high ps)
-  Ok ps
-
--- ---- commitment
-
-abbrev pub mark_in : Value → Option Mark
-mark_in (scalar null) = Some Free
-mark_in (scalar (number d)) = option_map (λ on. if on then MustOn else MustOff) (bit_of d)
-mark_in _ = None
-
-abbrev pub mark : Site → List Mark → Value → Read Mark
-mark at before v = need (fault at WindowShape) (mark_in v)
-
-unfoldable pub window_items : ℕ → Site → Value → Read (List Value)
-window_items periods at v = do
-  vs ← need (fault at WindowShape) (list_in v)
-  refuse (fault at WindowShape) (not (length vs == periods))
-  Ok vs
-
-unfoldable pub window : ℕ → Site → Value → Read (List Mark)
-window periods at v = do
-  vs ← window_items periods at v
-  items mark at vs
-
--- an absent one leaves every period free
-unfoldable pub commitment : ℕ → Site → Option Value → Read (List Mark)
-commitment periods at None = Ok (replicate periods Free)
-commitment periods at (Some v) = window periods at v
 
 -- ---- a thermal unit
 
@@ -190,16 +109,7 @@ thermal_unit periods at v = do
   ms ← object at v
   keyed_unit periods (keys at ms)
 
--- ---- a renewable unit, and the lists of the case
-
--- a power of a list, whatever stands before it
-abbrev pub one_power : Site → List ℤ → Value → Read ℤ
-one_power at before = power most_power at
-
-unfoldable pub powers : ℕ → Site → Value → Read (List ℤ)
-powers periods at v = do
-  vs ← full periods at v
-  items one_power at vs
+-- ---- a renewable unit
 
 -- the position of the first item where the least is above the most, or 0
 abbrev pub first_crossed : ℕ → List ℤ → List ℤ → ℕ
@@ -221,34 +131,6 @@ renewable_unit periods at v = do
   keyed_renewable periods (keys at ms)
 
 -- ---- a bid
-
--- in money for a kilowatt and period
-abbrev pub price : Site → Value → Read ℤ
-price = amount 3 most_price
-
-unfoldable pub block_in : Site → List Block → List Pair → Read Block
-block_in at before o = do
-  mw ← part at (codes "mw") (power most_power) o
-  price ← part at (codes "price") price o
-  refuse (fault at BlockOrder) (last_is (λ (b : Block). int_lt b.price price) before)
-  Ok (record { width = mw; price = price })
-
-unfoldable pub block : Site → List Block → Value → Read Block
-block at before v = do
-  o ← object at v
-  block_in at before o
-
--- the blocks of one period: all their faults are at the period's site
-unfoldable pub period_blocks : Site → List (List Block) → Value → Read (List Block)
-period_blocks at before v = do
-  bs ← few block MOST_BLOCKS at v
-  refuse (fault at TooLarge) (int_lt POWER_LIMIT (total (map (λ (b : Block). b.width) bs)))
-  Ok bs
-
-unfoldable pub blocks : ℕ → Site → Value → Read (List (List Block))
-blocks periods at v = do
-  vs ← full periods at v
-  items period_blocks at vs
 
 unfoldable pub bid_unit : ℕ → Site → Value → Read BidUnit
 bid_unit periods at v = do

@@ -1,134 +1,19 @@
 //! The demand bids of a case.
-ghost use Rattle.std.specs.Prelude.{◌≡◌, ◌≤◌, [], length, map, IfOk, false, int_lt};
-ghost use Rattle.std.specs.List.{All};
-ghost use Rattle.uc_model.specs.Limits.{IsBlock, IsBlockList, IsBidUnit};
+ghost use Rattle.std.specs.Prelude.{◌≡◌, ◌≤◌, length, IfOk};
+ghost use Rattle.uc_model.specs.Limits.{IsBidUnit};
 ghost use Rattle.uc_model.specs.PlainUnits.{bid_of};
-ghost use Rattle.plain_lists.specs.Reserved.{items_in};
-ghost use Rattle.uc_model.specs.declared.units.Block.{Block as PlainBlock};
 ghost use Rattle.uc_model.specs.declared.limits.TheConstants.{MOST_PERIODS};
-ghost use Rattle.text_tree.specs.View.{view, views, member_views};
+ghost use Rattle.text_tree.specs.View.{view};
 ghost use Rattle.uc_file.specs.Given.{Gives};
-ghost use Rattle.uc_case.specs.Kept.{AreBlocks};
-ghost use Rattle.uc_file.specs.Words.{last_is};
-ghost use Rattle.uc_case.specs.Forms.{key, keys, items};
-ghost use Rattle.uc_case.specs.Tables.{block, block_in, period_blocks, blocks, bid_unit};
+ghost use Rattle.uc_case.specs.Tables.{bid_unit};
 
-use crate::fault::{CaseCode, Field, Site};
-use crate::forms::{FieldStop, amount_under, full_list, members_of};
-use crate::items::{Item, read_few};
-use crate::keys::Keys;
-use crate::limits::{BLOCKS, POWER, PRICE};
 use std::alloc::Global;
-use text_tree::{Branch, Member};
-use uc_model::limits::POWER_LIMIT;
-use uc_model::money::total_width;
-use uc_model::units::{Bid, Block, BlockLists, Blocks};
-
-/// Whether a price is above that of the last of these blocks.
-fn is_dearer(before: &[Block], price: i64) -> bool
-    ensures { result ≡ last_is (λ (a : PlainBlock). int_lt a.price price) before.now }
-{
-    match before.last() {
-        Some(last) => last.price < price,
-        None => false,
-    }
-}
-
-/// The block of these members, behind other blocks; `BlockOrder` where it is dearer than the one
-/// before it.
-#[tactic(auto, unfolding(crate::specs::Tables::block_in))]
-fn block_of(at: Site, before: &[Block], members: &[Member<'_>]) -> Result<Block, FieldStop>
-    ensures fits { IfOk result (λ b. IsBlock b) }
-    ensures order { IfOk result (λ b. last_is (λ (a : PlainBlock). int_lt a.price b.price)
-        before.now ≡ false) }
-    ensures value { Gives (λ b. b) result (block_in at before.now (member_views members.now)) }
-{
-    let width = amount_under(at, members, "mw", 3, POWER)?;
-    let price = amount_under(at, members, "price", 3, PRICE)?;
-    if is_dearer(before, price) {
-        return Err(at.stop(CaseCode::BlockOrder));
-    }
-    Ok(Block { width, price })
-}
-
-// The faults of a block are those of its period.
-impl Item for Block {
-    ghost reading = { block };
-
-    ghost Keeps = { AreBlocks };
-
-    #[tactic(auto, unfolding(crate::specs::Tables::block), using(crate::proofs::Ordered::blocks_push))]
-    fn read(
-        alloc: Global,
-        at: Site,
-        before: &[Block],
-        branch: Branch<'_>,
-    ) -> Result<Block, FieldStop> {
-        let members = members_of(alloc, at, branch)?;
-        block_of(at, before, &members)
-    }
-}
-
-#[tactic(auto, unfolding(crate::specs::Tables::period_blocks), using(crate::proofs::Ordered::no_blocks))]
-fn read_period(alloc: Global, at: Site, branch: Branch<'_>) -> Result<Blocks, FieldStop>
-    ensures fits { IfOk result (λ bs. IsBlockList bs.items) }
-    ensures value { Gives (λ bs. bs.items) result (period_blocks at [] (view branch.entry)) }
-{
-    let blocks = read_few::<Block>(alloc, at, branch, BLOCKS)?;
-    if total_width(blocks.as_slice()) > POWER_LIMIT {
-        return Err(at.stop(CaseCode::TooLarge));
-    }
-    Ok(blocks)
-}
-
-/// Adds the blocks of each period to a list that is empty and has room for them.
-fn read_into(
-    alloc: Global,
-    at: Site,
-    branches: &[Branch<'_>],
-    lists: &mut BlockLists,
-) -> Result<(), FieldStop>
-    requires few { length branches.now ≤ MOST_PERIODS }
-    requires empty { lists.old.items ≡ [] }
-    requires room { length branches.now ≤ lists.old.spare }
-    ensures count { IfOk result (λ _. length lists.new.items ≡ length branches.now) }
-    ensures fits { IfOk result (λ _. All (λ bs. IsBlockList bs) (map items_in lists.new.items)) }
-    ensures value { Gives (λ _. map items_in lists.new.items) result
-        (items period_blocks at (views branches.now)) }
-{
-    for branch in branches {
-        let site = at.item(lists.len() as u32 + 1);
-        let blocks = read_period(alloc, site, *branch)?;
-        lists.push(blocks);
-    }
-    Ok(())
-}
-
-fn read_periods(alloc: Global, at: Site, branches: &[Branch<'_>]) -> Result<BlockLists, FieldStop>
-    requires { length branches.now ≤ MOST_PERIODS }
-    ensures count { IfOk result (λ ls. length ls.items ≡ length branches.now) }
-    ensures fits { IfOk result (λ ls. All (λ bs. IsBlockList bs) (map items_in ls.items)) }
-    ensures value { Gives (λ ls. map items_in ls.items) result
-        (items period_blocks at (views branches.now)) }
-{
-    let mut lists = BlockLists::make(alloc, branches.len() as u32)?;
-    read_into(alloc, at, branches, &mut lists)?;
-    Ok(lists)
-}
-
-#[tactic(auto, unfolding(crate::specs::Tables::blocks))]
-fn read_block_lists(alloc: Global, u: &Keys, periods: u32) -> Result<BlockLists, FieldStop>
-    requires { periods ≤ MOST_PERIODS }
-    ensures count { IfOk result (λ ls. length ls.items ≡ periods) }
-    ensures fits { IfOk result (λ ls. All (λ bs. IsBlockList bs) (map items_in ls.items)) }
-    ensures value { Gives (λ ls. map items_in ls.items) result
-        (key (keys u.now.at (member_views u.now.members.items)) Field.Blocks (blocks periods)) }
-{
-    let at = u.at.field(Field::Blocks);
-    let list = full_list(at, u.value(Field::Blocks)?, periods)?;
-    let branches = list.items(alloc)?;
-    read_periods(alloc, at, &branches)
-}
+use text_tree::Branch;
+use uc_field::blocks::read_block_lists;
+use uc_field::fault::Site;
+use uc_field::forms::{FieldStop, members_of};
+use uc_field::keys::Keys;
+use uc_model::units::Bid;
 
 /// A bid, or the first of its faults; those of a block are at its period.
 #[tactic(auto, unfolding(crate::specs::Tables::bid_unit))]

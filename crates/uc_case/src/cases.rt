@@ -8,19 +8,19 @@ ghost use Rattle.text_tree.specs.View.{view, member_views};
 ghost use Rattle.uc_file.specs.Given.{Gives};
 ghost use Rattle.uc_case.specs.Kept.{IsThermalOf, IsRenewableOf, IsBidOf, AreNeeds, AreAllUnits};
 ghost use Rattle.uc_case.specs.Parts.{needs_of, units_of};
-ghost use Rattle.uc_case.specs.Forms.{keys, key, key_or_none};
+ghost use Rattle.uc_field.specs.Forms.{keys, key, key_or_none};
 ghost use Rattle.uc_case.specs.Cases.{thermal, renewable, units, bids, whole, horizon, needs};
 ghost use Rattle.uc_case.specs.Cases.{all_units, no_unit, joined_case, keyed_case, case_of};
 
-use crate::fault::{CaseCode, Field, Kind};
-use crate::forms::{FieldStop, members_of};
-use crate::keys::Keys;
-use crate::limits::PERIODS;
 use crate::listed::{read_units, unit_site};
-use crate::lists::read_powers;
 use crate::parts::{Needs, Units};
 use std::alloc::Global;
 use text_tree::Branch;
+use uc_field::fault::{CaseCode, Field, Kind};
+use uc_field::forms::{FieldStop, members_of};
+use uc_field::keys::Keys;
+use uc_field::limits::PERIODS;
+use uc_field::lists::read_powers;
 use uc_model::cases::Case;
 use uc_model::units::{BidList, FlatList, NamedBid, NamedFlat, NamedUnit, ThermalList};
 

@@ -5,16 +5,10 @@
 mod bids;
 mod cases;
 pub mod fault;
-mod forms;
-mod items;
-mod keys;
 pub mod laws;
-mod limits;
 mod listed;
-mod lists;
 mod parts;
 mod read;
 mod units;
-mod windows;
 
 pub use read::read_case;

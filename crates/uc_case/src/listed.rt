@@ -8,20 +8,20 @@ ghost use Rattle.text_tree.specs.Parts.{Pair};
 ghost use Rattle.text_tree.specs.View.{view, member_view, member_views};
 ghost use Rattle.uc_file.specs.Given.{Gives};
 ghost use Rattle.uc_case.specs.Kept.{IsThermalOf, IsRenewableOf, IsBidOf};
-ghost use Rattle.uc_case.specs.Forms.{Read};
-ghost use Rattle.uc_case.specs.Sites.{site};
+ghost use Rattle.uc_field.specs.Forms.{Read};
+ghost use Rattle.uc_field.specs.Sites.{site};
 ghost use Rattle.uc_case.specs.Cases.{thermal, renewable, bid, each_member, units};
-ghost use Rattle.uc_case.specs.declared.fault.Site.{Site as PlainSite};
+ghost use Rattle.uc_field.specs.declared.fault.Site.{Site as PlainSite};
 
 use crate::bids::read_bid;
-use crate::fault::{CaseCode, Field, Kind, Site};
-use crate::forms::{FieldStop, object_of};
-use crate::limits::UNITS;
 use crate::units::{read_renewable, read_unit};
 use plain_lists::lists::{Name, ReservedList};
 use std::alloc::{AllocError, Global};
 use text_tokens::text_of;
 use text_tree::{Branch, Member};
+use uc_field::fault::{CaseCode, Field, Kind, Site};
+use uc_field::forms::{FieldStop, object_of};
+use uc_field::limits::UNITS;
 use uc_model::units::{NamedBid, NamedFlat, NamedUnit};
 
 /// A unit or bid under its name.

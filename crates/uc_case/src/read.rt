@@ -5,7 +5,7 @@ ghost use Rattle.uc_model.specs.PlainCases.{market_of};
 ghost use Rattle.plain_lists.specs.declared.limits.TheConstants.{MOST_BYTES};
 ghost use Rattle.uc_case.specs.CaseFiles.{IsCaseOf, IfRead};
 ghost use Rattle.uc_file.specs.Files.{FileFault};
-ghost use Rattle.uc_case.specs.declared.fault.FieldFault.{FieldFault as PlainFault};
+ghost use Rattle.uc_field.specs.declared.fault.FieldFault.{FieldFault as PlainFault};
 
 use crate::cases::case_of_tree;
 use crate::fault::CaseFault;

@@ -7,19 +7,19 @@ ghost use Rattle.text_tree.specs.View.{view, member_views};
 ghost use Rattle.uc_file.specs.Given.{Gives};
 ghost use Rattle.uc_case.specs.Kept.{IsRange, AreRamps, IsPast, AreUnitLists};
 ghost use Rattle.uc_case.specs.Parts.{lists_of};
-ghost use Rattle.uc_case.specs.Forms.{keys};
+ghost use Rattle.uc_field.specs.Forms.{keys};
 ghost use Rattle.uc_case.specs.Tables.{thermal_unit, renewable_unit, keyed_renewable, first_crossed};
 ghost use Rattle.uc_case.specs.Tables.{output, ramps, past, unit_lists, keyed_unit, joined_unit, at_least_one};
 
-use crate::fault::{CaseCode, Field, Site};
-use crate::forms::{FieldStop, members_of};
-use crate::keys::Keys;
-use crate::limits::{OUTPUT, POWER, TIME};
-use crate::lists::{read_piecewise, read_powers, read_startup};
 use crate::parts::{Lists, Output, Past, Ramps};
-use crate::windows::read_commitment;
 use std::alloc::Global;
 use text_tree::Branch;
+use uc_field::fault::{CaseCode, Field, Site};
+use uc_field::forms::{FieldStop, members_of};
+use uc_field::keys::Keys;
+use uc_field::limits::{OUTPUT, POWER, TIME};
+use uc_field::lists::{read_piecewise, read_powers, read_startup};
+use uc_field::windows::read_commitment;
 use uc_model::units::{Renewable, Unit};
 
 fn raised_to_one(time: u32) -> u32

@@ -1,0 +1,209 @@
+//! The forms of fields: each reads one value, and its faults are at the site.
+ghost use Rattle.std.specs.Prelude.{◌≡◌, ◌≤◌, ◌^◌, IfOk, length, pos};
+ghost use Rattle.plain_lists.specs.Ranges.{IsFrom};
+ghost use Rattle.uc_model.specs.Limits.{IsCost};
+ghost use Rattle.uc_model.specs.declared.limits.TheConstants.{MOST_TIME};
+ghost use Rattle.text_tree.specs.View.{view, items_in, members_in, member_views};
+ghost use Rattle.uc_file.specs.Given.{Gives};
+ghost use Rattle.uc_field.specs.Sites.{fault};
+ghost use Rattle.uc_field.specs.Forms.{decimal, list, full, object, amount, power, cost};
+ghost use Rattle.uc_field.specs.Forms.{time_within, flag, under, part};
+ghost use Rattle.uc_file.specs.declared.stop.Stop.TheVariants as stops;
+
+use crate::fault::{CaseCode, FieldFault, Site};
+use crate::limits::COST;
+use std::alloc::Global;
+use text_tree::{Branch, ListBranch, Member, ObjectBranch};
+use uc_file::inside::{bit, find};
+use uc_file::stop::Stop;
+use uc_num::{Decimal, is_whole, whole};
+
+/// Why the reading of a case stops.
+pub type FieldStop = Stop<FieldFault>;
+
+impl Site {
+    /// The stop at a test that failed here.
+    pub fn stop(self, code: CaseCode) -> FieldStop
+        ensures { result ≡ stops.Fault (fault self code) }
+    {
+        Stop::Fault(self.fault(code))
+    }
+}
+
+/// The number that a value is; `WrongKind` where it is none.
+pub fn number_of(at: Site, branch: Branch<'_>) -> Result<Decimal, FieldStop>
+    ensures { Gives (λ d. d) result (decimal at (view branch.entry)) }
+{
+    match branch.number() {
+        Some(d) => Ok(d),
+        None => Err(at.stop(CaseCode::WrongKind)),
+    }
+}
+
+/// The list that a value is; `WrongKind` where it is none. It takes no memory.
+pub fn list_of(at: Site, branch: Branch<'_>) -> Result<ListBranch<'_>, FieldStop>
+    ensures { Gives items_in result (list at (view branch.entry)) }
+{
+    match branch.list() {
+        Some(list) => Ok(list),
+        None => Err(at.stop(CaseCode::WrongKind)),
+    }
+}
+
+/// The object that a value is; `WrongKind` where it is none. It takes no memory.
+pub fn object_of(at: Site, branch: Branch<'_>) -> Result<ObjectBranch<'_>, FieldStop>
+    ensures { Gives members_in result (object at (view branch.entry)) }
+{
+    match branch.object() {
+        Some(object) => Ok(object),
+        None => Err(at.stop(CaseCode::WrongKind)),
+    }
+}
+
+/// The list of an item for each period that a value is; `WrongKind` where it is none, and
+/// `WrongLength` where it has more items or fewer. It takes no memory.
+#[tactic(auto, unfolding(crate::specs::Forms::full))]
+pub fn full_list(at: Site, branch: Branch<'_>, periods: u32) -> Result<ListBranch<'_>, FieldStop>
+    ensures count { IfOk result (λ l. length (items_in l) ≡ periods) }
+    ensures value { Gives items_in result (full periods at (view branch.entry)) }
+{
+    let list = list_of(at, branch)?;
+    if list.len() != periods as usize {
+        return Err(at.stop(CaseCode::WrongLength));
+    }
+    Ok(list)
+}
+
+/// The members of an object, in file order; `WrongKind` where the value is none.
+pub fn members_of<'a>(
+    alloc: Global,
+    at: Site,
+    branch: Branch<'a>,
+) -> Result<Vec<Member<'a>>, FieldStop>
+    ensures { Gives (λ ms. member_views ms.items) result (object at (view branch.entry)) }
+{
+    Ok(object_of(at, branch)?.members(alloc)?)
+}
+
+/// A number at a scale, from 0 to the limit. It is tried in the order `WrongKind`, `TooLarge` in
+/// magnitude, `Negative`.
+#[tactic(auto, unfolding(crate::specs::Forms::amount), using(crate::proofs::Fits::not_above))]
+pub fn read_amount(at: Site, branch: Branch<'_>, scale: u32, limit: u64) -> Result<i64, FieldStop>
+    requires scale { scale ≤ 6 }
+    requires limit { limit ≤ 10 ^ 18 }
+    ensures bound { IfOk result (λ n. IsFrom (pos 0) (pos limit) n) }
+    ensures value { Gives (λ n. n) result (amount scale limit at (view branch.entry)) }
+{
+    let d = number_of(at, branch)?;
+    let Ok(amount) = whole(d, scale, limit) else {
+        return Err(at.stop(CaseCode::TooLarge));
+    };
+    if amount < 0 {
+        return Err(at.stop(CaseCode::Negative));
+    }
+    Ok(amount)
+}
+
+/// Kilowatts, from megawatts: from 0 to the limit, tried as `read_amount` does.
+pub fn read_power(at: Site, branch: Branch<'_>, limit: u64) -> Result<i64, FieldStop>
+    requires { limit ≤ 10 ^ 18 }
+    ensures bound { IfOk result (λ n. IsFrom (pos 0) (pos limit) n) }
+    ensures value { Gives (λ n. n) result (power limit at (view branch.entry)) }
+{
+    read_amount(at, branch, 3, limit)
+}
+
+/// Money of a point of a curve, in millionths of the currency, which may be below 0. It is tried in
+/// the order `WrongKind`, `TooLarge`.
+#[tactic(auto, unfolding(crate::specs::Forms::cost), using(crate::proofs::Fits::within))]
+pub fn read_cost(at: Site, branch: Branch<'_>) -> Result<i64, FieldStop>
+    ensures bound { IfOk result (λ n. IsCost n) }
+    ensures value { Gives (λ n. n) result (cost at (view branch.entry)) }
+{
+    let d = number_of(at, branch)?;
+    match whole(d, 6, COST) {
+        Ok(cost) => Ok(cost),
+        Err(_) => Err(at.stop(CaseCode::TooLarge)),
+    }
+}
+
+/// A number of periods, from 0 to the limit. It is tried in the order `WrongKind`, `NotWhole`,
+/// `TooLarge` in magnitude, `Negative`.
+#[tactic(auto, unfolding(crate::specs::Forms::time_within))]
+pub fn read_time(at: Site, branch: Branch<'_>, limit: u64) -> Result<u32, FieldStop>
+    requires { limit ≤ MOST_TIME }
+    ensures bound { IfOk result (λ n. n ≤ limit) }
+    ensures value { Gives (λ n. n) result (time_within limit at (view branch.entry)) }
+{
+    let d = number_of(at, branch)?;
+    if !is_whole(d) {
+        return Err(at.stop(CaseCode::NotWhole));
+    }
+    let Ok(time) = whole(d, 0, limit) else {
+        return Err(at.stop(CaseCode::TooLarge));
+    };
+    if time < 0 {
+        return Err(at.stop(CaseCode::Negative));
+    }
+    Ok(time as u32)
+}
+
+/// A flag, 0 or 1. It is tried in the order `WrongKind`, `NotWhole`, `NotFlag`.
+#[tactic(auto, unfolding(crate::specs::Forms::flag))]
+pub fn read_flag(at: Site, branch: Branch<'_>) -> Result<bool, FieldStop>
+    ensures { Gives (λ b. b) result (flag at (view branch.entry)) }
+{
+    let d = number_of(at, branch)?;
+    if !is_whole(d) {
+        return Err(at.stop(CaseCode::NotWhole));
+    }
+    match bit(d) {
+        Some(flag) => Ok(flag),
+        None => Err(at.stop(CaseCode::NotFlag)),
+    }
+}
+
+/// The value under a key; `Missing` where it isn't there.
+pub fn value_under<'a>(at: Site, members: &[Member<'a>], key: &str) -> Result<Branch<'a>, FieldStop>
+    ensures { Gives view result (under at key.now (member_views members.now)) }
+{
+    match find(members, key) {
+        Some(value) => Ok(value),
+        None => Err(at.stop(CaseCode::Missing)),
+    }
+}
+
+/// The number under a key, which must be there, read as `read_amount` does.
+pub fn amount_under(
+    at: Site,
+    members: &[Member<'_>],
+    key: &str,
+    scale: u32,
+    limit: u64,
+) -> Result<i64, FieldStop>
+    requires scale { scale ≤ 6 }
+    requires limit { limit ≤ 10 ^ 18 }
+    ensures bound { IfOk result (λ n. IsFrom (pos 0) (pos limit) n) }
+    ensures value { Gives (λ n. n) result
+        (part at key.now (amount scale limit) (member_views members.now)) }
+{
+    read_amount(at, value_under(at, members, key)?, scale, limit)
+}
+
+/// The periods under a key, which must be there, read as `read_time` does.
+pub fn time_under(at: Site, members: &[Member<'_>], key: &str, limit: u64) -> Result<u32, FieldStop>
+    requires { limit ≤ MOST_TIME }
+    ensures bound { IfOk result (λ n. n ≤ limit) }
+    ensures value { Gives (λ n. n) result
+        (part at key.now (time_within limit) (member_views members.now)) }
+{
+    read_time(at, value_under(at, members, key)?, limit)
+}
+
+/// The money under a key, which must be there, read as `read_cost` does.
+pub fn cost_under(at: Site, members: &[Member<'_>], key: &str) -> Result<i64, FieldStop>
+    ensures bound { IfOk result (λ n. IsCost n) }
+    ensures value { Gives (λ n. n) result (part at key.now cost (member_views members.now)) }
+{
+    read_cost(at, value_under(at, members, key)?)
+}
