@@ -1,31 +1,16 @@
--- The steps of a certificate, one after another.
-use Rattle.hull_command.proofs.Common.{◌≡◌, inl, inr, Ok, Err, refl, subst, ap, ◌∙◌, unsigned_abs, market_of}
-use Rattle.hull_command.proofs.Common.{schedules_of, PricesFile, MixtureFile, TopFault, IsFaultOf, Then, Reads, IsInput}
-use Rattle.hull_command.proofs.Common.{IsPricesFile, IsPriced, IsMixtureFile, IsCertifiable, planned_of, PlannedCase}
-use Rattle.hull_command.proofs.Common.{IsCommandAnswer, IsCertifiedAt, command_for, certify, certify_asked}
-use Rattle.hull_command.proofs.Common.{MixtureLists, mixture_bound}
+-- The answer of a certificate.
+use Rattle.hull_command.proofs.Common.{◌≡◌, Ok, refl, subst, ap, ◌∙◌, unsigned_abs, market_of, schedules_of}
+use Rattle.hull_command.proofs.Common.{PricesFile, MixtureFile, Reads, IsInput, IsPricesFile, IsMixtureFile}
+use Rattle.hull_command.proofs.Common.{planned_of, IsCommandAnswer, IsCertifiedAt, command_for, certify}
+use Rattle.hull_command.proofs.Common.{certify_asked, MixtureLists, mixture_bound}
 use Rattle.uc_model.specs.Data.{PriceLists}
 use Rattle.hull_words.specs.declared.command.CertifyWords.{CertifyWords}
 use Rattle.hull_report.specs.CertifiedText.{certificate_of}
 use Rattle.report_form.specs.CertificateText.{certificate_text}
-use Rattle.hull_command.specs.declared.input.Input.{Input}
+use Rattle.hull_input.specs.declared.input.Input.{Input}
 use Rattle.uplift_settle.specs.Settled.{IsSettledAt, settled_of}
 use Rattle.hull_command.specs.declared.answer.Answer.TheVariants.{Certify}
 use Rattle.hull_command.specs.declared.answer.CertifiedInput.{CertifiedInput}
-
--- what refuses the input or its prices refuses the certificate
-pub priced_refused : (reads : Reads) (f : TopFault) → IsFaultOf (Then (IsInput reads) (IsPriced reads)) f →
-    IsFaultOf (Then (IsInput reads) (IsCertifiable reads)) f
-priced_refused reads f (inl (Ok c, input, priced)) = inl (Ok c, input, (Err f, priced, refl))
-priced_refused reads f (inl (Err g, input, e)) = inl (Err g, input, e)
-priced_refused reads f (inr memory) = inr memory
-
-module _ (reads : Reads) (c : PlannedCase) (π : PriceLists) (input : IsInput reads (Ok c))
-    (file : IsPricesFile c.market.periods (reads PricesFile) (Ok π)) where
-  pub mixture_refused : (f : TopFault) → IsFaultOf (IsMixtureFile c.market (reads MixtureFile)) f →
-      IsFaultOf (Then (IsInput reads) (IsCertifiable reads)) f
-  mixture_refused f (inl due) = inl (Ok c, input, (Ok c, (Ok π, file, refl), (Err f, due, refl)))
-  mixture_refused f (inr memory) = inr memory
 
 module _ (words : CertifyWords) (input : Input) (x : CertifiedInput) (same : x.settled.input ≡ input) (π : PriceLists)
     (mixture : MixtureLists) (certified : IsCertifiedAt π mixture words.radius x) where

@@ -6,7 +6,7 @@ use Rattle.hull_command.specs.declared.answer.Answer.{Answer}
 use Rattle.hull_command.specs.declared.end.End.{End}
 use Rattle.hull_command.specs.declared.end.End.TheVariants.{Done, Cut, Refused}
 use Rattle.std.specs.Prelude.{IfOk}
-use Rattle.hull_command.specs.Answers.{HasReads}
+use Rattle.hull_input.specs.Answers.{HasReads}
 use Rattle.hull_command.specs.Rest.{IsAsked, IsBefore, IsBeforeOf, IsFit}
 use Rattle.hull_command.specs.declared.ready.Before.{Before}
 use Rattle.hull_command.specs.declared.ready.Before.TheVariants as befores

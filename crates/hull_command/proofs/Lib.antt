@@ -1,12 +1,8 @@
 -- The names from elsewhere that the proofs here cite.
 pub mod Common
--- files.rt, prepare.rt: one step after another
-pub mod StepLaws
--- files.rt, prepare.rt, laws.rt: what was read of a file
-pub mod ReadLaws
 -- prepare.rt: the numbers of a run that words give are within their limits
 pub mod WordSizes
--- prepare.rt, laws.rt: the audit of a report
+-- prepare.rt: the audit of a report
 pub mod AuditLaws
 -- prepare.rt: a settlement at given prices
 pub mod SettleLaws

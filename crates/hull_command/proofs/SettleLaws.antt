@@ -1,21 +1,14 @@
--- The steps of a settlement at given prices, one after another.
-use Rattle.hull_command.proofs.Common.{◌≡◌, inl, inr, Ok, Err, refl, subst, market_of, schedules_of, PricesFile}
-use Rattle.hull_command.proofs.Common.{TopFault, IsFaultOf, Then, Reads, IsInput, IsPricesFile, IsPriced, planned_of}
-use Rattle.hull_command.proofs.Common.{PlannedCase, IsCommandAnswer, command_for, settle, settle_asked}
+-- The answer of a settlement at given prices.
+use Rattle.hull_command.proofs.Common.{◌≡◌, Ok, refl, subst, market_of, schedules_of, PricesFile, Reads, IsInput}
+use Rattle.hull_command.proofs.Common.{IsPricesFile, planned_of, IsCommandAnswer, command_for, settle, settle_asked}
 use Rattle.uc_model.specs.Data.{PriceLists}
 use Rattle.hull_words.specs.declared.command.SettleWords.{SettleWords}
 use Rattle.hull_report.specs.SettledText.{settlement_of}
 use Rattle.report_form.specs.SettlementText.{settlement_text}
-use Rattle.hull_command.specs.declared.input.Input.{Input}
+use Rattle.hull_input.specs.declared.input.Input.{Input}
 use Rattle.uplift_settle.specs.Settled.{IsSettledAt, settled_of}
 use Rattle.hull_command.specs.declared.answer.Answer.TheVariants.{Settle}
 use Rattle.hull_command.specs.declared.answer.SettledInput.{SettledInput}
-
-module _ (reads : Reads) (c : PlannedCase) (input : IsInput reads (Ok c)) where
-  pub prices_refused : (f : TopFault) → IsFaultOf (IsPricesFile c.market.periods (reads PricesFile)) f →
-      IsFaultOf (Then (IsInput reads) (IsPriced reads)) f
-  prices_refused f (inl due) = inl (Ok c, input, (Err f, due, refl))
-  prices_refused f (inr memory) = inr memory
 
 module _ (input : Input) (s : SettledInput) (same : s.input ≡ input) (prices : PriceLists)
     (settled : IsSettledAt (market_of s.input.case) (schedules_of s.input.plan) prices (settled_of s.settled)) where

@@ -12,7 +12,7 @@ use Rattle.hull_words.specs.declared.kinds.CommandKind.{CommandKind}
 use Rattle.hull_words.specs.declared.kinds.CommandKind.TheVariants as kinds
 use Rattle.hull_words.specs.Spelling.{command_named}
 use Rattle.hull_words.specs.Texts.{is_numeral, number_in}
-use Rattle.hull_command.specs.Sizes.{IsWithin, IsWorkers, IsRunSize}
+use Rattle.hull_input.specs.Sizes.{IsWithin, IsWorkers, IsRunSize}
 use Rattle.hull_command.specs.Sizes.{HasSizes}
 
 -- ---- one number

@@ -1,10 +1,8 @@
--- What the steps of a run answer, and what its end leaves.
-use Rattle.std.specs.Prelude.{◌≡◌, ◌⊎◌, ◌≤◌, ⊤, ℕ, ℤ, List, length, unsigned_abs, Option, Result}
-use Rattle.std.specs.Prelude.{Ok, Err}
+-- What a command answers, and what its end leaves.
+use Rattle.std.specs.Prelude.{◌≡◌, ◌⊎◌, ⊤, ℕ, ℤ, List, unsigned_abs, Result, Ok, Err}
 use Rattle.uc_model.specs.Data.{PriceLists}
 use Rattle.uc_model.specs.Limits.{IsSum, IsWorth}
 use Rattle.uc_model.specs.PlainCases.{market_of, schedules_of}
-use Rattle.uc_model.specs.PlainUnits.{prices_of}
 use Rattle.mixture_bound.specs.Mixtures.{MixtureLists}
 use Rattle.mixture_bound.specs.MixtureBound.{mixture_bound}
 use Rattle.right_report.specs.Told.{IsTold}
@@ -20,69 +18,23 @@ use Rattle.report_form.specs.ReportText.{Report}
 use Rattle.hull_report.specs.SettledText.{settlement_of}
 use Rattle.report_form.specs.SettlementText.{settlement_text}
 use Rattle.hull_report.specs.TryText.{try_text}
-use Rattle.hull_report.specs.declared.fault.FileKind.{FileKind}
-use Rattle.hull_report.specs.declared.fault.FileKind.TheVariants.{PricesFile}
 use Rattle.hull_report.specs.declared.fault.TopFault.{TopFault}
-use Rattle.hull_report.specs.declared.fault.TopFault.TheVariants.{Memory}
 use Rattle.hull_command.specs.declared.answer.Answer.{Answer}
 use Rattle.hull_command.specs.declared.answer.Answer.TheVariants.{Check, Settle, Try, Bound, Fixed}
 use Rattle.hull_command.specs.declared.answer.Answer.TheVariants.{Audit, Certify}
 use Rattle.hull_command.specs.declared.answer.CertifiedInput.{CertifiedInput}
-use Rattle.hull_command.specs.declared.answer.PricedInput.{PricedInput}
 use Rattle.hull_command.specs.declared.answer.SettledInput.{SettledInput}
 use Rattle.hull_command.specs.declared.end.End.{End}
 use Rattle.hull_command.specs.declared.end.End.TheVariants.{Done, Cut, Refused}
-use Rattle.hull_command.specs.Steps.{Reads, Then, IsInput, IsPricesFile, IsPriced}
-use Rattle.hull_command.specs.Planned.{PlannedCase, planned_in, planned_of, IsPlanned}
-use Rattle.hull_command.specs.Outcome.{Command, IsReportText, IsBoundText, IsReadOf, AreReads}
+use Rattle.hull_command.specs.Outcome.{Command, IsReportText, IsBoundText}
+use Rattle.hull_input.specs.Answers.{IsFaultOf}
+use Rattle.hull_input.specs.Files.{Reads}
+use Rattle.hull_input.specs.Planned.{PlannedCase, planned_in}
 use Rattle.run_settle.specs.Rounds.{IsEnded}
 use Rattle.run_settle.specs.Bounded.{IsBounded}
 use Rattle.run_settle.specs.Compared.{ArePaid}
 use Rattle.uplift_settle.specs.Settled.{HasEachUnit}
 use Rattle.uplift_settle.specs.Settled.{settled_of, IsSettledAt}
-
--- ---- a step
-
--- a fault is a refusal that is due, or want of memory
-abbrev pub IsFaultOf : {A : Type 0} → (Result A TopFault → Type 0) → TopFault → Type 0
-IsFaultOf is_due f = is_due (Err f) ⊎ (f ≡ Memory)
-
--- what a step answers is what is due, unless memory ran out
-abbrev pub IsAnswer : {A X : Type 0} → (Result A TopFault → Type 0) → (X → A) →
-    Result X TopFault → Type 0
-IsAnswer is_due view (Ok x) = is_due (Ok (view x))
-IsAnswer is_due view (Err f) = IsFaultOf is_due f
-
--- ---- a shelf that is read
-
--- it tells the same, and no count falls
-pub record IsLaterShelf {F : Type 0} (told : F → List ℕ → Option (List ℕ))
-    (faults : F → List ℕ → ℕ) (old new : F) : Type 0 where
-  pub told_same : told new ≡ told old
-  pub later : (any : List ℕ) → faults old any ≤ faults new any
-
--- what was read of a file has P
-abbrev pub HasRead : Option (List ℕ) → Type 0 → (Option (List ℕ) → Type 0) → Type 0
-HasRead told rose P = (read : Option (List ℕ)) × IsReadOf told rose read × P read
-
--- what was read of the files of these names has P
-abbrev pub HasReads : (List ℕ → Option (List ℕ)) → (List ℕ → Type 0) →
-    (FileKind → Option (List ℕ)) → (Reads → Type 0) → Type 0
-HasReads told rose name_of P = (reads : Reads) × AreReads told rose name_of reads × P reads
-
--- ---- an input with prices
-
--- a feasible schedule of its case, and prices over the periods
-pub record IsFitPriced (p : PricedInput) : Type 0 where
-  pub planned : IsPlanned p.input
-  pub horizon : length (prices_of p.prices).energy ≡ (market_of p.input.case).periods
-
--- the input and the prices of their files, or their first refusal, or want of memory
-abbrev pub IsPricedAnswer : Reads → Result PricedInput TopFault → Type 0
-IsPricedAnswer reads (Ok p) =
-    IsInput reads (Ok (planned_of p.input))
-    × IsPricesFile (market_of p.input.case).periods (reads PricesFile) (Ok (prices_of p.prices))
-IsPricedAnswer reads (Err f) = IsFaultOf (Then (IsInput reads) (IsPriced reads)) f
 
 -- ---- the answer of a command
 

@@ -1,13 +1,10 @@
 -- What the words of a command ask for.
-use Rattle.std.specs.Prelude.{◌≡◌}
 use Rattle.hull_words.specs.Asked.{TryAsked, BoundAsked, AuditAsked, CertifyAsked, price_asked}
 use Rattle.hull_words.specs.Asked.{settle_asked}
-use Rattle.hull_words.specs.declared.command.PriceWords.{PriceWords}
 use Rattle.hull_words.specs.declared.command.TryWords.{TryWords}
 use Rattle.hull_words.specs.declared.command.BoundWords.{BoundWords}
 use Rattle.hull_words.specs.declared.command.AuditWords.{AuditWords}
 use Rattle.hull_words.specs.declared.command.CertifyWords.{CertifyWords}
-use Rattle.board_core.specs.declared.terms.Terms.{Terms}
 
 abbrev pub try_asked : TryWords → TryAsked
 try_asked w =
@@ -30,9 +27,3 @@ certify_asked w = record {
   mixture_name = w.mixture_name.items;
   radius = w.radius;
 }
-
--- a run has the numbers that the words of `hull price` ask for
-pub record HasNumbers (w : PriceWords) (terms : Terms) : Type 0 where
-  pub budget : terms.budget ≡ w.proposals
-  pub ahead : terms.ahead ≡ w.ahead
-  pub callers : terms.callers ≡ w.workers

@@ -1,7 +1,6 @@
-pub mod Steps
+pub mod FurtherSteps
 pub mod Outcome
 pub mod Sizes
-pub mod Planned
 pub mod Inputs
 pub mod Answers
 pub mod Rest

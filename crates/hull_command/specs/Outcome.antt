@@ -1,8 +1,8 @@
 -- WHAT A RUN OF `hull` DOES, to be read from top to bottom (this project's profile; dual value,
 -- best responses and payments are those of Gribik, Hogan and Pope 2007). `hull_run` ensures
--- IsOutcome, the record at the foot; before it stand its words: the commands, what was read of
--- their files, and how a run ends. What follows from it in full words is in the Laws of law_outcome,
--- IsPromised for `price` and HasNoFeasibleSchedule for a schedule that is refused among them.
+-- IsOutcome, the record at the foot; before it stand its words: the commands, and how a run ends.
+-- What follows from it in full words is in the Laws of law_outcome, IsPromised for `price` and
+-- HasNoFeasibleSchedule for a schedule that is refused among them.
 --
 -- `told name` is what the shelf tells of a file's bytes, None where it tells none, and `rose name`
 -- that its count of faults under that name rose. A real file tells nothing: then all that is said
@@ -14,23 +14,24 @@
 -- `(x : T) × P` is read 'there is an x with P', `×` between two statements 'and', `⊎` 'or', `⊥`
 -- 'never'.
 --
--- The steps of the commands are in Steps; a case with its schedule is in Planned; what makes a
--- report and a side of `fixed` right in right_report's RightReport and RightSide; the texts of a
--- report, a settlement and a certificate in report_form's ReportText, SettlementText and
--- CertificateText; the others in hull_report: CheckText, TryText, BoundText, FixedText, AuditText,
--- FaultLines, and what `settle` and `certify` tell in SettledText and CertifiedText; a case with
--- its schedule's commitments held in fixed_price's FixedCase; which reports are read, and the
--- first line in fault, in report_read's Bounds and Faults; the first line at which a report
--- differs from the right one in report_compare's Right; the bound round a row in gap_proof's
--- Candidates; a settlement at any prices in uplift_settle's Settled; the bound by a mixture in
--- mixture_bound's MixtureBound.
+-- Which files a command names, and what was read of them, is in hull_input's Files; the steps of the
+-- commands in its Steps, and in FurtherSteps those of `try` and `audit`; a case with its schedule in
+-- its Planned; what makes a report and a side of `fixed` right in right_report's RightReport and
+-- RightSide; the texts of a report, a settlement and a certificate in report_form's ReportText,
+-- SettlementText and CertificateText; the others in hull_report: CheckText, TryText, BoundText,
+-- FixedText, AuditText, FaultLines, and what `settle` and `certify` tell in SettledText and
+-- CertifiedText; a case with its schedule's commitments held in fixed_price's FixedCase; which
+-- reports are read, and the first line in fault, in report_read's Bounds and Faults; the first line
+-- at which a report differs from the right one in report_compare's Right; the bound round a row in
+-- gap_proof's Candidates; a settlement at any prices in uplift_settle's Settled; the bound by a
+-- mixture in mixture_bound's MixtureBound.
 use Rattle.std.specs.Prelude.{◌≡◌, ◌⊎◌, ℕ, ℤ, List, length, unsigned_abs, Option, None, Some}
-use Rattle.std.specs.Prelude.{Result, Ok, Err, IfSome}
+use Rattle.std.specs.Prelude.{Result, Ok, Err}
 use Rattle.uc_model.specs.Data.{PriceLists}
 use Rattle.fixed_price.specs.FixedCase.{fixed_market}
 use Rattle.gap_proof.specs.Candidates.{RowRange, IsFirstLeast}
 use Rattle.hull_words.specs.Asked.{Asked, check, price, try, bound, fixed, audit, settle}
-use Rattle.hull_words.specs.Asked.{certify, SettleAsked}
+use Rattle.hull_words.specs.Asked.{certify}
 use Rattle.hull_words.specs.Words.{words_of}
 use Rattle.hull_words.specs.declared.fault.WordFault.{WordFault}
 use Rattle.hull_report.specs.AuditText.{audit_text}
@@ -48,16 +49,18 @@ use Rattle.hull_report.specs.SettledText.{settlement_of}
 use Rattle.report_form.specs.SettlementText.{settlement_text}
 use Rattle.hull_report.specs.TryText.{try_text}
 use Rattle.hull_report.specs.declared.fault.FileKind.{FileKind}
-use Rattle.hull_report.specs.declared.fault.FileKind.TheVariants.{CaseFile, ScheduleFile}
 use Rattle.hull_report.specs.declared.fault.FileKind.TheVariants.{ReportFile, PricesFile, MixtureFile}
 use Rattle.hull_report.specs.declared.fault.TopFault.{TopFault}
 use Rattle.hull_report.specs.declared.fault.TopFault.TheVariants.{Words, Memory}
+use Rattle.hull_input.specs.Files.{Reads, AreReads, case_and_schedule, with_report, with_prices}
+use Rattle.hull_input.specs.Files.{with_mixture}
+use Rattle.hull_input.specs.Planned.{PlannedCase}
+use Rattle.hull_input.specs.Steps.{Then, IsInput, IsWithinWork, IsPricesFile, IsPriced}
+use Rattle.hull_input.specs.Steps.{IsMixtureFile, IsCertifiable}
 use Rattle.hull_command.specs.declared.end.End.{End}
 use Rattle.hull_command.specs.declared.end.End.TheVariants.{Done, Cut, Refused}
-use Rattle.hull_command.specs.Steps.{Then, Reads, IsInput, IsMade, IsWithinWork}
-use Rattle.hull_command.specs.Planned.{PlannedCase}
+use Rattle.hull_command.specs.FurtherSteps.{IsMade, IsAudit}
 use Rattle.uplift_settle.specs.Settled.{Settled, IsSettledAt}
-use Rattle.hull_command.specs.Steps.{IsAudit, IsPricesFile, IsPriced, IsMixtureFile, IsCertifiable}
 use Rattle.mixture_bound.specs.Mixtures.{MixtureLists}
 use Rattle.mixture_bound.specs.MixtureBound.{mixture_bound}
 
@@ -72,37 +75,6 @@ pub record Command : Type 1 where
 
 abbrev pub no_files : FileKind → Option (List ℕ)
 no_files file = None
-
-abbrev pub case_and_schedule : (case_name schedule_name : List ℕ) → FileKind → Option (List ℕ)
-case_and_schedule case_name schedule_name CaseFile = Some case_name
-case_and_schedule case_name schedule_name ScheduleFile = Some schedule_name
-case_and_schedule case_name schedule_name ReportFile = None
-case_and_schedule case_name schedule_name PricesFile = None
-case_and_schedule case_name schedule_name MixtureFile = None
-
-abbrev pub with_report : (case_name schedule_name report_name : List ℕ) → FileKind →
-    Option (List ℕ)
-with_report case_name schedule_name report_name CaseFile = Some case_name
-with_report case_name schedule_name report_name ScheduleFile = Some schedule_name
-with_report case_name schedule_name report_name ReportFile = Some report_name
-with_report case_name schedule_name report_name PricesFile = None
-with_report case_name schedule_name report_name MixtureFile = None
-
-abbrev pub with_prices : (case_name schedule_name prices_name : List ℕ) → FileKind →
-    Option (List ℕ)
-with_prices case_name schedule_name prices_name CaseFile = Some case_name
-with_prices case_name schedule_name prices_name ScheduleFile = Some schedule_name
-with_prices case_name schedule_name prices_name ReportFile = None
-with_prices case_name schedule_name prices_name PricesFile = Some prices_name
-with_prices case_name schedule_name prices_name MixtureFile = None
-
-abbrev pub with_mixture : (names : SettleAsked) (mixture_name : List ℕ) → FileKind →
-    Option (List ℕ)
-with_mixture names mixture_name CaseFile = Some names.case_name
-with_mixture names mixture_name ScheduleFile = Some names.schedule_name
-with_mixture names mixture_name ReportFile = None
-with_mixture names mixture_name PricesFile = Some names.prices_name
-with_mixture names mixture_name MixtureFile = Some mixture_name
 
 -- what `text_of` writes of a right report for the input, with that budget and number of proposals
 -- ahead
@@ -217,21 +189,6 @@ command_for (Ok (certify a)) = record {
 }
 command_for (Err f) = refused f
 
--- ---- what was read
-
--- The bytes read of a file are those that the shelf tells of it, where it tells any. Its read
--- failed only where the count of its name rose.
-abbrev pub IsReadOf : (told : Option (List ℕ)) (rose : Type 0) → Option (List ℕ) → Type 0
-IsReadOf told rose (Some bytes) = IfSome told (λ all. bytes ≡ all)
-IsReadOf told rose None = rose
-
--- Each file that has a name has such bytes, or such a failure, also one that the run never came to.
-abbrev pub AreReads : (told : List ℕ → Option (List ℕ)) (rose : List ℕ → Type 0) →
-    (FileKind → Option (List ℕ)) → Reads → Type 0
-AreReads told rose name_of reads =
-    (file : FileKind) →
-    IfSome (name_of file) (λ name. IsReadOf (told name) (rose name) (reads file))
-
 -- ---- how a run ends
 
 -- its status: 0 for a text written whole, 6 for one cut short, or that of its fault
@@ -257,9 +214,9 @@ Ends c reads gained short Cut = HasText c reads short
 Ends c reads gained short (Refused f) =
     (c.IsDue reads (Err f) ⊎ (f ≡ Memory)) × (gained (fault_line f) ⊎ short (fault_line f))
 
--- THE OUTCOME of a run of these words: there are bytes of each file that the words name, or a read
--- of it that failed as a count tells, and the run ended as is due on them, with the status of that
--- end.
+-- THE OUTCOME of a run of these words: there are bytes of each file that the words name, those that
+-- the shelf tells where it tells any, or a read of it that failed as a count tells, and the run ended
+-- as is due on them, with the status of that end.
 pub record IsOutcome (words : List (List ℕ)) (told : List ℕ → Option (List ℕ))
     (rose gained short : List ℕ → Type 0) (status : ℕ) : Type 0 where
   pub reads : Reads

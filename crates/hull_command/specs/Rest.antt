@@ -13,12 +13,14 @@ use Rattle.report_read.specs.Bounds.{IsReport, AreInOrder}
 use Rattle.report_read.specs.Plain.{report_of, told_of}
 use Rattle.report_read.specs.declared.report.Report.{Report}
 use Rattle.board_core.specs.Setups.{IsSetup, setup_of}
-use Rattle.hull_command.specs.Sizes.{IsWorkers}
-use Rattle.hull_command.specs.Planned.{PlannedCase, planned_run}
-use Rattle.hull_command.specs.Answers.{IsAnswered, IsCommandAnswer, IsEndOf, IsFaultOf, HasReads}
+use Rattle.hull_input.specs.Answers.{IsFaultOf, HasReads}
+use Rattle.hull_input.specs.Files.{Reads}
+use Rattle.hull_input.specs.Planned.{PlannedCase, planned_run}
+use Rattle.hull_input.specs.Sizes.{IsWorkers}
+use Rattle.hull_command.specs.Answers.{IsAnswered, IsCommandAnswer, IsEndOf}
+use Rattle.hull_command.specs.FurtherSteps.{IsJudged}
 use Rattle.hull_command.specs.Outcome.{Command, command_for, no_files, Ends, IsOutcome, status_at}
 use Rattle.hull_command.specs.Outcome.{IsReportText, IsBoundText, IsFixedText, IsAuditText}
-use Rattle.hull_command.specs.Steps.{Reads, IsJudged}
 use Rattle.hull_command.specs.declared.end.End.{End}
 use Rattle.hull_command.specs.declared.ready.Before.{Before}
 use Rattle.hull_command.specs.declared.ready.Before.TheVariants as befores

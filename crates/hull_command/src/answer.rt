@@ -1,17 +1,9 @@
 //! What is to be printed.
 
-use crate::input::Input;
+use hull_input::Input;
 use hull_report::BoundWithin;
 use run_settle::{Bounded, Done, Sides};
-use uc_model::units::Prices;
 use uplift_settle::Settled;
-
-/// A case with its schedule, and prices over its periods.
-#[derive(Drop)]
-pub struct PricedInput {
-    pub input: Input,
-    pub prices: Prices,
-}
 
 /// A case with its schedule, and what that is settled at.
 pub struct SettledInput {

@@ -5,9 +5,9 @@ ghost use Rattle.hull_io.specs.Edge.{Writes, Gains, FallsShort};
 ghost use Rattle.report_form.specs.ReportText.{report_text};
 ghost use Rattle.right_report.specs.RecordReport.{report_of};
 ghost use Rattle.run_settle.specs.Rounds.{IsEnded};
+ghost use Rattle.hull_input.specs.Planned.{PlannedCase};
 ghost use Rattle.hull_command.specs.Answers.{IsTextOf, IsAnswered, IsCommandAnswer, IsEndOf};
 ghost use Rattle.hull_command.specs.Outcome.{Ends, status_at};
-ghost use Rattle.hull_command.specs.Planned.{PlannedCase};
 ghost use Rattle.hull_command.specs.Rest.{rest_with, nothing_read, IsFit, IsBeforeOf, IsUntouched};
 ghost use Rattle.hull_command.specs.declared.ready.Purpose.{Purpose};
 

@@ -8,15 +8,13 @@ ghost use Rattle.std.specs.Prelude.{◌≡◌, ◌≤◌, None};
 ghost use Rattle.hull_io.specs.Edge.{Rose, Gains, FallsShort};
 ghost use Rattle.hull_words.specs.Words.{texts, words_of};
 ghost use Rattle.hull_report.specs.declared.fault.FileKind.{FileKind};
+ghost use Rattle.hull_input.specs.Answers.{IsLaterShelf};
 ghost use Rattle.hull_command.specs.Outcome.{command_for};
-ghost use Rattle.hull_command.specs.Answers.{IsLaterShelf};
 ghost use Rattle.hull_command.specs.Rest.{IsBefore, IsUntouched};
 
 mod answer;
 mod certify;
 mod end;
-mod files;
-mod input;
 pub mod laws;
 mod prepare;
 mod ready;

@@ -1,33 +1,32 @@
-//! What a command needs before a run: its words, its files and its input, up to the first refusal.
+//! What a command comes to before a run: its words, its input and its answer, up to the first refusal.
 //! Nothing here starts a thread or waits.
-ghost use Rattle.std.specs.Prelude.{◌≡◌, ℕ, List, Ok, Err, None, IfOk, IfErr};
+ghost use Rattle.std.specs.Prelude.{◌≡◌, Ok, Err, None, IfOk, IfErr};
 ghost use Rattle.gap_proof.specs.Sums.{IsRadius};
 ghost use Rattle.hull_words.specs.Asked.{asked, check, price, try, bound, fixed};
 ghost use Rattle.hull_words.specs.Asked.{audit, settle, certify, check_asked, price_asked};
 ghost use Rattle.hull_words.specs.Asked.{settle_asked};
-ghost use Rattle.hull_io.specs.Edge.{Rose};
 ghost use Rattle.hull_words.specs.Words.{texts, words_of};
 ghost use Rattle.hull_report.specs.declared.fault.FileKind.{FileKind};
-ghost use Rattle.hull_command.specs.Steps.{Then, Reads, IsInput, IsWithinWork, made_case};
-ghost use Rattle.hull_command.specs.Outcome.{command_for, case_and_schedule, with_prices};
-ghost use Rattle.hull_command.specs.Answers.{IsFaultOf, IsAnswer, IsLaterShelf, HasReads};
-ghost use Rattle.hull_command.specs.Answers.{IsFitPriced, IsPricedAnswer};
+ghost use Rattle.hull_input.specs.Answers.{IsFaultOf, IsLaterShelf};
+ghost use Rattle.hull_input.specs.Files.{Reads};
+ghost use Rattle.hull_input.specs.Planned.{planned_of, IsPlanned};
+ghost use Rattle.hull_input.specs.Sizes.{IsWorkers, IsRunSize};
+ghost use Rattle.hull_command.specs.FurtherSteps.{made_case};
+ghost use Rattle.hull_command.specs.Inputs.{try_asked, bound_asked, audit_asked, certify_asked};
+ghost use Rattle.hull_command.specs.Outcome.{command_for};
 ghost use Rattle.hull_command.specs.Rest.{IsPrepared, HasPrepared, IsAsked, IsFit};
-ghost use Rattle.board_core.specs.Setups.{IsSetup, setup_of};
-ghost use Rattle.hull_command.specs.Planned.{planned_of, planned_run, IsPlanned};
-ghost use Rattle.hull_command.specs.Inputs.{try_asked, bound_asked, audit_asked};
-ghost use Rattle.hull_command.specs.Inputs.{certify_asked, HasNumbers};
-ghost use Rattle.hull_command.specs.Sizes.{IsWorkers, IsRunSize};
 ghost use Rattle.hull_command.specs.Sizes.{HasSizes};
 
-use crate::answer::{Answer, PricedInput};
-use crate::certify::{certified_input, read_mixture_file};
-use crate::files::{read_input, read_prices_file, read_report_file};
-use crate::input::{Input, within_work};
+use crate::answer::Answer;
+use crate::certify::certified_input;
 use crate::ready::{Prepared, Purpose, Ready};
 use crate::settle::settled_input;
-use board_core::Terms;
 use case_make::make_case;
+use hull_input::laws::{anything_may_be_read, report_bytes_are_its_text};
+use hull_input::{
+    Input, MixedInput, ReportedRun, read_input, read_mixed, read_priced, read_reported, read_run,
+    within_work,
+};
 use hull_io::Shelf;
 use hull_report::TopFault;
 use hull_words::{
@@ -68,24 +67,6 @@ fn prepare_check<F: Shelf>(
     let schedule_name = words.schedule_name.as_str();
     let input = read_input(alloc, shelf, case_name, schedule_name)?;
     Ok(Prepared::Answered(Answer::Check(input)))
-}
-
-/// The terms of the run that words ask for, over the case and the schedule of their files.
-fn read_run<F: Shelf>(alloc: Global, shelf: &mut F, words: &PriceWords) -> Result<Terms, TopFault>
-    requires { IsRunSize words.now.proposals words.now.workers words.now.ahead }
-    ensures answers { HasReads (F.told shelf.old)
-        (λ name. Rose F.last (F.faults shelf.old name) (F.faults shelf.new name))
-        (case_and_schedule words.now.case_name.items words.now.schedule_name.items)
-        (λ reads. IsAnswer (Then (IsInput reads) (IsWithinWork words.now.proposals))
-        planned_run result) }
-    ensures setup { IfOk result (λ terms. IsSetup (setup_of terms)) }
-    ensures numbers { IfOk result (HasNumbers words.now) }
-    ensures shelf { IsLaterShelf F.told F.faults shelf.old shelf.new }
-{
-    let case_name = words.case_name.as_str();
-    let schedule_name = words.schedule_name.as_str();
-    let input = read_input(alloc, shelf, case_name, schedule_name)?;
-    within_work(input, words.proposals, words.ahead, words.workers)
 }
 
 /// What `hull price` runs.
@@ -183,36 +164,11 @@ fn prepare_audit<F: Shelf>(
     ensures fit { IfOk result IsFit }
     ensures shelf { IsLaterShelf F.told F.faults shelf.old shelf.new }
 {
-    let case_name = words.case_name.as_str();
-    let schedule_name = words.schedule_name.as_str();
-    let report_name = words.report_name.as_str();
-    let input = read_input(alloc, shelf, case_name, schedule_name)?;
-    let report = read_report_file(alloc, shelf, report_name)?;
-    let terms = within_work(input, report.budget, report.ahead, words.workers)?;
+    report_bytes_are_its_text();
+    let reported = read_reported(alloc, shelf, words)?;
+    let ReportedRun { terms, report } = reported;
     let purpose = Purpose::Audit(report);
     Ok(Prepared::Ready(Ready { purpose, terms }))
-}
-
-/// The case, the schedule and the prices of the files of these names, or their first fault.
-fn read_priced<F: Shelf>(
-    alloc: Global,
-    shelf: &mut F,
-    words: &SettleWords,
-) -> Result<PricedInput, TopFault>
-    ensures answers { HasReads (F.told shelf.old)
-        (λ name. Rose F.last (F.faults shelf.old name) (F.faults shelf.new name))
-        (with_prices words.now.case_name.items words.now.schedule_name.items
-        words.now.prices_name.items)
-        (λ reads. IsPricedAnswer reads result) }
-    ensures fit { IfOk result IsFitPriced }
-    ensures shelf { IsLaterShelf F.told F.faults shelf.old shelf.new }
-{
-    let case_name = words.case_name.as_str();
-    let schedule_name = words.schedule_name.as_str();
-    let prices_name = words.prices_name.as_str();
-    let input = read_input(alloc, shelf, case_name, schedule_name)?;
-    let prices = read_prices_file(alloc, shelf, prices_name, &input.case)?;
-    Ok(PricedInput { input, prices })
 }
 
 /// What `hull settle` answers.
@@ -245,9 +201,8 @@ fn prepare_certify<F: Shelf>(
     ensures fit { IfOk result IsFit }
     ensures shelf { IsLaterShelf F.told F.faults shelf.old shelf.new }
 {
-    let priced = read_priced(alloc, shelf, &words.names)?;
-    let mixture_name = words.mixture_name.as_str();
-    let mixture = read_mixture_file(alloc, shelf, mixture_name, &priced.input.case)?;
+    let mixed = read_mixed(alloc, shelf, words)?;
+    let MixedInput { priced, mixture } = mixed;
     let certified = certified_input(alloc, priced, &mixture, words.radius)?;
     Ok(Prepared::Answered(Answer::Certify(certified)))
 }
@@ -295,6 +250,7 @@ pub fn prepare<F: Shelf>(
         → (command_for (words_of (texts words.now))).name_of file ≡ None)
         → shelf.new ≡ shelf.old }
 {
+    anything_may_be_read::<F>();
     let command = command_of(alloc, words)?;
     prepare_command(alloc, shelf, &command)
 }

@@ -8,7 +8,7 @@ pub use Rattle.std.proofs.lemmas.Result.{err_from_is_err_and}
 pub use Rattle.std.specs.Int.{w64}
 pub use Rattle.std.specs.List.{All}
 pub use Rattle.std.specs.Prelude.{OnOk, OnErr}
-pub use Rattle.hull_command.specs.Planned.{planned_in, planned_run, PlannedCase}
+pub use Rattle.hull_input.specs.Planned.{planned_in, planned_run, PlannedCase}
 pub use Rattle.run_settle.specs.Rounds.{IsEnded}
 pub use Rattle.board_core.specs.Setups.{setup_of}
 pub use Rattle.board_core.specs.declared.terms.Terms.{Terms}
@@ -16,7 +16,7 @@ pub use Rattle.audit_rows.specs.Benches.{IsBenchOver}
 pub use Rattle.hull_command.specs.Answers.{HasStatus, IsRunText}
 pub use Rattle.hull_command.specs.Rest.{Completes, rest_with, rest_of, nothing_read}
 pub use Rattle.hull_command.specs.Outcome.{IsReportText, IsBoundText, IsFixedText, Command, command_for, Ends, HasText}
-pub use Rattle.hull_command.specs.Steps.{Reads}
+pub use Rattle.hull_input.specs.Files.{Reads}
 pub use Rattle.hull_io.specs.Edge.{Gains, FallsShort}
 pub use Rattle.right_report.specs.RightSide.{told_of}
 pub use Rattle.hull_report.specs.FixedText.{fixed_text}

@@ -1,6 +1,6 @@
 -- How many workers a run has.
 use Rattle.hull_engine.proofs.Common.{ℕ, arith}
-use Rattle.hull_command.specs.Sizes.{IsWorkers}
+use Rattle.hull_input.specs.Sizes.{IsWorkers}
 use Rattle.hull_engine.specs.Workers.{IsUseful}
 
 pub useful_within : (asked n : ℕ) → IsWorkers asked → IsUseful asked n → IsWorkers n

@@ -2,8 +2,8 @@
 ghost use Rattle.std.specs.Prelude.{IfOk};
 ghost use Rattle.gap_proof.specs.Sums.{IsRadius};
 ghost use Rattle.board_core.specs.Setups.{IsSetup, setup_of};
-ghost use Rattle.hull_command.specs.Planned.{planned_run};
-ghost use Rattle.hull_command.specs.Sizes.{IsWorkers};
+ghost use Rattle.hull_input.specs.Planned.{planned_run};
+ghost use Rattle.hull_input.specs.Sizes.{IsWorkers};
 ghost use Rattle.hull_command.specs.Answers.{IsAnswered, IsCommandAnswer};
 ghost use Rattle.hull_command.specs.Rest.{rest_with, nothing_read, IsFitReport};
 ghost use Rattle.hull_command.specs.declared.ready.Purpose.TheVariants as purposes;

@@ -5,11 +5,11 @@ ghost use Rattle.uc_model.specs.PlainCases.{market_of};
 ghost use Rattle.audit_rows.specs.Benches.{IsBenchOver};
 ghost use Rattle.report_read.specs.Bounds.{IsReport, AreInOrder};
 ghost use Rattle.report_read.specs.Plain.{report_of, told_of};
-ghost use Rattle.hull_command.specs.Answers.{IsAnswer};
+ghost use Rattle.hull_input.specs.Answers.{IsAnswer};
 ghost use Rattle.board_core.specs.Setups.{IsSetup, setup_of};
-ghost use Rattle.hull_command.specs.Planned.{planned_run};
-ghost use Rattle.hull_command.specs.Sizes.{IsWorkers};
-ghost use Rattle.hull_command.specs.Steps.{IsJudged};
+ghost use Rattle.hull_input.specs.Planned.{planned_run};
+ghost use Rattle.hull_input.specs.Sizes.{IsWorkers};
+ghost use Rattle.hull_command.specs.FurtherSteps.{IsJudged};
 
 use audit_check::check_report;
 use board_core::Terms;

@@ -8,9 +8,9 @@ ghost use Rattle.uplift_settle.specs.declared.settlement.Settlement.{Settlement}
 ghost use Rattle.board_core.specs.Setups.{IsSetup, setup_of};
 ghost use Rattle.hull_command.specs.Answers.{HasStatus};
 ghost use Rattle.hull_command.specs.Outcome.{Ends};
-ghost use Rattle.hull_command.specs.Planned.{planned_run};
+ghost use Rattle.hull_input.specs.Planned.{planned_run};
 ghost use Rattle.hull_command.specs.Rest.{rest_of, rest_with, nothing_read, IsReady};
-ghost use Rattle.hull_command.specs.Sizes.{IsWorkers};
+ghost use Rattle.hull_input.specs.Sizes.{IsWorkers};
 ghost use Rattle.hull_command.specs.declared.ready.Purpose.TheVariants as purposes;
 
 use crate::answers::{answer_audit, answer_bound, answer_fixed, answer_try};

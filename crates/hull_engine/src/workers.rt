@@ -1,7 +1,7 @@
 //! How many workers a run has, and the processors of the machine.
 ghost use Rattle.std.specs.Prelude.{◌≡◌};
 ghost use Rattle.board_core.specs.Setups.{IsSetup, setup_of};
-ghost use Rattle.hull_command.specs.Sizes.{IsWorkers};
+ghost use Rattle.hull_input.specs.Sizes.{IsWorkers};
 ghost use Rattle.hull_engine.specs.Workers.{IsUseful};
 
 use board_core::Terms;

@@ -7,18 +7,20 @@ pub use Rattle.std.proofs.lemmas.List.{length-map, get_or-map}
 pub use Rattle.std.proofs.lemmas.Option.{slice_get_within, same_Some}
 pub use Rattle.std.specs.List.{All}
 pub use Rattle.std.specs.Prelude.{nat_lt, if◌then◌else◌, IsTrue, IfSome, IsSome, ◌≤ℤ◌}
-pub use Rattle.hull_command.specs.Planned.{PlannedCase}
+pub use Rattle.hull_input.specs.Planned.{PlannedCase}
 pub use Rattle.fixed_price.specs.FixedCase.{fixed_market}
 pub use Rattle.law_bounds.specs.Laws.{RunPricesAreWithin}
-pub use Rattle.hull_command.specs.Laws.{BytesAreThoseRead, ReportBytesAreItsText, WordsHaveSizes}
-pub use Rattle.hull_command.specs.Outcome.{command_for, IsReadOf, AreReads, with_report, HasText, Ends, status_at}
-pub use Rattle.hull_command.specs.Outcome.{IsBoundText, IsFixedText, IsReportText, IsAuditText, IsSettlementText}
-pub use Rattle.hull_command.specs.Outcome.{IsCertificateText, case_and_schedule, with_prices, with_mixture, Command}
-pub use Rattle.hull_command.specs.Steps.{Reads, bytes_of, IsInput, IsWithinWork, IsReportFile, IsAudit, Goes, Then}
-pub use Rattle.hull_command.specs.Steps.{IsBytes, case_fault, plan_fault, IsCase, IsCaseFile, IsPlan, IsPlanFile}
-pub use Rattle.hull_command.specs.Steps.{IsChecked, IsMade, IsReportIn, IsJudged, IsPrices, IsPricesFile, IsPriced}
-pub use Rattle.hull_command.specs.Steps.{prices_fault, IsShares, IsSharesFile, IsMixed, IsMixtureFile, HasMixture}
-pub use Rattle.hull_command.specs.Steps.{IsCertifiable, mixture_fault}
+pub use Rattle.hull_input.specs.Files.{IsReadOf, AreReads, Reads, case_and_schedule, with_report, with_prices}
+pub use Rattle.hull_input.specs.Files.{with_mixture}
+pub use Rattle.hull_input.specs.Laws.{BytesAreThoseRead, ReportBytesAreItsText}
+pub use Rattle.hull_input.specs.Steps.{bytes_of, IsInput, IsWithinWork, IsReportFile, Goes, Then, IsBytes, case_fault}
+pub use Rattle.hull_input.specs.Steps.{plan_fault, IsCase, IsCaseFile, IsPlan, IsPlanFile, IsChecked, IsReportIn}
+pub use Rattle.hull_input.specs.Steps.{IsPrices, IsPricesFile, IsPriced, prices_fault, IsShares, IsSharesFile, IsMixed}
+pub use Rattle.hull_input.specs.Steps.{IsMixtureFile, HasMixture, IsCertifiable, mixture_fault}
+pub use Rattle.hull_command.specs.FurtherSteps.{IsMade, IsJudged, IsAudit}
+pub use Rattle.hull_command.specs.Laws.{WordsHaveSizes}
+pub use Rattle.hull_command.specs.Outcome.{command_for, HasText, Ends, status_at, IsBoundText, IsFixedText}
+pub use Rattle.hull_command.specs.Outcome.{IsReportText, IsAuditText, IsSettlementText, IsCertificateText, Command}
 pub use Rattle.hull_command.specs.declared.end.End.{End}
 pub use Rattle.hull_command.specs.declared.end.End.TheVariants.{Done, Cut, Refused, Done as done_whole}
 pub use Rattle.plain_lists.specs.declared.limits.TheConstants.{MOST_BYTES}

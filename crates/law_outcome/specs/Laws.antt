@@ -58,9 +58,10 @@ use Rattle.report_read.specs.Bounds.{IsReport}
 use Rattle.report_read.specs.Faults.{IsFault}
 use Rattle.report_compare.specs.Right.{DiffersFromRight}
 use Rattle.law_audit.specs.Laws.{AreAsked}
-use Rattle.hull_command.specs.Steps.{Reads, IsInput, IsCaseFile, prices_fault, mixture_fault}
-use Rattle.hull_command.specs.Planned.{PlannedCase}
-use Rattle.hull_command.specs.Outcome.{Command, command_for, AreReads, HasText, IsOutcome}
+use Rattle.hull_input.specs.Files.{Reads, AreReads}
+use Rattle.hull_input.specs.Planned.{PlannedCase}
+use Rattle.hull_input.specs.Steps.{IsInput, IsCaseFile, prices_fault, mixture_fault}
+use Rattle.hull_command.specs.Outcome.{Command, command_for, HasText, IsOutcome}
 
 -- ---- at most one thing is due
 

@@ -7,7 +7,8 @@ ghost use Rattle.law_outcome.specs.Laws.{BoundsHold, BothGapsAreMadeUp, AuditsHo
 ghost use Rattle.law_outcome.specs.Laws.{SettlementsHold, CertificatesHold, WorkersAreFree};
 ghost use Rattle.law_outcome.specs.Laws.{RunsPrintTheSame};
 
-use hull_command::laws::{bytes_are_those_read, report_bytes_are_its_text, words_have_sizes};
+use hull_command::laws::words_have_sizes;
+use hull_input::laws::{bytes_are_those_read, report_bytes_are_its_text};
 use hull_io::{Shelf, Sink};
 use law_audit::laws::printed_reports_are_in_form;
 use law_bounds::laws::{

@@ -1,90 +1,19 @@
-use Rattle.hull_command.proofs.Common.{arith, ◌∙◌, err_from_is_err_and, report_of, planned_of, planned_run, IsInput}
-use Rattle.hull_command.proofs.Common.{IsAudit}
-use Rattle.hull_command.proofs.Lemmas.{report_refused, work_refused, completes_audit, unread, unread_is, report_added}
-use Rattle.hull_command.proofs.Lemmas.{are_report_added, refused_then}
+use Rattle.hull_command.proofs.Common.{err_from_is_err_and, planned_run}
+use Rattle.hull_command.proofs.Lemmas.{audit_refused, completes_audit}
 use Rattle.hull_command.proofs.prepare.prepare_audit.Goals as goal
 
-pub within_work-requires-clause-size : goal.within_work-requires-clause-size
-unfolding report_of
-within_work-requires-clause-size g c =
-    let r = c.in_ok-report.ensures.bounds in
-    record {
-      budget_in = record { at_least = r.budget_at_least; at_most = r.budget_at_most };
-      workers_in = c.requires;
-      ahead_in = record { at_least = r.ahead_at_least; at_most = r.ahead_at_most };
-    }
-
-pub returns-in_err-input-clause-prepared : goal.returns-in_err-input-clause-prepared
-returns-in_err-input-clause-prepared g c =
-    let words = c.args.words.now in
-    let told = g.F.Shelf.told c.args.shelf.now in
+pub returns-in_err-reported-clause-prepared : goal.returns-in_err-reported-clause-prepared
+returns-in_err-reported-clause-prepared g c =
     let p = err_from_is_err_and c.from_residual.result c.from_residual.ensures.1 in
-    let h = rw (c.as_str-case_name.ensures, c.as_str-schedule_name.ensures) at c.in_err-input.ensures.answers in
-    let read = unread (told words.report_name.items) in
-    rw (p.1, p.2) (
-      report_added h.0 read,
-      are_report_added told g.F.Shelf.last _ _ _ words.case_name.items words.schedule_name.items words.report_name.items
-          h.0 read
-          c.in_err-input.ensures.shelf.later (λ any. omega arith) h.1 (unread_is (told words.report_name.items) _),
-      refused_then (IsInput h.0) (IsAudit (report_added h.0 read)) _ h.2,
-    )
-
-pub returns-in_err-report-clause-prepared : goal.returns-in_err-report-clause-prepared
-returns-in_err-report-clause-prepared g c =
-    let words = c.args.words.now in
-    let told = g.F.Shelf.told c.args.shelf.now in
-    let p = err_from_is_err_and c.from_residual-in_err-report.result c.from_residual-in_err-report.ensures.1 in
-    let h = rw (c.as_str-case_name.ensures, c.as_str-schedule_name.ensures) at c.in_ok-input.ensures.answers in
-    let k = rw (c.as_str-report_name.ensures, c.in_ok-input.ensures.shelf.told_same) at
-    c.in_err-report.ensures.answers in
-    rw (p.1, p.2) (
-      report_added h.0 k.0,
-      are_report_added told g.F.Shelf.last _ _ _ words.case_name.items words.schedule_name.items words.report_name.items
-          h.0 k.0
-          c.in_ok-input.ensures.shelf.later c.in_err-report.ensures.shelf.later h.1 k.1,
-      report_refused (report_added h.0 k.0) (planned_of c.in_ok-input.input) h.2 _ k.2,
-    )
-
-pub returns-in_err-terms-clause-prepared : goal.returns-in_err-terms-clause-prepared
-unfolding report_of
-returns-in_err-terms-clause-prepared g c =
-    let words = c.args.words.now in
-    let told = g.F.Shelf.told c.args.shelf.now in
-    let p = err_from_is_err_and c.from_residual-in_err-terms.result c.from_residual-in_err-terms.ensures.1 in
-    let h = rw (c.as_str-case_name.ensures, c.as_str-schedule_name.ensures) at c.in_ok-input.ensures.answers in
-    let k = rw (c.as_str-report_name.ensures, c.in_ok-input.ensures.shelf.told_same) at
-    c.in_ok-report.ensures.answers in
-    rw (p.1, p.2) (
-      report_added h.0 k.0,
-      are_report_added told g.F.Shelf.last _ _ _ words.case_name.items words.schedule_name.items words.report_name.items
-          h.0 k.0
-          c.in_ok-input.ensures.shelf.later c.in_ok-report.ensures.shelf.later h.1 k.1,
-      work_refused (report_added h.0 k.0) (planned_of c.in_ok-input.input) h.2 (report_of c.in_ok-report.report) k.2 _
-          c.in_err-terms.ensures.answers,
-    )
+    let h = c.in_err-reported.ensures.answers in
+    rw (p.1, p.2) (h.0, h.1, audit_refused h.0 _ h.2)
 
 pub returns-clause-prepared : goal.returns-clause-prepared
-unfolding report_of
 returns-clause-prepared g c =
-    let words = c.args.words.now in
-    let told = g.F.Shelf.told c.args.shelf.now in
-    let h = rw (c.as_str-case_name.ensures, c.as_str-schedule_name.ensures) at c.in_ok-input.ensures.answers in
-    let k = rw (c.as_str-report_name.ensures, c.in_ok-input.ensures.shelf.told_same) at
-    c.in_ok-report.ensures.answers in (
-      report_added h.0 k.0,
-      are_report_added told g.F.Shelf.last _ _ _ words.case_name.items words.schedule_name.items words.report_name.items
-          h.0 k.0
-          c.in_ok-input.ensures.shelf.later c.in_ok-report.ensures.shelf.later h.1 k.1,
-      completes_audit words (report_added h.0 k.0) (planned_of c.in_ok-input.input) (planned_run c.in_ok-terms.terms)
-          c.in_ok-report.report c.in_ok-terms.terms.budget c.in_ok-terms.terms.ahead h.2 k.2
-          c.in_ok-terms.ensures.answers,
+    let h = c.in_ok-reported.ensures.answers in
+    let x = c.in_ok-reported.reported in (
+      h.0,
+      h.1,
+      completes_audit c.report_bytes_are_its_text.ensures c.args.words.now h.0 h.2.0 (planned_run x.terms) x.report
+          x.terms.budget x.terms.ahead h.2.1 h.2.2 h.2.3,
     )
-
-pub returns-clause-shelf : goal.returns-clause-shelf
-returns-clause-shelf g c = record {
-  told_same = c.in_ok-report.ensures.shelf.told_same ∙ c.in_ok-input.ensures.shelf.told_same;
-  later = λ any.
-      let early = c.in_ok-input.ensures.shelf.later any in
-      let late = c.in_ok-report.ensures.shelf.later any in
-      omega (arith, early, late);
-}

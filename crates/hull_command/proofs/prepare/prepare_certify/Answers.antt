@@ -1,85 +1,26 @@
-use Rattle.hull_command.proofs.Common.{arith, rules, inr, refl, w64, to_z-of_z, ◌∙◌, err_from_is_err_and, planned_of}
-use Rattle.hull_command.proofs.Common.{prices_of, mixture_of, settle_asked}
-use Rattle.hull_command.proofs.Lemmas.{priced_refused, mixture_refused, answers_certify, unread, unread_is}
-use Rattle.hull_command.proofs.Lemmas.{mixture_added, are_mixture_added}
+use Rattle.hull_command.proofs.Common.{rules, inr, refl, w64, to_z-of_z, err_from_is_err_and, prices_of, mixture_of}
+use Rattle.hull_command.proofs.Lemmas.{answers_certify}
 use Rattle.hull_command.proofs.prepare.prepare_certify.Goals as goal
 
-pub returns-in_err-priced-clause-prepared : goal.returns-in_err-priced-clause-prepared
-returns-in_err-priced-clause-prepared g c =
-    let words = c.args.words.now in
-    let told = g.F.Shelf.told c.args.shelf.now in
+pub returns-in_err-mixed-clause-prepared : goal.returns-in_err-mixed-clause-prepared
+returns-in_err-mixed-clause-prepared g c =
     let p = err_from_is_err_and c.from_residual.result c.from_residual.ensures.1 in
-    let h = c.in_err-priced.ensures.answers in
-    let read = unread (told words.mixture_name.items) in
-    rw (p.1, p.2) (
-      mixture_added h.0 read,
-      are_mixture_added told g.F.Shelf.last _ _ _ (settle_asked words.names) words.mixture_name.items h.0 read
-          c.in_err-priced.ensures.shelf.later (λ any. omega arith) h.1 (unread_is (told words.mixture_name.items) _),
-      priced_refused (mixture_added h.0 read) _ h.2,
-    )
-
-pub returns-in_err-mixture-clause-prepared : goal.returns-in_err-mixture-clause-prepared
-returns-in_err-mixture-clause-prepared g c =
-    let words = c.args.words.now in
-    let told = g.F.Shelf.told c.args.shelf.now in
-    let p = err_from_is_err_and c.from_residual-in_err-mixture.result c.from_residual-in_err-mixture.ensures.1 in
-    let priced = c.in_ok-priced.priced in
-    let h = c.in_ok-priced.ensures.answers in
-    let k = rw (c.as_str-mixture_name.ensures, c.in_ok-priced.ensures.shelf.told_same) at
-    c.in_err-mixture.ensures.answers in
-    rw (p.1, p.2) (
-      mixture_added h.0 k.0,
-      are_mixture_added told g.F.Shelf.last _ _ _ (settle_asked words.names) words.mixture_name.items h.0 k.0
-          c.in_ok-priced.ensures.shelf.later c.in_err-mixture.ensures.shelf.later h.1 k.1,
-      mixture_refused (mixture_added h.0 k.0) (planned_of priced.input) (prices_of priced.prices) h.2.0 h.2.1 _ k.2,
-    )
+    rw (p.1, p.2) c.in_err-mixed.ensures.answers
 
 pub returns-in_err-certified-clause-prepared : goal.returns-in_err-certified-clause-prepared
 returns-in_err-certified-clause-prepared g c =
-    let words = c.args.words.now in
-    let told = g.F.Shelf.told c.args.shelf.now in
     let p = err_from_is_err_and c.from_residual-in_err-certified.result c.from_residual-in_err-certified.ensures.1 in
-    let h = c.in_ok-priced.ensures.answers in
-    let k = rw (c.as_str-mixture_name.ensures, c.in_ok-priced.ensures.shelf.told_same) at
-    c.in_ok-mixture.ensures.answers in
-    rw (p.1, p.2) (
-      mixture_added h.0 k.0,
-      are_mixture_added told g.F.Shelf.last _ _ _ (settle_asked words.names) words.mixture_name.items h.0 k.0
-          c.in_ok-priced.ensures.shelf.later c.in_ok-mixture.ensures.shelf.later h.1 k.1,
-      inr refl,
-    )
+    let h = c.in_ok-mixed.ensures.answers in
+    rw (p.1, p.2) (h.0, h.1, inr refl)
 
 pub returns-clause-prepared : goal.returns-clause-prepared
 returns-clause-prepared g c =
     let words = c.args.words.now in
-    let told = g.F.Shelf.told c.args.shelf.now in
-    let priced = c.in_ok-priced.priced in
-    let h = c.in_ok-priced.ensures.answers in
-    let certified = rw (to_z-of_z w64 words.radius (search rules)) at c.in_ok-certified.ensures.certified in
-    let k = rw (c.as_str-mixture_name.ensures, c.in_ok-priced.ensures.shelf.told_same) at
-    c.in_ok-mixture.ensures.answers in (
-      mixture_added h.0 k.0,
-      are_mixture_added told g.F.Shelf.last _ _ _ (settle_asked words.names) words.mixture_name.items h.0 k.0
-          c.in_ok-priced.ensures.shelf.later c.in_ok-mixture.ensures.shelf.later h.1 k.1,
-      answers_certify words priced.input c.in_ok-certified.certified c.in_ok-certified.ensures.input
-          (prices_of priced.prices) (mixture_of c.in_ok-mixture.mixture) certified (mixture_added h.0 k.0) h.2.0 h.2.1
-          k.2,
+    let mixed = c.in_ok-mixed.mixed in
+    let h = c.in_ok-mixed.ensures.answers in
+    let certified = rw (to_z-of_z w64 words.radius (search rules)) at c.in_ok-certified.ensures.certified in (
+      h.0,
+      h.1,
+      answers_certify words mixed.priced.input c.in_ok-certified.certified c.in_ok-certified.ensures.input
+          (prices_of mixed.priced.prices) (mixture_of mixed.mixture) certified h.0 h.2.0.0 h.2.0.1 h.2.1,
     )
-
-pub returns-in_err-certified-clause-shelf : goal.returns-in_err-certified-clause-shelf
-returns-in_err-certified-clause-shelf g c = record {
-  told_same = c.in_ok-mixture.ensures.shelf.told_same ∙ c.in_ok-priced.ensures.shelf.told_same;
-  later = λ any.
-      let early = c.in_ok-priced.ensures.shelf.later any in
-      let late = c.in_ok-mixture.ensures.shelf.later any in
-      omega (arith, early, late);
-}
-
-pub returns-clause-shelf : goal.returns-clause-shelf
-returns-clause-shelf g c = record {
-  told_same = c.in_ok-mixture.ensures.shelf.told_same ∙ c.in_ok-priced.ensures.shelf.told_same;
-  later = λ any.
-      let early = c.in_ok-priced.ensures.shelf.later any in
-      let late = c.in_ok-mixture.ensures.shelf.later any in
-      omega (arith, early, late);
-}

@@ -1,5 +1,4 @@
-use Rattle.hull_command.proofs.Common.{◌≡◌, ℕ, List, None, Some, CaseFile, no_files}
-use Rattle.hull_command.proofs.Lemmas.{any_reads}
+use Rattle.hull_command.proofs.Common.{◌≡◌, ℕ, List, None, Some, CaseFile, nothing_read}
 use Rattle.hull_command.proofs.prepare.prepare_command.Goals as goal
 
 named : (name : List ℕ) → Some name ≡ None → ⊥
@@ -70,8 +69,7 @@ returns-in-Certify-clause-unread g c = rw c.in-Certify.is (λ none. absurd (name
 
 pub returns-in-Try-clause-prepared : goal.returns-in-Try-clause-prepared
 returns-in-Try-clause-prepared g c =
-    let reads = any_reads (g.F.Shelf.told c.args.shelf.now) no_files in
-    rw c.in-Try.is (reads, λ file. tt, c.prepare_try.ensures.prepared reads)
+    rw c.in-Try.is (nothing_read, λ file. tt, c.prepare_try.ensures.prepared nothing_read)
 
 pub returns-in-Try-clause-asked : goal.returns-in-Try-clause-asked
 returns-in-Try-clause-asked g c = rw c.in-Try.is c.prepare_try.ensures.asked

@@ -1,0 +1,18 @@
+use Rattle.hull_input.proofs.Common.{err_from_is_err_and, report_of, ReportFile, IsBytes, IsReportIn}
+use Rattle.hull_input.proofs.Lemmas.{refused_then, answer_then}
+use Rattle.hull_input.proofs.files.read_report_file.Goals as goal
+
+pub returns-in_err-bytes-clause-answers : goal.returns-in_err-bytes-clause-answers
+returns-in_err-bytes-clause-answers g c =
+    let p = err_from_is_err_and c.from_residual.result c.from_residual.ensures.1 in
+    let h = c.in_err-bytes.ensures.answers in
+    rw (p.1, p.2) (h.0, h.1, refused_then (IsBytes ReportFile h.0) IsReportIn _ h.2)
+
+pub returns-clause-answers : goal.returns-clause-answers
+returns-clause-answers g c =
+    let h = c.in_ok-bytes.ensures.answers in (
+      h.0,
+      h.1,
+      answer_then (IsBytes ReportFile h.0) IsReportIn c.in_ok-bytes.bytes.items report_of c.report_in.result
+          h.2 (rw c.as_slice.ensures.value at c.report_in.ensures.answers),
+    )

@@ -1,0 +1,31 @@
+-- How large a run may be (this project's profile).
+use Rattle.std.specs.Prelude.{◌≡◌, ℕ, ◌≤◌}
+use Rattle.plain_lists.specs.declared.limits.TheConstants.{MOST_PROPOSALS, MOST_WORKERS, MOST_AHEAD}
+use Rattle.hull_words.specs.declared.command.PriceWords.{PriceWords}
+use Rattle.board_core.specs.declared.terms.Terms.{Terms}
+
+-- the number is from low to high
+pub record IsWithin (low high n : ℕ) : Type 0 where
+  pub at_least : low ≤ n
+  pub at_most : n ≤ high
+
+abbrev pub IsBudget : ℕ → Type 0
+IsBudget n = IsWithin 1 MOST_PROPOSALS n
+
+abbrev pub IsWorkers : ℕ → Type 0
+IsWorkers n = IsWithin 1 MOST_WORKERS n
+
+abbrev pub IsAhead : ℕ → Type 0
+IsAhead n = IsWithin 1 MOST_AHEAD n
+
+-- the numbers of a run
+pub record IsRunSize (budget workers ahead : ℕ) : Type 0 where
+  pub budget_in : IsBudget budget
+  pub workers_in : IsWorkers workers
+  pub ahead_in : IsAhead ahead
+
+-- a run has the numbers that the words of `hull price` ask for
+pub record HasNumbers (w : PriceWords) (terms : Terms) : Type 0 where
+  pub budget : terms.budget ≡ w.proposals
+  pub ahead : terms.ahead ≡ w.ahead
+  pub callers : terms.callers ≡ w.workers
