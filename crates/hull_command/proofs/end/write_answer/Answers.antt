@@ -1,6 +1,8 @@
 use Rattle.hull_command.proofs.Common.{rules, refl, w64, w128, to_z-of_z, unsigned_abs, market_of, told_of, fixed_text}
 use Rattle.hull_command.proofs.Common.{try_text}
+use Rattle.hull_report.specs.AuditText.{audit_text}
 use Rattle.hull_report.specs.CertifiedText.{certificate_of}
+use Rattle.hull_report.specs.CheckText.{check_text}
 use Rattle.report_form.specs.CertificateText.{certificate_text}
 use Rattle.hull_report.specs.SettledText.{settlement_of}
 use Rattle.report_form.specs.SettlementText.{settlement_text}
@@ -8,6 +10,18 @@ use Rattle.uplift_settle.specs.Settled.{settled_of}
 use Rattle.right_report.specs.RecordReport.{report_of}
 use Rattle.hull_command.proofs.Lemmas.{run_text, written_bound, bound_written}
 use Rattle.hull_command.proofs.end.write_answer.Goals as goal
+
+pub returns-in-Check : goal.returns-in-Check
+returns-in-Check g c =
+    let input = c.in-Check.input in
+    rw c.in-Check.is (
+      check_text (market_of input.case) input.cost,
+      refl,
+      rw (to_z-of_z w128 input.cost (search rules)) at c.write_check.ensures,
+    )
+
+pub returns-in-Audit : goal.returns-in-Audit
+returns-in-Audit g c = rw c.in-Audit.is (audit_text c.in-Audit.proposals, refl, c.write_audit.ensures)
 
 pub returns-in-Settle : goal.returns-in-Settle
 returns-in-Settle g c =
