@@ -1,20 +1,17 @@
 //! Lines of one form each, and the line in fault where one isn't in form.
 ghost use Rattle.std.specs.Prelude.{◌≡◌, ◌≤◌, []};
-ghost use Rattle.report_read.specs.Words.{Finds, spaced, flag_at, items_at};
-ghost use Rattle.report_read.specs.Words.{count_at as count_found};
+ghost use Rattle.report_read.specs.Words.{Finds, count_at as count_found, items_at as items_found};
 ghost use Rattle.report_read.specs.LineForms.{word_line as word_form, plain_line as plain_form};
 ghost use Rattle.report_read.specs.LineForms.{value_line as value_form, amount_at as amount_found};
 ghost use Rattle.report_read.specs.Lines.{Gives, line, count_line as count_spec};
-ghost use Rattle.report_read.specs.Lines.{amount_line as amount_spec, list_line, price_at};
-ghost use Rattle.report_read.specs.Lines.{total_at, power_at};
+ghost use Rattle.report_read.specs.Lines.{amount_line as amount_spec, list_line as list_spec};
 
-use crate::items::{flags_at, powers_at, prices_at, totals_at};
+use crate::items::{Form, items_at};
 use crate::numbers::{amount_at, count_at};
 use crate::stop::{Stop, line_or_fault};
 use crate::words::behind;
-use plain_lists::lists::{Amounts, Flags, Numbers};
+use plain_lists::lists::ReservedList;
 use std::alloc::Global;
-use uc_model::units::Powers;
 
 #[tactic(auto, unfolding(crate::specs::LineForms::ended, crate::specs::LineForms::just))]
 fn word_in<'a>(word: &[u8], bytes: &'a [u8]) -> Option<&'a [u8]>
@@ -109,125 +106,34 @@ pub fn value_line<'a>(
 }
 
 #[tactic(auto, unfolding(crate::specs::LineForms::ended, crate::specs::LineForms::after))]
-fn prices_in<'a>(
-    list: &mut Numbers,
+fn list_in<'a, F: Form>(
+    list: &mut ReservedList<F::Item>,
     word: &[u8],
     periods: u32,
-    least: i64,
-    most: i64,
     bytes: &'a [u8],
 ) -> Option<&'a [u8]>
     requires empty { list.old.items ≡ [] }
     requires room { periods ≤ list.old.spare }
     ensures { Finds (λ rest. (list.new.items, rest.now)) result
-        (word_form word.now (items_at (price_at least most) periods) bytes.now) }
+        (word_form word.now (items_found F.found periods) bytes.now) }
 {
     let rest = behind(word, bytes)?;
-    let rest = prices_at(list, periods, least, most, rest)?;
+    let rest = items_at::<F>(list, periods, rest)?;
     behind(b"\n", rest)
 }
 
-/// A word and the prices of all periods, from `least` to `most`.
-pub fn prices_line<'a>(
-    alloc: Global,
-    word: &[u8],
-    periods: u32,
-    least: i64,
-    most: i64,
-    bytes: &'a [u8],
-) -> Result<(Numbers, &'a [u8]), Stop>
-    ensures { Gives (λ x. (x.0.items, x.1.now)) result
-        (list_line word.now (price_at least most) periods bytes.now) }
-{
-    let mut list = Numbers::make(alloc, periods)?;
-    match prices_in(&mut list, word, periods, least, most, bytes) {
-        Some(rest) => Ok((list, rest)),
-        None => Err(Stop::Fault { left: bytes.len() }),
-    }
-}
-
-#[tactic(auto, unfolding(crate::specs::LineForms::ended, crate::specs::LineForms::after))]
-fn totals_in<'a>(list: &mut Amounts, word: &[u8], periods: u32, bytes: &'a [u8]) -> Option<&'a [u8]>
-    requires empty { list.old.items ≡ [] }
-    requires room { periods ≤ list.old.spare }
-    ensures { Finds (λ rest. (list.new.items, rest.now)) result
-        (word_form word.now (items_at total_at periods) bytes.now) }
-{
-    let rest = behind(word, bytes)?;
-    let rest = totals_at(list, periods, rest)?;
-    behind(b"\n", rest)
-}
-
-/// A word and the totals of all periods.
-pub fn totals_line<'a>(
+/// A word and the items of all periods.
+pub fn list_line<'a, F: Form>(
     alloc: Global,
     word: &[u8],
     periods: u32,
     bytes: &'a [u8],
-) -> Result<(Amounts, &'a [u8]), Stop>
+) -> Result<(ReservedList<F::Item>, &'a [u8]), Stop>
     ensures { Gives (λ x. (x.0.items, x.1.now)) result
-        (list_line word.now total_at periods bytes.now) }
+        (list_spec word.now F.found periods bytes.now) }
 {
-    let mut list = Amounts::make(alloc, periods)?;
-    match totals_in(&mut list, word, periods, bytes) {
-        Some(rest) => Ok((list, rest)),
-        None => Err(Stop::Fault { left: bytes.len() }),
-    }
-}
-
-#[tactic(auto, unfolding(crate::specs::LineForms::ended, crate::specs::LineForms::after))]
-fn powers_in<'a>(list: &mut Powers, word: &[u8], periods: u32, bytes: &'a [u8]) -> Option<&'a [u8]>
-    requires empty { list.old.items ≡ [] }
-    requires room { periods ≤ list.old.spare }
-    ensures { Finds (λ rest. (list.new.items, rest.now)) result
-        (word_form word.now (items_at power_at periods) bytes.now) }
-{
-    let rest = behind(word, bytes)?;
-    let rest = powers_at(list, periods, rest)?;
-    behind(b"\n", rest)
-}
-
-/// A word and the powers or reserves of all periods.
-pub fn powers_line<'a>(
-    alloc: Global,
-    word: &[u8],
-    periods: u32,
-    bytes: &'a [u8],
-) -> Result<(Powers, &'a [u8]), Stop>
-    ensures { Gives (λ x. (x.0.items, x.1.now)) result
-        (list_line word.now power_at periods bytes.now) }
-{
-    let mut list = Powers::make(alloc, periods)?;
-    match powers_in(&mut list, word, periods, bytes) {
-        Some(rest) => Ok((list, rest)),
-        None => Err(Stop::Fault { left: bytes.len() }),
-    }
-}
-
-#[tactic(auto, unfolding(crate::specs::LineForms::ended, crate::specs::LineForms::after))]
-fn flags_in<'a>(list: &mut Flags, word: &[u8], periods: u32, bytes: &'a [u8]) -> Option<&'a [u8]>
-    requires empty { list.old.items ≡ [] }
-    requires room { periods ≤ list.old.spare }
-    ensures { Finds (λ rest. (list.new.items, rest.now)) result
-        (word_form word.now (items_at (spaced flag_at) periods) bytes.now) }
-{
-    let rest = behind(word, bytes)?;
-    let rest = flags_at(list, periods, rest)?;
-    behind(b"\n", rest)
-}
-
-/// A word and the on flags of all periods.
-pub fn flags_line<'a>(
-    alloc: Global,
-    word: &[u8],
-    periods: u32,
-    bytes: &'a [u8],
-) -> Result<(Flags, &'a [u8]), Stop>
-    ensures { Gives (λ x. (x.0.items, x.1.now)) result
-        (list_line word.now (spaced flag_at) periods bytes.now) }
-{
-    let mut list = Flags::make(alloc, periods)?;
-    match flags_in(&mut list, word, periods, bytes) {
+    let mut list = ReservedList::make(alloc, periods)?;
+    match list_in::<F>(&mut list, word, periods, bytes) {
         Some(rest) => Ok((list, rest)),
         None => Err(Stop::Fault { left: bytes.len() }),
     }

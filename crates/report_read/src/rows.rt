@@ -6,13 +6,13 @@ ghost use Rattle.uc_model.specs.declared.limits.TheConstants.{MOST_PERIODS};
 ghost use Rattle.report_read.specs.Lines.{Gives, row_at, rows_at, then_lines, list_line, total_at};
 ghost use Rattle.report_read.specs.declared.rows.TheConstants.{LEAST_BYTES};
 
-use crate::lines::{prices_line, totals_line, value_line};
+use crate::items::{EnergyPrices, ReservePrices, Totals as TotalForm};
+use crate::lines::{list_line, value_line};
 use crate::report::RowList;
 use crate::stop::Stop;
 use plain_lists::lists::Amounts;
 use std::alloc::Global;
 use uc_model::cases::Row;
-use uc_model::limits::PRICE_LIMIT;
 use uc_model::units::Prices;
 
 /// A proposal has at least so many bytes.
@@ -33,8 +33,8 @@ fn read_totals(alloc: Global, periods: u32, bytes: &[u8]) -> Result<(Totals, &[u
     ensures supply { IfOk result (λ x. length x.0.supply.items ≡ periods) }
     ensures reserve { IfOk result (λ x. length x.0.reserve.items ≡ periods) }
 {
-    let (supply, rest) = totals_line(alloc, b"supplied", periods, bytes)?;
-    let (reserve, rest) = totals_line(alloc, b"reserved", periods, rest)?;
+    let (supply, rest) = list_line::<TotalForm>(alloc, b"supplied", periods, bytes)?;
+    let (reserve, rest) = list_line::<TotalForm>(alloc, b"reserved", periods, rest)?;
     Ok((Totals { supply, reserve }, rest))
 }
 
@@ -46,8 +46,8 @@ fn read_row(alloc: Global, periods: u32, number: u32, bytes: &[u8]) -> Result<(R
     ensures { Gives (λ x. (proposal_of x.0, x.1.now)) result (row_at periods number bytes.now) }
 {
     let (valued, rest) = value_line(b"proposal ", number, number, bytes)?;
-    let (energy, rest) = prices_line(alloc, b"energy", periods, -PRICE_LIMIT, PRICE_LIMIT, rest)?;
-    let (reserve, rest) = prices_line(alloc, b"reserve", periods, 0, PRICE_LIMIT, rest)?;
+    let (energy, rest) = list_line::<EnergyPrices>(alloc, b"energy", periods, rest)?;
+    let (reserve, rest) = list_line::<ReservePrices>(alloc, b"reserve", periods, rest)?;
     let (totals, rest) = read_totals(alloc, periods, rest)?;
     let row = Row {
         prices: Prices { energy, reserve },

@@ -9,7 +9,8 @@ ghost use Rattle.report_read.specs.LineForms.{title_line as title_spec, titled};
 ghost use Rattle.report_read.specs.Lines.{Gives, line, thermal_at, other_at, response_at, unit_at};
 ghost use Rattle.report_read.specs.Lines.{units_at};
 
-use crate::lines::{flags_line, powers_line};
+use crate::items::{Flags as FlagForm, Powers as PowerForm};
+use crate::lines::list_line;
 use crate::names::name_at;
 use crate::numbers::number_at;
 use crate::report::{UnitLine, UnitLines};
@@ -128,9 +129,9 @@ fn title_line(alloc: Global, least: u32, bytes: &[u8]) -> Result<(Title, &[u8]),
 fn thermal_response(alloc: Global, periods: u32, bytes: &[u8]) -> Result<(Response, &[u8]), Stop>
     ensures { Gives (λ x. (schedule_of x.0, x.1.now)) result (thermal_at periods bytes.now) }
 {
-    let (on, rest) = flags_line(alloc, b"on", periods, bytes)?;
-    let (power, rest) = powers_line(alloc, b"power", periods, rest)?;
-    let (reserve, rest) = powers_line(alloc, b"reserve", periods, rest)?;
+    let (on, rest) = list_line::<FlagForm>(alloc, b"on", periods, bytes)?;
+    let (power, rest) = list_line::<PowerForm>(alloc, b"power", periods, rest)?;
+    let (reserve, rest) = list_line::<PowerForm>(alloc, b"reserve", periods, rest)?;
     Ok((Response { on, power, reserve }, rest))
 }
 
@@ -139,7 +140,7 @@ fn thermal_response(alloc: Global, periods: u32, bytes: &[u8]) -> Result<(Respon
 fn other_response(alloc: Global, periods: u32, bytes: &[u8]) -> Result<(Response, &[u8]), Stop>
     ensures { Gives (λ x. (schedule_of x.0, x.1.now)) result (other_at periods bytes.now) }
 {
-    let (power, rest) = powers_line(alloc, b"power", periods, bytes)?;
+    let (power, rest) = list_line::<PowerForm>(alloc, b"power", periods, bytes)?;
     let on = Flags::filled(alloc, periods, true)?;
     let reserve = Powers::filled(alloc, periods, 0)?;
     Ok((Response { on, power, reserve }, rest))
