@@ -12,6 +12,7 @@ mod report;
 mod rows;
 mod stop;
 mod units;
+mod values;
 mod words;
 
 pub use read::read_report;

@@ -1,13 +1,13 @@
 //! Lines of one form each, and the line in fault where one isn't in form.
 ghost use Rattle.std.specs.Prelude.{◌≡◌, ◌≤◌, []};
-ghost use Rattle.report_read.specs.Words.{Finds, count_at as count_found, items_at as items_found};
+ghost use Rattle.report_read.specs.Words.{Finds, spaced, items_at as items_found};
 ghost use Rattle.report_read.specs.LineForms.{word_line as word_form, plain_line as plain_form};
-ghost use Rattle.report_read.specs.LineForms.{value_line as value_form, amount_at as amount_found};
+ghost use Rattle.report_read.specs.LineForms.{value_line as value_form};
 ghost use Rattle.report_read.specs.Lines.{Gives, line, count_line as count_spec};
 ghost use Rattle.report_read.specs.Lines.{amount_line as amount_spec, list_line as list_spec};
 
-use crate::items::{Form, items_at};
-use crate::numbers::{amount_at, count_at};
+use crate::items::items_at;
+use crate::values::{Amount, Count, Part, Valued};
 use crate::stop::{Stop, line_or_fault};
 use crate::words::behind;
 use plain_lists::lists::ReservedList;
@@ -30,14 +30,13 @@ pub fn word_line<'a>(word: &[u8], bytes: &'a [u8]) -> Result<&'a [u8], Stop>
 }
 
 #[tactic(auto, unfolding(crate::specs::LineForms::ended, crate::specs::LineForms::after))]
-fn count_in<'a>(word: &[u8], least: u32, most: u32, bytes: &'a [u8]) -> Option<(u32, &'a [u8])>
-    ensures { Finds (λ x. (x.0, x.1.now)) result
-        (word_form word.now (count_found least most) bytes.now) }
+fn part_in<'a, P: Part>(word: &[u8], part: P, bytes: &'a [u8]) -> Option<(P::Value, &'a [u8])>
+    ensures { Finds (λ x. (x.0, x.1.now)) result (word_form word.now (P.found part) bytes.now) }
 {
     let rest = behind(word, bytes)?;
-    let (number, rest) = count_at(rest, least, most)?;
+    let (value, rest) = part.at(rest)?;
     let rest = behind(b"\n", rest)?;
-    Some((number, rest))
+    Some((value, rest))
 }
 
 /// A word and a number from `least` to `most`.
@@ -50,17 +49,7 @@ pub fn count_line<'a>(
 ) -> Result<(u32, &'a [u8]), Stop>
     ensures { Gives (λ x. (x.0, x.1.now)) result (count_spec word.now least most bytes.now) }
 {
-    line_or_fault(count_in(word, least, most, bytes), bytes)
-}
-
-#[tactic(auto, unfolding(crate::specs::LineForms::ended, crate::specs::LineForms::after))]
-fn amount_in<'a>(word: &[u8], bytes: &'a [u8]) -> Option<(i128, &'a [u8])>
-    ensures { Finds (λ x. (x.0, x.1.now)) result (word_form word.now amount_found bytes.now) }
-{
-    let rest = behind(word, bytes)?;
-    let (amount, rest) = amount_at(rest)?;
-    let rest = behind(b"\n", rest)?;
-    Some((amount, rest))
+    line_or_fault(part_in(word, Count { least, most }, bytes), bytes)
 }
 
 /// A word and an amount of money.
@@ -68,27 +57,7 @@ fn amount_in<'a>(word: &[u8], bytes: &'a [u8]) -> Option<(i128, &'a [u8])>
 pub fn amount_line<'a>(word: &[u8], bytes: &'a [u8]) -> Result<(i128, &'a [u8]), Stop>
     ensures { Gives (λ x. (x.0, x.1.now)) result (amount_spec word.now bytes.now) }
 {
-    line_or_fault(amount_in(word, bytes), bytes)
-}
-
-/// The number of a proposal, and its value in money.
-#[derive(Clone, Copy)]
-pub struct Valued {
-    /// The number, from 1.
-    pub number: u32,
-    /// The dual value.
-    pub value: i128,
-}
-
-// The value, its word and the end of the line are a line of an amount.
-fn value_in<'a>(word: &[u8], least: u32, most: u32, bytes: &'a [u8]) -> Option<(Valued, &'a [u8])>
-    ensures { Finds (λ x. ((x.0.number, x.0.value), x.1.now)) result
-        (value_form word.now least most bytes.now) }
-{
-    let rest = behind(word, bytes)?;
-    let (number, rest) = count_at(rest, least, most)?;
-    let (value, rest) = amount_in(b" value ", rest)?;
-    Some((Valued { number, value }, rest))
+    line_or_fault(part_in(word, Amount, bytes), bytes)
 }
 
 /// A word, the number of a proposal from `least` to `most`, and its value in money.
@@ -98,42 +67,44 @@ pub fn value_line<'a>(
     least: u32,
     most: u32,
     bytes: &'a [u8],
-) -> Result<(Valued, &'a [u8]), Stop>
-    ensures { Gives (λ x. ((x.0.number, x.0.value), x.1.now)) result
+) -> Result<((u32, i128), &'a [u8]), Stop>
+    ensures { Gives (λ x. (x.0, x.1.now)) result
         (line (value_form word.now least most) bytes.now) }
 {
-    line_or_fault(value_in(word, least, most, bytes), bytes)
+    line_or_fault(part_in(word, Valued { least, most }, bytes), bytes)
 }
 
 #[tactic(auto, unfolding(crate::specs::LineForms::ended, crate::specs::LineForms::after))]
-fn list_in<'a, F: Form>(
-    list: &mut ReservedList<F::Item>,
+fn list_in<'a, P: Part>(
+    list: &mut ReservedList<P::Value>,
     word: &[u8],
+    item: P,
     periods: u32,
     bytes: &'a [u8],
 ) -> Option<&'a [u8]>
     requires empty { list.old.items ≡ [] }
     requires room { periods ≤ list.old.spare }
     ensures { Finds (λ rest. (list.new.items, rest.now)) result
-        (word_form word.now (items_found F.found periods) bytes.now) }
+        (word_form word.now (items_found (spaced (P.found item)) periods) bytes.now) }
 {
     let rest = behind(word, bytes)?;
-    let rest = items_at::<F>(list, periods, rest)?;
+    let rest = items_at(list, item, periods, rest)?;
     behind(b"\n", rest)
 }
 
 /// A word and the items of all periods.
-pub fn list_line<'a, F: Form>(
+pub fn list_line<'a, P: Part>(
     alloc: Global,
     word: &[u8],
+    item: P,
     periods: u32,
     bytes: &'a [u8],
-) -> Result<(ReservedList<F::Item>, &'a [u8]), Stop>
+) -> Result<(ReservedList<P::Value>, &'a [u8]), Stop>
     ensures { Gives (λ x. (x.0.items, x.1.now)) result
-        (list_spec word.now F.found periods bytes.now) }
+        (list_spec word.now (spaced (P.found item)) periods bytes.now) }
 {
     let mut list = ReservedList::make(alloc, periods)?;
-    match list_in::<F>(&mut list, word, periods, bytes) {
+    match list_in(&mut list, word, item, periods, bytes) {
         Some(rest) => Ok((list, rest)),
         None => Err(Stop::Fault { left: bytes.len() }),
     }

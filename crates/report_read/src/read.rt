@@ -11,7 +11,7 @@ ghost use Rattle.report_read.specs.Lines.{all_of};
 ghost use Rattle.report_read.specs.Words.{most_count};
 
 use crate::head::{Foot, read_foot, read_head};
-use crate::lines::{Valued, value_line};
+use crate::lines::value_line;
 use crate::report::{Report, ReportError, UnitLines};
 use crate::rows::read_rows;
 use crate::stop::Stop;
@@ -21,7 +21,7 @@ use std::alloc::Global;
 /// What stands behind the proposals: the chosen one, the units and bids, and the last lines.
 #[derive(Drop)]
 struct Ending {
-    chosen: Valued,
+    chosen: (u32, i128),
     lines: UnitLines,
     foot: Foot,
 }
@@ -35,7 +35,7 @@ fn read_ending(
 ) -> Result<(Ending, &[u8]), Stop>
     ensures exact { Gives (λ x. (
       (
-        (x.0.chosen.number, x.0.chosen.value),
+        x.0.chosen,
         (map told_of x.0.lines.items, x.0.foot),
       ),
       x.1.now,
@@ -72,8 +72,8 @@ fn report_in_front(alloc: Global, bytes: &[u8]) -> Result<(Report, &[u8]), Stop>
         ahead: head.ahead,
         cost: head.cost,
         rows,
-        chosen: ending.chosen.number,
-        chosen_value: ending.chosen.value,
+        chosen: ending.chosen.0,
+        chosen_value: ending.chosen.1,
         lines: ending.lines,
         surplus: ending.foot.surplus,
         payments: ending.foot.payments,

@@ -6,13 +6,14 @@ ghost use Rattle.uc_model.specs.declared.limits.TheConstants.{MOST_PERIODS};
 ghost use Rattle.report_read.specs.Lines.{Gives, row_at, rows_at, then_lines, list_line, total_at};
 ghost use Rattle.report_read.specs.declared.rows.TheConstants.{LEAST_BYTES};
 
-use crate::items::{EnergyPrices, ReservePrices, Totals as TotalForm};
 use crate::lines::{list_line, value_line};
+use crate::values::{Amount, Price};
 use crate::report::RowList;
 use crate::stop::Stop;
 use plain_lists::lists::Amounts;
 use std::alloc::Global;
 use uc_model::cases::Row;
+use uc_model::limits::PRICE_LIMIT;
 use uc_model::units::Prices;
 
 /// A proposal has at least so many bytes.
@@ -33,8 +34,8 @@ fn read_totals(alloc: Global, periods: u32, bytes: &[u8]) -> Result<(Totals, &[u
     ensures supply { IfOk result (λ x. length x.0.supply.items ≡ periods) }
     ensures reserve { IfOk result (λ x. length x.0.reserve.items ≡ periods) }
 {
-    let (supply, rest) = list_line::<TotalForm>(alloc, b"supplied", periods, bytes)?;
-    let (reserve, rest) = list_line::<TotalForm>(alloc, b"reserved", periods, rest)?;
+    let (supply, rest) = list_line(alloc, b"supplied", Amount, periods, bytes)?;
+    let (reserve, rest) = list_line(alloc, b"reserved", Amount, periods, rest)?;
     Ok((Totals { supply, reserve }, rest))
 }
 
@@ -46,12 +47,17 @@ fn read_row(alloc: Global, periods: u32, number: u32, bytes: &[u8]) -> Result<(R
     ensures { Gives (λ x. (proposal_of x.0, x.1.now)) result (row_at periods number bytes.now) }
 {
     let (valued, rest) = value_line(b"proposal ", number, number, bytes)?;
-    let (energy, rest) = list_line::<EnergyPrices>(alloc, b"energy", periods, rest)?;
-    let (reserve, rest) = list_line::<ReservePrices>(alloc, b"reserve", periods, rest)?;
+    let price = Price {
+        least: -PRICE_LIMIT,
+        most: PRICE_LIMIT,
+    };
+    let (energy, rest) = list_line(alloc, b"energy", price, periods, rest)?;
+    let price = Price { least: 0, ..price };
+    let (reserve, rest) = list_line(alloc, b"reserve", price, periods, rest)?;
     let (totals, rest) = read_totals(alloc, periods, rest)?;
     let row = Row {
         prices: Prices { energy, reserve },
-        value: valued.value,
+        value: valued.1,
         supply: totals.supply,
         reserve: totals.reserve,
     };

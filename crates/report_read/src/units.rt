@@ -9,10 +9,10 @@ ghost use Rattle.report_read.specs.LineForms.{title_line as title_spec, titled};
 ghost use Rattle.report_read.specs.Lines.{Gives, line, thermal_at, other_at, response_at, unit_at};
 ghost use Rattle.report_read.specs.Lines.{units_at};
 
-use crate::items::{Flags as FlagForm, Powers as PowerForm};
 use crate::lines::list_line;
 use crate::names::name_at;
 use crate::numbers::number_at;
+use crate::values::{Count, Flag};
 use crate::report::{UnitLine, UnitLines};
 use crate::stop::{Stop, line_or_fault};
 use crate::words::behind;
@@ -32,6 +32,12 @@ pub struct Title {
     /// What it earns and is owed.
     pub owed: Owed,
 }
+
+/// A power or reserve, in kilowatts.
+const POWER: Count = Count {
+    least: 0,
+    most: u32::MAX,
+};
 
 /// The place of a kind in the order of a report.
 fn rank(kind: Kind) -> u32
@@ -129,9 +135,9 @@ fn title_line(alloc: Global, least: u32, bytes: &[u8]) -> Result<(Title, &[u8]),
 fn thermal_response(alloc: Global, periods: u32, bytes: &[u8]) -> Result<(Response, &[u8]), Stop>
     ensures { Gives (λ x. (schedule_of x.0, x.1.now)) result (thermal_at periods bytes.now) }
 {
-    let (on, rest) = list_line::<FlagForm>(alloc, b"on", periods, bytes)?;
-    let (power, rest) = list_line::<PowerForm>(alloc, b"power", periods, rest)?;
-    let (reserve, rest) = list_line::<PowerForm>(alloc, b"reserve", periods, rest)?;
+    let (on, rest) = list_line(alloc, b"on", Flag, periods, bytes)?;
+    let (power, rest) = list_line(alloc, b"power", POWER, periods, rest)?;
+    let (reserve, rest) = list_line(alloc, b"reserve", POWER, periods, rest)?;
     Ok((Response { on, power, reserve }, rest))
 }
 
@@ -140,7 +146,7 @@ fn thermal_response(alloc: Global, periods: u32, bytes: &[u8]) -> Result<(Respon
 fn other_response(alloc: Global, periods: u32, bytes: &[u8]) -> Result<(Response, &[u8]), Stop>
     ensures { Gives (λ x. (schedule_of x.0, x.1.now)) result (other_at periods bytes.now) }
 {
-    let (power, rest) = list_line::<PowerForm>(alloc, b"power", periods, bytes)?;
+    let (power, rest) = list_line(alloc, b"power", POWER, periods, bytes)?;
     let on = Flags::filled(alloc, periods, true)?;
     let reserve = Powers::filled(alloc, periods, 0)?;
     Ok((Response { on, power, reserve }, rest))

@@ -34,14 +34,14 @@ pub returns-in_err-energy : goal.returns-in_err-energy
 returns-in_err-energy c =
     let p = err_from_is_err_and c.from_residual-in_err-energy.result c.from_residual-in_err-energy.ensures.1 in
     rw (p.1, p.2) (no_energy c.in_err-energy.field-0.0 c.args.periods c.args.number c.args.bytes.now
-    (c.in_ok-valued.valued.number, c.in_ok-valued.valued.value) c.in_ok-valued.rest.now c.in_ok-valued.ensures
+    c.in_ok-valued.valued c.in_ok-valued.rest.now c.in_ok-valued.ensures
     c.in_err-energy.ensures)
 
 pub returns-in_err-reserve : goal.returns-in_err-reserve
 returns-in_err-reserve c =
     let p = err_from_is_err_and c.from_residual-in_err-reserve.result c.from_residual-in_err-reserve.ensures.1 in
     rw (p.1, p.2) (no_reserve c.in_err-reserve.field-0.0 c.args.periods c.args.number c.args.bytes.now
-    (c.in_ok-valued.valued.number, c.in_ok-valued.valued.value) c.in_ok-valued.rest.now
+    c.in_ok-valued.valued c.in_ok-valued.rest.now
     c.in_ok-energy.energy.items c.in_ok-energy.rest.now c.in_ok-valued.ensures c.in_ok-energy.ensures
     c.in_err-reserve.ensures)
 
@@ -49,6 +49,6 @@ pub returns-in_err-totals : goal.returns-in_err-totals
 returns-in_err-totals c =
     let p = err_from_is_err_and c.from_residual-in_err-totals.result c.from_residual-in_err-totals.ensures.1 in
     rw (p.1, p.2) (no_totals c.in_err-totals.field-0.0 c.args.periods c.args.number c.args.bytes.now
-    (c.in_ok-valued.valued.number, c.in_ok-valued.valued.value) c.in_ok-valued.rest.now
+    c.in_ok-valued.valued c.in_ok-valued.rest.now
     c.in_ok-energy.energy.items c.in_ok-energy.rest.now c.in_ok-reserve.reserve.items c.in_ok-reserve.rest.now
     c.in_ok-valued.ensures c.in_ok-energy.ensures c.in_ok-reserve.ensures c.in_err-totals.ensures.lines)
