@@ -1,43 +1,13 @@
 -- Where a part isn't found, neither is what begins with it; where a line is in fault, so is what goes on with it.
-use Rattle.report_read.proofs.Common.{◌≡◌, ℕ, ℤ, pos, neg_ℤ, List, [], ◌∷◌, codes, Option, Some, None, Ok, Err, refl}
-use Rattle.report_read.proofs.Common.{Found, ◌>>=◌, behind_spec, count_at, amount_at, value_line, ended, after, both}
+use Rattle.report_read.proofs.Common.{◌≡◌, ℕ, ℤ, pos, neg_ℤ, List, codes, Ok, refl, Read, value_line}
 use Rattle.report_read.proofs.Common.{Fails, line, then_lines, count_line, amount_line, list_line, price_at, total_at}
 use Rattle.report_read.proofs.Common.{head_at, row_at, rows_at, units_at, foot_at, report_at, Head, Proposal}
 use Rattle.report_read.proofs.Common.{MOST_PERIODS, MOST_UNITS, MOST_PROPOSALS, PRICE_LIMIT}
 use Rattle.plain_lists.specs.declared.limits.TheConstants.{MOST_AHEAD}
-use Rattle.report_read.specs.LineForms.{word_line, plain_line}
+use Rattle.report_read.specs.LineForms.{plain_line}
 use Rattle.report_read.specs.Words.{most_count}
 use Rattle.report_read.specs.declared.stop.Stop.{Stop}
 use Rattle.report_read.specs.declared.stop.Stop.TheVariants as stops
-
--- ---- a number, and a line of an amount behind it
-
-abbrev with_rest : {A : Type 0} → A → List ℕ → Found A
-with_rest x rest = Some (x, rest)
-
-abbrev numbered : ℕ → ℤ × List ℕ → Found (ℕ × ℤ)
-numbered n y = Some ((n, y.0), y.1)
-
-abbrev to_end : {A : Type 0} → A × List ℕ → Found A
-to_end z = behind_spec (10 ∷ []) z.1 >>= with_rest z.0
-
-with_number : (n : ℕ) (x : ℤ) (rest : Option (List ℕ)) →
-    (rest >>= with_rest {A = ℕ × ℤ} (n, x)) ≡ ((rest >>= with_rest x) >>= numbered n)
-with_number n x None = refl
-with_number n x (Some r) = refl
-
-ended_behind : (n : ℕ) (found : Found ℤ) →
-    ((found >>= numbered n) >>= to_end {A = ℕ × ℤ}) ≡ ((found >>= to_end {A = ℤ}) >>= numbered n)
-ended_behind n None = refl
-ended_behind n (Some x) = with_number n x.0 (behind_spec (10 ∷ []) x.1)
-
-pub value_is : (word : List ℕ) (least most : ℕ) (bytes rest : List ℕ) (n : ℕ) (mid : List ℕ) →
-    behind_spec word bytes ≡ Some rest → count_at least most rest ≡ Some (n, mid)
-    → value_line word least most bytes
-    ≡ (word_line (codes " value ") amount_at mid >>= numbered n)
-unfolding ended after both
-value_is word least most bytes rest n mid found number =
-    rw (found, number) (ended_behind n (after (codes " value ") amount_at mid))
 
 -- ---- the first seven lines
 
@@ -62,15 +32,46 @@ unfolding head_at
 no_units stops.Memory bytes rest periods after title long h = tt
 no_units (stops.Fault left) bytes rest periods after title long h = rw (title, long, h) refl
 
+-- from the fourth line on
+abbrev run_at : List ℕ → Read (ℕ × (ℕ × (ℤ × ℕ)))
+run_at =
+    then_lines (count_line (codes "budget ") 1 MOST_PROPOSALS) (λ _.
+    then_lines (count_line (codes "ahead ") 1 MOST_AHEAD) (λ _.
+    then_lines (amount_line (codes "cost ")) (λ _.
+    count_line (codes "proposals ") 1 most_count)))
+
+pub no_budget : (e : Stop) (bytes : List ℕ) → Fails e (count_line (codes "budget ") 1 MOST_PROPOSALS bytes) →
+    Fails e (run_at bytes)
+no_budget stops.Memory bytes h = tt
+no_budget (stops.Fault left) bytes h = rw h refl
+
+pub no_ahead : (e : Stop) (bytes : List ℕ) (budget : ℕ) (rest : List ℕ) →
+    count_line (codes "budget ") 1 MOST_PROPOSALS bytes ≡ Ok (budget, rest)
+    → Fails e (count_line (codes "ahead ") 1 MOST_AHEAD rest) → Fails e (run_at bytes)
+no_ahead stops.Memory bytes budget rest first h = tt
+no_ahead (stops.Fault left) bytes budget rest first h = rw (first, h) refl
+
+pub no_cost : (e : Stop) (bytes : List ℕ) (budget : ℕ) (rest : List ℕ) (ahead : ℕ) (after : List ℕ) →
+    count_line (codes "budget ") 1 MOST_PROPOSALS bytes ≡ Ok (budget, rest)
+    → count_line (codes "ahead ") 1 MOST_AHEAD rest ≡ Ok (ahead, after)
+    → Fails e (amount_line (codes "cost ") after) → Fails e (run_at bytes)
+no_cost stops.Memory bytes budget rest ahead after first next h = tt
+no_cost (stops.Fault left) bytes budget rest ahead after first next h = rw (first, next, h) refl
+
+pub no_proposals : (e : Stop) (bytes : List ℕ) (budget : ℕ) (rest : List ℕ) (ahead : ℕ) (after : List ℕ) (cost : ℤ)
+    (more : List ℕ) → count_line (codes "budget ") 1 MOST_PROPOSALS bytes ≡ Ok (budget, rest)
+    → count_line (codes "ahead ") 1 MOST_AHEAD rest ≡ Ok (ahead, after)
+    → amount_line (codes "cost ") after ≡ Ok (cost, more)
+    → Fails e (count_line (codes "proposals ") 1 most_count more) → Fails e (run_at bytes)
+no_proposals stops.Memory bytes budget rest ahead after cost more first next amount h = tt
+no_proposals (stops.Fault left) bytes budget rest ahead after cost more first next amount h =
+    rw (first, next, amount, h) refl
+
 pub no_run : (e : Stop) (bytes rest : List ℕ) (periods : ℕ) (after : List ℕ) (units : ℕ) (more : List ℕ) →
     line (plain_line (codes "hull-report 1")) bytes ≡ Ok (tt, rest)
     → count_line (codes "periods ") 1 MOST_PERIODS rest ≡ Ok (periods, after)
     → count_line (codes "units ") 1 MOST_UNITS after ≡ Ok (units, more)
-    → Fails e (then_lines (count_line (codes "budget ") 1 MOST_PROPOSALS) (λ _.
-    then_lines (count_line (codes "ahead ") 1 MOST_AHEAD) (λ _.
-    then_lines (amount_line (codes "cost ")) (λ _.
-    count_line (codes "proposals ") 1 most_count))) more)
-    → Fails e (head_at bytes)
+    → Fails e (run_at more) → Fails e (head_at bytes)
 unfolding head_at
 no_run stops.Memory bytes rest periods after units more title long each h = tt
 no_run (stops.Fault left) bytes rest periods after units more title long each h = rw (title, long, each, h) refl
@@ -100,13 +101,28 @@ unfolding row_at
 no_reserve stops.Memory periods number bytes valued rest energy after value prices h = tt
 no_reserve (stops.Fault left) periods number bytes valued rest energy after value prices h = rw (value, prices, h) refl
 
+-- the last two lines
+abbrev totals_at : ℕ → List ℕ → Read (List ℤ × List ℤ)
+totals_at periods =
+    then_lines (list_line (codes "supplied") total_at periods) (λ _. list_line (codes "reserved") total_at periods)
+
+pub no_supplied : (e : Stop) (periods : ℕ) (bytes : List ℕ) →
+    Fails e (list_line (codes "supplied") total_at periods bytes) → Fails e (totals_at periods bytes)
+no_supplied stops.Memory periods bytes h = tt
+no_supplied (stops.Fault left) periods bytes h = rw h refl
+
+pub no_reserved : (e : Stop) (periods : ℕ) (bytes : List ℕ) (supplied : List ℤ) (rest : List ℕ) →
+    list_line (codes "supplied") total_at periods bytes ≡ Ok (supplied, rest)
+    → Fails e (list_line (codes "reserved") total_at periods rest) → Fails e (totals_at periods bytes)
+no_reserved stops.Memory periods bytes supplied rest first h = tt
+no_reserved (stops.Fault left) periods bytes supplied rest first h = rw (first, h) refl
+
 pub no_totals : (e : Stop) (periods number : ℕ) (bytes : List ℕ) (valued : ℕ × ℤ) (rest : List ℕ) (energy : List ℤ)
     (after : List ℕ) (reserve : List ℤ) (more : List ℕ) →
     line (value_line (codes "proposal ") number number) bytes ≡ Ok (valued, rest)
     → list_line (codes "energy") (price_at (neg_ℤ PRICE_LIMIT) PRICE_LIMIT) periods rest ≡ Ok (energy, after)
     → list_line (codes "reserve") (price_at (pos 0) PRICE_LIMIT) periods after ≡ Ok (reserve, more)
-    → Fails e (then_lines (list_line (codes "supplied") total_at periods)
-    (λ _. list_line (codes "reserved") total_at periods) more) → Fails e (row_at periods number bytes)
+    → Fails e (totals_at periods more) → Fails e (row_at periods number bytes)
 unfolding row_at
 no_totals stops.Memory periods number bytes valued rest energy after reserve more value prices others h = tt
 no_totals (stops.Fault left) periods number bytes valued rest energy after reserve more value prices others h =

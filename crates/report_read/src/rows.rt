@@ -1,16 +1,15 @@
 //! The proposals of a report.
-ghost use Rattle.std.specs.Prelude.{◌≡◌, ◌+◌, ◌<◌, ◌≤◌, ◌^◌, length, map, codes, IfOk};
+ghost use Rattle.std.specs.Prelude.{◌+◌, ◌<◌, ◌≤◌, ◌^◌, length, map};
 ghost use Rattle.uc_model.specs.PlainCases.{proposal_of};
 ghost use Rattle.plain_lists.specs.declared.limits.TheConstants.{MOST_BYTES};
 ghost use Rattle.uc_model.specs.declared.limits.TheConstants.{MOST_PERIODS};
-ghost use Rattle.report_read.specs.Lines.{Gives, row_at, rows_at, then_lines, list_line, total_at};
+ghost use Rattle.report_read.specs.Lines.{Gives, row_at, rows_at};
 ghost use Rattle.report_read.specs.declared.rows.TheConstants.{LEAST_BYTES};
 
 use crate::lines::{list_line, value_line};
 use crate::values::{Amount, Price};
 use crate::report::RowList;
 use crate::stop::Stop;
-use plain_lists::lists::Amounts;
 use std::alloc::Global;
 use uc_model::cases::Row;
 use uc_model::limits::PRICE_LIMIT;
@@ -19,25 +18,15 @@ use uc_model::units::Prices;
 /// A proposal has at least so many bytes.
 const LEAST_BYTES: usize = 50;
 
-/// The totals of a proposal over all periods, in kilowatts.
-#[derive(Drop)]
-struct Totals {
-    supply: Amounts,
-    reserve: Amounts,
-}
+const ENERGY_PRICE: Price = Price {
+    least: -PRICE_LIMIT,
+    most: PRICE_LIMIT,
+};
 
-/// The last two lines of a proposal over so many periods.
-fn read_totals(alloc: Global, periods: u32, bytes: &[u8]) -> Result<(Totals, &[u8]), Stop>
-    ensures lines { Gives (λ x. ((x.0.supply.items, x.0.reserve.items), x.1.now)) result
-        (then_lines (list_line (codes "supplied") total_at periods)
-        (λ _. list_line (codes "reserved") total_at periods) bytes.now) }
-    ensures supply { IfOk result (λ x. length x.0.supply.items ≡ periods) }
-    ensures reserve { IfOk result (λ x. length x.0.reserve.items ≡ periods) }
-{
-    let (supply, rest) = list_line(alloc, b"supplied", Amount, periods, bytes)?;
-    let (reserve, rest) = list_line(alloc, b"reserved", Amount, periods, rest)?;
-    Ok((Totals { supply, reserve }, rest))
-}
+const RESERVE_PRICE: Price = Price {
+    least: 0,
+    most: PRICE_LIMIT,
+};
 
 /// The proposal of a number, over so many periods.
 #[tactic(auto, unfolding(crate::specs::Lines::row_at))]
@@ -47,19 +36,15 @@ fn read_row(alloc: Global, periods: u32, number: u32, bytes: &[u8]) -> Result<(R
     ensures { Gives (λ x. (proposal_of x.0, x.1.now)) result (row_at periods number bytes.now) }
 {
     let (valued, rest) = value_line(b"proposal ", number, number, bytes)?;
-    let price = Price {
-        least: -PRICE_LIMIT,
-        most: PRICE_LIMIT,
-    };
-    let (energy, rest) = list_line(alloc, b"energy", price, periods, rest)?;
-    let price = Price { least: 0, ..price };
-    let (reserve, rest) = list_line(alloc, b"reserve", price, periods, rest)?;
-    let (totals, rest) = read_totals(alloc, periods, rest)?;
+    let (energy, rest) = list_line(alloc, b"energy", ENERGY_PRICE, periods, rest)?;
+    let (reserve, rest) = list_line(alloc, b"reserve", RESERVE_PRICE, periods, rest)?;
+    let (supplied, rest) = list_line(alloc, b"supplied", Amount, periods, rest)?;
+    let (reserved, rest) = list_line(alloc, b"reserved", Amount, periods, rest)?;
     let row = Row {
         prices: Prices { energy, reserve },
         value: valued.1,
-        supply: totals.supply,
-        reserve: totals.reserve,
+        supply: supplied,
+        reserve: reserved,
     };
     Ok((row, rest))
 }

@@ -1,16 +1,20 @@
 use Rattle.report_read.proofs.Common.{refl, rules, w128, to_z-of_z, head_at, err_from_is_err_and}
-use Rattle.report_read.proofs.Stopped.{no_title, no_periods, no_units, no_run}
+use Rattle.report_read.proofs.Stopped.{no_title, no_periods, no_units, no_run, no_budget, no_ahead, no_cost}
+use Rattle.report_read.proofs.Stopped.{no_proposals}
 use Rattle.report_read.proofs.head.read_head.Goals as goal
 
 pub returns : goal.returns
 unfolding head_at
 returns c =
     rw (
-      to_z-of_z w128 c.in_ok-lines.lines.cost (search rules),
+      to_z-of_z w128 c.in_ok-cost.cost (search rules),
       c.in_ok-rest.ensures,
       c.in_ok-periods.ensures,
       c.in_ok-units.ensures,
-      c.in_ok-lines.ensures,
+      c.in_ok-budget.ensures,
+      c.in_ok-ahead.ensures,
+      c.in_ok-cost.ensures,
+      c.in_ok-proposals.ensures,
     ) refl
 
 pub returns-in_err-rest : goal.returns-in_err-rest
@@ -30,9 +34,39 @@ returns-in_err-units c =
     rw (p.1, p.2) (no_units c.in_err-units.field-0.0 c.args.bytes.now c.in_ok-rest.rest.now c.in_ok-periods.periods
     c.in_ok-periods.rest.now c.in_ok-rest.ensures c.in_ok-periods.ensures c.in_err-units.ensures)
 
-pub returns-in_err-lines : goal.returns-in_err-lines
-returns-in_err-lines c =
-    let p = err_from_is_err_and c.from_residual-in_err-lines.result c.from_residual-in_err-lines.ensures.1 in
-    rw (p.1, p.2) (no_run c.in_err-lines.field-0.0 c.args.bytes.now c.in_ok-rest.rest.now c.in_ok-periods.periods
+pub returns-in_err-budget : goal.returns-in_err-budget
+returns-in_err-budget c =
+    let p = err_from_is_err_and c.from_residual-in_err-budget.result c.from_residual-in_err-budget.ensures.1 in
+    rw (p.1, p.2) (no_run c.in_err-budget.field-0.0 c.args.bytes.now c.in_ok-rest.rest.now c.in_ok-periods.periods
     c.in_ok-periods.rest.now c.in_ok-units.units c.in_ok-units.rest.now c.in_ok-rest.ensures c.in_ok-periods.ensures
-    c.in_ok-units.ensures c.in_err-lines.ensures)
+    c.in_ok-units.ensures
+    (no_budget c.in_err-budget.field-0.0 c.in_ok-units.rest.now c.in_err-budget.ensures))
+
+pub returns-in_err-ahead : goal.returns-in_err-ahead
+returns-in_err-ahead c =
+    let p = err_from_is_err_and c.from_residual-in_err-ahead.result c.from_residual-in_err-ahead.ensures.1 in
+    rw (p.1, p.2) (no_run c.in_err-ahead.field-0.0 c.args.bytes.now c.in_ok-rest.rest.now c.in_ok-periods.periods
+    c.in_ok-periods.rest.now c.in_ok-units.units c.in_ok-units.rest.now c.in_ok-rest.ensures c.in_ok-periods.ensures
+    c.in_ok-units.ensures
+    (no_ahead c.in_err-ahead.field-0.0 c.in_ok-units.rest.now
+    c.in_ok-budget.budget c.in_ok-budget.rest.now c.in_ok-budget.ensures c.in_err-ahead.ensures))
+
+pub returns-in_err-cost : goal.returns-in_err-cost
+returns-in_err-cost c =
+    let p = err_from_is_err_and c.from_residual-in_err-cost.result c.from_residual-in_err-cost.ensures.1 in
+    rw (p.1, p.2) (no_run c.in_err-cost.field-0.0 c.args.bytes.now c.in_ok-rest.rest.now c.in_ok-periods.periods
+    c.in_ok-periods.rest.now c.in_ok-units.units c.in_ok-units.rest.now c.in_ok-rest.ensures c.in_ok-periods.ensures
+    c.in_ok-units.ensures
+    (no_cost c.in_err-cost.field-0.0 c.in_ok-units.rest.now
+    c.in_ok-budget.budget c.in_ok-budget.rest.now c.in_ok-ahead.ahead c.in_ok-ahead.rest.now
+    c.in_ok-budget.ensures c.in_ok-ahead.ensures c.in_err-cost.ensures))
+
+pub returns-in_err-proposals : goal.returns-in_err-proposals
+returns-in_err-proposals c =
+    let p = err_from_is_err_and c.from_residual-in_err-proposals.result c.from_residual-in_err-proposals.ensures.1 in
+    rw (p.1, p.2) (no_run c.in_err-proposals.field-0.0 c.args.bytes.now c.in_ok-rest.rest.now c.in_ok-periods.periods
+    c.in_ok-periods.rest.now c.in_ok-units.units c.in_ok-units.rest.now c.in_ok-rest.ensures c.in_ok-periods.ensures
+    c.in_ok-units.ensures
+    (no_proposals c.in_err-proposals.field-0.0 c.in_ok-units.rest.now
+    c.in_ok-budget.budget c.in_ok-budget.rest.now c.in_ok-ahead.ahead c.in_ok-ahead.rest.now
+    c.in_ok-cost.cost c.in_ok-cost.rest.now c.in_ok-budget.ensures c.in_ok-ahead.ensures c.in_ok-cost.ensures c.in_err-proposals.ensures))

@@ -1,6 +1,6 @@
 use Rattle.report_read.proofs.Common.{sym, ◌∙◌, codes, refl, neg_ℤ, pos, PRICE_LIMIT, err_from_is_err_and}
-use Rattle.report_read.proofs.Lemmas.{prices_are, prices_valid, energy_zero, reserve_zero}
-use Rattle.report_read.proofs.Stopped.{no_value, no_energy, no_reserve, no_totals}
+use Rattle.report_read.proofs.Lemmas.{prices_are, totals_are, prices_valid, energy_zero, reserve_zero}
+use Rattle.report_read.proofs.Stopped.{no_value, no_energy, no_reserve, no_totals, no_supplied, no_reserved}
 use Rattle.report_read.proofs.rows.read_row.Goals as goal
 
 pub invariant_of-row : goal.invariant_of-row
@@ -18,10 +18,13 @@ pub invariant_of-row-2 : goal.invariant_of-row-2
 invariant_of-row-2 c =
     let energy = prices_are (codes "energy") (neg_ℤ PRICE_LIMIT) PRICE_LIMIT c.args.periods c.in_ok-valued.rest.now
     c.in_ok-energy.energy.items c.in_ok-energy.rest.now refl energy_zero c.in_ok-energy.ensures in
+    let supply = totals_are (codes "supplied") c.args.periods c.in_ok-reserve.rest.now c.in_ok-supplied.supplied.items
+    c.in_ok-supplied.rest.now refl c.in_ok-supplied.ensures in
+    let reserve = totals_are (codes "reserved") c.args.periods c.in_ok-supplied.rest.now c.in_ok-reserved.reserved.items
+    c.in_ok-reserved.rest.now refl c.in_ok-reserved.ensures in
     record {
-      supply_length = c.in_ok-totals.ensures.supply ∙ sym energy.length_is;
-      reserve_length =
-          c.in_ok-totals.ensures.reserve ∙ sym energy.length_is;
+      supply_length = supply.length_is ∙ sym energy.length_is;
+      reserve_length = reserve.length_is ∙ sym energy.length_is;
     }
 
 pub returns-in_err-valued : goal.returns-in_err-valued
@@ -45,10 +48,21 @@ returns-in_err-reserve c =
     c.in_ok-energy.energy.items c.in_ok-energy.rest.now c.in_ok-valued.ensures c.in_ok-energy.ensures
     c.in_err-reserve.ensures)
 
-pub returns-in_err-totals : goal.returns-in_err-totals
-returns-in_err-totals c =
-    let p = err_from_is_err_and c.from_residual-in_err-totals.result c.from_residual-in_err-totals.ensures.1 in
-    rw (p.1, p.2) (no_totals c.in_err-totals.field-0.0 c.args.periods c.args.number c.args.bytes.now
+pub returns-in_err-supplied : goal.returns-in_err-supplied
+returns-in_err-supplied c =
+    let p = err_from_is_err_and c.from_residual-in_err-supplied.result c.from_residual-in_err-supplied.ensures.1 in
+    rw (p.1, p.2) (no_totals c.in_err-supplied.field-0.0 c.args.periods c.args.number c.args.bytes.now
     c.in_ok-valued.valued c.in_ok-valued.rest.now
     c.in_ok-energy.energy.items c.in_ok-energy.rest.now c.in_ok-reserve.reserve.items c.in_ok-reserve.rest.now
-    c.in_ok-valued.ensures c.in_ok-energy.ensures c.in_ok-reserve.ensures c.in_err-totals.ensures.lines)
+    c.in_ok-valued.ensures c.in_ok-energy.ensures c.in_ok-reserve.ensures
+    (no_supplied c.in_err-supplied.field-0.0 c.args.periods c.in_ok-reserve.rest.now c.in_err-supplied.ensures))
+
+pub returns-in_err-reserved : goal.returns-in_err-reserved
+returns-in_err-reserved c =
+    let p = err_from_is_err_and c.from_residual-in_err-reserved.result c.from_residual-in_err-reserved.ensures.1 in
+    rw (p.1, p.2) (no_totals c.in_err-reserved.field-0.0 c.args.periods c.args.number c.args.bytes.now
+    c.in_ok-valued.valued c.in_ok-valued.rest.now
+    c.in_ok-energy.energy.items c.in_ok-energy.rest.now c.in_ok-reserve.reserve.items c.in_ok-reserve.rest.now
+    c.in_ok-valued.ensures c.in_ok-energy.ensures c.in_ok-reserve.ensures
+    (no_reserved c.in_err-reserved.field-0.0 c.args.periods c.in_ok-reserve.rest.now
+    c.in_ok-supplied.supplied.items c.in_ok-supplied.rest.now c.in_ok-supplied.ensures c.in_err-reserved.ensures))
