@@ -8,7 +8,7 @@ pub mod Loops
 pub mod LineLoops
 -- lines.rt: a line that is found or isn't
 pub mod FoundLines
--- lines.rt, head.rt, rows.rt, read.rt: what isn't found, and where a line is in fault
+-- head.rt, rows.rt, read.rt: where a line is in fault
 pub mod Stopped
 -- numbers.rt: narrower limits, and numbers with a sign
 pub mod Narrow

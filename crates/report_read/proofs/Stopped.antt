@@ -1,7 +1,7 @@
--- Where a part isn't found, neither is what begins with it; where a line is in fault, so is what goes on with it.
+-- Where a line is in fault, so is what goes on with it.
 use Rattle.report_read.proofs.Common.{◌≡◌, ℕ, ℤ, pos, neg_ℤ, List, codes, Ok, refl, Read, value_line}
 use Rattle.report_read.proofs.Common.{Fails, line, then_lines, count_line, amount_line, list_line, price_at, total_at}
-use Rattle.report_read.proofs.Common.{head_at, row_at, rows_at, units_at, foot_at, report_at, Head, Proposal}
+use Rattle.report_read.proofs.Common.{head_at, row_at, rows_at, units_at, foot_at, report_at, Head, Proposal, Told, Foot}
 use Rattle.report_read.proofs.Common.{MOST_PERIODS, MOST_UNITS, MOST_PROPOSALS, PRICE_LIMIT}
 use Rattle.plain_lists.specs.declared.limits.TheConstants.{MOST_AHEAD}
 use Rattle.report_read.specs.LineForms.{plain_line}
@@ -141,10 +141,33 @@ unfolding report_at
 no_rows stops.Memory bytes head rest first h = tt
 no_rows (stops.Fault left) bytes head rest first h = rw (first, h) refl
 
+-- the lines behind the proposals
+abbrev ending_at : (periods units : ℕ) → List ℕ → Read ((ℕ × ℤ) × (List Told × Foot))
+ending_at periods units =
+    then_lines (line (value_line (codes "chosen ") 0 most_count)) (λ _.
+    then_lines (units_at periods 0 units) (λ _. foot_at))
+
+pub no_chosen : (e : Stop) (periods units : ℕ) (bytes : List ℕ) →
+    Fails e (line (value_line (codes "chosen ") 0 most_count) bytes) → Fails e (ending_at periods units bytes)
+no_chosen stops.Memory periods units bytes h = tt
+no_chosen (stops.Fault left) periods units bytes h = rw h refl
+
+pub no_lines : (e : Stop) (periods units : ℕ) (bytes : List ℕ) (chosen : ℕ × ℤ) (rest : List ℕ) →
+    line (value_line (codes "chosen ") 0 most_count) bytes ≡ Ok (chosen, rest)
+    → Fails e (units_at periods 0 units rest) → Fails e (ending_at periods units bytes)
+no_lines stops.Memory periods units bytes chosen rest first h = tt
+no_lines (stops.Fault left) periods units bytes chosen rest first h = rw (first, h) refl
+
+pub no_foot : (e : Stop) (periods units : ℕ) (bytes : List ℕ) (chosen : ℕ × ℤ) (rest : List ℕ) (told : List Told)
+    (after : List ℕ) → line (value_line (codes "chosen ") 0 most_count) bytes ≡ Ok (chosen, rest)
+    → units_at periods 0 units rest ≡ Ok (told, after)
+    → Fails e (foot_at after) → Fails e (ending_at periods units bytes)
+no_foot stops.Memory periods units bytes chosen rest told after first next h = tt
+no_foot (stops.Fault left) periods units bytes chosen rest told after first next h = rw (first, next, h) refl
+
 pub no_ending : (e : Stop) (bytes : List ℕ) (head : Head) (rest : List ℕ) (rows : List Proposal) (after : List ℕ) →
     head_at bytes ≡ Ok (head, rest) → rows_at head.periods 1 head.proposals rest ≡ Ok (rows, after)
-    → Fails e (then_lines (line (value_line (codes "chosen ") 0 most_count)) (λ _.
-    then_lines (units_at head.periods 0 head.units) (λ _. foot_at)) after) → Fails e (report_at bytes)
+    → Fails e (ending_at head.periods head.units after) → Fails e (report_at bytes)
 unfolding report_at
 no_ending stops.Memory bytes head rest rows after first each h = tt
 no_ending (stops.Fault left) bytes head rest rows after first each h = rw (first, each, h) refl

@@ -7,8 +7,8 @@ ghost use Rattle.report_read.specs.Lines.{Gives, line, count_line as count_spec}
 ghost use Rattle.report_read.specs.Lines.{amount_line as amount_spec, list_line as list_spec};
 
 use crate::items::items_at;
-use crate::values::{Amount, Count, Part, Valued};
 use crate::stop::{Stop, line_or_fault};
+use crate::values::{Amount, Count, Part, Valued};
 use crate::words::behind;
 use plain_lists::lists::ReservedList;
 use std::alloc::Global;

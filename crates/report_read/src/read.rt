@@ -1,59 +1,19 @@
 //! A report of its text, or the first line in fault.
-ghost use Rattle.std.specs.Prelude.{◌≡◌, ◌≤◌, ◌-◌, suc, length, map, take, codes, IfOk};
+ghost use Rattle.std.specs.Prelude.{◌≡◌, ◌≤◌, ◌-◌, suc, length, map, take, IfOk};
 ghost use Rattle.plain_lists.specs.declared.limits.TheConstants.{MOST_BYTES};
 ghost use Rattle.report_form.specs.ReportText.{Report as PlainReport, report_text};
 ghost use Rattle.report_read.specs.Plain.{report_of, told_of};
 ghost use Rattle.report_read.specs.Bounds.{IsReport, AreInOrder};
 ghost use Rattle.report_read.specs.Faults.{IsFault, IfFault, line_feeds, Gives as GivesReport};
-ghost use Rattle.report_read.specs.LineForms.{value_line as value_form};
-ghost use Rattle.report_read.specs.Lines.{Gives, line, then_lines, units_at, foot_at, report_at};
-ghost use Rattle.report_read.specs.Lines.{all_of};
-ghost use Rattle.report_read.specs.Words.{most_count};
+ghost use Rattle.report_read.specs.Lines.{Gives, report_at, all_of};
 
-use crate::head::{Foot, read_foot, read_head};
+use crate::head::{read_foot, read_head};
 use crate::lines::value_line;
-use crate::report::{Report, ReportError, UnitLines};
+use crate::report::{Report, ReportError};
 use crate::rows::read_rows;
 use crate::stop::Stop;
 use crate::units::read_units;
 use std::alloc::Global;
-
-/// What stands behind the proposals: the chosen one, the units and bids, and the last lines.
-#[derive(Drop)]
-struct Ending {
-    chosen: (u32, i128),
-    lines: UnitLines,
-    foot: Foot,
-}
-
-/// The lines behind the proposals.
-fn read_ending(
-    alloc: Global,
-    periods: u32,
-    units: u32,
-    bytes: &[u8],
-) -> Result<(Ending, &[u8]), Stop>
-    ensures exact { Gives (λ x. (
-      (
-        x.0.chosen,
-        (map told_of x.0.lines.items, x.0.foot),
-      ),
-      x.1.now,
-    )) result
-        (then_lines (line (value_form (codes "chosen ") 0 most_count)) (λ _.
-        then_lines (units_at periods 0 units) (λ _. foot_at)) bytes.now) }
-    ensures order { IfOk result (λ x. AreInOrder 0 (map told_of x.0.lines.items)) }
-{
-    let (chosen, rest) = value_line(b"chosen ", 0, u32::MAX, bytes)?;
-    let (lines, rest) = read_units(alloc, periods, units, rest)?;
-    let (foot, rest) = read_foot(rest)?;
-    let ending = Ending {
-        chosen,
-        lines,
-        foot,
-    };
-    Ok((ending, rest))
-}
 
 /// A report at the front of the bytes.
 #[tactic(auto, unfolding(crate::specs::Lines::report_at, crate::specs::Plain::report_of))]
@@ -64,7 +24,9 @@ fn report_in_front(alloc: Global, bytes: &[u8]) -> Result<(Report, &[u8]), Stop>
 {
     let (head, rest) = read_head(bytes)?;
     let (rows, rest) = read_rows(alloc, head.periods, head.proposals, rest)?;
-    let (ending, rest) = read_ending(alloc, head.periods, head.units, rest)?;
+    let (chosen, rest) = value_line(b"chosen ", 0, u32::MAX, rest)?;
+    let (lines, rest) = read_units(alloc, head.periods, head.units, rest)?;
+    let (foot, rest) = read_foot(rest)?;
     let report = Report {
         periods: head.periods,
         units: head.units,
@@ -72,12 +34,12 @@ fn report_in_front(alloc: Global, bytes: &[u8]) -> Result<(Report, &[u8]), Stop>
         ahead: head.ahead,
         cost: head.cost,
         rows,
-        chosen: ending.chosen.0,
-        chosen_value: ending.chosen.1,
-        lines: ending.lines,
-        surplus: ending.foot.surplus,
-        payments: ending.foot.payments,
-        gap: ending.foot.gap,
+        chosen: chosen.0,
+        chosen_value: chosen.1,
+        lines,
+        surplus: foot.surplus,
+        payments: foot.payments,
+        gap: foot.gap,
     };
     Ok((report, rest))
 }

@@ -7,9 +7,9 @@ ghost use Rattle.report_read.specs.Lines.{Gives, row_at, rows_at};
 ghost use Rattle.report_read.specs.declared.rows.TheConstants.{LEAST_BYTES};
 
 use crate::lines::{list_line, value_line};
-use crate::values::{Amount, Price};
 use crate::report::RowList;
 use crate::stop::Stop;
+use crate::values::{Amount, Price};
 use std::alloc::Global;
 use uc_model::cases::Row;
 use uc_model::limits::PRICE_LIMIT;

@@ -1,6 +1,6 @@
-use Rattle.report_read.proofs.Common.{arith, rules, map, proposal_of, err_from_is_err_and}
-use Rattle.report_read.proofs.Lemmas.{head_is, head_shorter}
-use Rattle.report_read.proofs.Stopped.{no_head, no_rows, no_ending}
+use Rattle.report_read.proofs.Common.{arith, rules, map, proposal_of, told_of, err_from_is_err_and}
+use Rattle.report_read.proofs.Lemmas.{head_is, head_shorter, units_order}
+use Rattle.report_read.proofs.Stopped.{no_head, no_rows, no_ending, no_chosen, no_lines, no_foot}
 use Rattle.report_read.proofs.read.report_in_front.Goals as goal
 
 pub read_rows-requires : goal.read_rows-requires
@@ -22,9 +22,32 @@ returns-in_err-rows-clause-exact c =
     rw (p.1, p.2) (no_rows c.in_err-rows.field-0.0 c.args.bytes.now c.in_ok-head.head c.in_ok-head.rest.now
     c.in_ok-head.ensures c.in_err-rows.ensures)
 
-pub returns-in_err-ending-clause-exact : goal.returns-in_err-ending-clause-exact
-returns-in_err-ending-clause-exact c =
-    let p = err_from_is_err_and c.from_residual-in_err-ending.result c.from_residual-in_err-ending.ensures.1 in
-    rw (p.1, p.2) (no_ending c.in_err-ending.field-0.0 c.args.bytes.now c.in_ok-head.head c.in_ok-head.rest.now
+pub returns-in_err-chosen-clause-exact : goal.returns-in_err-chosen-clause-exact
+returns-in_err-chosen-clause-exact c =
+    let p = err_from_is_err_and c.from_residual-in_err-chosen.result c.from_residual-in_err-chosen.ensures.1 in
+    rw (p.1, p.2) (no_ending c.in_err-chosen.field-0.0 c.args.bytes.now c.in_ok-head.head c.in_ok-head.rest.now
     (map proposal_of c.in_ok-rows.rows.items) c.in_ok-rows.rest.now c.in_ok-head.ensures c.in_ok-rows.ensures
-    c.in_err-ending.ensures.exact)
+    (no_chosen c.in_err-chosen.field-0.0 c.in_ok-head.head.periods c.in_ok-head.head.units c.in_ok-rows.rest.now
+    c.in_err-chosen.ensures))
+
+pub returns-in_err-lines-clause-exact : goal.returns-in_err-lines-clause-exact
+returns-in_err-lines-clause-exact c =
+    let p = err_from_is_err_and c.from_residual-in_err-lines.result c.from_residual-in_err-lines.ensures.1 in
+    rw (p.1, p.2) (no_ending c.in_err-lines.field-0.0 c.args.bytes.now c.in_ok-head.head c.in_ok-head.rest.now
+    (map proposal_of c.in_ok-rows.rows.items) c.in_ok-rows.rest.now c.in_ok-head.ensures c.in_ok-rows.ensures
+    (no_lines c.in_err-lines.field-0.0 c.in_ok-head.head.periods c.in_ok-head.head.units c.in_ok-rows.rest.now
+    c.in_ok-chosen.chosen c.in_ok-chosen.rest.now c.in_ok-chosen.ensures c.in_err-lines.ensures))
+
+pub returns-in_err-foot-clause-exact : goal.returns-in_err-foot-clause-exact
+returns-in_err-foot-clause-exact c =
+    let p = err_from_is_err_and c.from_residual-in_err-foot.result c.from_residual-in_err-foot.ensures.1 in
+    rw (p.1, p.2) (no_ending c.in_err-foot.field-0.0 c.args.bytes.now c.in_ok-head.head c.in_ok-head.rest.now
+    (map proposal_of c.in_ok-rows.rows.items) c.in_ok-rows.rest.now c.in_ok-head.ensures c.in_ok-rows.ensures
+    (no_foot c.in_err-foot.field-0.0 c.in_ok-head.head.periods c.in_ok-head.head.units c.in_ok-rows.rest.now
+    c.in_ok-chosen.chosen c.in_ok-chosen.rest.now (map told_of c.in_ok-lines.lines.items) c.in_ok-lines.rest.now
+    c.in_ok-chosen.ensures c.in_ok-lines.ensures c.in_err-foot.ensures))
+
+pub returns-clause-order : goal.returns-clause-order
+returns-clause-order c =
+    units_order c.in_ok-head.head.periods c.in_ok-head.head.units c.in_ok-chosen.rest.now
+    (map told_of c.in_ok-lines.lines.items) c.in_ok-lines.rest.now c.in_ok-lines.ensures
