@@ -1,7 +1,8 @@
 -- Where a line is in fault, so is what goes on with it.
 use Rattle.report_read.proofs.Common.{◌≡◌, ℕ, ℤ, pos, neg_ℤ, List, codes, Ok, refl, Read, value_line}
 use Rattle.report_read.proofs.Common.{Fails, line, then_lines, count_line, amount_line, list_line, price_at, total_at}
-use Rattle.report_read.proofs.Common.{head_at, row_at, rows_at, units_at, foot_at, report_at, Head, Proposal, Told, Foot}
+use Rattle.report_read.proofs.Common.{head_at, row_at, rows_at, units_at, foot_at, report_at}
+use Rattle.report_read.proofs.Common.{Head, Proposal, Told, Foot}
 use Rattle.report_read.proofs.Common.{MOST_PERIODS, MOST_UNITS, MOST_PROPOSALS, PRICE_LIMIT}
 use Rattle.plain_lists.specs.declared.limits.TheConstants.{MOST_AHEAD}
 use Rattle.report_read.specs.LineForms.{plain_line}

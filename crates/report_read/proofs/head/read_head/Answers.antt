@@ -69,4 +69,5 @@ returns-in_err-proposals c =
     c.in_ok-units.ensures
     (no_proposals c.in_err-proposals.field-0.0 c.in_ok-units.rest.now
     c.in_ok-budget.budget c.in_ok-budget.rest.now c.in_ok-ahead.ahead c.in_ok-ahead.rest.now
-    c.in_ok-cost.cost c.in_ok-cost.rest.now c.in_ok-budget.ensures c.in_ok-ahead.ensures c.in_ok-cost.ensures c.in_err-proposals.ensures))
+    c.in_ok-cost.cost c.in_ok-cost.rest.now c.in_ok-budget.ensures c.in_ok-ahead.ensures c.in_ok-cost.ensures
+    c.in_err-proposals.ensures))
