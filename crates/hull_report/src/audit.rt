@@ -14,8 +14,7 @@ pub fn write_audit<S: Sink>(proposals: u32, out: &mut S) -> Result<(), WriteFail
     write_parts(
         out,
         &[
-            Part::Text(b"hull-audit 1\nproposals "),
-            Part::Count(proposals as u64),
+            Part::CountOf(b"hull-audit 1\nproposals ", proposals as u64),
             Part::Text(b"\nright\n"),
         ],
     )

@@ -25,7 +25,7 @@ use uc_prices::fault::PriceFault;
 use uc_text::TextFault;
 
 /// A file that a command reads.
-#[derive(Clone, Copy, PartialEq, Eq)]
+#[derive(Clone, Copy)]
 pub enum FileKind {
     CaseFile,
     ScheduleFile,
@@ -35,7 +35,7 @@ pub enum FileKind {
 }
 
 /// What is wrong with a report.
-#[derive(Clone, Copy, PartialEq, Eq)]
+#[derive(Clone, Copy)]
 pub enum ReportCode {
     /// It isn't in form: no report has its lines.
     OutOfForm,
@@ -173,10 +173,8 @@ fn write_words_fault<S: Sink>(fault: &WordFault, out: &mut S) -> Result<(), Writ
     write_parts(
         out,
         &[
-            Part::Text(b"words "),
-            Part::Count(code as u64),
-            Part::Text(b" "),
-            Part::Count(fault.position as u64),
+            Part::CountOf(b"words ", code as u64),
+            Part::CountOf(b" ", fault.position as u64),
         ],
     )
 }
@@ -203,10 +201,8 @@ fn write_text_fault<S: Sink>(
         out,
         &[
             Part::Text(word),
-            Part::Text(b" "),
-            Part::Count(code as u64),
-            Part::Text(b" at "),
-            Part::Count(fault.offset as u64),
+            Part::CountOf(b" ", code as u64),
+            Part::CountOf(b" at ", fault.offset as u64),
         ],
     )
 }
@@ -221,8 +217,7 @@ fn write_unit<S: Sink>(kind: Kind, unit: u32, out: &mut S) -> Result<(), WriteFa
         &[
             Part::Text(b" kind "),
             Part::Text(kind),
-            Part::Text(b" unit "),
-            Part::Count(unit as u64),
+            Part::CountOf(b" unit ", unit as u64),
         ],
     )
 }
@@ -251,12 +246,11 @@ fn write_field_fault<S: Sink>(fault: &FieldFault, out: &mut S) -> Result<(), Wri
     let code = fault.code.number();
     let key = fault.field.key().as_bytes();
     let before = [
-        Part::Text(b"case "),
-        Part::Count(code as u64),
+        Part::CountOf(b"case ", code as u64),
         Part::Text(b" field "),
         Part::Text(key),
     ];
-    let behind = [Part::Text(b" item "), Part::Count(fault.item as u64)];
+    let behind = [Part::CountOf(b" item ", fault.item as u64)];
     write_at_unit(&before, fault.kind, fault.unit, &behind, out)
 }
 
@@ -265,8 +259,8 @@ fn write_shape_fault<S: Sink>(fault: &ShapeFault, out: &mut S) -> Result<(), Wri
     ensures { Writes S.held S.faults S.last out.old out.new result (shape_told fault.now) }
 {
     let code = fault.code.number();
-    let before = [Part::Text(b"schedule "), Part::Count(code as u64)];
-    let behind = [Part::Text(b" item "), Part::Count(fault.item as u64)];
+    let before = [Part::CountOf(b"schedule ", code as u64)];
+    let behind = [Part::CountOf(b" item ", fault.item as u64)];
     write_at_unit(&before, fault.kind, fault.unit, &behind, out)
 }
 
@@ -275,14 +269,11 @@ fn write_rule_fault<S: Sink>(fault: &RuleFault, out: &mut S) -> Result<(), Write
     ensures { Writes S.held S.faults S.last out.old out.new result (rule_told fault.now) }
 {
     let code = fault.code.number();
-    let before = [Part::Text(b"schedule "), Part::Count(code as u64)];
+    let before = [Part::CountOf(b"schedule ", code as u64)];
     let behind = [
-        Part::Text(b" period "),
-        Part::Count(fault.period as u64),
-        Part::Text(b" left "),
-        Part::Amount(fault.left),
-        Part::Text(b" right "),
-        Part::Amount(fault.right),
+        Part::CountOf(b" period ", fault.period as u64),
+        Part::AmountOf(b" left ", fault.left),
+        Part::AmountOf(b" right ", fault.right),
     ];
     write_at_unit(&before, fault.kind, fault.unit, &behind, out)
 }
@@ -308,12 +299,9 @@ fn write_work_fault<S: Sink>(
     write_parts(
         out,
         &[
-            Part::Text(b"work "),
-            Part::Count(proposals as u64),
-            Part::Text(b" "),
-            Part::Count(units as u64),
-            Part::Text(b" "),
-            Part::Count(periods as u64),
+            Part::CountOf(b"work ", proposals as u64),
+            Part::CountOf(b" ", units as u64),
+            Part::CountOf(b" ", periods as u64),
         ],
     )
 }
@@ -326,10 +314,8 @@ fn write_report_fault<S: Sink>(code: ReportCode, line: u32, out: &mut S) -> Resu
     write_parts(
         out,
         &[
-            Part::Text(b"report "),
-            Part::Count(code as u64),
-            Part::Text(b" at "),
-            Part::Count(line as u64),
+            Part::CountOf(b"report ", code as u64),
+            Part::CountOf(b" at ", line as u64),
         ],
     )
 }
@@ -343,12 +329,10 @@ fn write_price_fault<S: Sink>(fault: &PriceFault, out: &mut S) -> Result<(), Wri
     write_parts(
         out,
         &[
-            Part::Text(b"prices "),
-            Part::Count(code as u64),
+            Part::CountOf(b"prices ", code as u64),
             Part::Text(b" field "),
             Part::Text(key),
-            Part::Text(b" item "),
-            Part::Count(fault.item as u64),
+            Part::CountOf(b" item ", fault.item as u64),
         ],
     )
 }
@@ -358,12 +342,10 @@ fn write_share_fault<S: Sink>(fault: &ShareFault, out: &mut S) -> Result<(), Wri
     ensures { Writes S.held S.faults S.last out.old out.new result (share_told fault.now) }
 {
     let code = fault.code.number();
-    let before = [Part::Text(b"mixture "), Part::Count(code as u64)];
+    let before = [Part::CountOf(b"mixture ", code as u64)];
     let behind = [
-        Part::Text(b" entry "),
-        Part::Count(fault.entry as u64),
-        Part::Text(b" item "),
-        Part::Count(fault.item as u64),
+        Part::CountOf(b" entry ", fault.entry as u64),
+        Part::CountOf(b" item ", fault.item as u64),
     ];
     write_at_unit(&before, fault.kind, fault.unit, &behind, out)
 }
@@ -374,16 +356,12 @@ fn write_entry_fault<S: Sink>(fault: &EntryFault, out: &mut S) -> Result<(), Wri
 {
     let rule = &fault.fault;
     let code = rule.code.number();
-    let before = [Part::Text(b"mixture "), Part::Count(code as u64)];
+    let before = [Part::CountOf(b"mixture ", code as u64)];
     let behind = [
-        Part::Text(b" entry "),
-        Part::Count(fault.entry),
-        Part::Text(b" period "),
-        Part::Count(rule.period as u64),
-        Part::Text(b" left "),
-        Part::Amount(rule.left),
-        Part::Text(b" right "),
-        Part::Amount(rule.right),
+        Part::CountOf(b" entry ", fault.entry),
+        Part::CountOf(b" period ", rule.period as u64),
+        Part::AmountOf(b" left ", rule.left),
+        Part::AmountOf(b" right ", rule.right),
     ];
     write_at_unit(&before, rule.kind, rule.unit, &behind, out)
 }
@@ -423,8 +401,7 @@ fn write_status<S: Sink>(status: u8, out: &mut S) -> Result<(), WriteFailed>
     write_parts(
         out,
         &[
-            Part::Text(b"fault "),
-            Part::Count(status as u64),
+            Part::CountOf(b"fault ", status as u64),
             Part::Text(b" "),
         ],
     )
