@@ -9,7 +9,7 @@ ghost use Rattle.right_report.specs.RecordReport.{chosen_of, value_of};
 use board_core::Closed;
 use gap_proof::Certified;
 use hull_io::{Sink, WriteFailed};
-use report_form::{Part, write_parts};
+use report_form::{Part, write_form};
 use right_report::choice_of;
 
 /// What the text tells: how many proposals there are, the number of the chosen one and its dual
@@ -55,18 +55,19 @@ pub fn write_bound_lines<S: Sink>(lines: &BoundLines, out: &mut S) -> Result<(),
         lines.now.radius lines.now.first lines.now.last lines.now.bound) }
 {
     let distance = distance(lines);
-    write_parts(
+    write_form(
         out,
+        b"hull-bound 1\nproposals %\nchosen % value %\nradius %\ncertificate first % last %\n\
+          bound %\ndistance %\nend\n",
         &[
-            Part::CountOf(b"hull-bound 1\nproposals ", lines.proposals as u64),
-            Part::CountOf(b"\nchosen ", lines.chosen as u64),
-            Part::AmountOf(b" value ", lines.value),
-            Part::CountOf(b"\nradius ", lines.radius),
-            Part::CountOf(b"\ncertificate first ", lines.first as u64),
-            Part::CountOf(b" last ", lines.last as u64),
-            Part::AmountOf(b"\nbound ", lines.bound),
-            Part::AmountOf(b"\ndistance ", distance),
-            Part::Text(b"\nend\n"),
+            Part::Count(lines.proposals as u64),
+            Part::Count(lines.chosen as u64),
+            Part::Amount(lines.value),
+            Part::Count(lines.radius),
+            Part::Count(lines.first as u64),
+            Part::Count(lines.last as u64),
+            Part::Amount(lines.bound),
+            Part::Amount(distance),
         ],
     )
 }

@@ -4,7 +4,7 @@ ghost use Rattle.uc_model.specs.PlainCases.{market_of};
 ghost use Rattle.hull_report.specs.CheckText.{check_text};
 
 use hull_io::{Sink, WriteFailed};
-use report_form::{Part, write_parts};
+use report_form::{Part, write_form};
 use uc_model::cases::Case;
 
 /// Writes that the schedule is feasible, and its `cost` in money.
@@ -16,15 +16,15 @@ pub fn write_check<S: Sink>(case: &Case, cost: i128, out: &mut S) -> Result<(), 
     let thermal = case.thermal.len();
     let flat = case.flat.len();
     let bids = case.bids.len();
-    write_parts(
+    write_form(
         out,
+        b"hull-check 1\nperiods % thermal % renewable %%\ncost %\nfeasible\n",
         &[
-            Part::CountOf(b"hull-check 1\nperiods ", case.periods as u64),
-            Part::CountOf(b" thermal ", thermal as u64),
-            Part::CountOf(b" renewable ", flat as u64),
+            Part::Count(case.periods as u64),
+            Part::Count(thermal as u64),
+            Part::Count(flat as u64),
             Part::Tally(b" bid ", bids as u64),
-            Part::AmountOf(b"\ncost ", cost),
-            Part::Text(b"\nfeasible\n"),
+            Part::Amount(cost),
         ],
     )
 }

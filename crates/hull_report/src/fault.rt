@@ -1,13 +1,11 @@
 //! The line of a fault.
-ghost use Rattle.std.specs.Prelude.{◌≡◌, ◌++◌};
-ghost use Rattle.std.specs.List.{flat_map};
+ghost use Rattle.std.specs.Prelude.{◌≡◌};
 ghost use Rattle.hull_io.specs.Edge.{Writes};
-ghost use Rattle.report_form.specs.Parts.{part_text};
 ghost use Rattle.hull_report.specs.Words.{kind_word, file_word, file_status, report_number};
 ghost use Rattle.hull_report.specs.FaultLines.{status_of, words_told, read_told, text_told};
 ghost use Rattle.hull_report.specs.FaultLines.{field_told, shape_told, rule_told, too_big_told};
 ghost use Rattle.hull_report.specs.FaultLines.{work_told, report_told, status_told, fault_told};
-ghost use Rattle.hull_report.specs.FaultLines.{price_told, share_told, entry_told, unit_told, fault_line};
+ghost use Rattle.hull_report.specs.FaultLines.{price_told, share_told, entry_told, fault_line};
 ghost use Rattle.hull_report.specs.declared.fault.TopFault.TheVariants.{Memory};
 
 use hull_io::{Sink, WriteFailed, write_whole};
@@ -15,7 +13,7 @@ use hull_words::WordFault;
 use mixture_bound::EntryFault;
 use plan_check::RuleFault;
 use report_form::laws::texts_add_up;
-use report_form::{Part, write_parts};
+use report_form::{Part, write_form};
 use std::alloc::AllocError;
 use uc_field::fault::FieldFault;
 use uc_mixture::fault::ShareFault;
@@ -170,12 +168,10 @@ fn write_words_fault<S: Sink>(fault: &WordFault, out: &mut S) -> Result<(), Writ
     ensures { Writes S.held S.faults S.last out.old out.new result (words_told fault.now) }
 {
     let code = fault.code.number();
-    write_parts(
+    write_form(
         out,
-        &[
-            Part::CountOf(b"words ", code as u64),
-            Part::CountOf(b" ", fault.position as u64),
-        ],
+        b"words % %",
+        &[Part::Count(code as u64), Part::Count(fault.position as u64)],
     )
 }
 
@@ -184,7 +180,7 @@ fn write_read_fault<S: Sink>(file: FileKind, out: &mut S) -> Result<(), WriteFai
     ensures { Writes S.held S.faults S.last out.old out.new result (read_told file) }
 {
     let word = file_text(file);
-    write_parts(out, &[Part::Text(b"read "), Part::Text(word)])
+    write_form(out, b"read %", &[Part::Text(word)])
 }
 
 #[tactic(auto, unfolding(crate::specs::FaultLines::text_told))]
@@ -197,46 +193,15 @@ fn write_text_fault<S: Sink>(
 {
     let word = file_text(file);
     let code = fault.code.number();
-    write_parts(
+    write_form(
         out,
+        b"% % at %",
         &[
             Part::Text(word),
-            Part::CountOf(b" ", code as u64),
-            Part::CountOf(b" at ", fault.offset as u64),
+            Part::Count(code as u64),
+            Part::Count(fault.offset as u64),
         ],
     )
-}
-
-#[tactic(auto, unfolding(crate::specs::FaultLines::unit_told))]
-fn write_unit<S: Sink>(kind: Kind, unit: u32, out: &mut S) -> Result<(), WriteFailed>
-    ensures { Writes S.held S.faults S.last out.old out.new result (unit_told kind unit) }
-{
-    let kind = kind_text(kind);
-    write_parts(
-        out,
-        &[
-            Part::Text(b" kind "),
-            Part::Text(kind),
-            Part::CountOf(b" unit ", unit as u64),
-        ],
-    )
-}
-
-// What a line tells before the kind and the unit of a fault, these two, and what it tells behind.
-fn write_at_unit<S: Sink>(
-    before: &[Part<'_>],
-    kind: Kind,
-    unit: u32,
-    behind: &[Part<'_>],
-    out: &mut S,
-) -> Result<(), WriteFailed>
-    ensures { Writes S.held S.faults S.last out.old out.new result
-        (flat_map part_text before.now ++ unit_told kind unit ++ flat_map part_text behind.now) }
-{
-    texts_add_up::<S>();
-    write_parts(out, before)?;
-    write_unit(kind, unit, out)?;
-    write_parts(out, behind)
 }
 
 #[tactic(auto, unfolding(crate::specs::FaultLines::field_told))]
@@ -245,13 +210,18 @@ fn write_field_fault<S: Sink>(fault: &FieldFault, out: &mut S) -> Result<(), Wri
 {
     let code = fault.code.number();
     let key = fault.field.key().as_bytes();
-    let before = [
-        Part::CountOf(b"case ", code as u64),
-        Part::Text(b" field "),
-        Part::Text(key),
-    ];
-    let behind = [Part::CountOf(b" item ", fault.item as u64)];
-    write_at_unit(&before, fault.kind, fault.unit, &behind, out)
+    let kind = kind_text(fault.kind);
+    write_form(
+        out,
+        b"case % field % kind % unit % item %",
+        &[
+            Part::Count(code as u64),
+            Part::Text(key),
+            Part::Text(kind),
+            Part::Count(fault.unit as u64),
+            Part::Count(fault.item as u64),
+        ],
+    )
 }
 
 #[tactic(auto, unfolding(crate::specs::FaultLines::shape_told))]
@@ -259,9 +229,17 @@ fn write_shape_fault<S: Sink>(fault: &ShapeFault, out: &mut S) -> Result<(), Wri
     ensures { Writes S.held S.faults S.last out.old out.new result (shape_told fault.now) }
 {
     let code = fault.code.number();
-    let before = [Part::CountOf(b"schedule ", code as u64)];
-    let behind = [Part::CountOf(b" item ", fault.item as u64)];
-    write_at_unit(&before, fault.kind, fault.unit, &behind, out)
+    let kind = kind_text(fault.kind);
+    write_form(
+        out,
+        b"schedule % kind % unit % item %",
+        &[
+            Part::Count(code as u64),
+            Part::Text(kind),
+            Part::Count(fault.unit as u64),
+            Part::Count(fault.item as u64),
+        ],
+    )
 }
 
 #[tactic(auto, unfolding(crate::specs::FaultLines::rule_told))]
@@ -269,13 +247,19 @@ fn write_rule_fault<S: Sink>(fault: &RuleFault, out: &mut S) -> Result<(), Write
     ensures { Writes S.held S.faults S.last out.old out.new result (rule_told fault.now) }
 {
     let code = fault.code.number();
-    let before = [Part::CountOf(b"schedule ", code as u64)];
-    let behind = [
-        Part::CountOf(b" period ", fault.period as u64),
-        Part::AmountOf(b" left ", fault.left),
-        Part::AmountOf(b" right ", fault.right),
-    ];
-    write_at_unit(&before, fault.kind, fault.unit, &behind, out)
+    let kind = kind_text(fault.kind);
+    write_form(
+        out,
+        b"schedule % kind % unit % period % left % right %",
+        &[
+            Part::Count(code as u64),
+            Part::Text(kind),
+            Part::Count(fault.unit as u64),
+            Part::Count(fault.period as u64),
+            Part::Amount(fault.left),
+            Part::Amount(fault.right),
+        ],
+    )
 }
 
 #[tactic(auto, unfolding(crate::specs::FaultLines::too_big_told))]
@@ -283,7 +267,7 @@ fn write_too_big_fault<S: Sink>(file: FileKind, out: &mut S) -> Result<(), Write
     ensures { Writes S.held S.faults S.last out.old out.new result (too_big_told file) }
 {
     let word = file_text(file);
-    write_parts(out, &[Part::Text(word), Part::Text(b" 32")])
+    write_form(out, b"% 32", &[Part::Text(word)])
 }
 
 #[tactic(auto, unfolding(crate::specs::FaultLines::work_told))]
@@ -296,12 +280,13 @@ fn write_work_fault<S: Sink>(
     ensures { Writes S.held S.faults S.last out.old out.new result
         (work_told proposals units periods) }
 {
-    write_parts(
+    write_form(
         out,
+        b"work % % %",
         &[
-            Part::CountOf(b"work ", proposals as u64),
-            Part::CountOf(b" ", units as u64),
-            Part::CountOf(b" ", periods as u64),
+            Part::Count(proposals as u64),
+            Part::Count(units as u64),
+            Part::Count(periods as u64),
         ],
     )
 }
@@ -311,12 +296,10 @@ fn write_report_fault<S: Sink>(code: ReportCode, line: u32, out: &mut S) -> Resu
     ensures { Writes S.held S.faults S.last out.old out.new result (report_told code line) }
 {
     let code = code.number();
-    write_parts(
+    write_form(
         out,
-        &[
-            Part::CountOf(b"report ", code as u64),
-            Part::CountOf(b" at ", line as u64),
-        ],
+        b"report % at %",
+        &[Part::Count(code as u64), Part::Count(line as u64)],
     )
 }
 
@@ -326,13 +309,13 @@ fn write_price_fault<S: Sink>(fault: &PriceFault, out: &mut S) -> Result<(), Wri
 {
     let code = fault.code.number();
     let key = fault.field.key().as_bytes();
-    write_parts(
+    write_form(
         out,
+        b"prices % field % item %",
         &[
-            Part::CountOf(b"prices ", code as u64),
-            Part::Text(b" field "),
+            Part::Count(code as u64),
             Part::Text(key),
-            Part::CountOf(b" item ", fault.item as u64),
+            Part::Count(fault.item as u64),
         ],
     )
 }
@@ -342,12 +325,18 @@ fn write_share_fault<S: Sink>(fault: &ShareFault, out: &mut S) -> Result<(), Wri
     ensures { Writes S.held S.faults S.last out.old out.new result (share_told fault.now) }
 {
     let code = fault.code.number();
-    let before = [Part::CountOf(b"mixture ", code as u64)];
-    let behind = [
-        Part::CountOf(b" entry ", fault.entry as u64),
-        Part::CountOf(b" item ", fault.item as u64),
-    ];
-    write_at_unit(&before, fault.kind, fault.unit, &behind, out)
+    let kind = kind_text(fault.kind);
+    write_form(
+        out,
+        b"mixture % kind % unit % entry % item %",
+        &[
+            Part::Count(code as u64),
+            Part::Text(kind),
+            Part::Count(fault.unit as u64),
+            Part::Count(fault.entry as u64),
+            Part::Count(fault.item as u64),
+        ],
+    )
 }
 
 #[tactic(auto, unfolding(crate::specs::FaultLines::entry_told))]
@@ -356,14 +345,20 @@ fn write_entry_fault<S: Sink>(fault: &EntryFault, out: &mut S) -> Result<(), Wri
 {
     let rule = &fault.fault;
     let code = rule.code.number();
-    let before = [Part::CountOf(b"mixture ", code as u64)];
-    let behind = [
-        Part::CountOf(b" entry ", fault.entry),
-        Part::CountOf(b" period ", rule.period as u64),
-        Part::AmountOf(b" left ", rule.left),
-        Part::AmountOf(b" right ", rule.right),
-    ];
-    write_at_unit(&before, rule.kind, rule.unit, &behind, out)
+    let kind = kind_text(rule.kind);
+    write_form(
+        out,
+        b"mixture % kind % unit % entry % period % left % right %",
+        &[
+            Part::Count(code as u64),
+            Part::Text(kind),
+            Part::Count(rule.unit as u64),
+            Part::Count(fault.entry),
+            Part::Count(rule.period as u64),
+            Part::Amount(rule.left),
+            Part::Amount(rule.right),
+        ],
+    )
 }
 
 /// Writes what the line of a fault tells behind its status.
@@ -398,13 +393,7 @@ fn write_told<S: Sink>(fault: &TopFault, out: &mut S) -> Result<(), WriteFailed>
 fn write_status<S: Sink>(status: u8, out: &mut S) -> Result<(), WriteFailed>
     ensures { Writes S.held S.faults S.last out.old out.new result (status_told status) }
 {
-    write_parts(
-        out,
-        &[
-            Part::CountOf(b"fault ", status as u64),
-            Part::Text(b" "),
-        ],
-    )
+    write_form(out, b"fault % ", &[Part::Count(status as u64)])
 }
 
 /// Writes the line of a fault. Refused only where the sink's count of faults rose, and then the

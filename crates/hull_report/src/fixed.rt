@@ -9,7 +9,7 @@ ghost use Rattle.hull_report.specs.FixedText.{paid_start, all_paid_text, sums_te
 
 use hull_io::{Sink, WriteFailed};
 use report_form::laws::texts_add_up;
-use report_form::{Part, write_parts};
+use report_form::{Part, write_form};
 use right_report::Side;
 use uc_model::cases::{Case, UnitRef};
 
@@ -22,24 +22,21 @@ fn write_sides<'a, S: Sink>(hull: &'a Side, fixed: &'a Side, out: &mut S) -> Res
     let hull_reserve = hull.prices.reserve.as_slice();
     let fixed_energy = fixed.prices.energy.as_slice();
     let fixed_reserve = fixed.prices.reserve.as_slice();
-    write_parts(
+    write_form(
         out,
+        b"hull-fixed 1\nhull proposals % chosen % value %\nfixed proposals % chosen % value %\n\
+          hull energy%\nhull reserve%\nfixed energy%\nfixed reserve%\n",
         &[
-            Part::CountOf(b"hull-fixed 1\nhull proposals ", hull.proposals as u64),
-            Part::CountOf(b" chosen ", hull.chosen as u64),
-            Part::AmountOf(b" value ", hull.value),
-            Part::CountOf(b"\nfixed proposals ", fixed.proposals as u64),
-            Part::CountOf(b" chosen ", fixed.chosen as u64),
-            Part::AmountOf(b" value ", fixed.value),
-            Part::Text(b"\nhull energy"),
+            Part::Count(hull.proposals as u64),
+            Part::Count(hull.chosen as u64),
+            Part::Amount(hull.value),
+            Part::Count(fixed.proposals as u64),
+            Part::Count(fixed.chosen as u64),
+            Part::Amount(fixed.value),
             Part::Numbers(hull_energy),
-            Part::Text(b"\nhull reserve"),
             Part::Numbers(hull_reserve),
-            Part::Text(b"\nfixed energy"),
             Part::Numbers(fixed_energy),
-            Part::Text(b"\nfixed reserve"),
             Part::Numbers(fixed_reserve),
-            Part::Text(b"\n"),
         ],
     )
 }
@@ -92,16 +89,14 @@ fn write_paid<'a, S: Sink>(
     })) }
 {
     let bytes = name.as_bytes();
-    let hull = i128::from(paid.hull);
-    let fixed = i128::from(paid.fixed);
-    write_parts(
+    write_form(
         out,
+        b"%% hull % fixed %\n",
         &[
             Part::Text(kind),
             Part::Name(bytes),
-            Part::AmountOf(b" hull ", hull),
-            Part::AmountOf(b" fixed ", fixed),
-            Part::Text(b"\n"),
+            Part::Amount(paid.hull as i128),
+            Part::Amount(paid.fixed as i128),
         ],
     )
 }
@@ -139,15 +134,15 @@ fn write_sums<S: Sink>(
 {
     let hull = &hull.settlement;
     let fixed = &fixed.settlement;
-    write_parts(
+    write_form(
         out,
+        b"payments hull % fixed %\nsurplus hull % fixed %\ncost %\nend\n",
         &[
-            Part::AmountOf(b"payments hull ", hull.total),
-            Part::AmountOf(b" fixed ", fixed.total),
-            Part::AmountOf(b"\nsurplus hull ", hull.surplus),
-            Part::AmountOf(b" fixed ", fixed.surplus),
-            Part::AmountOf(b"\ncost ", cost),
-            Part::Text(b"\nend\n"),
+            Part::Amount(hull.total),
+            Part::Amount(fixed.total),
+            Part::Amount(hull.surplus),
+            Part::Amount(fixed.surplus),
+            Part::Amount(cost),
         ],
     )
 }

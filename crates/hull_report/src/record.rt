@@ -19,7 +19,7 @@ use report_form::laws::texts_add_up;
 use report_form::report::{
     Head, Owed, write_chosen, write_foot, write_head, write_rows, write_unit,
 };
-use report_form::{Part, write_parts};
+use report_form::{Part, write_form};
 use right_report::{Choice, choice_of};
 use uc_model::units::Answered;
 use uplift_settle::Settlement;
@@ -166,21 +166,22 @@ pub fn write_try<S: Sink>(
     let flat = case.flat.len();
     let cost = closed.cost();
     let choice = choice_of(closed);
-    write_parts(
+    write_form(
         out,
+        b"hull-try 1\nnumber %\nperiods % thermal % renewable %\nproposals %\nchosen % value %\n\
+          cost %\npayments %\nsurplus %\ngap %\n",
         &[
-            Part::CountOf(b"hull-try 1\nnumber ", number),
-            Part::CountOf(b"\nperiods ", case.periods as u64),
-            Part::CountOf(b" thermal ", thermal as u64),
-            Part::CountOf(b" renewable ", flat as u64),
-            Part::CountOf(b"\nproposals ", choice.proposals as u64),
-            Part::CountOf(b"\nchosen ", choice.chosen as u64),
-            Part::AmountOf(b" value ", choice.value),
-            Part::AmountOf(b"\ncost ", cost),
-            Part::AmountOf(b"\npayments ", settlement.total),
-            Part::AmountOf(b"\nsurplus ", settlement.surplus),
-            Part::AmountOf(b"\ngap ", choice.gap),
-            Part::Text(b"\n"),
+            Part::Count(number),
+            Part::Count(case.periods as u64),
+            Part::Count(thermal as u64),
+            Part::Count(flat as u64),
+            Part::Count(choice.proposals as u64),
+            Part::Count(choice.chosen as u64),
+            Part::Amount(choice.value),
+            Part::Amount(cost),
+            Part::Amount(settlement.total),
+            Part::Amount(settlement.surplus),
+            Part::Amount(choice.gap),
         ],
     )
 }

@@ -15,6 +15,7 @@ unfoldable pub use Rattle.report_form.specs.Numerals.{numeral}
 pub use Rattle.report_form.specs.Parts.{hex_of, stands_as_is, spaced_flags, flag_text, spaced_counts, spaced, tally}
 pub use Rattle.report_form.specs.Parts.{part_text}
 unfoldable pub use Rattle.report_form.specs.Parts.{escaped}
+pub use Rattle.report_form.specs.Forms.{is_gap, filled}
 pub use Rattle.report_form.specs.Pending.{Pends, Adds}
 pub use Rattle.report_form.specs.ReportText.{UnitLine, rows_text, renewable_text, bid_text, Report}
 pub use Rattle.report_form.specs.SettlementText.{SettlementReport, TextDeterminesSettlement}

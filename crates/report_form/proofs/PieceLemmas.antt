@@ -1,8 +1,8 @@
 -- Texts that are written in pieces.
-use Rattle.report_form.proofs.Common.{◌≡◌, ℕ, ◌+◌, ◌<◌, ◌≤◌, List, [], ◌++◌, length, take, drop, get_or, Option, Result}
-use Rattle.report_form.proofs.Common.{Ok, Err, IsErr, refl, sym, ap, subst, ◌∙◌, append_assoc, append-nil, take_all}
+use Rattle.report_form.proofs.Common.{◌≡◌, ℕ, ◌+◌, ◌<◌, List, [], ◌++◌, length, take, drop, get_or, Option, Result}
+use Rattle.report_form.proofs.Common.{Ok, Err, IsErr, refl, sym, ap, subst, ◌∙◌, append_assoc, append-nil}
 use Rattle.report_form.proofs.Common.{flat_map, flat_map_at, flat_map_up_to, Gains, FallsShort, Writes, Pends, Adds}
-use Rattle.report_form.proofs.GrownLemmas.{gains_nothing, gains_then, short_then, short_more, writes_then, writes_exit}
+use Rattle.report_form.proofs.GrownLemmas.{gains_nothing, gains_then, short_then, short_more}
 
 -- the more behind a text that is a front and what waits
 joined : (text more front waiting : List ℕ) → text ≡ front ++ waiting → text ++ more ≡ front ++ (waiting ++ more)
@@ -135,23 +135,6 @@ module _ {S : Type 0} {held : S → Option (List ℕ)} {faults : S → ℕ} wher
   adds_exit_in_list f xs i d before waiting later (Ok u) e h q p = cc
   adds_exit_in_list f xs i d before waiting later (Err b) e h q p =
       record { ok = tt; err = short_in_list f xs i d before waiting h q p }
-
-  -- the same where nothing waited before, and what waits in the end is written
-  pub writes_exit_in_list : {X E : Type 0} {last : Option ℕ} {old mid new : S} (f : X → List ℕ) (xs : List X) (i : ℕ)
-      (d : X) (waiting : List ℕ) (r : Result (Unit {0}) E) → IsErr r → i < length xs
-      → FallsShort held faults last mid new (waiting ++ f (get_or xs i d)) →
-      Pends held faults old mid waiting (flat_map f (take i xs)) → Writes held faults last old new r (flat_map f xs)
-  writes_exit_in_list f xs i d waiting r e h q p =
-      writes_exit (flat_map f xs) r e (short_in_list f xs i d [] waiting h q p)
-
-  -- behind a loop that adds them, what waits is written last
-  pub writes_end : {X E : Type 0} {last : Option ℕ} {old mid new : S} (f : X → List ℕ) (xs : List X) (i : ℕ) →
-      length xs ≤ i → (waiting : List ℕ) (r : Result (Unit {0}) E)
-      → Writes held faults last mid new r waiting → Pends held faults old mid waiting (flat_map f (take i xs)) →
-      Writes held faults last old new r (flat_map f xs)
-  writes_end {last = last} {old = old} {new = new} f xs i past waiting r q p =
-      subst (Writes held faults last old new r) (sym p.joins ∙ ap (flat_map f) (take_all i xs past))
-      (writes_then p.front waiting r q p.gained)
 
 -- for a call that adds bytes to a piece
 pub ruleset bytes_added = (pends_all, pends_rest, adds_whole)

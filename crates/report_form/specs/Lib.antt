@@ -1,5 +1,6 @@
 pub mod Numerals
 pub mod Parts
+pub mod Forms
 pub mod ReportText
 pub mod Pending
 pub mod Laws

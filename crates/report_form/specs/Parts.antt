@@ -4,9 +4,8 @@ use Rattle.std.specs.Prelude.{false, not, List, [], ◌∷◌, ◌++◌, if◌th
 use Rattle.std.specs.List.{flat_map}
 use Rattle.report_form.specs.Numerals.{numeral, signed_numeral}
 use Rattle.report_form.specs.declared.parts.Part.{Part}
-use Rattle.report_form.specs.declared.parts.Part.TheVariants.{Text, Count, Amount, CountOf, AmountOf}
-use Rattle.report_form.specs.declared.parts.Part.TheVariants.{Counts, Numbers, Amounts, Flags}
-use Rattle.report_form.specs.declared.parts.Part.TheVariants.{Tally, Name}
+use Rattle.report_form.specs.declared.parts.Part.TheVariants.{Text, Count, Amount, Counts, Numbers}
+use Rattle.report_form.specs.declared.parts.Part.TheVariants.{Amounts, Flags, Tally, Name}
 
 -- each number behind a space
 abbrev pub spaced : List ℤ → List ℕ
@@ -55,8 +54,6 @@ abbrev pub part_text : Part → List ℕ
 part_text (Text piece) = piece.now
 part_text (Count n) = numeral n
 part_text (Amount x) = signed_numeral x
-part_text (CountOf word n) = word.now ++ numeral n
-part_text (AmountOf word x) = word.now ++ signed_numeral x
 part_text (Counts ns) = spaced_counts ns.now
 part_text (Numbers xs) = spaced xs.now
 part_text (Amounts xs) = spaced xs.now

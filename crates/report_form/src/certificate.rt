@@ -2,7 +2,8 @@
 ghost use Rattle.hull_io.specs.Edge.{Writes};
 ghost use Rattle.report_form.specs.CertificateText.{certificate_in, certificate_text};
 
-use crate::parts::{Part, write_parts};
+use crate::form::write_form;
+use crate::parts::Part;
 use hull_io::{Sink, WriteFailed};
 
 /// What the text tells: the number of periods and of units with bids; in money the cost of the
@@ -46,21 +47,22 @@ pub fn write_certificate_lines<S: Sink>(
     ensures { Writes S.held S.faults S.last out.old out.new result
         (certificate_text (certificate_in lines.now)) }
 {
-    write_parts(
+    write_form(
         out,
+        b"hull-certificate 1\nperiods %\nunits %\ncost %\nvalue %\nsurplus %\npayments %\n\
+          gap %\nradius %\nbound %\ndistance %\nleast %\nend\n",
         &[
-            Part::CountOf(b"hull-certificate 1\nperiods ", lines.periods as u64),
-            Part::CountOf(b"\nunits ", lines.units as u64),
-            Part::AmountOf(b"\ncost ", lines.cost),
-            Part::AmountOf(b"\nvalue ", lines.value),
-            Part::AmountOf(b"\nsurplus ", lines.surplus),
-            Part::AmountOf(b"\npayments ", lines.payments),
-            Part::AmountOf(b"\ngap ", lines.gap),
-            Part::CountOf(b"\nradius ", lines.radius),
-            Part::AmountOf(b"\nbound ", lines.bound),
-            Part::AmountOf(b"\ndistance ", lines.distance),
-            Part::AmountOf(b"\nleast ", lines.least),
-            Part::Text(b"\nend\n"),
+            Part::Count(lines.periods as u64),
+            Part::Count(lines.units as u64),
+            Part::Amount(lines.cost),
+            Part::Amount(lines.value),
+            Part::Amount(lines.surplus),
+            Part::Amount(lines.payments),
+            Part::Amount(lines.gap),
+            Part::Count(lines.radius),
+            Part::Amount(lines.bound),
+            Part::Amount(lines.distance),
+            Part::Amount(lines.least),
         ],
     )
 }

@@ -2,10 +2,12 @@
 #![tactic(auto)]
 
 pub mod certificate;
+pub mod form;
 pub mod laws;
 pub mod parts;
 mod pieces;
 pub mod report;
 pub mod settlement;
 
-pub use parts::{Part, write_parts};
+pub use form::write_form;
+pub use parts::Part;

@@ -1,14 +1,13 @@
-//! A text, part by part.
+//! The parts that fill the gaps of a text.
 ghost use Rattle.std.specs.Prelude.{◌≡◌, ◌<◌, ◌++◌};
 ghost use Rattle.std.specs.List.{flat_map, list_all};
-ghost use Rattle.hull_io.specs.Edge.{Writes};
 ghost use Rattle.report_form.specs.Parts.{part_text, hex_of, stands_as_is, escaped, quoted, tally};
 ghost use Rattle.report_form.specs.Pending.{Adds};
 
 use crate::pieces::{
     Piece, add_amounts, add_bytes, add_counts, add_flags, add_number, add_numbers, add_worded,
 };
-use hull_io::{Sink, WriteFailed, write_whole};
+use hull_io::{Sink, WriteFailed};
 
 /// A part of a text.
 #[derive(Clone, Copy)]
@@ -19,10 +18,6 @@ pub enum Part<'a> {
     Count(u64),
     /// A number in decimal digits, with `-` before a negative one.
     Amount(i128),
-    /// A word and a number in decimal digits.
-    CountOf(&'a [u8], u64),
-    /// A word and a number in decimal digits, with `-` before a negative one.
-    AmountOf(&'a [u8], i128),
     /// Numbers, each behind a space.
     Counts(&'a [u32]),
     /// Numbers, each behind a space.
@@ -133,7 +128,8 @@ fn add_name<S: Sink>(out: &mut S, piece: &mut Piece, name: &[u8]) -> Result<(), 
     add_bytes(out, piece, b"\"")
 }
 
-fn add_part<S: Sink>(out: &mut S, piece: &mut Piece, part: &Part<'_>) -> Result<(), WriteFailed>
+/// Adds a part.
+pub fn add_part<S: Sink>(out: &mut S, piece: &mut Piece, part: &Part<'_>) -> Result<(), WriteFailed>
     ensures { Adds S.held S.faults S.last out.old out.new result piece.old piece.new
         (part_text part.now) }
 {
@@ -141,8 +137,6 @@ fn add_part<S: Sink>(out: &mut S, piece: &mut Piece, part: &Part<'_>) -> Result<
         Part::Text(bytes) => add_bytes(out, piece, bytes),
         Part::Count(n) => add_number(out, piece, n),
         Part::Amount(x) => add_number(out, piece, x),
-        Part::CountOf(word, n) => add_worded(out, piece, word, n),
-        Part::AmountOf(word, x) => add_worded(out, piece, word, x),
         Part::Counts(ns) => add_counts(out, piece, ns),
         Part::Numbers(xs) => add_numbers(out, piece, xs),
         Part::Amounts(xs) => add_amounts(out, piece, xs),
@@ -150,16 +144,4 @@ fn add_part<S: Sink>(out: &mut S, piece: &mut Piece, part: &Part<'_>) -> Result<
         Part::Tally(word, n) => add_tally(out, piece, word, n),
         Part::Name(name) => add_name(out, piece, name),
     }
-}
-
-/// Writes the parts, one after another, in pieces of some KiB. The last piece is written here and
-/// not kept for the parts of a later call: it would keep back its failure too.
-pub fn write_parts<S: Sink>(out: &mut S, parts: &[Part<'_>]) -> Result<(), WriteFailed>
-    ensures { Writes S.held S.faults S.last out.old out.new result (flat_map part_text parts.now) }
-{
-    let mut piece = Piece::new();
-    for part in parts {
-        add_part(out, &mut piece, part)?;
-    }
-    write_whole(out, piece.as_slice())
 }

@@ -8,7 +8,8 @@ ghost use Rattle.report_form.specs.ReportText.{head_text, row_text, rows_text, c
 ghost use Rattle.report_form.specs.ReportText.{thermal_text, flat_text, unit_text, owed_line};
 ghost use Rattle.report_form.specs.ReportText.{foot_text};
 
-use crate::parts::{Part, write_parts};
+use crate::form::write_form;
+use crate::parts::Part;
 use hull_io::{Sink, WriteFailed};
 use uc_model::cases::{NamedRef, Row, UnitRef};
 use uc_model::units::Response;
@@ -49,16 +50,16 @@ pub fn write_head<S: Sink>(head: &Head, out: &mut S) -> Result<(), WriteFailed>
         (head_text head.now.periods head.now.units head.now.budget head.now.ahead head.now.cost
         head.now.proposals) }
 {
-    write_parts(
+    write_form(
         out,
+        b"hull-report 1\nperiods %\nunits %\nbudget %\nahead %\ncost %\nproposals %\n",
         &[
-            Part::CountOf(b"hull-report 1\nperiods ", head.periods as u64),
-            Part::CountOf(b"\nunits ", head.units as u64),
-            Part::CountOf(b"\nbudget ", head.budget as u64),
-            Part::CountOf(b"\nahead ", head.ahead as u64),
-            Part::AmountOf(b"\ncost ", head.cost),
-            Part::CountOf(b"\nproposals ", head.proposals as u64),
-            Part::Text(b"\n"),
+            Part::Count(head.periods as u64),
+            Part::Count(head.units as u64),
+            Part::Count(head.budget as u64),
+            Part::Count(head.ahead as u64),
+            Part::Amount(head.cost),
+            Part::Count(head.proposals as u64),
         ],
     )
 }
@@ -73,20 +74,16 @@ pub fn write_row<S: Sink>(number: u32, row: &Row, out: &mut S) -> Result<(), Wri
     let reserve = row.prices.reserve.as_slice();
     let supplied = row.supply.as_slice();
     let reserved = row.reserve.as_slice();
-    write_parts(
+    write_form(
         out,
+        b"proposal % value %\nenergy%\nreserve%\nsupplied%\nreserved%\n",
         &[
-            Part::CountOf(b"proposal ", number as u64),
-            Part::AmountOf(b" value ", row.value),
-            Part::Text(b"\nenergy"),
+            Part::Count(number as u64),
+            Part::Amount(row.value),
             Part::Numbers(energy),
-            Part::Text(b"\nreserve"),
             Part::Numbers(reserve),
-            Part::Text(b"\nsupplied"),
             Part::Amounts(supplied),
-            Part::Text(b"\nreserved"),
             Part::Amounts(reserved),
-            Part::Text(b"\n"),
         ],
     )
 }
@@ -108,13 +105,10 @@ pub fn write_rows<S: Sink>(rows: &[Row], out: &mut S) -> Result<(), WriteFailed>
 pub fn write_chosen<S: Sink>(number: u32, value: i128, out: &mut S) -> Result<(), WriteFailed>
     ensures { Writes S.held S.faults S.last out.old out.new result (chosen_text number value) }
 {
-    write_parts(
+    write_form(
         out,
-        &[
-            Part::CountOf(b"chosen ", number as u64),
-            Part::AmountOf(b" value ", value),
-            Part::Text(b"\n"),
-        ],
+        b"chosen % value %\n",
+        &[Part::Count(number as u64), Part::Amount(value)],
     )
 }
 
@@ -133,21 +127,17 @@ fn write_thermal<'a, S: Sink>(
     let on = response.on.as_slice();
     let power = response.power.as_slice();
     let reserve = response.reserve.as_slice();
-    write_parts(
+    write_form(
         out,
+        b"unit thermal % earned % scheduled % payment %\non%\npower%\nreserve%\n",
         &[
-            Part::Text(b"unit thermal "),
             Part::Name(bytes),
-            Part::AmountOf(b" earned ", owed.earned as i128),
-            Part::AmountOf(b" scheduled ", owed.scheduled as i128),
-            Part::AmountOf(b" payment ", owed.payment as i128),
-            Part::Text(b"\non"),
+            Part::Amount(owed.earned as i128),
+            Part::Amount(owed.scheduled as i128),
+            Part::Amount(owed.payment as i128),
             Part::Flags(on),
-            Part::Text(b"\npower"),
             Part::Counts(power),
-            Part::Text(b"\nreserve"),
             Part::Counts(reserve),
-            Part::Text(b"\n"),
         ],
     )
 }
@@ -167,17 +157,16 @@ fn write_flat<'a, S: Sink>(
 {
     let bytes = name.as_bytes();
     let power = response.power.as_slice();
-    write_parts(
+    write_form(
         out,
+        b"%% earned % scheduled % payment %\npower%\n",
         &[
             Part::Text(kind),
             Part::Name(bytes),
-            Part::AmountOf(b" earned ", owed.earned as i128),
-            Part::AmountOf(b" scheduled ", owed.scheduled as i128),
-            Part::AmountOf(b" payment ", owed.payment as i128),
-            Part::Text(b"\npower"),
+            Part::Amount(owed.earned as i128),
+            Part::Amount(owed.scheduled as i128),
+            Part::Amount(owed.payment as i128),
             Part::Counts(power),
-            Part::Text(b"\n"),
         ],
     )
 }
@@ -212,13 +201,13 @@ pub fn write_foot<S: Sink>(
     ensures { Writes S.held S.faults S.last out.old out.new result
         (foot_text surplus payments gap) }
 {
-    write_parts(
+    write_form(
         out,
+        b"surplus %\npayments %\ngap %\nend\n",
         &[
-            Part::AmountOf(b"surplus ", surplus),
-            Part::AmountOf(b"\npayments ", payments),
-            Part::AmountOf(b"\ngap ", gap),
-            Part::Text(b"\nend\n"),
+            Part::Amount(surplus),
+            Part::Amount(payments),
+            Part::Amount(gap),
         ],
     )
 }

@@ -3,7 +3,8 @@ ghost use Rattle.hull_io.specs.Edge.{Writes};
 ghost use Rattle.uc_model.specs.PlainCases.{proposal_of};
 ghost use Rattle.report_form.specs.SettlementText.{priced_text};
 
-use crate::parts::{Part, write_parts};
+use crate::form::write_form;
+use crate::parts::Part;
 use hull_io::{Sink, WriteFailed};
 use uc_model::cases::Row;
 
@@ -24,22 +25,19 @@ pub fn write_priced<S: Sink>(
     let reserve = row.prices.reserve.as_slice();
     let supplied = row.supply.as_slice();
     let reserved = row.reserve.as_slice();
-    write_parts(
+    write_form(
         out,
+        b"hull-settlement 1\nperiods %\nunits %\ncost %\nvalue %\nenergy%\nreserve%\nsupplied%\n\
+          reserved%\n",
         &[
-            Part::CountOf(b"hull-settlement 1\nperiods ", periods as u64),
-            Part::CountOf(b"\nunits ", units as u64),
-            Part::AmountOf(b"\ncost ", cost),
-            Part::AmountOf(b"\nvalue ", row.value),
-            Part::Text(b"\nenergy"),
+            Part::Count(periods as u64),
+            Part::Count(units as u64),
+            Part::Amount(cost),
+            Part::Amount(row.value),
             Part::Numbers(energy),
-            Part::Text(b"\nreserve"),
             Part::Numbers(reserve),
-            Part::Text(b"\nsupplied"),
             Part::Amounts(supplied),
-            Part::Text(b"\nreserved"),
             Part::Amounts(reserved),
-            Part::Text(b"\n"),
         ],
     )
 }

@@ -8,4 +8,4 @@ returns g c =
       to_z-of_z w128 c.args.lines.now.value (search rules),
       to_z-of_z w128 c.args.lines.now.bound (search rules),
       to_z-of_z w128 c.distance-distance.result (search rules),
-    ) at c.write_parts.ensures)
+    ) at c.write_form.ensures)

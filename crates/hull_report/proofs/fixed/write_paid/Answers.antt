@@ -6,10 +6,8 @@ unfolding paid_text
 returns g c =
     rw (← c.as_bytes-bytes.ensures.value)
     (rw (
-      to_z-of_z w128 c.from-hull.result (search rules),
-      c.from-hull.ensures,
       to_z-of_z w64 c.args.paid.hull (search rules),
-      to_z-of_z w128 c.from-fixed.result (search rules),
-      c.from-fixed.ensures,
       to_z-of_z w64 c.args.paid.fixed (search rules),
-    ) at c.write_parts.ensures)
+      to_z-of_z w128 c.args.paid.hull (search rules),
+      to_z-of_z w128 c.args.paid.fixed (search rules),
+    ) at c.write_form.ensures)

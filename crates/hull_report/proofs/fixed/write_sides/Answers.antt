@@ -13,4 +13,4 @@ returns g c =
     (rw (
       to_z-of_z w128 c.args.hull.now.value (search rules),
       to_z-of_z w128 c.args.fixed.now.value (search rules),
-    ) at c.write_parts.ensures)
+    ) at c.write_form.ensures)

@@ -16,8 +16,8 @@ returns g c =
       to_z-of_z w128 c.args.settlement.now.total (search rules),
       to_z-of_z w128 c.args.settlement.now.surplus (search rules),
       to_z-of_z w128 c.choice_of-choice.result.gap (search rules),
-    ) at c.write_parts.ensures in
-    subst (Writes g.S.Sink.held g.S.Sink.faults g.S.Sink.last c.args.out.now c.write_parts.new.out c.write_parts.result)
+    ) at c.write_form.ensures in
+    subst (Writes g.S.Sink.held g.S.Sink.faults g.S.Sink.last c.args.out.now c.write_form.new.out c.write_form.result)
     ((λ i. try_lines c.args.number (periods i) (thermal i) (flat i) (e.proposals i) (e.chosen i) (e.value i)
     (c.cost-cost.ensures.cost i) c.args.settlement.now.total c.args.settlement.now.surplus (e.gap i))
     ∙ whole_try c.args.number c.args.closed.now c.args.settlement.now)

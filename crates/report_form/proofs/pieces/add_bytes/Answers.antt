@@ -1,4 +1,3 @@
-use Rattle.report_form.proofs.Common.{◌≡◌}
 use Rattle.report_form.proofs.PieceLemmas.{adds_short, adds_whole}
 use Rattle.report_form.proofs.pieces.add_bytes.Goals as goal
 

@@ -11,4 +11,4 @@ returns g c =
       ← c.as_slice-reserved.ensures,
     )
     (rw (to_z-of_z w128 c.args.cost (search rules), to_z-of_z w128 c.args.row.now.value (search rules)) at
-    c.write_parts.ensures)
+    c.write_form.ensures)

@@ -1,0 +1,76 @@
+//! A text by its form: one text with gaps, and a part for each gap.
+ghost use Rattle.std.specs.Prelude.{◌≡◌, ◌++◌};
+ghost use Rattle.std.specs.List.{position, before_first, after_first};
+ghost use Rattle.hull_io.specs.Edge.{Writes};
+ghost use Rattle.report_form.specs.Parts.{part_text};
+ghost use Rattle.report_form.specs.Forms.{is_gap, filled};
+ghost use Rattle.report_form.specs.Pending.{Adds};
+
+use crate::parts::{Part, add_part};
+use crate::pieces::{Piece, add_bytes};
+use hull_io::{Sink, WriteFailed, write_whole};
+
+// What is before the first gap of a form, and what is behind it.
+#[derive(Clone, Copy)]
+struct Cut<'a> {
+    before: &'a [u8],
+    behind: &'a [u8],
+}
+
+fn gap_of(form: &[u8]) -> Option<usize>
+    ensures { result ≡ position is_gap form.now }
+{
+    form.iter().position(|byte| *byte == b'%')
+}
+
+fn cut_at_gap(form: &[u8]) -> Cut<'_>
+    ensures before { result.before.now ≡ before_first is_gap form.now }
+    ensures behind { result.behind.now ≡ after_first is_gap form.now }
+{
+    match gap_of(form) {
+        Some(place) => Cut {
+            before: &form[..place],
+            behind: &form[place + 1..],
+        },
+        None => Cut {
+            before: form,
+            behind: &[],
+        },
+    }
+}
+
+fn add_behind<S: Sink>(
+    out: &mut S,
+    piece: &mut Piece,
+    text: &[u8],
+    part: &Part<'_>,
+) -> Result<(), WriteFailed>
+    ensures { Adds S.held S.faults S.last out.old out.new result piece.old piece.new
+        (text.now ++ part_text part.now) }
+{
+    add_bytes(out, piece, text)?;
+    add_part(out, piece, part)
+}
+
+fn write_last<S: Sink>(out: &mut S, piece: Piece, text: &[u8]) -> Result<(), WriteFailed>
+    ensures { Writes S.held S.faults S.last out.old out.new result (piece ++ text.now) }
+{
+    let mut piece = piece;
+    add_bytes(out, &mut piece, text)?;
+    write_whole(out, piece.as_slice())
+}
+
+/// Writes a form with its gaps filled, each `%` by the next part, in pieces of some KiB. Refused
+/// only where the sink's count of faults rose, and then the sink gained a front of the text.
+pub fn write_form<S: Sink>(out: &mut S, form: &[u8], parts: &[Part<'_>]) -> Result<(), WriteFailed>
+    ensures { Writes S.held S.faults S.last out.old out.new result (filled form.now parts.now) }
+{
+    let mut piece = Piece::new();
+    let mut rest = form;
+    for part in parts {
+        let cut = cut_at_gap(rest);
+        add_behind(out, &mut piece, cut.before, part)?;
+        rest = cut.behind;
+    }
+    write_last(out, piece, rest)
+}
