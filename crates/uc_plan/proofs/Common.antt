@@ -25,6 +25,7 @@ pub use Rattle.uc_plan.specs.Added.{IsShaped, HasLengths, IsFlat}
 pub use Rattle.uc_plan.specs.Plans.{Groups, Read, is_among, first_unknown, shape_site, flag_in, kilowatts_in}
 unfoldable pub use Rattle.uc_plan.specs.Plans.{
   groups,
+  groups_in,
   all_known,
   all_named,
   schedules,

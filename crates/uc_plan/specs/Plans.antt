@@ -148,13 +148,23 @@ pub record Groups : Type 0 where
   pub renewable : List Pair
   pub bids : List Pair
 
+-- those among its members, where each is there
+unfoldable pub groups_in : ℕ → List Pair → Option Groups
+groups_in count ms =
+    option_and_then (λ (thermal : List Pair). option_and_then (λ (renewable : List Pair).
+    option_map (λ (bids : List Pair). record {
+      thermal = thermal;
+      renewable = renewable;
+      bids = bids;
+    })
+    (bids_in count (value_of (codes "bids") ms)))
+    (object_under (codes "renewable") ms))
+    (object_under (codes "thermal") ms)
+
 unfoldable pub groups : ℕ → Value → Read Groups
 groups count v = do
   ms ← need (fault whole 0 PlanShape) (object_in v)
-  thermal ← need (fault whole 0 PlanShape) (object_under (codes "thermal") ms)
-  renewable ← need (fault whole 0 PlanShape) (object_under (codes "renewable") ms)
-  bids ← need (fault whole 0 PlanShape) (bids_in count (value_of (codes "bids") ms))
-  Ok (record { thermal = thermal; renewable = renewable; bids = bids })
+  need (fault whole 0 PlanShape) (groups_in count ms)
 
 -- each member of the three objects has the name of a unit of its kind
 unfoldable pub all_named : Market → Groups → Read (Unit {0})

@@ -62,14 +62,19 @@ pub struct ShapeFault {
     pub item: u32,
 }
 
+/// What a unit or bid of a kind is called, or the case.
+fn noun(kind: Kind) -> &'static str {
+    match kind {
+        Kind::Case => "case",
+        Kind::Thermal => "thermal unit",
+        Kind::Renewable => "renewable unit",
+        Kind::Bid => "bid",
+    }
+}
+
 impl fmt::Debug for ShapeFault {
     fn fmt<W: fmt::Write>(&self, f: &mut fmt::Formatter<W>) -> fmt::Result {
-        let kind = match self.kind {
-            Kind::Case => "case",
-            Kind::Thermal => "thermal unit",
-            Kind::Renewable => "renewable unit",
-            Kind::Bid => "bid",
-        };
+        let kind = noun(self.kind);
         write!(
             f,
             "{:?} at {} {}, item {}",

@@ -1,9 +1,10 @@
 //! Look-ups by name, each in a map that is made once.
-ghost use Rattle.std.specs.Prelude.{◌≡◌, ℕ, List, IfOk, map, bytes_eq, length};
+ghost use Rattle.std.specs.Prelude.{◌≡◌, ℕ, List, IfOk, OnOk, Some, None, map, bytes_eq, length};
+ghost use Rattle.std.specs.Prelude.{if◌then◌else◌};
 ghost use Rattle.std.specs.Option.{option_map};
 ghost use Rattle.indexmap.specs.IndexMap.{get_by_text};
 ghost use Rattle.indexmap.specs.IndexSet.{contains_by};
-ghost use Rattle.text_tree.specs.View.{view, member_views, members_in};
+ghost use Rattle.text_tree.specs.View.{view, member_view, member_views, members_in};
 ghost use Rattle.uc_file.specs.Inside.{value_of};
 ghost use Rattle.uc_plan.specs.Plans.{is_among, first_unknown};
 
@@ -38,19 +39,41 @@ impl Drop for Names<'_> {
     }
 }
 
-/// The members of an object by their keys. It is filled from the last member on, so that the first
-/// of equal keys stays.
+impl<'a> Values<'a> {
+    /// Puts a member in, over one with its key.
+    fn put(&mut self, alloc: Global, member: Member<'a>) -> Result<(), AllocError>
+        ensures { OnOk result ((q : List ℕ) → get_by_text self.new.by_key q
+            ≡ (if bytes_eq (member_view member.entry).name q then Some member.entry.value
+            else get_by_text self.old.by_key q)) }
+    {
+        let name = text_of(alloc, member.name)?;
+        self.by_key.insert(name, member.value)?;
+        Ok(())
+    }
+
+    /// Puts members into no values, from the last one on, so that the first of equal keys stays.
+    fn fill(&mut self, alloc: Global, members: &[Member<'a>]) -> Result<(), AllocError>
+        requires { (q : List ℕ) → get_by_text self.old.by_key q ≡ None }
+        ensures { OnOk result ((q : List ℕ)
+            → option_map view (get_by_text self.new.by_key q)
+            ≡ value_of q (member_views members.now)) }
+    {
+        for done in 0..members.len() {
+            let member = members[members.len() - 1 - done];
+            self.put(alloc, member)?;
+        }
+        Ok(())
+    }
+}
+
+/// The members of an object by their keys.
 fn by_key<'a>(alloc: Global, members: &[Member<'a>]) -> Result<Values<'a>, AllocError>
     ensures { IfOk result (λ v. (q : List ℕ)
         → option_map view (get_by_text v.by_key q) ≡ value_of q (member_views members.now)) }
 {
     let by_key = IndexMap::with_capacity(alloc, members.len())?;
     let mut values = Values { by_key };
-    for done in 0..members.len() {
-        let member = members[members.len() - 1 - done];
-        let name = text_of(alloc, member.name)?;
-        values.by_key.insert(name, member.value)?;
-    }
+    values.fill(alloc, members)?;
     Ok(values)
 }
 

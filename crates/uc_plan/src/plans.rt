@@ -147,6 +147,18 @@ fn read_all_schedules(
     read_schedules(alloc, Kind::Bid, groups.bids, bids, periods, plan)
 }
 
+/// The schedules of all units, in the order of the case.
+fn all_responses(alloc: Global, case: &Case, groups: Groups<'_>) -> Result<ResponseList, ShapeStop>
+    ensures shape { IfOk result (λ list. HasPlanShape (market_of case.now)
+        (map schedule_of list.items)) }
+    ensures value { Gives (λ list. map schedule_of list.items) result
+        (all_schedules (market_of case.now) (groups_of groups.entry)) }
+{
+    let mut responses = ResponseList::make(alloc, case.unit_count())?;
+    read_all_schedules(alloc, case, groups, &mut responses)?;
+    Ok(responses)
+}
+
 /// The plan of a tree's root, or the fault of the first test that fails.
 #[tactic(auto, unfolding(crate::specs::Plans::plan_of))]
 pub fn plan_of_tree(alloc: Global, case: &Case, root: Branch<'_>) -> Result<Plan, ShapeStop>
@@ -155,8 +167,6 @@ pub fn plan_of_tree(alloc: Global, case: &Case, root: Branch<'_>) -> Result<Plan
 {
     let groups = read_groups(alloc, root, case.bids.len())?;
     check_all_names(alloc, case, groups)?;
-    let count = case.thermal.len() + case.flat.len() + case.bids.len();
-    let mut responses = ResponseList::make(alloc, count as u32)?;
-    read_all_schedules(alloc, case, groups, &mut responses)?;
+    let responses = all_responses(alloc, case, groups)?;
     Ok(Plan { responses })
 }

@@ -4,7 +4,7 @@ ghost use Rattle.std.specs.Option.{option_map};
 ghost use Rattle.text_tree.specs.View.{view, items_in, member_views, members_in};
 ghost use Rattle.uc_file.specs.Given.{Gives};
 ghost use Rattle.uc_file.specs.Inside.{value_of};
-ghost use Rattle.uc_plan.specs.Plans.{full_list as full_list_spec, bids_in, groups};
+ghost use Rattle.uc_plan.specs.Plans.{full_list as full_list_spec, bids_in, groups_in, groups};
 ghost use Rattle.uc_plan.specs.Plans.{list_under as list_under_spec};
 ghost use Rattle.uc_plan.specs.Plans.{object_under as object_under_spec};
 ghost use Rattle.uc_plan.specs.Plans.{thermal_lists as thermal_lists_spec};
@@ -57,10 +57,13 @@ pub fn thermal_lists<'a>(members: &[Member<'a>], periods: u32) -> Option<Thermal
     ensures value { option_map lists_of result
         ≡ thermal_lists_spec periods (member_views members.now) }
 {
-    let on = list_under(members, "on", periods)?;
-    let power = list_under(members, "power", periods)?;
-    let reserve = list_under(members, "reserve", periods)?;
-    Some(ThermalLists { on, power, reserve })
+    let on = list_under(members, "on", periods);
+    let power = list_under(members, "power", periods);
+    let reserve = list_under(members, "reserve", periods);
+    match (on, power, reserve) {
+        (Some(on), Some(power), Some(reserve)) => Some(ThermalLists { on, power, reserve }),
+        _ => None,
+    }
 }
 
 /// The object under a key, where it is there and is one.
@@ -103,6 +106,24 @@ fn bids_object<'a>(members: &[Member<'a>], bids: usize) -> Option<ObjectBranch<'
     }
 }
 
+/// The objects among the members of a schedule for a case with so many bids, where each is there.
+#[tactic(auto, unfolding(crate::specs::Plans::groups_in))]
+fn groups_in<'a>(members: &[Member<'a>], bids: usize) -> Option<Groups<'a>>
+    ensures { option_map groups_of result ≡ groups_in bids (member_views members.now) }
+{
+    let thermal = object_under(members, "thermal");
+    let renewable = object_under(members, "renewable");
+    let bids = bids_object(members, bids);
+    match (thermal, renewable, bids) {
+        (Some(thermal), Some(renewable), Some(bids)) => Some(Groups {
+            thermal,
+            renewable,
+            bids,
+        }),
+        _ => None,
+    }
+}
+
 /// The objects of a schedule for a case with so many bids. `PlanShape`, at the file as a whole,
 /// where it isn't an object that has them; without bids their object may be absent.
 #[tactic(auto, unfolding(crate::specs::Plans::groups))]
@@ -121,18 +142,8 @@ pub fn read_groups<'a>(
         return Err(whole.stop(0, ShapeCode::PlanShape));
     };
     let members = object.members(alloc)?;
-    let Some(thermal) = object_under(&members, "thermal") else {
-        return Err(whole.stop(0, ShapeCode::PlanShape));
-    };
-    let Some(renewable) = object_under(&members, "renewable") else {
-        return Err(whole.stop(0, ShapeCode::PlanShape));
-    };
-    let Some(bids) = bids_object(&members, bids) else {
-        return Err(whole.stop(0, ShapeCode::PlanShape));
-    };
-    Ok(Groups {
-        thermal,
-        renewable,
-        bids,
-    })
+    match groups_in(&members, bids) {
+        Some(groups) => Ok(groups),
+        None => Err(whole.stop(0, ShapeCode::PlanShape)),
+    }
 }

@@ -1,5 +1,5 @@
 //! The schedules of units and bids.
-ghost use Rattle.std.specs.Prelude.{◌≡◌, ◌≤◌, IfOk, length};
+ghost use Rattle.std.specs.Prelude.{◌≡◌, ◌≤◌, IfOk, length, replicate, true};
 ghost use Rattle.uc_model.specs.PlainUnits.{schedule_of};
 ghost use Rattle.uc_model.specs.declared.limits.TheConstants.{MOST_PERIODS};
 ghost use Rattle.text_tree.specs.View.{view};
@@ -12,7 +12,7 @@ use crate::fault::{ShapeCode, ShapeSite, ShapeStop};
 use crate::numbers::{read_flags, read_powers};
 use crate::shapes::{ThermalLists, full_list, thermal_lists};
 use plain_lists::lists::Flags;
-use std::alloc::Global;
+use std::alloc::{AllocError, Global};
 use text_tree::Branch;
 use uc_model::kinds::Kind;
 use uc_model::units::{Powers, Response};
@@ -58,6 +58,23 @@ fn read_thermal(
     read_lists(alloc, at, lists, periods)
 }
 
+/// Powers over so many periods, on in each with reserve 0.
+fn flat_response(alloc: Global, power: Powers, periods: u32) -> Result<Response, AllocError>
+    requires { length power.items ≡ periods }
+    ensures lengths { IfOk result (λ r. HasLengths periods (schedule_of r)) }
+    ensures flat { IfOk result (λ r. IsFlat (schedule_of r)) }
+    ensures value { IfOk result (λ r. schedule_of r
+        ≡ record {
+          on = replicate periods true;
+          power = power.items;
+          reserve = replicate periods 0;
+        }) }
+{
+    let on = Flags::filled(alloc, periods, true)?;
+    let reserve = Powers::filled(alloc, periods, 0)?;
+    Ok(Response { on, power, reserve })
+}
+
 #[tactic(auto, unfolding(crate::specs::Plans::flat_schedule))]
 fn read_flat(
     alloc: Global,
@@ -74,9 +91,8 @@ fn read_flat(
         return Err(at.stop(0, ShapeCode::PlanShape));
     };
     let power = read_powers(alloc, at, list)?;
-    let on = Flags::filled(alloc, periods, true)?;
-    let reserve = Powers::filled(alloc, periods, 0)?;
-    Ok(Response { on, power, reserve })
+    let response = flat_response(alloc, power, periods)?;
+    Ok(response)
 }
 
 /// The schedule of a unit or bid over so many periods, in kilowatts. `PlanShape` where the value

@@ -13,16 +13,16 @@ returns-in_err-check_all_names-clause-value c =
     c.from_residual-in_err-check_all_names.ensures.1 in
     rw (p.1, p.2) (names_fail m v g found c.in_err-check_all_names.field-0.0 c.in_err-check_all_names.ensures)
 
-pub returns-in_err-read_all_schedules-clause-value : goal.returns-in_err-read_all_schedules-clause-value
-returns-in_err-read_all_schedules-clause-value c =
+pub returns-in_err-responses-clause-value : goal.returns-in_err-responses-clause-value
+returns-in_err-responses-clause-value c =
     let m = market_of c.args.case.now in
     let v = view c.args.root in
     let g = groups_of c.in_ok-groups.groups in
     let found = rw (c.len.ensures, ← length-map c.args.case.now.bids.items named_bid_of) at c.in_ok-groups.ensures in
-    let p = err_from_is_err_and c.from_residual-in_err-read_all_schedules.result
-    c.from_residual-in_err-read_all_schedules.ensures.1 in
+    let p = err_from_is_err_and c.from_residual-in_err-responses.result
+    c.from_residual-in_err-responses.ensures.1 in
     rw (p.1, p.2, ← schedules_last m v g found c.in_ok-check_all_names.ensures)
-    c.in_err-read_all_schedules.ensures.value
+    c.in_err-responses.ensures.value
 
 pub returns-clause-value : goal.returns-clause-value
 returns-clause-value c =
@@ -30,4 +30,4 @@ returns-clause-value c =
     let v = view c.args.root in
     let g = groups_of c.in_ok-groups.groups in
     let found = rw (c.len.ensures, ← length-map c.args.case.now.bids.items named_bid_of) at c.in_ok-groups.ensures in
-    rw (← schedules_last m v g found c.in_ok-check_all_names.ensures) c.in_ok-read_all_schedules.ensures.value
+    rw (← schedules_last m v g found c.in_ok-check_all_names.ensures) c.in_ok-responses.ensures.value
