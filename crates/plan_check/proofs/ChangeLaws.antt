@@ -1,8 +1,8 @@
 -- The last change, one period back; and the tests of the minimum times at the end of a run.
 use Rattle.plan_check.proofs.Common.{◌≡◌, ℕ, zero, suc, ◌+◌, ◌-◌, ◌<◌, Bool, true, false, cond, Some, None, refl, sym}
 use Rattle.plan_check.proofs.Common.{ap, ◌∙◌, arith, ThermalUnit, Schedule, same_flag, changed_in, min_up_broken}
-use Rattle.plan_check.proofs.Common.{min_down_broken, on_in, run_broken}
-use Rattle.plan_check.proofs.RunLaws.{same_refl, starts_from, stops_from}
+use Rattle.plan_check.proofs.Common.{min_down_broken, on_in, run_broken, starts_in, stops_in}
+use Rattle.plan_check.proofs.RunLaws.{same_refl}
 
 differs : (a b : Bool) → (a ≡ b → ⊥) → same_flag a b ≡ false
 differs true true h = absurd (h refl)
@@ -26,16 +26,22 @@ module _ (g : ThermalUnit) (s : Schedule) where
       ap (same_flag (on_in g s m)) (sym e ∙ ap (on_in g s) before) ∙ same_refl (on_in g s m) in
       ap (λ b. cond b (changed_in g s m) (Some (suc m))) same ∙ ap (changed_in g s) (sym before)
 
-  pub min_up-ends : (k : ℕ) → on_in g s k ≡ true → on_in g s (suc k) ≡ false →
+  pub min_up-ends : (k : ℕ) → stops_in g s (suc k) ≡ true →
       min_up_broken g s k ≡ run_broken (changed_in g s k) (k + 1) g.min_up
-  min_up-ends k on off =
+  min_up-ends k stops =
       let end : suc k ≡ k + 1 = omega arith in
-      ap (λ b. cond b (run_broken (changed_in g s k) (suc k) g.min_up) None) (stops_from g s k on off) ∙
+      ap (λ b. cond b (run_broken (changed_in g s k) (suc k) g.min_up) None) stops ∙
       ap (λ e. run_broken (changed_in g s k) e g.min_up) end
 
-  pub min_down-ends : (k : ℕ) → on_in g s k ≡ false → on_in g s (suc k) ≡ true →
+  pub min_up-none : (k : ℕ) → stops_in g s (suc k) ≡ false → min_up_broken g s k ≡ None
+  min_up-none k goes_on = ap (λ b. cond b (run_broken (changed_in g s k) (suc k) g.min_up) None) goes_on
+
+  pub min_down-ends : (k : ℕ) → starts_in g s (suc k) ≡ true →
       min_down_broken g s k ≡ run_broken (changed_in g s k) (k + 1) g.min_down
-  min_down-ends k off on =
+  min_down-ends k starts =
       let end : suc k ≡ k + 1 = omega arith in
-      ap (λ b. cond b (run_broken (changed_in g s k) (suc k) g.min_down) None) (starts_from g s k off on) ∙
+      ap (λ b. cond b (run_broken (changed_in g s k) (suc k) g.min_down) None) starts ∙
       ap (λ e. run_broken (changed_in g s k) e g.min_down) end
+
+  pub min_down-none : (k : ℕ) → starts_in g s (suc k) ≡ false → min_down_broken g s k ≡ None
+  min_down-none k goes_on = ap (λ b. cond b (run_broken (changed_in g s k) (suc k) g.min_down) None) goes_on

@@ -1,5 +1,6 @@
 -- The lemmas that answers cite, passed on from one place.
-pub use Rattle.plan_check.proofs.ChangeLaws.{min_up-ends, changed_here, changed_back, min_down-ends}
+pub use Rattle.plan_check.proofs.ChangeLaws.{min_up-ends, min_up-none, changed_here, changed_back, min_down-ends}
+pub use Rattle.plan_check.proofs.ChangeLaws.{min_down-none}
 pub use Rattle.plan_check.proofs.CostSums.{product_fits, worth_fits, worth_is, worth_within, bought_within, left_fits}
 pub use Rattle.plan_check.proofs.CostSums.{rest_is, rest_within, power_spans, cond_at_most}
 pub use Rattle.plan_check.proofs.FindLaws.{flat_map_on, flat_map_first, over_units_first, over_units_none}

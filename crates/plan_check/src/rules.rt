@@ -6,6 +6,7 @@ ghost use Rattle.uc_model.specs.Data.{Schedule};
 ghost use Rattle.plain_lists.specs.Ranges.{IsFrom};
 ghost use Rattle.uc_model.specs.PlainUnits.{thermal_of, schedule_of};
 ghost use Rattle.uc_model.specs.Schedules.{on_in, power_in, above_min, above_with_reserve};
+ghost use Rattle.uc_model.specs.Schedules.{starts_in, stops_in};
 ghost use Rattle.uc_model.specs.Refusals as refusals;
 ghost use Rattle.uc_model.specs.Refusals.{changed_in, or_else, must_run_broken, initial_broken};
 ghost use Rattle.uc_model.specs.Refusals.{min_up_broken, min_down_broken, range_broken};
@@ -44,6 +45,22 @@ pub fn on_in_period(unit: &Unit, response: &Response, period: usize) -> bool
         return unit.on0;
     }
     response.is_on(period - 1)
+}
+
+// Whether the unit starts in a period of the horizon, which is at a place.
+fn starts_at(unit: &Unit, response: &Response, place: usize) -> bool
+    requires { place < length (schedule_of response.now).on }
+    ensures { result ≡ starts_in (thermal_of unit.now) (schedule_of response.now) (suc place) }
+{
+    !on_in_period(unit, response, place) && response.is_on(place)
+}
+
+// Whether it stops there.
+fn stops_at(unit: &Unit, response: &Response, place: usize) -> bool
+    requires { place < length (schedule_of response.now).on }
+    ensures { result ≡ stops_in (thermal_of unit.now) (schedule_of response.now) (suc place) }
+{
+    on_in_period(unit, response, place) && !response.is_on(place)
 }
 
 // What is seen in period 0.
@@ -165,10 +182,7 @@ pub fn min_up_sides(unit: &Unit, response: &Response, place: usize) -> Option<Si
     ensures { sides_of result ≡ min_up_broken (thermal_of unit.now) (schedule_of response.now)
         place }
 {
-    if !on_in_period(unit, response, place) {
-        return None;
-    }
-    if on_in_period(unit, response, place + 1) {
+    if !stops_at(unit, response, place) {
         return None;
     }
     run_sides(change_before(unit, response, place), place + 1, unit.min_up)
@@ -181,10 +195,7 @@ pub fn min_down_sides(unit: &Unit, response: &Response, place: usize) -> Option<
     ensures { sides_of result ≡ min_down_broken (thermal_of unit.now) (schedule_of response.now)
         place }
 {
-    if on_in_period(unit, response, place) {
-        return None;
-    }
-    if !on_in_period(unit, response, place + 1) {
+    if !starts_at(unit, response, place) {
         return None;
     }
     run_sides(

@@ -1,15 +1,16 @@
-use Rattle.plan_check.proofs.Common.{rules, ◌≡◌, suc, ◌+◌, true, false, sym, ap, ◌∙◌, arith, thermal_of, schedule_of}
-use Rattle.plan_check.proofs.Common.{on_in, run_broken}
-use Rattle.plan_check.proofs.Lemmas.{min_up-ends}
+use Rattle.plan_check.proofs.Common.{◌+◌, sym, ap, ◌∙◌, thermal_of, schedule_of, run_broken}
+use Rattle.plan_check.proofs.Lemmas.{min_up-ends, min_up-none}
 use Rattle.plan_check.proofs.rules.min_up_sides.Goals as goal
+
+pub returns-then-not-stops_at : goal.returns-then-not-stops_at
+returns-then-not-stops_at c =
+    let g = thermal_of c.args.unit.now in
+    let s = schedule_of c.args.response.now in
+    sym (min_up-none g s c.args.place (sym c.if-not-stops_at.ensures))
 
 pub returns : goal.returns
 returns c =
     let g = thermal_of c.args.unit.now in
     let s = schedule_of c.args.response.now in
-    let now : on_in (thermal_of c.args.unit.now) (schedule_of c.args.response.now) c.args.place ≡ true = search rules in
-    let next : on_in (thermal_of c.args.unit.now) (schedule_of c.args.response.now) (c.args.place + 1) ≡ false =
-    search rules in
-    let place : suc c.args.place ≡ c.args.place + 1 = omega arith in
     c.run_sides.ensures ∙ ap (λ o. run_broken o (c.args.place + 1) g.min_up) c.change_before.ensures ∙
-    sym (min_up-ends g s c.args.place now (ap (on_in g s) place ∙ next))
+    sym (min_up-ends g s c.args.place (sym c.if-not-stops_at.ensures))
