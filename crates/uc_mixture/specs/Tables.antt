@@ -2,7 +2,7 @@
 -- that fails (this project's profile). Keys that the table doesn't name are skipped.
 use Rattle.std.specs.Prelude.{ℕ, ℤ, pos, not, ◌==◌, nat_lt, int_lt, unsigned_abs, List, []}
 use Rattle.std.specs.Prelude.{map, length, codes, if◌then◌else◌, Option, Some, None, Result, Ok}
-use Rattle.std.specs.Option.{option_and_then}
+use Rattle.std.specs.Option.{option_and_then, option_zip}
 use Rattle.std.specs.Ordering.{int_eq}
 use Rattle.mixture_bound.specs.Mixtures.{WeighedSchedule, MixtureLists, most_whole}
 use Rattle.plain_lists.specs.Sums.{total}
@@ -14,7 +14,7 @@ use Rattle.uc_model.specs.Data.{Market, thermal_names}
 use Rattle.uc_model.specs.declared.kinds.Kind.TheVariants.{Thermal}
 use Rattle.uc_num.specs.Rounding.{rounded}
 use Rattle.uc_num.specs.declared.Decimal.{Decimal}
-use Rattle.uc_plan.specs.Plans.{thermal_lists, listed_schedule, all_known, object_under}
+use Rattle.uc_plan.specs.Plans.{ThermalLists, thermal_lists, listed_schedule, all_known, object_under}
 use Rattle.uc_plan.specs.declared.fault.ShapeCode.TheVariants.{MissingUnit, PlanShape}
 use Rattle.uc_mixture.specs.Faults.{site_of_file, site_of_unit, entry_at, shape_site_of, fault, within}
 use Rattle.uc_mixture.specs.declared.fault.ShareCode.TheVariants.{Shape, Weight}
@@ -44,15 +44,23 @@ weight_sum entries = total (map (λ (e : WeighedSchedule). e.weight) entries)
 
 -- ---- entries
 
--- an entry: its shape comes first, then its weight, and then the items of its lists
-unfoldable pub entry : Frame → ShareSite → Value → Read WeighedSchedule
-entry frame at v = do
-  ms ← need (fault at (Shape PlanShape)) (object_in v)
-  heavy ← need (fault at (Shape PlanShape)) (value_of (codes "weight") ms)
-  lists ← need (fault at (Shape PlanShape)) (thermal_lists frame.periods ms)
+-- the weight and the lists of an entry, where each is among its members
+abbrev pub entry_parts : ℕ → List Pair → Option (Value × ThermalLists)
+entry_parts periods ms = option_zip (value_of (codes "weight") ms) (thermal_lists periods ms)
+
+-- an entry of these: its weight comes first, and then the items of its lists
+unfoldable pub weighed : Frame → ShareSite → Value → ThermalLists → Read WeighedSchedule
+weighed frame at heavy lists = do
   weight ← need (fault at Weight) (weight_in (pos 0) frame.whole heavy)
   schedule ← within at.entry (listed_schedule (shape_site_of at) lists)
   Ok (record { weight = weight; schedule = schedule })
+
+-- an entry, whose shape comes before all else
+unfoldable pub entry : Frame → ShareSite → Value → Read WeighedSchedule
+entry frame at v = do
+  ms ← need (fault at (Shape PlanShape)) (object_in v)
+  parts ← need (fault at (Shape PlanShape)) (entry_parts frame.periods ms)
+  weighed frame at parts.0 parts.1
 
 -- each at the site of its position
 unfoldable pub entries : Frame → ShareSite → List Value → Read (List WeighedSchedule)
@@ -90,13 +98,16 @@ pub record Head : Type 0 where
   pub whole : ℤ
   pub thermal : List Pair
 
+-- the weight and the units of a mixture, where each is among its members
+abbrev pub head_parts : List Pair → Option (Value × List Pair)
+head_parts ms = option_zip (value_of (codes "weight") ms) (object_under (codes "thermal") ms)
+
 unfoldable pub head : Value → Read Head
 head v = do
   ms ← need (fault site_of_file (Shape PlanShape)) (object_in v)
-  heavy ← need (fault site_of_file (Shape PlanShape)) (value_of (codes "weight") ms)
-  members ← need (fault site_of_file (Shape PlanShape)) (object_under (codes "thermal") ms)
-  whole ← need (fault site_of_file Weight) (weight_in (pos 1) most_whole heavy)
-  Ok (record { whole = whole; thermal = members })
+  parts ← need (fault site_of_file (Shape PlanShape)) (head_parts ms)
+  whole ← need (fault site_of_file Weight) (weight_in (pos 1) most_whole parts.0)
+  Ok (record { whole = whole; thermal = parts.1 })
 
 abbrev pub frame_of : Market → Head → Frame
 frame_of m h = record { periods = m.periods; whole = h.whole }

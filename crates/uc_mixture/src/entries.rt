@@ -1,23 +1,25 @@
 //! The entries of one unit.
-ghost use Rattle.std.specs.Prelude.{◌≡◌, IfOk, map};
+ghost use Rattle.std.specs.Prelude.{◌≡◌, IfOk, IfSome, map};
 ghost use Rattle.std.specs.List.{All};
 ghost use Rattle.mixture_bound.specs.Mixtures.{entry_of, entries_of, AreEntries};
 ghost use Rattle.std.specs.Option.{option_map};
-ghost use Rattle.text_tree.specs.View.{view, views, items_in};
+ghost use Rattle.text_tree.specs.View.{view, views, items_in, member_views};
 ghost use Rattle.uc_file.specs.Given.{Gives};
+ghost use Rattle.uc_plan.specs.Views.{lists_of, AreFull};
 ghost use Rattle.uc_mixture.specs.Kept.{IsFrame, IsEntryIn};
-ghost use Rattle.uc_mixture.specs.Tables.{entry, entries as entries_spec, unit_entries};
+ghost use Rattle.uc_mixture.specs.Tables.{entry_parts as entry_parts_spec, weighed, entry};
+ghost use Rattle.uc_mixture.specs.Tables.{entries as entries_spec, unit_entries};
 ghost use Rattle.uc_mixture.specs.Tables.{some_list as some_list_spec};
 
 use crate::fault::{ShareCode, ShareSite, ShareStop};
 use crate::weights::{sum_to, weight_at};
 use mixture_bound::{Entries, Entry};
 use std::alloc::Global;
-use text_tree::{Branch, ListBranch};
+use text_tree::{Branch, ListBranch, Member};
 use uc_file::inside::find;
 use uc_file::stop::Stop;
 use uc_plan::fault::ShapeCode;
-use uc_plan::shapes::thermal_lists;
+use uc_plan::shapes::{ThermalLists, thermal_lists};
 use uc_plan::units::read_lists;
 
 /// What all entries have in common: over how many periods they are, and the whole that the weights
@@ -28,6 +30,44 @@ pub struct Frame {
     pub periods: u32,
     /// The whole, from 1 on.
     pub whole: i64,
+}
+
+/// The weight and the lists of an entry, where each is among its members, and each list has an item
+/// for each period.
+fn entry_parts<'a>(members: &[Member<'a>], periods: u32) -> Option<(Branch<'a>, ThermalLists<'a>)>
+    ensures full { IfSome result (λ p. AreFull periods (lists_of p.1)) }
+    ensures value { option_map (λ p. (view p.0, lists_of p.1)) result
+        ≡ entry_parts_spec periods (member_views members.now) }
+{
+    match (find(members, "weight"), thermal_lists(members, periods)) {
+        (Some(heavy), Some(lists)) => Some((heavy, lists)),
+        _ => None,
+    }
+}
+
+/// The entry of a weight and lists. `Weight` where the weight isn't a whole number from 0 to the
+/// whole, and then `PlanNumber` at the first wrong item.
+#[tactic(auto, unfolding(crate::specs::Tables::weighed))]
+fn read_weighed(
+    alloc: Global,
+    at: ShareSite,
+    frame: Frame,
+    heavy: Branch<'_>,
+    lists: ThermalLists<'_>,
+) -> Result<Entry, ShareStop>
+    requires frame { IsFrame frame }
+    requires full { AreFull frame.periods (lists_of lists) }
+    ensures fits { IfOk result (λ e. IsEntryIn frame (entry_of e)) }
+    ensures value { Gives entry_of result
+        (weighed frame at (view heavy.entry) (lists_of lists.entry)) }
+{
+    let Some(weight) = weight_at(heavy, 0, frame.whole) else {
+        return Err(at.stop(ShareCode::Weight));
+    };
+    match read_lists(alloc, at.shape_site(), lists, frame.periods) {
+        Ok(response) => Ok(Entry { weight, response }),
+        Err(stop) => Err(at.within(stop)),
+    }
 }
 
 /// An entry. `PlanShape` where it isn't an object with a weight and three lists of an item for each
@@ -44,23 +84,13 @@ fn read_entry(
     ensures fits { IfOk result (λ e. IsEntryIn frame (entry_of e)) }
     ensures value { Gives entry_of result (entry frame at (view branch.entry)) }
 {
-    let shape = ShareCode::Shape(ShapeCode::PlanShape);
     let Some(object) = branch.object() else {
-        return Err(at.stop(shape));
+        return Err(at.stop(ShareCode::Shape(ShapeCode::PlanShape)));
     };
     let members = object.members(alloc)?;
-    let Some(heavy) = find(&members, "weight") else {
-        return Err(at.stop(shape));
-    };
-    let Some(lists) = thermal_lists(&members, frame.periods) else {
-        return Err(at.stop(shape));
-    };
-    let Some(weight) = weight_at(heavy, 0, frame.whole) else {
-        return Err(at.stop(ShareCode::Weight));
-    };
-    match read_lists(alloc, at.shape_site(), lists, frame.periods) {
-        Ok(response) => Ok(Entry { weight, response }),
-        Err(stop) => Err(at.within(stop)),
+    match entry_parts(&members, frame.periods) {
+        Some((heavy, lists)) => read_weighed(alloc, at, frame, heavy, lists),
+        None => Err(at.stop(ShareCode::Shape(ShapeCode::PlanShape))),
     }
 }
 

@@ -1,14 +1,15 @@
 //! The mixture of a tree.
-ghost use Rattle.std.specs.Prelude.{IfOk, map, pos};
+ghost use Rattle.std.specs.Prelude.{◌≡◌, IfOk, map, pos};
+ghost use Rattle.std.specs.Option.{option_map};
 ghost use Rattle.mixture_bound.specs.Mixtures.{mixture_of, HasMixtureShape, most_whole};
 ghost use Rattle.plain_lists.specs.Ranges.{IsFrom};
-ghost use Rattle.text_tree.specs.View.{view, members_in};
+ghost use Rattle.text_tree.specs.View.{view, member_views, members_in};
 ghost use Rattle.uc_file.specs.Given.{Gives};
 ghost use Rattle.uc_model.specs.PlainCases.{market_of};
 ghost use Rattle.uc_model.specs.declared.kinds.Kind.TheVariants as kinds;
 ghost use Rattle.uc_plan.specs.Plans.{all_known};
 ghost use Rattle.uc_mixture.specs.Faults.{within};
-ghost use Rattle.uc_mixture.specs.Tables.{head, mixture_in};
+ghost use Rattle.uc_mixture.specs.Tables.{head_parts as head_parts_spec, head, mixture_in};
 ghost use Rattle.uc_mixture.specs.Views.{head_of, names_of};
 
 use crate::entries::Frame;
@@ -17,7 +18,7 @@ use crate::units::read_units;
 use crate::weights::weight_at;
 use mixture_bound::Mixture;
 use std::alloc::Global;
-use text_tree::{Branch, ObjectBranch};
+use text_tree::{Branch, Member, ObjectBranch};
 use uc_file::inside::find;
 use uc_model::cases::Case;
 use uc_model::kinds::Kind;
@@ -36,6 +37,17 @@ struct Head<'a> {
     thermal: ObjectBranch<'a>,
 }
 
+/// The weight and the units of a mixture, where each is among its members.
+fn head_parts<'a>(members: &[Member<'a>]) -> Option<(Branch<'a>, ObjectBranch<'a>)>
+    ensures { option_map (λ p. (view p.0, members_in p.1)) result
+        ≡ head_parts_spec (member_views members.now) }
+{
+    match (find(members, "weight"), object_under(members, "thermal")) {
+        (Some(heavy), Some(thermal)) => Some((heavy, thermal)),
+        _ => None,
+    }
+}
+
 /// `PlanShape`, at the file as a whole, where the value isn't an object with a weight and an object
 /// of units, and then `Weight` where the weight isn't a whole number from 1 to `MOST_WHOLE`.
 #[tactic(auto, unfolding(crate::specs::Tables::head))]
@@ -49,10 +61,7 @@ fn read_head<'a>(alloc: Global, root: Branch<'a>) -> Result<Head<'a>, ShareStop>
         return Err(at.stop(shape));
     };
     let members = object.members(alloc)?;
-    let Some(heavy) = find(&members, "weight") else {
-        return Err(at.stop(shape));
-    };
-    let Some(thermal) = object_under(&members, "thermal") else {
+    let Some((heavy, thermal)) = head_parts(&members) else {
         return Err(at.stop(shape));
     };
     match weight_at(heavy, 1, MOST_WHOLE) {
