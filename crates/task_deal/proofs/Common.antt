@@ -23,8 +23,8 @@ pub use Rattle.task_deal.specs.Ledger.{IsEmptied, run_sum, Ledger}
 pub use Rattle.task_deal.specs.Members.{HasWorked}
 pub use Rattle.task_deal.specs.Open.{AreOpen}
 pub use Rattle.task_deal.specs.Rule.{sum_of, account, Fits, IsSettled, IsHelper, AreHelpers, IsFair}
-pub use Rattle.task_deal.specs.Seats.{Gains, FoundIn, Each, Stands, own_taken, own_put, IsPart, AreParts, HaveTaken}
-pub use Rattle.task_deal.specs.Seats.{taken_by, IsSeatOf, gained, SameDeque}
+pub use Rattle.task_deal.specs.Seats.{Gains, Found, FoundIn, Each, Stands, own_taken, own_put, IsPart, AreParts}
+pub use Rattle.task_deal.specs.Seats.{HaveTaken, taken_by, IsSeatOf, gained, SameDeque}
 pub use Rattle.task_deal.specs.declared.member.Member.{Member}
 pub use Rattle.task_deal.specs.declared.rule.Account.{Account}
 pub use Rattle.task_deal.specs.declared.rule.Rule.{Rule}

@@ -3,7 +3,7 @@ use Rattle.task_deal.proofs.Common.{◌≡◌, ℕ, ◌+◌, ◌<◌, ◌≤◌,
 use Rattle.task_deal.proofs.Common.{sum_of, account, Fits, HasRun, RanTaken}
 use Rattle.task_deal.proofs.Sums.{sum_of-append}
 use Rattle.task_deal.proofs.Gaining.{taken_more}
-use Rattle.task_deal.proofs.Running.{runs_none, runs_one, spared}
+use Rattle.task_deal.proofs.Running.{spared}
 
 pub sum_of_ones : {X : Type 0} (xs : List X) → sum_of (λ _. 1) xs ≡ length xs
 sum_of_ones [] = refl
@@ -48,6 +48,3 @@ module _ {J W : Type 0} (work : J → W) (runs : J → List ℕ) (spare : J → 
         sum_of_ones v.put,
         sum_of_ones v.taken,
       )
-
--- what a loop that drains a queue cites
-pub ruleset drains = (runs_none, runs_one, idle_books, books_on, books_same, may_run)

@@ -143,5 +143,5 @@ gains_on s t u x a b = λ h. omega (arith, a h, b h)
 pub gains_none : (s t u : Seat) → Gains (λ h. 0) s t → Gains (λ h. 0) t u → Gains (λ h. 0) s u
 gains_none s t u a b = λ h. omega (arith, a h, b h)
 
--- what a loop that looks for a number cites
+-- what the search for the next number cites
 pub ruleset gains = (gains_on, gains_none)

@@ -11,6 +11,8 @@ pub mod Moves
 -- ---- src/seat.rt
 -- what each way to find a number gains
 pub mod Gaining
+-- a seat stays at its queues
+pub mod Seating
 -- ---- src/member.rt and src/drain.rt
 -- what a job has run
 pub mod Running

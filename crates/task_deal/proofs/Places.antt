@@ -15,6 +15,23 @@ index_else (x ∷ xs) zero (suc j) w d apart = refl
 index_else (x ∷ xs) (suc i) zero w d apart = refl
 index_else (x ∷ xs) (suc i) (suc j) w d apart = index_else xs i j w d (λ e. apart (ap suc e))
 
+pub index_any : {X : Type 0} (xs : List X) (i : ℕ) (d e : X) → i < length xs →
+    slice_index_or xs i d ≡ slice_index_or xs i e
+index_any [] i d e le = absurd (omega (arith, le))
+index_any (x ∷ xs) zero d e le = refl
+index_any (x ∷ xs) (suc i) d e le = index_any xs i d e (omega (arith, le))
+
+pub same_or_not : (a b : ℕ) → (a ≡ b) ⊎ (a ≢ b)
+same_or_not zero zero = inl refl
+same_or_not zero (suc b) = inr (λ e. absurd (omega (arith, e)))
+same_or_not (suc a) zero = inr (λ e. absurd (omega (arith, e)))
+same_or_not (suc a) (suc b) =
+    ⊎_elim (λ (e : a ≡ b). inl (ap suc e)) (λ (n : a ≢ b). inr (λ e. n (omega (arith, e)))) (same_or_not a b)
+
+pub no_items : {X : Type 0} (xs : List X) → length xs ≡ 0 → xs ≡ []
+no_items [] none = refl
+no_items (x ∷ xs) none = absurd (omega (arith, none))
+
 pub split_le : (a b : ℕ) → a ≤ b → (a ≡ b) ⊎ (a < b)
 split_le zero zero le = inl refl
 split_le zero (suc b) le = inr (omega arith)

@@ -37,6 +37,3 @@ module _ {J W : Type 0} (shared : Shared) (work : J → W) (runs : J → List �
     job = a.job;
     balance = λ h. omega (arith, a.balance h, gains h);
   }
-
--- what a worker's loop cites
-pub ruleset works = (begun, ran, ended)

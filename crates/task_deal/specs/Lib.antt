@@ -6,4 +6,5 @@ pub mod Drains
 pub mod Apart
 pub mod Ledger
 pub mod Open
+pub mod Hands
 pub mod Laws

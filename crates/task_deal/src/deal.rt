@@ -1,15 +1,16 @@
 //! Numbers are dealt to jobs.
-ghost use Rattle.std.specs.Prelude.{◌≡◌, ◌<◌, ◌≤◌, length, All, OnOk, OnErr};
+ghost use Rattle.std.specs.Prelude.{◌≡◌, ◌<◌, ◌≤◌, [], length, All, IfOk, OnOk, OnErr, vec_capacity};
 ghost use Rattle.plain_lists.specs.declared.limits.TheConstants.{MOST_UNITS};
+ghost use Rattle.task_deal.specs.Hands.{AreSetOut};
 ghost use Rattle.task_deal.specs.Jobs.{IsDealt};
 
 use crate::apart::{put_together, take_apart};
 use crate::drain::{check_all, drain_all};
 use crate::job::Job;
-use crate::member::work_all;
+use crate::member::{Member, work_all};
 use crate::open::{fill_all, open};
 use crate::pour::pour;
-use crate::rule::Shared;
+use crate::rule::{Deque, Shared, SourcePass, ThiefPass};
 use crate::settle::settle;
 use std::alloc::{AllocError, Global};
 use std::sync::Wait;
@@ -17,6 +18,81 @@ use std::thread::Threads;
 
 /// Jobs of one deal.
 pub const MOST_JOBS: usize = 32;
+
+// What a deal works with beside its jobs.
+struct Hands {
+    // the owner's pass of the source
+    owner: SourcePass,
+    // a deque for each job
+    owns: Vec<Deque>,
+    // a purse for each job
+    purses: Vec<Vec<ThiefPass>>,
+}
+
+// The numbers below `tasks` in the source, and a deque and a purse for each of `count` jobs.
+fn set_out<R: Wait>(
+    rt: &R,
+    alloc: Global,
+    tasks: u32,
+    count: usize,
+) -> Result<(Shared, Hands), AllocError>
+    ensures { IfOk result (λ made. AreSetOut made.0 tasks count made.1) }
+{
+    let (source, owner) = pour(rt, alloc, tasks)?;
+    let (mut owns, thieves) = open(alloc, count)?;
+    let shared = Shared { source, thieves };
+    let purses = fill_all(alloc, &shared, &mut owns, count)?;
+    let hands = Hands {
+        owner,
+        owns,
+        purses,
+    };
+    Ok((shared, hands))
+}
+
+// Deals what is set out to the jobs. Takes no memory: `members` has room for all of them.
+fn run_all<J: Job + Send + Drop, R: Threads + Wait + Sync>(
+    rt: &R,
+    shared: &Shared,
+    tasks: u32,
+    hands: Hands,
+    members: Vec<Member<J>>,
+    jobs: &mut Vec<J>,
+)
+    requires jobs { 0 < length jobs.old.items }
+    requires spare { All (λ job. tasks ≤ J.spare job) jobs.old.items }
+    requires hands { AreSetOut shared.now tasks (length jobs.old.items) hands }
+    requires empty { members.items ≡ [] }
+    requires room { length jobs.old.items ≤ vec_capacity members }
+    ensures { IsDealt J.work J.runs J.spare tasks jobs.old.items jobs.new.items }
+{
+    let Hands {
+        mut owner,
+        mut owns,
+        mut purses,
+    } = hands;
+    let mut members = members;
+    put_together(
+        &shared.source,
+        &mut owner,
+        jobs,
+        &mut owns,
+        &mut purses,
+        &mut members,
+    );
+    work_all(rt, shared, tasks, &mut members);
+    take_apart(
+        &shared.source,
+        &mut owner,
+        members,
+        jobs,
+        &mut owns,
+        &mut purses,
+    );
+    settle(shared, &mut owns, purses);
+    check_all(shared, &mut owns);
+    drain_all(rt, shared, tasks, &mut owner, &mut owns, jobs);
+}
 
 /// Deals the numbers below `tasks` to the jobs, each of which runs its share in a thread of its
 /// own, where one can be made. Each job keeps its place and what it works on. What the jobs add to
@@ -43,31 +119,9 @@ pub fn deal_all<J: Job + Send + Drop, R: Threads + Wait + Sync>(
     ensures refused { OnErr result (jobs.new.items ≡ jobs.old.items) }
 {
     let count = jobs.len();
-    let (source, mut owner) = pour(rt, alloc, tasks)?;
-    let (mut owns, thieves) = open(alloc, count)?;
-    let shared = Shared { source, thieves };
-    let mut purses = fill_all(alloc, &shared, &mut owns, count)?;
-    let mut members = Vec::with_capacity(alloc, count)?;
+    let members = Vec::with_capacity(alloc, count)?;
+    let (shared, hands) = set_out(rt, alloc, tasks, count)?;
     // Nothing may fail from here on.
-    put_together(
-        &shared.source,
-        &mut owner,
-        jobs,
-        &mut owns,
-        &mut purses,
-        &mut members,
-    );
-    work_all(rt, &shared, tasks, &mut members);
-    take_apart(
-        &shared.source,
-        &mut owner,
-        members,
-        jobs,
-        &mut owns,
-        &mut purses,
-    );
-    settle(&shared, &mut owns, purses);
-    check_all(&shared, &mut owns);
-    drain_all(rt, &shared, tasks, &mut owner, &mut owns, jobs);
+    run_all(rt, &shared, tasks, hands, members, jobs);
     Ok(())
 }

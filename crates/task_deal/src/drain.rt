@@ -78,7 +78,6 @@ fn next_source<R: Wait>(rt: &R, source: &Source, pass: &mut SourcePass) -> Steal
 }
 
 /// Runs what a deque still has.
-#[tactic(auto, using(crate::proofs::Draining::drains))]
 fn drain_own<J: Job, R: Wait>(rt: &R, own: &mut Deque, job: &mut J)
     requires own { (worker_port own.old ≡ 0) × (worker_flavor own.old ≡ 0)
         × ((worker_view own.old).parts ≡ 0) }
@@ -99,7 +98,6 @@ fn drain_own<J: Job, R: Wait>(rt: &R, own: &mut Deque, job: &mut J)
 }
 
 /// Runs what the source still has.
-#[tactic(auto, using(crate::proofs::Draining::drains))]
 fn drain_source<J: Job, R: Wait>(rt: &R, source: &Source, pass: &mut SourcePass, job: &mut J)
     requires pass { IsInjectorPassOf source.now pass.old × (pass.old.id ≡ 0)
         × ((injector_view pass.old).parts ≡ 0) }

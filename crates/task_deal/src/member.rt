@@ -20,7 +20,6 @@ pub struct Member<J> {
     pub seat: Seat,
 }
 
-#[tactic(auto, using(crate::proofs::Working::works))]
 fn work<J: Job, R: Wait>(
     rt: &R,
     shared: &Shared,

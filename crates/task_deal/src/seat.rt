@@ -97,7 +97,6 @@ fn steal_at<R: Wait>(rt: &R, shared: &Shared, seat: &mut Seat, at: usize) -> Opt
     steal(rt, &shared.thieves[at], &mut seat.purse[at])
 }
 
-#[tactic(auto, using(crate::proofs::Gaining::gains))]
 fn steal_any<R: Wait>(rt: &R, shared: &Shared, seat: &mut Seat) -> Option<u32>
     requires { IsSeatOf shared.now seat.old }
     ensures same { IsSeatOf shared.now seat.new × SameDeque seat.old seat.new }
@@ -112,7 +111,6 @@ fn steal_any<R: Wait>(rt: &R, shared: &Shared, seat: &mut Seat) -> Option<u32>
 }
 
 /// One number of the source alone.
-#[tactic(auto, using(crate::proofs::Gaining::gains))]
 fn take_first<R: Wait>(rt: &R, shared: &Shared, seat: &mut Seat) -> Option<u32>
     requires { IsSeatOf shared.now seat.old }
     ensures same { IsSeatOf shared.now seat.new × SameDeque seat.old seat.new }
@@ -130,7 +128,6 @@ fn take_first<R: Wait>(rt: &R, shared: &Shared, seat: &mut Seat) -> Option<u32>
 
 /// A number of the own deque, or else of the source, from which a batch moves to the own deque, or
 /// else of another's deque.
-#[tactic(auto, using(crate::proofs::Gaining::gains))]
 fn find<R: Wait>(rt: &R, shared: &Shared, seat: &mut Seat) -> Option<u32>
     requires { IsSeatOf shared.now seat.old }
     ensures same { IsSeatOf shared.now seat.new × SameDeque seat.old seat.new }

@@ -1,6 +1,7 @@
 use Rattle.task_deal.proofs.Common.{rules, ◌≡◌, ◌+◌, ◌∙◌, ◌∷◌, ◌++◌, [], ap, sym, subst, length, length-append, arith}
-use Rattle.task_deal.proofs.Common.{injector_view, Account, Member, account, sum_of, HasPart, source_taken}
-use Rattle.task_deal.proofs.Lemmas.{all_push, sum_of_push, under}
+use Rattle.task_deal.proofs.Common.{injector_view, Account, Member, account, sum_of, HasPart, source_taken, All}
+use Rattle.task_deal.proofs.Common.{append-nil, backwards, refl}
+use Rattle.task_deal.proofs.Lemmas.{all_push, no_items, sum_of_push, under}
 use Rattle.task_deal.proofs.apart.put_together.Goals as goal
 
 pub loop-job-preserved : goal.loop-job-preserved
@@ -52,3 +53,43 @@ loop-job-preserved g c = let inv = c.loop-job.invariant in
         c.pop-in-Some-2.ensures.capacity ∙ inv.6.2,
       ),
     )
+
+pub loop-job-init : goal.loop-job-init
+loop-job-init g c = let none = c.requires.empty in
+    let v = injector_view c.args.owner.now in (
+      (
+        c.requires.owner.0,
+        c.requires.owner.1,
+        ap (λ k. account k v.put v.taken) (c.requires.owner.2 ∙ sym (ap length none)),
+      ),
+      (
+        subst (All (λ (m : Member g.row.J.Denot). HasPart c.args.source.now m.seat)) (sym none)
+            (λ k d le. absurd (omega (arith, le))),
+        (λ h. ap (sum_of (source_taken h)) none),
+      ),
+      (c.requires.owns, c.requires.purses, omega (arith, c.requires.room, ap length none)),
+      ap (λ l. c.args.jobs.now.items ++ backwards (λ m. m.job) l) none ∙ append-nil c.args.jobs.now.items,
+      ap (λ l. c.args.owns.now.items ++ backwards (λ m. m.seat.own) l) none ∙ append-nil c.args.owns.now.items,
+      ap (λ l. c.args.purses.now.items ++ backwards (λ m. m.seat.purse) l) none ∙ append-nil c.args.purses.now.items,
+      (refl, refl, refl),
+    )
+
+pub returns-clause-jobs : goal.returns-clause-jobs
+returns-clause-jobs g c = let none : c.loop-job.jobs.items ≡ [] = search rules in
+    ap (λ l. l ++ backwards (λ m. m.job) c.loop-job.members.items) (sym none) ∙ c.loop-job.invariant.3
+
+pub returns-clause-owns : goal.returns-clause-owns
+returns-clause-owns g c = let none : c.loop-job.jobs.items ≡ [] = search rules in
+    let all = no_items c.loop-job.owns.items (c.loop-job.invariant.2.0 ∙ ap length none) in
+    ap (λ l. l ++ backwards (λ m. m.seat.own) c.loop-job.members.items) (sym all) ∙ c.loop-job.invariant.4
+
+pub returns-clause-purses : goal.returns-clause-purses
+returns-clause-purses g c = let none : c.loop-job.jobs.items ≡ [] = search rules in
+    let all = no_items c.loop-job.purses.items (c.loop-job.invariant.2.1 ∙ ap length none) in
+    ap (λ l. l ++ backwards (λ m. m.seat.purse) c.loop-job.members.items) (sym all) ∙ c.loop-job.invariant.5
+
+pub returns-clause-members : goal.returns-clause-members
+returns-clause-members g c = c.loop-job.invariant.1
+
+pub returns-clause-owner : goal.returns-clause-owner
+returns-clause-owner g c = c.loop-job.invariant.0

@@ -1,5 +1,5 @@
-use Rattle.task_deal.proofs.Common.{◌∙◌, ap, Account, injector_view}
-use Rattle.task_deal.proofs.Lemmas.{books_on, may_run, runs_one}
+use Rattle.task_deal.proofs.Common.{◌∙◌, ap, sym, subst, Account, IsSettled, injector_view}
+use Rattle.task_deal.proofs.Lemmas.{books_on, books_same, idle_books, may_run, runs_none, runs_one}
 use Rattle.task_deal.proofs.drain.drain_source.Goals as goal
 
 pub run-requires : goal.run-requires
@@ -19,4 +19,47 @@ loop-preserved-in-Success g c = (
       (injector_view c.next_source.new.pass) c.args.job.now c.loop.job c.run.new.self c.in-Success.task
       c.loop.invariant.5 c.in-Success.ensures.view.0 c.run.ensures.runs,
   ap (λ (u : Account). u.parts) c.in-Success.ensures.view.0 ∙ c.loop.invariant.6,
+)
+
+pub loop-init : goal.loop-init
+loop-init g c = (
+  tt,
+  tt,
+  c.requires.pass.0,
+  c.requires.pass.1,
+  runs_none g.J.Job.work g.J.Job.runs g.J.Job.spare c.args.job.now,
+  idle_books g.J.Job.work g.J.Job.runs g.J.Job.spare (injector_view c.args.pass.now) c.args.job.now,
+  c.requires.pass.2,
+)
+
+pub next_source-requires : goal.next_source-requires
+next_source-requires g c = (c.loop.invariant.2, c.loop.invariant.3)
+
+pub returns-in-Empty-clause-same : goal.returns-in-Empty-clause-same
+returns-in-Empty-clause-same g c = c.next_source.ensures.same
+
+pub returns-in-Empty-clause-job : goal.returns-in-Empty-clause-job
+returns-in-Empty-clause-job g c = c.loop.invariant.4
+
+pub returns-in-Empty-clause-books : goal.returns-in-Empty-clause-books
+returns-in-Empty-clause-books g c = books_same g.J.Job.work g.J.Job.runs g.J.Job.spare (injector_view c.args.pass.now)
+    (injector_view c.loop.pass) (injector_view c.next_source.new.pass) c.args.job.now c.loop.job c.loop.invariant.5
+    c.in-Empty.ensures.view.0
+
+pub returns-in-Empty-clause-all : goal.returns-in-Empty-clause-all
+returns-in-Empty-clause-all g c = (
+  subst IsSettled (sym c.in-Empty.ensures.view.0) c.in-Empty.ensures.view.1,
+  ap (λ (u : Account). u.parts) c.in-Empty.ensures.view.0 ∙ c.loop.invariant.6,
+)
+
+pub loop-preserved : goal.loop-preserved
+loop-preserved g c = (
+  c.loop.invariant.0,
+  c.loop.invariant.1,
+  c.next_source.ensures.same.0,
+  c.next_source.ensures.same.1,
+  c.loop.invariant.4,
+  books_same g.J.Job.work g.J.Job.runs g.J.Job.spare (injector_view c.args.pass.now) (injector_view c.loop.pass)
+      (injector_view c.next_source.new.pass) c.args.job.now c.loop.job c.loop.invariant.5 c.in-Retry.ensures.view,
+  ap (λ (u : Account). u.parts) c.in-Retry.ensures.view ∙ c.loop.invariant.6,
 )

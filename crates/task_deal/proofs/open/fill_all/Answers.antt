@@ -1,5 +1,5 @@
 use Rattle.task_deal.proofs.Common.{rules, ◌≡◌, ◌∙◌, ◌∷◌, ◌++◌, [], ap, length, length-append, arith, sum_of, AreParts}
-use Rattle.task_deal.proofs.Common.{taken_by}
+use Rattle.task_deal.proofs.Common.{taken_by, refl, sym, subst, All, Each, Stands}
 use Rattle.task_deal.proofs.Lemmas.{sum_of_push, all_push}
 use Rattle.task_deal.proofs.open.fill_all.Goals as goal
 
@@ -24,3 +24,37 @@ loop-out-preserved c = let inv = c.loop-out.invariant in let p = c.in_ok-purse.p
         sum_of_push (λ p. taken_by h p.items) c.loop-out.purses.items p,
       )),
     )
+
+pub loop-out-init : goal.loop-out-init
+loop-out-init c = let none = c.new-purses.ensures.items in (
+  c.requires.count,
+  c.requires.owns,
+  (λ h. (omega arith, refl)),
+  ap length none,
+  subst (All (λ p. AreParts c.args.shared.now.thieves.items p.items)) (sym none)
+      (λ k d le. absurd (omega (arith, le))),
+  (λ h. ap (sum_of (λ p. taken_by h p.items)) none),
+)
+
+pub fill-requires-clause-count : goal.fill-requires-clause-count
+fill-requires-clause-count c = c.loop-out.invariant.0
+
+pub fill-requires-clause-owns : goal.fill-requires-clause-owns
+fill-requires-clause-owns c = c.loop-out.invariant.1
+
+pub returns-clause-count : goal.returns-clause-count
+returns-clause-count c = c.loop-out.invariant.0
+
+pub returns-clause-owns : goal.returns-clause-owns
+returns-clause-owns c =
+    let all : c.loop-out.out ≡ c.args.count = omega (arith, c.loop-out-test.false, c.loop-out.auto.out-end) in
+    subst (λ k. Each (Stands c.args.shared.now.thieves.items k) 0 (length c.args.shared.now.thieves.items)
+    c.loop-out.owns.items) all c.loop-out.invariant.1
+
+pub returns-clause-books : goal.returns-clause-books
+returns-clause-books c = c.loop-out.invariant.2
+
+pub returns-clause-purses : goal.returns-clause-purses
+returns-clause-purses c =
+    let all : c.loop-out.out ≡ c.args.count = omega (arith, c.loop-out-test.false, c.loop-out.auto.out-end) in
+    (c.loop-out.invariant.3 ∙ all, c.loop-out.invariant.4, c.loop-out.invariant.5)

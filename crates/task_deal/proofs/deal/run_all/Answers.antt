@@ -1,0 +1,257 @@
+use Rattle.task_deal.proofs.Common.{◌≡◌, ◌<◌, ◌≤◌, ◌∙◌, ◌++◌, ℕ, List, length, take, drop, All, ap, sym, subst, arith}
+use Rattle.task_deal.proofs.Common.{injector_view, Member, Account, Shared, HasPart, source_taken}
+use Rattle.task_deal.proofs.Common.{IsSeatOf, AllZip, Each, Stands, sum_of}
+use Rattle.task_deal.proofs.Together.{AreOf, ready, worked, whole, made_of, members_count, parts_left, owns_stand}
+use Rattle.task_deal.proofs.Together.{purses_left, ledger_begins, Worked}
+use Rattle.task_deal.proofs.deal.run_all.Goals as goal
+use Rattle.task_deal.proofs.deal.run_all.Given.{Over}
+use Rattle.task_deal.proofs.deal.run_all.Goals.{After-work_all, After-take_apart}
+
+-- the members before they work and after
+module _ (g : Over) (c : After-work_all g) where
+  abbrev shared : Shared
+  shared = c.args.shared.now
+
+  abbrev ss : List (Member g.row.J.Denot)
+  ss = c.put_together.new.members.items
+
+  abbrev ts : List (Member g.row.J.Denot)
+  ts = c.work_all.new.members
+
+  count : length ts ≡ length ss
+  count = omega (arith, c.work_all.auto.members, ap length c.deref_mut.ensures.value)
+
+  all : take c.put_together.new.members.len (ts ++ drop (length ts) ss) ≡ ts
+  all = whole c.put_together.new.members.len ss ts c.put_together.new.members.ok.0 count
+
+  first : AreOf ss c.args.jobs.now.items c.args.hands.owns.items c.args.hands.purses.items
+  first = record {
+    jobs_are = c.put_together.ensures.jobs;
+    owns_are = c.put_together.ensures.owns;
+    purses_are =
+        c.put_together.ensures.purses;
+  }
+
+  zip : AllZip (Worked c.args.shared.now g.J.Job.work g.J.Job.runs g.J.Job.spare) ss ts
+  zip = worked c.args.shared.now g.J.Job.work g.J.Job.runs g.J.Job.spare c.deref_mut.result.now ss ts
+      c.deref_mut.ensures.value c.work_all.auto.members c.work_all.ensures
+
+  were : (length c.args.jobs.now.items ≡ length ss) × (length c.args.hands.owns.items ≡ length ss) ×
+      (length c.args.hands.purses.items ≡ length ss)
+  were = members_count ss c.args.jobs.now.items c.args.hands.owns.items c.args.hands.purses.items first
+
+pub put_together-requires-clause-owner : goal.put_together-requires-clause-owner
+put_together-requires-clause-owner g c =
+    (c.requires.hands.source, c.requires.hands.port, ap (λ (v : Account). v.parts) c.requires.hands.account)
+
+pub put_together-requires-clause-empty : goal.put_together-requires-clause-empty
+put_together-requires-clause-empty g c = c.requires.empty
+
+pub put_together-requires-clause-owns : goal.put_together-requires-clause-owns
+put_together-requires-clause-owns g c = c.requires.hands.owns_count ∙ c.requires.hands.thieves_count
+
+pub put_together-requires-clause-purses : goal.put_together-requires-clause-purses
+put_together-requires-clause-purses g c = c.requires.hands.purses_count
+
+pub put_together-requires-clause-room : goal.put_together-requires-clause-room
+put_together-requires-clause-room g c = c.requires.room
+
+pub work_all-requires-clause-some : goal.work_all-requires-clause-some
+work_all-requires-clause-some g c κs within =
+    let ss = c.put_together.new.members.items in
+    let are : AreOf ss c.args.jobs.now.items c.args.hands.owns.items c.args.hands.purses.items =
+    record {
+      jobs_are = c.put_together.ensures.jobs;
+      owns_are = c.put_together.ensures.owns;
+      purses_are =
+          c.put_together.ensures.purses;
+    } in
+    subst (λ k. 0 < k)
+    ((members_count ss c.args.jobs.now.items c.args.hands.owns.items c.args.hands.purses.items are).0 ∙
+    sym (ap length c.deref_mut.ensures.value)) c.requires.jobs
+
+pub work_all-requires-clause-ready : goal.work_all-requires-clause-ready
+work_all-requires-clause-ready g c κs within =
+    let shared : Shared = c.args.shared.now in
+    let ss = c.put_together.new.members.items in
+    let are : AreOf ss c.args.jobs.now.items c.args.hands.owns.items c.args.hands.purses.items =
+    record {
+      jobs_are = c.put_together.ensures.jobs;
+      owns_are = c.put_together.ensures.owns;
+      purses_are =
+          c.put_together.ensures.purses;
+    } in
+    let begin = ready shared g.J.Job.work g.J.Job.runs g.J.Job.spare c.args.tasks (length c.args.jobs.now.items)
+    (length shared.thieves.items) ss c.args.jobs.now.items c.args.hands.owns.items c.args.hands.purses.items
+    are c.put_together.ensures.members.0 c.requires.spare c.requires.hands.owns_count
+    c.requires.hands.owns c.requires.hands.purses in
+    subst (All (λ (m : Member g.row.J.Denot). IsSeatOf shared m.seat × (c.args.tasks ≤ g.J.Job.spare m.job)))
+    (sym c.deref_mut.ensures.value) begin
+
+pub take_apart-requires-clause-owner : goal.take_apart-requires-clause-owner
+take_apart-requires-clause-owner g c =
+    let d = (goal.at.take_apart-requires-clause-owner g c).After-work_all in
+    let o = c.put_together.ensures.owner in
+    (o.0, o.1, ap (λ (v : Account). v.parts) o.2 ∙ sym (ap length (all g d) ∙ count g d))
+
+pub take_apart-requires-clause-members : goal.take_apart-requires-clause-members
+take_apart-requires-clause-members g c =
+    let d = (goal.at.take_apart-requires-clause-members g c).After-work_all in
+    subst (All (λ (m : Member g.row.J.Denot). HasPart (shared g d).source m.seat)) (sym (all g d))
+    (parts_left (shared g d) g.J.Job.work g.J.Job.runs g.J.Job.spare (ss g d) (ts g d) (zip g d))
+
+pub take_apart-requires-clause-jobs : goal.take_apart-requires-clause-jobs
+take_apart-requires-clause-jobs g c =
+    let d = (goal.at.take_apart-requires-clause-jobs g c).After-work_all in
+    omega (
+      arith,
+      ap length (all g d),
+      count g d,
+      (were g d).0,
+      c.put_together.ensures.room.0,
+      c.args.jobs.now.ok.0,
+      c.args.jobs.now.ok.1,
+    )
+
+pub take_apart-requires-clause-owns : goal.take_apart-requires-clause-owns
+take_apart-requires-clause-owns g c =
+    let d = (goal.at.take_apart-requires-clause-owns g c).After-work_all in
+    omega (
+      arith,
+      ap length (all g d),
+      count g d,
+      (were g d).1,
+      c.put_together.ensures.room.1,
+      c.args.hands.owns.ok.0,
+      c.args.hands.owns.ok.1,
+    )
+
+pub take_apart-requires-clause-purses : goal.take_apart-requires-clause-purses
+take_apart-requires-clause-purses g c =
+    let d = (goal.at.take_apart-requires-clause-purses g c).After-work_all in
+    omega (
+      arith,
+      ap length (all g d),
+      count g d,
+      (were g d).2,
+      c.put_together.ensures.room.2,
+      c.args.hands.purses.ok.0,
+      c.args.hands.purses.ok.1,
+    )
+
+pub settle-requires-clause-count : goal.settle-requires-clause-count
+settle-requires-clause-count g c =
+    let d = (goal.at.settle-requires-clause-count g c).After-work_all in
+    let then : AreOf (ts g d) c.take_apart.new.jobs.items c.take_apart.new.owns.items c.take_apart.new.purses.items =
+    made_of _ (ts g d) c.take_apart.new.jobs.items c.take_apart.new.owns.items c.take_apart.new.purses.items
+    (all g d) c.take_apart.ensures.jobs c.take_apart.ensures.owns c.take_apart.ensures.purses in
+    let are = members_count (ts g d) c.take_apart.new.jobs.items c.take_apart.new.owns.items
+    c.take_apart.new.purses.items then in
+    omega (arith, are.1, count g d, (were g d).1, c.requires.hands.owns_count)
+
+pub settle-requires-clause-purses : goal.settle-requires-clause-purses
+settle-requires-clause-purses g c =
+    let d = (goal.at.settle-requires-clause-purses g c).After-work_all in
+    let then : AreOf (ts g d) c.take_apart.new.jobs.items c.take_apart.new.owns.items c.take_apart.new.purses.items =
+    made_of _ (ts g d) c.take_apart.new.jobs.items c.take_apart.new.owns.items c.take_apart.new.purses.items
+    (all g d) c.take_apart.ensures.jobs c.take_apart.ensures.owns c.take_apart.ensures.purses in
+    purses_left (shared g d) g.J.Job.work g.J.Job.runs g.J.Job.spare (ss g d) (ts g d) c.args.jobs.now.items
+    c.take_apart.new.jobs.items c.args.hands.owns.items c.take_apart.new.owns.items c.args.hands.purses.items
+    c.take_apart.new.purses.items (first g d) then (zip g d)
+
+pub settle-requires-clause-owns : goal.settle-requires-clause-owns
+settle-requires-clause-owns g c =
+    let d = (goal.at.settle-requires-clause-owns g c).After-work_all in
+    let then : AreOf (ts g d) c.take_apart.new.jobs.items c.take_apart.new.owns.items c.take_apart.new.purses.items =
+    made_of _ (ts g d) c.take_apart.new.jobs.items c.take_apart.new.owns.items c.take_apart.new.purses.items
+    (all g d) c.take_apart.ensures.jobs c.take_apart.ensures.owns c.take_apart.ensures.purses in
+    let are = members_count (ts g d) c.take_apart.new.jobs.items c.take_apart.new.owns.items
+    c.take_apart.new.purses.items then in
+    let out : length c.args.jobs.now.items ≡ length c.take_apart.new.purses.items =
+    omega (arith, are.2, count g d, (were g d).2, c.requires.hands.purses_count) in
+    subst (λ k. Each (Stands (shared g d).thieves.items k) 0 (length (shared g d).thieves.items)
+    c.take_apart.new.owns.items) out
+    (owns_stand (shared g d) g.J.Job.work g.J.Job.runs g.J.Job.spare (ss g d) (ts g d) c.args.jobs.now.items
+    c.take_apart.new.jobs.items c.args.hands.owns.items c.take_apart.new.owns.items c.args.hands.purses.items
+    c.take_apart.new.purses.items (first g d) then (zip g d) (length c.args.jobs.now.items)
+    (length (shared g d).thieves.items) c.requires.hands.owns_count c.requires.hands.owns)
+
+pub check_all-requires : goal.check_all-requires
+check_all-requires g c =
+    record {
+      stands = subst (λ k. Each (Stands c.args.shared.now.thieves.items 0) 0 k c.settle.new.owns.items)
+          (sym c.settle.ensures.count) c.settle.ensures.owns;
+    }
+
+pub drain_all-requires-clause-some : goal.drain_all-requires-clause-some
+drain_all-requires-clause-some g c =
+    let d = (goal.at.drain_all-requires-clause-some g c).After-work_all in
+    let then : AreOf (ts g d) c.take_apart.new.jobs.items c.take_apart.new.owns.items c.take_apart.new.purses.items =
+    made_of _ (ts g d) c.take_apart.new.jobs.items c.take_apart.new.owns.items c.take_apart.new.purses.items
+    (all g d) c.take_apart.ensures.jobs c.take_apart.ensures.owns c.take_apart.ensures.purses in
+    let are = members_count (ts g d) c.take_apart.new.jobs.items c.take_apart.new.owns.items
+    c.take_apart.new.purses.items then in
+    omega (arith, are.0, count g d, (were g d).0, c.requires.jobs)
+
+pub drain_all-requires-clause-ledger : goal.drain_all-requires-clause-ledger
+drain_all-requires-clause-ledger g c =
+    let d = (goal.at.drain_all-requires-clause-ledger g c).After-work_all in
+    let then : AreOf (ts g d) c.take_apart.new.jobs.items c.take_apart.new.owns.items c.take_apart.new.purses.items =
+    made_of _ (ts g d) c.take_apart.new.jobs.items c.take_apart.new.owns.items c.take_apart.new.purses.items
+    (all g d) c.take_apart.ensures.jobs c.take_apart.ensures.owns c.take_apart.ensures.purses in (
+      c.args.jobs.now.items,
+      ledger_begins (shared g d) g.J.Job.work g.J.Job.runs g.J.Job.spare (ss g d) (ts g d) c.args.jobs.now.items
+          c.take_apart.new.jobs.items c.args.hands.owns.items c.take_apart.new.owns.items c.args.hands.purses.items
+          c.take_apart.new.purses.items (first g d) then (zip g d) c.args.tasks c.settle.new.owns.items
+          c.check_all.new.owns.items (injector_view c.take_apart.new.owner)
+          c.take_apart.ensures.owner.2
+          (c.take_apart.ensures.owner.3 ∙ (ap (λ (v : Account). v.put) c.put_together.ensures.owner.2 ∙
+          ap (λ (v : Account). v.put) c.requires.hands.account))
+          (λ h. let taken : Account → ℕ = λ v. sum_of h v.taken in
+          omega (
+            arith,
+            c.take_apart.ensures.books h,
+            ap (sum_of (source_taken h)) (all g d),
+            ap taken c.put_together.ensures.owner.2,
+            ap taken c.requires.hands.account,
+          ))
+          c.put_together.ensures.members.1
+          c.requires.hands.fresh
+          c.requires.hands.idle
+          c.settle.ensures.books
+          c.check_all.ensures.books
+          c.check_all.ensures.stands
+          c.check_all.ensures.fits
+          c.requires.spare,
+    )
+
+pub returns : goal.returns
+returns g c =
+    let d = (goal.at.returns g c).After-work_all in
+    let then : AreOf (ts g d) c.take_apart.new.jobs.items c.take_apart.new.owns.items c.take_apart.new.purses.items =
+    made_of _ (ts g d) c.take_apart.new.jobs.items c.take_apart.new.owns.items c.take_apart.new.purses.items
+    (all g d) c.take_apart.ensures.jobs c.take_apart.ensures.owns c.take_apart.ensures.purses in
+    c.drain_all.ensures c.args.jobs.now.items
+    (ledger_begins (shared g d) g.J.Job.work g.J.Job.runs g.J.Job.spare (ss g d) (ts g d) c.args.jobs.now.items
+    c.take_apart.new.jobs.items c.args.hands.owns.items c.take_apart.new.owns.items c.args.hands.purses.items
+    c.take_apart.new.purses.items (first g d) then (zip g d) c.args.tasks c.settle.new.owns.items
+    c.check_all.new.owns.items (injector_view c.take_apart.new.owner)
+    c.take_apart.ensures.owner.2
+    (c.take_apart.ensures.owner.3 ∙ (ap (λ (v : Account). v.put) c.put_together.ensures.owner.2 ∙
+    ap (λ (v : Account). v.put) c.requires.hands.account))
+    (λ h. let taken : Account → ℕ = λ v. sum_of h v.taken in
+    omega (
+      arith,
+      c.take_apart.ensures.books h,
+      ap (sum_of (source_taken h)) (all g d),
+      ap taken c.put_together.ensures.owner.2,
+      ap taken c.requires.hands.account,
+    ))
+    c.put_together.ensures.members.1
+    c.requires.hands.fresh
+    c.requires.hands.idle
+    c.settle.ensures.books
+    c.check_all.ensures.books
+    c.check_all.ensures.stands
+    c.check_all.ensures.fits
+    c.requires.spare)
