@@ -1,3 +1,4 @@
+pub mod Blanks
 pub mod Boards
 pub mod Events
 pub mod Ledgers

@@ -1,6 +1,5 @@
 //! What a board without events begins with.
-ghost use Rattle.std.specs.Prelude.{◌≡◌, ◌+◌, ◌*◌, ◌≤◌, [], false, IfOk, length, min, replicate};
-ghost use Rattle.std.specs.Prelude.{vec_capacity};
+ghost use Rattle.std.specs.Prelude.{◌≡◌, ◌+◌, ◌≤◌, false, IfOk, length, min, replicate};
 ghost use Rattle.uc_model.specs.PlainCases.{market_of};
 ghost use Rattle.plain_lists.specs.declared.limits.TheConstants.{MOST_AHEAD, MOST_CALLERS};
 ghost use Rattle.plain_lists.specs.declared.limits.TheConstants.{MOST_TASKS};
@@ -8,6 +7,7 @@ ghost use Rattle.uc_model.specs.declared.limits.TheConstants.{MOST_PERIODS};
 ghost use Rattle.uc_model.specs.TaskRoom.{IsTaskFor};
 ghost use Rattle.uc_model.specs.PlainUnits.{prices_of};
 ghost use Rattle.uc_model.specs.PriceRule.{start_prices as start_prices_of};
+ghost use Rattle.board_core.specs.Blanks.{AreBlank};
 ghost use Rattle.board_core.specs.Openings.{blank_ledger, with_openings};
 
 use crate::ledger::Ledger;
@@ -94,13 +94,7 @@ pub fn no_events(
 ) -> Result<EventLists, AllocError>
     requires tasks { tasks ≤ MOST_TASKS }
     requires callers { callers ≤ MOST_CALLERS }
-    ensures history { IfOk result (λ x. x.history.items ≡ []) }
-    ensures room { IfOk result (λ x. vec_capacity x.history ≡ 2 * tasks + callers) }
-    ensures takers { IfOk result (λ x. x.takers.items ≡ []) }
-    ensures takers_room { IfOk result (λ x. vec_capacity x.takers ≡ tasks) }
-    ensures marks { IfOk result (λ x. x.marks.items ≡ replicate tasks false) }
-    ensures counts { IfOk result (λ x. x.counts.items ≡ replicate budget 0) }
-    ensures halted { IfOk result (λ x. x.halted.items ≡ replicate callers false) }
+    ensures { IfOk result (AreBlank tasks budget callers) }
 {
     let history = Vec::with_capacity(alloc, 2 * tasks + callers)?;
     let takers = Vec::with_capacity(alloc, tasks)?;
