@@ -14,17 +14,18 @@
 -- `(x : T) × P` is read 'there is an x with P', `×` between two statements 'and', `⊎` 'or', `⊥`
 -- 'never'.
 --
--- Which files a command names, and what was read of them, is in hull_input's Files; the steps of the
--- commands in its Steps, and in FurtherSteps those of `try` and `audit`; a case with its schedule in
--- its Planned; what makes a report and a side of `fixed` right in right_report's RightReport and
--- RightSide; the texts of a report, a settlement and a certificate in report_form's ReportText,
--- SettlementText and CertificateText; the others in hull_report: CheckText, TryText, BoundText,
--- FixedText, AuditText, FaultLines, and what `settle` and `certify` tell in SettledText and
--- CertifiedText; a case with its schedule's commitments held in fixed_price's FixedCase; which
--- reports are read, and the first line in fault, in report_read's Bounds and Faults; the first line
--- at which a report differs from the right one in report_compare's Right; the bound round a row in
--- gap_proof's Candidates; a settlement at any prices in uplift_settle's Settled; the bound by a
--- mixture in mixture_bound's MixtureBound.
+-- Read hull_input's Files first: which files a command names, and what was read of them. The steps
+-- over files stand in hull_input's Steps, and a case with its schedule in hull_input's Planned.
+-- FurtherSteps has the case that `try` makes, and the judgement of `audit`. What makes a report and
+-- a side of `fixed` right is in right_report's RightReport and RightSide. The texts of a report, a
+-- settlement and a certificate are in report_form's ReportText, SettlementText and CertificateText.
+-- The others are in hull_report: CheckText, TryText, BoundText, FixedText, AuditText, FaultLines,
+-- and what `settle` and `certify` tell in SettledText and CertifiedText. A case with its schedule's
+-- commitments held is in fixed_price's FixedCase. Which reports are read, and the first line in
+-- fault, is in report_read's Bounds and Faults, and the first line at which a report differs from
+-- the right one in report_compare's Right. The bound round a row is in gap_proof's Candidates, a
+-- settlement at any prices in uplift_settle's Settled, and the bound by a mixture in mixture_bound's
+-- MixtureBound.
 use Rattle.std.specs.Prelude.{◌≡◌, ◌⊎◌, ℕ, ℤ, List, length, unsigned_abs, Option, None, Some}
 use Rattle.std.specs.Prelude.{Result, Ok, Err}
 use Rattle.uc_model.specs.Data.{PriceLists}

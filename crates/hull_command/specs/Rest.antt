@@ -1,5 +1,5 @@
 -- What a command comes to before any run, and what is then left of it.
-use Rattle.std.specs.Prelude.{◌≡◌, ⊤, ℕ, List, map, Option, None, Some, Result, Ok, Err}
+use Rattle.std.specs.Prelude.{◌≡◌, ⊤, ℕ, List, Option, None, Some, Result, Ok, Err}
 use Rattle.gap_proof.specs.Sums.{IsRadius}
 use Rattle.hull_io.specs.Edge.{Rose}
 use Rattle.hull_words.specs.Asked.{Asked, check, price, try, bound, fixed, audit, settle}
@@ -9,11 +9,9 @@ use Rattle.hull_words.specs.declared.fault.WordFault.{WordFault}
 use Rattle.hull_report.specs.TryText.{try_text}
 use Rattle.hull_report.specs.declared.fault.TopFault.{TopFault}
 use Rattle.report_form.specs.ReportText.{report_text}
-use Rattle.report_read.specs.Bounds.{IsReport, AreInOrder}
-use Rattle.report_read.specs.Plain.{report_of, told_of}
-use Rattle.report_read.specs.declared.report.Report.{Report}
+use Rattle.report_read.specs.Plain.{report_of}
 use Rattle.board_core.specs.Setups.{IsSetup, setup_of}
-use Rattle.hull_input.specs.Answers.{IsFaultOf, HasReads}
+use Rattle.hull_input.specs.Answers.{IsFaultOf, HasReads, IsFitReport}
 use Rattle.hull_input.specs.Files.{Reads}
 use Rattle.hull_input.specs.Planned.{PlannedCase, planned_run}
 use Rattle.hull_input.specs.Sizes.{IsWorkers}
@@ -74,10 +72,6 @@ pub record EndsIn (c : Command) (gained short : List ℕ → Type 0) (status : �
   pub status_is : status ≡ status_at end
 
 -- ---- what is ready
-
--- a report within the bounds of reading, its units in order
-abbrev pub IsFitReport : Report → Type 0
-IsFitReport r = IsReport (report_of r) × AreInOrder 0 (map told_of r.lines.items)
 
 abbrev pub IsFitPurpose : Purpose → Type 0
 IsFitPurpose (Bound radius) = IsRadius radius

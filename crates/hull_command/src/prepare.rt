@@ -22,7 +22,7 @@ use crate::certify::certified_input;
 use crate::ready::{Prepared, Purpose, Ready};
 use crate::settle::settled_input;
 use case_make::make_case;
-use hull_input::laws::{anything_may_be_read, report_bytes_are_its_text};
+use hull_input::laws::{report_bytes_are_its_text, something_may_be_read};
 use hull_input::{
     Input, MixedInput, ReportedRun, read_input, read_mixed, read_priced, read_reported, read_run,
     within_work,
@@ -250,7 +250,7 @@ pub fn prepare<F: Shelf>(
         → (command_for (words_of (texts words.now))).name_of file ≡ None)
         → shelf.new ≡ shelf.old }
 {
-    anything_may_be_read::<F>();
+    something_may_be_read::<F>();
     let command = command_of(alloc, words)?;
     prepare_command(alloc, shelf, &command)
 }

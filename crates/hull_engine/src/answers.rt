@@ -5,7 +5,8 @@ ghost use Rattle.board_core.specs.Setups.{IsSetup, setup_of};
 ghost use Rattle.hull_input.specs.Planned.{planned_run};
 ghost use Rattle.hull_input.specs.Sizes.{IsWorkers};
 ghost use Rattle.hull_command.specs.Answers.{IsAnswered, IsCommandAnswer};
-ghost use Rattle.hull_command.specs.Rest.{rest_with, nothing_read, IsFitReport};
+ghost use Rattle.hull_command.specs.Rest.{rest_with, nothing_read};
+ghost use Rattle.hull_input.specs.Answers.{IsFitReport};
 ghost use Rattle.hull_command.specs.declared.ready.Purpose.TheVariants as purposes;
 
 use crate::audit::right_proposals;

@@ -10,6 +10,7 @@ use Rattle.hull_report.specs.declared.fault.TopFault.{TopFault}
 use Rattle.hull_report.specs.declared.fault.TopFault.TheVariants.{Memory}
 use Rattle.report_read.specs.Bounds.{IsReport, AreInOrder}
 use Rattle.report_read.specs.Plain.{report_of, told_of}
+use Rattle.report_read.specs.declared.report.Report.{Report}
 use Rattle.hull_input.specs.declared.input.MixedInput.{MixedInput}
 use Rattle.hull_input.specs.declared.input.PricedInput.{PricedInput}
 use Rattle.hull_input.specs.declared.input.ReportedRun.{ReportedRun}
@@ -78,14 +79,16 @@ IsMixedAnswer reads (Err f) = IsFaultOf (Then (IsInput reads) (IsCertifiable rea
 
 -- ---- a run with its report
 
--- a run with the report's budget and number of proposals ahead, and a report within the bounds of
--- reading, its units in order
+-- a report within the bounds of reading, its units in order
+abbrev pub IsFitReport : Report → Type 0
+IsFitReport r = IsReport (report_of r) × AreInOrder 0 (map told_of r.lines.items)
+
+-- such a report, and a run with its budget and number of proposals ahead
 pub record IsFitReported (x : ReportedRun) : Type 0 where
   pub setup : IsSetup (setup_of x.terms)
   pub budget : x.terms.budget ≡ x.report.budget
   pub ahead : x.terms.ahead ≡ x.report.ahead
-  pub bounds : IsReport (report_of x.report)
-  pub order : AreInOrder 0 (map told_of x.report.lines.items)
+  pub report : IsFitReport x.report
 
 -- the report and the run of its budget, or their first refusal, or want of memory
 abbrev pub IsReportedAnswer : Reads → Result ReportedRun TopFault → Type 0

@@ -1,4 +1,4 @@
--- How large a run may be (this project's profile).
+-- How large a run may be, and the numbers that words ask of it (this project's profile).
 use Rattle.std.specs.Prelude.{◌≡◌, ℕ, ◌≤◌}
 use Rattle.plain_lists.specs.declared.limits.TheConstants.{MOST_PROPOSALS, MOST_WORKERS, MOST_AHEAD}
 use Rattle.hull_words.specs.declared.command.PriceWords.{PriceWords}
@@ -24,7 +24,7 @@ pub record IsRunSize (budget workers ahead : ℕ) : Type 0 where
   pub workers_in : IsWorkers workers
   pub ahead_in : IsAhead ahead
 
--- a run has the numbers that the words of `hull price` ask for
+-- a run has the numbers that such words ask for
 pub record HasNumbers (w : PriceWords) (terms : Terms) : Type 0 where
   pub budget : terms.budget ≡ w.proposals
   pub ahead : terms.ahead ≡ w.ahead

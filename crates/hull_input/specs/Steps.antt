@@ -1,6 +1,7 @@
 -- The steps of a command, in the order in which they refuse: each goes on with what it found, or
 -- ends in a refusal (this project's profile). What a file's bytes are is said in uc_case, uc_plan,
--- uc_prices, uc_mixture and report_read, and the rules of a schedule in uc_model.
+-- uc_prices, uc_mixture and report_read, and the rules of a schedule in uc_model. The steps of `try`
+-- and `audit` that read no file are in hull_command's FurtherSteps.
 use Rattle.std.specs.Prelude.{◌≡◌, ℕ, ◌*◌, nat_lt, List, [], length, Option, None, Some, Result}
 use Rattle.std.specs.Prelude.{Ok, Err, slice_get, if◌then◌else◌}
 use Rattle.std.specs.Result.{result_map_both}

@@ -20,7 +20,8 @@ use hull_report::TopFault;
 use hull_words::{AuditWords, CertifyWords, PriceWords, SettleWords};
 use std::alloc::Global;
 
-/// The terms of the run that words ask for, over the case and the schedule of their files.
+/// The terms of the run that words ask for, over the case and the schedule of their files; or the
+/// first fault of a file, or `Work` where the run is above the limit.
 pub fn read_run<F: Shelf>(
     alloc: Global,
     shelf: &mut F,
@@ -43,7 +44,8 @@ pub fn read_run<F: Shelf>(
 }
 
 /// The report of its file, and the run that it is to be the report of: with the report's own budget
-/// and proposals ahead, over the case and the schedule of their files.
+/// and proposals ahead, over the case and the schedule of their files. Or the first fault of a file,
+/// or `Work` where the run is above the limit.
 pub fn read_reported<F: Shelf>(
     alloc: Global,
     shelf: &mut F,
@@ -90,7 +92,8 @@ pub fn read_priced<F: Shelf>(
     Ok(PricedInput { input, prices })
 }
 
-/// The same, and the mixture of its file.
+/// The case, the schedule, the prices and the mixture of the files of these names, or their first
+/// fault.
 pub fn read_mixed<F: Shelf>(
     alloc: Global,
     shelf: &mut F,

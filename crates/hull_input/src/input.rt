@@ -30,21 +30,27 @@ pub struct Input {
 /// A case with its schedule, and prices over its periods.
 #[derive(Drop)]
 pub struct PricedInput {
+    /// The case with its schedule.
     pub input: Input,
+    /// The prices, in money for a kilowatt and period.
     pub prices: Prices,
 }
 
-/// The same, and a mixture of schedules of the case's units.
+/// A case with its schedule, prices over its periods, and a mixture of schedules of its units.
 #[derive(Drop)]
 pub struct MixedInput {
+    /// The case with its schedule and the prices.
     pub priced: PricedInput,
+    /// Feasible schedules of each thermal unit, with their shares.
     pub mixture: Mixture,
 }
 
 /// A report, and the run that it is to be the report of.
 #[derive(Drop)]
 pub struct ReportedRun {
+    /// What the run is for, with the report's own budget and proposals ahead.
     pub terms: Terms,
+    /// The report.
     pub report: Report,
 }
 
@@ -57,8 +63,9 @@ fn work_of(proposals: u32, units: u32, periods: u32) -> u64
     u64::from(proposals) * u64::from(units) * u64::from(periods)
 }
 
-/// The terms of an input's run with so many proposals, so many of them ahead, and so many callers,
-/// where its work is within the limit.
+/// The terms of an input's run with so many proposals, so many of them ahead, and so many callers;
+/// or `TopFault::Work` where proposals, units and periods multiplied are above `MOST_WORK`, a bid
+/// counted as a unit.
 pub fn within_work(input: Input, budget: u32, ahead: u32, callers: u32) -> Result<Terms, TopFault>
     requires planned { IsPlanned input }
     requires size { IsRunSize budget callers ahead }

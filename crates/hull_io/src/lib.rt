@@ -10,7 +10,7 @@ pub mod read;
 pub mod real;
 
 pub use read::{ReadFault, read_whole};
-pub use real::{FileShelf, StdSink, words_of};
+pub use real::{FileShelf, StdSink, called_words};
 
 /// A read failed.
 #[derive(Debug, Clone, Copy, PartialEq, Eq)]

@@ -1,4 +1,4 @@
-// Real files and real output. They tell no bytes: this is the trusted edge.
+//! Real files, real output, and the words of the call. They tell no bytes: this is the trusted edge.
 ghost use Rattle.std.specs.Prelude.{◌≡◌, ◌≤◌, length, IfOk};
 ghost use Rattle.hull_io.specs.declared.real.TheConstants.{LONGEST};
 
@@ -208,7 +208,7 @@ impl<W: Write + Drop> Sink for StdSink<W> {
 
 /// The words that the program was called with, without its name; `Err` where they can't be had, as
 /// for want of memory.
-pub fn words_of<R: Env + AllocGlobal>(rt: &R) -> io::Result<Vec<String>> {
+pub fn called_words<R: Env + AllocGlobal>(rt: &R) -> io::Result<Vec<String>> {
     let mut words = Vec::new(rt.alloc());
     for word in env::args(rt)?.skip(1) {
         words.push(word).map_err(AllocError::from)?;

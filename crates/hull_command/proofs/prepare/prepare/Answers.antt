@@ -5,7 +5,7 @@ pub returns-in_err-command-clause-prepared : goal.returns-in_err-command-clause-
 returns-in_err-command-clause-prepared g c =
     let p = err_from_is_err_and c.from_residual.result c.from_residual.ensures.1 in
     let names = (command_for (words_of (texts c.args.words.now))).name_of in
-    let some = c.anything_may_be_read.ensures c.args.shelf.now c.args.shelf.now names in
+    let some = c.something_may_be_read.ensures c.args.shelf.now c.args.shelf.now names in
     rw (p.1, p.2) (some.0, some.1, c.in_err-command.ensures.refused some.0)
 
 pub returns-clause-prepared : goal.returns-clause-prepared

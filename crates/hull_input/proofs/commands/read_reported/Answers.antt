@@ -82,8 +82,7 @@ returns-clause-fit g c = record {
   setup = c.in_ok-terms.ensures.setup;
   budget = c.in_ok-terms.ensures.budget;
   ahead = c.in_ok-terms.ensures.ahead;
-  bounds = c.in_ok-report.ensures.bounds;
-  order = c.in_ok-report.ensures.order;
+  report = (c.in_ok-report.ensures.bounds, c.in_ok-report.ensures.order);
 }
 
 pub returns-clause-shelf : goal.returns-clause-shelf
