@@ -1,7 +1,7 @@
 -- Forms, cut at their gaps, and what of a form is written.
 use Rattle.report_form.proofs.Common.{◌≡◌, ℕ, suc, ◌+◌, ◌<◌, ◌≤◌, List, [], ◌++◌, length, take, drop, get_or, Option}
-use Rattle.report_form.proofs.Common.{None, Some, Result, IsErr, refl, sym, ap, subst, ◌∙◌, arith, append_assoc, take_all}
-use Rattle.report_form.proofs.Common.{true, false, cond, nat_lt, nat_tests, FallsShort, Writes, Pends}
+use Rattle.report_form.proofs.Common.{None, Some, Result, IsErr, refl, sym, ap, subst, ◌∙◌, arith, append_assoc}
+use Rattle.report_form.proofs.Common.{take_all, true, false, cond, nat_lt, nat_tests, FallsShort, Writes, Pends}
 use Rattle.report_form.proofs.Common.{part_text, is_gap, filled}
 use Rattle.report_form.specs.declared.parts.Part.{Part}
 use Rattle.std.proofs.Math.Seq.{drop-cons}
