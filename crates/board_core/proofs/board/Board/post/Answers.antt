@@ -11,7 +11,8 @@ use Rattle.board_history.specs.declared.entries.Call.TheVariants as calls
 use Rattle.board_core.specs.declared.replies.Posted.TheVariants as replies_of
 use Rattle.board_core.proofs.Lemmas.{content, entries_more, is_task, one_less, is_inside, put_kept, place_before}
 use Rattle.board_core.proofs.Lemmas.{refusal_is, refused_says, taken_here, supply_small, reserve_small, units_few}
-use Rattle.board_core.proofs.Lemmas.{entry_is, setup_in, events_in, lists_in, IsTakenHere}
+use Rattle.plain_lists.specs.declared.limits.TheConstants.{MOST_CALLERS}
+use Rattle.board_core.proofs.Lemmas.{caller_few, entry_is, setup_in, events_in, lists_in, IsTakenHere}
 use Rattle.board_core.proofs.PostEvents.{events_posted}
 use Rattle.board_core.proofs.PostLists.{k_inside, mark_inside, kept_inside, free, count_few, closes_is}
 use Rattle.board_core.proofs.PostRounds.{rounds_in, sums_small, rows_below, legal_post, posts_are, extends}
@@ -487,3 +488,21 @@ returns-clause-after c =
     (answers_kept c.put.new.self) c.post_entry.ensures c.push_reserved.ensures.items kept in
     ap (content (b d)) events ∙ sym (ap (λ r. content (b d) (with_answer (h d) (event d) r)) (ok d).reply) ∙
     ap (λ (z : Content). after_post z (k d) (n d) (u d) (ρ d) (v d) (a d)) c.self.view_is
+
+pub overflow_sub-before : goal.overflow_sub-before
+overflow_sub-before c = (ok (goal.at.overflow_sub-before c).In_default).held.one
+
+pub post_entry-requires-clause-caller : goal.post_entry-requires-clause-caller
+post_entry-requires-clause-caller c =
+    let d = (goal.at.post_entry-requires-clause-caller c).In_default in
+    caller_few c.args.caller (b d).callers MOST_CALLERS (caller d) (I d).setup.callers
+
+pub post_entry-requires-clause-proposal : goal.post_entry-requires-clause-proposal
+post_entry-requires-clause-proposal c =
+    let d = (goal.at.post_entry-requires-clause-proposal c).In_default in
+    le_trans (ok d).held.within (le_trans (I d).ledger.opened (I d).setup.budget)
+
+pub post_entry-requires-clause-unit : goal.post_entry-requires-clause-unit
+post_entry-requires-clause-unit c =
+    let d = (goal.at.post_entry-requires-clause-unit c).In_default in
+    caller_few (u d) (units d) MOST_UNITS (ok d).held.inside (units_few (b d) (I d).setup)
