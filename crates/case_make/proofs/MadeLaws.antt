@@ -1,10 +1,12 @@
 -- What is built step by step is the generated case and schedule.
 use Rattle.case_make.proofs.Common.{◌≡◌, ℕ, ◌*◌, ◌/◌, ◌≤◌, ℤ, pos, List, [], ◌++◌, replicate, length, ap, ◌∙◌, arith}
-use Rattle.case_make.proofs.Common.{length-replicate, get_or-replicate, fill_by_all, Lcg, NamedThermalUnit}
+use Rattle.case_make.proofs.Common.{length-replicate, get_or-replicate, fill_by_all, Lcg, NamedThermalUnit, refl}
 use Rattle.case_make.proofs.Common.{NamedRenewableUnit, NamedBidUnit, Schedule, Market, int_at, AreSums, IsSmall}
 use Rattle.case_make.proofs.Common.{thermal_units, thermal_plan, renewable_units, renewable_plans, power_sum}
 use Rattle.case_make.proofs.Common.{reserve_sum, demand_of, requirement_of, plan_from, market_from, moved_on}
-use Rattle.case_make.proofs.LaterLaws.{renewable_units_later, renewable_plans_later}
+use Rattle.std.specs.Prelude.{Result, Ok, Err, IfOk}
+use Rattle.case_make.specs.Made.{market_for}
+use Rattle.case_make.proofs.LaterLaws.{renewable_plans_later}
 
 pub plan_made : (g h : Lcg) (before plan : List Schedule) → before ≡ thermal_plan g 73 →
     plan ≡ before ++ renewable_plans h 0 81 → h ≡ moved_on (9 * 73) g → plan ≡ plan_from g
@@ -29,10 +31,9 @@ requirement_made plan powers required reserve h is =
     (λ k low. ap (λ (xs : List ℤ). int_at xs k) is ∙ get_or-replicate 48 k part (pos 0) low ∙
     ap (λ (n : ℕ). pos (n * 9 / 10)) (h.reserve_is k low))
 
-pub market_made : (g h : Lcg) (plan : List Schedule) (demand reserves : List ℤ) (thermal : List NamedThermalUnit)
+pub market_made : (plan : List Schedule) (demand reserves : List ℤ) (thermal : List NamedThermalUnit)
     (flat : List NamedRenewableUnit) (bids : List NamedBidUnit) →
-    plan ≡ plan_from g → h ≡ moved_on (9 * 73) g → demand ≡ demand_of plan → reserves ≡ requirement_of plan →
-    thermal ≡ thermal_units g 73 → flat ≡ renewable_units h 0 81 → bids ≡ [] →
+    demand ≡ demand_of plan → reserves ≡ requirement_of plan → bids ≡ [] →
     (let m : Market = record {
       periods = 48;
       demand = demand;
@@ -40,10 +41,25 @@ pub market_made : (g h : Lcg) (plan : List Schedule) (demand reserves : List ℤ
       thermal = thermal;
       flat = flat;
       bids = bids;
-    } in m ≡ market_from g)
+    } in m ≡ market_for plan thermal flat)
+market_made plan demand reserves thermal flat bids d r b = cc
+
+pub market_for_is : (g : Lcg) (plan : List Schedule) (thermal : List NamedThermalUnit)
+    (flat : List NamedRenewableUnit) → plan ≡ plan_from g → thermal ≡ thermal_units g 73 →
+    flat ≡ renewable_units g (9 * 73) 81 → market_for plan thermal flat ≡ market_from g
 unfolding market_from
-market_made g h plan demand reserves thermal flat bids is moved d r t f b =
-    cc (renewable_units_later (9 * 73) 81 g h moved)
+market_for_is g plan thermal flat is t f = rw (is, t, f) refl
+
+-- ---- what follows of a result, where there is one
+
+pub if_made : {A E : Type 0} (P Q : A → Type 0) (r : Result A E) → ((x : A) → P x → Q x) → IfOk r P → IfOk r Q
+if_made P Q (Ok x) f h = f x h
+if_made P Q (Err e) f h = tt
+
+pub if_both : {A E : Type 0} (P Q R : A → Type 0) (r : Result A E) → ((x : A) → P x → Q x → R x) → IfOk r P →
+    IfOk r Q → IfOk r R
+if_both P Q R (Ok x) f h k = f x h k
+if_both P Q R (Err e) f h k = tt
 
 pub reserve_low : (plan : List Schedule) (powers : List ℤ) (reserve : ℕ) → AreSums plan powers reserve →
     IsSmall 100000000 plan → reserve ≤ 1000000000

@@ -69,15 +69,19 @@ requirement_of plan = map (λ k. pos (reserve_sum plan k * 9 / 10)) (range_with_
 unfoldable pub plan_from : Lcg → List Schedule
 plan_from g = thermal_plan g 73 ++ renewable_plans g (9 * 73) 81
 
-unfoldable pub market_from : Lcg → Market
-market_from g = record {
+-- the case of units whose demand and required reserve follow from a plan
+abbrev pub market_for : List Schedule → List NamedThermalUnit → List NamedRenewableUnit → Market
+market_for plan thermal flat = record {
   periods = 48;
-  demand = demand_of (plan_from g);
-  reserves = requirement_of (plan_from g);
-  thermal = thermal_units g 73;
-  flat = renewable_units g (9 * 73) 81;
+  demand = demand_of plan;
+  reserves = requirement_of plan;
+  thermal = thermal;
+  flat = flat;
   bids = [];
 }
+
+unfoldable pub market_from : Lcg → Market
+market_from g = market_for (plan_from g) (thermal_units g 73) (renewable_units g (9 * 73) 81)
 
 pub record Pair : Type 0 where
   pub market : Market

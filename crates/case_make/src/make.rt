@@ -1,6 +1,7 @@
 //! The whole case.
 ghost use Rattle.std.specs.Prelude.{◌≡◌, ◌+◌, ◌*◌, ◌≤◌, ◌<◌, [], ◌∷◌, ◌++◌, IfOk, OnOk, map};
 ghost use Rattle.rand_pcg.specs.Lcg.{Lcg};
+ghost use Rattle.uc_model.specs.Limits.{IsMarket};
 ghost use Rattle.uc_model.specs.PlainCases.{market_of, schedules_of};
 ghost use Rattle.uc_model.specs.PlainUnits.{named_thermal_of, named_renewable_of};
 ghost use Rattle.uc_model.specs.Systems.{IsFeasiblePlan};
@@ -8,10 +9,11 @@ ghost use Rattle.case_make.specs.Drawn.{unit_draws, unit_of, unit_schedule, most
 ghost use Rattle.case_make.specs.Drawn.{renewable_of, full};
 ghost use Rattle.case_make.specs.Grown.{plan_of, IsSummed, IsSmall, HasRoom};
 ghost use Rattle.case_make.specs.Made.{name_of, thermal_units, thermal_plan, renewable_units};
-ghost use Rattle.case_make.specs.Made.{renewable_plans, made};
+ghost use Rattle.case_make.specs.Made.{renewable_plans, plan_from, market_for, made};
+ghost use Rattle.case_make.specs.Sizes.{AreDrawn, ArePowers};
 ghost use Rattle.case_make.specs.Words.{moved_on};
 
-use crate::draws::draw_unit;
+use crate::draws::{UnitDraws, draw_unit};
 use crate::growing::Growing;
 use crate::names::name;
 use crate::renewables::{draw_powers, full, renewable};
@@ -20,7 +22,7 @@ use crate::units::unit;
 use rand_pcg::Pcg32;
 use std::alloc::{AllocError, Global};
 use uc_model::cases::{Case, Plan};
-use uc_model::units::{BidList, FlatList, NamedFlat, NamedUnit, ThermalList};
+use uc_model::units::{BidList, FlatList, NamedFlat, NamedUnit, Powers, ThermalList};
 
 /// Periods of a generated case.
 pub const PERIODS: u32 = 48;
@@ -34,7 +36,19 @@ pub const UNITS: u32 = THERMAL_UNITS + RENEWABLE_UNITS;
 
 const STREAM: u64 = 54;
 
-// Draws the next thermal unit, names it, and adds its schedule.
+// The thermal unit of its draws, named.
+fn named_unit(alloc: Global, draws: &UnitDraws, number: u32) -> Result<NamedUnit, AllocError>
+    requires draws { AreDrawn draws.now }
+    requires number { number < 100 }
+    ensures { IfOk result (λ n. named_thermal_of n
+        ≡ record { name = name_of 84 number; unit = unit_of draws.now }) }
+{
+    let name = name(alloc, b'T', number)?;
+    let unit = unit(alloc, draws)?;
+    Ok(NamedUnit { name, unit })
+}
+
+// Draws the next thermal unit, adds its schedule, and names it.
 fn add_unit(
     alloc: Global,
     random: &mut Pcg32,
@@ -54,10 +68,8 @@ fn add_unit(
     ensures room { OnOk result (plan.new.responses.spare + 1 ≡ plan.old.responses.spare) }
 {
     let draws = draw_unit(random);
-    let name = name(alloc, b'T', number)?;
-    let unit = unit(alloc, &draws)?;
     plan.push(unit_schedule(alloc, &draws)?);
-    Ok(NamedUnit { name, unit })
+    named_unit(alloc, &draws, number)
 }
 
 fn add_thermal(
@@ -83,6 +95,18 @@ fn add_thermal(
     Ok(units)
 }
 
+// The renewable unit of its greatest powers, named.
+fn named_flat(alloc: Global, powers: &Powers, number: u32) -> Result<NamedFlat, AllocError>
+    requires powers { ArePowers powers.now.items }
+    requires number { number < 100 }
+    ensures { IfOk result (λ n. named_renewable_of n
+        ≡ record { name = name_of 82 number; unit = renewable_of powers.now.items }) }
+{
+    let name = name(alloc, b'R', number)?;
+    let flat = renewable(alloc, powers)?;
+    Ok(NamedFlat { name, flat })
+}
+
 // Draws the next renewable unit, names it, and adds its schedule.
 fn add_flat(
     alloc: Global,
@@ -103,10 +127,9 @@ fn add_flat(
     ensures room { OnOk result (plan.new.responses.spare + 1 ≡ plan.old.responses.spare) }
 {
     let powers = draw_powers(alloc, random)?;
-    let name = name(alloc, b'R', number)?;
-    let flat = renewable(alloc, &powers)?;
+    let unit = named_flat(alloc, &powers, number)?;
     plan.push(full(alloc, powers)?);
-    Ok(NamedFlat { name, flat })
+    Ok(unit)
 }
 
 fn add_renewables(
@@ -131,21 +154,43 @@ fn add_renewables(
     Ok(units)
 }
 
-/// The case and the feasible schedule that a number stands for: 73 thermal units `T01` to `T73` and
-/// 81 renewable units `R01` to `R81` over 48 periods, all marks free, no bid. Each unit that is on
-/// before the horizon stays on, each other stays off, demand is the schedule's total power, and
-/// nine tenths of its reserve are required. Powers are in kilowatts and costs in millionths of the
-/// currency. `AllocError` is want of memory.
-pub fn make_case(alloc: Global, number: u64) -> Result<(Case, Plan), AllocError>
-    ensures case { IfOk result (λ pair. market_of pair.0 ≡ (made number).market) }
-    ensures plan { IfOk result (λ pair. schedules_of pair.1 ≡ (made number).plan) }
-    ensures feasible { IfOk result
-        (λ pair. IsFeasiblePlan (market_of pair.0) (schedules_of pair.1)) }
+// Adds all units to an empty plan.
+fn add_units(
+    alloc: Global,
+    random: &mut Pcg32,
+    plan: &mut Growing,
+) -> Result<(ThermalList, FlatList), AllocError>
+    requires empty { plan_of plan.old ≡ [] }
+    requires room { HasRoom 154 plan.old }
+    requires summed { IsSummed plan.old }
+    ensures thermal { IfOk result (λ lists. map named_thermal_of lists.0.items
+        ≡ thermal_units random.old 73) }
+    ensures flat { IfOk result (λ lists. map named_renewable_of lists.1.items
+        ≡ renewable_units random.old (9 * 73) 81) }
+    ensures plan { OnOk result (plan_of plan.new ≡ plan_from random.old) }
+    ensures summed { OnOk result (IsSummed plan.new) }
 {
-    let mut random = Pcg32::new(number, STREAM);
-    let mut plan = Growing::make(alloc)?;
-    let thermal = add_thermal(alloc, &mut random, &mut plan)?;
-    let flat = add_renewables(alloc, &mut random, &mut plan)?;
+    let thermal = add_thermal(alloc, random, plan)?;
+    let flat = add_renewables(alloc, random, plan)?;
+    Ok((thermal, flat))
+}
+
+// The case of units whose demand and reserve follow from a plan, with that plan.
+fn case_of(
+    alloc: Global,
+    plan: Growing,
+    thermal: ThermalList,
+    flat: FlatList,
+) -> Result<(Case, Plan), AllocError>
+    requires summed { IsSummed plan }
+    requires small { IsSmall 100000000 (plan_of plan) }
+    requires market { IsMarket (market_for (plan_of plan) (map named_thermal_of thermal.items)
+        (map named_renewable_of flat.items)) }
+    ensures case { IfOk result (λ pair. market_of pair.0
+        ≡ market_for (plan_of plan) (map named_thermal_of thermal.items)
+        (map named_renewable_of flat.items)) }
+    ensures plan { IfOk result (λ pair. schedules_of pair.1 ≡ plan_of plan) }
+{
     let reserves = plan.requirements(alloc)?;
     let bids = BidList::make(alloc, 0)?;
     let Growing {
@@ -162,4 +207,21 @@ pub fn make_case(alloc: Global, number: u64) -> Result<(Case, Plan), AllocError>
         bids,
     };
     Ok((case, Plan { responses }))
+}
+
+/// The case and the feasible schedule that a number stands for: 73 thermal units `T01` to `T73` and
+/// 81 renewable units `R01` to `R81` over 48 periods, all marks free, no bid. Each unit that is on
+/// before the horizon stays on, each other stays off, demand is the schedule's total power, and
+/// nine tenths of its reserve are required. Powers are in kilowatts and costs in millionths of the
+/// currency. `AllocError` is want of memory.
+pub fn make_case(alloc: Global, number: u64) -> Result<(Case, Plan), AllocError>
+    ensures case { IfOk result (λ pair. market_of pair.0 ≡ (made number).market) }
+    ensures plan { IfOk result (λ pair. schedules_of pair.1 ≡ (made number).plan) }
+    ensures feasible { IfOk result
+        (λ pair. IsFeasiblePlan (market_of pair.0) (schedules_of pair.1)) }
+{
+    let mut random = Pcg32::new(number, STREAM);
+    let mut plan = Growing::make(alloc)?;
+    let (thermal, flat) = add_units(alloc, &mut random, &mut plan)?;
+    case_of(alloc, plan, thermal, flat)
 }
