@@ -7,7 +7,9 @@ use Rattle.case_make.proofs.Common.{Schedule, int_at, UnitDraws, unit_draws, is_
 use Rattle.case_make.proofs.Common.{is_high, power_at, running, idle, unit_schedule, most_powers, full, AreSums}
 use Rattle.case_make.proofs.Common.{IsSmall, IsSteady, unit_place, unit_plan, thermal_plan, renewable_place}
 use Rattle.case_make.proofs.Common.{renewable_plan, renewable_plans, power_sum, reserve_sum, AreDrawn, ArePowers}
+use Rattle.case_make.proofs.Common.{◌∷◌, ◌+◌, ◌+ℤ◌, zero, suc, refl, subst, ints, IsPower}
 use Rattle.std.proofs.lemmas.Bool.{cases_lt}
+use Rattle.std.proofs.lemmas.List.Sums.{sum_by_push}
 use Rattle.case_make.proofs.Bounds.{has_range, draws_within}
 use Rattle.case_make.proofs.RenewableLaws.{powers_within}
 
@@ -21,6 +23,42 @@ no_sums plan powers none is = record {
       ∙ sym (ap (λ (p : List Schedule). pos (power_sum p k)) none);
   reserve_is = λ k low. sym (ap (λ (p : List Schedule). reserve_sum p k) none);
 }
+
+either : {A : Type 0} (xs : List A) (k : ℕ) (d e : A) → k < length xs → get_or xs k d ≡ get_or xs k e
+either [] k d e lt = absurd (omega (arith, lt))
+either (x ∷ xs) zero d e lt = refl
+either (x ∷ xs) (suc k) d e lt = either xs k d e (omega (arith, lt))
+
+-- each sum of small schedules is a power
+pub sums_powers : (plan : List Schedule) (powers : List ℤ) (reserve : ℕ) → AreSums plan powers reserve →
+    IsSmall 100000000 plan → All IsPower powers
+sums_powers plan powers reserve h small = λ k d lt.
+    let count = h.count in
+    let low : k < 48 = omega (arith, lt, count) in
+    let most = small.powers k in
+    subst IsPower (sym (either powers k d (pos 0) lt ∙ h.powers_are k low))
+    (record { at_least = omega (arith, ints); at_most = omega (arith, ints, most) })
+
+-- the sums with one schedule more
+pub sums_more : (plan : List Schedule) (s : Schedule) (powers new : List ℤ) (before after : ℕ) →
+    AreSums plan powers before → IsSteady s → length new ≡ length powers →
+    ((k : ℕ) → k < length powers → int_at new k ≡ int_at powers k +ℤ pos (slice_index s.power k)) →
+    after ≡ before + slice_index s.reserve 0 → AreSums (plan ++ s ∷ []) new after
+sums_more plan s powers new before after h steady same added is =
+    let count = h.count in
+    record {
+      count = same ∙ count;
+      powers_are = λ k low.
+          let e = added k (omega (arith, low, count)) in
+          let f = h.powers_are k low in
+          let g = sum_by_push (λ (t : Schedule). slice_index t.power k) plan s in
+          omega (arith, ints, e, f, g);
+      reserve_is = λ k low.
+          let e = h.reserve_is k low in
+          let f = steady.same k low in
+          let g = sum_by_push (λ (t : Schedule). slice_index t.reserve k) plan s in
+          omega (arith, is, e, f, g);
+    }
 
 -- ---- one schedule: its lists, and the greatest power and reserve
 
