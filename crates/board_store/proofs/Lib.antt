@@ -2,8 +2,8 @@
 pub mod Common
 -- the answers of a store, and one of them written in place
 pub mod Answers
--- lists of one length, one after another in one list
-pub mod Parts
+-- rows kept as runs
+pub mod Runs
 -- a table with one more row written
 pub mod Tables
 -- The lemmas that answers cite.

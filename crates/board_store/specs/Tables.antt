@@ -1,8 +1,8 @@
--- Rows of one length, where places with the same row may share its cells.
+-- Rows of one length, where places with the same row may share its runs.
 use Rattle.std.specs.Prelude.{◌≡◌, ℕ, suc, ◌*◌, ◌≤◌, List, length, map, slice_index, refl}
 use Rattle.std.specs.Coded.{Coded, code_by, coded×, coded_ℕ, coded_list}
-use Rattle.board_store.specs.Parts.{part}
-use Rattle.plain_lists.specs.declared.limits.TheConstants.{MOST_TASKS}
+use Rattle.board_store.specs.Runs.{from_run, row_at}
+use Rattle.plain_lists.specs.declared.limits.TheConstants.{MOST_TASKS, MOST_WORK}
 
 -- what a contract sees of a table: its rows by their places, and how many more may be put
 pub record Rows (T : Type 0) : Type 0 where
@@ -18,14 +18,18 @@ rows_code {T} code =
     (λ r. ((r.long, r.left), r.rows))
     (λ p. record { long = p.0.0; left = p.0.1; rows = p.1 }) (λ _. refl)
 
--- the rows of these ordinals
-abbrev pub rows_in : {T : Type 0} → ℕ → List T → List ℕ → List (List T)
-rows_in long cells ordinals = map (part cells long) ordinals
+-- the rows whose runs begin at these places
+abbrev pub rows_in : {T : Type 0} → ℕ → List ℕ → List T → List ℕ → List (List T)
+rows_in long lengths values starts = map (row_at long lengths values) starts
 
--- so many rows have cells beside the first, and there is room for one more at each place
-pub record IsTable (long : ℕ) (ordinals : List ℕ) (used : ℕ) (cells room : ℕ) : Type 0 where
-  pub size : cells ≡ suc used * long
-  pub within : (k : ℕ) → slice_index ordinals k ≤ used
-  pub few : used ≤ length ordinals
-  pub count : length ordinals ≤ MOST_TASKS
-  pub fits : suc (length ordinals) * long ≤ room
+-- each start has the runs of a whole row, and there is room for one more row at each place
+pub record IsTable {T : Type 0} (long : ℕ) (starts : List ℕ) (used : ℕ) (lengths : List ℕ) (values : List T)
+    (lengths_room values_room : ℕ) : Type 0 where
+  pub pairs : length lengths ≡ length values
+  pub whole : (k : ℕ) → long ≤ length (from_run lengths values (slice_index starts k))
+  pub few : used ≤ length starts
+  pub runs : length lengths ≤ suc used * long
+  pub count : length starts ≤ MOST_TASKS
+  pub size : length starts * long ≤ MOST_WORK
+  pub lengths_fit : suc (length starts) * long ≤ lengths_room
+  pub values_fit : suc (length starts) * long ≤ values_room

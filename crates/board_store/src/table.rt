@@ -1,8 +1,8 @@
 //! Rows of one length, each of which is kept once where another is like it.
-ghost use Rattle.std.specs.Prelude.{◌≡◌, ◌+◌, ◌*◌, ◌<◌, ◌≤◌, ◌↔◌, [], ◌++◌, length, IfOk, IsTrue};
+ghost use Rattle.std.specs.Prelude.{◌≡◌, ◌+◌, ◌*◌, ◌<◌, ◌≤◌, ◌↔◌, [], ◌++◌, length, IfOk, IsTrue, take};
 ghost use Rattle.std.specs.Prelude.{replicate, slice_index_or, slice_set, vec_len, vec_capacity};
 ghost use Rattle.plain_lists.specs.declared.limits.TheConstants.{MOST_TASKS, MOST_WORK};
-ghost use Rattle.board_store.specs.Parts.{part};
+ghost use Rattle.board_store.specs.Runs.{laid_out, from_run, row_at, IsAdded};
 
 use plain_lists::lists::ReservedList;
 use std::alloc::{AllocError, Global};
@@ -10,32 +10,56 @@ use std::marker::Model;
 
 /// What a row has in each period.
 pub trait Cell: Copy + Drop {
+    /// Whether it is the same as another.
+    fn is(self, other: Self) -> bool
+        ensures { IsTrue result ↔ (self ≡ other) };
+
     /// Whether two rows are the same.
     fn are_same(row: &[Self], other: &[Self]) -> bool
         ensures { IsTrue result ↔ (row.now ≡ other.now) };
 }
 
+impl Cell for u8 {
+    fn is(self, other: u8) -> bool {
+        self == other
+    }
+
+    fn are_same(row: &[u8], other: &[u8]) -> bool {
+        row == other
+    }
+}
+
 impl Cell for u32 {
+    fn is(self, other: u32) -> bool {
+        self == other
+    }
+
     fn are_same(row: &[u32], other: &[u32]) -> bool {
         row == other
     }
 }
 
 impl Cell for bool {
+    fn is(self, other: bool) -> bool {
+        self == other
+    }
+
     fn are_same(row: &[bool], other: &[bool]) -> bool {
         row == other
     }
 }
 
-/// Rows of one length, at first all blank. Places with the same row may share its cells, so a row
+/// Rows of one length, at first all blank. Places with the same row may share its runs, so a row
 /// that was written is never written over.
 pub struct Table<T> {
     long: usize,
-    // for each place which of the rows with cells is there, counted from 0, the blank one
-    ordinals: Vec<u32>,
-    // how many rows have cells beside the blank one
+    // for each place where the runs of its row begin, counted from 0
+    starts: Vec<u32>,
+    // how many rows were written beside the blank one
     used: usize,
-    cells: Vec<T>,
+    // of each run, over how many periods it goes and what is there
+    lengths: Vec<u8>,
+    values: Vec<T>,
 }
 
 // Written out, so that a drop of it is a call, and not one for each list.
@@ -43,9 +67,10 @@ impl<T: Drop> Drop for Table<T> {
     fn drop(self) {
         let Table {
             long: _,
-            ordinals: _,
+            starts: _,
             used: _,
-            cells: _,
+            lengths: _,
+            values: _,
         } = self;
     }
 }
@@ -61,55 +86,164 @@ impl<T> Model for Table<T> {
     ghost view = { λ t. record {
       long = t.long;
       left =
-          length t.ordinals.items - t.used;
-      rows = rows_in t.long t.cells.items t.ordinals.items;
+          length t.starts.items - t.used;
+      rows = rows_in t.long t.lengths.items t.values.items t.starts.items;
     } };
 
-    ghost invariant = { λ t. IsTable t.long t.ordinals.items t.used (length t.cells.items)
-        (vec_capacity t.cells) };
+    ghost invariant = { λ t. IsTable t.long t.starts.items t.used t.lengths.items t.values.items
+        (vec_capacity t.lengths) (vec_capacity t.values) };
 }
 
-fn no_ordinals(alloc: Global, count: usize) -> Result<Vec<u32>, AllocError>
+fn no_starts(alloc: Global, count: usize) -> Result<Vec<u32>, AllocError>
     ensures { IfOk result (λ v. v.items ≡ replicate count 0) }
 {
     vec![in alloc; 0; count]
 }
 
-// A blank row, with room for so many others.
-fn blank_row<T: Cell>(
-    alloc: Global,
-    count: usize,
-    long: u32,
-    blank: T,
-) -> Result<Vec<T>, AllocError>
-    requires size { count * long ≤ MOST_WORK }
-    ensures row { IfOk result (λ v. v.items ≡ replicate long blank) }
-    ensures room { IfOk result (λ v. count * long + long ≤ vec_capacity v) }
+// Adds runs of so many blanks, where there is room for as many runs.
+fn add_blanks<T: Cell>(lengths: &mut Vec<u8>, values: &mut Vec<T>, count: usize, blank: T)
+    requires empty { (lengths.old.items ≡ []) × (values.old.items ≡ []) }
+    requires room { (count ≤ vec_capacity lengths.old) × (count ≤ vec_capacity values.old) }
+    ensures pairs { length lengths.new.items ≡ length values.new.items }
+    ensures few { length lengths.new.items ≤ count }
+    ensures blanks { laid_out lengths.new.items values.new.items ≡ replicate count blank }
+    ensures lengths_room { vec_capacity lengths.old ≤ vec_capacity lengths.new }
+    ensures values_room { vec_capacity values.old ≤ vec_capacity values.new }
 {
-    let mut cells = Vec::with_capacity(alloc, count * long as usize + long as usize)?;
-    for _ in 0..long {
-        cells.push_reserved(blank);
+    let mut left = count;
+    while left > 0 {
+        let length = left.min(255);
+        lengths.push_reserved(length as u8);
+        values.push_reserved(blank);
+        left -= length;
     }
-    Ok(cells)
 }
 
-// Adds a row at the end of others that have room for it.
-fn append<T: Cell>(cells: &mut Vec<T>, row: &[T])
-    requires { vec_len cells.old + length row.now ≤ vec_capacity cells.old }
-    ensures items { cells.new.items ≡ cells.old.items ++ row.now }
-    ensures capacity { vec_capacity cells.old ≤ vec_capacity cells.new }
+// How many cells at the front are the same as the first, at most 255.
+fn run_length<T: Cell>(cells: &[T]) -> usize
+    requires { 1 ≤ length cells.now }
+    ensures some { 1 ≤ result }
+    ensures most { result ≤ 255 }
+    ensures inside { result ≤ length cells.now }
+    ensures same { (d : T) → take result cells.now ≡ replicate result (slice_index_or cells.now 0 d) }
 {
-    // There is room, so it can't fail and takes no memory.
-    let _ = cells.extend_from_slice(row);
+    let first = cells[0];
+    for (count, cell) in cells.iter().enumerate() {
+        if count == 255 || !cell.is(first) {
+            return count;
+        }
+    }
+    cells.len()
 }
 
-// Whether the row of an ordinal is another.
-fn is_row<T: Cell>(cells: &[T], ordinal: u32, row: &[T]) -> bool
-    requires { ordinal * length row.now + length row.now ≤ length cells.now }
-    ensures { IsTrue result ↔ (part cells.now (length row.now) ordinal ≡ row.now) }
+// Adds the runs of a row at the end of others that have room for as many as the row has cells.
+fn append<T: Cell>(lengths: &mut Vec<u8>, values: &mut Vec<T>, row: &[T])
+    requires pairs { length lengths.old.items ≡ length values.old.items }
+    requires lengths_room { vec_len lengths.old + length row.now ≤ vec_capacity lengths.old }
+    requires values_room { vec_len values.old + length row.now ≤ vec_capacity values.old }
+    ensures added { IsAdded lengths.old.items values.old.items lengths.new.items values.new.items row.now }
+    ensures few { length lengths.new.items ≤ length lengths.old.items + length row.now }
+    ensures lengths_capacity { vec_capacity lengths.old ≤ vec_capacity lengths.new }
+    ensures values_capacity { vec_capacity values.old ≤ vec_capacity values.new }
 {
-    let from = ordinal as usize * row.len();
-    T::are_same(&cells[from..from + row.len()], row)
+    let mut rest = row;
+    while !rest.is_empty() {
+        let length = run_length(rest);
+        lengths.push_reserved(length as u8);
+        values.push_reserved(rest[0]);
+        rest = rest.split_at(length).1;
+    }
+}
+
+// Whether all cells are the same as one. All are looked at, which takes fewer instructions than to
+// stop at one that differs.
+fn are_all<T: Cell>(cells: &[T], value: T) -> bool
+    ensures { IsTrue result ↔ (cells.now ≡ replicate (length cells.now) value) }
+{
+    let mut same = true;
+    for cell in cells {
+        same = cell.is(value) & same;
+    }
+    same
+}
+
+// Whether a run is all the same as a value. Many runs take one period.
+fn is_run<T: Cell>(run: &[T], value: T) -> bool
+    ensures { IsTrue result ↔ (run.now ≡ replicate (length run.now) value) }
+{
+    match run {
+        [cell] => cell.is(value),
+        _ => are_all(run, value),
+    }
+}
+
+// Whether a row is at a place in runs that take one period each, as that of a unit whose powers
+// differ from period to period. To see so takes fewer instructions than to go from run to run.
+fn has_cells<T: Cell>(lengths: &[u8], values: &[T], start: usize, row: &[T]) -> bool
+    requires pairs { length lengths.now ≡ length values.now }
+    ensures { IsTrue result → row_at (length row.now) lengths.now values.now start ≡ row.now }
+{
+    if start >= lengths.len() || lengths[start] != 1 || row.len() > lengths.len() - start {
+        return false;
+    }
+    let end = start + row.len();
+    T::are_same(&values[start..end], row) && are_all(&lengths[start..end], 1)
+}
+
+// Whether a row is the one whose runs begin at a place.
+fn is_row<T: Cell>(lengths: &[u8], values: &[T], start: usize, row: &[T]) -> bool
+    requires pairs { length lengths.now ≡ length values.now }
+    requires whole { length row.now ≤ length (from_run lengths.now values.now start) }
+    ensures { IsTrue result ↔ (row_at (length row.now) lengths.now values.now start ≡ row.now) }
+{
+    if has_cells(lengths, values, start, row) {
+        return true;
+    }
+    let mut at = start;
+    let mut rest = row;
+    while !rest.is_empty() {
+        let (run, later) = rest.split_at(rest.len().min(lengths[at] as usize));
+        if !is_run(run, values[at]) {
+            return false;
+        }
+        rest = later;
+        at += 1;
+    }
+    true
+}
+
+// Adds so many copies where there is room for them.
+fn add_copies<T: Cell>(into: &mut ReservedList<T>, count: usize, value: T)
+    requires { count ≤ into.old.spare }
+    ensures items { into.new.items ≡ into.old.items ++ replicate count value }
+    ensures spare { into.new.spare + count ≡ into.old.spare }
+{
+    for _ in 0..count {
+        into.push(value);
+    }
+}
+
+// Adds the row whose runs begin at a place.
+fn add_row<T: Cell>(
+    lengths: &[u8],
+    values: &[T],
+    start: usize,
+    long: usize,
+    into: &mut ReservedList<T>,
+)
+    requires pairs { length lengths.now ≡ length values.now }
+    requires whole { long ≤ length (from_run lengths.now values.now start) }
+    requires room { long ≤ into.old.spare }
+    ensures { into.new.items ≡ into.old.items ++ row_at long lengths.now values.now start }
+{
+    let mut at = start;
+    let mut left = long;
+    while left > 0 {
+        let count = left.min(lengths[at] as usize);
+        add_copies(into, count, values[at]);
+        left -= count;
+        at += 1;
+    }
 }
 
 impl<T: Cell> Table<T> {
@@ -121,17 +255,22 @@ impl<T: Cell> Table<T> {
         ensures long { IfOk result (λ t. t.long ≡ long) }
         ensures left { IfOk result (λ t. t.left ≡ count) }
     {
-        let ordinals = no_ordinals(alloc, count)?;
-        let cells = blank_row(alloc, count, long, blank)?;
+        let long = long as usize;
+        let room = count * long + long;
+        let starts = no_starts(alloc, count)?;
+        let mut lengths = Vec::with_capacity(alloc, room)?;
+        let mut values = Vec::with_capacity(alloc, room)?;
+        add_blanks(&mut lengths, &mut values, long, blank);
         Ok(Table {
-            long: long as usize,
-            ordinals,
+            long,
+            starts,
             used: 0,
-            cells,
+            lengths,
+            values,
         })
     }
 
-    /// Writes a row at a place. `like` is a place whose row may well be the same: then no cell is
+    /// Writes a row at a place. `like` is a place whose row may well be the same: then no run is
     /// written. Takes no memory.
     pub fn put(&mut self, place: usize, row: &[T], like: usize)
         requires place { place < length self.old.rows }
@@ -142,18 +281,18 @@ impl<T: Cell> Table<T> {
         ensures long { self.new.long ≡ self.old.long }
         ensures left { self.old.left ≤ self.new.left + 1 }
     {
-        let ordinal = self.ordinals[like];
-        if is_row(&self.cells, ordinal, row) {
-            self.ordinals[place] = ordinal;
+        let start = self.starts[like];
+        if is_row(&self.lengths, &self.values, start as usize, row) {
+            self.starts[place] = start;
             return;
         }
-        if is_row(&self.cells, 0, row) {
-            self.ordinals[place] = 0;
+        if is_row(&self.lengths, &self.values, 0, row) {
+            self.starts[place] = 0;
             return;
         }
         self.used += 1;
-        self.ordinals[place] = self.used as u32;
-        append(&mut self.cells, row);
+        self.starts[place] = self.values.len() as u32;
+        append(&mut self.lengths, &mut self.values, row);
     }
 
     /// Leaves the row at a place in a list that has room for it. Takes no memory.
@@ -163,7 +302,8 @@ impl<T: Cell> Table<T> {
         ensures row { into.new.items ≡ slice_index_or self.now.rows place [] }
         ensures long { length into.new.items ≡ self.now.long }
     {
-        let from = self.ordinals[place] as usize * self.long;
-        into.copy_from(&self.cells[from..from + self.long]);
+        into.clear();
+        let start = self.starts[place] as usize;
+        add_row(&self.lengths, &self.values, start, self.long, into);
     }
 }

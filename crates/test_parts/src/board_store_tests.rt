@@ -1,4 +1,4 @@
-ghost use Rattle.std.specs.Prelude.{◌≡◌, ◌<◌, length, IfOk};
+ghost use Rattle.std.specs.Prelude.{◌≡◌, ◌<◌, ◌≤◌, length, IfOk};
 ghost use Rattle.uc_model.specs.PlainUnits.{schedule_of};
 
 use crate::same::same_of;
@@ -44,5 +44,63 @@ fn shared_row_stays_where_another_is_put(rt: HostRuntime) -> Result<(), Fail> {
     kept_is(&rt, &store, 0, &mut into, (true, 8, 80));
     kept_is(&rt, &store, 1, &mut into, (true, 7, 71));
     kept_is(&rt, &store, 2, &mut into, (false, 0, 0));
+    Ok(())
+}
+
+// On over a row of powers, in at most a thousand periods.
+fn answer_over(alloc: Global, powers: &[u32]) -> Result<Answered, AllocError>
+    requires { length powers.now ≤ 1000 }
+    ensures { IfOk result (λ a. length (schedule_of a.response).on ≡ length powers.now) }
+{
+    let periods = powers.len() as u32;
+    let on = Flags::filled(alloc, periods, true)?;
+    let mut power = Powers::make(alloc, periods)?;
+    power.copy_from(powers);
+    let reserve = Powers::filled(alloc, periods, 0)?;
+    let response = Response { on, power, reserve };
+    Ok(Answered {
+        response,
+        earned: 0,
+    })
+}
+
+fn powers_are(rt: &impl Abort, store: &Store, place: usize, into: &mut Answered, due: &[u32])
+    requires place { place < length store.now.answers }
+    requires horizon { length (schedule_of into.old.response).on ≡ store.now.periods }
+    ensures { length (schedule_of into.new.response).on ≡ store.now.periods }
+{
+    store.take(place, into);
+    same_of(rt, &place, into.response.power.as_slice(), due);
+}
+
+#[test]
+fn rows_that_differ_in_a_period_are_kept_apart(rt: HostRuntime) -> Result<(), Fail> {
+    let alloc = rt.alloc();
+    let mut store = Store::make(alloc, 4, 3)?;
+    store.put(0, &answer_over(alloc, &[7, 7, 7])?, 3);
+    store.put(1, &answer_over(alloc, &[7, 7, 8])?, 0);
+    store.put(2, &answer_over(alloc, &[1, 2, 3])?, 1);
+    let mut into = Answered::make(alloc, 3)?;
+    powers_are(&rt, &store, 0, &mut into, &[7, 7, 7]);
+    powers_are(&rt, &store, 1, &mut into, &[7, 7, 8]);
+    powers_are(&rt, &store, 2, &mut into, &[1, 2, 3]);
+    powers_are(&rt, &store, 3, &mut into, &[0, 0, 0]);
+    Ok(())
+}
+
+// A run goes over 255 periods at most.
+#[test]
+fn row_of_one_power_may_be_long(rt: HostRuntime) -> Result<(), Fail> {
+    let alloc = rt.alloc();
+    let mut store = Store::make(alloc, 3, 600)?;
+    let all = [9; 600];
+    let mut but_one = [9; 600];
+    but_one[599] = 8;
+    store.put(0, &answer_over(alloc, &all)?, 2);
+    store.put(1, &answer_over(alloc, &but_one)?, 0);
+    let mut into = Answered::make(alloc, 600)?;
+    powers_are(&rt, &store, 0, &mut into, &all);
+    powers_are(&rt, &store, 1, &mut into, &but_one);
+    powers_are(&rt, &store, 2, &mut into, &[0; 600]);
     Ok(())
 }

@@ -1,0 +1,26 @@
+use Rattle.board_store.proofs.Common.{◌+◌, ◌-◌, ◌≤◌, List, ◌++◌, take, replicate, sym, ap, ◌∙◌, arith, append_assoc}
+use Rattle.board_store.proofs.Common.{from_run}
+use Rattle.board_store.proofs.Lemmas.{taken, still_whole}
+use Rattle.board_store.proofs.table.add_row.Goals as goal
+
+pub loop-left-preserved : goal.loop-left-preserved
+loop-left-preserved g c =
+    let l = c.loop-left in
+    let m = c.min-count.result in
+    let v = c.index-values-at.result in
+    let ls = c.args.lengths.now in
+    let vs = c.args.values.now in
+    let rest = take (l.left - m) (from_run ls vs (l.at + 1)) in
+    let some : 1 ≤ l.left = omega (arith, c.loop-left-test.true) in
+    record {
+      whole = still_whole ls vs l.at l.left m v c.requires.pairs some l.invariant.whole c.index-values-at.is
+          c.min-count.ensures;
+      room = omega (arith, l.invariant.room, c.add_copies.ensures.spare);
+      so_far =
+          ap (λ (xs : List _). xs ++ rest) c.add_copies.ensures.items
+          ∙ append_assoc l.into.items (replicate m v) rest
+          ∙ ap (λ (xs : List _). l.into.items ++ xs)
+          (sym (taken ls vs l.at l.left m v c.requires.pairs some l.invariant.whole c.index-values-at.is
+          c.min-count.ensures))
+          ∙ l.invariant.so_far;
+    }

@@ -1,0 +1,24 @@
+-- Rows kept as runs: how often a value stands, and the value.
+use Rattle.std.specs.Prelude.{◌≡◌, ℕ, List, [], ◌∷◌, ◌++◌, length, take, drop, replicate}
+
+-- runs laid out, one behind the other
+abbrev pub laid_out : {T : Type 0} → List ℕ → List T → List T
+laid_out [] values = []
+laid_out (n ∷ lengths) [] = []
+laid_out (n ∷ lengths) (x ∷ values) = replicate n x ++ laid_out lengths values
+
+-- the runs from a place on, laid out
+abbrev pub from_run : {T : Type 0} → List ℕ → List T → ℕ → List T
+from_run lengths values start = laid_out (drop start lengths) (drop start values)
+
+-- the row of so many cells whose runs begin at a place
+abbrev pub row_at : {T : Type 0} → ℕ → List ℕ → List T → ℕ → List T
+row_at long lengths values start = take long (from_run lengths values start)
+
+-- runs that come to a row stand behind those of before
+pub record IsAdded {T : Type 0} (lengths : List ℕ) (values : List T) (lengths2 : List ℕ) (values2 row : List T)
+    : Type 0 where
+  pub lengths_before : take (length lengths) lengths2 ≡ lengths
+  pub values_before : take (length lengths) values2 ≡ values
+  pub pairs : length lengths2 ≡ length values2
+  pub laid : from_run lengths2 values2 (length lengths) ≡ row
