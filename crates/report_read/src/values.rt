@@ -15,7 +15,7 @@ pub trait Part: Copy + Drop {
     // The value at the front of the bytes.
     ghost found: { Self → List ℕ → Found Self.Value };
 
-    /// The value at the front, and the bytes behind it.
+    /// The value at the front, and the bytes behind it; None where it isn't there.
     fn at(self, bytes: &[u8]) -> Option<(Self::Value, &[u8])>
         ensures { Finds (λ x. (x.0, x.1.now)) result (found self bytes.now) };
 }

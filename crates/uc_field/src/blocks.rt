@@ -115,8 +115,10 @@ fn read_periods(alloc: Global, at: Site, branches: &[Branch<'_>]) -> Result<Bloc
     Ok(lists)
 }
 
-/// The blocks of each period of a bid; those of a period have their faults at its item. `TooLarge`
-/// where they are wider than `POWER_LIMIT` together.
+/// The blocks of each period of a bid; those of a period have their faults at its item.
+/// `WrongLength` where there are not as many periods as the case has; `BlockOrder` where a block is
+/// dearer than the one before it; `TooLarge` where there are too many blocks, or they are wider than
+/// `POWER_LIMIT` together.
 #[tactic(auto, unfolding(crate::specs::Lists::blocks))]
 pub fn read_block_lists(alloc: Global, u: &Keys, periods: u32) -> Result<BlockLists, FieldStop>
     requires { periods ≤ MOST_PERIODS }

@@ -1,5 +1,5 @@
-use Rattle.hull_command.proofs.Common.{rules, refl, sym, ap, ◌∙◌, w64, w128, to_z-of_z, market_of, prices_of, mixture_of}
-use Rattle.hull_command.proofs.Common.{mixture_bound}
+use Rattle.hull_command.proofs.Common.{rules, refl, sym, ap, ◌∙◌, w64, w128, to_z-of_z, market_of, prices_of}
+use Rattle.hull_command.proofs.Common.{mixture_of, mixture_bound}
 use Rattle.hull_input.specs.declared.input.Input.{Input}
 use Rattle.hull_command.proofs.certify.certified_input.Goals as goal
 
