@@ -1,4 +1,4 @@
-//! Rows of one length, each of which is kept once where another is like it.
+//! Rows of one length, each kept as runs, and once where another is like it.
 ghost use Rattle.std.specs.Prelude.{◌≡◌, ◌+◌, ◌*◌, ◌<◌, ◌≤◌, ◌↔◌, [], ◌++◌, length, IfOk, IsTrue, take};
 ghost use Rattle.std.specs.Prelude.{replicate, slice_index_or, slice_set, vec_len, vec_capacity};
 ghost use Rattle.plain_lists.specs.declared.limits.TheConstants.{MOST_TASKS, MOST_WORK};
@@ -8,7 +8,7 @@ use plain_lists::lists::ReservedList;
 use std::alloc::{AllocError, Global};
 use std::marker::Model;
 
-/// What a row has in each period.
+/// What runs are of: what a row has in each period. Lengths of runs are looked at in the same way.
 pub trait Cell: Copy + Drop {
     /// Whether it is the same as another.
     fn is(self, other: Self) -> bool
@@ -177,8 +177,9 @@ fn is_run<T: Cell>(run: &[T], value: T) -> bool
     }
 }
 
-// Whether a row is at a place in runs that take one period each, as that of a unit whose powers
-// differ from period to period. To see so takes fewer instructions than to go from run to run.
+// Says yes only where a row is at a place in runs that take one period each, as that of a unit whose
+// powers differ from period to period. To see so takes fewer instructions than to go from run to
+// run.
 fn has_cells<T: Cell>(lengths: &[u8], values: &[T], start: usize, row: &[T]) -> bool
     requires pairs { length lengths.now ≡ length values.now }
     ensures { IsTrue result → row_at (length row.now) lengths.now values.now start ≡ row.now }

@@ -154,7 +154,7 @@ fn add_renewables(
     Ok(units)
 }
 
-// Adds all units to an empty plan.
+// Draws all units, and adds their schedules to an empty plan.
 fn add_units(
     alloc: Global,
     random: &mut Pcg32,
@@ -175,7 +175,7 @@ fn add_units(
     Ok((thermal, flat))
 }
 
-// The case of units whose demand and reserve follow from a plan, with that plan.
+// The case of these units, where demand and required reserve follow from a plan, with that plan.
 fn case_of(
     alloc: Global,
     plan: Growing,

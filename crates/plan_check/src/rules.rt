@@ -47,7 +47,7 @@ pub fn on_in_period(unit: &Unit, response: &Response, period: usize) -> bool
     response.is_on(period - 1)
 }
 
-// Whether the unit starts in a period of the horizon, which is at a place.
+// Whether the unit starts in the period at a place.
 fn starts_at(unit: &Unit, response: &Response, place: usize) -> bool
     requires { place < length (schedule_of response.now).on }
     ensures { result ≡ starts_in (thermal_of unit.now) (schedule_of response.now) (suc place) }
@@ -55,7 +55,7 @@ fn starts_at(unit: &Unit, response: &Response, place: usize) -> bool
     !on_in_period(unit, response, place) && response.is_on(place)
 }
 
-// Whether it stops there.
+// Whether it stops in that period.
 fn stops_at(unit: &Unit, response: &Response, place: usize) -> bool
     requires { place < length (schedule_of response.now).on }
     ensures { result ≡ stops_in (thermal_of unit.now) (schedule_of response.now) (suc place) }

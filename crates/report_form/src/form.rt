@@ -60,8 +60,9 @@ fn write_last<S: Sink>(out: &mut S, piece: Piece, text: &[u8]) -> Result<(), Wri
     write_whole(out, piece.as_slice())
 }
 
-/// Writes a form with its gaps filled, each `%` by the next part, in pieces of some KiB. Refused
-/// only where the sink's count of faults rose, and then the sink gained a front of the text.
+/// Writes a form with its gaps filled, each `%` by the next part, in pieces of some KiB. A gap that
+/// no part is left for stays, and parts that no gap is left for come last. Refused only where the
+/// sink's count of faults rose, and then the sink gained a front of the text.
 pub fn write_form<S: Sink>(out: &mut S, form: &[u8], parts: &[Part<'_>]) -> Result<(), WriteFailed>
     ensures { Writes S.held S.faults S.last out.old out.new result (filled form.now parts.now) }
 {

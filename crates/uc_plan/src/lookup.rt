@@ -51,7 +51,7 @@ impl<'a> Values<'a> {
         Ok(())
     }
 
-    /// Puts members into no values, from the last one on, so that the first of equal keys stays.
+    /// Puts members into an empty map, the last one first, so that the first of equal keys stays.
     fn fill(&mut self, alloc: Global, members: &[Member<'a>]) -> Result<(), AllocError>
         requires { (q : List ℕ) → get_by_text self.old.by_key q ≡ None }
         ensures { OnOk result ((q : List ℕ)
