@@ -69,7 +69,7 @@ requirement_of plan = map (λ k. pos (reserve_sum plan k * 9 / 10)) (range_with_
 unfoldable pub plan_from : Lcg → List Schedule
 plan_from g = thermal_plan g 73 ++ renewable_plans g (9 * 73) 81
 
--- the case of units whose demand and required reserve follow from a plan
+-- the case of these units, where demand and required reserve follow from a plan
 abbrev pub market_for : List Schedule → List NamedThermalUnit → List NamedRenewableUnit → Market
 market_for plan thermal flat = record {
   periods = 48;

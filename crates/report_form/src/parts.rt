@@ -129,7 +129,11 @@ fn add_name<S: Sink>(out: &mut S, piece: &mut Piece, name: &[u8]) -> Result<(), 
 }
 
 /// Adds a part.
-pub fn add_part<S: Sink>(out: &mut S, piece: &mut Piece, part: &Part<'_>) -> Result<(), WriteFailed>
+pub(crate) fn add_part<S: Sink>(
+    out: &mut S,
+    piece: &mut Piece,
+    part: &Part<'_>,
+) -> Result<(), WriteFailed>
     ensures { Adds S.held S.faults S.last out.old out.new result piece.old piece.new
         (part_text part.now) }
 {

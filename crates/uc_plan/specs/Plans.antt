@@ -148,7 +148,7 @@ pub record Groups : Type 0 where
   pub renewable : List Pair
   pub bids : List Pair
 
--- those among its members, where each is there
+-- the three objects, where each is among the members
 unfoldable pub groups_in : ℕ → List Pair → Option Groups
 groups_in count ms =
     option_and_then (λ (thermal : List Pair). option_and_then (λ (renewable : List Pair).
