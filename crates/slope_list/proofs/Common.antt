@@ -9,7 +9,7 @@ pub use Rattle.std.specs.Prelude.{IfSome, ℤ, pos, negsuc, ◌+ℤ◌, ◌-ℤ�
 pub use Rattle.shape_law.specs.Effect.{IsLeast}
 pub use Rattle.shape_law.specs.Steps.{IsStepped, IsSmall}
 pub use Rattle.shape_law.specs.Table.{Table, value_of, offset_value, IsEmpty}
-pub use Rattle.slope_read.specs.Below.{IsNowhereAbove, IsAbove}
+pub use Rattle.slope_piece.specs.Below.{IsNowhereAbove, IsAbove}
 pub use Rattle.slope_step.specs.After.{table_after}
 pub use Rattle.slope_piece.specs.Pieces.{table_of, last_power}
 pub use Rattle.slope_piece.specs.Turn.{IsTurn, IsFirst, IsLast}

@@ -3,5 +3,5 @@
 
 mod slopes;
 
-pub use slope_read::read::Spot;
+pub use slope_piece::read::Spot;
 pub use slopes::{Lowest, Slopes, Spare};

@@ -6,10 +6,10 @@ ghost use Rattle.slope_step.specs.After.{table_after, ArePiecesAfter, AreWithinA
 ghost use Rattle.slope_list.specs.Kept.{AreKept};
 
 use shape_law::step::Step;
+use slope_piece::below;
 use slope_piece::laws::pieces_begin_and_end;
 use slope_piece::piece::{self, Piece, Start};
-use slope_read::below;
-use slope_read::read::{self, Spot};
+use slope_piece::read::{self, Spot};
 use slope_step::step::{Made, Stepped, slope_step};
 use std::alloc::{AllocError, Global};
 use std::mem;
@@ -116,7 +116,7 @@ impl Slopes {
     ghost use Rattle.shape_law.specs.Effect.{IsPoint, IsLeast, IsLeastIn};
     ghost use Rattle.shape_law.specs.Steps.{IsFairStep, IsCostOf, IsStepped, IsSmall};
     ghost use Rattle.shape_law.specs.Table.{Table, value_of, IsPlace, IsAmount, IsEmpty, HasNone};
-    ghost use Rattle.slope_read.specs.Below.{IsShift, IsNowhereAbove, IsAbove};
+    ghost use Rattle.slope_piece.specs.Below.{IsShift, IsNowhereAbove, IsAbove};
     ghost use Rattle.slope_piece.specs.Turn.{IsTurn, IsFirst, IsLast};
     ghost use Rattle.slope_list.specs.Slopes.{shown, room_of, count_of, turn_of, space_of};
     ghost use Rattle.slope_list.specs.Slopes.{MayGrow, IsGrown};

@@ -16,5 +16,9 @@ pub mod RangeLaws
 pub mod WrapLaws
 -- the order of numbers
 pub mod OrderLaws
+-- one function below another one
+pub mod BelowLaws
+-- what is read off pieces
+pub mod ReadLaws
 -- The lemmas that answers cite.
 pub mod Lemmas

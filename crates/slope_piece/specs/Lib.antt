@@ -3,3 +3,4 @@ pub mod Cursors
 pub mod Totals
 pub mod Turn
 pub mod Laws
+pub mod Below

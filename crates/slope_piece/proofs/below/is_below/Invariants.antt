@@ -1,5 +1,5 @@
-use Rattle.slope_read.proofs.Common.{◌-◌, ◌+◌, length, ◌≤ℤ◌, IsReached, IsUnderTo}
-use Rattle.slope_read.proofs.below.is_below.Given as goal
+use Rattle.slope_piece.proofs.Common.{◌-◌, ◌+◌, length, ◌≤ℤ◌, IsReached, IsUnderTo}
+use Rattle.slope_piece.proofs.below.is_below.Given as goal
 
 abbrev pub invariant-loop-there : goal.invariant-loop-there
 invariant-loop-there l = record {

@@ -1,7 +1,7 @@
-use Rattle.slope_read.proofs.Common.{◌≡◌, ap, ◌∙◌, subst, sym, arith, rules, ℤ, FitsSigned, w64, int_min, int_max, ints}
-use Rattle.slope_read.proofs.Common.{clamps, to_z-of_z, IsLeastIn, last_power, function_of, table_of}
-use Rattle.slope_read.proofs.Lemmas.{IsLeastIn-valley, HasNone-on}
-use Rattle.slope_read.proofs.read.least_in.Goals as goal
+use Rattle.slope_piece.proofs.Common.{◌≡◌, ap, ◌∙◌, subst, sym, arith, rules, ℤ, FitsSigned, w64, int_min, int_max}
+use Rattle.slope_piece.proofs.Common.{ints, clamps, to_z-of_z, IsLeastIn, last_power, function_of, table_of}
+use Rattle.slope_piece.proofs.Lemmas.{IsLeastIn-valley, HasNone-on}
+use Rattle.slope_piece.proofs.read.least_in.Goals as goal
 
 pub returns-then-low-high : goal.returns-then-low-high
 returns-then-low-high c =

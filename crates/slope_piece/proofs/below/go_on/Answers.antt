@@ -1,7 +1,7 @@
-use Rattle.slope_read.proofs.Common.{sym, ◌∙◌, arith, rules, FitsSigned, w64, ints, to_z-of_z}
-use Rattle.slope_read.proofs.Lemmas.{part, part_value, part_goes, placed_on}
-use Rattle.slope_read.proofs.below.go_on.Goals as goal
-use Rattle.slope_read.proofs.below.go_on.Goals.{then-end-piece, else-end-piece}
+use Rattle.slope_piece.proofs.Common.{sym, ◌∙◌, arith, rules, FitsSigned, w64, ints, to_z-of_z}
+use Rattle.slope_piece.proofs.Lemmas.{part, part_value, part_goes, placed_on}
+use Rattle.slope_piece.proofs.below.go_on.Goals as goal
+use Rattle.slope_piece.proofs.below.go_on.Goals.{then-end-piece, else-end-piece}
 
 pub along-requires : goal.along-requires
 along-requires c =

@@ -1,9 +1,9 @@
-use Rattle.slope_read.proofs.Common.{◌≡◌, ◌<◌, ap, inl, inr, arith, rules, to_z, of_z, FitsSigned, ◌+ℤ◌, ◌≤ℤ◌, length}
-use Rattle.slope_read.proofs.Common.{w64, ints, clamps, to_z-of_z, piece, function_of}
-use Rattle.slope_read.proofs.Lemmas.{ends_rise_to, reached_amount, goes_on, end_ahead, end_of_one, fewer, under_on}
-use Rattle.slope_read.proofs.Lemmas.{shown_under}
-use Rattle.slope_read.proofs.below.is_below.Goals as goal
-use Rattle.slope_read.proofs.below.is_below.Goals.{In-loop-there}
+use Rattle.slope_piece.proofs.Common.{◌≡◌, ◌<◌, ap, inl, inr, arith, rules, to_z, of_z, FitsSigned, ◌+ℤ◌, ◌≤ℤ◌, length}
+use Rattle.slope_piece.proofs.Common.{w64, ints, clamps, to_z-of_z, piece, function_of}
+use Rattle.slope_piece.proofs.Lemmas.{ends_rise_to, reached_amount, goes_on, end_ahead, end_of_one, fewer, under_on}
+use Rattle.slope_piece.proofs.Lemmas.{shown_under}
+use Rattle.slope_piece.proofs.below.is_below.Goals as goal
+use Rattle.slope_piece.proofs.below.is_below.Goals.{In-loop-there}
 
 pub seek-here-requires-clause-to : goal.seek-here-requires-clause-to
 seek-here-requires-clause-to c =

@@ -1,8 +1,8 @@
-use Rattle.slope_read.proofs.Common.{sym, subst, arith, rules, to_z, ℤ, FitsSigned, w64, ints, to_z-of_z, IsLeast}
-use Rattle.slope_read.proofs.Common.{piece, last_power, function_of, table_of}
-use Rattle.slope_read.proofs.Lemmas.{fallen_none, fallen_goes, fallen_on, fallen_valley}
+use Rattle.slope_piece.proofs.Common.{sym, subst, arith, rules, to_z, ℤ, FitsSigned, w64, ints, to_z-of_z, IsLeast}
+use Rattle.slope_piece.proofs.Common.{piece, last_power, function_of, table_of}
+use Rattle.slope_piece.proofs.Lemmas.{fallen_none, fallen_goes, fallen_on, fallen_valley}
 use Rattle.slope_piece.proofs.ValleyLaws.{IsLeast-valley}
-use Rattle.slope_read.proofs.read.least.Goals as goal
+use Rattle.slope_piece.proofs.read.least.Goals as goal
 
 pub loop-piece-init : goal.loop-piece-init
 loop-piece-init c =

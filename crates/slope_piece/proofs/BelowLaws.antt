@@ -1,9 +1,9 @@
 -- One function below another one, piece by piece.
-use Rattle.slope_read.proofs.Common.{◌≡◌, ℕ, suc, ◌+◌, ◌-◌, ◌<◌, ◌≤◌, ◌⊎◌, List, length, sym, ap, ◌∙◌, subst, inl, inr}
-use Rattle.slope_read.proofs.Common.{arith, ℤ, pos, ◌+ℤ◌, ◌-ℤ◌, ◌*ℤ◌, ◌≤ℤ◌, ◌<ℤ◌, int_min, ints, clamps, by_lt_z}
-use Rattle.slope_read.proofs.Common.{IsAmount, *ℤ-zero, mul-mono_of, Piece, Start, CanGo, piece, end_at, last_power}
-use Rattle.slope_read.proofs.Common.{function_of, table_of, AreSlopes, IsLine, AreWithin, IsPlaced, IsReached, IsUnder}
-use Rattle.slope_read.proofs.Common.{IsUnderTo, IsNowhereAbove}
+use Rattle.slope_piece.proofs.Common.{◌≡◌, ℕ, suc, ◌+◌, ◌-◌, ◌<◌, ◌≤◌, ◌⊎◌, List, length, sym, ap, ◌∙◌, subst, inl, inr}
+use Rattle.slope_piece.proofs.Common.{arith, ℤ, pos, ◌+ℤ◌, ◌-ℤ◌, ◌*ℤ◌, ◌≤ℤ◌, ◌<ℤ◌, int_min, ints, clamps, by_lt_z}
+use Rattle.slope_piece.proofs.Common.{IsAmount, *ℤ-zero, mul-mono_of, Piece, Start, CanGo, piece, end_at, last_power}
+use Rattle.slope_piece.proofs.Common.{function_of, table_of, AreSlopes, IsLine, AreWithin, IsPlaced, IsReached, IsUnder}
+use Rattle.slope_piece.proofs.Common.{IsUnderTo, IsNowhereAbove}
 use Rattle.slope_piece.specs.declared.cursor.Reached.{Reached}
 use Rattle.slope_piece.proofs.LineLaws.{add-mul, line_part}
 use Rattle.slope_piece.proofs.PieceLaws.{ends_rise_to, along_line}

@@ -3,12 +3,12 @@ ghost use Rattle.std.specs.Prelude.{◌≡◌, ◌+ℤ◌, ◌≤ℤ◌, ◌<ℤ
 ghost use Rattle.std.specs.Bool.{OnTrue};
 ghost use Rattle.shape_law.specs.Effect.{IsLeast, IsLeastIn};
 ghost use Rattle.shape_law.specs.Table.{HasNone, IsAmount};
-ghost use Rattle.slope_read.specs.Below.{IsAbove, IsShift};
+ghost use Rattle.slope_piece.specs.Below.{IsAbove, IsShift};
 ghost use Rattle.slope_piece.specs.Pieces.{last_power, function_of, table_of, AreSlopes};
 ghost use Rattle.slope_piece.specs.Cursors.{AreWithin};
 
-use slope_piece::cursor::{fall, seek};
-use slope_piece::piece::{Piece, Start, along, last_power};
+use crate::cursor::{fall, seek};
+use crate::piece::{Piece, Start, along, last_power};
 
 /// A power and the value there.
 #[derive(Clone, Copy)]

@@ -1,5 +1,5 @@
-use Rattle.slope_read.proofs.Common.{◌∙◌, arith, rules, FitsSigned, w64, ints, to_z-of_z}
-use Rattle.slope_read.proofs.read.spot_at.Goals as goal
+use Rattle.slope_piece.proofs.Common.{◌∙◌, arith, rules, FitsSigned, w64, ints, to_z-of_z}
+use Rattle.slope_piece.proofs.read.spot_at.Goals as goal
 
 pub seek-reached-requires-clause-from : goal.seek-reached-requires-clause-from
 seek-reached-requires-clause-from c = omega (arith, ints)

@@ -1,8 +1,8 @@
 -- What is read off pieces.
-use Rattle.slope_read.proofs.Common.{◌≡◌, ℕ, suc, ◌+◌, ◌-◌, ◌<◌, ◌≤◌, List, length, refl, sym, ap, ◌∙◌, subst}
-use Rattle.slope_read.proofs.Common.{below_more, arith, Some, ℤ, pos, ◌+ℤ◌, ◌-ℤ◌, ◌*ℤ◌, ◌≤ℤ◌, ◌<ℤ◌, int_min, int_max}
-use Rattle.slope_read.proofs.Common.{ints, clamps, by_lt_z, IsLeastIn, HasNone, IsAmount, Piece, Start, piece, end_at}
-use Rattle.slope_read.proofs.Common.{last_power, function_of, table_on, AreSlopes, AreWithin, IsValley, IsAbove, CanGo}
+use Rattle.slope_piece.proofs.Common.{◌≡◌, ℕ, suc, ◌+◌, ◌-◌, ◌<◌, ◌≤◌, List, length, refl, sym, ap, ◌∙◌, subst}
+use Rattle.slope_piece.proofs.Common.{below_more, arith, Some, ℤ, pos, ◌+ℤ◌, ◌-ℤ◌, ◌*ℤ◌, ◌≤ℤ◌, ◌<ℤ◌, int_min, int_max}
+use Rattle.slope_piece.proofs.Common.{ints, clamps, by_lt_z, IsLeastIn, HasNone, IsAmount, Piece, Start, piece, end_at}
+use Rattle.slope_piece.proofs.Common.{last_power, function_of, table_on, AreSlopes, AreWithin, IsValley, IsAbove, CanGo}
 use Rattle.slope_piece.proofs.PieceLaws.{ends_rise_to, along_first}
 use Rattle.slope_piece.proofs.CursorLaws.{valley_at, level_from, can_go}
 use Rattle.slope_piece.proofs.FunctionLaws.{on_inside, on_back, by_power}

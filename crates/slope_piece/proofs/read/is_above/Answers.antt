@@ -1,7 +1,7 @@
-use Rattle.slope_read.proofs.Common.{arith, rules, to_z, FitsSigned, ◌+ℤ◌, ◌<ℤ◌, w64, OnTrue_from, ints, to_z-of_z}
-use Rattle.slope_read.proofs.Common.{IsAbove, piece, last_power, function_of, table_of}
-use Rattle.slope_read.proofs.Lemmas.{fallen_none, fallen_goes, fallen_on, fallen_amount, fallen_valley, above_all}
-use Rattle.slope_read.proofs.read.is_above.Goals as goal
+use Rattle.slope_piece.proofs.Common.{arith, rules, to_z, FitsSigned, ◌+ℤ◌, ◌<ℤ◌, w64, OnTrue_from, ints, to_z-of_z}
+use Rattle.slope_piece.proofs.Common.{IsAbove, piece, last_power, function_of, table_of}
+use Rattle.slope_piece.proofs.Lemmas.{fallen_none, fallen_goes, fallen_on, fallen_amount, fallen_valley, above_all}
+use Rattle.slope_piece.proofs.read.is_above.Goals as goal
 
 pub loop-piece-init : goal.loop-piece-init
 loop-piece-init c =

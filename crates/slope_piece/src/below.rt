@@ -5,10 +5,10 @@ ghost use Rattle.shape_law.specs.Table.{IsAmount};
 ghost use Rattle.slope_piece.specs.Pieces.{piece, last_power, function_of, table_of, AreSlopes};
 ghost use Rattle.slope_piece.specs.Pieces.{IsLine};
 ghost use Rattle.slope_piece.specs.Cursors.{AreWithin};
-ghost use Rattle.slope_read.specs.Below.{IsReached, IsNowhereAbove, IsShift};
+ghost use Rattle.slope_piece.specs.Below.{IsReached, IsNowhereAbove, IsShift};
 
-use slope_piece::cursor::{Reached, seek};
-use slope_piece::piece::{Piece, Start, along, last_power};
+use crate::cursor::{Reached, seek};
+use crate::piece::{Piece, Start, along, last_power};
 
 /// Whether a value with the shift is above another one.
 fn is_over(value: i64, shift: i64, other: i64) -> bool
