@@ -12,9 +12,9 @@ use Rattle.slope_piece.proofs.PieceLaws.{ends_rise_to, along_line, along_curves,
 use Rattle.slope_piece.proofs.PieceLaws.{stand-take}
 use Rattle.slope_piece.proofs.FunctionLaws.{on_inside, by_power, on_same}
 use Rattle.slope_step.proofs.TableLaws.{IsConvex-from_curves, convex_steps, IsSum-on, IsCurveSum-on}
-use Rattle.slope_draw.proofs.BlockLaws.{cost_at_is}
+use Rattle.slope_step.proofs.BlockLaws.{cost_at_is}
 use Rattle.slope_step.proofs.ReachLaws.{IsBottom-valley, IsWindow-valley}
-use Rattle.slope_run.proofs.WindowLaws.{nearest_inside}
+use Rattle.slope_step.proofs.WindowLaws.{nearest_inside}
 use Rattle.slope_step.proofs.BoundLaws.{level_within}
 
 -- ---- pieces of a convex function are slopes

@@ -2,7 +2,7 @@
 use Rattle.slope_step.proofs.Common.{◌≡◌, ◌≤◌, Option, Some, None, sym, ap, ◌∙◌, subst, arith, ℤ, pos, ◌+ℤ◌, ◌≤ℤ◌}
 use Rattle.slope_step.proofs.Common.{MatchOption, option_map, ints, value_of, IsConvex, IsSum, IsCurveSum, curve_value}
 use Rattle.slope_step.proofs.Common.{ConvexityIsOfPlaces, Curve, HasCosts, with_cost, table_on, Curves}
-use Rattle.slope_draw.proofs.BlockLaws.{cost_at_is}
+use Rattle.slope_step.proofs.BlockLaws.{cost_at_is}
 use Rattle.slope_piece.proofs.FunctionLaws.{on_inside, by_power, on_back}
 
 -- ---- convexity

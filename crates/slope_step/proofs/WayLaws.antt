@@ -5,7 +5,7 @@ use Rattle.slope_step.proofs.Common.{IsInBlock, IsDrawn, IsFurther, stepped, IsL
 use Rattle.slope_step.proofs.Common.{nearest, paid, runs_from, IsRun}
 use Rattle.slope_piece.proofs.LineLaws.{line_part}
 use Rattle.slope_piece.proofs.PieceLaws.{along_line}
-use Rattle.slope_run.proofs.RunLaws.{cursor_in}
+use Rattle.slope_step.proofs.RunLaws.{cursor_in}
 
 pub before_moved : (x y u d : ℤ) → x ≡ y +ℤ d → x <ℤ (u +ℤ d) → y <ℤ u
 before_moved x y u d is h = omega (arith, ints)

@@ -7,8 +7,8 @@ use Rattle.slope_piece.specs.declared.piece.Piece.{Piece}
 use Rattle.slope_piece.specs.declared.piece.Start.{Start}
 use Rattle.slope_piece.specs.Pieces.{table_of, AreSlopes}
 use Rattle.slope_piece.specs.Cursors.{AreWithin}
-use Rattle.slope_draw.specs.Drawn.{with_cost}
-use Rattle.slope_run.specs.Window.{paid}
+use Rattle.slope_step.specs.Drawn.{with_cost}
+use Rattle.slope_step.specs.Window.{paid}
 use Rattle.slope_step.specs.declared.step.Made.{Made}
 
 -- the function after the step

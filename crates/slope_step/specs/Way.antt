@@ -3,11 +3,11 @@ use Rattle.std.specs.Prelude.{◌+◌, ◌≤◌, ℤ, ◌≤ℤ◌, ◌<ℤ◌,
 use Rattle.uc_model.specs.declared.units.Curve.{Curve}
 use Rattle.slope_piece.specs.declared.piece.Piece.{Piece}
 use Rattle.slope_piece.specs.Cursors.{IsPlaced}
-use Rattle.slope_draw.specs.Blocks.{IsInBlock}
-use Rattle.slope_draw.specs.Drawn.{IsDrawn}
-use Rattle.slope_run.specs.declared.window.Window.{Window}
-use Rattle.slope_run.specs.Runs.{IsNear}
-use Rattle.slope_run.specs.Window.{runs_from}
+use Rattle.slope_step.specs.Blocks.{IsInBlock}
+use Rattle.slope_step.specs.Drawn.{IsDrawn}
+use Rattle.slope_step.specs.declared.window.Window.{Window}
+use Rattle.slope_step.specs.Runs.{IsNear}
+use Rattle.slope_step.specs.Window.{runs_from}
 use Rattle.slope_step.specs.declared.way.Way.{Way}
 use Rattle.slope_step.specs.After.{stepped}
 

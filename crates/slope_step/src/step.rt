@@ -8,20 +8,20 @@ ghost use Rattle.shape_law.specs.Curve.{reserve_term, IsLimitedCurve};
 ghost use Rattle.shape_law.specs.Steps.{IsFairStep, IsCostOf, IsStepped, IsSmall};
 ghost use Rattle.slope_piece.specs.Pieces.{table_of, AreSlopes};
 ghost use Rattle.slope_piece.specs.Cursors.{IsPlaced};
-ghost use Rattle.slope_run.specs.Window.{nearest};
-ghost use Rattle.slope_draw.specs.Blocks.{IsInBlock, HasCosts};
+ghost use Rattle.slope_step.specs.Window.{nearest};
+ghost use Rattle.slope_step.specs.Blocks.{IsInBlock, HasCosts};
 ghost use Rattle.slope_step.specs.After.{stepped, table_after, ArePiecesAfter, AreWithinAfter};
 ghost use Rattle.slope_piece.specs.Turn.{IsTurn};
 
+use crate::blocks::find;
+use crate::draw::Pen;
+use crate::kink::turn;
 use crate::way::draw;
+use crate::window::Window;
 use shape_law::laws::{convexity_is_of_places, steps_keep_convexity};
 use shape_law::step::Step;
-use slope_draw::blocks::find;
-use slope_draw::draw::Pen;
 use slope_piece::cursor::{Cursor, seek};
 use slope_piece::piece::{Piece, Start, last_power};
-use slope_run::kink::turn;
-use slope_run::window::Window;
 use uc_model::units::Curve;
 
 /// A function that a step has made: where it begins, and how many pieces it has.

@@ -3,19 +3,19 @@ ghost use Rattle.std.specs.Prelude.{◌≡◌, ℤ, ◌+◌, ◌≤◌, ◌+ℤ�
 ghost use Rattle.shape_law.specs.Curve.{IsLimitedCurve};
 ghost use Rattle.shape_law.specs.Table.{IsPlace};
 ghost use Rattle.slope_piece.specs.Pieces.{end_at, IsLine, Stand};
-ghost use Rattle.slope_run.specs.Kink.{IsGentle, IsSteep};
+ghost use Rattle.slope_step.specs.Kink.{IsGentle, IsSteep};
 ghost use Rattle.slope_piece.specs.Cursors.{IsPlaced};
-ghost use Rattle.slope_draw.specs.Blocks.{IsInBlock, HasCosts};
+ghost use Rattle.slope_step.specs.Blocks.{IsInBlock, HasCosts};
 ghost use Rattle.slope_step.specs.After.{stepped};
-ghost use Rattle.slope_draw.specs.Drawn.{with_cost, IsDrawn};
+ghost use Rattle.slope_step.specs.Drawn.{with_cost, IsDrawn};
 ghost use Rattle.slope_step.specs.Way.{IsFurther};
-ghost use Rattle.slope_run.specs.Runs.{IsNear, IsRun};
+ghost use Rattle.slope_step.specs.Runs.{IsNear, IsRun};
 
-use slope_draw::draw::{Pen, put};
+use crate::draw::{Pen, put};
+use crate::run::{Run, next_run};
+use crate::window::{Window, is_flat, past_flat};
 use slope_piece::cursor::Cursor;
 use slope_piece::piece::Piece;
-use slope_run::run::{Run, next_run};
-use slope_run::window::{Window, is_flat, past_flat};
 use uc_model::units::Curve;
 
 /// Where a way through a step is: the cursor before the step, and the pen after it.

@@ -4,7 +4,7 @@ use Rattle.slope_step.proofs.Common.{function_of, nearest}
 use Rattle.slope_step.proofs.Lemmas.{wide_of, on_curve, end_of-width, end_of_valley, within_from_small, nearest_inside}
 use Rattle.slope_step.proofs.Lemmas.{le_trans, lt_le_trans, same_le, level_joined, coded_is, output_near, up_coded}
 use Rattle.slope_step.proofs.Lemmas.{down_coded, fits_sum, fits_less}
-use Rattle.slope_draw.proofs.BlockLaws.{cost_at_is}
+use Rattle.slope_step.proofs.BlockLaws.{cost_at_is}
 use Rattle.slope_step.proofs.step.open.Goals as goal
 use Rattle.slope_step.proofs.step.open.Goals.{After-max-near}
 

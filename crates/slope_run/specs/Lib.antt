@@ -1,3 +1,0 @@
-pub mod Kink
-pub mod Window
-pub mod Runs
