@@ -25,8 +25,8 @@ pub use Rattle.audit_rows.specs.Sums.{part_of, sum_of, FitsAt, AreSumsOf, AreAdd
 pub use Rattle.audit_rows.specs.Sums.{IsSmall}
 pub use Rattle.audit_rows.specs.declared.answerer.Answerer.{Answerer}
 pub use Rattle.audit_rows.specs.declared.sums.Sums.{Sums}
-pub use Rattle.dual_value.specs.Totals.{IsRaised, TakesPower}
-pub use Rattle.price_move.specs.Sizes.{IsRowBelow}
+pub use Rattle.price_space.specs.Totals.{IsRaised, TakesPower}
+pub use Rattle.price_space.specs.Sizes.{IsRowBelow}
 pub use Rattle.task_deal.specs.Jobs.{below, added, all_added, HasRun}
 pub use Rattle.plain_lists.proofs.ListLaws.{head_of, tail_of, zip_item, length_same, all_nil, all_cons, length-zip_with}
 pub use Rattle.plain_lists.proofs.ListLaws.{none_some, same_item, item_of, at_place, map-append, total-push}

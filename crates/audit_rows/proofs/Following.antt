@@ -6,9 +6,9 @@ use Rattle.audit_rows.proofs.Common.{range_with_len, option_map_or, not, nat_le,
 use Rattle.audit_rows.proofs.Common.{PriceLists, Market, Proposal, no_prices, age, stepped_prices, next_prices}
 use Rattle.audit_rows.proofs.Common.{is_settled, opening_prices_of, start_prices, IsNextProposal, IsLast}
 use Rattle.std.proofs.lemmas.Bool.Decides.{nat_tests}
-use Rattle.price_move.specs.declared.next.Moved.{Moved}
-use Rattle.price_move.specs.declared.next.Moved.TheVariants.{Made, Settled}
-use Rattle.price_move.specs.Moves.{is_last_settled}
+use Rattle.price_space.specs.declared.next.Moved.{Moved}
+use Rattle.price_space.specs.declared.next.Moved.TheVariants.{Made, Settled}
+use Rattle.price_space.specs.Moves.{is_last_settled}
 
 next_over : (m : Market) (cost : ℤ) (rows : List Proposal) → 1 ≤ length rows →
     length (next_prices m cost rows).energy ≡ m.periods

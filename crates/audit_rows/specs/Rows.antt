@@ -2,7 +2,7 @@
 use Rattle.std.specs.Prelude.{◌≡◌, ℕ, suc, ◌-◌, ◌<◌, ◌≤◌, ℤ, IsTrue, IsFalse}
 use Rattle.std.specs.Prelude.{List, take, length, slice_index_or}
 use Rattle.std.specs.List.{All, AllZip}
-use Rattle.price_move.specs.Sizes.{IsRowBelow}
+use Rattle.price_space.specs.Sizes.{IsRowBelow}
 use Rattle.uc_model.specs.Data.{PriceLists, Schedule, Market, units}
 use Rattle.uc_model.specs.PriceRule.{Proposal, price_rule, is_settled}
 use Rattle.uc_model.specs.Runs.{HasTotals, AreRightRows, Fits}

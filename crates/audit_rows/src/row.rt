@@ -12,7 +12,7 @@ ghost use Rattle.audit_rows.specs.Sums.{AreWithin, AreAdded, AreSumsOfAll};
 
 use crate::answerer::Answerer;
 use crate::sums::Sums;
-use dual_value::dual_value;
+use price_space::dual_value;
 use std::alloc::{AllocError, Global};
 use std::sync::Wait;
 use std::thread::Threads;

@@ -1,7 +1,7 @@
 //! What answers earn and give, added up.
 ghost use Rattle.std.specs.Prelude.{◌≡◌, suc, ◌*◌, pos, ◌+ℤ◌, length, IfOk, replicate, slice_index};
 ghost use Rattle.std.specs.List.{All};
-ghost use Rattle.dual_value.specs.Totals.{IsRaised};
+ghost use Rattle.price_space.specs.Totals.{IsRaised};
 ghost use Rattle.task_deal.specs.declared.deal.TheConstants.{MOST_JOBS};
 ghost use Rattle.plain_lists.specs.declared.limits.TheConstants.{MOST_UNITS};
 ghost use Rattle.uc_model.specs.Earnings.{amount_of};
@@ -10,8 +10,8 @@ ghost use Rattle.uc_model.specs.Schedules.{reserve_in};
 ghost use Rattle.plain_lists.specs.Sums.{int_at};
 ghost use Rattle.audit_rows.specs.Sums.{IsSmall, AreWithin};
 
-use dual_value::count_each;
 use plain_lists::lists::Amounts;
+use price_space::count_each;
 use std::alloc::{AllocError, Global};
 use uc_model::units::{Answered, Flow};
 

@@ -8,8 +8,8 @@ use Rattle.board_core.proofs.Common.{slice_index, Setup, Answer, rules_of, Round
 use Rattle.board_core.proofs.Common.{opened_in, is_last_settled, Market, PriceLists, Proposal, age, stepped_prices}
 use Rattle.board_core.proofs.Common.{price_rule, next_prices, no_prices, opening_prices_of, start_prices, is_settled}
 use Rattle.board_core.proofs.Common.{Sums, Fronts, is_full, row_in, with_row, opens, with_round, IsRound}
-use Rattle.price_move.specs.declared.next.Moved.{Moved}
-use Rattle.price_move.specs.declared.next.Moved.TheVariants.{Made, Settled}
+use Rattle.price_space.specs.declared.next.Moved.{Moved}
+use Rattle.price_space.specs.declared.next.Moved.TheVariants.{Made, Settled}
 
 pub choose_true : {X : Type 0} (b : Bool) (x y : X) → b ≡ true → cond b x y ≡ x
 choose_true true x y h = refl

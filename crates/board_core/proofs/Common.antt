@@ -52,10 +52,10 @@ pub use Rattle.board_history.specs.Rounds.{opened as opened_of, ClaimReply, with
 pub use Rattle.board_history.specs.Tasks.{difference, IsOver, IsTask, Difference}
 pub use Rattle.board_history.specs.declared.entries.Entry.{Entry}
 pub use Rattle.board_task.specs.Same.{AreSame}
-pub use Rattle.dual_value.specs.Totals.{IsRaised}
-pub use Rattle.price_move.specs.Firsts.{IsFirstUpTo}
-pub use Rattle.price_move.specs.Moves.{is_last_settled, values_of}
-pub use Rattle.price_move.specs.Sizes.{IsRowBelow}
+pub use Rattle.price_space.specs.Totals.{IsRaised}
+pub use Rattle.price_space.specs.Firsts.{IsFirstUpTo}
+pub use Rattle.price_space.specs.Moves.{is_last_settled, values_of}
+pub use Rattle.price_space.specs.Sizes.{IsRowBelow}
 pub use Rattle.plain_lists.specs.declared.limits.TheConstants.{MOST_TASKS, MOST_UNITS, MOST_WORK}
 pub use Rattle.uc_model.specs.Data.{Market, PriceLists, unit_count, AnyUnit, Thermal, Flat, Bid, units, Schedule}
 pub use Rattle.uc_model.specs.Data.{units as units_of}

@@ -6,7 +6,7 @@ use Rattle.std.specs.List.{range_with_len}
 use Rattle.board_history.specs.Board.{Setup, rules_of}
 use Rattle.board_history.specs.Rounds.{rows_by, prices_by, opened_in}
 use Rattle.uc_model.specs.Data.{Market, PriceLists}
-use Rattle.price_move.specs.Moves.{is_last_settled}
+use Rattle.price_space.specs.Moves.{is_last_settled}
 use Rattle.uc_model.specs.PriceRule.{Proposal, next_prices, no_prices}
 use Rattle.plain_lists.specs.Sums.{int_at}
 use Rattle.uc_model.specs.Systems.{worth_of_demand}

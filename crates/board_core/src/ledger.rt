@@ -3,8 +3,8 @@ ghost use Rattle.std.specs.Prelude.{◌≡◌, ℕ, suc, pos, neg_ℤ, ◌+ℤ�
 ghost use Rattle.std.specs.Prelude.{take, replicate, IfOk, slice_index_or, slice_set};
 ghost use Rattle.std.specs.List.{All};
 ghost use Rattle.uc_model.specs.Limits.{IsTotal};
-ghost use Rattle.price_move.specs.Firsts.{IsFirstUpTo};
-ghost use Rattle.price_move.specs.Moves.{values_of};
+ghost use Rattle.price_space.specs.Firsts.{IsFirstUpTo};
+ghost use Rattle.price_space.specs.Moves.{values_of};
 ghost use Rattle.plain_lists.specs.Ranges.{IsFrom};
 ghost use Rattle.uc_model.specs.PlainCases.{proposal_of, task_unit};
 ghost use Rattle.uc_model.specs.PlainUnits.{prices_of, schedule_of};
@@ -15,9 +15,8 @@ ghost use Rattle.uc_model.specs.declared.limits.TheConstants.{MOST_PERIODS};
 ghost use Rattle.board_core.specs.Ledgers.{blank, with_prices, with_value, with_schedule};
 
 use board_task::tasks::copy_prices;
-use dual_value::{add_response, take_bid};
 use plain_lists::lists::Amounts;
-use price_move::greatest_with;
+use price_space::{add_response, greatest_with, take_bid};
 use std::alloc::{AllocError, Global};
 use std::marker::Model;
 use uc_model::cases::{Row, Task};
@@ -36,8 +35,8 @@ pub struct Ledger {
 
 impl Model for Ledger {
     ghost use Rattle.std.specs.Prelude.{map, ◌<◌};
-    ghost use Rattle.price_move.specs.Firsts.{IsFirstUpTo};
-    ghost use Rattle.price_move.specs.Moves.{values_of};
+    ghost use Rattle.price_space.specs.Firsts.{IsFirstUpTo};
+    ghost use Rattle.price_space.specs.Moves.{values_of};
     ghost use Rattle.uc_model.specs.PlainCases.{proposal_of};
     ghost use Rattle.board_core.specs.Ledgers.{LedgerValue};
 

@@ -22,7 +22,7 @@ pub use Rattle.gap_proof.specs.CertifiedBound.{slope_at, height_of, most_over, p
 pub use Rattle.gap_proof.specs.CertifiedBound.{low_end, high_end}
 unfoldable pub use Rattle.gap_proof.specs.CertifiedBound.{certified_bound}
 pub use Rattle.gap_proof.specs.Sums.{IsSlopeSum, IsHeightSum, AreSums, IsWeight, IsRowWithin, least_bound}
-pub use Rattle.price_move.specs.Sizes.{IsRowOver}
+pub use Rattle.price_space.specs.Sizes.{IsRowOver}
 pub use Rattle.plain_lists.proofs.IntLaws.{mul-add, sum_below-same}
 pub use Rattle.plain_lists.proofs.SignedLaws.{IsWithin, fits_within, sum_within}
 pub use Rattle.uc_model.specs.Data.{PriceLists, Market}

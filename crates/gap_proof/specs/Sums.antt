@@ -6,7 +6,7 @@ use Rattle.plain_lists.specs.Ranges.{IsFrom}
 use Rattle.uc_model.specs.Limits.{IsWorth}
 use Rattle.uc_model.specs.PriceRule.{Proposal}
 use Rattle.plain_lists.specs.Sums.{int_at, total}
-use Rattle.price_move.specs.Sizes.{IsRowOver}
+use Rattle.price_space.specs.Sizes.{IsRowOver}
 use Rattle.gap_proof.specs.CertifiedBound.{slope_at, height_of, weighted}
 
 -- a row over the market's horizon, with a dual value

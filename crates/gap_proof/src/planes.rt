@@ -6,12 +6,12 @@ ghost use Rattle.uc_model.specs.Limits.{price_limit};
 ghost use Rattle.uc_model.specs.PlainCases.{market_of, proposal_of};
 ghost use Rattle.uc_model.specs.PlainUnits.{prices_of};
 ghost use Rattle.plain_lists.specs.Sums.{int_at};
-ghost use Rattle.price_move.specs.Sizes.{IsEntry, IsRowOver};
+ghost use Rattle.price_space.specs.Sizes.{IsEntry, IsRowOver};
 ghost use Rattle.gap_proof.specs.CertifiedBound.{price_at, slope_at, height_of};
 ghost use Rattle.gap_proof.specs.Sums.{IsRowWithin, IsUpTo, IsWeight, IsHeight, IsSlopeSum};
 
 use plain_lists::lists::Amounts;
-use price_move::lacking;
+use price_space::lacking;
 use uc_model::cases::{Case, Row};
 use uc_model::units::Prices;
 

@@ -10,7 +10,7 @@ ghost use Rattle.price_settle.specs.Rooms.{HasRoom};
 use crate::answers::answer_all;
 use crate::room::Room;
 use crate::totals::{earned_sum, total_all};
-use dual_value::dual_value;
+use price_space::dual_value;
 use std::alloc::{AllocError, Global};
 use uc_model::cases::{Case, Plan, Row};
 use uc_model::laws::{

@@ -8,5 +8,11 @@ pub mod CaseLaws
 pub mod RuleLaws
 -- opening.rt: lists of opening prices
 pub mod OpeningLaws
+-- best_row.rt: the first greatest of a list of numbers
+pub mod FirstGreatest
+-- step.rt: sizes of squares and quotients
+pub mod Squares
+-- step.rt and next.rt: prices after a step are those of the price rule, within their limits
+pub mod Steps
 -- The lemmas that answers cite.
 pub mod Lemmas

@@ -26,7 +26,7 @@ use crate::rows::rows_same;
 use crate::units::units_same;
 use crate::wrong::WrongLine;
 use case_answers::earn_all;
-use price_move::greatest;
+use price_space::greatest;
 use report_form::laws::text_determines_the_report;
 use report_read::Report;
 use right_report::laws::{

@@ -6,7 +6,7 @@ pub use Rattle.std.proofs.lemmas.Int.{ints, to_z-of_z}
 pub use Rattle.std.specs.Int.{w128}
 pub use Rattle.std.specs.List.{All}
 pub use Rattle.std.specs.Prelude.{slice_index_or}
-pub use Rattle.price_move.specs.Sizes.{IsRowBelow}
+pub use Rattle.price_space.specs.Sizes.{IsRowBelow}
 pub use Rattle.uc_model.specs.Data.{Market, Schedule}
 pub use Rattle.uc_model.specs.Laws.{HasPlanShape}
 pub use Rattle.uc_model.specs.Limits.{IsWorth}

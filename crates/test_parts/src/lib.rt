@@ -8,8 +8,6 @@ mod board_store_tests;
 #[cfg(test)]
 mod cost_curve_tests;
 #[cfg(test)]
-mod dual_value_tests;
-#[cfg(test)]
 mod flat_answer_tests;
 #[cfg(test)]
 mod gap_proof_tests;
@@ -21,8 +19,6 @@ mod hull_words_tests;
 mod mixture_bound_tests;
 #[cfg(test)]
 mod plan_check_tests;
-#[cfg(test)]
-mod price_move_tests;
 #[cfg(test)]
 mod price_space_tests;
 #[cfg(test)]

@@ -14,7 +14,7 @@ ghost use Rattle.board_core.specs.Stored.{answer_of};
 use super::Board;
 use crate::terms::Terms;
 use board_history::entries::Entry;
-use price_move::greatest;
+use price_space::greatest;
 use std::marker::Model;
 use uc_model::cases::{Case, Plan, Row};
 use uc_model::units::Answered;
