@@ -5,3 +5,5 @@ pub mod Logs
 pub mod Notes
 pub mod Spells
 pub mod Steps
+pub mod Entries
+pub mod Ways

@@ -18,9 +18,9 @@ pub use Rattle.shape_law.specs.Effect.{IsSum, IsWindow, CanAddCurve, IsLeastIn, 
 pub use Rattle.test_shapes.specs.Laws.{StaysAs, OthersStay}
 pub use Rattle.shape_law.specs.Table.{Table, value_of, CanAdd, HasNone, IsEmpty}
 pub use Rattle.shape_law.specs.declared.step.Step.{Step}
-pub use Rattle.spell_way.specs.Entries.{IsOnFromTo, IsSameOutside}
+pub use Rattle.spell_run.specs.Entries.{IsOnFromTo, IsSameOutside}
 pub use Rattle.spell_run.specs.Frontier.{IsFrontier}
-pub use Rattle.spell_way.specs.Ways.{IsWritten, IsChosen, IsWayFrom, stops_at}
+pub use Rattle.spell_run.specs.Ways.{IsWritten, IsChosen, IsWayFrom, stops_at}
 pub use Rattle.spell_run.specs.Laws.{best_reserve}
 pub use Rattle.spell_run.specs.Spells.{IsSpellWithin, IsSpellAnswer, IsBestDispatch, IsFirstDispatch, HasNoDispatch}
 pub use Rattle.spell_run.specs.Steps.{IsFairStep, IsCostOf, IsKinked, IsSmall, cap_at, step_at, IsStepped, IsLeastCost}

@@ -3,8 +3,8 @@ pub use Rattle.spell_run.proofs.FairLaws.{output_stored}
 pub use Rattle.spell_run.proofs.FairLaws.{cost_is, alike_of}
 pub use Rattle.spell_run.proofs.FrontierLaws.{frontier_more, small_frontier, answer_of_step, answer_at_end}
 pub use Rattle.spell_run.proofs.FrontierLaws.{answer_alike}
-pub use Rattle.spell_way.proofs.NoteLaws.{outside_more}
-pub use Rattle.spell_way.proofs.OnLaws.{on_last, on_more}
+pub use Rattle.spell_run.proofs.NoteLaws.{outside_more}
+pub use Rattle.spell_run.proofs.OnLaws.{on_last, on_more}
 pub use Rattle.test_spells.proofs.BoundLaws.{can_line, can_curve, kink_of_none, can_kink}
 pub use Rattle.test_spells.proofs.ChoiceLaws.{least_stored, none_stored, found_out, kinked_out, chosen_stored}
 pub use Rattle.test_spells.proofs.EntryLaws.{first_from, entry_other, entries_more, entries_by_last, entries_before}

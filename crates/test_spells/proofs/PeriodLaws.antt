@@ -9,7 +9,7 @@ use Rattle.test_spells.proofs.Common.{IsSpellAnswer, IsSpellWithin, cap_at, step
 use Rattle.spell_run.proofs.FairLaws.{IsStep}
 use Rattle.spell_run.proofs.FrontierLaws.{small_frontier, frontier_more, answer_of_step}
 use Rattle.spell_run.proofs.StepLaws.{IsFromMove, step_sound}
-use Rattle.spell_way.proofs.WayLaws.{stops_before, stops_last, IsOnward, onward_end, onward_more, way_of_choice}
+use Rattle.spell_run.proofs.WayLaws.{stops_before, stops_last, IsOnward, onward_end, onward_more, way_of_choice}
 
 -- what stays outside the periods from k on stays outside those from k - 1 on
 pub outside_wider : (k last : ℕ) (d d' : Schedule) → IsSameOutside (suc (suc k)) last d d' →

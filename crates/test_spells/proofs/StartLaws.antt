@@ -3,7 +3,7 @@ use Rattle.test_spells.proofs.Common.{ℕ, ◌≤◌, ◌-◌, ◌≡◌, ℤ, p
 use Rattle.test_spells.proofs.Common.{IsPoint, Table, ThermalUnit, PriceLists, Schedule, IsThermalUnit, ArePrices}
 use Rattle.test_spells.proofs.Common.{IsFrontier, IsWayFrom, IsBestDispatch, IsFirstDispatch, IsSpellStart, spell_first}
 use Rattle.spell_run.proofs.FrontierLaws.{begin_started, frontier_goes_on}
-use Rattle.spell_way.proofs.NoteLaws.{whole_way}
+use Rattle.spell_run.proofs.NoteLaws.{whole_way}
 
 pub frontier_begin : (g : ThermalUnit) (π : PriceLists) (periods first : ℕ) (started : Bool) (f : Table) →
     IsThermalUnit g → IsSpellStart g periods first started →

@@ -6,8 +6,8 @@ use Rattle.shape_law.specs.Table.{Table, HasNone}
 use Rattle.shape_law.specs.declared.step.Step.{Step}
 use Rattle.spell_run.specs.Spells.{HasNoDispatch, IsSpellAnswer, IsSpellWithin}
 use Rattle.spell_run.specs.Steps.{IsKinked}
-use Rattle.spell_way.specs.Entries.{IsOnFromTo}
-use Rattle.spell_way.specs.Ways.{IsWayFrom}
+use Rattle.spell_run.specs.Entries.{IsOnFromTo}
+use Rattle.spell_run.specs.Ways.{IsWayFrom}
 use Rattle.uc_model.specs.Data.{PriceLists, Schedule, ThermalUnit}
 use Rattle.test_spells.specs.declared.best.Found.{Found}
 use Rattle.test_spells.specs.declared.spell.Spell.{Spell}

@@ -18,7 +18,7 @@ pub use Rattle.unit_rows.specs.Ends.{IsStarted, IsEntryAfter, IsEntry, IsLeastEn
 pub use Rattle.unit_rows.specs.declared.table.Ended.{Ended}
 pub use Rattle.unit_rows.specs.declared.table.Entry.{Entry}
 pub use Rattle.test_spells.specs.Entries.{entry_of}
-pub use Rattle.spell_way.specs.Entries.{IsOnFromTo, IsSameOutside}
+pub use Rattle.spell_run.specs.Entries.{IsOnFromTo, IsSameOutside}
 pub use Rattle.test_spells.specs.Entries.{spell_first}
 pub use Rattle.spell_run.specs.Spells.{IsBestDispatch, IsFirstDispatch, HasNoDispatch, IsDispatch, IsLeastSpell}
 pub use Rattle.spell_run.specs.Spells.{spell_cost, IsSpellAnswer}

@@ -26,7 +26,7 @@ pub use Rattle.unit_table.specs.declared.runner.Runner.{Runner}
 pub use Rattle.unit_rows.specs.declared.table.Ended.{Ended}
 pub use Rattle.unit_rows.specs.declared.table.Entry.{Entry}
 pub use Rattle.slope_list.specs.Slopes.{room_of, space_of}
-pub use Rattle.spell_way.specs.Entries.{IsOnFromTo, IsSameOutside}
+pub use Rattle.spell_run.specs.Entries.{IsOnFromTo, IsSameOutside}
 pub use Rattle.std.proofs.lemmas.Nat.{mul-le}
 pub use Rattle.spell_run.specs.Logs.{left_from, entry_at}
 pub use Rattle.spell_run.specs.declared.notes.Logged.{Logged}

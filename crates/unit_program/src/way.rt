@@ -13,8 +13,7 @@ ghost use Rattle.unit_rows.specs.Rows.{cost_at, first_at};
 ghost use Rattle.unit_table.specs.Runners.{HaveWays, since};
 
 use crate::answer::{clear, is_all_off, negated};
-use spell_run::Logged;
-use spell_way::{Left, write_spell};
+use spell_run::{Left, Logged, write_spell};
 use uc_model::laws::start_costs_are_within;
 use uc_model::units::{Answered, Prices, Unit};
 use unit_rows::table::{Ended, Entry};

@@ -1,6 +1,6 @@
 -- The entries of a spell in a log, read from the last one back.
-use Rattle.spell_way.proofs.Common.{◌≡◌, ℕ, suc, ◌<◌, List, length, refl, sym, ap, ◌∙◌, subst, arith, eqb, eq-eqb}
-use Rattle.spell_way.proofs.Common.{cond-true, Logged, Trail, entry_at, left_from, left_by, AreLogged, IsTrail}
+use Rattle.spell_run.proofs.Common.{◌≡◌, ℕ, suc, ◌<◌, List, length, refl, sym, ap, ◌∙◌, subst, arith, eqb, eq-eqb}
+use Rattle.spell_run.proofs.Common.{cond-true, Logged, Trail, entry_at, left_from, left_by, AreLogged, IsTrail}
 use Rattle.spell_run.proofs.LogLaws.{left_before}
 
 -- what the entry at a place says is what was left of the last period

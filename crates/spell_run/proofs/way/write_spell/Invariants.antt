@@ -1,6 +1,6 @@
-use Rattle.spell_way.proofs.Common.{◌≡◌, ◌-◌, thermal_of, prices_of, schedule_of}
-use Rattle.spell_way.proofs.Lemmas.{IsWrittenFrom, IsRest}
-use Rattle.spell_way.proofs.way.write_spell.Given as goal
+use Rattle.spell_run.proofs.Common.{◌≡◌, ◌-◌, thermal_of, prices_of, schedule_of}
+use Rattle.spell_run.proofs.Lemmas.{IsWrittenFrom, IsRest}
+use Rattle.spell_run.proofs.way.write_spell.Given as goal
 
 abbrev pub invariant-loop-back : goal.invariant-loop-back
 invariant-loop-back l = record {

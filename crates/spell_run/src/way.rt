@@ -7,21 +7,20 @@ ghost use Rattle.std.specs.Prelude.{◌≡◌, ℤ, suc, ◌==◌, ◌-◌, ◌<
 ghost use Rattle.shape_law.specs.Effect.{Reaches};
 ghost use Rattle.shape_law.specs.Table.{Table, value_of};
 ghost use Rattle.slope_piece.specs.Turn.{IsTurn, IsFirst, IsLast};
-ghost use Rattle.spell_way.specs.Entries.{IsOnFromTo, IsSameOutside};
-ghost use Rattle.spell_way.specs.Ways.{IsChosen};
+ghost use Rattle.spell_run.specs.Entries.{IsOnFromTo, IsSameOutside};
+ghost use Rattle.spell_run.specs.Ways.{IsChosen};
 ghost use Rattle.spell_run.specs.Logs.{left_by, IsTrail};
 ghost use Rattle.spell_run.specs.Notes.{IsNoted, IsSpellNoted};
-ghost use Rattle.spell_way.specs.Ways.{IsCheapest};
+ghost use Rattle.spell_run.specs.Ways.{IsCheapest};
 ghost use Rattle.spell_run.specs.Spells.{IsBestDispatch, IsFirstDispatch};
 ghost use Rattle.spell_run.specs.Steps.{step_at, IsFairStep};
 ghost use Rattle.uc_model.specs.Limits.{IsOutput};
 ghost use Rattle.uc_model.specs.PlainUnits.{thermal_of, prices_of, schedule_of};
 
+use crate::notes::{Logged, Note, Trail, first_of};
+use crate::step::{Step, starts_in, step_of};
 use crate::write::write_best;
 use cost_curve::laws::envelope_is_cost;
-use spell_run::notes::first_of;
-use spell_run::step::{Step, starts_in, step_of};
-use spell_run::{Logged, Note, Trail};
 use uc_model::units::{Answered, Prices, Unit};
 
 /// A period on the way back.

@@ -1,9 +1,9 @@
-use Rattle.spell_way.proofs.Common
+use Rattle.spell_run.proofs.Common
 use Common.{rules, ◌≡◌, ℤ, ◌≤ℤ◌, suc, eqb, to_z, of_z, Some, w64, FitsSigned, to_z-of_z, Reaches, Table, value_of}
 use Common.{IsTurn, IsFirst, IsLast, Step, IsOutput, thermal_of, Note, IsCheapest, cap_at, signed}
-use Rattle.spell_way.proofs.Lemmas.{output_stored, power_range, before_out, before_rise, before_under, chosen_noted}
-use Rattle.spell_way.proofs.way.write_period.Goals as goal
-use Rattle.spell_way.proofs.way.write_period.Goals.{Start, After-cheapest_before-before}
+use Rattle.spell_run.proofs.Lemmas.{output_stored, power_range, before_out, before_rise, before_under, chosen_noted}
+use Rattle.spell_run.proofs.way.write_period.Goals as goal
+use Rattle.spell_run.proofs.way.write_period.Goals.{Start, After-cheapest_before-before}
 
 -- the power is one of the step
 range : (c : Start) → IsOutput c.args.visit.power ×

@@ -1,5 +1,5 @@
 -- The powers and the reserve of a period as they are stored, and that they stay within limits.
-use Rattle.spell_way.proofs.Common
+use Rattle.spell_run.proofs.Common
 use Common.{◌≡◌, ℕ, ℤ, pos, nat_abs, ◌+ℤ◌, ◌-ℤ◌, ◌≤ℤ◌, ◌<ℤ◌, sym, ◌∙◌, w64, FitsSigned, int_min, to_z-of_z, Schedule}
 use Common.{IsOutput, signed, Step, IsWritten, best_reserve, IsFairStep}
 use Rattle.plain_lists.proofs.SignedLaws.{stored, stored_is}

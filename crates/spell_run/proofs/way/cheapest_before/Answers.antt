@@ -1,7 +1,7 @@
-use Rattle.spell_way.proofs.Common.{rules, ◌≡◌, ◌+ℤ◌, ◌-ℤ◌, ap, ◌∙◌, arith, w64, FitsSigned, to_z, of_z, int_min}
-use Rattle.spell_way.proofs.Common.{int_max, to_z-of_z, fits_within, signed}
-use Rattle.spell_way.proofs.Lemmas.{cheapest_near}
-use Rattle.spell_way.proofs.way.cheapest_before.Goals as goal
+use Rattle.spell_run.proofs.Common.{rules, ◌≡◌, ◌+ℤ◌, ◌-ℤ◌, ap, ◌∙◌, arith, w64, FitsSigned, to_z, of_z, int_min}
+use Rattle.spell_run.proofs.Common.{int_max, to_z-of_z, fits_within, signed}
+use Rattle.spell_run.proofs.Lemmas.{cheapest_near}
+use Rattle.spell_run.proofs.way.cheapest_before.Goals as goal
 
 pub returns : goal.returns
 returns c = λ f v y w turn first last there reach.

@@ -1,6 +1,6 @@
 //! One period of a dispatch, written into an answer.
 ghost use Rattle.std.specs.Prelude.{◌≡◌, ◌<◌, pos, ◌-ℤ◌, ◌≤ℤ◌, length};
-ghost use Rattle.spell_way.specs.Ways.{IsWritten};
+ghost use Rattle.spell_run.specs.Ways.{IsWritten};
 ghost use Rattle.spell_run.specs.Laws.{best_reserve};
 ghost use Rattle.spell_run.specs.Steps.{IsFairStep};
 ghost use Rattle.uc_model.specs.Limits.{IsOutput};

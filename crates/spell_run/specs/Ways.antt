@@ -11,7 +11,7 @@ use Rattle.plain_lists.specs.Sums.{int_at}
 use Rattle.spell_run.specs.Laws.{best_reserve}
 use Rattle.spell_run.specs.Spells.{spell_cost, IsDispatch}
 use Rattle.spell_run.specs.Steps.{cap_at, level, IsRun, IsKinked}
-use Rattle.spell_way.specs.Entries.{IsSameOutside}
+use Rattle.spell_run.specs.Entries.{IsSameOutside}
 
 -- y is the cheapest power before a step to power x, the least of those
 pub record IsCheapest (s : Step) (f : Table) (x y : ℤ) : Type 0 where

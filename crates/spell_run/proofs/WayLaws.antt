@@ -1,6 +1,6 @@
 -- The way back: the periods that are written make, with what comes before them, a dispatch of least cost, the first of
 -- those of that cost.
-use Rattle.spell_way.proofs.Common
+use Rattle.spell_run.proofs.Common
 use Common.{signed, ◌≡◌, ℕ, zero, suc, ◌<◌, ◌≤◌, inl, inr, ℤ, pos, ◌+ℤ◌, ◌-ℤ◌, ◌≤ℤ◌, Bool, true, false, ◌&&◌, eqb}
 use Common.{ltb, length, Some, refl, sym, ap, ◌∙◌, subst, arith, option_map, cases_lt, eq-eqb, ne_eqb, and_right}
 use Common.{IsCostCurve, reserve_term, IsLeast, same_some, Table, value_of, Curve, ThermalUnit, PriceLists, Schedule}

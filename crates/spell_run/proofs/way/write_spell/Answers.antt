@@ -1,10 +1,10 @@
-use Rattle.spell_way.proofs.Common.{rules, ◌≡◌, suc, ◌+◌, ◌-◌, ◌<◌, ◌≤◌, ◌∙◌, arith, w64, FitsSigned, to_z}
-use Rattle.spell_way.proofs.Common.{to_z-of_z, thermal_of, prices_of, schedule_of, sym, ap, subst, Passed, length}
-use Rattle.spell_way.proofs.Lemmas.{IsWrittenFrom, end_stored, written_last, written_more, there_after, written_best}
-use Rattle.spell_way.proofs.Lemmas.{written_on, written_outside, IsRest, rest_first, rest_within, rest_entry}
-use Rattle.spell_way.proofs.Lemmas.{rest_before}
-use Rattle.spell_way.proofs.way.write_spell.Goals as goal
-use Rattle.spell_way.proofs.way.write_spell.Goals.{After-loop-back}
+use Rattle.spell_run.proofs.Common.{rules, ◌≡◌, suc, ◌+◌, ◌-◌, ◌<◌, ◌≤◌, ◌∙◌, arith, w64, FitsSigned, to_z}
+use Rattle.spell_run.proofs.Common.{to_z-of_z, thermal_of, prices_of, schedule_of, sym, ap, subst, Passed, length}
+use Rattle.spell_run.proofs.Lemmas.{IsWrittenFrom, end_stored, written_last, written_more, there_after, written_best}
+use Rattle.spell_run.proofs.Lemmas.{written_on, written_outside, IsRest, rest_first, rest_within, rest_entry}
+use Rattle.spell_run.proofs.Lemmas.{rest_before}
+use Rattle.spell_run.proofs.way.write_spell.Goals as goal
+use Rattle.spell_run.proofs.way.write_spell.Goals.{After-loop-back}
 
 -- all periods are written
 whole : (c : After-loop-back) → IsWrittenFrom (thermal_of c.args.unit.now) (prices_of c.args.prices.now) c.args.first

@@ -1,6 +1,6 @@
-use Rattle.spell_way.proofs.Common.{◌∙◌}
-use Rattle.spell_way.proofs.Lemmas.{written_cast, best_stored}
-use Rattle.spell_way.proofs.write.write_best.Goals as goal
+use Rattle.spell_run.proofs.Common.{◌∙◌}
+use Rattle.spell_run.proofs.Lemmas.{written_cast, best_stored}
+use Rattle.spell_run.proofs.write.write_best.Goals as goal
 
 pub returns-clause-written : goal.returns-clause-written
 returns-clause-written c =

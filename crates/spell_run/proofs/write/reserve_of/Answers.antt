@@ -1,6 +1,6 @@
-use Rattle.spell_way.proofs.Common.{signed}
-use Rattle.spell_way.proofs.Lemmas.{reserve_is, reserve_out}
-use Rattle.spell_way.proofs.write.reserve_of.Goals as goal
+use Rattle.spell_run.proofs.Common.{signed}
+use Rattle.spell_run.proofs.Lemmas.{reserve_is, reserve_out}
+use Rattle.spell_run.proofs.write.reserve_of.Goals as goal
 
 pub returns-clause-best : goal.returns-clause-best
 returns-clause-best c =

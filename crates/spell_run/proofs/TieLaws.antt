@@ -1,5 +1,5 @@
 -- A way on from the power before a spell is a best dispatch, and the first of those of its cost.
-use Rattle.spell_way.proofs.Common
+use Rattle.spell_run.proofs.Common
 use Common.{◌≡◌, ℕ, zero, suc, ◌+◌, ◌-◌, ◌<◌, ◌≤◌, inl, inr, ℤ, pos, ◌+ℤ◌, ◌*ℤ◌, ◌≤ℤ◌, eqb, length, refl, sym, ap}
 use Common.{◌∙◌, subst, arith, cases_lt, IsPoint, same_some, Table, ThermalUnit, PriceLists, Schedule}
 use Common.{IsThermalUnit, ArePrices, power_in, reserve_in, int_at, sum_below, stops_at, HasBestReserve, IsWayFrom}
@@ -7,7 +7,7 @@ use Common.{IsDispatch, net_cost_at, net_cost, spell_cost, IsBestDispatch, IsFir
 use Rattle.spell_run.specs.Laws.{IsBestReserve}
 use Rattle.spell_run.proofs.ReserveLaws.{reserve_is_best}
 use Rattle.spell_run.proofs.RunLaws.{level_before, level_within, move_same, reserve_not_negative}
-use Rattle.spell_way.proofs.WayLaws.{move_of}
+use Rattle.spell_run.proofs.WayLaws.{move_of}
 
 -- where sums of terms that are no greater are equal, so are the terms
 same_terms : (n : ℕ) (f g : ℕ → ℤ) → ((i : ℕ) → i < n → f i ≤ℤ g i) → sum_below n f ≡ sum_below n g → (i : ℕ) → i < n →

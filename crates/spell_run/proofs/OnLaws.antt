@@ -1,6 +1,6 @@
 -- Periods that are on, and one before them.
-use Rattle.spell_way.proofs.Common.{◌∙◌, ◌≡◌, ℕ, suc, inl, inr, ℤ, false, get_or, subst, arith, IsTrue, cases_lt}
-use Rattle.spell_way.proofs.Common.{Schedule, IsOnFromTo, IsWritten}
+use Rattle.spell_run.proofs.Common.{◌∙◌, ◌≡◌, ℕ, suc, inl, inr, ℤ, false, get_or, subst, arith, IsTrue, cases_lt}
+use Rattle.spell_run.proofs.Common.{Schedule, IsOnFromTo, IsWritten}
 
 pub on_more : {k last : ℕ} {p r : ℤ} {d d' : Schedule} → IsWritten k p r d d' → IsOnFromTo (suc (suc k)) last d →
     IsOnFromTo (suc k) last d'

@@ -1,6 +1,6 @@
 -- The way back by what the steps noted: the power nearest to the turn is the cheapest power before, and the periods
 -- that are written for it are a way on.
-use Rattle.spell_way.proofs.Common
+use Rattle.spell_run.proofs.Common
 use Common.{bounded, signed, ◌≡◌, ℕ, zero, suc, ◌-◌, ◌<◌, ◌≤◌, ltb, eqb, ◌⊎◌, inl, inr, ℤ, pos, ◌+ℤ◌, ◌-ℤ◌, ◌≤ℤ◌}
 use Common.{Bool, false, length, Some, sym, ap, ◌∙◌, subst, arith, option_map, int_min, int_max, by_lt_z}
 use Common.{EnvelopeIsCost, reserve_term, IsPoint, IsLeast, IsLeastIn, Reaches, same_some, Table, value_of, Step}
@@ -13,12 +13,12 @@ use Rattle.plain_lists.proofs.SignedLaws.{stored}
 use Rattle.spell_run.proofs.CutLaws.{between_powers}
 use Rattle.spell_run.proofs.FairLaws.{cap_out, output_stored}
 use Rattle.spell_run.proofs.FrontierLaws.{frontier_more, frontier_same}
-use Rattle.spell_way.proofs.OnLaws.{on_last, on_more}
+use Rattle.spell_run.proofs.OnLaws.{on_last, on_more}
 use Rattle.spell_run.proofs.RunLaws.{level_before, level_within, cost_none, cost_zero}
 use Rattle.spell_run.proofs.StepLaws.{step_sound}
 use Rattle.spell_run.proofs.SumLaws.{added}
-use Rattle.spell_way.proofs.TieLaws.{of_way}
-use Rattle.spell_way.proofs.WayLaws.{stops_before, stops_last, onward_end, onward_more, way_of_choice}
+use Rattle.spell_run.proofs.TieLaws.{of_way}
+use Rattle.spell_run.proofs.WayLaws.{stops_before, stops_last, onward_end, onward_more, way_of_choice}
 
 -- ---- the power nearest to the turn
 
