@@ -20,7 +20,7 @@ use spell_run::Trail;
 use std::alloc::{AllocError, Global};
 use uc_model::laws::earnings_are_within;
 use uc_model::units::{Answered, Blocks, Curve, Prices, Unit};
-use unit_limits::fill_limits;
+use unit_rows::limits::fill_limits;
 use unit_rows::origins::Origins;
 use unit_rows::table::{Entry, Table};
 use unit_table::laws::limits_keep_rows;

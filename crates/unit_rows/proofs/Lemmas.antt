@@ -6,3 +6,6 @@ pub use Rattle.unit_rows.proofs.OriginLaws.{least_of_origins, none_of_origins, r
 pub use Rattle.unit_rows.proofs.OriginLaws.{cleared}
 pub use Rattle.unit_rows.proofs.RowLaws.{cost_from, cost-is, written_added, written_old}
 pub use Rattle.unit_rows.proofs.StartCosts.{start_cost-rises, start_cost-within}
+pub use Rattle.unit_rows.proofs.LimitListLaws.{net_beside, net_left, reserve_left, AreLimitsFrom, period_net}
+pub use Rattle.unit_rows.proofs.LimitListLaws.{limits_more, limits_whole, price_stored, min_low, period_low}
+pub use Rattle.unit_rows.proofs.NetLaws.{known_least, has_least, known_more, none_known}

@@ -10,5 +10,11 @@ pub mod RipeLaws
 pub mod RowLaws
 -- the cost of a start is within the limits of a lag's cost
 pub mod StartCosts
+-- linear arithmetic over whole numbers
+pub mod Arithmetic
+-- the limits, as they are written from the last period back
+pub mod LimitListLaws
+-- the prices at which an end of the points has the least net cost
+pub mod NetLaws
 -- The lemmas that answers cite.
 pub mod Lemmas

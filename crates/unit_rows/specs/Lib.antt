@@ -4,3 +4,4 @@ pub mod NetCosts
 pub mod Origins
 pub mod Rows
 pub mod Spells
+pub mod Nets

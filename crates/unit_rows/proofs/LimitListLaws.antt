@@ -1,13 +1,13 @@
 -- The limits, as they are written from the last period back.
-use Rattle.unit_limits.proofs.Common.{◌≡◌, ◌≢◌, ℕ, suc, ◌+◌, ◌*◌, ◌<◌, ◌≤◌, inl, inr, Some, ℤ, pos, ◌+ℤ◌, ◌-ℤ◌, ◌*ℤ◌}
-use Rattle.unit_limits.proofs.Common.{◌≤ℤ◌, List, [], ◌∷◌, map, length, refl, ◌∙◌, get_or, set}
-use Rattle.unit_limits.proofs.Common.{get_or-set_same}
-use Rattle.unit_limits.proofs.Common.{get_or-set_other, arith, signed, bounded, FitsSigned, slice_get, slice_index_or}
-use Rattle.unit_limits.proofs.Common.{All, fold, int_max, int_min, w64, cases_eq, cases_lt, slice_get-get_or}
-use Rattle.unit_limits.proofs.Common.{get_or_from_slice_get, *ℤ_comm, Point, ThermalUnit, PriceLists, Schedule}
-use Rattle.unit_limits.proofs.Common.{envelope, IsFrom, IsOutput, IsPoint, ArePointsOrdered, Spans, IsThermalUnit}
-use Rattle.unit_limits.proofs.Common.{power_in, reserve_in, int_at, net_cost, IsInRange, AreLimits, mul-mono_of}
-use Rattle.unit_limits.proofs.Common.{mul-add, mul-sub, IsWithin, stored, stored_is, fits64, product_within}
+use Rattle.unit_rows.proofs.Common.{◌≡◌, ◌≢◌, ℕ, suc, ◌+◌, ◌*◌, ◌<◌, ◌≤◌, inl, inr, Some, ℤ, pos, ◌+ℤ◌, ◌-ℤ◌, ◌*ℤ◌}
+use Rattle.unit_rows.proofs.Common.{◌≤ℤ◌, List, [], ◌∷◌, map, length, refl, ◌∙◌, get_or, set}
+use Rattle.unit_rows.proofs.Common.{get_or-set_same}
+use Rattle.unit_rows.proofs.Common.{get_or-set_other, arith, signed, bounded, FitsSigned, slice_get, slice_index_or}
+use Rattle.unit_rows.proofs.Common.{All, fold, int_max, int_min, w64, cases_eq, cases_lt, slice_get-get_or}
+use Rattle.unit_rows.proofs.Common.{get_or_from_slice_get, *ℤ_comm, Point, ThermalUnit, PriceLists, Schedule}
+use Rattle.unit_rows.proofs.Common.{envelope, IsFrom, IsOutput, IsPoint, ArePointsOrdered, Spans, IsThermalUnit}
+use Rattle.unit_rows.proofs.Common.{power_in, reserve_in, int_at, net_cost, IsInRange, AreLimits, mul-mono_of}
+use Rattle.unit_rows.proofs.Common.{mul-add, mul-sub, IsWithin, stored, stored_is, fits64, product_within}
 use Rattle.uc_model.specs.Laws.{EnvelopeEarnsAsPoints}
 
 -- ---- what a product leaves of a number, as the code has it

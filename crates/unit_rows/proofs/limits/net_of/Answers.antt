@@ -1,5 +1,5 @@
-use Rattle.unit_limits.proofs.Lemmas.{net_left}
-use Rattle.unit_limits.proofs.limits.net_of.Goals as goal
+use Rattle.unit_rows.proofs.Lemmas.{net_left}
+use Rattle.unit_rows.proofs.limits.net_of.Goals as goal
 
 pub returns-clause-value : goal.returns-clause-value
 returns-clause-value c = (net_left c.requires.point c.requires.price).is

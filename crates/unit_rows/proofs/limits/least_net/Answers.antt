@@ -1,7 +1,7 @@
-use Rattle.unit_limits.proofs.Common.{rules, ◌≡◌, pos, ◌∙◌, arith, to_z, of_z, FitsSigned, w64, int_min, bounded}
-use Rattle.unit_limits.proofs.Common.{to_z-of_z, Point}
-use Rattle.unit_limits.proofs.Lemmas.{net_beside}
-use Rattle.unit_limits.proofs.limits.least_net.Goals as goal
+use Rattle.unit_rows.proofs.Common.{rules, ◌≡◌, pos, ◌∙◌, arith, to_z, of_z, FitsSigned, w64, int_min, bounded}
+use Rattle.unit_rows.proofs.Common.{to_z-of_z, Point}
+use Rattle.unit_rows.proofs.Lemmas.{net_beside}
+use Rattle.unit_rows.proofs.limits.least_net.Goals as goal
 
 pub loop-point-preserved : goal.loop-point-preserved
 loop-point-preserved c =

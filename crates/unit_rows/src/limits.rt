@@ -13,7 +13,7 @@ ghost use Rattle.uc_model.specs.PlainUnits.{thermal_of, prices_of};
 ghost use Rattle.plain_lists.specs.Sums.{int_at};
 ghost use Rattle.uc_model.specs.declared.limits.TheConstants.{GAIN_LIMIT, PRICE_LIMIT};
 ghost use Rattle.unit_rows.specs.Limits.{AreLimits};
-ghost use Rattle.unit_limits.specs.Nets.{AreKnown};
+ghost use Rattle.unit_rows.specs.Nets.{AreKnown};
 
 use cost_curve::laws::envelope_earns_as_points;
 use plain_lists::lists::Numbers;

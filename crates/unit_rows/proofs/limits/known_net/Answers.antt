@@ -1,7 +1,7 @@
-use Rattle.unit_limits.proofs.Common.{rules, ◌≡◌, inl, inr, ◌-◌, pos, length, arith, FitsSigned, w64, signed, to_z-of_z}
-use Rattle.unit_limits.proofs.Common.{Point}
-use Rattle.unit_limits.proofs.Lemmas.{known_least, has_least, known_more}
-use Rattle.unit_limits.proofs.limits.known_net.Goals as goal
+use Rattle.unit_rows.proofs.Common.{rules, ◌≡◌, inl, inr, ◌-◌, pos, length, arith, FitsSigned, w64, signed, to_z-of_z}
+use Rattle.unit_rows.proofs.Common.{Point}
+use Rattle.unit_rows.proofs.Lemmas.{known_least, has_least, known_more}
+use Rattle.unit_rows.proofs.limits.known_net.Goals as goal
 
 abbrev none : Point
 none = record { at = pos 0; cost = pos 0 }

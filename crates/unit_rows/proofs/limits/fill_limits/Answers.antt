@@ -1,8 +1,8 @@
-use Rattle.unit_limits.proofs.Common.{rules, ◌≡◌, ◌+◌, ◌-◌, suc, ◌-ℤ◌, length, ap, ◌∙◌, arith, to_z, of_z}
-use Rattle.unit_limits.proofs.Common.{length-set, FitsSigned, w64, signed, to_z-of_z, thermal_of, prices_of, stored_is}
-use Rattle.unit_limits.proofs.Common.{get_or-set_same, pos, sym}
-use Rattle.unit_limits.proofs.Lemmas.{period_net, limits_more, limits_whole, none_known}
-use Rattle.unit_limits.proofs.limits.fill_limits.Goals as goal
+use Rattle.unit_rows.proofs.Common.{rules, ◌≡◌, ◌+◌, ◌-◌, suc, ◌-ℤ◌, length, ap, ◌∙◌, arith, to_z, of_z}
+use Rattle.unit_rows.proofs.Common.{length-set, FitsSigned, w64, signed, to_z-of_z, thermal_of, prices_of, stored_is}
+use Rattle.unit_rows.proofs.Common.{get_or-set_same, pos, sym}
+use Rattle.unit_rows.proofs.Lemmas.{period_net, limits_more, limits_whole, none_known}
+use Rattle.unit_rows.proofs.limits.fill_limits.Goals as goal
 
 pub loop-back-init : goal.loop-back-init
 loop-back-init c = record {

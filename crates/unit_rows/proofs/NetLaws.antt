@@ -1,8 +1,8 @@
 -- The prices at which an end of a list of points has the least net cost.
-use Rattle.unit_limits.proofs.Common.{◌≡◌, ◌⊎◌, inl, inr, ℕ, zero, suc, ◌+◌, ◌-◌, ◌<◌, ℤ, pos, neg_ℤ, ◌-ℤ◌, ◌*ℤ◌, ◌≤ℤ◌}
-use Rattle.unit_limits.proofs.Common.{List, length, arith, get_or, signed, All, slice_index_or}
-use Rattle.unit_limits.proofs.Common.{slice_get-get_or, get_or_from_slice_get, *ℤ_comm, mul-mono_of, mul-sub, Point}
-use Rattle.unit_limits.proofs.Common.{ArePointsOrdered, HasLeastNet, AreKnown}
+use Rattle.unit_rows.proofs.Common.{◌≡◌, ◌⊎◌, inl, inr, ℕ, zero, suc, ◌+◌, ◌-◌, ◌<◌, ℤ, pos, neg_ℤ, ◌-ℤ◌, ◌*ℤ◌, ◌≤ℤ◌}
+use Rattle.unit_rows.proofs.Common.{List, length, arith, get_or, signed, All, slice_index_or}
+use Rattle.unit_rows.proofs.Common.{slice_get-get_or, get_or_from_slice_get, *ℤ_comm, mul-mono_of, mul-sub, Point}
+use Rattle.unit_rows.proofs.Common.{ArePointsOrdered, HasLeastNet, AreKnown}
 
 -- ---- two points at two prices
 

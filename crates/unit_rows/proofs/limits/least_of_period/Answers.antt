@@ -1,7 +1,7 @@
-use Rattle.unit_limits.proofs.Common.{rules, ◌-ℤ◌, ◌*ℤ◌, ◌≤ℤ◌, ◌∙◌, to_z, of_z, FitsSigned, All, w64, to_z-of_z}
-use Rattle.unit_limits.proofs.Common.{Point, thermal_of, bounded}
-use Rattle.unit_limits.proofs.Lemmas.{reserve_left, price_stored, min_low, period_low}
-use Rattle.unit_limits.proofs.limits.least_of_period.Goals as goal
+use Rattle.unit_rows.proofs.Common.{rules, ◌-ℤ◌, ◌*ℤ◌, ◌≤ℤ◌, ◌∙◌, to_z, of_z, FitsSigned, All, w64, to_z-of_z}
+use Rattle.unit_rows.proofs.Common.{Point, thermal_of, bounded}
+use Rattle.unit_rows.proofs.Lemmas.{reserve_left, price_stored, min_low, period_low}
+use Rattle.unit_rows.proofs.limits.least_of_period.Goals as goal
 
 pub overflow_mul-reserve : goal.overflow_mul-reserve
 overflow_mul-reserve c = (reserve_left c.requires.reserve c.args.unit.now.valid.max_power

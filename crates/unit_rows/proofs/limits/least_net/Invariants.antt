@@ -1,5 +1,5 @@
-use Rattle.unit_limits.proofs.Common.{ℕ, ◌<◌, pos, neg_ℤ, ◌-ℤ◌, ◌*ℤ◌, ◌≤ℤ◌, slice_index_or, Point, IsFrom}
-use Rattle.unit_limits.proofs.limits.least_net.Given as goal
+use Rattle.unit_rows.proofs.Common.{ℕ, ◌<◌, pos, neg_ℤ, ◌-ℤ◌, ◌*ℤ◌, ◌≤ℤ◌, slice_index_or, Point, IsFrom}
+use Rattle.unit_rows.proofs.limits.least_net.Given as goal
 
 abbrev pub invariant-loop-point : goal.invariant-loop-point
 invariant-loop-point l = record {

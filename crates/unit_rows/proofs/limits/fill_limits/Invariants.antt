@@ -1,7 +1,7 @@
-use Rattle.unit_limits.proofs.Common.{◌≡◌, ◌+◌, ◌-◌, ◌*◌, pos, neg_ℤ, length, IsFrom, thermal_of, prices_of, int_at}
-use Rattle.unit_limits.proofs.Common.{AreKnown}
-use Rattle.unit_limits.proofs.Lemmas.{AreLimitsFrom}
-use Rattle.unit_limits.proofs.limits.fill_limits.Given as goal
+use Rattle.unit_rows.proofs.Common.{◌≡◌, ◌+◌, ◌-◌, ◌*◌, pos, neg_ℤ, length, IsFrom, thermal_of, prices_of, int_at}
+use Rattle.unit_rows.proofs.Common.{AreKnown}
+use Rattle.unit_rows.proofs.Lemmas.{AreLimitsFrom}
+use Rattle.unit_rows.proofs.limits.fill_limits.Given as goal
 
 abbrev pub invariant-loop-back : goal.invariant-loop-back
 invariant-loop-back l = record {
