@@ -2,8 +2,8 @@
 use Rattle.std.specs.Prelude.{ℕ, ◌≤◌, List, length, Option, Some, None}
 use Rattle.std.specs.Option.{ForSome}
 use Rattle.slope_piece.specs.declared.piece.Piece.{Piece}
-use Rattle.slope_step.specs.declared.step.Made.{Made}
-use Rattle.slope_step.specs.After.{ArePiecesAfter, AreWithinAfter}
+use Rattle.slope_list.specs.declared.step.Made.{Made}
+use Rattle.slope_list.specs.After.{ArePiecesAfter, AreWithinAfter}
 
 -- how many pieces a function has
 abbrev pub used_of : Option Made → ℕ

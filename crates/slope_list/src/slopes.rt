@@ -2,15 +2,15 @@
 ghost use Rattle.std.specs.Prelude.{◌≡◌, ◌≤◌, length, vec_capacity, IfOk, IfSome, MatchOption};
 ghost use Rattle.shape_law.specs.Effect.{IsLeast};
 ghost use Rattle.shape_law.specs.Table.{IsEmpty};
-ghost use Rattle.slope_step.specs.After.{table_after, ArePiecesAfter, AreWithinAfter};
+ghost use Rattle.slope_list.specs.After.{table_after, ArePiecesAfter, AreWithinAfter};
 ghost use Rattle.slope_list.specs.Kept.{AreKept};
 
+use crate::step::{Made, Stepped, slope_step};
 use shape_law::step::Step;
 use slope_piece::below;
 use slope_piece::laws::pieces_begin_and_end;
 use slope_piece::piece::{self, Piece, Start};
 use slope_piece::read::{self, Spot};
-use slope_step::step::{Made, Stepped, slope_step};
 use std::alloc::{AllocError, Global};
 use std::mem;
 use uc_model::units::Curve;

@@ -1,0 +1,17 @@
+-- The lemmas that answers cite, passed on from one place.
+pub use Rattle.slope_list.proofs.BlockLaws.{wide_of, end_of-width, on_curve, rise_to, width_to-next, block_power}
+pub use Rattle.slope_list.proofs.BlockLaws.{block_more, in_block_at, block_next, cost_in, price_within}
+pub use Rattle.slope_list.proofs.DrawLaws.{same_line, drawn_same, drawn_more}
+pub use Rattle.slope_piece.proofs.CursorLaws.{placed_after, placed_inside, placed_within}
+pub use Rattle.slope_list.proofs.KinkLaws.{end_of_valley, within_from_small, kinked_falls, valley_here, valley_end}
+pub use Rattle.slope_list.proofs.KinkLaws.{falls_on, left, left_steep, part_line, part_placed, part_fewer}
+pub use Rattle.slope_piece.proofs.LineLaws.{line_sum, line_product, line_part}
+pub use Rattle.slope_piece.proofs.PieceLaws.{ends_rise_to}
+pub use Rattle.slope_list.proofs.RunLaws.{gentle_slope, cursor_in, run_falls, run_rises, cursor_coded, turn_coded}
+pub use Rattle.slope_list.proofs.RunLaws.{reach_coded, reach_fits, high_near, last_coded, before_both}
+pub use Rattle.slope_list.proofs.WayLaws.{before_moved, run_power, run_line, run_placed, IsEnded, run_ended}
+pub use Rattle.slope_list.proofs.WindowLaws.{line_level_to, fewer_flat, runs_most, nearest_inside, nearer, falling_at}
+pub use Rattle.slope_list.proofs.WindowLaws.{flat_at, rising_at, level_joined, flat_from_line, flat_here}
+pub use Rattle.slope_piece.proofs.OrderLaws.{same_le, le_lt, le_trans, lt_le_trans}
+pub use Rattle.slope_piece.proofs.WrapLaws.{coded_is, output_near, fits_less, fits_sum, up_coded, down_coded, test_true}
+pub use Rattle.slope_piece.proofs.WrapLaws.{test_false, coded_up, fits_up, coded}

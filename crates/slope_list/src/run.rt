@@ -1,0 +1,74 @@
+//! Runs of pieces that go into the function after a step alike.
+ghost use Rattle.std.specs.Prelude.{◌≡◌, neg_ℤ, ◌+ℤ◌, ◌≤ℤ◌, ◌<ℤ◌};
+ghost use Rattle.shape_law.specs.Steps.{IsFairStep};
+ghost use Rattle.slope_list.specs.Kink.{IsGentle, IsLowered};
+ghost use Rattle.slope_piece.specs.Cursors.{IsPlaced};
+ghost use Rattle.slope_list.specs.Runs.{IsRun};
+
+use crate::kink::lowered;
+use crate::window::Window;
+use shape_law::step::Step;
+use slope_piece::cursor::Cursor;
+use slope_piece::piece::Piece;
+
+/// Pieces that go into the function after a step alike, up to a power before it.
+#[derive(Clone, Copy)]
+pub struct Run {
+    /// In kilowatts.
+    pub until: i64,
+    /// How far they move, in kilowatts.
+    pub shift: i64,
+    /// What is added to their slopes, in millionths of the currency for a kilowatt.
+    pub slope: i64,
+}
+
+/// What is left of a run from a power on, after the worth of the reserve is taken off.
+fn bent(run: Run, cursor: Cursor, step: Step) -> Run
+    requires fair { IsFairStep step }
+    requires gentle { IsGentle run.slope }
+    ensures lowered { IsLowered step cursor.at (record { end = run.until; slope = run.slope })
+        (record { end = result.until; slope = result.slope }) }
+    ensures shift { result.shift ≡ run.shift }
+{
+    let whole = Piece {
+        end: run.until,
+        slope: run.slope,
+    };
+    let left = lowered(whole, cursor, step);
+    Run {
+        until: left.end,
+        shift: run.shift,
+        slope: left.slope,
+    }
+}
+
+/// The falling or rising run from a power on: up to the turn, the bend or the last power that is
+/// asked for.
+pub fn next_run(window: &Window<'_>, cursor: Cursor) -> Run
+    requires placed { IsPlaced window.now.start.first window.now.pieces.now cursor }
+    requires falls { cursor.at <ℤ window.now.turn
+        → cursor.at <ℤ (window.now.high +ℤ window.now.step.ramp_down) }
+    requires rises { window.now.turn ≤ℤ cursor.at
+        → (cursor.at +ℤ window.now.step.ramp_up) <ℤ window.now.high }
+    ensures run { IsRun window.now cursor.at result }
+    ensures down { cursor.at <ℤ window.now.turn
+        → result.shift ≡ neg_ℤ window.now.step.ramp_down }
+    ensures up { window.now.turn ≤ℤ cursor.at → result.shift ≡ window.now.step.ramp_up }
+{
+    let step = window.step;
+    if cursor.at < window.turn {
+        let last = window.high + step.ramp_down;
+        let falling = Run {
+            until: last.min(window.turn),
+            shift: -step.ramp_down,
+            slope: step.slope,
+        };
+        return bent(falling, cursor, step);
+    }
+    let rising = Run {
+        until: window.high - step.ramp_up,
+        shift: step.ramp_up,
+        slope: step.slope,
+    };
+    bent(rising, cursor, step)
+}
