@@ -1,10 +1,10 @@
 -- A table with one more row put.
 use Rattle.board_store.proofs.Common.{◌≡◌, ℕ, zero, suc, ◌+◌, ◌*◌, ◌<◌, ◌≤◌, List, [], ◌∷◌, length, take}
 use Rattle.board_store.proofs.Common.{◌-◌, map, get_or, sym, ap}
-use Rattle.board_store.proofs.Common.{◌∙◌, arith, set, length-set, map-set}
-use Rattle.board_store.proofs.Common.{length-replicate, replicate, refl, subst, Rows, rows_in, IsTable}
-use Rattle.board_store.proofs.Common.{MOST_TASKS, MOST_WORK, laid_out, from_run, row_at, IsAdded}
-use Rattle.board_store.proofs.Runs.{take_all, row_kept, row_there}
+use Rattle.board_store.proofs.Common.{◌∙◌, arith, set, length-set, map-set, length-map, get_or_read}
+use Rattle.board_store.proofs.Common.{mul-le-mul_right, get_or-map}
+use Rattle.board_store.proofs.Common.{length-replicate, take_all, replicate, refl, subst, Rows, rows_in, IsTable}
+use Rattle.board_store.proofs.Common.{MOST_TASKS, MOST_WORK, laid_out, from_run, row_at, IsAt}
 
 same_maps : {B : Type 0} (f g : ℕ → B) (xs : List ℕ) →
     ((k : ℕ) → g (get_or xs k 0) ≡ f (get_or xs k 0)) → map g xs ≡ map f xs
@@ -31,33 +31,54 @@ zeros_each P zero here k = here
 zeros_each P (suc n) here zero = here
 zeros_each P (suc n) here (suc k) = zeros_each P n here k
 
--- a table with one more row, which one place names
-pub table_more : {A : Type 0} (long : ℕ) (starts : List ℕ) (used : ℕ) (ls : List ℕ) (vs : List A) (lr vr : ℕ) →
-    IsTable long starts used ls vs lr vr → used < length starts → (i n : ℕ) → n ≡ length ls → (row : List A) →
-    length row ≡ long → (ls2 : List ℕ) (vs2 : List A) → IsAdded ls vs ls2 vs2 row →
-    length ls2 ≤ length ls + length row → (lr2 vr2 : ℕ) → lr ≤ lr2 → vr ≤ vr2 → (used2 : ℕ) → used2 ≡ suc used →
-    IsTable long (set starts i n) used2 ls2 vs2 lr2 vr2
-table_more long starts used ls vs lr vr T more i n is row fits ls2 vs2 added few lr2 vr2 wider wider2 used2 next =
-    let l = length-set starts i n in
-    let there = (row_there ls vs ls2 vs2 row added long fits).0 in
-    let r = T.runs in
-    let f = T.lengths_fit in
-    let g = T.values_fit in
-    let f2 : suc (length starts) * long ≤ lr2 = omega (arith, f, wider) in
-    let g2 : suc (length starts) * long ≤ vr2 = omega (arith, g, wider2) in
-    record {
-      pairs = added.pairs;
-      whole =
-          set_each (λ s. long ≤ length (from_run ls2 vs2 s)) starts i n
-          (subst (λ (s : ℕ). long ≤ length (from_run ls2 vs2 s)) (sym is) there)
-          (λ k. (row_kept ls vs ls2 vs2 row T.pairs added long (get_or starts k 0) (T.whole k)).0);
-      few = omega (arith, l, more, next);
-      runs = subst (λ (m : ℕ). length ls2 ≤ suc m * long) (sym next) (omega (arith, r, few, fits));
-      count = subst (λ (m : ℕ). m ≤ MOST_TASKS) (sym l) T.count;
-      size = subst (λ (m : ℕ). m * long ≤ MOST_WORK) (sym l) T.size;
-      lengths_fit = subst (λ (m : ℕ). suc m * long ≤ lr2) (sym l) f2;
-      values_fit = subst (λ (m : ℕ). suc m * long ≤ vr2) (sym l) g2;
-    }
+-- the row at a place is whole
+pub row_whole : {A : Type 0} (long : ℕ) (starts : List ℕ) (used : ℕ) (ls : List ℕ) (vs : List A) (lr vr : ℕ) →
+    IsTable long starts used ls vs lr vr → (i n : ℕ) → i < length starts → n ≡ get_or starts i n → (m : ℕ) → m ≡ long →
+    m ≤ length (from_run ls vs n)
+row_whole long starts used ls vs lr vr T i n lt is m fits =
+    subst (λ (k : ℕ). k ≤ length (from_run ls vs n)) (sym fits)
+    (subst (λ (k : ℕ). long ≤ length (from_run ls vs k)) (sym (get_or_read starts i n lt is 0)) (T.whole i))
+
+-- a table that takes one more row
+module _ {A : Type 0} (long : ℕ) (starts : List ℕ) (used : ℕ) (ls : List ℕ) (vs : List A) (lr vr : ℕ)
+    (T : IsTable long starts used ls vs lr vr) (more : used < length starts) where
+  scaled : suc used * long ≤ length starts * long
+  scaled = mul-le-mul_right long more
+
+  pub runs_few : length ls ≤ MOST_WORK
+  runs_few = let s = scaled in let r = T.runs in let z = T.size in omega (arith, s, r, z)
+
+  pub lengths_free : length ls + long ≤ lr
+  lengths_free = let s = scaled in let r = T.runs in let f = T.lengths_fit in omega (arith, s, r, f)
+
+  pub values_free : length ls + long ≤ vr
+  values_free = let s = scaled in let r = T.runs in let f = T.values_fit in omega (arith, s, r, f)
+
+  -- with one more row, which one place names
+  pub table_more : (i n : ℕ) (row : List A) → length row ≡ long → (ls2 : List ℕ) (vs2 : List A) →
+      IsAt ls vs ls2 vs2 row n → length ls2 ≤ length ls + length row → (lr2 vr2 : ℕ) → lr ≤ lr2 → vr ≤ vr2 →
+      IsTable long (set starts i n) (used + 1) ls2 vs2 lr2 vr2
+  table_more i n row fits ls2 vs2 at few lr2 vr2 wider wider2 =
+      let l = length-set starts i n in
+      let r = T.runs in
+      let f = T.lengths_fit in
+      let g = T.values_fit in
+      let f2 : suc (length starts) * long ≤ lr2 = omega (arith, f, wider) in
+      let g2 : suc (length starts) * long ≤ vr2 = omega (arith, g, wider2) in
+      let next : used + 1 ≡ suc used = omega arith in
+      record {
+        pairs = at.pairs;
+        whole =
+            set_each (λ s. long ≤ length (from_run ls2 vs2 s)) starts i n
+            (subst (λ (m : ℕ). m ≤ length (from_run ls2 vs2 n)) fits at.whole)
+            (λ k. (at.stays long (get_or starts k 0) (T.whole k)).0);
+        few = omega (arith, l, more);
+        runs = subst (λ (m : ℕ). length ls2 ≤ suc m * long) (sym next) (omega (arith, r, few, fits));
+        count = subst (λ (m : ℕ). m ≤ MOST_TASKS) (sym l) T.count;
+        size = subst (λ (m : ℕ). m * long ≤ MOST_WORK) (sym l) T.size;
+        lengths_fit = subst (λ (m : ℕ). suc m * long ≤ lr2) (sym l) f2;
+        values_fit = subst (λ (m : ℕ). suc m * long ≤ vr2) (sym l) g2;
+      }
 
 -- a table whose places all name the blank row
 pub table_blank : {A : Type 0} (long count : ℕ) (starts : List ℕ) (ls : List ℕ) (vs : List A) (lr vr : ℕ) (blank : A) →
@@ -86,7 +107,8 @@ pub rows_blank : {A : Type 0} (long count : ℕ) (starts ls : List ℕ) (vs : Li
 rows_blank {A} long count starts ls vs blank zeros laid =
     ap (map (row_at long ls vs)) zeros ∙ map_replicate (row_at long ls vs) count 0
     ∙ ap (λ (r : List A). replicate count r)
-    (ap (take long) laid ∙ take_all (replicate long blank) long (length-replicate {A = A} long blank))
+    (ap (take long) laid ∙ take_all long (replicate long blank) (let l = length-replicate {A = A} long blank in
+    omega (arith, l)))
 
 -- a table as the code sees it, at a place with a row
 module _ {A : Type 0} (v : Rows A) (long left : ℕ) (starts ls : List ℕ) (vs : List A)
@@ -100,29 +122,37 @@ module _ {A : Type 0} (v : Rows A) (long left : ℕ) (starts ls : List ℕ) (vs 
   left_some used was some =
       let e : left ≡ v.left = ap (λ (w : Rows A). w.left) is in omega (arith, e, was, some)
 
-  in_view : (i : ℕ) (row : List A) → set (rows_in long ls vs starts) i row ≡ set v.rows i row
-  in_view i row = ap (λ (w : Rows A). set w.rows i row) is
+  pub inside : (i : ℕ) → i < length v.rows → i < length starts
+  inside i lt =
+      let e : length (rows_in long ls vs starts) ≡ length v.rows = ap (λ (w : Rows A). length w.rows) is in
+      let l = length-map starts (row_at long ls vs) in
+      omega (arith, e, lt, l)
 
-  -- the place names a row that is there
-  pub rows_named : (i n : ℕ) (row : List A) → row_at long ls vs n ≡ row →
-      rows_in long ls vs (set starts i n) ≡ set v.rows i row
-  rows_named i n row same =
-      map-set (row_at long ls vs) starts i n
-      ∙ ap (λ (r : List A). set (rows_in long ls vs starts) i r) same
-      ∙ in_view i row
+  -- the row at a place
+  pub row_read : (i n : ℕ) → i < length v.rows → n ≡ get_or starts i n → row_at long ls vs n ≡ get_or v.rows i []
+  row_read i n lt at =
+      ap (row_at long ls vs) (get_or_read starts i n (inside i lt) at 0)
+      ∙ sym (get_or-map (row_at long ls vs) starts i 0 [] (inside i lt))
+      ∙ ap (λ (w : Rows A). get_or w.rows i []) is
 
-  -- the place names a row that is added
-  pub rows_more : (used lr vr : ℕ) → IsTable long starts used ls vs lr vr → (i n : ℕ) → n ≡ length ls →
-      (row : List A) → length row ≡ long → (ls2 : List ℕ) (vs2 : List A) → IsAdded ls vs ls2 vs2 row →
+  pub left_less : (used i n : ℕ) → left ≡ length starts - used → v.left ≤ length (set starts i n) - (used + 1) + 1
+  left_less used i n was =
+      let e : left ≡ v.left = ap (λ (w : Rows A). w.left) is in
+      let l = length-set starts i n in
+      omega (arith, e, was, l)
+
+  -- with one more row, which one place names
+  pub rows_more : (used lr vr : ℕ) → IsTable long starts used ls vs lr vr → (i n : ℕ) (row : List A) →
+      length row ≡ long → (ls2 : List ℕ) (vs2 : List A) → IsAt ls vs ls2 vs2 row n →
       rows_in long ls2 vs2 (set starts i n) ≡ set v.rows i row
-  rows_more used lr vr T i n last row fits ls2 vs2 added =
+  rows_more used lr vr T i n row fits ls2 vs2 at =
       map-set (row_at long ls2 vs2) starts i n
       ∙ ap (λ (rs : List (List A)). set rs i (row_at long ls2 vs2 n))
       (same_maps (row_at long ls vs) (row_at long ls2 vs2) starts
-      (λ k. (row_kept ls vs ls2 vs2 row T.pairs added long (get_or starts k 0) (T.whole k)).1))
+      (λ k. (at.stays long (get_or starts k 0) (T.whole k)).1))
       ∙ ap (λ (r : List A). set (rows_in long ls vs starts) i r)
-      (ap (row_at long ls2 vs2) last ∙ (row_there ls vs ls2 vs2 row added long fits).1)
-      ∙ in_view i row
+      (ap (λ (m : ℕ). row_at m ls2 vs2 n) (sym fits) ∙ at.there)
+      ∙ ap (λ (w : Rows A). set w.rows i row) is
 
 past : (xs : List ℕ) → get_or xs (length xs) 0 ≡ 0
 past [] = refl
@@ -130,6 +160,7 @@ past (x ∷ xs) = past xs
 
 -- the blank row is whole
 pub blank_first : {A : Type 0} (long : ℕ) (starts : List ℕ) (used : ℕ) (ls : List ℕ) (vs : List A) (lr vr : ℕ) →
-    IsTable long starts used ls vs lr vr → long ≤ length (from_run ls vs 0)
-blank_first long starts used ls vs lr vr T =
-    subst (λ (s : ℕ). long ≤ length (from_run ls vs s)) (past starts) (T.whole (length starts))
+    IsTable long starts used ls vs lr vr → (row : List A) → length row ≡ long → length row ≤ length (from_run ls vs 0)
+blank_first long starts used ls vs lr vr T row fits =
+    subst (λ (m : ℕ). m ≤ length (from_run ls vs 0)) (sym fits)
+    (subst (λ (s : ℕ). long ≤ length (from_run ls vs s)) (past starts) (T.whole (length starts)))

@@ -2,50 +2,28 @@
 ghost use Rattle.std.specs.Prelude.{◌≡◌, ◌+◌, ◌*◌, ◌<◌, ◌≤◌, ◌↔◌, [], ◌++◌, length, IfOk, IsTrue, take};
 ghost use Rattle.std.specs.Prelude.{replicate, slice_index_or, slice_set, vec_len, vec_capacity};
 ghost use Rattle.plain_lists.specs.declared.limits.TheConstants.{MOST_TASKS, MOST_WORK};
-ghost use Rattle.board_store.specs.Runs.{laid_out, from_run, row_at, IsAdded};
+ghost use Rattle.board_store.specs.Runs.{from_run, row_at, IsAdded, IsAt};
 
 use plain_lists::lists::ReservedList;
 use std::alloc::{AllocError, Global};
 use std::marker::Model;
 
-/// What runs are of: what a row has in each period. Lengths of runs are looked at in the same way.
+/// What a row has in each period.
 pub trait Cell: Copy + Drop {
     /// Whether it is the same as another.
     fn is(self, other: Self) -> bool
         ensures { IsTrue result ↔ (self ≡ other) };
-
-    /// Whether two rows are the same.
-    fn are_same(row: &[Self], other: &[Self]) -> bool
-        ensures { IsTrue result ↔ (row.now ≡ other.now) };
-}
-
-impl Cell for u8 {
-    fn is(self, other: u8) -> bool {
-        self == other
-    }
-
-    fn are_same(row: &[u8], other: &[u8]) -> bool {
-        row == other
-    }
 }
 
 impl Cell for u32 {
     fn is(self, other: u32) -> bool {
         self == other
     }
-
-    fn are_same(row: &[u32], other: &[u32]) -> bool {
-        row == other
-    }
 }
 
 impl Cell for bool {
     fn is(self, other: bool) -> bool {
         self == other
-    }
-
-    fn are_same(row: &[bool], other: &[bool]) -> bool {
-        row == other
     }
 }
 
@@ -55,7 +33,7 @@ pub struct Table<T> {
     long: usize,
     // for each place where the runs of its row begin, counted from 0
     starts: Vec<u32>,
-    // how many rows were written beside the blank one
+    // how many rows were put
     used: usize,
     // of each run, over how many periods it goes and what is there
     lengths: Vec<u8>,
@@ -100,44 +78,29 @@ fn no_starts(alloc: Global, count: usize) -> Result<Vec<u32>, AllocError>
     vec![in alloc; 0; count]
 }
 
-// Adds runs of so many blanks, where there is room for as many runs.
-fn add_blanks<T: Cell>(lengths: &mut Vec<u8>, values: &mut Vec<T>, count: usize, blank: T)
-    requires empty { (lengths.old.items ≡ []) × (values.old.items ≡ []) }
-    requires room { (count ≤ vec_capacity lengths.old) × (count ≤ vec_capacity values.old) }
-    ensures pairs { length lengths.new.items ≡ length values.new.items }
-    ensures few { length lengths.new.items ≤ count }
-    ensures blanks { laid_out lengths.new.items values.new.items ≡ replicate count blank }
-    ensures lengths_room { vec_capacity lengths.old ≤ vec_capacity lengths.new }
-    ensures values_room { vec_capacity values.old ≤ vec_capacity values.new }
+// Adds the runs of so many copies of a value behind others, where there is room for as many runs.
+fn add_runs<T: Cell>(lengths: &mut Vec<u8>, values: &mut Vec<T>, count: usize, value: T)
+    requires pairs { length lengths.old.items ≡ length values.old.items }
+    requires lengths_room { vec_len lengths.old + count ≤ vec_capacity lengths.old }
+    requires values_room { vec_len values.old + count ≤ vec_capacity values.old }
+    ensures added { IsAdded lengths.old.items values.old.items lengths.new.items values.new.items
+        (replicate count value) }
+    ensures few { length lengths.new.items ≤ length lengths.old.items + count }
+    ensures lengths_capacity { vec_capacity lengths.old ≤ vec_capacity lengths.new }
+    ensures values_capacity { vec_capacity values.old ≤ vec_capacity values.new }
 {
     let mut left = count;
     while left > 0 {
         let length = left.min(255);
         lengths.push_reserved(length as u8);
-        values.push_reserved(blank);
+        values.push_reserved(value);
         left -= length;
     }
 }
 
-// How many cells at the front are the same as the first, at most 255.
-fn run_length<T: Cell>(cells: &[T]) -> usize
-    requires { 1 ≤ length cells.now }
-    ensures some { 1 ≤ result }
-    ensures most { result ≤ 255 }
-    ensures inside { result ≤ length cells.now }
-    ensures same { (d : T) → take result cells.now ≡ replicate result (slice_index_or cells.now 0 d) }
-{
-    let first = cells[0];
-    for (count, cell) in cells.iter().enumerate() {
-        if count == 255 || !cell.is(first) {
-            return count;
-        }
-    }
-    cells.len()
-}
-
-// Adds the runs of a row at the end of others that have room for as many as the row has cells.
+// Adds the runs of a row behind others that have room for as many as the row has cells.
 fn append<T: Cell>(lengths: &mut Vec<u8>, values: &mut Vec<T>, row: &[T])
+    requires some { 1 ≤ length row.now }
     requires pairs { length lengths.old.items ≡ length values.old.items }
     requires lengths_room { vec_len lengths.old + length row.now ≤ vec_capacity lengths.old }
     requires values_room { vec_len values.old + length row.now ≤ vec_capacity values.old }
@@ -146,13 +109,18 @@ fn append<T: Cell>(lengths: &mut Vec<u8>, values: &mut Vec<T>, row: &[T])
     ensures lengths_capacity { vec_capacity lengths.old ≤ vec_capacity lengths.new }
     ensures values_capacity { vec_capacity values.old ≤ vec_capacity values.new }
 {
-    let mut rest = row;
-    while !rest.is_empty() {
-        let length = run_length(rest);
-        lengths.push_reserved(length as u8);
-        values.push_reserved(rest[0]);
-        rest = rest.split_at(length).1;
+    let mut value = row[0];
+    let mut count = 0;
+    for cell in row {
+        if cell.is(value) {
+            count += 1;
+            continue;
+        }
+        add_runs(lengths, values, count, value);
+        value = *cell;
+        count = 1;
     }
+    add_runs(lengths, values, count, value);
 }
 
 // Whether all cells are the same as one. All are looked at, which takes fewer instructions than to
@@ -167,19 +135,9 @@ fn are_all<T: Cell>(cells: &[T], value: T) -> bool
     same
 }
 
-// Whether a run is all the same as a value. Many runs take one period.
-fn is_run<T: Cell>(run: &[T], value: T) -> bool
-    ensures { IsTrue result ↔ (run.now ≡ replicate (length run.now) value) }
-{
-    match run {
-        [cell] => cell.is(value),
-        _ => are_all(run, value),
-    }
-}
-
 // Says yes only where a row is at a place in runs that take one period each, as that of a unit whose
 // powers differ from period to period. To see so takes fewer instructions than to go from run to
-// run.
+// run, and fewer where all are looked at than to stop at one that differs.
 fn has_cells<T: Cell>(lengths: &[u8], values: &[T], start: usize, row: &[T]) -> bool
     requires pairs { length lengths.now ≡ length values.now }
     ensures { IsTrue result → row_at (length row.now) lengths.now values.now start ≡ row.now }
@@ -187,8 +145,11 @@ fn has_cells<T: Cell>(lengths: &[u8], values: &[T], start: usize, row: &[T]) -> 
     if start >= lengths.len() || lengths[start] != 1 || row.len() > lengths.len() - start {
         return false;
     }
-    let end = start + row.len();
-    T::are_same(&values[start..end], row) && are_all(&lengths[start..end], 1)
+    let mut same = true;
+    for k in 0..row.len() {
+        same = values[start + k].is(row[k]) & (lengths[start + k] == 1) & same;
+    }
+    same
 }
 
 // Whether a row is the one whose runs begin at a place.
@@ -201,16 +162,42 @@ fn is_row<T: Cell>(lengths: &[u8], values: &[T], start: usize, row: &[T]) -> boo
         return true;
     }
     let mut at = start;
-    let mut rest = row;
-    while !rest.is_empty() {
-        let (run, later) = rest.split_at(rest.len().min(lengths[at] as usize));
-        if !is_run(run, values[at]) {
+    let mut seen = 0;
+    while seen < row.len() {
+        let end = seen + (row.len() - seen).min(lengths[at] as usize);
+        if !are_all(&row[seen..end], values[at]) {
             return false;
         }
-        rest = later;
+        seen = end;
         at += 1;
     }
     true
+}
+
+// Where the runs of a row begin: where those of another do, which may well be the same, at the first
+// run, or behind all runs, where they are then added.
+fn start_of<T: Cell>(lengths: &mut Vec<u8>, values: &mut Vec<T>, like: u32, row: &[T]) -> u32
+    requires pairs { length lengths.old.items ≡ length values.old.items }
+    requires like { length row.now ≤ length (from_run lengths.old.items values.old.items like) }
+    requires first { length row.now ≤ length (from_run lengths.old.items values.old.items 0) }
+    requires few { length lengths.old.items ≤ MOST_WORK }
+    requires lengths_room { vec_len lengths.old + length row.now ≤ vec_capacity lengths.old }
+    requires values_room { vec_len values.old + length row.now ≤ vec_capacity values.old }
+    ensures there { IsAt lengths.old.items values.old.items lengths.new.items values.new.items row.now
+        result }
+    ensures few { length lengths.new.items ≤ length lengths.old.items + length row.now }
+    ensures lengths_capacity { vec_capacity lengths.old ≤ vec_capacity lengths.new }
+    ensures values_capacity { vec_capacity values.old ≤ vec_capacity values.new }
+{
+    if is_row(lengths.as_slice(), values.as_slice(), like as usize, row) {
+        return like;
+    }
+    if is_row(lengths.as_slice(), values.as_slice(), 0, row) {
+        return 0;
+    }
+    let behind = values.len() as u32;
+    append(lengths, values, row);
+    behind
 }
 
 // Adds so many copies where there is room for them.
@@ -261,7 +248,7 @@ impl<T: Cell> Table<T> {
         let starts = no_starts(alloc, count)?;
         let mut lengths = Vec::with_capacity(alloc, room)?;
         let mut values = Vec::with_capacity(alloc, room)?;
-        add_blanks(&mut lengths, &mut values, long, blank);
+        add_runs(&mut lengths, &mut values, long, blank);
         Ok(Table {
             long,
             starts,
@@ -282,18 +269,10 @@ impl<T: Cell> Table<T> {
         ensures long { self.new.long ≡ self.old.long }
         ensures left { self.old.left ≤ self.new.left + 1 }
     {
-        let start = self.starts[like];
-        if is_row(&self.lengths, &self.values, start as usize, row) {
-            self.starts[place] = start;
-            return;
-        }
-        if is_row(&self.lengths, &self.values, 0, row) {
-            self.starts[place] = 0;
-            return;
-        }
+        let like = self.starts[like];
+        let start = start_of(&mut self.lengths, &mut self.values, like, row);
+        self.starts[place] = start;
         self.used += 1;
-        self.starts[place] = self.values.len() as u32;
-        append(&mut self.lengths, &mut self.values, row);
     }
 
     /// Leaves the row at a place in a list that has room for it. Takes no memory.

@@ -1,6 +1,6 @@
 use Rattle.board_store.proofs.Common.{◌+◌, ◌-◌, ◌≤◌, List, ◌++◌, take, replicate, sym, ap, ◌∙◌, arith, append_assoc}
 use Rattle.board_store.proofs.Common.{from_run}
-use Rattle.board_store.proofs.Lemmas.{taken, still_whole}
+use Rattle.board_store.proofs.Lemmas.{taken, still_whole, run_here}
 use Rattle.board_store.proofs.table.add_row.Goals as goal
 
 pub loop-left-preserved : goal.loop-left-preserved
@@ -24,3 +24,8 @@ loop-left-preserved g c =
           c.min-count.ensures))
           ∙ l.invariant.so_far;
     }
+
+pub bounds-lengths-at : goal.bounds-lengths-at
+bounds-lengths-at g c =
+    run_here c.loop-left.at c.args.lengths.now c.args.values.now c.requires.pairs
+    (omega (arith, c.loop-left-test.true, c.loop-left.invariant.whole))

@@ -1,21 +1,36 @@
-use Rattle.board_store.proofs.Common.{List, replicate, sym, ap, ◌∙◌, subst, arith}
-use Rattle.board_store.proofs.Lemmas.{adding_more, IsAdding}
+use Rattle.board_store.proofs.Common.{List, [], take, replicate, subst, arith, take_all, IsAdded}
+use Rattle.board_store.proofs.Lemmas.{adding_none, adding_next, adding_last}
 use Rattle.board_store.proofs.table.append.Goals as goal
 
-pub loop-rest-preserved : goal.loop-rest-preserved
-loop-rest-preserved g c =
-    let l = c.loop-rest in
-    let n = c.run_length-length.result in
-    let v = c.index-rest-0.result in
+pub loop-cell-init : goal.loop-cell-init
+loop-cell-init g c = record {
+  so_far = adding_none c.args.lengths.now.items c.args.values.now.items [] c.requires.pairs;
+  few = omega arith;
+  lengths_room = omega arith;
+  values_room = omega arith;
+}
+
+pub loop-cell-preserved : goal.loop-cell-preserved
+loop-cell-preserved g c =
+    let l = c.loop-cell in
+    let new = c.add_runs in
     record {
       so_far =
-          subst (λ (r : List _). IsAdding c.args.lengths.now.items c.args.values.now.items
-          c.push_reserved.new.self.items c.push_reserved-in-loop-rest.new.self.items c.args.row.now r)
-          (sym c.split_at.ensures.back)
-          (adding_more c.args.lengths.now.items c.args.values.now.items l.lengths.items l.values.items c.args.row.now
-          l.rest.now l.invariant.so_far n v c.run_length-length.ensures.some c.run_length-length.ensures.inside
-          (c.run_length-length.ensures.same v ∙ ap (λ (x : _). replicate n x) (sym c.index-rest-0.is)) _ _
-          c.push_reserved.ensures.items c.push_reserved-in-loop-rest.ensures.items);
-      lengths_room = omega (arith, l.invariant.lengths_room, c.push_reserved.ensures.capacity);
-      values_room = omega (arith, l.invariant.values_room, c.push_reserved-in-loop-rest.ensures.capacity);
+          adding_next c.args.lengths.now.items c.args.values.now.items l.lengths.items l.values.items c.args.row.now
+          (replicate l.count l.value) l.cell-index c.cell-item.result l.invariant.so_far new.new.lengths.items
+          new.new.values.items new.ensures.added (omega (arith, c.loop-cell-test.true)) c.cell-item.is;
+      few = omega (arith, l.invariant.few, new.ensures.few);
+      lengths_room = omega (arith, l.invariant.lengths_room, new.ensures.lengths_capacity);
+      values_room = omega (arith, l.invariant.values_room, new.ensures.values_capacity);
     }
+
+pub returns-clause-added : goal.returns-clause-added
+returns-clause-added g c =
+    let l = c.loop-cell in
+    let row = c.args.row.now in
+    let new = c.add_runs-2 in
+    subst (λ (r : List _). IsAdded c.args.lengths.now.items c.args.values.now.items new.new.lengths.items
+    new.new.values.items r) (take_all l.cell-index row (omega (arith, c.loop-cell-test.false)))
+    (adding_last c.args.lengths.now.items c.args.values.now.items l.lengths.items l.values.items
+    (take l.cell-index row) (replicate l.count l.value) l.invariant.so_far new.new.lengths.items new.new.values.items
+    new.ensures.added)

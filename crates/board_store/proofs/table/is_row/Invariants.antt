@@ -2,12 +2,12 @@ use Rattle.board_store.proofs.Common.{◌≡◌, ◌-◌, ◌≤◌, ◌↔◌, 
 use Rattle.board_store.proofs.Lemmas.{IsThere}
 use Rattle.board_store.proofs.table.is_row.Given as goal
 
-abbrev pub invariant-loop-rest : goal.invariant-loop-rest
-invariant-loop-rest g l = record {
-  whole : length l.rest ≤ length (from_run l.lengths l.values l.at);
+abbrev pub invariant-loop-seen : goal.invariant-loop-seen
+invariant-loop-seen g l = record {
+  whole : length l.row - l.seen ≤ length (from_run l.lengths l.values l.at);
   told : (row_at (length l.row) l.lengths l.values l.start ≡ l.row)
-      ↔ IsThere l.rest (from_run l.lengths l.values l.at);
+      ↔ IsThere l.row l.seen (from_run l.lengths l.values l.at);
 }
 
-abbrev pub decreases-loop-rest : goal.decreases-loop-rest
-decreases-loop-rest g l = length l.lengths - l.at
+abbrev pub decreases-loop-seen : goal.decreases-loop-seen
+decreases-loop-seen g l = length l.lengths - l.at
