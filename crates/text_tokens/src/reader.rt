@@ -83,6 +83,8 @@ impl<'a> Reader<'a> {
     }
 
     /// The next token, whatever it is.
+    // A call of its own, so that the way of a mark stays short.
+    #[inline(never)]
     fn next_of_all(&mut self) -> Lexeme<'a>
         ensures next { NextIs (rest self.old) (seen result) (rest self.new) }
         ensures last { token_of result.token ≡ end → rest self.old ≡ seen result ∷ [] }

@@ -48,6 +48,8 @@ pub fn is_whole(d: Decimal) -> bool
 /// that it is that number.
 ///
 /// Refuses with `TooLarge` exactly where the magnitude of that number is above the limit.
+// Written out where it is called: a case has tens of thousands of numbers, and it is short for most.
+#[inline(always)]
 pub fn whole(d: Decimal, scale: u32, limit: u64) -> Result<i64, NumFault>
     requires scale { scale ≤ 6 }
     requires limit { limit ≤ 10 ^ 18 }
@@ -90,7 +92,8 @@ fn raised(digits: u128, places: u64, limit: u64) -> Option<u64>
     if digits > u128::from(limit) {
         return None;
     }
-    let number = digits * 10u128.pow(places as u32);
+    // (a power of up to 18 places fits 64 bits)
+    let number = digits * u128::from(10u64.pow(places as u32));
     if number > u128::from(limit) {
         return None;
     }
@@ -98,6 +101,8 @@ fn raised(digits: u128, places: u64, limit: u64) -> Option<u64>
 }
 
 /// The digits without the last so many of them, rounded.
+// A call of its own, so that the way of most numbers stays short.
+#[inline(never)]
 fn lowered(d: Decimal, places: u64, limit: u64) -> Option<u64>
     requires { limit ≤ 10 ^ 18 }
     ensures { SomeIff result (size_cut d.negative d.digits (10 ^ places) ≤ limit)
