@@ -22,7 +22,7 @@ pub use Rattle.uc_model.specs.Laws.{HasPlanShape}
 pub use Rattle.uc_model.specs.PlainCases.{schedules_of, market_of}
 pub use Rattle.uc_model.specs.PlainUnits.{named_thermal_of, named_renewable_of, named_bid_of, schedule_of}
 pub use Rattle.uc_plan.specs.Added.{IsShaped, HasLengths, IsFlat}
-pub use Rattle.uc_plan.specs.Plans.{Groups, Read, is_among, first_unknown, shape_site, flag_in, kilowatts_in}
+pub use Rattle.uc_plan.specs.Plans.{Groups, Read, is_among, first_unknown, shape_site}
 unfoldable pub use Rattle.uc_plan.specs.Plans.{
   groups,
   groups_in,

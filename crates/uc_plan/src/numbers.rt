@@ -1,18 +1,18 @@
 //! The numbers of a schedule.
-ghost use Rattle.std.specs.Prelude.{◌≡◌, ◌≤◌, IfOk, length};
+ghost use Rattle.std.specs.Prelude.{◌≡◌, ◌≤◌, Option, IfOk, length};
 ghost use Rattle.uc_model.specs.declared.limits.TheConstants.{MOST_PERIODS};
 ghost use Rattle.uc_num.specs.Rounding.{rounded};
+ghost use Rattle.text_tree.specs.Values.{Value};
 ghost use Rattle.text_tree.specs.View.{view, views, items_in};
 ghost use Rattle.uc_file.specs.Given.{Gives};
 ghost use Rattle.uc_plan.specs.Plans.{kilowatts_of, kilowatts_in, flag_in, numbers};
 
 use crate::fault::{ShapeCode, ShapeSite, ShapeStop};
-use plain_lists::lists::Flags;
+use plain_lists::lists::ReservedList;
 use std::alloc::Global;
 use text_tree::{Branch, ListBranch};
 use uc_file::inside::bit;
 use uc_model::limits::POWER_LIMIT;
-use uc_model::units::Powers;
 use uc_num::{Decimal, is_whole, whole};
 
 const MOST: u64 = POWER_LIMIT as u64;
@@ -33,74 +33,72 @@ fn kilowatts(d: Decimal) -> Option<u32>
     Some(number as u32)
 }
 
-fn kilowatts_at(branch: Branch<'_>) -> Option<u32>
-    ensures { result ≡ kilowatts_in (view branch.entry) }
-{
-    match branch.number() {
-        Some(d) => kilowatts(d),
-        None => None,
+/// An item of a list of a schedule.
+pub trait Item: Sized {
+    // What a value is, where it is such an item.
+    ghost reading: { Value → Option Self };
+
+    /// The item that a value is, if it is one.
+    fn read(branch: Branch<'_>) -> Option<Self>
+        ensures { result ≡ reading (view branch.entry) };
+}
+
+// Kilowatts.
+impl Item for u32 {
+    ghost reading = { kilowatts_in };
+
+    fn read(branch: Branch<'_>) -> Option<u32> {
+        match branch.number() {
+            Some(d) => kilowatts(d),
+            None => None,
+        }
     }
 }
 
-fn flag_at(branch: Branch<'_>) -> Option<bool>
-    ensures { result ≡ flag_in (view branch.entry) }
-{
-    match branch.number() {
-        Some(d) => bit(d),
-        None => None,
+// A flag.
+impl Item for bool {
+    ghost reading = { flag_in };
+
+    fn read(branch: Branch<'_>) -> Option<bool> {
+        match branch.number() {
+            Some(d) => bit(d),
+            None => None,
+        }
     }
 }
 
-/// The kilowatts of items.
-fn powers_of(alloc: Global, at: ShapeSite, branches: &[Branch<'_>]) -> Result<Powers, ShapeStop>
+/// What the branches are, item by item.
+fn items_of<I: Item + Drop>(
+    alloc: Global,
+    at: ShapeSite,
+    branches: &[Branch<'_>],
+) -> Result<ReservedList<I>, ShapeStop>
     requires { length branches.now ≤ MOST_PERIODS }
     ensures count { IfOk result (λ ns. length ns.items ≡ length branches.now) }
-    ensures value { Gives (λ ns. ns.items) result (numbers kilowatts_in at (views branches.now)) }
+    ensures value { Gives (λ ns. ns.items) result (numbers I.reading at (views branches.now)) }
 {
-    let mut powers = Powers::make(alloc, branches.len() as u32)?;
+    let mut list = ReservedList::make(alloc, branches.len() as u32)?;
     for branch in branches {
-        let Some(power) = kilowatts_at(*branch) else {
-            return Err(at.stop(powers.len() as u32 + 1, ShapeCode::PlanNumber));
+        let Some(item) = I::read(*branch) else {
+            return Err(at.stop(list.len() as u32 + 1, ShapeCode::PlanNumber));
         };
-        powers.push(power);
+        list.push(item);
     }
-    Ok(powers)
+    Ok(list)
 }
 
-/// The flags of items.
-fn flags_of(alloc: Global, at: ShapeSite, branches: &[Branch<'_>]) -> Result<Flags, ShapeStop>
-    requires { length branches.now ≤ MOST_PERIODS }
-    ensures count { IfOk result (λ ns. length ns.items ≡ length branches.now) }
-    ensures value { Gives (λ ns. ns.items) result (numbers flag_in at (views branches.now)) }
-{
-    let mut flags = Flags::make(alloc, branches.len() as u32)?;
-    for branch in branches {
-        let Some(flag) = flag_at(*branch) else {
-            return Err(at.stop(flags.len() as u32 + 1, ShapeCode::PlanNumber));
-        };
-        flags.push(flag);
-    }
-    Ok(flags)
-}
-
-/// The kilowatts of a list, one for each item. `PlanNumber` at the first item that isn't a whole
-/// number from 0 to `POWER_LIMIT`.
-pub fn read_powers(alloc: Global, at: ShapeSite, list: ListBranch<'_>) -> Result<Powers, ShapeStop>
+/// The items of a list. `PlanNumber` at the first that isn't one: kilowatts are a whole number from
+/// 0 to `POWER_LIMIT`, and a flag is 0 or 1.
+pub fn read_items<I: Item + Drop>(
+    alloc: Global,
+    at: ShapeSite,
+    list: ListBranch<'_>,
+) -> Result<ReservedList<I>, ShapeStop>
     requires { length (items_in list) ≤ MOST_PERIODS }
     ensures count { IfOk result (λ ns. length ns.items ≡ length (items_in list.entry)) }
     ensures value { Gives (λ ns. ns.items) result
-        (numbers kilowatts_in at (items_in list.entry)) }
+        (numbers I.reading at (items_in list.entry)) }
 {
-    let items = list.items(alloc)?;
-    powers_of(alloc, at, &items)
-}
-
-/// The flags of a list, one for each item. `PlanNumber` at the first item that is neither 0 nor 1.
-pub fn read_flags(alloc: Global, at: ShapeSite, list: ListBranch<'_>) -> Result<Flags, ShapeStop>
-    requires { length (items_in list) ≤ MOST_PERIODS }
-    ensures count { IfOk result (λ ns. length ns.items ≡ length (items_in list.entry)) }
-    ensures value { Gives (λ ns. ns.items) result (numbers flag_in at (items_in list.entry)) }
-{
-    let items = list.items(alloc)?;
-    flags_of(alloc, at, &items)
+    let branches = list.items(alloc)?;
+    items_of(alloc, at, &branches)
 }

@@ -9,7 +9,7 @@ ghost use Rattle.uc_plan.specs.Plans.{listed_schedule, thermal_schedule, flat_sc
 ghost use Rattle.uc_plan.specs.Views.{lists_of, AreFull};
 
 use crate::fault::{ShapeCode, ShapeSite, ShapeStop};
-use crate::numbers::{read_flags, read_powers};
+use crate::numbers::read_items;
 use crate::shapes::{ThermalLists, full_list, thermal_lists};
 use plain_lists::lists::Flags;
 use std::alloc::{AllocError, Global};
@@ -31,9 +31,9 @@ pub fn read_lists(
     ensures lengths { IfOk result (λ r. HasLengths periods (schedule_of r)) }
     ensures value { Gives schedule_of result (listed_schedule at (lists_of lists.entry)) }
 {
-    let on = read_flags(alloc, at, lists.on)?;
-    let power = read_powers(alloc, at, lists.power)?;
-    let reserve = read_powers(alloc, at, lists.reserve)?;
+    let on = read_items::<bool>(alloc, at, lists.on)?;
+    let power = read_items::<u32>(alloc, at, lists.power)?;
+    let reserve = read_items::<u32>(alloc, at, lists.reserve)?;
     Ok(Response { on, power, reserve })
 }
 
@@ -90,7 +90,7 @@ fn read_flat(
     let Some(list) = full_list(branch, periods) else {
         return Err(at.stop(0, ShapeCode::PlanShape));
     };
-    let power = read_powers(alloc, at, list)?;
+    let power = read_items::<u32>(alloc, at, list)?;
     let response = flat_response(alloc, power, periods)?;
     Ok(response)
 }
