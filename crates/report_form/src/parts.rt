@@ -4,9 +4,7 @@ ghost use Rattle.std.specs.List.{flat_map, list_all};
 ghost use Rattle.report_form.specs.Parts.{part_text, hex_of, stands_as_is, escaped, quoted, tally};
 ghost use Rattle.report_form.specs.Pending.{Adds};
 
-use crate::pieces::{
-    Piece, add_amounts, add_bytes, add_counts, add_flags, add_number, add_numbers, add_worded,
-};
+use crate::pieces::{Listed, Piece, add_bytes, add_each, add_number, add_worded};
 use hull_io::{Sink, WriteFailed};
 
 /// A part of a text.
@@ -63,42 +61,30 @@ pub fn is_plain(byte: u8) -> bool
     byte >= 32 && byte != b'"' && byte != b'\\'
 }
 
-fn add_escaped<S: Sink>(out: &mut S, piece: &mut Piece, byte: u8) -> Result<(), WriteFailed>
-    ensures { Adds S.held S.faults S.last out.old out.new result piece.old piece.new
-        (escaped byte) }
-{
-    if is_plain(byte) {
-        add_bytes(out, piece, &[byte])
-    } else if byte < 32 {
-        add_bytes(
-            out,
-            piece,
-            &[
-                b'\\',
-                b'u',
-                b'0',
-                b'0',
-                hex_digit(byte / 16),
-                hex_digit(byte % 16),
-            ],
-        )
-    } else {
-        add_bytes(out, piece, &[b'\\', byte])
-    }
-}
+// As a byte of a name, escaped.
+impl Listed for u8 {
+    ghost told = { escaped };
 
-fn add_each_escaped<S: Sink>(
-    out: &mut S,
-    piece: &mut Piece,
-    bytes: &[u8],
-) -> Result<(), WriteFailed>
-    ensures { Adds S.held S.faults S.last out.old out.new result piece.old piece.new
-        (flat_map escaped bytes.now) }
-{
-    for byte in bytes {
-        add_escaped(out, piece, *byte)?;
+    fn add<S: Sink>(self, out: &mut S, piece: &mut Piece) -> Result<(), WriteFailed> {
+        if is_plain(self) {
+            add_bytes(out, piece, &[self])
+        } else if self < 32 {
+            add_bytes(
+                out,
+                piece,
+                &[
+                    b'\\',
+                    b'u',
+                    b'0',
+                    b'0',
+                    hex_digit(self / 16),
+                    hex_digit(self % 16),
+                ],
+            )
+        } else {
+            add_bytes(out, piece, &[b'\\', self])
+        }
     }
-    Ok(())
 }
 
 fn is_all_plain(name: &[u8]) -> bool
@@ -115,7 +101,7 @@ fn add_inside<S: Sink>(out: &mut S, piece: &mut Piece, name: &[u8]) -> Result<()
     if is_all_plain(name) {
         add_bytes(out, piece, name)
     } else {
-        add_each_escaped(out, piece, name)
+        add_each(out, piece, name)
     }
 }
 
@@ -141,10 +127,10 @@ pub(crate) fn add_part<S: Sink>(
         Part::Text(bytes) => add_bytes(out, piece, bytes),
         Part::Count(n) => add_number(out, piece, n),
         Part::Amount(x) => add_number(out, piece, x),
-        Part::Counts(ns) => add_counts(out, piece, ns),
-        Part::Numbers(xs) => add_numbers(out, piece, xs),
-        Part::Amounts(xs) => add_amounts(out, piece, xs),
-        Part::Flags(flags) => add_flags(out, piece, flags),
+        Part::Counts(ns) => add_each(out, piece, ns),
+        Part::Numbers(xs) => add_each(out, piece, xs),
+        Part::Amounts(xs) => add_each(out, piece, xs),
+        Part::Flags(flags) => add_each(out, piece, flags),
         Part::Tally(word, n) => add_tally(out, piece, word, n),
         Part::Name(name) => add_name(out, piece, name),
     }

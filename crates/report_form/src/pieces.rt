@@ -1,8 +1,10 @@
 //! A text that gathers in a piece of some KiB before it is written: each write to a file or a
 //! terminal is a system call, and most parts of a text are a few bytes.
-ghost use Rattle.std.specs.Prelude.{◌≡◌, ◌+◌, ◌≤◌, [], ◌++◌, length, IsTrue, ◌↔◌};
+ghost use Rattle.std.specs.Prelude.{◌≡◌, ℕ, ◌+◌, ◌≤◌, List, [], ◌∷◌, ◌++◌, length, IsTrue, ◌↔◌};
 ghost use Rattle.std.specs.Prelude.{if◌then◌else◌};
-ghost use Rattle.report_form.specs.Parts.{spaced, spaced_counts, flag_text, spaced_flags};
+ghost use Rattle.std.specs.List.{flat_map};
+ghost use Rattle.report_form.specs.Numerals.{numeral, signed_numeral};
+ghost use Rattle.report_form.specs.Parts.{flag_text};
 ghost use Rattle.report_form.specs.Pending.{Adds};
 ghost use Rattle.report_form.specs.declared.pieces.TheConstants.{MOST};
 
@@ -116,52 +118,65 @@ pub fn add_worded<S: Sink, I: Integer>(
     add_number(out, piece, n)
 }
 
-/// Adds numbers, each behind a space.
-pub fn add_counts<S: Sink>(out: &mut S, piece: &mut Piece, ns: &[u32]) -> Result<(), WriteFailed>
-    ensures { Adds S.held S.faults S.last out.old out.new result piece.old piece.new
-        (spaced_counts ns.now) }
-{
-    for n in ns {
-        add_worded(out, piece, b" ", *n)?;
+/// An item of a list in a text: a number or a flag behind a space, or a byte of a name, which stands
+/// escaped and behind no space.
+pub trait Listed: Copy {
+    // Its text.
+    ghost told: { Self → List ℕ };
+
+    /// Adds its text.
+    fn add<S: Sink>(self, out: &mut S, piece: &mut Piece) -> Result<(), WriteFailed>
+        ensures { Adds S.held S.faults S.last out.old out.new result piece.old piece.new
+            (told self) };
+}
+
+// Behind a space, in decimal digits.
+impl Listed for u32 {
+    ghost told = { λ n. 32 ∷ numeral n };
+
+    fn add<S: Sink>(self, out: &mut S, piece: &mut Piece) -> Result<(), WriteFailed> {
+        add_worded(out, piece, b" ", self)
     }
-    Ok(())
 }
 
-/// Adds numbers, each behind a space.
-pub fn add_numbers<S: Sink>(out: &mut S, piece: &mut Piece, xs: &[i64]) -> Result<(), WriteFailed>
-    ensures { Adds S.held S.faults S.last out.old out.new result piece.old piece.new
-        (spaced xs.now) }
-{
-    for x in xs {
-        add_worded(out, piece, b" ", *x)?;
+// Behind a space, in decimal digits with `-` before a negative one.
+impl Listed for i64 {
+    ghost told = { λ x. 32 ∷ signed_numeral x };
+
+    fn add<S: Sink>(self, out: &mut S, piece: &mut Piece) -> Result<(), WriteFailed> {
+        add_worded(out, piece, b" ", self)
     }
-    Ok(())
 }
 
-/// Adds numbers, each behind a space.
-pub fn add_amounts<S: Sink>(out: &mut S, piece: &mut Piece, xs: &[i128]) -> Result<(), WriteFailed>
-    ensures { Adds S.held S.faults S.last out.old out.new result piece.old piece.new
-        (spaced xs.now) }
-{
-    for x in xs {
-        add_worded(out, piece, b" ", *x)?;
+// Behind a space, in decimal digits with `-` before a negative one.
+impl Listed for i128 {
+    ghost told = { λ x. 32 ∷ signed_numeral x };
+
+    fn add<S: Sink>(self, out: &mut S, piece: &mut Piece) -> Result<(), WriteFailed> {
+        add_worded(out, piece, b" ", self)
     }
-    Ok(())
 }
 
-fn flag_bytes(flag: bool) -> &'static [u8]
-    ensures { result.now ≡ flag_text flag }
-{
-    if flag { b" 1" } else { b" 0" }
+// Behind a space, 1 for true and 0 for false.
+impl Listed for bool {
+    ghost told = { flag_text };
+
+    fn add<S: Sink>(self, out: &mut S, piece: &mut Piece) -> Result<(), WriteFailed> {
+        add_bytes(out, piece, if self { b" 1" } else { b" 0" })
+    }
 }
 
-/// Adds 1 for true and 0 for false, each behind a space.
-pub fn add_flags<S: Sink>(out: &mut S, piece: &mut Piece, flags: &[bool]) -> Result<(), WriteFailed>
+/// Adds what a list has, one behind the other.
+pub fn add_each<S: Sink, L: Listed>(
+    out: &mut S,
+    piece: &mut Piece,
+    items: &[L],
+) -> Result<(), WriteFailed>
     ensures { Adds S.held S.faults S.last out.old out.new result piece.old piece.new
-        (spaced_flags flags.now) }
+        (flat_map L.told items.now) }
 {
-    for flag in flags {
-        add_bytes(out, piece, flag_bytes(*flag))?;
+    for item in items {
+        (*item).add(out, piece)?;
     }
     Ok(())
 }
