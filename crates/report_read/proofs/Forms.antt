@@ -5,7 +5,7 @@ use Rattle.report_read.proofs.Common.{None, Result, Ok, Err, refl, sym, ap, ◌�
 use Rattle.report_read.proofs.Common.{AllByRecursion, nat_tests, append-nil, IsLine, AreLines, Found, ended, Read}
 use Rattle.report_read.proofs.Common.{or_left, line, then_lines, making}
 use Rattle.report_read.specs.Lines.{◌>>=◌}
-use Rattle.report_read.proofs.Parts.{is_inline, Part, ended_takes, ended_again}
+use Rattle.report_read.proofs.Reading.{is_inline, IsReader, ended_takes, ended_again}
 
 pub bind_ok : {A B : Type 0} (r : Result A ℕ) (f : A → Result B ℕ) (y : B) → (r >>= f) ≡ Ok y →
     (x : A) × (r ≡ Ok x) × (f x ≡ Ok y)
@@ -74,9 +74,9 @@ pub record LineForm {A : Type 0} (text : A → List ℕ) (Fits : A → Type 0) (
   pub again : (x : A) (rest : List ℕ) → Fits x → read (text x ++ rest) ≡ Some (x, rest)
   pub is_line : (x : A) → Fits x → IsLine (text x)
 
-pub part_ended : {A : Type 0} (text : A → List ℕ) (Fits : A → Type 0) (read : List ℕ → Found A) → Part text Fits read →
-    LineForm (λ x. text x ++ 10 ∷ []) Fits (ended read)
-part_ended text Fits read p = record {
+pub reads_to_end : {A : Type 0} (text : A → List ℕ) (Fits : A → Type 0) (read : List ℕ → Found A)
+    → IsReader text Fits read → LineForm (λ x. text x ++ 10 ∷ []) Fits (ended read)
+reads_to_end text Fits read p = record {
   takes = ended_takes text Fits read p;
   again = ended_again text Fits read p;
   is_line = λ x fits. inline_is_line (text x) (p.inline x fits);

@@ -6,18 +6,16 @@ pub mod Steps
 pub mod Loops
 -- rows.rt, units.rt: what a loop over proposals, or over units, has read so far
 pub mod LineLoops
--- lines.rt: a line that is found or isn't
-pub mod FoundLines
 -- head.rt, rows.rt, read.rt: where a line is in fault
 pub mod Stopped
 -- numbers.rt: narrower limits, and numbers with a sign
 pub mod Narrow
 -- rows.rt, units.rt, read.rt: words and lists are read from their text alone
-pub mod Parts
+pub mod Reading
 -- rows.rt, units.rt, read.rt: so are numbers
 pub mod Numerals
 -- names.rt, units.rt: so are names
-pub mod NameParts
+pub mod QuotedNames
 -- rows.rt, units.rt, read.rt: lines one after the other are so too, and stop at the first line in fault
 pub mod Forms
 -- rows.rt, head.rt: the first lines, proposals and the last lines

@@ -2,7 +2,7 @@
 use Rattle.report_read.proofs.Common.{◌≡◌, ℕ, suc, ◌+◌, ◌-◌, ◌<◌, ◌≤◌, true, false, cond, ◌==◌, List, [], ◌∷◌, ◌++◌}
 use Rattle.report_read.proofs.Common.{Some, None, refl, sym, ap, ◌∙◌, arith, append_assoc, append-nil, Found, ◌>>=◌}
 use Rattle.report_read.proofs.Common.{behind, items_at, escaped_at, closed_within}
-use Rattle.report_read.proofs.Parts.{behind_takes}
+use Rattle.report_read.proofs.Reading.{behind_takes}
 
 -- what was read before, and what is still read
 abbrev pub with_front : {A : Type 0} → List A → Found (List A) → Found (List A)

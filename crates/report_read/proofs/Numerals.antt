@@ -5,7 +5,7 @@ use Rattle.report_read.proofs.Common.{refl, sym, ap, ◌∙◌, subst, arith, ap
 use Rattle.report_read.proofs.Common.{T_from_true, cases_lt, ne_eqb, ints, nat_tests, IsFrom, digits_up_to, numeral}
 use Rattle.report_read.proofs.Common.{signed_numeral, ◌>>=◌, is_ascii_digit, digits_from, numeral_at, count_between}
 use Rattle.report_read.proofs.Common.{count_at, negative, signed_at, integer_between, integer_at}
-use Rattle.report_read.proofs.Parts.{bind_some, if_some, some_is, is_inline, inline_append, Stops, Part}
+use Rattle.report_read.proofs.Reading.{bind_some, if_some, some_is, is_inline, inline_append, Stops, IsReader}
 
 small : (n : ℕ) → n < 10 → nat_lt n 10 ≡ true
 small n h = grind (arith, nat_tests)
@@ -174,9 +174,9 @@ between_is least most n rest h =
     let b : nat_le n most ≡ true = grind (arith, nat_tests, h.at_most) in
     rw (a, b) refl
 
-pub count_part : (least most : ℕ) → Part numeral (IsBetween least most) (count_at least most)
+pub count_reads : (least most : ℕ) → IsReader numeral (IsBetween least most) (count_at least most)
 unfolding count_at
-count_part least most = record {
+count_reads least most = record {
   takes = λ bytes n rest e.
       let a = bind_some (numeral_at bytes) (count_between least most) (n, rest) e in
       let b = between_tells least most a.0 (n, rest) a.2 in
@@ -256,9 +256,9 @@ int_between least most x y e =
       same,
     )
 
-pub integer_part : (least most : ℤ) → Part signed_numeral (IsFrom least most) (integer_at least most)
+pub integer_reads : (least most : ℤ) → IsReader signed_numeral (IsFrom least most) (integer_at least most)
 unfolding integer_at
-integer_part least most = record {
+integer_reads least most = record {
   takes = λ bytes z rest e.
       let a = bind_some (signed_at bytes) (integer_between least most) (z, rest) e in
       let b = int_between least most a.0 (z, rest) a.2 in

@@ -9,9 +9,10 @@ use Rattle.report_read.proofs.Common.{count_at, integer_at, items_at, amount_at,
 use Rattle.report_read.proofs.Common.{Read, line, then_lines, count_line, amount_line, made_head, head_at, list_line}
 use Rattle.report_read.proofs.Common.{price_at, total_at, made_row, row_at, joined, rows_at, made_foot, foot_at}
 use Rattle.report_form.specs.Parts.{spaced}
-use Rattle.report_read.proofs.Parts.{is_inline, Stops, Part, after_part, both_parts, just_part, spaced_part, items_part}
-use Rattle.report_read.proofs.Numerals.{IsBetween, count_part, integer_part}
-use Rattle.report_read.proofs.Forms.{good, ok_is, part_ended, Form, line_form, then_form, making_form}
+use Rattle.report_read.proofs.Reading.{is_inline, Stops, IsReader, after_reads, both_reads, just_reads, spaced_reads}
+use Rattle.report_read.proofs.Reading.{items_reads}
+use Rattle.report_read.proofs.Numerals.{IsBetween, count_reads, integer_reads}
+use Rattle.report_read.proofs.Forms.{good, ok_is, reads_to_end, Form, line_form, then_form, making_form}
 
 -- ---- lines of one form
 
@@ -33,35 +34,35 @@ value_step word n s {rest} {other} e =
 pub plain_form : (word : List ℕ) → is_inline word ≡ true →
     Form (λ (x : Unit {0}). word ++ 10 ∷ []) (λ x. Unit {0}) (line (ended (just word)))
 plain_form word plain = line_form (λ (x : Unit {0}). word ++ 10 ∷ []) (λ x. Unit {0}) (ended (just word)) tt tt
-    (part_ended (λ (x : Unit {0}). word) (λ x. Unit {0}) (just word) (just_part word plain))
+    (reads_to_end (λ (x : Unit {0}). word) (λ x. Unit {0}) (just word) (just_reads word plain))
 
 -- a word and a value
 abbrev pub word_text : {A : Type 0} → List ℕ → (A → List ℕ) → A → List ℕ
 word_text word text x = (word ++ text x) ++ 10 ∷ []
 
 pub word_form : {A : Type 0} (word : List ℕ) (text : A → List ℕ) (Fits : A → Type 0) (read : List ℕ → Found A)
-    (some : A) → is_inline word ≡ true → Fits some → Part text Fits read
+    (some : A) → is_inline word ≡ true → Fits some → IsReader text Fits read
     → Form (word_text word text) Fits (line (ended (after word read)))
 word_form word text Fits read some plain fits p =
     line_form (word_text word text) Fits (ended (after word read)) some fits
-    (part_ended (λ x. word ++ text x) Fits (after word read) (after_part text Fits read word plain p))
+    (reads_to_end (λ x. word ++ text x) Fits (after word read) (after_reads text Fits read word plain p))
 
 pub count_form : (word : List ℕ) (least most : ℕ) → is_inline word ≡ true → least ≤ most →
     Form (word_text word numeral) (IsBetween least most) (count_line word least most)
 count_form word least most plain h =
     word_form word numeral (IsBetween least most) (count_at least most) least plain
-    (record { at_least = omega arith; at_most = h }) (count_part least most)
+    (record { at_least = omega arith; at_most = h }) (count_reads least most)
 
 pub amount_zero : IsAmount (pos 0)
 amount_zero = record { at_least = search rules; at_most = search rules }
 
-pub amount_part : Part signed_numeral IsAmount amount_at
-amount_part = integer_part (neg_ℤ (pos 170141183460469231731687303715884105728))
+pub amount_reads : IsReader signed_numeral IsAmount amount_at
+amount_reads = integer_reads (neg_ℤ (pos 170141183460469231731687303715884105728))
     (pos 170141183460469231731687303715884105727)
 
 pub amount_form : (word : List ℕ) → is_inline word ≡ true →
     Form (word_text word signed_numeral) IsAmount (amount_line word)
-amount_form word plain = word_form word signed_numeral IsAmount amount_at (pos 0) plain amount_zero amount_part
+amount_form word plain = word_form word signed_numeral IsAmount amount_at (pos 0) plain amount_zero amount_reads
 
 -- a word, a number and a value
 abbrev pub value_text : ℕ × ℤ → List ℕ
@@ -70,12 +71,12 @@ value_text x = numeral x.0 ++ (codes " value " ++ signed_numeral x.1)
 abbrev pub IsValued : (least most : ℕ) → ℕ × ℤ → Type 0
 IsValued least most x = IsBetween least most x.0 × IsAmount x.1
 
-value_part : (least most : ℕ) →
-    Part value_text (IsValued least most) (both (count_at least most) (after (codes " value ") amount_at))
-value_part least most =
-    both_parts numeral (IsBetween least most) (count_at least most) (λ v. codes " value " ++ signed_numeral v) IsAmount
+value_reads : (least most : ℕ) →
+    IsReader value_text (IsValued least most) (both (count_at least most) (after (codes " value ") amount_at))
+value_reads least most =
+    both_reads numeral (IsBetween least most) (count_at least most) (λ v. codes " value " ++ signed_numeral v) IsAmount
     (after (codes " value ") amount_at)
-    (count_part least most) (after_part signed_numeral IsAmount amount_at (codes " value ") refl amount_part)
+    (count_reads least most) (after_reads signed_numeral IsAmount amount_at (codes " value ") refl amount_reads)
     (λ v rest. refl)
 
 pub value_form : (word : List ℕ) (least most : ℕ) → is_inline word ≡ true → least ≤ most →
@@ -83,7 +84,7 @@ pub value_form : (word : List ℕ) (least most : ℕ) → is_inline word ≡ tru
 value_form word least most plain h =
     word_form word value_text (IsValued least most) (both (count_at least most) (after (codes " value ") amount_at))
     (least, pos 0) plain
-    (record { at_least = omega arith; at_most = h }, amount_zero) (value_part least most)
+    (record { at_least = omega arith; at_most = h }, amount_zero) (value_reads least most)
 
 -- ---- lists
 
@@ -92,12 +93,12 @@ same_items P zero x h = record { length_is = refl; items = tt }
 same_items P (suc n) x h = let r = same_items P n x h in record { length_is = ap suc r.length_is; items = (h, r.items) }
 
 pub list_form : {A : Type 0} (word : List ℕ) (text : A → List ℕ) (Fits : A → Type 0) (read : List ℕ → Found A)
-    (some : A) (periods : ℕ) → is_inline word ≡ true → Fits some → Part text Fits read
+    (some : A) (periods : ℕ) → is_inline word ≡ true → Fits some → IsReader text Fits read
     → ((x : A) (r : List ℕ) → Stops (text x ++ r)) →
     Form (word_text word (flat_map text)) (IsList Fits periods) (list_line word read periods)
 list_form word text Fits read some periods plain fits p begins =
     word_form word (flat_map text) (IsList Fits periods) (items_at read periods) (replicate periods some) plain
-    (same_items Fits periods some fits) (items_part text Fits read periods p begins)
+    (same_items Fits periods some fits) (items_reads text Fits read periods p begins)
 
 abbrev pub spaced_one : ℤ → List ℕ
 spaced_one x = 32 ∷ signed_numeral x
@@ -106,12 +107,12 @@ pub prices_form : (word : List ℕ) (least most : ℤ) (periods : ℕ) → is_in
     Form (word_text word spaced) (IsList (IsFrom least most) periods) (list_line word (price_at least most) periods)
 prices_form word least most periods plain zero_fits =
     list_form word spaced_one (IsFrom least most) (price_at least most) (pos 0) periods plain zero_fits
-    (spaced_part signed_numeral (IsFrom least most) (integer_at least most) (integer_part least most)) (λ x r. refl)
+    (spaced_reads signed_numeral (IsFrom least most) (integer_at least most) (integer_reads least most)) (λ x r. refl)
 
 pub totals_form : (word : List ℕ) (periods : ℕ) → is_inline word ≡ true →
     Form (word_text word spaced) (IsList IsAmount periods) (list_line word total_at periods)
 totals_form word periods plain = list_form word spaced_one IsAmount total_at (pos 0) periods plain amount_zero
-    (spaced_part signed_numeral IsAmount amount_at amount_part) (λ x r. refl)
+    (spaced_reads signed_numeral IsAmount amount_at amount_reads) (λ x r. refl)
 
 -- ---- the first seven lines
 

@@ -11,11 +11,11 @@ use Rattle.report_read.proofs.Common.{then_lines, list_line, power_at, made_resp
 use Rattle.report_read.proofs.Common.{response_at, made_unit, unit_at, joined, units_at}
 use Rattle.uc_model.specs.declared.kinds.Kind.TheVariants as kinds
 use Rattle.uc_model.specs.Data.{Schedule}
-use Rattle.report_read.proofs.Parts.{bind_some, if_some, some_is, behind_takes, behind_again, is_inline, inline_append}
-use Rattle.report_read.proofs.Parts.{Part, after_part, both_parts, both_behind, spaced_part}
-use Rattle.report_read.proofs.Numerals.{IsBetween, count_part, integer_part}
-use Rattle.report_read.proofs.NameParts.{name_part}
-use Rattle.report_read.proofs.Forms.{part_ended, Form, line_form, then_form, making_form}
+use Rattle.report_read.proofs.Reading.{bind_some, if_some, some_is, behind_takes, behind_again, is_inline}
+use Rattle.report_read.proofs.Reading.{inline_append, IsReader, after_reads, both_reads, both_behind, spaced_reads}
+use Rattle.report_read.proofs.Numerals.{IsBetween, count_reads, integer_reads}
+use Rattle.report_read.proofs.QuotedNames.{name_reads}
+use Rattle.report_read.proofs.Forms.{reads_to_end, Form, line_form, then_form, making_form}
 use Rattle.report_read.proofs.RowForms.{word_text, list_form, same_items, pair_form, no_lines, first_or, first_is}
 use Rattle.report_read.proofs.RowForms.{line_step}
 
@@ -31,18 +31,18 @@ as_count n h = omega (arith, h.at_most)
 as_between : (n : ℕ) → IsCount n → IsBetween 0 4294967295 n
 as_between n h = record { at_least = omega arith; at_most = omega arith }
 
--- the same part, its values told otherwise
-pub part_with : {A : Type 0} (text : A → List ℕ) (P Q : A → Type 0) (read : List ℕ → Found A) → ((x : A) → P x → Q x) →
-    ((x : A) → Q x → P x) → Part text P read → Part text Q read
-part_with text P Q read f g p = record {
+-- the same texts, what fits told otherwise
+pub reads_as : {A : Type 0} (text : A → List ℕ) (P Q : A → Type 0) (read : List ℕ → Found A) → ((x : A) → P x → Q x) →
+    ((x : A) → Q x → P x) → IsReader text P read → IsReader text Q read
+reads_as text P Q read f g p = record {
   takes = λ bytes x rest e. (let t = p.takes bytes x rest e in (t.0, f x t.1));
   again = λ x rest h stops. p.again x rest (g x h) stops;
   inline = λ x h. p.inline x (g x h);
 }
 
-number_part : Part numeral IsCount (count_at 0 4294967295)
-number_part = part_with numeral (IsBetween 0 4294967295) IsCount (count_at 0 4294967295) as_count as_between
-    (count_part 0 4294967295)
+number_reads : IsReader numeral IsCount (count_at 0 4294967295)
+number_reads = reads_as numeral (IsBetween 0 4294967295) IsCount (count_at 0 4294967295) as_count as_between
+    (count_reads 0 4294967295)
 
 abbrev spaced_number : ℕ → List ℕ
 spaced_number n = 32 ∷ numeral n
@@ -50,7 +50,7 @@ spaced_number n = 32 ∷ numeral n
 pub powers_form : (word : List ℕ) (periods : ℕ) → is_inline word ≡ true →
     Form (word_text word spaced_counts) (IsList IsCount periods) (list_line word power_at periods)
 powers_form word periods plain = list_form word spaced_number IsCount power_at 0 periods plain (omega arith)
-    (spaced_part numeral IsCount (count_at 0 4294967295) number_part) (λ x r. refl)
+    (spaced_reads numeral IsCount (count_at 0 4294967295) number_reads) (λ x r. refl)
 
 abbrev Anything : Bool → Type 0
 Anything b = Unit {0}
@@ -85,8 +85,8 @@ bit_inline : (b : Bool) → is_inline (flag_byte b) ≡ true
 bit_inline true = refl
 bit_inline false = refl
 
-bit_part : Part flag_byte Anything flag_at
-bit_part = record {
+bit_reads : IsReader flag_byte Anything flag_at
+bit_reads = record {
   takes = λ bytes b rest e. (bit_takes bytes (b, rest) e, tt);
   again = λ b rest h stops. bit_again b rest;
   inline = λ b h. bit_inline b;
@@ -104,7 +104,7 @@ flag_bytes = flat_map (λ b. 32 ∷ flag_byte b)
 pub flags_form : (word : List ℕ) (periods : ℕ) → is_inline word ≡ true →
     Form (word_text word flag_bytes) (IsList Anything periods) (list_line word (spaced flag_at) periods)
 flags_form word periods plain = list_form word (λ b. 32 ∷ flag_byte b) Anything (spaced flag_at) true periods plain tt
-    (spaced_part flag_byte Anything flag_at bit_part) (λ x r. refl)
+    (spaced_reads flag_byte Anything flag_at bit_reads) (λ x r. refl)
 
 pub powers_are : (word : List ℕ) (periods : ℕ) (bytes : List ℕ) (xs : List ℕ) (rest : List ℕ) → is_inline word ≡ true →
     list_line word power_at periods bytes ≡ Ok (xs, rest) → IsList IsCount periods xs
@@ -184,8 +184,8 @@ kind_inline kinds.Renewable = refl
 kind_inline kinds.Bid = refl
 kind_inline kinds.Case = refl
 
-kind_part : Part kind_text (λ k. rank k ≤ 2) kind_at
-kind_part = record {
+kind_reads : IsReader kind_text (λ k. rank k ≤ 2) kind_at
+kind_reads = record {
   takes = λ bytes k rest e. (let f = kind_takes bytes (k, rest) e in (f.parts, f.told));
   again = λ k rest h stops. kind_again k rest h;
   inline = λ k h. kind_inline k;
@@ -209,7 +209,7 @@ opening_takes least bytes k rest e =
     let b = bind_some (in_order least a.0)
     (λ kind. behind (codes "\"") kind.1 >>= λ rest. Some (kind.0, rest)) (k, rest) a.2 in
     let d = bind_some (behind (codes "\"") b.0.1) (λ rest. Some (b.0.0, rest)) (k, rest) b.2 in
-    let s = (after_part kind_text (λ k. rank k ≤ 2) kind_at (codes "unit ") refl kind_part).takes bytes a.0.0 a.0.1
+    let s = (after_reads kind_text (λ k. rank k ≤ 2) kind_at (codes "unit ") refl kind_reads).takes bytes a.0.0 a.0.1
     a.1 in
     let t = if_some (nat_le least (rank a.0.0)) (Some a.0) b.0 b.1 in
     let same : a.0 ≡ b.0 = some_is a.0 b.0 t.1 in
@@ -235,20 +235,20 @@ opening_again least k rest h =
     ap (λ (z : List ℕ). codes "unit " ++ z)
     (append_assoc (kind_text k) (codes "\"") rest) ∙ sym (append_assoc (codes "unit ") (kind_text k) (34 ∷ rest)) in
     let found : after (codes "unit ") kind_at ((codes "unit " ++ kind_text k) ++ (34 ∷ rest)) ≡ Some (k, 34 ∷ rest) =
-    (after_part kind_text (λ k. rank k ≤ 2) kind_at (codes "unit ") refl kind_part).again k (34 ∷ rest) h.told refl in
+    (after_reads kind_text (λ k. rank k ≤ 2) kind_at (codes "unit ") refl kind_reads).again k (34 ∷ rest) h.told refl in
     let t : nat_le least (rank k) ≡ true = (let o = h.in_order in grind (arith, nat_tests)) in
     ap (opening_at least) regrouped ∙ rw (found, t, behind_again (codes "\"") rest) refl
 
-opening_part : (least : ℕ) → Part opening_text (MayCome least) (opening_at least)
-opening_part least = record {
+opening_reads : (least : ℕ) → IsReader opening_text (MayCome least) (opening_at least)
+opening_reads least = record {
   takes = opening_takes least;
   again = λ k rest h stops. opening_again least k rest h;
   inline = λ k h. inline_append (codes "unit ")
       (kind_text k ++ codes "\"") refl (inline_append (kind_text k) (codes "\"") (kind_inline k) refl);
 }
 
-signed_part : Part signed_numeral IsNumber number_at
-signed_part = integer_part (neg_ℤ (pos 9223372036854775808)) (pos 9223372036854775807)
+signed_reads : IsReader signed_numeral IsNumber number_at
+signed_reads = integer_reads (neg_ℤ (pos 9223372036854775808)) (pos 9223372036854775807)
 
 abbrev Owed : Type 0
 Owed = ℤ × (ℤ × ℤ)
@@ -260,20 +260,20 @@ owed_text o = (codes " earned " ++ signed_numeral o.0)
 abbrev IsOwed : Owed → Type 0
 IsOwed o = IsNumber o.0 × (IsNumber o.1.0 × IsNumber o.1.1)
 
-money_part : (word : List ℕ) → is_inline word ≡ true →
-    Part (λ x. word ++ signed_numeral x) IsNumber (after word number_at)
-money_part word plain = after_part signed_numeral IsNumber number_at word plain signed_part
+money_reads : (word : List ℕ) → is_inline word ≡ true →
+    IsReader (λ x. word ++ signed_numeral x) IsNumber (after word number_at)
+money_reads word plain = after_reads signed_numeral IsNumber number_at word plain signed_reads
 
-owed_part : Part owed_text IsOwed owed_at
-owed_part =
-    both_parts (λ x. codes " earned " ++ signed_numeral x) IsNumber (after (codes " earned ") number_at)
+owed_reads : IsReader owed_text IsOwed owed_at
+owed_reads =
+    both_reads (λ x. codes " earned " ++ signed_numeral x) IsNumber (after (codes " earned ") number_at)
     (λ (y : ℤ × ℤ). (codes " scheduled " ++ signed_numeral y.0) ++ (codes " payment " ++ signed_numeral y.1))
     (λ (y : ℤ × ℤ). IsNumber y.0 × IsNumber y.1)
     (both (after (codes " scheduled ") number_at) (after (codes " payment ") number_at))
-    (money_part (codes " earned ") refl)
-    (both_parts (λ x. codes " scheduled " ++ signed_numeral x) IsNumber (after (codes " scheduled ") number_at)
+    (money_reads (codes " earned ") refl)
+    (both_reads (λ x. codes " scheduled " ++ signed_numeral x) IsNumber (after (codes " scheduled ") number_at)
     (λ x. codes " payment " ++ signed_numeral x) IsNumber (after (codes " payment ") number_at)
-    (money_part (codes " scheduled ") refl) (money_part (codes " payment ") refl) (λ y rest. refl)) (λ y rest. refl)
+    (money_reads (codes " scheduled ") refl) (money_reads (codes " payment ") refl) (λ y rest. refl)) (λ y rest. refl)
 
 abbrev pub closed_text : List ℕ → List ℕ
 closed_text name = flat_map escaped name ++ 34 ∷ []
@@ -284,16 +284,16 @@ title_text t = opening_text t.0 ++ (closed_text t.1.0 ++ owed_text t.1.1)
 abbrev IsTitle : ℕ → Title → Type 0
 IsTitle least t = MayCome least t.0 × (IsUtf8 t.1.0 × IsOwed t.1.1)
 
-name_owed_part : Part (λ (y : List ℕ × Owed). closed_text y.0 ++ owed_text y.1)
+name_owed_reads : IsReader (λ (y : List ℕ × Owed). closed_text y.0 ++ owed_text y.1)
     (λ (y : List ℕ × Owed). IsUtf8 y.0 × IsOwed y.1) (both name_at owed_at)
-name_owed_part = both_parts closed_text IsUtf8 name_at owed_text IsOwed owed_at name_part owed_part (λ y rest. refl)
+name_owed_reads = both_reads closed_text IsUtf8 name_at owed_text IsOwed owed_at name_reads owed_reads (λ y rest. refl)
 
-title_part : (least : ℕ) → Part title_text (IsTitle least) (both (opening_at least) (both name_at owed_at))
-title_part least =
+title_reads : (least : ℕ) → IsReader title_text (IsTitle least) (both (opening_at least) (both name_at owed_at))
+title_reads least =
     both_behind opening_text (MayCome least) (opening_at least)
     (λ (y : List ℕ × Owed). closed_text y.0 ++ owed_text y.1) (λ (y : List ℕ × Owed). IsUtf8 y.0 × IsOwed y.1)
     (both name_at owed_at)
-    (opening_part least) name_owed_part (λ k rest h. opening_again least k rest h)
+    (opening_reads least) name_owed_reads (λ k rest h. opening_again least k rest h)
 
 abbrev pub title_line_text : Title → List ℕ
 title_line_text t = title_text t ++ 10 ∷ []
@@ -318,7 +318,7 @@ title_form : (least : ℕ) → least ≤ 2 → Form title_line_text (IsTitle lea
 title_form least h =
     line_form title_line_text (IsTitle least) (title_line least) (zero_title kinds.Bid)
     (zero_title_fits least kinds.Bid (bid_may_come least h))
-    (part_ended title_text (IsTitle least) (both (opening_at least) (both name_at owed_at)) (title_part least))
+    (reads_to_end title_text (IsTitle least) (both (opening_at least) (both name_at owed_at)) (title_reads least))
 
 -- ---- responses
 

@@ -1,7 +1,7 @@
 //! The lines before the proposals and behind the units.
 ghost use Rattle.report_read.specs.Lines.{Gives, head_at, foot_at};
 
-use crate::lines::{amount_line, count_line, word_line};
+use crate::lines::{Reader, amount_line, count_line, word_line};
 use crate::stop::Stop;
 use plain_lists::limits::{MOST_AHEAD, MOST_PROPOSALS, MOST_UNITS};
 use report_form::report::Head;
@@ -20,40 +20,38 @@ pub struct Foot {
 
 /// The first seven lines.
 #[tactic(auto, unfolding(crate::specs::Lines::head_at))]
-pub fn read_head(bytes: &[u8]) -> Result<(Head, &[u8]), Stop>
-    ensures { Gives (λ x. (x.0, x.1.now)) result (head_at bytes.now) }
+pub fn read_head(reader: &mut Reader<'_>) -> Result<Head, Stop>
+    ensures { Gives (λ x. (x, reader.new.rest.now)) result (head_at reader.old.rest.now) }
 {
-    let rest = word_line(b"hull-report 1", bytes)?;
-    let (periods, rest) = count_line(b"periods ", 1, MOST_PERIODS, rest)?;
-    let (units, rest) = count_line(b"units ", 1, MOST_UNITS, rest)?;
-    let (budget, rest) = count_line(b"budget ", 1, MOST_PROPOSALS, rest)?;
-    let (ahead, rest) = count_line(b"ahead ", 1, MOST_AHEAD, rest)?;
-    let (cost, rest) = amount_line(b"cost ", rest)?;
-    let (proposals, rest) = count_line(b"proposals ", 1, u32::MAX, rest)?;
-    let head = Head {
+    word_line(reader, b"hull-report 1")?;
+    let periods = count_line(reader, b"periods ", 1, MOST_PERIODS)?;
+    let units = count_line(reader, b"units ", 1, MOST_UNITS)?;
+    let budget = count_line(reader, b"budget ", 1, MOST_PROPOSALS)?;
+    let ahead = count_line(reader, b"ahead ", 1, MOST_AHEAD)?;
+    let cost = amount_line(reader, b"cost ")?;
+    let proposals = count_line(reader, b"proposals ", 1, u32::MAX)?;
+    Ok(Head {
         periods,
         units,
         budget,
         ahead,
         cost,
         proposals,
-    };
-    Ok((head, rest))
+    })
 }
 
 /// The last four lines.
 #[tactic(auto, unfolding(crate::specs::Lines::foot_at))]
-pub fn read_foot(bytes: &[u8]) -> Result<(Foot, &[u8]), Stop>
-    ensures { Gives (λ x. (x.0, x.1.now)) result (foot_at bytes.now) }
+pub fn read_foot(reader: &mut Reader<'_>) -> Result<Foot, Stop>
+    ensures { Gives (λ x. (x, reader.new.rest.now)) result (foot_at reader.old.rest.now) }
 {
-    let (surplus, rest) = amount_line(b"surplus ", bytes)?;
-    let (payments, rest) = amount_line(b"payments ", rest)?;
-    let (gap, rest) = amount_line(b"gap ", rest)?;
-    let rest = word_line(b"end", rest)?;
-    let foot = Foot {
+    let surplus = amount_line(reader, b"surplus ")?;
+    let payments = amount_line(reader, b"payments ")?;
+    let gap = amount_line(reader, b"gap ")?;
+    word_line(reader, b"end")?;
+    Ok(Foot {
         surplus,
         payments,
         gap,
-    };
-    Ok((foot, rest))
+    })
 }

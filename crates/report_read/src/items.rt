@@ -2,29 +2,29 @@
 ghost use Rattle.std.specs.Prelude.{◌≡◌, ◌≤◌, []};
 ghost use Rattle.report_read.specs.Words.{Finds, spaced, items_at as items_spec};
 
-use crate::values::Part;
+use crate::values::ValueForm;
 use crate::words::behind;
 use plain_lists::lists::ReservedList;
 
 #[tactic(auto, unfolding(crate::specs::Words::spaced))]
-fn item_at<P: Part>(item: P, bytes: &[u8]) -> Option<(P::Value, &[u8])>
-    ensures { Finds (λ x. (x.0, x.1.now)) result (spaced (P.found item) bytes.now) }
+fn item_at<F: ValueForm>(item: F, bytes: &[u8]) -> Option<(F::Value, &[u8])>
+    ensures { Finds (λ x. (x.0, x.1.now)) result (spaced (F.found item) bytes.now) }
 {
     let rest = behind(b" ", bytes)?;
     item.at(rest)
 }
 
 /// Fills an empty list that has room with so many items, and gives the bytes behind them.
-pub fn items_at<'a, P: Part>(
-    list: &mut ReservedList<P::Value>,
-    item: P,
+pub fn items_at<'a, F: ValueForm>(
+    list: &mut ReservedList<F::Value>,
+    item: F,
     count: u32,
     bytes: &'a [u8],
 ) -> Option<&'a [u8]>
     requires empty { list.old.items ≡ [] }
     requires room { count ≤ list.old.spare }
     ensures { Finds (λ rest. (list.new.items, rest.now)) result
-        (items_spec (spaced (P.found item)) count bytes.now) }
+        (items_spec (spaced (F.found item)) count bytes.now) }
 {
     let mut rest = bytes;
     for _ in 0..count {

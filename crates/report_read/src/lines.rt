@@ -7,11 +7,24 @@ ghost use Rattle.report_read.specs.Lines.{Gives, line, count_line as count_spec}
 ghost use Rattle.report_read.specs.Lines.{amount_line as amount_spec, list_line as list_spec};
 
 use crate::items::items_at;
-use crate::stop::{Stop, line_or_fault};
-use crate::values::{Amount, Count, Part, Valued};
+use crate::stop::Stop;
+use crate::values::{Amount, Count, ValueForm, Valued};
 use crate::words::behind;
 use plain_lists::lists::ReservedList;
 use std::alloc::Global;
+
+/// What is left of a text. After a fault, or where memory is wanting, it isn't known what that is.
+pub struct Reader<'a> {
+    /// The bytes that are left.
+    pub rest: &'a [u8],
+}
+
+// Written out, so that a drop of it is a call.
+impl Drop for Reader<'_> {
+    fn drop(self) {
+        let Reader { rest: _ } = self;
+    }
+}
 
 #[tactic(auto, unfolding(crate::specs::LineForms::ended, crate::specs::LineForms::just))]
 fn word_in<'a>(word: &[u8], bytes: &'a [u8]) -> Option<&'a [u8]>
@@ -21,71 +34,88 @@ fn word_in<'a>(word: &[u8], bytes: &'a [u8]) -> Option<&'a [u8]>
     behind(b"\n", rest)
 }
 
-/// The bytes behind a line that is a word.
-#[tactic(auto, using(crate::proofs::FoundLines::line_told))]
-pub fn word_line<'a>(word: &[u8], bytes: &'a [u8]) -> Result<&'a [u8], Stop>
-    ensures { Gives (λ rest. (tt, rest.now)) result (line (plain_form word.now) bytes.now) }
+/// A line that is a word.
+pub fn word_line(reader: &mut Reader<'_>, word: &[u8]) -> Result<(), Stop>
+    ensures { Gives (λ x. (x, reader.new.rest.now)) result
+        (line (plain_form word.now) reader.old.rest.now) }
 {
-    line_or_fault(word_in(word, bytes), bytes)
+    match word_in(word, reader.rest) {
+        Some(rest) => {
+            reader.rest = rest;
+            Ok(())
+        }
+        None => Err(Stop::Fault {
+            left: reader.rest.len(),
+        }),
+    }
 }
 
 #[tactic(auto, unfolding(crate::specs::LineForms::ended, crate::specs::LineForms::after))]
-fn part_in<'a, P: Part>(word: &[u8], part: P, bytes: &'a [u8]) -> Option<(P::Value, &'a [u8])>
-    ensures { Finds (λ x. (x.0, x.1.now)) result (word_form word.now (P.found part) bytes.now) }
+fn value_in<'a, F: ValueForm>(word: &[u8], form: F, bytes: &'a [u8]) -> Option<(F::Value, &'a [u8])>
+    ensures { Finds (λ x. (x.0, x.1.now)) result (word_form word.now (F.found form) bytes.now) }
 {
     let rest = behind(word, bytes)?;
-    let (value, rest) = part.at(rest)?;
+    let (value, rest) = form.at(rest)?;
     let rest = behind(b"\n", rest)?;
     Some((value, rest))
 }
 
-/// A word and a number from `least` to `most`.
-#[tactic(auto, using(crate::proofs::FoundLines::line_told))]
-pub fn count_line<'a>(
-    word: &[u8],
-    least: u32,
-    most: u32,
-    bytes: &'a [u8],
-) -> Result<(u32, &'a [u8]), Stop>
-    ensures { Gives (λ x. (x.0, x.1.now)) result (count_spec word.now least most bytes.now) }
+fn form_line<F: ValueForm>(reader: &mut Reader<'_>, word: &[u8], form: F) -> Result<F::Value, Stop>
+    ensures { Gives (λ x. (x, reader.new.rest.now)) result
+        (line (word_form word.now (F.found form)) reader.old.rest.now) }
 {
-    line_or_fault(part_in(word, Count { least, most }, bytes), bytes)
+    match value_in(word, form, reader.rest) {
+        Some((value, rest)) => {
+            reader.rest = rest;
+            Ok(value)
+        }
+        None => Err(Stop::Fault {
+            left: reader.rest.len(),
+        }),
+    }
+}
+
+/// A word and a number from `least` to `most`.
+pub fn count_line(reader: &mut Reader<'_>, word: &[u8], least: u32, most: u32) -> Result<u32, Stop>
+    ensures { Gives (λ x. (x, reader.new.rest.now)) result
+        (count_spec word.now least most reader.old.rest.now) }
+{
+    form_line(reader, word, Count { least, most })
 }
 
 /// A word and an amount of money.
-#[tactic(auto, using(crate::proofs::FoundLines::line_told))]
-pub fn amount_line<'a>(word: &[u8], bytes: &'a [u8]) -> Result<(i128, &'a [u8]), Stop>
-    ensures { Gives (λ x. (x.0, x.1.now)) result (amount_spec word.now bytes.now) }
+pub fn amount_line(reader: &mut Reader<'_>, word: &[u8]) -> Result<i128, Stop>
+    ensures { Gives (λ x. (x, reader.new.rest.now)) result
+        (amount_spec word.now reader.old.rest.now) }
 {
-    line_or_fault(part_in(word, Amount, bytes), bytes)
+    form_line(reader, word, Amount)
 }
 
 /// A word, the number of a proposal from `least` to `most`, and its value in money.
-#[tactic(auto, using(crate::proofs::FoundLines::line_told))]
-pub fn value_line<'a>(
+pub fn value_line(
+    reader: &mut Reader<'_>,
     word: &[u8],
     least: u32,
     most: u32,
-    bytes: &'a [u8],
-) -> Result<((u32, i128), &'a [u8]), Stop>
-    ensures { Gives (λ x. (x.0, x.1.now)) result
-        (line (value_form word.now least most) bytes.now) }
+) -> Result<(u32, i128), Stop>
+    ensures { Gives (λ x. (x, reader.new.rest.now)) result
+        (line (value_form word.now least most) reader.old.rest.now) }
 {
-    line_or_fault(part_in(word, Valued { least, most }, bytes), bytes)
+    form_line(reader, word, Valued { least, most })
 }
 
 #[tactic(auto, unfolding(crate::specs::LineForms::ended, crate::specs::LineForms::after))]
-fn list_in<'a, P: Part>(
-    list: &mut ReservedList<P::Value>,
+fn list_in<'a, F: ValueForm>(
+    list: &mut ReservedList<F::Value>,
     word: &[u8],
-    item: P,
+    item: F,
     periods: u32,
     bytes: &'a [u8],
 ) -> Option<&'a [u8]>
     requires empty { list.old.items ≡ [] }
     requires room { periods ≤ list.old.spare }
     ensures { Finds (λ rest. (list.new.items, rest.now)) result
-        (word_form word.now (items_found (spaced (P.found item)) periods) bytes.now) }
+        (word_form word.now (items_found (spaced (F.found item)) periods) bytes.now) }
 {
     let rest = behind(word, bytes)?;
     let rest = items_at(list, item, periods, rest)?;
@@ -93,19 +123,24 @@ fn list_in<'a, P: Part>(
 }
 
 /// A word and the items of all periods.
-pub fn list_line<'a, P: Part>(
+pub fn list_line<F: ValueForm>(
     alloc: Global,
+    reader: &mut Reader<'_>,
     word: &[u8],
-    item: P,
+    item: F,
     periods: u32,
-    bytes: &'a [u8],
-) -> Result<(ReservedList<P::Value>, &'a [u8]), Stop>
-    ensures { Gives (λ x. (x.0.items, x.1.now)) result
-        (list_spec word.now (spaced (P.found item)) periods bytes.now) }
+) -> Result<ReservedList<F::Value>, Stop>
+    ensures { Gives (λ x. (x.items, reader.new.rest.now)) result
+        (list_spec word.now (spaced (F.found item)) periods reader.old.rest.now) }
 {
     let mut list = ReservedList::make(alloc, periods)?;
-    match list_in(&mut list, word, item, periods, bytes) {
-        Some(rest) => Ok((list, rest)),
-        None => Err(Stop::Fault { left: bytes.len() }),
+    match list_in(&mut list, word, item, periods, reader.rest) {
+        Some(rest) => {
+            reader.rest = rest;
+            Ok(list)
+        }
+        None => Err(Stop::Fault {
+            left: reader.rest.len(),
+        }),
     }
 }

@@ -8,26 +8,27 @@ ghost use Rattle.report_read.specs.Faults.{IsFault, IfFault, line_feeds, Gives a
 ghost use Rattle.report_read.specs.Lines.{Gives, report_at, all_of};
 
 use crate::head::{read_foot, read_head};
-use crate::lines::value_line;
+use crate::lines::{Reader, value_line};
 use crate::report::{Report, ReportError};
 use crate::rows::read_rows;
 use crate::stop::Stop;
 use crate::units::read_units;
 use std::alloc::Global;
 
-/// A report at the front of the bytes.
+/// A report at the front of what is left.
 #[tactic(auto, unfolding(crate::specs::Lines::report_at, crate::specs::Plain::report_of))]
-fn report_in_front(alloc: Global, bytes: &[u8]) -> Result<(Report, &[u8]), Stop>
-    requires { length bytes.now ≤ MOST_BYTES }
-    ensures exact { Gives (λ x. (report_of x.0, x.1.now)) result (report_at bytes.now) }
-    ensures order { IfOk result (λ x. AreInOrder 0 (map told_of x.0.lines.items)) }
+fn report_in_front(alloc: Global, reader: &mut Reader<'_>) -> Result<Report, Stop>
+    requires { length reader.old.rest.now ≤ MOST_BYTES }
+    ensures exact { Gives (λ x. (report_of x, reader.new.rest.now)) result
+        (report_at reader.old.rest.now) }
+    ensures order { IfOk result (λ x. AreInOrder 0 (map told_of x.lines.items)) }
 {
-    let (head, rest) = read_head(bytes)?;
-    let (rows, rest) = read_rows(alloc, head.periods, head.proposals, rest)?;
-    let (chosen, rest) = value_line(b"chosen ", 0, u32::MAX, rest)?;
-    let (lines, rest) = read_units(alloc, head.periods, head.units, rest)?;
-    let (foot, rest) = read_foot(rest)?;
-    let report = Report {
+    let head = read_head(reader)?;
+    let rows = read_rows(alloc, reader, head.periods, head.proposals)?;
+    let chosen = value_line(reader, b"chosen ", 0, u32::MAX)?;
+    let lines = read_units(alloc, reader, head.periods, head.units)?;
+    let foot = read_foot(reader)?;
+    Ok(Report {
         periods: head.periods,
         units: head.units,
         budget: head.budget,
@@ -40,8 +41,7 @@ fn report_in_front(alloc: Global, bytes: &[u8]) -> Result<(Report, &[u8]), Stop>
         surplus: foot.surplus,
         payments: foot.payments,
         gap: foot.gap,
-    };
-    Ok((report, rest))
+    })
 }
 
 #[tactic(auto, unfolding(crate::specs::Lines::all_of))]
@@ -50,9 +50,12 @@ fn whole_report(alloc: Global, bytes: &[u8]) -> Result<Report, Stop>
     ensures exact { Gives report_of result (all_of bytes.now) }
     ensures order { IfOk result (λ r. AreInOrder 0 (map told_of r.lines.items)) }
 {
-    let (report, rest) = report_in_front(alloc, bytes)?;
-    if !rest.is_empty() {
-        return Err(Stop::Fault { left: rest.len() });
+    let mut reader = Reader { rest: bytes };
+    let report = report_in_front(alloc, &mut reader)?;
+    if !reader.rest.is_empty() {
+        return Err(Stop::Fault {
+            left: reader.rest.len(),
+        });
     }
     Ok(report)
 }

@@ -6,7 +6,7 @@ ghost use Rattle.uc_model.specs.declared.limits.TheConstants.{MOST_PERIODS};
 ghost use Rattle.report_read.specs.Lines.{Gives, row_at, rows_at};
 ghost use Rattle.report_read.specs.declared.rows.TheConstants.{LEAST_BYTES};
 
-use crate::lines::{list_line, value_line};
+use crate::lines::{Reader, list_line, value_line};
 use crate::report::RowList;
 use crate::stop::Stop;
 use crate::values::{Amount, Price};
@@ -30,46 +30,44 @@ const RESERVE_PRICE: Price = Price {
 
 /// The proposal of a number, over so many periods.
 #[tactic(auto, unfolding(crate::specs::Lines::row_at))]
-fn read_row(alloc: Global, periods: u32, number: u32, bytes: &[u8]) -> Result<(Row, &[u8]), Stop>
+fn read_row(alloc: Global, reader: &mut Reader<'_>, periods: u32, number: u32) -> Result<Row, Stop>
     requires some { 1 ≤ periods }
     requires limit { periods ≤ MOST_PERIODS }
-    ensures { Gives (λ x. (proposal_of x.0, x.1.now)) result (row_at periods number bytes.now) }
+    ensures { Gives (λ x. (proposal_of x, reader.new.rest.now)) result
+        (row_at periods number reader.old.rest.now) }
 {
-    let (valued, rest) = value_line(b"proposal ", number, number, bytes)?;
-    let (energy, rest) = list_line(alloc, b"energy", ENERGY_PRICE, periods, rest)?;
-    let (reserve, rest) = list_line(alloc, b"reserve", RESERVE_PRICE, periods, rest)?;
-    let (supplied, rest) = list_line(alloc, b"supplied", Amount, periods, rest)?;
-    let (reserved, rest) = list_line(alloc, b"reserved", Amount, periods, rest)?;
-    let row = Row {
+    let valued = value_line(reader, b"proposal ", number, number)?;
+    let energy = list_line(alloc, reader, b"energy", ENERGY_PRICE, periods)?;
+    let reserve = list_line(alloc, reader, b"reserve", RESERVE_PRICE, periods)?;
+    let supplied = list_line(alloc, reader, b"supplied", Amount, periods)?;
+    let reserved = list_line(alloc, reader, b"reserved", Amount, periods)?;
+    Ok(Row {
         prices: Prices { energy, reserve },
         value: valued.1,
         supply: supplied,
         reserve: reserved,
-    };
-    Ok((row, rest))
+    })
 }
 
 /// So many proposals, numbered from 1. There is room for no more of them than the bytes can hold.
 pub fn read_rows(
     alloc: Global,
+    reader: &mut Reader<'_>,
     periods: u32,
     count: u32,
-    bytes: &[u8],
-) -> Result<(RowList, &[u8]), Stop>
+) -> Result<RowList, Stop>
     requires some { 1 ≤ periods }
     requires limit { periods ≤ MOST_PERIODS }
-    requires few { length bytes.now ≤ MOST_BYTES }
+    requires few { length reader.old.rest.now ≤ MOST_BYTES }
     requires numbers { count < 2 ^ 32 }
-    ensures { Gives (λ x. (map proposal_of x.0.items, x.1.now)) result
-        (rows_at periods 1 count bytes.now) }
+    ensures { Gives (λ x. (map proposal_of x.items, reader.new.rest.now)) result
+        (rows_at periods 1 count reader.old.rest.now) }
 {
-    let most = (bytes.len() / LEAST_BYTES) as u32;
+    let most = (reader.rest.len() / LEAST_BYTES) as u32;
     let mut rows = RowList::make(alloc, most.min(count))?;
-    let mut rest = bytes;
     for place in 0..count {
-        let (row, after) = read_row(alloc, periods, place + 1, rest)?;
+        let row = read_row(alloc, reader, periods, place + 1)?;
         rows.push(row);
-        rest = after;
     }
-    Ok((rows, rest))
+    Ok(rows)
 }

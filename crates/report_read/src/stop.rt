@@ -1,6 +1,5 @@
 //! Why the reader stops.
-ghost use Rattle.std.specs.Prelude.{◌≡◌, length};
-ghost use Rattle.std.specs.Option.{ok_or};
+ghost use Rattle.std.specs.Prelude.{◌≡◌};
 ghost use Rattle.report_read.specs.declared.stop.Stop.TheVariants.{Memory};
 
 use std::alloc::AllocError;
@@ -18,11 +17,4 @@ impl From<AllocError> for Stop {
     fn from(_: AllocError) -> Stop {
         Stop::Memory
     }
-}
-
-/// What was found in a line at the front of the bytes, or that it is in fault.
-pub fn line_or_fault<T>(found: Option<T>, bytes: &[u8]) -> Result<T, Stop>
-    ensures { result ≡ ok_or found (Stop.Fault (length bytes.now)) }
-{
-    found.ok_or(Stop::Fault { left: bytes.len() })
 }

@@ -9,11 +9,11 @@ ghost use Rattle.report_read.specs.LineForms.{title_line as title_spec, titled};
 ghost use Rattle.report_read.specs.Lines.{Gives, line, thermal_at, other_at, response_at, unit_at};
 ghost use Rattle.report_read.specs.Lines.{units_at};
 
-use crate::lines::list_line;
+use crate::lines::{Reader, list_line};
 use crate::names::name_at;
 use crate::numbers::number_at;
 use crate::report::{UnitLine, UnitLines};
-use crate::stop::{Stop, line_or_fault};
+use crate::stop::Stop;
 use crate::values::{Count, Flag};
 use crate::words::behind;
 use plain_lists::lists::{Flags, Name};
@@ -123,46 +123,56 @@ fn title_in(alloc: Global, least: u32, bytes: &[u8]) -> Result<Option<(Title, &[
     Ok(Some((Title { kind, name, owed }, rest)))
 }
 
-#[tactic(auto, using(crate::proofs::FoundLines::line_told))]
-fn title_line(alloc: Global, least: u32, bytes: &[u8]) -> Result<(Title, &[u8]), Stop>
-    ensures { Gives (λ x. (titled x.0, x.1.now)) result
-        (line (title_spec least) bytes.now) }
+fn title_line(alloc: Global, reader: &mut Reader<'_>, least: u32) -> Result<Title, Stop>
+    ensures { Gives (λ x. (titled x, reader.new.rest.now)) result
+        (line (title_spec least) reader.old.rest.now) }
 {
-    line_or_fault(title_in(alloc, least, bytes)?, bytes)
+    match title_in(alloc, least, reader.rest)? {
+        Some((title, rest)) => {
+            reader.rest = rest;
+            Ok(title)
+        }
+        None => Err(Stop::Fault {
+            left: reader.rest.len(),
+        }),
+    }
 }
 
 #[tactic(auto, unfolding(crate::specs::Lines::thermal_at))]
-fn thermal_response(alloc: Global, periods: u32, bytes: &[u8]) -> Result<(Response, &[u8]), Stop>
-    ensures { Gives (λ x. (schedule_of x.0, x.1.now)) result (thermal_at periods bytes.now) }
+fn thermal_response(alloc: Global, reader: &mut Reader<'_>, periods: u32) -> Result<Response, Stop>
+    ensures { Gives (λ x. (schedule_of x, reader.new.rest.now)) result
+        (thermal_at periods reader.old.rest.now) }
 {
-    let (on, rest) = list_line(alloc, b"on", Flag, periods, bytes)?;
-    let (power, rest) = list_line(alloc, b"power", POWER, periods, rest)?;
-    let (reserve, rest) = list_line(alloc, b"reserve", POWER, periods, rest)?;
-    Ok((Response { on, power, reserve }, rest))
+    let on = list_line(alloc, reader, b"on", Flag, periods)?;
+    let power = list_line(alloc, reader, b"power", POWER, periods)?;
+    let reserve = list_line(alloc, reader, b"reserve", POWER, periods)?;
+    Ok(Response { on, power, reserve })
 }
 
 /// The response of a renewable unit or bid: on in every period, with reserve 0.
 #[tactic(auto, unfolding(crate::specs::Lines::other_at))]
-fn other_response(alloc: Global, periods: u32, bytes: &[u8]) -> Result<(Response, &[u8]), Stop>
-    ensures { Gives (λ x. (schedule_of x.0, x.1.now)) result (other_at periods bytes.now) }
+fn other_response(alloc: Global, reader: &mut Reader<'_>, periods: u32) -> Result<Response, Stop>
+    ensures { Gives (λ x. (schedule_of x, reader.new.rest.now)) result
+        (other_at periods reader.old.rest.now) }
 {
-    let (power, rest) = list_line(alloc, b"power", POWER, periods, bytes)?;
+    let power = list_line(alloc, reader, b"power", POWER, periods)?;
     let on = Flags::filled(alloc, periods, true)?;
     let reserve = Powers::filled(alloc, periods, 0)?;
-    Ok((Response { on, power, reserve }, rest))
+    Ok(Response { on, power, reserve })
 }
 
 fn read_response(
     alloc: Global,
+    reader: &mut Reader<'_>,
     periods: u32,
     kind: Kind,
-    bytes: &[u8],
-) -> Result<(Response, &[u8]), Stop>
-    ensures { Gives (λ x. (schedule_of x.0, x.1.now)) result (response_at periods kind bytes.now) }
+) -> Result<Response, Stop>
+    ensures { Gives (λ x. (schedule_of x, reader.new.rest.now)) result
+        (response_at periods kind reader.old.rest.now) }
 {
     match kind {
-        Kind::Thermal => thermal_response(alloc, periods, bytes),
-        Kind::Renewable | Kind::Bid | Kind::Case => other_response(alloc, periods, bytes),
+        Kind::Thermal => thermal_response(alloc, reader, periods),
+        Kind::Renewable | Kind::Bid | Kind::Case => other_response(alloc, reader, periods),
     }
 }
 
@@ -170,43 +180,41 @@ fn read_response(
 #[tactic(auto, unfolding(crate::specs::Lines::unit_at))]
 fn read_unit(
     alloc: Global,
+    reader: &mut Reader<'_>,
     periods: u32,
     least: u32,
-    bytes: &[u8],
-) -> Result<(UnitLine, &[u8]), Stop>
-    ensures { Gives (λ x. (told_of x.0, x.1.now)) result (unit_at periods least bytes.now) }
+) -> Result<UnitLine, Stop>
+    ensures { Gives (λ x. (told_of x, reader.new.rest.now)) result
+        (unit_at periods least reader.old.rest.now) }
 {
-    let (title, rest) = title_line(alloc, least, bytes)?;
-    let (response, rest) = read_response(alloc, periods, title.kind, rest)?;
-    let line = UnitLine {
+    let title = title_line(alloc, reader, least)?;
+    let response = read_response(alloc, reader, periods, title.kind)?;
+    Ok(UnitLine {
         kind: title.kind,
         name: title.name,
         earned: title.owed.earned,
         scheduled: title.owed.scheduled,
         payment: title.owed.payment,
         response,
-    };
-    Ok((line, rest))
+    })
 }
 
 /// So many units and bids, with their kinds in order.
 pub fn read_units(
     alloc: Global,
+    reader: &mut Reader<'_>,
     periods: u32,
     count: u32,
-    bytes: &[u8],
-) -> Result<(UnitLines, &[u8]), Stop>
-    ensures { Gives (λ x. (map told_of x.0.items, x.1.now)) result
-        (units_at periods 0 count bytes.now) }
+) -> Result<UnitLines, Stop>
+    ensures { Gives (λ x. (map told_of x.items, reader.new.rest.now)) result
+        (units_at periods 0 count reader.old.rest.now) }
 {
     let mut lines = UnitLines::make(alloc, count)?;
-    let mut rest = bytes;
     let mut least = 0;
     for _ in 0..count {
-        let (line, after) = read_unit(alloc, periods, least, rest)?;
+        let line = read_unit(alloc, reader, periods, least)?;
         least = rank(line.kind);
         lines.push(line);
-        rest = after;
     }
-    Ok((lines, rest))
+    Ok(lines)
 }

@@ -8,7 +8,7 @@ use crate::numbers::{amount_at, count_at, number_at};
 use crate::words::behind;
 
 /// A form of values that a line may have.
-pub trait Part: Copy + Drop {
+pub trait ValueForm: Copy + Drop {
     /// What is told.
     type Value: Drop;
 
@@ -27,7 +27,7 @@ pub struct Count {
     pub most: u32,
 }
 
-impl Part for Count {
+impl ValueForm for Count {
     type Value = u32;
 
     ghost found = { λ c. count_spec c.least c.most };
@@ -41,7 +41,7 @@ impl Part for Count {
 #[derive(Clone, Copy, Drop)]
 pub struct Amount;
 
-impl Part for Amount {
+impl ValueForm for Amount {
     type Value = i128;
 
     ghost found = { λ _. amount_spec };
@@ -58,7 +58,7 @@ pub struct Price {
     pub most: i64,
 }
 
-impl Part for Price {
+impl ValueForm for Price {
     type Value = i64;
 
     ghost found = { λ p. integer_at p.least p.most };
@@ -72,7 +72,7 @@ impl Part for Price {
 #[derive(Clone, Copy, Drop)]
 pub struct Flag;
 
-impl Part for Flag {
+impl ValueForm for Flag {
     type Value = bool;
 
     ghost found = { λ _. flag_at };
@@ -94,7 +94,7 @@ pub struct Valued {
     pub most: u32,
 }
 
-impl Part for Valued {
+impl ValueForm for Valued {
     type Value = (u32, i128);
 
     ghost found = { λ v. both (count_spec v.least v.most) (after (codes " value ") amount_spec) };

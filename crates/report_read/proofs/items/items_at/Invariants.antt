@@ -4,7 +4,7 @@ use Rattle.report_read.proofs.items.items_at.Given as goal
 
 abbrev pub invariant-loop : goal.invariant-loop
 invariant-loop g l =
-    let item = spaced (g.P.Part.found l.item) in
+    let item = spaced (g.F.ValueForm.found l.item) in
     record {
       reads : with_front l.list.items (items_at item (l.count - l.counter) l.rest) ≡ items_at item l.count l.bytes;
       room : l.count - l.counter ≤ l.list.spare;

@@ -1,5 +1,5 @@
 use Rattle.report_read.proofs.Common.{◌≡◌, ℕ, List, Some, sym, ap, ◌∙◌, subst, IsUtf8}
-use Rattle.report_read.proofs.NameParts.{name_found, name_bad}
+use Rattle.report_read.proofs.QuotedNames.{name_found, name_bad}
 use Rattle.report_read.proofs.names.name_at.Goals as goal
 
 pub returns-in-Ok : goal.returns-in-Ok

@@ -12,7 +12,8 @@ returns-then-magnitude-eq0 c = minus_zero MOST (pos 1701411834604692317316873037
 
 pub negated-requires-clause-most : goal.negated-requires-clause-most
 negated-requires-clause-most c =
-    count_most MOST c.args.bytes.now (c.in_ok-magnitude.magnitude, c.in_ok-magnitude.rest.now) c.in_ok-magnitude.ensures
+    count_most MOST c.args.bytes.now (c.in_ok-magnitude.magnitude, c.in_ok-magnitude.rest.now)
+    c.in_ok-magnitude.ensures
 
 pub returns : goal.returns
 returns c =

@@ -4,8 +4,8 @@ use Rattle.report_read.proofs.units.other_response.Goals as goal
 
 pub invariant_of-result : goal.invariant_of-result
 invariant_of-result c =
-    let power = powers_are (codes "power") c.args.periods c.args.bytes.now c.in_ok-power.power.items
-    c.in_ok-power.rest.now refl c.in_ok-power.ensures in
+    let power = powers_are (codes "power") c.args.periods c.args.reader.now.rest.now c.in_ok-power.power.items
+    c.list_line.new.reader.rest.now refl c.in_ok-power.ensures in
     let on = ap (λ (xs : List Bool). length xs) c.in_ok-on.ensures ∙ length-replicate c.args.periods true in
     let reserve = ap (λ (xs : List ℕ). length xs) c.in_ok-reserve.ensures ∙ length-replicate c.args.periods 0 in
     record { valid = record { power = power.length_is ∙ sym on; reserve = reserve ∙ sym on } }

@@ -7,7 +7,7 @@ use Rattle.report_read.proofs.Common.{◌>>=◌, behind, is_ascii_digit, hex_val
 use Rattle.report_read.proofs.Common.{escaped_at, closed_within, text_only, name_at}
 use Rattle.std.specs.Str.{is_utf8}
 use Rattle.std.proofs.lemmas.Str.{IsUtf8-from_is_utf8, is_utf8-from_IsUtf8}
-use Rattle.report_read.proofs.Parts.{bind_some, if_some, some_is, behind_takes, is_inline, inline_append, Part}
+use Rattle.report_read.proofs.Reading.{bind_some, if_some, some_is, behind_takes, is_inline, inline_append, IsReader}
 
 -- ---- hexadecimal digits
 
@@ -262,9 +262,9 @@ name_again name rest utf8 =
     omega (arith, long_enough name, length-append (flat_map escaped name) (34 ∷ rest)) in
     rw (closed_again (length (flat_map escaped name ++ 34 ∷ rest)) name rest long, is_utf8-from_IsUtf8 name utf8) refl
 
-pub name_part : Part (λ name. flat_map escaped name ++ 34 ∷ []) IsUtf8 name_at
+pub name_reads : IsReader (λ name. flat_map escaped name ++ 34 ∷ []) IsUtf8 name_at
 unfolding name_at
-name_part = record {
+name_reads = record {
   takes = λ bytes name rest e.
       let a = bind_some (closed_within (length bytes) bytes) text_only (name, rest) e in
       let t = if_some (is_utf8 a.0.0) (Some a.0) (name, rest) a.2 in

@@ -1,4 +1,4 @@
--- Parts of a line: what is taken is the text of a value, and the text of a value is read again.
+-- What a reader of a line takes is the text of a value, and the text of a value is read again.
 use Rattle.report_read.proofs.Common.{◌≡◌, ℕ, zero, suc, Bool, true, false, cond, nat_le, ◌==◌, ◌&&◌, List, [], ◌∷◌}
 use Rattle.report_read.proofs.Common.{◌++◌, length, Option, Some, None, refl, sym, ap, ◌∙◌, subst, arith, append_assoc}
 use Rattle.report_read.proofs.Common.{flat_map, AllByRecursion, eqb-true, Found, ◌>>=◌, behind, is_ascii_digit, spaced}
@@ -37,7 +37,7 @@ unfolding behind
 behind_again [] rest = refl
 behind_again (c ∷ cs) rest = rw (same_byte c) (behind_again cs rest)
 
--- ---- parts
+-- ---- values and their texts
 
 -- no byte below 32
 abbrev pub is_inline : List ℕ → Bool
@@ -57,16 +57,17 @@ abbrev pub Stops : List ℕ → Type 0
 Stops [] = Unit {0}
 Stops (c ∷ cs) = is_ascii_digit c ≡ false
 
-pub record Part {A : Type 0} (text : A → List ℕ) (Fits : A → Type 0) (read : List ℕ → Found A) : Type 0 where
+-- `read` takes just the texts of values that fit, which stand in one line
+pub record IsReader {A : Type 0} (text : A → List ℕ) (Fits : A → Type 0) (read : List ℕ → Found A) : Type 0 where
   pub takes : (bytes : List ℕ) (x : A) (rest : List ℕ) → read bytes ≡ Some (x, rest) → (bytes ≡ text x ++ rest) × Fits x
   pub again : (x : A) (rest : List ℕ) → Fits x → Stops rest → read (text x ++ rest) ≡ Some (x, rest)
   pub inline : (x : A) → Fits x → is_inline (text x) ≡ true
 
-pub after_part : {A : Type 0} (text : A → List ℕ) (Fits : A → Type 0) (read : List ℕ → Found A) (word : List ℕ) →
-    is_inline word ≡ true → Part text Fits read
-    → Part (λ x. word ++ text x) Fits (after word read)
+pub after_reads : {A : Type 0} (text : A → List ℕ) (Fits : A → Type 0) (read : List ℕ → Found A) (word : List ℕ) →
+    is_inline word ≡ true → IsReader text Fits read
+    → IsReader (λ x. word ++ text x) Fits (after word read)
 unfolding after
-after_part text Fits read word plain p = record {
+after_reads text Fits read word plain p = record {
   takes = λ bytes x rest e.
       let b = bind_some (behind word bytes) read (x, rest) e in
       let t = p.takes b.0 x rest b.2 in (
@@ -80,7 +81,7 @@ after_part text Fits read word plain p = record {
 
 both_take : {A B : Type 0} (text : A → List ℕ) (Fits : A → Type 0) (read : List ℕ → Found A) (text2 : B → List ℕ)
     (Fits2 : B → Type 0) (read2 : List ℕ → Found B)
-    → Part text Fits read → Part text2 Fits2 read2 → (bytes : List ℕ) (z : A × B) (rest : List ℕ) →
+    → IsReader text Fits read → IsReader text2 Fits2 read2 → (bytes : List ℕ) (z : A × B) (rest : List ℕ) →
     both read read2 bytes ≡ Some (z, rest)
     → (bytes ≡ (text z.0 ++ text2 z.1) ++ rest) × (Fits z.0 × Fits2 z.1)
 unfolding both
@@ -95,12 +96,12 @@ both_take {A} {B} text Fits read text2 Fits2 read2 p q bytes z rest e =
     subst (λ (w : (A × B) × List ℕ). (bytes ≡ (text w.0.0 ++ text2 w.0.1) ++ w.1) × (Fits w.0.0 × Fits2 w.0.1))
     (some_is made (z, rest) b.2) (parts, (s.1, t.1))
 
--- the first part ends whatever comes behind it
+-- the first text ends whatever comes behind it
 pub both_behind : {A B : Type 0} (text : A → List ℕ) (Fits : A → Type 0) (read : List ℕ → Found A) (text2 : B → List ℕ)
     (Fits2 : B → Type 0) (read2 : List ℕ → Found B)
-    → Part text Fits read → Part text2 Fits2 read2 →
+    → IsReader text Fits read → IsReader text2 Fits2 read2 →
     ((x : A) (rest : List ℕ) → Fits x → read (text x ++ rest) ≡ Some (x, rest))
-    → Part (λ (z : A × B). text z.0 ++ text2 z.1) (λ (z : A × B). Fits z.0 × Fits2 z.1) (both read read2)
+    → IsReader (λ (z : A × B). text z.0 ++ text2 z.1) (λ (z : A × B). Fits z.0 × Fits2 z.1) (both read read2)
 unfolding both
 both_behind text Fits read text2 Fits2 read2 p q ends = record {
   takes = both_take text Fits read text2 Fits2 read2 p q;
@@ -110,12 +111,12 @@ both_behind text Fits read text2 Fits2 read2 p q ends = record {
   inline = λ z fits. inline_append (text z.0) (text2 z.1) (p.inline z.0 fits.0) (q.inline z.1 fits.1);
 }
 
-pub both_parts : {A B : Type 0} (text : A → List ℕ) (Fits : A → Type 0) (read : List ℕ → Found A) (text2 : B → List ℕ)
+pub both_reads : {A B : Type 0} (text : A → List ℕ) (Fits : A → Type 0) (read : List ℕ → Found A) (text2 : B → List ℕ)
     (Fits2 : B → Type 0) (read2 : List ℕ → Found B)
-    → Part text Fits read → Part text2 Fits2 read2 → ((y : B) (rest : List ℕ) → Stops (text2 y ++ rest))
-    → Part (λ (z : A × B). text z.0 ++ text2 z.1) (λ (z : A × B). Fits z.0 × Fits2 z.1) (both read read2)
+    → IsReader text Fits read → IsReader text2 Fits2 read2 → ((y : B) (rest : List ℕ) → Stops (text2 y ++ rest))
+    → IsReader (λ (z : A × B). text z.0 ++ text2 z.1) (λ (z : A × B). Fits z.0 × Fits2 z.1) (both read read2)
 unfolding both
-both_parts text Fits read text2 Fits2 read2 p q begins = record {
+both_reads text Fits read text2 Fits2 read2 p q begins = record {
   takes = both_take text Fits read text2 Fits2 read2 p q;
   again = λ z rest fits stops.
       ap (both read read2) (append_assoc (text z.0) (text2 z.1) rest) ∙
@@ -123,9 +124,9 @@ both_parts text Fits read text2 Fits2 read2 p q begins = record {
   inline = λ z fits. inline_append (text z.0) (text2 z.1) (p.inline z.0 fits.0) (q.inline z.1 fits.1);
 }
 
-pub just_part : (word : List ℕ) → is_inline word ≡ true → Part (λ (x : Unit {0}). word) (λ x. Unit {0}) (just word)
+pub just_reads : (word : List ℕ) → is_inline word ≡ true → IsReader (λ (x : Unit {0}). word) (λ x. Unit {0}) (just word)
 unfolding just
-just_part word plain = record {
+just_reads word plain = record {
   takes = λ bytes x rest e.
       let b = bind_some (behind word bytes) (λ r. Some (tt, r)) (x, rest) e in
       let same : b.0 ≡ rest = ap (λ (w : Unit {0} × List ℕ). w.1) (some_is (tt, b.0) (x, rest) b.2) in
@@ -136,10 +137,10 @@ just_part word plain = record {
 
 -- ---- lists
 
-pub spaced_part : {A : Type 0} (text : A → List ℕ) (Fits : A → Type 0) (read : List ℕ → Found A) → Part text Fits read →
-    Part (λ x. 32 ∷ text x) Fits (spaced read)
+pub spaced_reads : {A : Type 0} (text : A → List ℕ) (Fits : A → Type 0) (read : List ℕ → Found A)
+    → IsReader text Fits read → IsReader (λ x. 32 ∷ text x) Fits (spaced read)
 unfolding spaced
-spaced_part text Fits read p = record {
+spaced_reads text Fits read p = record {
   takes = λ bytes x rest e.
       let b = bind_some (behind (32 ∷ []) bytes) read (x, rest) e in
       let t = p.takes b.0 x rest b.2 in
@@ -148,7 +149,7 @@ spaced_part text Fits read p = record {
   inline = λ x fits. p.inline x fits;
 }
 
-items_take : {A : Type 0} (text : A → List ℕ) (Fits : A → Type 0) (read : List ℕ → Found A) → Part text Fits read
+items_take : {A : Type 0} (text : A → List ℕ) (Fits : A → Type 0) (read : List ℕ → Found A) → IsReader text Fits read
     → (count : ℕ) (bytes : List ℕ) (z : List A × List ℕ) → items_at read count bytes ≡ Some z →
     (bytes ≡ flat_map text z.0 ++ z.1) × IsList Fits count z.0
 unfolding items_at
@@ -173,7 +174,7 @@ items_stop text [] rest begins stops = stops
 items_stop text (x ∷ xs) rest begins stops =
     subst Stops (sym (append_assoc (text x) (flat_map text xs) rest)) (begins x (flat_map text xs ++ rest))
 
-items_again : {A : Type 0} (text : A → List ℕ) (Fits : A → Type 0) (read : List ℕ → Found A) → Part text Fits read →
+items_again : {A : Type 0} (text : A → List ℕ) (Fits : A → Type 0) (read : List ℕ → Found A) → IsReader text Fits read →
     ((x : A) (r : List ℕ) → Stops (text x ++ r))
     → (xs : List A) (rest : List ℕ) → AllByRecursion Fits xs → Stops rest →
     items_at read (length xs) (flat_map text xs ++ rest) ≡ Some (xs, rest)
@@ -186,16 +187,16 @@ items_again text Fits read p begins (x ∷ xs) rest fits stops =
       items_again text Fits read p begins xs rest fits.1 stops,
     ) refl
 
-items_inline : {A : Type 0} (text : A → List ℕ) (Fits : A → Type 0) (read : List ℕ → Found A) → Part text Fits read →
-    (xs : List A) → AllByRecursion Fits xs → is_inline (flat_map text xs) ≡ true
+items_inline : {A : Type 0} (text : A → List ℕ) (Fits : A → Type 0) (read : List ℕ → Found A)
+    → IsReader text Fits read → (xs : List A) → AllByRecursion Fits xs → is_inline (flat_map text xs) ≡ true
 items_inline text Fits read p [] fits = refl
 items_inline text Fits read p (x ∷ xs) fits =
     inline_append (text x) (flat_map text xs) (p.inline x fits.0) (items_inline text Fits read p xs fits.1)
 
-pub items_part : {A : Type 0} (text : A → List ℕ) (Fits : A → Type 0) (read : List ℕ → Found A) (count : ℕ) →
-    Part text Fits read → ((x : A) (r : List ℕ) → Stops (text x ++ r))
-    → Part (flat_map text) (IsList Fits count) (items_at read count)
-items_part {A} text Fits read count p begins = record {
+pub items_reads : {A : Type 0} (text : A → List ℕ) (Fits : A → Type 0) (read : List ℕ → Found A) (count : ℕ) →
+    IsReader text Fits read → ((x : A) (r : List ℕ) → Stops (text x ++ r))
+    → IsReader (flat_map text) (IsList Fits count) (items_at read count)
+items_reads {A} text Fits read count p begins = record {
   takes = λ bytes xs rest e. items_take text Fits read p count bytes (xs, rest) e;
   again = λ xs rest fits stops. subst (λ (k : ℕ). items_at read k (flat_map text xs ++ rest) ≡ Some (xs, rest))
       fits.length_is (items_again text Fits read p begins xs rest fits.items stops);
@@ -204,8 +205,8 @@ items_part {A} text Fits read count p begins = record {
 
 -- ---- to the end of the line
 
-pub ended_takes : {A : Type 0} (text : A → List ℕ) (Fits : A → Type 0) (read : List ℕ → Found A) → Part text Fits read
-    → (bytes : List ℕ) (x : A) (rest : List ℕ) → ended read bytes ≡ Some (x, rest) →
+pub ended_takes : {A : Type 0} (text : A → List ℕ) (Fits : A → Type 0) (read : List ℕ → Found A)
+    → IsReader text Fits read → (bytes : List ℕ) (x : A) (rest : List ℕ) → ended read bytes ≡ Some (x, rest) →
     (bytes ≡ (text x ++ 10 ∷ []) ++ rest) × Fits x
 unfolding ended
 ended_takes {A} text Fits read p bytes x rest e =
@@ -219,8 +220,9 @@ ended_takes {A} text Fits read p bytes x rest e =
     subst (λ (w : A × List ℕ). (bytes ≡ (text w.0 ++ 10 ∷ []) ++ w.1) × Fits w.0) (some_is made (x, rest) b.2)
     (parts, s.1)
 
-pub ended_again : {A : Type 0} (text : A → List ℕ) (Fits : A → Type 0) (read : List ℕ → Found A) → Part text Fits read
-    → (x : A) (rest : List ℕ) → Fits x → ended read ((text x ++ 10 ∷ []) ++ rest) ≡ Some (x, rest)
+pub ended_again : {A : Type 0} (text : A → List ℕ) (Fits : A → Type 0) (read : List ℕ → Found A)
+    → IsReader text Fits read → (x : A) (rest : List ℕ) → Fits x →
+    ended read ((text x ++ 10 ∷ []) ++ rest) ≡ Some (x, rest)
 unfolding ended
 ended_again text Fits read p x rest fits = ap (ended read) (append_assoc (text x) (10 ∷ []) rest) ∙
     rw (p.again x (10 ∷ rest) fits refl, behind_again (10 ∷ []) rest) refl
