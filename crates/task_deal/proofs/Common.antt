@@ -12,7 +12,7 @@ pub use Rattle.std.proofs.lemmas.List.Sorted.{IsPermutation-trans}
 pub use Rattle.std.specs.List.{AllZip, concat}
 pub use Rattle.std.specs.Prelude.{Contains, IsPermutation, sum_by}
 pub use Rattle.std.specs.declared.alloc.Global.{Global}
-pub use Rattle.crossbeam_deque.specs.Handles.{Pass, view, worker_view, worker_flavor, SameWorker, IsPassOf}
+pub use Rattle.crossbeam_deque.specs.Handles.{Pass, view, worker_view, worker_flavor, SameWorker, SamePass, IsPassOf}
 pub use Rattle.crossbeam_deque.specs.Handles.{stealer_deque, worker_deque, worker_port}
 pub use Rattle.crossbeam_deque.specs.Injected.{InjectorPass, injector_view, IsInjectorPassOf}
 pub use Rattle.crossbeam_deque.specs.Tasks.{ordered, Pushes, Takes, Finds, FindsFew, Admits, Forks, Merges, Learns}

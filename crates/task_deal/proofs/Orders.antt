@@ -25,23 +25,24 @@ split_at x (y ∷ ys) some = ⊎_elim
     (y ∷ more.0, more.1, ap (λ zs. y ∷ zs) more.2))
     (same_or_not x y)
 
+-- what is left of two lists that weigh the same, without a number of both, weighs the same
+left_over : (x : ℕ) (xs ys front back : List ℕ) → ys ≡ front ++ x ∷ back →
+    ((h : ℕ → ℕ) → sum_of h (x ∷ xs) ≡ sum_of h ys) → (h : ℕ → ℕ) → sum_of h xs ≡ sum_of h (front ++ back)
+left_over x xs ys front back e same h =
+    omega (arith, same h, ap (sum_of h) e, sum_of-append h front (x ∷ back), sum_of-append h front back)
+
+-- a number goes back into both
+put_back : (x : ℕ) (xs ys front back : List ℕ) → ys ≡ front ++ x ∷ back → IsPermutation xs (front ++ back) →
+    IsPermutation (x ∷ xs) ys
+put_back x xs ys front back e order = subst (IsPermutation (x ∷ xs)) (sym e)
+    (IsPermutation-trans (x ∷ xs) (x ∷ (front ++ back)) (front ++ x ∷ back)
+    (IsPermutation-cons x xs (front ++ back) order)
+    (IsPermutation-sym (front ++ x ∷ back) (x ∷ (front ++ back)) (IsPermutation-middle front x back)))
+
 pub permutes : (xs ys : List ℕ) → ((h : ℕ → ℕ) → sum_of h xs ≡ sum_of h ys) → IsPermutation xs ys
 permutes [] [] same = IsPermutation-refl []
 permutes [] (y ∷ ys) same = absurd (omega (arith, same (λ _. 1)))
 permutes (x ∷ xs) ys same =
     let parts = split_at x ys (omega (arith, same (times x))) in
-    let front = parts.0 in
-    let back = parts.1 in
-    let rest : (h : ℕ → ℕ) → sum_of h xs ≡ sum_of h (front ++ back) =
-    λ h. omega (
-      arith,
-      same h,
-      ap (sum_of h) parts.2,
-      sum_of-append h front (x ∷ back),
-      sum_of-append h front back,
-    ) in
-    let here : IsPermutation (x ∷ xs) (front ++ x ∷ back) =
-    IsPermutation-trans (x ∷ xs) (x ∷ (front ++ back)) (front ++ x ∷ back)
-    (IsPermutation-cons x xs (front ++ back) (permutes xs (front ++ back) rest))
-    (IsPermutation-sym (front ++ x ∷ back) (x ∷ (front ++ back)) (IsPermutation-middle front x back)) in
-    subst (IsPermutation (x ∷ xs)) (sym parts.2) here
+    put_back x xs ys parts.0 parts.1 parts.2
+    (permutes xs (parts.0 ++ parts.1) (left_over x xs ys parts.0 parts.1 parts.2 same))

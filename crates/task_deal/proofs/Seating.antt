@@ -2,7 +2,11 @@
 use Rattle.task_deal.proofs.Common.{◌≡◌, ◌≢◌, ℕ, ◌<◌, set, slice_index_or, Option, Some, None, refl, ◌∙◌, sym, ap}
 use Rattle.task_deal.proofs.Common.{subst, List, length, ⊎_elim, arith, IsPart, AreParts, IsSeatOf, SameDeque, Gains}
 use Rattle.task_deal.proofs.Common.{Found, Seat, Shared, worker_flavor, worker_port, worker_deque, worker_view}
-use Rattle.task_deal.proofs.Common.{injector_view, IsInjectorPassOf}
+use Rattle.task_deal.proofs.Common.{injector_view, IsInjectorPassOf, SamePass, SameWorker, view, MatchOption, Account}
+use Rattle.task_deal.proofs.Common.{account, ordered, ◌++◌, ◌∷◌, []}
+use Rattle.crossbeam_deque.specs.Steals.{MatchSteal}
+use Rattle.crossbeam_deque.specs.declared.steal.Steal.{Steal}
+use Rattle.crossbeam_deque.specs.declared.steal.Steal.TheVariants.{Empty, Success, Retry}
 use Rattle.std.proofs.Math.ListN.{length-set}
 use Rattle.task_deal.proofs.Gaining.{Deque, SourcePass, Thief, ThiefPass, gains_on, gains_none}
 use Rattle.task_deal.proofs.Places.{index_any, index_here, index_else, same_or_not}
@@ -49,3 +53,59 @@ seated shared s t k p v es eo ep le at part is = (
   },
   record { deque = ap worker_deque eo; parts = ap (λ (w : Deque). (worker_view w).parts) eo },
 )
+
+-- the pass that has stolen is still one of its deque, with one part
+pub same_part : (thief : Thief) (p q : ThiefPass) → IsPart thief p → SamePass p q → (view q).parts ≡ (view p).parts →
+    IsPart thief q
+same_part thief p q is same parts = ((same.0 ∙ is.0.0, same.1 ∙ is.0.1, same.3, same.4), parts ∙ is.1)
+
+-- a seat with the pass of the source that has taken
+pub took_seat : (shared : Shared) (s : Seat) (p : SourcePass) → IsSeatOf shared s →
+    IsInjectorPassOf shared.source p → (injector_view p).parts ≡ (injector_view s.source).parts →
+    IsSeatOf shared (record s { source = p })
+took_seat shared s p is of parts =
+    record { source = of; part = parts ∙ is.part; flavor = is.flavor; port = is.port; purse = is.purse }
+
+-- its deque is the same whatever its pass of the source is
+pub same_own : (r s : Seat) (p : SourcePass) → SameDeque r s → SameDeque r (record s { source = p })
+same_own r s p same = record { deque = same.deque; parts = same.parts }
+
+-- a seat whose pass and deque have moved on
+moved_seat : (shared : Shared) (s : Seat) (pass : SourcePass) (own : Deque) → IsSeatOf shared s →
+    IsInjectorPassOf shared.source pass → SameWorker s.own own →
+    (injector_view pass).parts ≡ (injector_view s.source).parts → (worker_view own).parts ≡ (worker_view s.own).parts
+    → IsSeatOf shared (record s { source = pass; own = own }) × SameDeque s (record s { source = pass; own = own })
+moved_seat shared s pass own is of same a b = (
+  record { source = of; part = a ∙ is.part; flavor = same.1 ∙ is.flavor; port = same.2 ∙ is.port; purse = is.purse },
+  record { deque = same.0; parts = b },
+)
+
+-- a seat after a pop of its own deque
+pub popped_seat : (shared : Shared) (s : Seat) (own : Deque) (r : Option ℕ) (lost : Type 0) → IsSeatOf shared s →
+    SameWorker s.own own
+    → MatchOption r ((worker_view own ≡ worker_view s.own) × lost)
+    (λ x. worker_view own ≡ account (worker_view s.own).parts (worker_view s.own).put
+    ((worker_view s.own).taken ++ x ∷ []))
+    → IsSeatOf shared (record s { own = own }) × SameDeque s (record s { own = own })
+popped_seat shared s own None lost is same e =
+    moved_seat shared s s.source own is is.source same refl (ap (λ (u : Account). u.parts) e.0)
+popped_seat shared s own (Some x) lost is same e =
+    moved_seat shared s s.source own is is.source same refl (ap (λ (u : Account). u.parts) e)
+
+-- a seat after a batch of the source
+pub fetched_seat : (shared : Shared) (s : Seat) (pass : SourcePass) (own : Deque) (limit : ℕ) → IsSeatOf shared s →
+    IsInjectorPassOf shared.source pass → SameWorker s.own own → (r : Steal ℕ) (a : Type 0)
+    → MatchSteal r ((injector_view pass ≡ injector_view s.source) × (worker_view own ≡ worker_view s.own) × a)
+    ((injector_view pass ≡ injector_view s.source) × (worker_view own ≡ worker_view s.own))
+    (λ x. (xs : List ℕ) × (length xs < limit) ×
+    (injector_view pass ≡ account (injector_view s.source).parts (injector_view s.source).put
+    ((injector_view s.source).taken ++ x ∷ xs)) ×
+    (worker_view own ≡ account (worker_view s.own).parts
+    ((worker_view s.own).put ++ ordered 0 (worker_flavor s.own) xs) (worker_view s.own).taken))
+    → IsSeatOf shared (record s { source = pass; own = own }) × SameDeque s (record s { source = pass; own = own })
+fetched_seat shared s pass own limit is of same Empty a e = moved_seat shared s pass own is of same
+    (ap (λ (u : Account). u.parts) e.0) (ap (λ (u : Account). u.parts) e.1)
+fetched_seat shared s pass own limit is of same Retry a e = moved_seat shared s pass own is of same
+    (ap (λ (u : Account). u.parts) e.0) (ap (λ (u : Account). u.parts) e.1)
+fetched_seat shared s pass own limit is of same (Success x) a e = moved_seat shared s pass own is of same
+    (ap (λ (u : Account). u.parts) e.2) (ap (λ (u : Account). u.parts) e.3)

@@ -7,7 +7,7 @@ use Rattle.task_deal.proofs.Sums.{sum_of-append, sum_of_set_at}
 use Rattle.task_deal.proofs.Places.{pick, index_left, index_last}
 use Rattle.task_deal.proofs.Gaining.{Deque, Thief, ThiefPass}
 
--- as take_back says
+-- a pass was taken back into its deque
 pub record TakenBack (s t : Deque) (p : ThiefPass) : Type 0 where
   pub own : SameWorker s t
   pub view : worker_view t ≡ account ((worker_view s).parts - (view p).parts) (worker_view s).put

@@ -7,8 +7,9 @@ use Rattle.task_deal.specs.Jobs.{below}
 use Rattle.task_deal.specs.Rule.{account, sum_of}
 use Rattle.task_deal.specs.Seats.{AreParts, Each, Stands, own_taken, own_put, taken_by}
 
--- the source holds the numbers below `tasks`, and each of `count` purses has a pass for each of as
--- many deques; nothing has been taken, and nothing put into a deque
+-- What `count` jobs begin with. The source holds the numbers below `tasks`, and the owner has the
+-- first pass of the source. There is a deque for each job, with nothing in it, and a purse for each
+-- job, with a pass for every deque. Nothing has been taken yet.
 pub record AreSetOut (shared : Shared) (tasks count : ℕ) (hands : Hands) : Type 0 where
   pub source : IsInjectorPassOf shared.source hands.owner
   pub port : hands.owner.id ≡ 0

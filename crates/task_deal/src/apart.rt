@@ -1,5 +1,5 @@
 //! Jobs, deques and purses are put together, and taken apart.
-ghost use Rattle.std.specs.Prelude.{◌≡◌, ◌+◌, ◌-◌, ◌≤◌, ℕ, [], ◌++◌, length, All, vec_capacity};
+ghost use Rattle.std.specs.Prelude.{◌≡◌, ◌+◌, ◌≤◌, ℕ, [], length, All, vec_capacity};
 ghost use Rattle.crossbeam_deque.specs.Injected.{injector_view, IsInjectorPassOf};
 ghost use Rattle.task_deal.specs.Rule.{account, sum_of};
 ghost use Rattle.task_deal.specs.Apart.{backwards, HasPart, source_taken};
@@ -7,16 +7,6 @@ ghost use Rattle.task_deal.specs.Apart.{backwards, HasPart, source_taken};
 use crate::member::Member;
 use crate::rule::{Cut, Deque, Source, SourcePass, ThiefPass};
 use crate::seat::Seat;
-
-fn absorb(source: &Source, owner: &mut SourcePass, pass: SourcePass)
-    requires owner { IsInjectorPassOf source.now owner.old × (owner.old.id ≡ 0) }
-    requires pass { IsInjectorPassOf source.now pass }
-    ensures owner { IsInjectorPassOf source.now owner.new × (owner.new.id ≡ 0) }
-    ensures view { let v = injector_view owner.old in let w = injector_view pass in
-        injector_view owner.new ≡ account (v.parts - w.parts) v.put (v.taken ++ w.taken) }
-{
-    source.absorb::<Cut>(owner, pass);
-}
 
 /// Puts jobs, deques and purses on lists of their own, in the other order. The accounts of the
 /// source are joined.
@@ -53,21 +43,11 @@ pub(crate) fn take_apart<J: Drop>(
             own,
             purse,
         } = seat;
-        absorb(source, owner, pass);
+        source.absorb::<Cut>(owner, pass);
         jobs.push_reserved(job);
         owns.push_reserved(own);
         purses.push_reserved(purse);
     }
-}
-
-fn fork_source(source: &Source, owner: &mut SourcePass) -> SourcePass
-    requires { IsInjectorPassOf source.now owner.old × (owner.old.id ≡ 0) }
-    ensures owner { IsInjectorPassOf source.now owner.new × (owner.new.id ≡ 0) }
-    ensures pass { IsInjectorPassOf source.now result × (injector_view result ≡ account 1 [] []) }
-    ensures view { let v = injector_view owner.old in
-        injector_view owner.new ≡ account (v.parts + 1) v.put v.taken }
-{
-    source.another::<Cut>(owner)
 }
 
 /// Makes members of jobs, deques and purses, in the other order. Each gets a pass of the source.
@@ -101,7 +81,7 @@ pub(crate) fn put_together<J: Drop>(
     while let Some(job) = jobs.pop() {
         let own = owns.pop().unwrap();
         let purse = purses.pop().unwrap();
-        let pass = fork_source(source, owner);
+        let pass = source.another::<Cut>(owner);
         members.push_reserved(Member {
             job,
             seat: Seat {

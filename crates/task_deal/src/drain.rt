@@ -1,7 +1,5 @@
 //! What the threads left is run by one job.
-ghost use Rattle.std.specs.Prelude.{All, List, ◌≡◌, ◌+◌, ◌<◌, ◌≤◌, ℕ, length, ◌∷◌, [], ◌++◌};
-ghost use Rattle.std.specs.Prelude.{MatchOption};
-ghost use Rattle.crossbeam_deque.specs.Steals.{MatchSteal};
+ghost use Rattle.std.specs.Prelude.{All, List, ◌≡◌, ◌+◌, ◌<◌, ◌≤◌, length};
 ghost use Rattle.crossbeam_deque.specs.Injected.{injector_view, IsInjectorPassOf};
 ghost use Rattle.crossbeam_deque.specs.Handles.{worker_view, worker_flavor, worker_port};
 ghost use Rattle.crossbeam_deque.specs.Handles.{SameWorker};
@@ -9,7 +7,7 @@ ghost use Rattle.task_deal.specs.declared.rule.Account.{Account};
 ghost use Rattle.task_deal.specs.Drains.{RanTaken};
 ghost use Rattle.task_deal.specs.Jobs.{HasRun, IsDealt};
 ghost use Rattle.task_deal.specs.Ledger.{IsEmptied, Ledger};
-ghost use Rattle.task_deal.specs.Rule.{account, Fits, IsSettled};
+ghost use Rattle.task_deal.specs.Rule.{Fits, IsSettled};
 ghost use Rattle.task_deal.specs.Seats.{HaveTaken, Each, Stands};
 
 use crate::job::Job;
@@ -18,16 +16,7 @@ use crossbeam_deque::Steal;
 use std::sync::Wait;
 use std::thread;
 
-// No more were taken than were put.
-fn check(own: &mut Deque)
-    requires { worker_port own.old ≡ 0 }
-    ensures same { SameWorker own.old own.new }
-    ensures view { worker_view own.new ≡ worker_view own.old }
-    ensures fits { Fits (worker_view own.new) }
-{
-    own.len_as::<Fitting>();
-}
-
+// Of the deque at a place no more were taken than were put.
 fn check_at(shared: &Shared, owns: &mut Vec<Deque>, at: usize)
     requires at { at < length owns.old.items }
     requires stands { let last = length owns.old.items in
@@ -39,7 +28,7 @@ fn check_at(shared: &Shared, owns: &mut Vec<Deque>, at: usize)
     ensures fits { Each (λ _ w. Fits (worker_view w)) 0 at owns.old.items →
         Each (λ _ w. Fits (worker_view w)) 0 (at + 1) owns.new.items }
 {
-    check(&mut owns[at]);
+    owns[at].len_as::<Fitting>();
 }
 
 /// Of no deque more was taken than was put.
@@ -57,26 +46,6 @@ pub(crate) fn check_all(shared: &Shared, owns: &mut Vec<Deque>)
     }
 }
 
-fn next_own(own: &mut Deque) -> Option<u32>
-    requires { (worker_port own.old ≡ 0) × (worker_flavor own.old ≡ 0) }
-    ensures same { SameWorker own.old own.new }
-    ensures view { let v = worker_view own.old in let w = worker_view own.new in
-        MatchOption result ((w ≡ v) × IsSettled v)
-        (λ x. (w ≡ account v.parts v.put (v.taken ++ x ∷ [])) × Fits w) }
-{
-    own.pop_as::<Drains>()
-}
-
-fn next_source<R: Wait>(rt: &R, source: &Source, pass: &mut SourcePass) -> Steal<u32>
-    requires { IsInjectorPassOf source.now pass.old × (pass.old.id ≡ 0) }
-    ensures same { IsInjectorPassOf source.now pass.new × (pass.new.id ≡ 0) }
-    ensures view { let v = injector_view pass.old in let w = injector_view pass.new in
-        MatchSteal result ((w ≡ v) × IsSettled v) (w ≡ v)
-        (λ x. (w ≡ account v.parts v.put (v.taken ++ x ∷ [])) × Fits w) }
-{
-    source.steal_as::<Drains, R>(rt, pass)
-}
-
 /// Runs what a deque still has.
 fn drain_own<J: Job, R: Wait>(rt: &R, own: &mut Deque, job: &mut J)
     requires own { (worker_port own.old ≡ 0) × (worker_flavor own.old ≡ 0)
@@ -89,7 +58,7 @@ fn drain_own<J: Job, R: Wait>(rt: &R, own: &mut Deque, job: &mut J)
     ensures all { IsSettled (worker_view own.new) × ((worker_view own.new).parts ≡ 0) }
 {
     for _ in rt.forever() {
-        let Some(task) = next_own(own) else {
+        let Some(task) = own.pop_as::<Drains>() else {
             return;
         };
         job.run(task);
@@ -110,7 +79,7 @@ fn drain_source<J: Job, R: Wait>(rt: &R, source: &Source, pass: &mut SourcePass,
     ensures all { IsSettled (injector_view pass.new) × ((injector_view pass.new).parts ≡ 0) }
 {
     for _ in rt.forever() {
-        match next_source(rt, source, pass) {
+        match source.steal_as::<Drains, R>(rt, pass) {
             Steal::Success(task) => job.run(task),
             Steal::Empty => return,
             Steal::Retry => thread::yield_now(),

@@ -1,7 +1,6 @@
 //! Deques, and the passes to steal from them.
 ghost use Rattle.std.specs.Prelude.{◌≡◌, ◌+◌, ◌<◌, ℕ, [], All, IfOk, OnOk, length, slice_index_or};
-ghost use Rattle.crossbeam_deque.specs.Handles.{view, worker_view, worker_deque, worker_port};
-ghost use Rattle.crossbeam_deque.specs.Handles.{IsPassOf, SameWorker};
+ghost use Rattle.crossbeam_deque.specs.Handles.{view};
 ghost use Rattle.task_deal.specs.Seats.{IsPart, AreParts, Each, Stands, HaveTaken, taken_by};
 ghost use Rattle.task_deal.specs.Rule.{account, sum_of};
 ghost use Rattle.task_deal.specs.Open.{AreOpen};
@@ -28,18 +27,7 @@ pub(crate) fn open(alloc: Global, count: usize) -> Result<(Vec<Deque>, Vec<Thief
     Ok((owns, thieves))
 }
 
-// A pass with one part.
-fn fork(own: &mut Deque) -> ThiefPass
-    requires port { worker_port own.old ≡ 0 }
-    ensures own { SameWorker own.old own.new }
-    ensures pass { IsPassOf (worker_deque own.old) result × (view result ≡ account 1 [] []) }
-    ensures view { let v = worker_view own.old in
-        worker_view own.new ≡ account (v.parts + 1) v.put v.taken }
-{
-    own.another::<Cut>()
-}
-
-// The same of the deque at a place. Before it each deque has one part more out.
+// A pass with one part, of the deque at a place. Before it each deque has one part more out.
 fn fork_at(shared: &Shared, owns: &mut Vec<Deque>, out: usize, at: usize) -> ThiefPass
     requires at { at < length shared.now.thieves.items }
     requires count { length owns.old.items ≡ length shared.now.thieves.items }
@@ -54,7 +42,7 @@ fn fork_at(shared: &Shared, owns: &mut Vec<Deque>, out: usize, at: usize) -> Thi
     ensures pass { ((d : _) → IsPart (slice_index_or shared.now.thieves.items at d) result)
         × (view result ≡ account 1 [] []) }
 {
-    fork(&mut owns[at])
+    owns[at].another::<Cut>()
 }
 
 // A purse with a pass for each deque.

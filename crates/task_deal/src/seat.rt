@@ -1,7 +1,6 @@
 //! One worker's handles, and how it finds a number.
 ghost use Rattle.std.specs.Prelude.{◌≡◌, ◌<◌, length, [], ◌∷◌, ◌++◌, MatchOption};
 ghost use Rattle.crossbeam_deque.specs.Handles.{view};
-ghost use Rattle.crossbeam_deque.specs.Steals.{MatchSteal};
 ghost use Rattle.task_deal.specs.Rule.{account};
 ghost use Rattle.task_deal.specs.Seats.{IsPart, IsSeatOf, SameDeque, Found, FoundIn};
 
@@ -36,14 +35,6 @@ fn pop_own(shared: &Shared, seat: &mut Seat) -> Option<u32>
     seat.own.pop_as::<Takes>()
 }
 
-fn take_one<R: Wait>(rt: &R, shared: &Shared, seat: &mut Seat) -> Steal<u32>
-    requires { IsSeatOf shared.now seat.old }
-    ensures same { IsSeatOf shared.now seat.new × SameDeque seat.old seat.new }
-    ensures gains { FoundIn result seat.old seat.new }
-{
-    shared.source.steal_as::<Takes, R>(rt, &mut seat.source)
-}
-
 // Takes one number, and moves a batch of further ones to the own deque. Where there is no memory
 // for the batch, it takes one number alone.
 fn fetch<R: Wait>(rt: &R, shared: &Shared, seat: &mut Seat) -> Steal<u32>
@@ -61,16 +52,6 @@ fn fetch<R: Wait>(rt: &R, shared: &Shared, seat: &mut Seat) -> Steal<u32>
         )
 }
 
-fn steal_once(thief: &Thief, pass: &mut ThiefPass) -> Steal<u32>
-    requires { IsPart thief.now pass.old }
-    ensures same { IsPart thief.now pass.new }
-    ensures view { let v = view pass.old in let w = view pass.new in
-        MatchSteal result (w ≡ v) (w ≡ v)
-        (λ x. w ≡ account v.parts v.put (v.taken ++ x ∷ [])) }
-{
-    thief.steal_as::<Steals>(pass)
-}
-
 // Steals one number. Where another thief was faster, it tries again.
 fn steal<R: Wait>(rt: &R, thief: &Thief, pass: &mut ThiefPass) -> Option<u32>
     requires { IsPart thief.now pass.old }
@@ -79,7 +60,7 @@ fn steal<R: Wait>(rt: &R, thief: &Thief, pass: &mut ThiefPass) -> Option<u32>
         MatchOption result (w ≡ v) (λ x. w ≡ account v.parts v.put (v.taken ++ x ∷ [])) }
 {
     for _ in rt.forever() {
-        match steal_once(thief, pass) {
+        match thief.steal_as::<Steals>(pass) {
             Steal::Success(stolen) => return Some(stolen),
             Steal::Empty => return None,
             Steal::Retry => thread::yield_now(),
@@ -117,7 +98,7 @@ fn take_first<R: Wait>(rt: &R, shared: &Shared, seat: &mut Seat) -> Option<u32>
     ensures gains { Found result seat.old seat.new }
 {
     for _ in rt.forever() {
-        match take_one(rt, shared, seat) {
+        match shared.source.steal_as::<Takes, R>(rt, &mut seat.source) {
             Steal::Success(task) => return Some(task),
             Steal::Empty => return None,
             Steal::Retry => thread::yield_now(),

@@ -1,21 +1,10 @@
 //! After the threads: each purse goes back to the deques.
-ghost use Rattle.std.specs.Prelude.{◌≡◌, ◌+◌, ◌-◌, ◌++◌, ◌<◌, ℕ, All, length, slice_index_or};
-ghost use Rattle.crossbeam_deque.specs.Handles.{view, worker_view, worker_deque, worker_port};
-ghost use Rattle.crossbeam_deque.specs.Handles.{IsPassOf, SameWorker};
+ghost use Rattle.std.specs.Prelude.{◌≡◌, ◌+◌, ◌<◌, All, length, slice_index_or};
+ghost use Rattle.crossbeam_deque.specs.Handles.{view};
 ghost use Rattle.task_deal.specs.Seats.{IsPart, AreParts, Each, Stands, HaveTaken, taken_by};
-ghost use Rattle.task_deal.specs.Rule.{account, sum_of};
+ghost use Rattle.task_deal.specs.Rule.{sum_of};
 
 use crate::rule::{Cut, Deque, Shared, ThiefPass};
-
-fn take_back(own: &mut Deque, pass: ThiefPass)
-    requires port { worker_port own.old ≡ 0 }
-    requires pass { IsPassOf (worker_deque own.old) pass }
-    ensures own { SameWorker own.old own.new }
-    ensures view { let v = worker_view own.old in let w = view pass in
-        worker_view own.new ≡ account (v.parts - w.parts) v.put (v.taken ++ w.taken) }
-{
-    own.absorb::<Cut>(pass);
-}
 
 // Takes one pass back into its deque, and after it each deque has one part less out.
 fn return_pass(shared: &Shared, owns: &mut Vec<Deque>, left: usize, at: usize, pass: ThiefPass)
@@ -31,7 +20,7 @@ fn return_pass(shared: &Shared, owns: &mut Vec<Deque>, left: usize, at: usize, p
         Each (Stands shared.now.thieves.items left) at last owns.new.items }
     ensures books { HaveTaken (λ h. sum_of h (view pass).taken) owns.old.items owns.new.items }
 {
-    take_back(&mut owns[at], pass);
+    owns[at].absorb::<Cut>(pass);
 }
 
 // Takes a purse back into the deques.

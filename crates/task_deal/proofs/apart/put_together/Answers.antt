@@ -1,12 +1,12 @@
 use Rattle.task_deal.proofs.Common.{rules, ◌≡◌, ◌+◌, ◌∙◌, ◌∷◌, ◌++◌, [], ap, sym, subst, length, length-append, arith}
 use Rattle.task_deal.proofs.Common.{injector_view, Account, Member, account, sum_of, HasPart, source_taken, All}
 use Rattle.task_deal.proofs.Common.{append-nil, backwards, refl}
-use Rattle.task_deal.proofs.Lemmas.{all_push, no_items, sum_of_push, under}
+use Rattle.task_deal.proofs.Lemmas.{forks, all_push, no_items, sum_of_push, under}
 use Rattle.task_deal.proofs.apart.put_together.Goals as goal
 
 pub loop-job-preserved : goal.loop-job-preserved
 loop-job-preserved g c = let inv = c.loop-job.invariant in
-    let p = c.fork_source-pass in
+    let p = c.another-pass in
     let m : Member g.row.J.Denot = record {
       job = c.in-Some.job;
       seat =
@@ -22,21 +22,21 @@ loop-job-preserved g c = let inv = c.loop-job.invariant in
     let lo = ap length o ∙ length-append c.pop-in-Some.new.self.items (c.unwrap-own.result ∷ []) in
     let lq = ap length q ∙ length-append c.pop-in-Some-2.new.self.items (c.unwrap-purse.result ∷ []) in (
       (
-        p.ensures.owner.0,
-        p.ensures.owner.1,
-        subst (λ k. injector_view p.new.owner ≡ account k (injector_view c.args.owner.now).put
+        p.ensures.same.0,
+        p.ensures.same.1 ∙ inv.0.1,
+        subst (λ k. injector_view p.new.pass ≡ account k (injector_view c.args.owner.now).put
             (injector_view c.args.owner.now).taken) (sym n)
-            (p.ensures.view ∙ ap (λ (u : Account). account (u.parts + 1) u.put u.taken) inv.0.2),
+            (p.ensures.rule.0 ∙ ap (λ (u : Account). account (u.parts + 1) u.put u.taken) inv.0.2),
       ),
       (
         all_push (λ m. HasPart c.args.source.now m.seat) c.loop-job.members.items m _ e inv.1.0
-            (p.ensures.pass.0, ap (λ (u : Account). u.parts) p.ensures.pass.1),
+            (p.ensures.same.2, ap (λ (u : Account). u.parts) p.ensures.rule.1),
         (λ h. omega (
           arith,
           ap (sum_of (source_taken h)) e,
           sum_of_push (source_taken h) c.loop-job.members.items m,
           inv.1.1 h,
-          ap (λ (u : Account). sum_of h u.taken) p.ensures.pass.1,
+          ap (λ (u : Account). sum_of h u.taken) p.ensures.rule.1,
         )),
       ),
       (
@@ -53,6 +53,12 @@ loop-job-preserved g c = let inv = c.loop-job.invariant in
         c.pop-in-Some-2.ensures.capacity ∙ inv.6.2,
       ),
     )
+
+pub another-pass-requires-clause-queue : goal.another-pass-requires-clause-queue
+another-pass-requires-clause-queue g c = c.loop-job.invariant.0.0
+
+pub another-pass-requires-clause-rule : goal.another-pass-requires-clause-rule
+another-pass-requires-clause-rule g c = forks _ _ c.loop-job.invariant.0.1
 
 pub loop-job-init : goal.loop-job-init
 loop-job-init g c = let none = c.requires.empty in
