@@ -5,7 +5,7 @@ use std::process::Abort;
 use std::test::Fail;
 use text_tokens::small::SmallNumber;
 use text_tokens::{Quoted, text_of};
-use text_tree::{ListBranch, Member, Node, ObjectBranch, Tree};
+use text_tree::{ListBranch, Member, Node, ObjectBranch, Parts, Tree};
 use uc_num::Decimal;
 
 const SEVEN: SmallNumber = SmallNumber {
@@ -57,14 +57,14 @@ fn tree_is(rt: &impl Abort, alloc: Global, tree: &Tree) -> Result<(), AllocError
 fn an_object_of_a_list_and_an_object(rt: HostRuntime) -> Result<(), Fail> {
     let bytes: &[u8] = b"{\"\\u0061\":[7,12345678901,null],\"b\":{}}";
     let nodes = vec![in rt.alloc();
-        Node::Object(2),
+        Node::Object(Parts { count: 2, nodes: 7 }),
         Node::Text(1),
-        Node::List(3),
+        Node::List(Parts { count: 3, nodes: 3 }),
         Node::Number(SEVEN),
         Node::LargeNumber(13),
         Node::Null,
         Node::Text(31),
-        Node::Object(0),
+        Node::Object(Parts { count: 0, nodes: 0 }),
     ]?;
     tree_is(&rt, rt.alloc(), &Tree { bytes, nodes })?;
     Ok(())

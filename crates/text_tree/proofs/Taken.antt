@@ -5,6 +5,7 @@ use Rattle.text_tree.proofs.Common.{first, firsts, text_in, pairs, values, value
 use Rattle.text_tree.proofs.Common.{view, views, member_view, member_views, Node, map_push, drop-drop}
 use Rattle.text_tokens.specs.Strings.{said}
 use Rattle.text_tree.specs.declared.branch.Branch.{Branch}
+use Rattle.text_tree.specs.declared.node.Parts.{Parts}
 use Rattle.text_tree.specs.declared.object.Member.{Member}
 use Rattle.text_tree.specs.declared.node.Node.TheVariants as nodes
 
@@ -75,15 +76,15 @@ next_member bytes seen new m rest between behind k i all pushed name value on pa
 
 -- ---- a value by its first node
 
-pub list_of : (bytes : List ℕ) (v : Value) (n : Node) (vs : List Value) (k : ℕ) → v ≡ value_of bytes n vs →
-    n ≡ nodes.List k → list_in v ≡ Some (firsts k vs)
-list_of bytes v n vs k says is =
-    ap list_in (says ∙ ap (λ (m : Node). value_of bytes m vs) is) ∙ ap Some (items_again (firsts k vs))
+pub list_of : (bytes : List ℕ) (v : Value) (n : Node) (vs : List Value) (p : Parts) → v ≡ value_of bytes n vs →
+    n ≡ nodes.List p → list_in v ≡ Some (firsts p.count vs)
+list_of bytes v n vs p says is =
+    ap list_in (says ∙ ap (λ (m : Node). value_of bytes m vs) is) ∙ ap Some (items_again (firsts p.count vs))
 
-pub object_of : (bytes : List ℕ) (v : Value) (n : Node) (vs : List Value) (k : ℕ) → v ≡ value_of bytes n vs →
-    n ≡ nodes.Object k → object_in v ≡ Some (pairs k vs)
-object_of bytes v n vs k says is =
-    ap object_in (says ∙ ap (λ (m : Node). value_of bytes m vs) is) ∙ ap Some (members_again (pairs k vs))
+pub object_of : (bytes : List ℕ) (v : Value) (n : Node) (vs : List Value) (p : Parts) → v ≡ value_of bytes n vs →
+    n ≡ nodes.Object p → object_in v ≡ Some (pairs p.count vs)
+object_of bytes v n vs p says is =
+    ap object_in (says ∙ ap (λ (m : Node). value_of bytes m vs) is) ∙ ap Some (members_again (pairs p.count vs))
 
 pub no_text : (bytes : List ℕ) (n : Node) (vs : List Value) → ((p : ℕ) → n ≡ nodes.Text p → ⊥) →
     text_in (value_of bytes n vs) ≡ []
@@ -92,5 +93,5 @@ no_text bytes (nodes.Flag b) vs not = refl
 no_text bytes (nodes.Number s) vs not = refl
 no_text bytes (nodes.LargeNumber p) vs not = refl
 no_text bytes (nodes.Text p) vs not = absurd (not p refl)
-no_text bytes (nodes.List k) vs not = refl
-no_text bytes (nodes.Object k) vs not = refl
+no_text bytes (nodes.List p) vs not = refl
+no_text bytes (nodes.Object p) vs not = refl

@@ -30,11 +30,11 @@ pairs zero vs = []
 pairs (suc k) vs =
     record { name = text_in (first vs); value = first (drop 1 vs) } ∷ pairs k (drop 2 vs)
 
--- how many of the values behind a node are its own
-abbrev pub parts : Node → ℕ
-parts (nodes.List k) = k
-parts (nodes.Object k) = k + k
-parts n = 0
+-- how many of the nodes behind a node are inside its value
+abbrev pub own : Node → ℕ
+own (nodes.List p) = p.nodes
+own (nodes.Object p) = p.nodes
+own n = 0
 
 -- the value of a node, with these values behind it
 abbrev pub value_of : List ℕ → Node → List Value → Value
@@ -43,10 +43,16 @@ value_of bytes (nodes.Flag b) vs = scalar (flag b)
 value_of bytes (nodes.Number s) vs = scalar (number (decimal_of s))
 value_of bytes (nodes.LargeNumber p) vs = scalar (number (decimal_in (number_at (drop p bytes)).0))
 value_of bytes (nodes.Text p) vs = scalar (text (said (drop (p + 1) bytes)))
-value_of bytes (nodes.List k) vs = list (items_of (firsts k vs))
-value_of bytes (nodes.Object k) vs = object (members_of (pairs k vs))
+value_of bytes (nodes.List p) vs = list (items_of (firsts p.count vs))
+value_of bytes (nodes.Object p) vs = object (members_of (pairs p.count vs))
 
--- the values of nodes, each behind the other
+-- The values of nodes, one after the other, where so many nodes are still to be passed that are
+-- inside the last one.
+abbrev pub values_from : ℕ → List ℕ → List Node → List Value
+values_from passing bytes [] = []
+values_from (suc passing) bytes (n ∷ ns) = values_from passing bytes ns
+values_from zero bytes (n ∷ ns) =
+    value_of bytes n (values_from 0 bytes ns) ∷ values_from (own n) bytes ns
+
 abbrev pub values : List ℕ → List Node → List Value
-values bytes [] = []
-values bytes (n ∷ ns) = value_of bytes n (values bytes ns) ∷ drop (parts n) (values bytes ns)
+values bytes ns = values_from 0 bytes ns

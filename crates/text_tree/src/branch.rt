@@ -49,6 +49,8 @@ impl<'a> Branch<'a> {
     }
 
     /// The number, where the value is one.
+    // Written out where it is called, so that no decimal of 32 bytes is handed on.
+    #[inline(always)]
     pub fn number(self) -> Option<Decimal>
         ensures { result ≡ number_in (view self.entry) }
     {
@@ -77,10 +79,10 @@ impl<'a> Branch<'a> {
     {
         let (node, behind) = self.split();
         match node {
-            Node::List(count) => Some(ListBranch {
+            Node::List(parts) => Some(ListBranch {
                 bytes: self.bytes,
                 nodes: behind,
-                count,
+                count: parts.count,
             }),
             _ => None,
         }
@@ -92,10 +94,10 @@ impl<'a> Branch<'a> {
     {
         let (node, behind) = self.split();
         match node {
-            Node::Object(count) => Some(ObjectBranch {
+            Node::Object(parts) => Some(ObjectBranch {
                 bytes: self.bytes,
                 nodes: behind,
-                count,
+                count: parts.count,
             }),
             _ => None,
         }

@@ -13,6 +13,6 @@ mod tree;
 
 pub use branch::Branch;
 pub use list::ListBranch;
-pub use node::Node;
+pub use node::{Node, Parts};
 pub use object::{Member, ObjectBranch};
 pub use tree::Tree;

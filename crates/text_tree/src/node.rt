@@ -1,8 +1,17 @@
 //! The nodes of values, in reading order.
-ghost use Rattle.std.specs.Prelude.{◌≡◌, ◌<◌, ◌^◌, List, ℕ, drop};
-ghost use Rattle.text_tree.specs.Nodes.{values, parts as parts_spec};
+ghost use Rattle.std.specs.Prelude.{◌≡◌, List, ℕ, drop};
+ghost use Rattle.text_tree.specs.Nodes.{values, own as own_spec};
 
 use text_tokens::small::SmallNumber;
+
+/// How much is inside a list or an object.
+#[derive(Clone, Copy)]
+pub struct Parts {
+    /// How many items or members it has.
+    pub count: u32,
+    /// How many nodes stand behind its own for them, with all that is inside them.
+    pub nodes: u32,
+}
 
 /// A value of a text without what is inside it.
 #[derive(Clone, Copy)]
@@ -15,37 +24,32 @@ pub enum Node {
     LargeNumber(u32),
     /// A string whose opening quote is this byte of the text.
     Text(u32),
-    /// So many values stand behind this node, one after the other.
-    List(u32),
-    /// So many names, each with its value behind it.
-    Object(u32),
+    /// Values that stand behind this node, one after the other.
+    List(Parts),
+    /// Names that stand behind this node, each with its value behind it.
+    Object(Parts),
 }
 
-/// How many of the values behind a node are its own.
-fn parts(node: Node) -> usize
-    ensures is { result ≡ parts_spec node }
-    ensures few { result < 2 ^ 33 }
+/// How many of the nodes behind a node are inside its value.
+fn own(node: Node) -> usize
+    ensures { result ≡ own_spec node }
 {
     match node {
-        Node::List(items) => items as usize,
-        Node::Object(members) => 2 * members as usize,
+        Node::List(parts) => parts.nodes as usize,
+        Node::Object(parts) => parts.nodes as usize,
         _ => 0,
     }
 }
 
-/// The nodes behind the first value, found by a walk over all of its own.
-fn walk_past(nodes: &[Node]) -> &[Node]
-    ensures { (bytes : List ℕ) → values bytes result.now ≡ drop 1 (values bytes nodes.now) }
+/// The nodes behind so many, and none past the end.
+fn nodes_from(nodes: &[Node], count: usize) -> &[Node]
+    ensures { result.now ≡ drop count nodes.now }
 {
-    let end = nodes.len();
-    let mut pending: usize = 1;
-    for (place, node) in nodes.iter().enumerate() {
-        if pending == 0 {
-            return &nodes[place..];
-        }
-        pending = (pending - 1).saturating_add(parts(*node));
+    if count < nodes.len() {
+        &nodes[count..]
+    } else {
+        &nodes[nodes.len()..]
     }
-    &nodes[end..]
 }
 
 /// The nodes behind the first value, and none where there is none.
@@ -55,10 +59,11 @@ pub fn skip(nodes: &[Node]) -> &[Node]
 {
     match nodes {
         [node, behind @ ..] => {
-            if parts(*node) == 0 {
+            let inside = own(*node);
+            if inside == 0 {
                 behind
             } else {
-                walk_past(nodes)
+                nodes_from(behind, inside)
             }
         }
         [] => nodes,

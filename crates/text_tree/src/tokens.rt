@@ -19,6 +19,8 @@ fn rest_from(bytes: &[u8], offset: usize) -> &[u8]
 }
 
 /// The number that begins at a byte, and 0 where none does.
+// A call of its own, so that the way of small numbers stays short.
+#[inline(never)]
 pub fn number_from(bytes: &[u8], offset: u32) -> Decimal
     requires { length bytes.now < 2 ^ 30 }
     ensures { result ≡ decimal_in (number_at (drop offset bytes.now)).0 }

@@ -4,8 +4,8 @@ pub use Rattle.std.proofs.Common.{false, cond, ◌⊎◌, inl, inr, [], ◌∷�
 pub use Rattle.std.proofs.Common.{true≢false, Option, Some, None, rules, not, ◌||◌, bytes_eq, get_or, ap₂, Vec}
 pub use Rattle.std.proofs.Common.{append_assoc, Global, take, drop, set, map}
 pub use Rattle.std.proofs.lemmas.Bool.{cases_lt}
-pub use Rattle.std.proofs.lemmas.List.{append-nil, length-append, get_or_append_left, map_push, take_more, take_all}
-pub use Rattle.std.proofs.lemmas.List.{length-map}
+pub use Rattle.std.proofs.lemmas.List.{append-nil, length-append, length-set, get_or_append_left, map_push}
+pub use Rattle.std.proofs.lemmas.List.{length-map, take_more, take_all}
 pub use Rattle.std.proofs.lemmas.Result.{err_from_is_err_and}
 pub use Rattle.std.specs.Prelude.{IfOk, Contains, AllPairs, vec_len}
 pub use Rattle.text_tokens.specs.Ahead.{rest, ahead}
@@ -38,10 +38,10 @@ pub use Rattle.uc_text.specs.declared.fault.TextCode.TheVariants.{NotJson, Numbe
 pub use Rattle.uc_text.specs.declared.fault.TextError.{TextError}
 pub use Rattle.uc_text.specs.declared.fault.TextFault.{TextFault}
 pub use Rattle.text_tokens.specs.Stands.{StandsAt, number_run}
-pub use Rattle.text_tree.specs.Nodes.{first, firsts, pairs, values}
+pub use Rattle.text_tree.specs.Nodes.{first, firsts, pairs, own, value_of, values, values_from}
 pub use Rattle.text_tree.specs.declared.node.Node.{Node}
 pub use Rattle.text_tree.specs.declared.node.Node.TheVariants.{Text as TextNode, List as ListNode, Object as ObjectNode}
-pub use Rattle.text_tree.specs.declared.node.Node.TheVariants.{Number as NumberNode}
+pub use Rattle.text_tree.specs.declared.node.Node.TheVariants.{Number as NumberNode, Null as NullNode}
 pub use Rattle.text_tree.specs.declared.tree.Tree.{Tree}
 pub use Rattle.text_tokens.specs.declared.quoted.Quoted.{Quoted}
 pub use Rattle.text_tokens.specs.Decimals.{decimal_in}

@@ -10,9 +10,10 @@ pub use Rattle.uc_text.proofs.FirstDoubles.{least_all, stands_in}
 pub use Rattle.uc_text.proofs.MemberSteps.{InMembers, members_begin, members_empty, members_go_on, members_end}
 pub use Rattle.uc_text.proofs.MemberSteps.{name_stops, double_stops, colon_stops, value_stops, member_stops_behind}
 pub use Rattle.uc_text.proofs.OtherTokens.{not_end, not_end_comma, passes_on, if_fault_then, not_close_list}
+pub use Rattle.uc_text.proofs.OtherTokens.{not_end_colon, not_end_close_list, not_end_close_object}
 pub use Rattle.uc_text.proofs.OtherTokens.{not_close_object, not_comma, not_colon, not_text, not_start}
 pub use Rattle.uc_text.proofs.Steps.{InItems, items_begin, items_empty, items_end, items_stop, items_stop_behind}
 pub use Rattle.uc_text.proofs.Steps.{one_more, at_next, read_first}
 pub use Rattle.uc_text.proofs.Uniqueness.{one_value, text_or_fault, one_fault}
 pub use Rattle.uc_text.proofs.Nodes.{adds_none, adds_one, adds_then, adds_anew, says_list, says_object, adds_member}
-pub use Rattle.uc_text.proofs.Nodes.{says_whole}
+pub use Rattle.uc_text.proofs.Nodes.{says_whole, one_node}

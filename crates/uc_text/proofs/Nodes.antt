@@ -1,8 +1,8 @@
 -- What nodes say that were put behind others.
-use Rattle.uc_text.proofs.Common.{◌≡◌, ℕ, suc, ◌+◌, List, [], ◌∷◌, ◌++◌, length, set, drop, refl, sym, ap, subst, ◌∙◌}
-use Rattle.uc_text.proofs.Common.{arith, append_assoc, append-nil, Value, scalar, text, list, object, Pair, items_of}
-use Rattle.uc_text.proofs.Common.{members_of, Adds, IsOne, in_turn, Node, ListNode, ObjectNode, first, firsts, pairs}
-use Rattle.uc_text.proofs.Common.{values}
+use Rattle.uc_text.proofs.Common.{◌≡◌, ℕ, ◌+◌, List, [], ◌∷◌, ◌++◌, length, set, refl, sym, ap, ap₂, subst, ◌∙◌}
+use Rattle.uc_text.proofs.Common.{arith, append_assoc, append-nil, length-append, Value, scalar, text, list, object}
+use Rattle.uc_text.proofs.Common.{Pair, items_of, members_of, Adds, in_turn, IsOne, Node, first, firsts, pairs, own}
+use Rattle.uc_text.proofs.Common.{value_of, values, values_from}
 
 pub adds_none : (bytes : List ℕ) (ns : List Node) → Adds bytes ns ns []
 adds_none bytes ns = record { block = []; parts = sym (append-nil ns); say = λ more. refl }
@@ -26,56 +26,55 @@ firsts_all : (vs others : List Value) → firsts (length vs) (vs ++ others) ≡ 
 firsts_all [] others = refl
 firsts_all (v ∷ vs) others = ap (λ (us : List Value). v ∷ us) (firsts_all vs others)
 
-drop_firsts : (vs others : List Value) → drop (length vs) (vs ++ others) ≡ others
-drop_firsts [] others = refl
-drop_firsts (v ∷ vs) others = drop_firsts vs others
-
 pairs_all : (ps : List Pair) (others : List Value) → pairs (length ps) (in_turn ps ++ others) ≡ ps
 pairs_all [] others = refl
 pairs_all (p ∷ ps) others = ap (λ (qs : List Pair). p ∷ qs) (pairs_all ps others)
-
-drop_pairs : (ps : List Pair) (others : List Value) → drop (length ps + length ps) (in_turn ps ++ others) ≡ others
-drop_pairs [] others = refl
-drop_pairs (p ∷ ps) others =
-    let two : suc (length ps) + suc (length ps) ≡ suc (suc (length ps + length ps)) = omega arith in
-    ap (λ (n : ℕ). drop n (in_turn (p ∷ ps) ++ others)) two ∙ drop_pairs ps others
 
 -- the node at the seam of two lists, written anew
 set_seam : (old block : List Node) (n m : Node) → set (old ++ n ∷ block) (length old) m ≡ old ++ m ∷ block
 set_seam [] block n m = refl
 set_seam (o ∷ old) block n m = ap (λ (ns : List Node). o ∷ ns) (set_seam old block n m)
 
--- a node that was pushed, and then written anew where others stand behind it
+-- behind a block of nodes that are inside a value
+passed : (bytes : List ℕ) (block more : List Node) →
+    values_from (length block) bytes (block ++ more) ≡ values bytes more
+passed bytes [] more = refl
+passed bytes (n ∷ block) more = passed bytes block more
+
+-- a node that was pushed, and then written anew where those inside its value stand behind it
 pub adds_anew : (bytes : List ℕ) (old begun inside new : List Node) (n m : Node) (vs : List Value) (v : Value)
-    (at : ℕ) → begun ≡ old ++ n ∷ [] → at ≡ length old → new ≡ set inside at m
-    → ((ns : List Node) (others : List Value) → values bytes ns ≡ vs ++ others → values bytes (m ∷ ns) ≡ v ∷ others) →
+    (at : ℕ) → begun ≡ old ++ n ∷ [] → at ≡ length old → new ≡ set inside at m → own m + (at + 1) ≡ length inside
+    → ((ws others : List Value) → ws ≡ vs ++ others → value_of bytes m ws ≡ v) →
     Adds bytes begun inside vs → Adds bytes old new (v ∷ [])
-adds_anew bytes old begun inside new n m vs v at pushed here written one x =
+adds_anew bytes old begun inside new n m vs v at pushed here written all one x =
     let whole : inside ≡ old ++ n ∷ x.block = x.parts ∙ ap (λ (ns : List Node). ns ++ x.block) pushed ∙
     append_assoc old (n ∷ []) x.block in
+    let far : own m ≡ length x.block = omega (arith, here, all, ap length whole, length-append old (n ∷ x.block)) in
     record {
       block = m ∷ x.block;
       parts = written ∙ ap (λ (k : ℕ). set inside k m) here ∙ ap (λ (ns : List Node). set ns (length old) m) whole ∙
           set_seam old x.block n m;
-      say = λ more. one (x.block ++ more) (values bytes more) (x.say more);
+      say = λ more. ap₂ (λ (w : Value) (ws : List Value). w ∷ ws)
+          (one (values bytes (x.block ++ more)) (values bytes more) (x.say more))
+          (ap (λ (k : ℕ). values_from k bytes (x.block ++ more)) far ∙ passed bytes x.block more);
     }
 
-pub says_list : (bytes : List ℕ) (k : ℕ) (vs : List Value) → k ≡ length vs → (ns : List Node) (others : List Value) →
-    values bytes ns ≡ vs ++ others → values bytes (ListNode k ∷ ns) ≡ list (items_of vs) ∷ others
-says_list bytes k vs e ns others h =
-    ap (λ (n : ℕ). list (items_of (firsts n (values bytes ns))) ∷ drop n (values bytes ns)) e
-    ∙ ap (λ (ws : List Value). list (items_of (firsts (length vs) ws)) ∷ drop (length vs) ws) h
-    ∙ ap (λ (ws : List Value). list (items_of ws) ∷ drop (length vs) (vs ++ others)) (firsts_all vs others)
-    ∙ ap (λ (ws : List Value). list (items_of vs) ∷ ws) (drop_firsts vs others)
+pub says_list : (k : ℕ) (vs : List Value) → k ≡ length vs → (ws others : List Value) → ws ≡ vs ++ others →
+    list (items_of (firsts k ws)) ≡ list (items_of vs)
+says_list k vs e ws others h =
+    ap (λ (us : List Value). list (items_of us))
+    (ap (λ (n : ℕ). firsts n ws) e ∙ ap (firsts (length vs)) h ∙ firsts_all vs others)
 
-pub says_object : (bytes : List ℕ) (k : ℕ) (ps : List Pair) → k ≡ length ps → (ns : List Node) (others : List Value) →
-    values bytes ns ≡ in_turn ps ++ others → values bytes (ObjectNode k ∷ ns) ≡ object (members_of ps) ∷ others
-says_object bytes k ps e ns others h =
-    ap (λ (n : ℕ). object (members_of (pairs n (values bytes ns))) ∷ drop (n + n) (values bytes ns)) e
-    ∙ ap (λ (ws : List Value). object (members_of (pairs (length ps) ws)) ∷ drop (length ps + length ps) ws) h
-    ∙ ap (λ (qs : List Pair). object (members_of qs) ∷ drop (length ps + length ps) (in_turn ps ++ others))
-    (pairs_all ps others)
-    ∙ ap (λ (ws : List Value). object (members_of ps) ∷ ws) (drop_pairs ps others)
+pub says_object : (k : ℕ) (ps : List Pair) → k ≡ length ps → (ws others : List Value) → ws ≡ in_turn ps ++ others →
+    object (members_of (pairs k ws)) ≡ object (members_of ps)
+says_object k ps e ws others h =
+    ap (λ (qs : List Pair). object (members_of qs))
+    (ap (λ (n : ℕ). pairs n ws) e ∙ ap (pairs (length ps)) h ∙ pairs_all ps others)
+
+-- ---- how many nodes there are
+
+pub one_node : (old new : List Node) (n : Node) → new ≡ old ++ n ∷ [] → length new ≡ length old + 1
+one_node old new n e = omega (arith, ap length e, length-append old (n ∷ []))
 
 pub in_turn-push : (ps : List Pair) (p : Pair) →
     in_turn (ps ++ p ∷ []) ≡ in_turn ps ++ scalar (text p.name) ∷ p.value ∷ []

@@ -33,6 +33,18 @@ pub not_end_comma : (t : Token) → t ≡ Comma → token_of t ≢ grammar.end
 not_end_comma Comma e f = cc
 not_end_comma t e f = cc
 
+pub not_end_colon : (t : Token) → t ≡ Colon → token_of t ≢ grammar.end
+not_end_colon Colon e f = cc
+not_end_colon t e f = cc
+
+pub not_end_close_list : (t : Token) → t ≡ CloseList → token_of t ≢ grammar.end
+not_end_close_list CloseList e f = cc
+not_end_close_list t e f = cc
+
+pub not_end_close_object : (t : Token) → t ≡ CloseObject → token_of t ≢ grammar.end
+not_end_close_object CloseObject e f = cc
+not_end_close_object t e f = cc
+
 -- what holds at the fault goes on
 pub passes_on : (e : TextError) (P Q : TextFault → Type 0) → ((f : TextFault) → P f → Q f) → FaultIs e P → FaultIs e Q
 passes_on errors.Memory P Q g h = tt

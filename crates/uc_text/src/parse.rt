@@ -1,5 +1,5 @@
 //! From tokens to a tree.
-ghost use Rattle.std.specs.Prelude.{◌≡◌, ◌<◌, ◌≤◌, ◌+◌, ◌∷◌, ◌++◌, [], ℕ, List, length, IfOk, OnOk};
+ghost use Rattle.std.specs.Prelude.{◌≡◌, ◌<◌, ◌≤◌, ◌+◌, ◌^◌, ◌∷◌, ◌++◌, [], ℕ, List, length, IfOk, OnOk};
 ghost use Rattle.uc_text.specs.Known.{names_said, AreDifferent};
 ghost use Rattle.uc_text.specs.Later.{DoublesStop};
 ghost use Rattle.uc_text.specs.Grammar.{open_list, open_object};
@@ -24,7 +24,7 @@ use crate::fault::{TextCode, TextError, TextFault};
 use crate::names::Name;
 use std::alloc::{AllocError, Global};
 use text_tokens::{Lexeme, Reader, Token, Word};
-use text_tree::{Node, Tree};
+use text_tree::{Node, Parts, Tree};
 
 /// How many lists and objects may stand within one another.
 const LEVELS: u32 = 32;
@@ -53,6 +53,19 @@ fn word_node(word: Word<'_>, offset: u32) -> Result<Node, TextError>
     }
 }
 
+/// The parts of the node at an index, where all nodes behind it are inside its value.
+fn parts_of(count: u32, at: usize, nodes: usize) -> Parts
+    requires behind { at < nodes }
+    requires few { nodes ≤ at + 2 ^ 30 }
+    ensures count { result.count ≡ count }
+    ensures nodes { result.nodes + (at + 1) ≡ nodes }
+{
+    Parts {
+        count,
+        nodes: (nodes - at - 1) as u32,
+    }
+}
+
 /// The value that begins with a token, where so many levels are left.
 #[cycle(read)]
 fn value<'a>(
@@ -71,6 +84,8 @@ fn value<'a>(
         → NextIs ts (seen first.entry) (rest reader.old)
         → StuckAt left [] ts f) }
     ensures ahead { OnOk result (ahead reader.new ≤ ahead reader.old) }
+    ensures fewer { OnOk result (length nodes.new.items + ahead reader.new
+        ≤ length nodes.old.items + ahead reader.old + 1) }
     ensures same { OnOk result (reader.new.bytes.now ≡ reader.old.bytes.now) }
 {
     match first.token {
@@ -84,9 +99,10 @@ fn value<'a>(
                 return Err(fault(TextCode::TooDeep, first.offset));
             }
             let at = nodes.len();
-            nodes.push(Node::List(0))?;
+            // (it keeps the place of the list's node)
+            nodes.push(Node::Null)?;
             let count = items(alloc, reader, left, nodes)?;
-            nodes[at] = Node::List(count);
+            nodes[at] = Node::List(parts_of(count, at, nodes.len()));
             Ok(())
         }
         Token::OpenObject => {
@@ -94,9 +110,10 @@ fn value<'a>(
                 return Err(fault(TextCode::TooDeep, first.offset));
             }
             let at = nodes.len();
-            nodes.push(Node::Object(0))?;
+            // (it keeps the place of the object's node)
+            nodes.push(Node::Null)?;
             let count = members(alloc, reader, left, nodes)?;
-            nodes[at] = Node::Object(count);
+            nodes[at] = Node::Object(parts_of(count, at, nodes.len()));
             Ok(())
         }
         _ => Err(fault(TextCode::NotJson, first.offset)),
@@ -110,6 +127,8 @@ fn pass_numbers(reader: &mut Reader<'_>, nodes: &mut Vec<Node>) -> Result<u32, A
         × ((m : ℕ) (all : List Lexed) (vs : List Value) → AtItem m all vs (rest reader.old)
         → AtItem m all (vs ++ us) (rest reader.new))) }
     ensures few { IfOk result (λ count. count + ahead reader.new ≤ ahead reader.old) }
+    ensures fewer { OnOk result (length nodes.new.items + ahead reader.new
+        ≤ length nodes.old.items + ahead reader.old) }
     ensures same { reader.new.bytes.now ≡ reader.old.bytes.now }
 {
     let mut count = 0;
@@ -136,6 +155,8 @@ fn items<'a>(
         × Adds reader.old.bytes.now nodes.old.items nodes.new.items vs) }
     ensures fault { IfFault result (λ f. StuckAt left (open_list ∷ []) (rest reader.old) f) }
     ensures ahead { OnOk result (ahead reader.new ≤ ahead reader.old) }
+    ensures fewer { OnOk result (length nodes.new.items + ahead reader.new
+        ≤ length nodes.old.items + ahead reader.old) }
     ensures same { OnOk result (reader.new.bytes.now ≡ reader.old.bytes.now) }
 {
     let mut count = 0;
@@ -175,6 +196,8 @@ fn members<'a>(
         × Adds reader.old.bytes.now nodes.old.items nodes.new.items (in_turn ps)) }
     ensures fault { IfFault result (λ f. StuckAt left (open_object ∷ []) (rest reader.old) f) }
     ensures ahead { OnOk result (ahead reader.new ≤ ahead reader.old) }
+    ensures fewer { OnOk result (length nodes.new.items + ahead reader.new
+        ≤ length nodes.old.items + ahead reader.old) }
     ensures same { OnOk result (reader.new.bytes.now ≡ reader.old.bytes.now) }
 {
     let mut names = Vec::new(alloc);
@@ -205,6 +228,8 @@ fn noted_members<'a>(
         → StuckAt left (open_object ∷ []) (rest reader.old) f) }
     ensures doubles { DoublesStop left (rest reader.old) names.new.items }
     ensures ahead { OnOk result (ahead reader.new ≤ ahead reader.old) }
+    ensures fewer { OnOk result (length nodes.new.items + ahead reader.new
+        ≤ length nodes.old.items + ahead reader.old) }
     ensures same { OnOk result (reader.new.bytes.now ≡ reader.old.bytes.now) }
 {
     let mut count = 0;

@@ -1,16 +1,17 @@
 use Rattle.uc_text.proofs.Common.{◌≡◌, ℕ, ◌++◌, ◌∷◌, [], List, refl, sym, ap, subst, ◌∙◌, arith, err_from_is_err_and}
-use Rattle.uc_text.proofs.Common.{length-append, Value, scalar, text, list, object, said, names_said, AreDifferent}
-use Rattle.uc_text.proofs.Common.{IsFirst, Name, Token, open_list, open_object, items_of, members_of, names}
-use Rattle.uc_text.proofs.Common.{DoublesStop, Adds, IsStuck, levels, Lexed, NotJson, TooDeep, AtItem, NextIs, seen}
-use Rattle.uc_text.proofs.Common.{StuckAt, FaultIs, rest, token_of, scalar_of, TextError, StandsAt, in_turn, ListNode}
-use Rattle.uc_text.proofs.Common.{ObjectNode, TextNode}
+use Rattle.uc_text.proofs.Common.{◌+◌, length, length-append, length-set, Value, scalar, text, list, object, said}
+use Rattle.uc_text.proofs.Common.{AreDifferent, IsFirst, Name, Token, open_list, open_object, items_of, members_of}
+use Rattle.uc_text.proofs.Common.{names, DoublesStop, Adds, IsStuck, levels, Lexed, NotJson, TooDeep, AtItem, NextIs}
+use Rattle.uc_text.proofs.Common.{seen, StuckAt, FaultIs, rest, token_of, scalar_of, TextError, StandsAt, in_turn}
+use Rattle.uc_text.proofs.Common.{names_said, ListNode, ObjectNode, TextNode, NullNode}
 use Rattle.uc_text.proofs.Words.{word_stops, text_node}
 use Rattle.uc_text.proofs.Lemmas.{not_close_list, not_close_object, not_comma, not_colon, not_text, not_start}
 use Rattle.uc_text.proofs.Lemmas.{passes_on, if_fault_then, items_begin, items_empty, at_next, read_first, items_end}
 use Rattle.uc_text.proofs.Lemmas.{items_stop, items_stop_behind, members_begin, members_empty, members_go_on}
 use Rattle.uc_text.proofs.Lemmas.{members_end, name_stops, colon_stops, value_stops, member_stops_behind, adds_none}
 use Rattle.uc_text.proofs.Lemmas.{adds_one, adds_then, adds_anew, says_list, says_object, adds_member, not_end_comma}
-use Rattle.uc_text.proofs.Lemmas.{split_pushed, after_push, doubles_none, doubles_push, all_different}
+use Rattle.uc_text.proofs.Lemmas.{split_pushed, after_push, doubles_none, doubles_push, all_different, one_node}
+use Rattle.uc_text.proofs.Lemmas.{not_end_colon, not_end_close_list, not_end_close_object}
 use Rattle.uc_text.proofs.Objects.{of_member, names_push}
 use Rattle.uc_text.proofs.ValueSteps as first
 use Rattle.uc_text.proofs.parse.+read.Goals as goal
@@ -43,6 +44,7 @@ items-items-init t c = record {
       (sym c.next-first.ensures.same) c.next-first.ensures.stands;
   same = c.next-first.ensures.same;
   few = omega (arith, c.next-first.ensures.ahead);
+  fewer = omega (arith, c.next-first.ensures.ahead);
   room = omega arith;
 }
 
@@ -56,6 +58,7 @@ items-returns-in_err-value t c =
           (λ f s. items_stop c.args.left (rest c.args.reader.now) i.0 (seen c.items.first) (rest c.items.reader) f
           c.items.invariant.room i.1 (s i.1.ahead i.1.next)) c.in_err-value.ensures.fault;
       ahead = tt;
+      fewer = tt;
       same = tt;
     })
 
@@ -99,6 +102,14 @@ items-items-preserved t c =
         c.in_ok-count-in-Comma.ensures.few,
         c.next-first-in-Comma.ensures.ahead,
       );
+      fewer = omega (
+        arith,
+        c.items.invariant.fewer,
+        c.in_ok-value.ensures.fewer,
+        c.next-behind.ensures.less (λ e. not_end_comma c.next-behind.result.token c.in-Comma.is e),
+        c.in_ok-count-in-Comma.ensures.fewer,
+        c.next-first-in-Comma.ensures.ahead,
+      );
       room = c.items.invariant.room;
     }
 
@@ -120,6 +131,13 @@ items-returns-in-CloseList-token t c =
       );
       fault = tt;
       ahead = omega (arith, c.next-behind.ensures.ahead, c.in_ok-value.ensures.ahead, c.items.invariant.few);
+      fewer = omega (
+        arith,
+        c.items.invariant.fewer,
+        c.in_ok-value.ensures.fewer,
+        c.next-behind.ensures.less
+            (λ e. not_end_close_list c.next-behind.result.token c.in-CloseList-token.is e),
+      );
       same = c.next-behind.ensures.same ∙ c.in_ok-value.ensures.same ∙ c.items.invariant.same;
     }
 
@@ -137,6 +155,7 @@ items-returns-in_default-token t c =
           (not_comma c.next-behind.result.token c.in_default-token.not-Comma)
           (not_close_list c.next-behind.result.token c.in_default-token.not-CloseList) refl refl);
       ahead = tt;
+      fewer = tt;
       same = tt;
     }
 
@@ -173,6 +192,7 @@ noted_members-members-init t c = record {
       (sym c.next-first.ensures.same) c.next-first.ensures.stands;
   same = c.next-first.ensures.same;
   few = omega (arith, c.next-first.ensures.ahead);
+  fewer = omega (arith, c.next-first.ensures.ahead);
   room = c.requires.left;
 }
 
@@ -188,6 +208,7 @@ noted_members-returns-in_default-token t c =
           (not_text c.members.first.token c.in_default-token.not-Text) refl refl);
       doubles = c.members.invariant.doubles;
       ahead = tt;
+      fewer = tt;
       same = tt;
     }
 
@@ -217,6 +238,7 @@ noted_members-returns-in_default-token-2 t c =
           (seen c.members.first) (rest c.members.reader) k c.in_ok-push.ensures.items c.members.invariant.room
           c.members.invariant.doubles i.4 i.1 (ap token_of c.in-Text.is) refl refl;
       ahead = tt;
+      fewer = tt;
       same = tt;
     }
 
@@ -238,6 +260,7 @@ noted_members-returns-in_err-value t c =
           (seen c.members.first) (rest c.members.reader) k c.in_ok-push.ensures.items c.members.invariant.room
           c.members.invariant.doubles i.4 i.1 (ap token_of c.in-Text.is) refl refl;
       ahead = tt;
+      fewer = tt;
       same = tt;
     })
 
@@ -293,6 +316,17 @@ noted_members-members-preserved t c =
             (λ e. not_end_comma c.next-behind.result.token c.in-Comma.is e),
         c.next-first-in-Comma.ensures.ahead,
       );
+      fewer = omega (
+        arith,
+        c.members.invariant.fewer,
+        one_node c.members.nodes.items c.push-in-members.new.self.items _ c.in_ok-push-2.ensures.items,
+        c.next-between.ensures.less (λ e. not_end_colon c.next-between.result.token c.in-Colon.is e),
+        c.next-start.ensures.ahead,
+        c.in_ok-value.ensures.fewer,
+        c.next-behind.ensures.less
+            (λ e. not_end_comma c.next-behind.result.token c.in-Comma.is e),
+        c.next-first-in-Comma.ensures.ahead,
+      );
       room = c.members.invariant.room;
     }
 
@@ -342,6 +376,16 @@ noted_members-returns-in-CloseObject-token t c =
         c.in_ok-value.ensures.ahead,
         c.next-behind.ensures.ahead,
       );
+      fewer = omega (
+        arith,
+        c.members.invariant.fewer,
+        one_node c.members.nodes.items c.push-in-members.new.self.items _ c.in_ok-push-2.ensures.items,
+        c.next-between.ensures.less (λ e. not_end_colon c.next-between.result.token c.in-Colon.is e),
+        c.next-start.ensures.ahead,
+        c.in_ok-value.ensures.fewer,
+        c.next-behind.ensures.less
+            (λ e. not_end_close_object c.next-behind.result.token c.in-CloseObject-token.is e),
+      );
       same = behind;
     }
 
@@ -367,6 +411,7 @@ noted_members-returns-in_default-token-3 t c =
           (seen c.members.first) (rest c.members.reader) k c.in_ok-push.ensures.items c.members.invariant.room
           c.members.invariant.doubles i.4 i.1 (ap token_of c.in-Text.is) refl refl;
       ahead = tt;
+      fewer = tt;
       same = tt;
     }
 
@@ -419,29 +464,60 @@ pub value-returns-in_ok-count-in-OpenList-clause-ok : goal.value-returns-in_ok-c
 value-returns-in_ok-count-in-OpenList-clause-ok t c = λ ts n.
     let bytes = c.args.reader.now.bytes.now in
     let r = c.in_ok-count-in-OpenList.ensures.ok in
-    let count = c.in_ok-count-in-OpenList.count in (
+    let parts = c.parts_of.result in
+    let all : parts.nodes + (c.len-at.result + 1) ≡ length c.items.new.nodes.items =
+    omega (arith, c.parts_of.ensures.nodes, c.len.ensures, c.items.new.nodes.ok.0) in (
       list (items_of r.0),
       first.reads_list c.args.left ts (seen c.args.first) (rest c.args.reader.now) r.0 (rest c.items.new.reader)
           (omega (arith, c.if-left-eq0.false)) n (ap token_of c.in-OpenList.is) r.2,
-      adds_anew bytes c.args.nodes.now.items c.push-in-OpenList.new.self.items c.items.new.nodes.items _ (ListNode 0)
-          (ListNode count) r.0 (list (items_of r.0)) c.len-at.result c.in_ok-push-in-OpenList.ensures.items
-          (omega (arith, c.len-at.ensures, c.args.nodes.now.ok.0)) refl (says_list bytes count r.0 r.1) r.3,
+      adds_anew bytes c.args.nodes.now.items c.push-in-OpenList.new.self.items c.items.new.nodes.items _ NullNode
+          (ListNode parts) r.0 (list (items_of r.0)) c.len-at.result c.in_ok-push-in-OpenList.ensures.items
+          (omega (arith, c.len-at.ensures, c.args.nodes.now.ok.0)) refl
+          all (says_list parts.count r.0 (c.parts_of.ensures.count ∙ r.1)) r.3,
+    )
+
+pub value-returns-in_ok-count-in-OpenList-clause-fewer : goal.value-returns-in_ok-count-in-OpenList-clause-fewer
+value-returns-in_ok-count-in-OpenList-clause-fewer t c =
+    omega (
+      arith,
+      c.in_ok-count-in-OpenList.ensures.fewer,
+      one_node c.args.nodes.now.items c.push-in-OpenList.new.self.items _ c.in_ok-push-in-OpenList.ensures.items,
+      length-set c.items.new.nodes.items c.len-at.result (ListNode c.parts_of.result),
     )
 
 pub value-returns-in_ok-count-in-OpenObject-clause-ok : goal.value-returns-in_ok-count-in-OpenObject-clause-ok
 value-returns-in_ok-count-in-OpenObject-clause-ok t c = λ ts n.
     let bytes = c.args.reader.now.bytes.now in
     let r = c.in_ok-count-in-OpenObject.ensures.ok in
-    let count = c.in_ok-count-in-OpenObject.count in (
+    let parts = c.parts_of-in-OpenObject.result in
+    let all : parts.nodes + (c.len-at-in-OpenObject.result + 1) ≡ length c.members.new.nodes.items =
+    omega (arith, c.parts_of-in-OpenObject.ensures.nodes, c.len-in-OpenObject.ensures, c.members.new.nodes.ok.0) in (
       object (members_of r.0),
       first.reads_object c.args.left ts (seen c.args.first) (rest c.args.reader.now) r.0 (rest c.members.new.reader)
           (omega (arith, c.if-left-eq0-2.false)) n (ap token_of c.in-OpenObject.is) r.2,
-      adds_anew bytes c.args.nodes.now.items c.push-in-OpenObject.new.self.items c.members.new.nodes.items _
-          (ObjectNode 0) (ObjectNode count) (in_turn r.0) (object (members_of r.0)) c.len-at-in-OpenObject.result
+      adds_anew bytes c.args.nodes.now.items c.push-in-OpenObject.new.self.items c.members.new.nodes.items _ NullNode
+          (ObjectNode parts) (in_turn r.0) (object (members_of r.0)) c.len-at-in-OpenObject.result
           c.in_ok-push-in-OpenObject.ensures.items
-          (omega (arith, c.len-at-in-OpenObject.ensures, c.args.nodes.now.ok.0)) refl (says_object bytes count r.0 r.1)
-          r.3,
+          (omega (arith, c.len-at-in-OpenObject.ensures, c.args.nodes.now.ok.0)) refl
+          all (says_object parts.count r.0 (c.parts_of-in-OpenObject.ensures.count ∙ r.1)) r.3,
     )
+
+pub value-returns-in_ok-count-in-OpenObject-clause-fewer : goal.value-returns-in_ok-count-in-OpenObject-clause-fewer
+value-returns-in_ok-count-in-OpenObject-clause-fewer t c =
+    omega (
+      arith,
+      c.in_ok-count-in-OpenObject.ensures.fewer,
+      one_node c.args.nodes.now.items c.push-in-OpenObject.new.self.items _ c.in_ok-push-in-OpenObject.ensures.items,
+      length-set c.members.new.nodes.items c.len-at-in-OpenObject.result (ObjectNode c.parts_of-in-OpenObject.result),
+    )
+
+pub value-returns-in_ok-push-in-Word-clause-fewer : goal.value-returns-in_ok-push-in-Word-clause-fewer
+value-returns-in_ok-push-in-Word-clause-fewer t c =
+    omega (arith, one_node c.args.nodes.now.items c.push.new.self.items _ c.in_ok-push-in-Word.ensures.items)
+
+pub value-returns-in_ok-push-in-Text-clause-fewer : goal.value-returns-in_ok-push-in-Text-clause-fewer
+value-returns-in_ok-push-in-Text-clause-fewer t c =
+    omega (arith, one_node c.args.nodes.now.items c.push-in-Text.new.self.items _ c.in_ok-push-in-Text.ensures.items)
 
 pub value-returns-then-left-eq0-clause-fault : goal.value-returns-then-left-eq0-clause-fault
 value-returns-then-left-eq0-clause-fault t c =
@@ -489,5 +565,6 @@ value-returns-in_default t c = record {
       (not_start c.args.first.token c.in_default.not-OpenList c.in_default.not-OpenObject c.in_default.not-Word
       c.in_default.not-Text)));
   ahead = tt;
+  fewer = tt;
   same = tt;
 }

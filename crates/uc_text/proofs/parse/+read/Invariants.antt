@@ -22,6 +22,7 @@ invariant-items-items l = record {
   stands : StandsAt l.reader.bytes.now l.first.offset l.first.token;
   same : l.reader.bytes.now ≡ l.fn.reader.bytes.now;
   few : l.count + ahead l.reader ≤ ahead l.fn.reader;
+  fewer : length l.nodes.items + ahead l.reader ≤ length l.fn.nodes.items + ahead l.fn.reader;
   room : 0 < l.left;
 }
 
@@ -37,6 +38,7 @@ invariant-noted_members-members l = record {
   stands : StandsAt l.reader.bytes.now l.first.offset l.first.token;
   same : l.reader.bytes.now ≡ l.fn.reader.bytes.now;
   few : l.count + ahead l.reader ≤ ahead l.fn.reader;
+  fewer : length l.nodes.items + ahead l.reader ≤ length l.fn.nodes.items + ahead l.fn.reader;
   room : 0 < l.left;
 }
 

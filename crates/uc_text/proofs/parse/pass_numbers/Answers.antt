@@ -1,6 +1,6 @@
 use Rattle.uc_text.proofs.Common.{◌++◌, ◌∷◌, [], List, refl, sym, subst, ◌∙◌, arith, append_assoc, append-nil}
 use Rattle.uc_text.proofs.Common.{length-append, rest, AtItem, decimal_of, Value, scalar, number, NumberNode}
-use Rattle.uc_text.proofs.Lemmas.{one_more, adds_none, adds_one, adds_then}
+use Rattle.uc_text.proofs.Lemmas.{one_more, adds_none, adds_one, adds_then, one_node}
 use Rattle.uc_text.proofs.parse.pass_numbers.Goals as goal
 
 pub numbers-init : goal.numbers-init
@@ -12,6 +12,7 @@ numbers-init c = record {
     λ m all vs i. subst (λ (us : List Value). AtItem m all us (rest c.args.reader.now)) (sym (append-nil vs)) i,
   );
   few = omega arith;
+  fewer = omega arith;
   same = refl;
 }
 
@@ -35,6 +36,12 @@ numbers-preserved c =
             c.in-Some.ensures.some tt),
       );
       few = omega (arith, c.numbers.invariant.few, c.in-Some.ensures.less);
+      fewer = omega (
+        arith,
+        c.numbers.invariant.fewer,
+        c.in-Some.ensures.less,
+        one_node c.numbers.nodes.items c.push.new.self.items _ c.in_ok-push.ensures.items,
+      );
       same = c.in-Some.ensures.same ∙ c.numbers.invariant.same;
     }
 

@@ -7,6 +7,7 @@ invariant-numbers l = record {
       × ((m : ℕ) (all : List Lexed) (vs : List Value) → AtItem m all vs (rest l.fn.reader) →
       AtItem m all (vs ++ us) (rest l.reader));
   few : l.count + ahead l.reader ≤ ahead l.fn.reader;
+  fewer : length l.nodes.items + ahead l.reader ≤ length l.fn.nodes.items + ahead l.fn.reader;
   same : l.reader.bytes.now ≡ l.fn.reader.bytes.now;
 }
 

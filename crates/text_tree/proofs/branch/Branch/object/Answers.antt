@@ -6,4 +6,4 @@ pub returns-in-Object : goal.returns-in-Object
 returns-in-Object c =
     let bytes = c.args.self.bytes.now in
     sym (object_of bytes (view c.args.self) c.split-node.result.0 (values bytes c.split-node.result.1.now)
-    c.in-Object.count c.split-node.ensures c.in-Object.is)
+    c.in-Object.parts c.split-node.ensures c.in-Object.is)
