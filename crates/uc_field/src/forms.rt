@@ -187,7 +187,10 @@ pub fn amount_under(
     ensures value { Gives (λ n. n) result
         (part at key.now (amount scale limit) (member_views members.now)) }
 {
-    read_amount(at, value_under(at, members, key)?, scale, limit)
+    match find(members, key) {
+        Some(value) => read_amount(at, value, scale, limit),
+        None => Err(at.stop(CaseCode::Missing)),
+    }
 }
 
 /// The periods under a key, which must be there, read as `read_time` does.
@@ -197,7 +200,10 @@ pub fn time_under(at: Site, members: &[Member<'_>], key: &str, limit: u64) -> Re
     ensures value { Gives (λ n. n) result
         (part at key.now (time_within limit) (member_views members.now)) }
 {
-    read_time(at, value_under(at, members, key)?, limit)
+    match find(members, key) {
+        Some(value) => read_time(at, value, limit),
+        None => Err(at.stop(CaseCode::Missing)),
+    }
 }
 
 /// The money under a key, which must be there, read as `read_cost` does.
@@ -205,5 +211,8 @@ pub fn cost_under(at: Site, members: &[Member<'_>], key: &str) -> Result<i64, Fi
     ensures bound { IfOk result (λ n. IsCost n) }
     ensures value { Gives (λ n. n) result (part at key.now cost (member_views members.now)) }
 {
-    read_cost(at, value_under(at, members, key)?)
+    match find(members, key) {
+        Some(value) => read_cost(at, value),
+        None => Err(at.stop(CaseCode::Missing)),
+    }
 }

@@ -10,7 +10,7 @@ ghost use Rattle.uc_field.specs.Sites.{key_of, field_at};
 ghost use Rattle.uc_field.specs.Forms.{keys, key, under, flag, power, time_within};
 
 use crate::fault::{Field, Site};
-use crate::forms::{FieldStop, read_flag, read_power, read_time, value_under};
+use crate::forms::{FieldStop, amount_under, read_flag, time_under, value_under};
 use text_tree::{Branch, Member};
 use uc_file::inside::find;
 
@@ -56,7 +56,7 @@ impl<'a> Keys<'a> {
         ensures value { Gives (λ n. n) result
             (key (keys self.now.at (member_views self.now.members.items)) field (power limit)) }
     {
-        read_power(self.at.field(field), self.value(field)?, limit)
+        amount_under(self.at.field(field), &self.members, field.key(), 3, limit)
     }
 
     /// The periods of a field, from 0 to the limit, which must be there.
@@ -67,6 +67,6 @@ impl<'a> Keys<'a> {
             (key (keys self.now.at (member_views self.now.members.items)) field
             (time_within limit)) }
     {
-        read_time(self.at.field(field), self.value(field)?, limit)
+        time_under(self.at.field(field), &self.members, field.key(), limit)
     }
 }
