@@ -1,5 +1,5 @@
 // A whole file, by reads at rising offsets.
-ghost use Rattle.std.specs.Prelude.{◌≡◌, ℕ, ◌+◌, ◌<◌, ◌≤◌, List, length, IfOk, IfSome, IsErrOf};
+ghost use Rattle.std.specs.Prelude.{◌≡◌, ℕ, ◌<◌, ◌≤◌, List, length, IfOk, IfSome, IsErrOf};
 ghost use Rattle.std.specs.Prelude.{vec_len};
 ghost use Rattle.hull_io.specs.Edge.{Rose};
 ghost use Rattle.hull_io.specs.declared.read.TheConstants.{PIECE};
