@@ -3,12 +3,14 @@ ghost use Rattle.std.specs.Prelude.{◌≡◌, ◌+◌, ◌*◌, ◌<◌, ◌≤
 ghost use Rattle.std.specs.Prelude.{OnOk, pos, unwrap_or};
 ghost use Rattle.std.specs.Option.{option_copied};
 ghost use Rattle.hull_words.specs.Asked.{asked, asked_from, check_asked, price_asked, names_from};
-ghost use Rattle.hull_words.specs.Asked.{price_from, settle_asked, settle_from, check_named};
+ghost use Rattle.hull_words.specs.Asked.{price_from, settle_asked, settle_from};
 ghost use Rattle.hull_words.specs.declared.defaults.TheConstants.{DEFAULT_RADIUS};
 ghost use Rattle.hull_words.specs.Texts.{takes_next};
 ghost use Rattle.hull_words.specs.Reading.{found_so_far, nothing, flag, option_step, plain_step};
 ghost use Rattle.hull_words.specs.Reading.{set_count, word_step, read_from, seen};
-ghost use Rattle.hull_words.specs.Words.{Gives, first_of, option_in, or_missing, texts, words_of};
+ghost use Rattle.hull_words.specs.Words.{Gives, fault, first_of, option_in, or_missing, texts, words_of};
+ghost use Rattle.hull_words.specs.declared.fault.WordCode.TheVariants.{MissingOption};
+ghost use Rattle.hull_words.specs.declared.fault.WordError.TheVariants.{Fault};
 
 use crate::command::{
     AuditWords, BoundWords, CertifyWords, CheckWords, Command, PriceWords, SettleWords, TryWords,
@@ -31,15 +33,16 @@ fn read_option<'a>(
     ensures { seen found_so_far result ≡ option_step (option_in command name.now)
         (option_copied value.entry) (found_so_far given.entry) }
 {
-    let option = command.option(name).ok_or(WordCode::UnknownOption)?;
+    let Some(option) = command.option(name) else {
+        return Err(WordCode::UnknownOption);
+    };
     if given.is_set(option) {
         return Err(WordCode::RepeatedOption);
     }
-    let text = value.ok_or(WordCode::NoValue)?;
-    if !is_value(text) {
-        return Err(WordCode::NoValue);
+    match value {
+        Some(text) if is_value(text) => given.set(option, text),
+        _ => Err(WordCode::NoValue),
     }
-    given.set(option, text)
 }
 
 /// Takes a word that is neither an option nor a value.
@@ -145,34 +148,26 @@ fn read_later<'a>(command: CommandKind, words: &'a [String]) -> Result<Given<'a>
     Ok(given)
 }
 
-/// The value, or that one is missing.
-fn required<T: Drop>(value: Option<T>, count: u32) -> Result<T, WordError>
-    ensures { Gives (λ x. x) result (or_missing value count) }
+/// That a value is missing, which is told at the number of words.
+fn missing(count: u32) -> WordError
+    ensures { result ≡ Fault (fault MissingOption count) }
 {
-    match value {
-        Some(value) => Ok(value),
-        None => Err(WordError::Fault(WordFault {
-            code: WordCode::MissingOption,
-            position: count,
-        })),
-    }
-}
-
-/// The names of the case and of the schedule.
-fn input_names<'a>(given: &Given<'a>, count: u32) -> Result<(&'a str, &'a str), WordError>
-    ensures { Gives (λ names. check_named names.0.now names.1.now) result
-        (or_missing (names_from (found_so_far given.now)) count) }
-{
-    let case_name = required(given.case_name, count)?;
-    let schedule_name = required(given.schedule_name, count)?;
-    Ok((case_name, schedule_name))
+    WordError::Fault(WordFault {
+        code: WordCode::MissingOption,
+        position: count,
+    })
 }
 
 // Here and below, what is missing is told before a name takes memory.
 fn check_words(alloc: Global, given: &Given, count: u32) -> Result<CheckWords, WordError>
     ensures { Gives check_asked result (or_missing (names_from (found_so_far given.now)) count) }
 {
-    let (case_name, schedule_name) = input_names(given, count)?;
+    let Some(case_name) = given.case_name else {
+        return Err(missing(count));
+    };
+    let Some(schedule_name) = given.schedule_name else {
+        return Err(missing(count));
+    };
     Ok(CheckWords {
         case_name: Name::copied(alloc, case_name)?,
         schedule_name: Name::copied(alloc, schedule_name)?,
@@ -206,8 +201,11 @@ fn try_command(given: &Given, count: u32) -> Result<Command, WordError>
     ensures { Gives asked result
         (or_missing (asked_from CommandKind.Try (found_so_far given.now)) count) }
 {
+    let Some(number) = given.number else {
+        return Err(missing(count));
+    };
     Ok(Command::Try(TryWords {
-        number: required(given.number, count)?,
+        number,
         proposals: given.proposals.unwrap_or(DEFAULT_PROPOSALS),
         workers: given.workers.unwrap_or(DEFAULT_WORKERS),
         ahead: given.ahead.unwrap_or(DEFAULT_AHEAD),
@@ -228,7 +226,9 @@ fn audit_command(alloc: Global, given: &Given, count: u32) -> Result<Command, Wo
     ensures { Gives asked result
         (or_missing (asked_from CommandKind.Audit (found_so_far given.now)) count) }
 {
-    let report_name = required(given.report_name, count)?;
+    let Some(report_name) = given.report_name else {
+        return Err(missing(count));
+    };
     let CheckWords {
         case_name,
         schedule_name,
@@ -244,7 +244,9 @@ fn audit_command(alloc: Global, given: &Given, count: u32) -> Result<Command, Wo
 fn settle_words(alloc: Global, given: &Given, count: u32) -> Result<SettleWords, WordError>
     ensures { Gives settle_asked result (or_missing (settle_from (found_so_far given.now)) count) }
 {
-    let prices_name = required(given.prices_name, count)?;
+    let Some(prices_name) = given.prices_name else {
+        return Err(missing(count));
+    };
     let CheckWords {
         case_name,
         schedule_name,
@@ -260,7 +262,9 @@ fn certify_command(alloc: Global, given: &Given, count: u32) -> Result<Command, 
     ensures { Gives asked result
         (or_missing (asked_from CommandKind.Certify (found_so_far given.now)) count) }
 {
-    let mixture_name = required(given.mixture_name, count)?;
+    let Some(mixture_name) = given.mixture_name else {
+        return Err(missing(count));
+    };
     Ok(Command::Certify(CertifyWords {
         names: settle_words(alloc, given, count)?,
         mixture_name: Name::copied(alloc, mixture_name)?,
