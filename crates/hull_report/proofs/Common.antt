@@ -7,9 +7,8 @@ pub use Rattle.std.proofs.lemmas.List.{length-map, get_or-map, take_all}
 pub use Rattle.std.proofs.lemmas.Option.{get_or_from_slice_get}
 pub use Rattle.std.specs.Int.{w128}
 pub use Rattle.std.specs.List.{flat_map}
-pub use Rattle.board_history.specs.Board.{Answer, Content, rules_of}
+pub use Rattle.board_history.specs.Board.{Content}
 pub use Rattle.board_history.specs.Calls.{own_rows}
-pub use Rattle.board_history.specs.Rounds.{posts, answer_at}
 pub use Rattle.hull_io.specs.Edge.{Gains, FallsShort, Writes}
 pub use Rattle.right_report.specs.Told.{IsTold}
 unfoldable pub use Rattle.hull_report.specs.BoundText.{bound_text}
@@ -25,11 +24,11 @@ unfoldable pub use Rattle.hull_report.specs.FaultLines.{
   entry_told,
 }
 pub use Rattle.right_report.specs.RightSide.{told_of}
-pub use Rattle.hull_report.specs.FixedText.{renewable_paid, PaidLine, paid_start, paid_line, thermal_paid, bids_paid}
+pub use Rattle.hull_report.specs.FixedText.{PaidLine, paid_start, paid_line}
 unfoldable pub use Rattle.hull_report.specs.FixedText.{sides_text, paid_text, sums_text}
 pub use Rattle.uc_model.specs.Data.{thermal_names, renewable_names, bid_names, NamedThermalUnit, NamedRenewableUnit}
 pub use Rattle.uc_model.specs.Data.{NamedBidUnit, Market, unit_count, AnyUnit, Thermal, Flat, Bid, units, unit_names}
-pub use Rattle.right_report.specs.RecordReport.{told_line, line_of, lines_from, chosen_of, value_of}
+pub use Rattle.right_report.specs.RecordReport.{line_of, lines_from, chosen_of, value_of}
 unfoldable pub use Rattle.right_report.specs.RecordReport.{report_of}
 pub use Rattle.hull_report.specs.TryText.{try_text}
 unfoldable pub use Rattle.hull_report.specs.TryText.{try_lines}
@@ -40,7 +39,6 @@ unfoldable pub use Rattle.report_form.specs.ReportText.{report_text}
 pub use Rattle.plain_lists.proofs.ListLaws.{flat_map_at, flat_map_up_to}
 pub use Rattle.uc_model.specs.PlainCases.{market_of, proposal_of, unit_of}
 pub use Rattle.uc_model.specs.PlainUnits.{named_thermal_of, named_renewable_of, named_bid_of, schedule_of}
-pub use Rattle.plain_lists.specs.Sums.{int_at}
 pub use Rattle.uplift_settle.specs.declared.settlement.Settlement.{Settlement}
 pub use Rattle.uplift_settle.specs.Settled.{Settled, settled_of}
 pub use Rattle.hull_report.specs.SettledText.{settled_line}

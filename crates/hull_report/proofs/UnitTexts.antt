@@ -5,6 +5,8 @@ use Rattle.hull_report.proofs.Common.{NamedThermalUnit, NamedRenewableUnit, Name
 use Rattle.hull_report.proofs.Common.{Market, units, unit_count, unit_names, thermal_names, renewable_names, bid_names}
 use Rattle.hull_report.proofs.Common.{lines_from, UnitLine, unit_text, thermal_text, renewable_text, bid_text}
 use Rattle.hull_report.proofs.Common.{market_of, named_thermal_of, named_renewable_of, named_bid_of}
+use Rattle.hull_report.proofs.Common.{take, Option, Result, IsErr, Gains, FallsShort, Writes, GainsAddUp}
+use Rattle.hull_report.proofs.RecordTexts.{writes_same, gains_at_item, exit_at_item}
 use Rattle.std.proofs.lemmas.List.Concat.{flat_map-append}
 use Rattle.plain_lists.proofs.ListLaws.{none_some, same_item}
 use Rattle.uc_model.specs.declared.cases.Case.{Case}
@@ -77,6 +79,13 @@ module _ {Line : Type 0} (text : AnyUnit → Line → List ℕ) (line : ℕ → 
       let here : k ≡ 0 + k = omega arith in
       subst (λ (n : Market). Stands (all_texts n) k x) same
       (text_stands 0 (units m) (unit_names m) k u name x a b (is ∙ ap (λ (j : ℕ). text u (line j name)) here))
+
+  -- the line of a unit, as it is written
+  pub line_stands : (m other : Market) → m ≡ other → (k : ℕ) (u : AnyUnit) (name : List ℕ) (l : Line) →
+      slice_get (units m) k ≡ Some u → slice_get (unit_names m) k ≡ Some name → l ≡ line k name →
+      Stands (all_texts other) k (text u l)
+  line_stands m other same k u name l a b is =
+      text_at m other same k u name (text u l) a b (λ i. text u (is i))
 
   module _ (m : Market) where
     abbrev thermals : List AnyUnit
@@ -164,6 +173,21 @@ pub units_told : (line : ℕ → List ℕ → UnitLine) (m : Market) → flat_ma
     ++ flat_map bid_text (lines_from line (length m.thermal + length m.flat) (bid_names m))
 units_told line m =
     told_by_kind unit_text line m thermal_text renewable_text bid_text (λ n l. refl) (λ n l. refl) (λ n l. refl)
+
+-- one line more, after those before it
+module _ {S : Type 0} {held : S → Option (List ℕ)} {faults : S → ℕ} {last : Option ℕ}
+    (law : GainsAddUp held faults last)
+    (texts : List (List ℕ)) (k : ℕ) (x : List ℕ) (at : Stands texts k x) where
+  pub line_gained : {old mid new : S} → Gains held faults mid new x →
+      Gains held faults old mid (flat_map (λ t. t) (take k texts)) →
+      Gains held faults old new (flat_map (λ t. t) (take (k + 1) texts))
+  line_gained q p = gains_at_item law (λ t. t) texts k x at.inside at.is q p
+
+  -- the exit of a `?`
+  pub line_cut : {E : Type 0} {old mid new : S} (whole : List ℕ) → flat_map (λ t. t) texts ≡ whole →
+      (r : Result (Unit {0}) E) → IsErr r → FallsShort held faults last mid new x →
+      Gains held faults old mid (flat_map (λ t. t) (take k texts)) → Writes held faults last old new r whole
+  line_cut whole told r e q p = writes_same told (exit_at_item law (λ t. t) texts k x r e at.inside at.is q p)
 
 -- how many units of each kind there are
 pub record HasCounts (case : Case) (m : Market) : Type 0 where

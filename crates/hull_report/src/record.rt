@@ -1,5 +1,5 @@
 //! The texts of a record: the report that `hull price` prints, and the lines of `hull try`.
-ghost use Rattle.std.specs.Prelude.{◌≡◌, ℕ, ◌+◌, ◌<◌, ◌≤◌, ◌-ℤ◌, ◌++◌, true, List, length};
+ghost use Rattle.std.specs.Prelude.{◌≡◌, ℕ, ◌+◌, ◌<◌, ◌≤◌, ◌++◌, true, List, length};
 ghost use Rattle.std.specs.List.{flat_map};
 ghost use Rattle.board_history.specs.Calls.{own_rows, has_finished};
 ghost use Rattle.hull_io.specs.Edge.{Writes};
@@ -8,8 +8,7 @@ ghost use Rattle.uc_model.specs.PlainUnits.{schedule_of};
 ghost use Rattle.plain_lists.specs.declared.limits.TheConstants.{MOST_PROPOSALS};
 ghost use Rattle.report_form.specs.ReportText.{rows_text, head_text, chosen_text, thermal_text};
 ghost use Rattle.report_form.specs.ReportText.{renewable_text, bid_text, report_text, owed_line};
-ghost use Rattle.right_report.specs.RecordReport.{line_of, lines_from, chosen_of, value_of};
-ghost use Rattle.right_report.specs.RecordReport.{report_of};
+ghost use Rattle.right_report.specs.RecordReport.{line_of, lines_from, report_of};
 ghost use Rattle.hull_report.specs.RecordText.{HasNumbers};
 ghost use Rattle.hull_report.specs.TryText.{try_text};
 
