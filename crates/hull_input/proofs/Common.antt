@@ -1,5 +1,6 @@
 -- The names that the proofs of this crate take from its specs and from other crates, passed on from one place.
-pub use Rattle.std.proofs.Common.{◌≡◌, ℕ, ℤ, List, ap, ◌∙◌, inl, inr, Option, Some, Result, Ok, Err, refl, ◌≤◌, ◌<◌}
+pub use Rattle.std.proofs.Common.{◌≡◌, ℕ, ℤ, List, ap, sym, subst, ◌∙◌, inl, inr, Option, Some, Result, Ok, Err, refl}
+pub use Rattle.std.proofs.Common.{◌≤◌, ◌<◌}
 pub use Rattle.std.proofs.Common.{Bool, true, false, [], length, arith, ◌+◌, replicate, None, rules}
 pub use Rattle.std.proofs.lemmas.Bool.{le-ltb, lt-ltb}
 pub use Rattle.std.proofs.lemmas.Int.{to_z-of_z}
@@ -7,7 +8,7 @@ pub use Rattle.std.proofs.lemmas.List.{length-replicate}
 pub use Rattle.std.proofs.lemmas.Result.{err_from_is_err_and}
 pub use Rattle.std.specs.Int.{w128}
 pub use Rattle.std.specs.Prelude.{IfSome, nat_lt, if◌then◌else◌}
-pub use Rattle.hull_input.specs.Answers.{IsFaultOf, HasRead, IsAnswer}
+pub use Rattle.hull_input.specs.Answers.{IsFaultOf, HasRead, HasReads, IsAnswer}
 pub use Rattle.hull_input.specs.Files.{case_and_schedule, with_report, with_prices, with_mixture, Reads, IsReadOf}
 pub use Rattle.hull_input.specs.Files.{AreReads}
 pub use Rattle.hull_input.specs.Planned.{planned_of, planned_run, PlannedCase}

@@ -1,7 +1,6 @@
 //! The files of a command: the case and its schedule, read and judged in the order of their
 //! refusals, a report, and prices.
-ghost use Rattle.std.specs.Prelude.{◌≡◌, ◌≤◌, ℕ, true, List, Option};
-ghost use Rattle.std.specs.Prelude.{Vec, length, vec_len, map, IfOk};
+ghost use Rattle.std.specs.Prelude.{◌≡◌, ◌≤◌, ℕ, Vec, length, vec_len, map, IfOk};
 ghost use Rattle.std.specs.Global.{Global};
 ghost use Rattle.uc_model.specs.Laws.{HasPlanShape};
 ghost use Rattle.uc_model.specs.PlainCases.{market_of, schedules_of};

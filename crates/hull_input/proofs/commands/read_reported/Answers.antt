@@ -1,6 +1,7 @@
-use Rattle.hull_input.proofs.Common.{arith, ◌∙◌, err_from_is_err_and, report_of, planned_of, IsInput, IsReported}
+use Rattle.hull_input.proofs.Common.{arith, ◌∙◌, report_of, planned_of, IsInput, IsReported, with_report}
+use Rattle.hull_input.specs.Answers.{IsReportedAnswer}
 use Rattle.hull_input.proofs.Lemmas.{report_refused, work_refused, unread, unread_is, report_added, are_report_added}
-use Rattle.hull_input.proofs.Lemmas.{refused_then}
+use Rattle.hull_input.proofs.Lemmas.{refused_then, fault_handed_on, are_named, read_named}
 use Rattle.hull_input.proofs.commands.read_reported.Goals as goal
 
 pub within_work-requires-clause-size : goal.within_work-requires-clause-size
@@ -17,63 +18,73 @@ pub returns-in_err-input-clause-answers : goal.returns-in_err-input-clause-answe
 returns-in_err-input-clause-answers g c =
     let words = c.args.words.now in
     let told = g.F.Shelf.told c.args.shelf.now in
-    let p = err_from_is_err_and c.from_residual.result c.from_residual.ensures.1 in
-    let h = rw (c.as_str-case_name.ensures, c.as_str-schedule_name.ensures) at c.in_err-input.ensures.answers in
+    let h = c.in_err-input.ensures.answers in
     let read = unread (told words.report_name.items) in
-    rw (p.1, p.2) (
-      report_added h.0 read,
-      are_report_added told g.F.Shelf.last _ _ _ words.case_name.items words.schedule_name.items words.report_name.items
-          h.0 read
-          c.in_err-input.ensures.shelf.later (λ any. omega arith) h.1 (unread_is (told words.report_name.items) _),
-      refused_then (IsInput h.0) (IsReported (report_added h.0 read)) _ h.2,
-    )
+    fault_handed_on g.F.Shelf.told g.F.Shelf.faults g.F.Shelf.last c.args.shelf.now c.read_input.new.shelf
+    (with_report words.case_name.items words.schedule_name.items words.report_name.items) IsReportedAnswer
+    c.from_residual.result c.in_err-input.field-0.0 c.from_residual.ensures.1 (report_added h.0 read)
+    (are_report_added told g.F.Shelf.last _ _ _ words.case_name.items words.schedule_name.items words.report_name.items
+    h.0 read c.in_err-input.ensures.shelf.later (λ any. omega arith)
+    (are_named g.F.Shelf.told g.F.Shelf.faults g.F.Shelf.last c.args.shelf.now c.read_input.new.shelf _ _ _ _
+    c.as_str-case_name.ensures c.as_str-schedule_name.ensures h.0 h.1)
+    (unread_is (told words.report_name.items) _))
+    (refused_then (IsInput h.0) (IsReported (report_added h.0 read)) _ h.2)
 
 pub returns-in_err-report-clause-answers : goal.returns-in_err-report-clause-answers
 returns-in_err-report-clause-answers g c =
     let words = c.args.words.now in
     let told = g.F.Shelf.told c.args.shelf.now in
-    let p = err_from_is_err_and c.from_residual-in_err-report.result c.from_residual-in_err-report.ensures.1 in
-    let h = rw (c.as_str-case_name.ensures, c.as_str-schedule_name.ensures) at c.in_ok-input.ensures.answers in
-    let k = rw (c.as_str-report_name.ensures, c.in_ok-input.ensures.shelf.told_same) at
-    c.in_err-report.ensures.answers in
-    rw (p.1, p.2) (
-      report_added h.0 k.0,
-      are_report_added told g.F.Shelf.last _ _ _ words.case_name.items words.schedule_name.items words.report_name.items
-          h.0 k.0
-          c.in_ok-input.ensures.shelf.later c.in_err-report.ensures.shelf.later h.1 k.1,
-      report_refused (report_added h.0 k.0) (planned_of c.in_ok-input.input) h.2 _ k.2,
-    )
+    let h = c.in_ok-input.ensures.answers in
+    let k = c.in_err-report.ensures.answers in
+    fault_handed_on g.F.Shelf.told g.F.Shelf.faults g.F.Shelf.last c.args.shelf.now c.read_report_file.new.shelf
+    (with_report words.case_name.items words.schedule_name.items words.report_name.items) IsReportedAnswer
+    c.from_residual-in_err-report.result c.in_err-report.field-0.0 c.from_residual-in_err-report.ensures.1
+    (report_added h.0 k.0)
+    (are_report_added told g.F.Shelf.last _ _ _ words.case_name.items words.schedule_name.items words.report_name.items
+    h.0 k.0 c.in_ok-input.ensures.shelf.later c.in_err-report.ensures.shelf.later
+    (are_named g.F.Shelf.told g.F.Shelf.faults g.F.Shelf.last c.args.shelf.now c.read_input.new.shelf _ _ _ _
+    c.as_str-case_name.ensures c.as_str-schedule_name.ensures h.0 h.1)
+    (read_named g.F.Shelf.told g.F.Shelf.faults g.F.Shelf.last c.read_input.new.shelf c.read_report_file.new.shelf
+    told _ _
+    c.as_str-report_name.ensures c.in_ok-input.ensures.shelf.told_same k.0 k.1))
+    (report_refused (report_added h.0 k.0) (planned_of c.in_ok-input.input) h.2 _ k.2)
 
 pub returns-in_err-terms-clause-answers : goal.returns-in_err-terms-clause-answers
 unfolding report_of
 returns-in_err-terms-clause-answers g c =
     let words = c.args.words.now in
     let told = g.F.Shelf.told c.args.shelf.now in
-    let p = err_from_is_err_and c.from_residual-in_err-terms.result c.from_residual-in_err-terms.ensures.1 in
-    let h = rw (c.as_str-case_name.ensures, c.as_str-schedule_name.ensures) at c.in_ok-input.ensures.answers in
-    let k = rw (c.as_str-report_name.ensures, c.in_ok-input.ensures.shelf.told_same) at
-    c.in_ok-report.ensures.answers in
-    rw (p.1, p.2) (
-      report_added h.0 k.0,
-      are_report_added told g.F.Shelf.last _ _ _ words.case_name.items words.schedule_name.items words.report_name.items
-          h.0 k.0
-          c.in_ok-input.ensures.shelf.later c.in_ok-report.ensures.shelf.later h.1 k.1,
-      work_refused (report_added h.0 k.0) (planned_of c.in_ok-input.input) h.2 (report_of c.in_ok-report.report) k.2 _
-          c.in_err-terms.ensures.answers,
-    )
+    let h = c.in_ok-input.ensures.answers in
+    let k = c.in_ok-report.ensures.answers in
+    fault_handed_on g.F.Shelf.told g.F.Shelf.faults g.F.Shelf.last c.args.shelf.now c.read_report_file.new.shelf
+    (with_report words.case_name.items words.schedule_name.items words.report_name.items) IsReportedAnswer
+    c.from_residual-in_err-terms.result c.in_err-terms.field-0.0 c.from_residual-in_err-terms.ensures.1
+    (report_added h.0 k.0)
+    (are_report_added told g.F.Shelf.last _ _ _ words.case_name.items words.schedule_name.items words.report_name.items
+    h.0 k.0 c.in_ok-input.ensures.shelf.later c.in_ok-report.ensures.shelf.later
+    (are_named g.F.Shelf.told g.F.Shelf.faults g.F.Shelf.last c.args.shelf.now c.read_input.new.shelf _ _ _ _
+    c.as_str-case_name.ensures c.as_str-schedule_name.ensures h.0 h.1)
+    (read_named g.F.Shelf.told g.F.Shelf.faults g.F.Shelf.last c.read_input.new.shelf c.read_report_file.new.shelf
+    told _ _
+    c.as_str-report_name.ensures c.in_ok-input.ensures.shelf.told_same k.0 k.1))
+    (work_refused (report_added h.0 k.0) (planned_of c.in_ok-input.input) h.2 (report_of c.in_ok-report.report) k.2 _
+    c.in_err-terms.ensures.answers)
 
 pub returns-clause-answers : goal.returns-clause-answers
 unfolding report_of
 returns-clause-answers g c =
     let words = c.args.words.now in
     let told = g.F.Shelf.told c.args.shelf.now in
-    let h = rw (c.as_str-case_name.ensures, c.as_str-schedule_name.ensures) at c.in_ok-input.ensures.answers in
-    let k = rw (c.as_str-report_name.ensures, c.in_ok-input.ensures.shelf.told_same) at
-    c.in_ok-report.ensures.answers in (
+    let h = c.in_ok-input.ensures.answers in
+    let k = c.in_ok-report.ensures.answers in (
       report_added h.0 k.0,
       are_report_added told g.F.Shelf.last _ _ _ words.case_name.items words.schedule_name.items words.report_name.items
-          h.0 k.0
-          c.in_ok-input.ensures.shelf.later c.in_ok-report.ensures.shelf.later h.1 k.1,
+          h.0 k.0 c.in_ok-input.ensures.shelf.later c.in_ok-report.ensures.shelf.later
+          (are_named g.F.Shelf.told g.F.Shelf.faults g.F.Shelf.last c.args.shelf.now c.read_input.new.shelf _ _ _ _
+          c.as_str-case_name.ensures c.as_str-schedule_name.ensures h.0 h.1)
+          (read_named g.F.Shelf.told g.F.Shelf.faults g.F.Shelf.last c.read_input.new.shelf
+          c.read_report_file.new.shelf told _ _
+          c.as_str-report_name.ensures c.in_ok-input.ensures.shelf.told_same k.0 k.1),
       (planned_of c.in_ok-input.input, h.2, k.2, c.in_ok-terms.ensures.answers),
     )
 
