@@ -15,13 +15,13 @@ pub use Rattle.hull_input.specs.Answers.{IsFaultOf}
 pub use Rattle.hull_input.specs.Sizes.{HasNumbers}
 pub use Rattle.hull_command.specs.Inputs.{try_asked, bound_asked, audit_asked, certify_asked}
 pub use Rattle.hull_command.specs.Rest.{Completes, IsPrepared, rest_with, nothing_read}
-pub use Rattle.hull_command.specs.Outcome.{IsReportText, IsBoundText, IsFixedText, Command, command_for, Ends}
+pub use Rattle.hull_command.specs.Outcome.{IsReportText, IsBoundText, Command, command_for, Ends}
 pub use Rattle.hull_command.specs.Outcome.{IsAuditText}
 pub use Rattle.hull_input.specs.Steps.{Then, IsInput, IsWithinWork, IsReportFile, IsPricesFile, IsMixtureFile}
 pub use Rattle.hull_input.specs.Steps.{IsReported}
 pub use Rattle.hull_input.specs.Files.{Reads}
 pub use Rattle.hull_command.specs.FurtherSteps.{IsAudit, IsMade}
-pub use Rattle.hull_io.specs.Edge.{Gains, FallsShort}
+pub use Rattle.hull_io.specs.Edge.{Gains, FallsShort, Rose, Writes}
 pub use Rattle.right_report.specs.RightSide.{told_of}
 pub use Rattle.hull_report.specs.FixedText.{fixed_text}
 pub use Rattle.hull_report.specs.TryText.{try_text}
@@ -34,7 +34,7 @@ pub use Rattle.hull_words.specs.Asked.{asked, price_asked, settle_asked}
 pub use Rattle.hull_words.specs.Words.{first_fault, backwards, or_fault, or_missing, asked_of, later_words, texts}
 unfoldable pub use Rattle.hull_words.specs.Words.{found_in, words_of}
 pub use Rattle.hull_words.specs.declared.fault.WordFault.{WordFault}
-pub use Rattle.report_form.specs.ReportText.{Report, report_text}
+pub use Rattle.report_form.specs.ReportText.{Report}
 unfoldable pub use Rattle.report_read.specs.Plain.{report_of}
 pub use Rattle.uc_model.specs.Data.{unit_count}
 pub use Rattle.uc_model.specs.PlainCases.{market_of, schedules_of}

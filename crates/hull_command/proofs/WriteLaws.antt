@@ -1,6 +1,8 @@
 -- What is written of a run that has ended is the text of a right report.
-use Rattle.hull_command.proofs.Common.{◌≡◌, ℕ, List, length, unsigned_abs, refl, unit_count, Report, planned_in}
-use Rattle.hull_command.proofs.Common.{IsRunText, IsBoundText, IsEnded}
+use Rattle.hull_command.proofs.Common.{◌≡◌, ℕ, ℤ, List, Option, Result, length, unsigned_abs, refl, sym, subst}
+use Rattle.hull_command.proofs.Common.{unit_count, Report, planned_in, IsRunText, IsBoundText, IsEnded, Writes}
+use Rattle.hull_command.specs.Answers.{IsTextOf}
+use Rattle.hull_command.specs.declared.answer.Answer.{Answer}
 use Rattle.board_history.specs.Calls.{own_rows}
 use Rattle.hull_report.specs.BoundText.{bound_text}
 use Rattle.right_report.specs.RecordReport.{chosen_of, value_of, report_of, RecordReportIsRight}
@@ -8,6 +10,21 @@ use Rattle.right_report.specs.RecordReport.{SettlementsAreOfAllUnits}
 use Rattle.run_settle.specs.declared.done.Done.{Done}
 use Rattle.run_settle.specs.declared.bound.Bounded.{Bounded}
 use Rattle.run_settle.specs.Bounded.{IsBounded}
+
+module _ {S E : Type 0} {held : S → Option (List ℕ)} {faults : S → ℕ} {last : Option ℕ} {old new : S}
+    {r : Result (Unit {0}) E} where
+  -- a text of the answer that was written
+  pub written_as : (a b : Answer) → a ≡ b → (text : List ℕ) → IsTextOf b text →
+      Writes held faults last old new r text →
+      (told : List ℕ) × IsTextOf a told × Writes held faults last old new r told
+  written_as a b same text is w =
+      subst (λ (x : Answer). (told : List ℕ) × IsTextOf x told × Writes held faults last old new r told) (sym same)
+      (text, is, w)
+
+  -- a text that was written of a number, of the same number
+  pub at_number : (text : ℤ → List ℕ) (x y : ℤ) → x ≡ y → Writes held faults last old new r (text x) →
+      Writes held faults last old new r (text y)
+  at_number text x y same w = subst (λ (z : ℤ). Writes held faults last old new r (text z)) same w
 
 -- the settlement has one number for each unit
 pub ended_lengths : SettlementsAreOfAllUnits → (d : Done) → IsEnded d.closed.setup d

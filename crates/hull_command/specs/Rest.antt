@@ -5,6 +5,7 @@ use Rattle.hull_io.specs.Edge.{Rose}
 use Rattle.hull_words.specs.Asked.{Asked, check, price, try, bound, fixed, audit, settle}
 use Rattle.hull_words.specs.Asked.{certify}
 use Rattle.hull_words.specs.Words.{words_of}
+use Rattle.hull_words.specs.declared.command.PriceWords.{PriceWords}
 use Rattle.hull_words.specs.declared.fault.WordFault.{WordFault}
 use Rattle.hull_report.specs.TryText.{try_text}
 use Rattle.hull_report.specs.declared.fault.TopFault.{TopFault}
@@ -12,9 +13,10 @@ use Rattle.report_form.specs.ReportText.{report_text}
 use Rattle.report_read.specs.Plain.{report_of}
 use Rattle.board_core.specs.Setups.{IsSetup, setup_of}
 use Rattle.hull_input.specs.Answers.{IsFaultOf, HasReads, IsFitReport}
-use Rattle.hull_input.specs.Files.{Reads}
+use Rattle.hull_input.specs.Files.{Reads, case_and_schedule}
 use Rattle.hull_input.specs.Planned.{PlannedCase, planned_run}
 use Rattle.hull_input.specs.Sizes.{IsWorkers}
+use Rattle.hull_input.specs.Steps.{Then, IsInput, IsWithinWork}
 use Rattle.hull_command.specs.Answers.{IsAnswered, IsCommandAnswer, IsEndOf}
 use Rattle.hull_command.specs.FurtherSteps.{IsJudged}
 use Rattle.hull_command.specs.Outcome.{Command, command_for, no_files, Ends, IsOutcome, status_at}
@@ -55,6 +57,14 @@ abbrev pub rest_of : Ready → Command
 rest_of ready =
     rest_with ready.purpose (planned_run ready.terms) ready.terms.budget ready.terms.ahead
 
+-- the run of a case and its schedule for this purpose, which such words ask for
+abbrev pub run_with : PriceWords → Purpose → Command
+run_with w purpose = record {
+  name_of = case_and_schedule w.case_name.items w.schedule_name.items;
+  IsDue = λ reads. Then (IsInput reads) (IsWithinWork w.proposals);
+  IsText = λ reads. texts_of purpose w.proposals w.ahead;
+}
+
 -- what the rest of a command comes to, the command comes to, over what was read
 pub record Completes (c : Command) (reads : Reads) (rest : Command) : Type 0 where
   pub due : (found : Result PlannedCase TopFault) →
@@ -77,6 +87,11 @@ abbrev pub IsFitPurpose : Purpose → Type 0
 IsFitPurpose (Bound radius) = IsRadius radius
 IsFitPurpose (Audit report) = IsFitReport report
 IsFitPurpose _ = ⊤
+
+-- before the text nothing is due but the case and its schedule
+abbrev pub IsOfInputAlone : Purpose → Type 0
+IsOfInputAlone (Audit report) = ⊥
+IsOfInputAlone _ = ⊤
 
 pub record IsReady (ready : Ready) : Type 0 where
   pub setup : IsSetup (setup_of ready.terms)

@@ -40,7 +40,6 @@ impl Drop for CertifiedInput {
 }
 
 /// What a command is to print, but for the report of a run.
-#[derive(Drop)]
 pub enum Answer {
     /// That a schedule is feasible, and what it costs.
     Check(Input),
@@ -56,4 +55,19 @@ pub enum Answer {
     Fixed(Sides),
     /// That a report of so many proposals is right.
     Audit(u32),
+}
+
+// Written out, so that a drop of it is a call, and not one for each list.
+impl Drop for Answer {
+    fn drop(self) {
+        match self {
+            Answer::Check(_input) => {}
+            Answer::Settle(_settled) => {}
+            Answer::Certify(_certified) => {}
+            Answer::Try(_number, _done) => {}
+            Answer::Bound(_bounded) => {}
+            Answer::Fixed(_sides) => {}
+            Answer::Audit(_proposals) => {}
+        }
+    }
 }

@@ -7,7 +7,7 @@ ghost use Rattle.mixture_bound.specs.Mixtures.{mixture_of, IsMixture, HasMixture
 ghost use Rattle.hull_input.specs.Answers.{IsFitPriced};
 ghost use Rattle.hull_command.specs.Answers.{HasCertified, IsCertifiedAt};
 
-use crate::answer::{CertifiedInput, SettledInput};
+use crate::answer::CertifiedInput;
 use crate::settle::settled_input;
 use hull_input::PricedInput;
 use hull_report::BoundWithin;

@@ -11,7 +11,7 @@ ghost use Rattle.hull_command.specs.Outcome.{Ends, status_at};
 ghost use Rattle.hull_command.specs.Rest.{rest_with, nothing_read, IsFit, IsBeforeOf, IsUntouched};
 ghost use Rattle.hull_command.specs.declared.ready.Purpose.{Purpose};
 
-use crate::answer::{Answer, CertifiedInput, SettledInput};
+use crate::answer::{Answer, SettledInput};
 use crate::ready::{Before, Prepared};
 use hull_io::{Sink, WriteFailed};
 use hull_report::{
@@ -19,7 +19,7 @@ use hull_report::{
     write_report, write_settlement, write_try,
 };
 use right_report::laws::{record_report_is_right, settlements_are_of_all_units};
-use run_settle::{Bounded, Done};
+use run_settle::Done;
 
 /// How a command ended.
 #[derive(Clone, Copy)]
@@ -60,53 +60,36 @@ pub fn write_done<S: Sink>(done: &mut Done, out: &mut S) -> Result<(), WriteFail
     write_report(&done.closed, &done.settlement, &mut done.buffer, out)
 }
 
-/// Lets the parts of a run go, one after another.
-fn let_go(done: Done) {
-    let Done {
-        closed: _closed,
-        settlement: _settlement,
-        buffer: _buffer,
-        bench: _bench,
-    } = done;
-}
-
 /// Writes the text of the answer.
-fn write_answer<S: Sink>(answer: Answer, out: &mut S) -> Result<(), WriteFailed>
-    requires { IsAnswered answer }
-    ensures { (text : List ℕ) × IsTextOf answer text
+fn write_answer<S: Sink>(answer: &Answer, out: &mut S) -> Result<(), WriteFailed>
+    requires { IsAnswered answer.now }
+    ensures { (text : List ℕ) × IsTextOf answer.now text
         × Writes S.held S.faults S.last out.old out.new result text }
 {
     record_report_is_right();
     match answer {
         Answer::Check(input) => write_check(&input.case, input.cost, out),
         Answer::Settle(settled) => {
-            let SettledInput { input, settled } = &settled;
-            write_settlement(&input.case, input.cost, settled, out)
+            let input = &settled.input;
+            write_settlement(&input.case, input.cost, &settled.settled, out)
         }
         Answer::Certify(certified) => {
-            let CertifiedInput { settled, within } = &certified;
-            let SettledInput { input, settled } = settled;
-            write_certificate(&input.case, input.cost, settled, *within, out)
+            let SettledInput { input, settled } = &certified.settled;
+            write_certificate(&input.case, input.cost, settled, certified.within, out)
         }
-        Answer::Try(number, done) => {
-            let written = write_try(number, &done.closed, &done.settlement, out);
-            let_go(done);
-            written
-        }
+        Answer::Try(number, done) => write_try(*number, &done.closed, &done.settlement, out),
         Answer::Bound(bounded) => {
-            let Bounded {
-                done,
-                radius,
-                certified,
-            } = bounded;
-            let written = write_bound(&done.closed, radius, &certified, out);
-            let_go(done);
-            written
+            write_bound(
+                &bounded.done.closed,
+                bounded.radius,
+                &bounded.certified,
+                out,
+            )
         }
         Answer::Fixed(sides) => {
             write_fixed(&sides.case, sides.cost, &sides.hull, &sides.fixed, out)
         }
-        Answer::Audit(proposals) => write_audit(proposals, out),
+        Answer::Audit(proposals) => write_audit(*proposals, out),
     }
 }
 
@@ -123,7 +106,7 @@ pub fn finish<S: Sink>(answer: Result<Answer, TopFault>, out: &mut S) -> End
         (FallsShort S.held S.faults S.last out.old out.new) result }
 {
     match answer {
-        Ok(answer) => match write_answer(answer, out) {
+        Ok(answer) => match write_answer(&answer, out) {
             Ok(()) => End::Done,
             Err(WriteFailed) => End::Cut,
         },

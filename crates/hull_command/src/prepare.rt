@@ -2,19 +2,20 @@
 //! Nothing here starts a thread or waits.
 ghost use Rattle.std.specs.Prelude.{◌≡◌, Ok, Err, None, IfOk, IfErr};
 ghost use Rattle.gap_proof.specs.Sums.{IsRadius};
-ghost use Rattle.hull_words.specs.Asked.{asked, check, price, try, bound, fixed};
-ghost use Rattle.hull_words.specs.Asked.{audit, settle, certify, check_asked, price_asked};
-ghost use Rattle.hull_words.specs.Asked.{settle_asked};
+ghost use Rattle.hull_io.specs.Edge.{Rose};
+ghost use Rattle.hull_words.specs.Asked.{asked, check, try, audit, settle, certify};
+ghost use Rattle.hull_words.specs.Asked.{check_asked, settle_asked};
 ghost use Rattle.hull_words.specs.Words.{texts, words_of};
 ghost use Rattle.hull_report.specs.declared.fault.FileKind.{FileKind};
-ghost use Rattle.hull_input.specs.Answers.{IsFaultOf, IsLaterShelf};
+ghost use Rattle.hull_input.specs.Answers.{IsFaultOf, IsLaterShelf, HasReads};
 ghost use Rattle.hull_input.specs.Files.{Reads};
 ghost use Rattle.hull_input.specs.Planned.{planned_of, IsPlanned};
 ghost use Rattle.hull_input.specs.Sizes.{IsWorkers, IsRunSize};
 ghost use Rattle.hull_command.specs.FurtherSteps.{made_case};
-ghost use Rattle.hull_command.specs.Inputs.{try_asked, bound_asked, audit_asked, certify_asked};
+ghost use Rattle.hull_command.specs.Inputs.{try_asked, audit_asked, certify_asked};
 ghost use Rattle.hull_command.specs.Outcome.{command_for};
-ghost use Rattle.hull_command.specs.Rest.{IsPrepared, HasPrepared, IsAsked, IsFit};
+ghost use Rattle.hull_command.specs.Rest.{IsPrepared, HasPrepared, IsAsked, IsFit, IsFitPurpose};
+ghost use Rattle.hull_command.specs.Rest.{IsOfInputAlone, run_with};
 ghost use Rattle.hull_command.specs.Sizes.{HasSizes};
 
 use crate::answer::Answer;
@@ -30,8 +31,8 @@ use hull_input::{
 use hull_io::Shelf;
 use hull_report::TopFault;
 use hull_words::{
-    AuditWords, BoundWords, CertifyWords, CheckWords, Command, PriceWords, SettleWords, TryWords,
-    WordError, read_words,
+    AuditWords, CertifyWords, CheckWords, Command, PriceWords, SettleWords, TryWords, WordError,
+    read_words,
 };
 use plan_check::costs::cost_of_plan;
 use std::alloc::{AllocError, Global};
@@ -69,59 +70,28 @@ fn prepare_check<F: Shelf>(
     Ok(Prepared::Answered(Answer::Check(input)))
 }
 
-/// What `hull price` runs.
-fn prepare_price<F: Shelf>(
+/// What a command runs on a case and its schedule, for such a purpose.
+fn prepare_run<F: Shelf>(
     alloc: Global,
     shelf: &mut F,
     words: &PriceWords,
+    purpose: Purpose,
 ) -> Result<Prepared, TopFault>
-    requires { IsRunSize words.now.proposals words.now.workers words.now.ahead }
-    ensures prepared { HasPrepared F.told F.faults F.last shelf.old shelf.new
-        (Ok (price (price_asked words.now))) result }
-    ensures asked { IsAsked (Ok (price (price_asked words.now))) result }
+    requires size { IsRunSize words.now.proposals words.now.workers words.now.ahead }
+    requires purpose { IsFitPurpose purpose }
+    requires input { IsOfInputAlone purpose }
+    ensures prepared { HasReads (F.told shelf.old)
+        (λ name. Rose F.last (F.faults shelf.old name) (F.faults shelf.new name))
+        (run_with words.now purpose).name_of
+        (λ reads. IsPrepared (run_with words.now purpose) reads result) }
     ensures fit { IfOk result IsFit }
     ensures shelf { IsLaterShelf F.told F.faults shelf.old shelf.new }
 {
-    let terms = read_run(alloc, shelf, words)?;
-    let purpose = Purpose::Price;
-    Ok(Prepared::Ready(Ready { purpose, terms }))
-}
-
-/// What `hull bound` runs.
-fn prepare_bound<F: Shelf>(
-    alloc: Global,
-    shelf: &mut F,
-    words: &BoundWords,
-) -> Result<Prepared, TopFault>
-    requires size { IsRunSize words.now.run.proposals words.now.run.workers words.now.run.ahead }
-    requires radius { IsRadius words.now.radius }
-    ensures prepared { HasPrepared F.told F.faults F.last shelf.old shelf.new
-        (Ok (bound (bound_asked words.now))) result }
-    ensures asked { IsAsked (Ok (bound (bound_asked words.now))) result }
-    ensures fit { IfOk result IsFit }
-    ensures shelf { IsLaterShelf F.told F.faults shelf.old shelf.new }
-{
-    let terms = read_run(alloc, shelf, &words.run)?;
-    let purpose = Purpose::Bound(words.radius);
-    Ok(Prepared::Ready(Ready { purpose, terms }))
-}
-
-/// What `hull fixed` runs.
-fn prepare_fixed<F: Shelf>(
-    alloc: Global,
-    shelf: &mut F,
-    words: &PriceWords,
-) -> Result<Prepared, TopFault>
-    requires { IsRunSize words.now.proposals words.now.workers words.now.ahead }
-    ensures prepared { HasPrepared F.told F.faults F.last shelf.old shelf.new
-        (Ok (fixed (price_asked words.now))) result }
-    ensures asked { IsAsked (Ok (fixed (price_asked words.now))) result }
-    ensures fit { IfOk result IsFit }
-    ensures shelf { IsLaterShelf F.told F.faults shelf.old shelf.new }
-{
-    let terms = read_run(alloc, shelf, words)?;
-    let purpose = Purpose::Fixed;
-    Ok(Prepared::Ready(Ready { purpose, terms }))
+    // (by a match, which is cheaper to prove here than `?`)
+    match read_run(alloc, shelf, words) {
+        Ok(terms) => Ok(Prepared::Ready(Ready { purpose, terms })),
+        Err(fault) => Err(fault),
+    }
 }
 
 /// The case and the feasible schedule that a number stands for.
@@ -225,10 +195,12 @@ fn prepare_command<F: Shelf>(
 {
     match command {
         Command::Check(words) => prepare_check(alloc, shelf, words),
-        Command::Price(words) => prepare_price(alloc, shelf, words),
+        Command::Price(words) => prepare_run(alloc, shelf, words, Purpose::Price),
         Command::Try(words) => prepare_try(alloc, words),
-        Command::Bound(words) => prepare_bound(alloc, shelf, words),
-        Command::Fixed(words) => prepare_fixed(alloc, shelf, words),
+        Command::Bound(words) => {
+            prepare_run(alloc, shelf, &words.run, Purpose::Bound(words.radius))
+        }
+        Command::Fixed(words) => prepare_run(alloc, shelf, words, Purpose::Fixed),
         Command::Audit(words) => prepare_audit(alloc, shelf, words),
         Command::Settle(words) => prepare_settle(alloc, shelf, words),
         Command::Certify(words) => prepare_certify(alloc, shelf, words),

@@ -1,12 +1,17 @@
-use Rattle.hull_command.proofs.Common.{err_from_is_err_and, planned_run}
-use Rattle.hull_command.proofs.Lemmas.{audit_refused, completes_audit}
+use Rattle.hull_command.proofs.Common.{Ok, planned_run, audit, audit_asked}
+use Rattle.hull_command.specs.Rest.{HasPrepared}
+use Rattle.hull_command.proofs.Lemmas.{audit_refused, completes_audit, handed_on}
 use Rattle.hull_command.proofs.prepare.prepare_audit.Goals as goal
 
 pub returns-in_err-reported-clause-prepared : goal.returns-in_err-reported-clause-prepared
 returns-in_err-reported-clause-prepared g c =
-    let p = err_from_is_err_and c.from_residual.result c.from_residual.ensures.1 in
-    let h = c.in_err-reported.ensures.answers in
-    rw (p.1, p.2) (h.0, h.1, audit_refused h.0 _ h.2)
+    handed_on (HasPrepared g.F.Shelf.told g.F.Shelf.faults g.F.Shelf.last c.args.shelf.now c.read_reported.new.shelf
+    (Ok (audit (audit_asked c.args.words.now))))
+    c.from_residual.result c.in_err-reported.field-0.0 c.from_residual.ensures.1 (
+      c.in_err-reported.ensures.answers.0,
+      c.in_err-reported.ensures.answers.1,
+      audit_refused c.in_err-reported.ensures.answers.0 _ c.in_err-reported.ensures.answers.2,
+    )
 
 pub returns-clause-prepared : goal.returns-clause-prepared
 returns-clause-prepared g c =

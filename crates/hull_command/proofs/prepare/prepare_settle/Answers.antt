@@ -1,17 +1,21 @@
-use Rattle.hull_command.proofs.Common.{inr, refl, err_from_is_err_and, prices_of}
-use Rattle.hull_command.proofs.Lemmas.{answers_settle}
+use Rattle.hull_command.proofs.Common.{Ok, inr, refl, prices_of, settle, settle_asked}
+use Rattle.hull_report.specs.declared.fault.TopFault.TheVariants.{Memory}
+use Rattle.hull_command.specs.Rest.{HasPrepared}
+use Rattle.hull_command.proofs.Lemmas.{answers_settle, handed_on}
 use Rattle.hull_command.proofs.prepare.prepare_settle.Goals as goal
 
 pub returns-in_err-priced-clause-prepared : goal.returns-in_err-priced-clause-prepared
 returns-in_err-priced-clause-prepared g c =
-    let p = err_from_is_err_and c.from_residual.result c.from_residual.ensures.1 in
-    rw (p.1, p.2) c.in_err-priced.ensures.answers
+    handed_on (HasPrepared g.F.Shelf.told g.F.Shelf.faults g.F.Shelf.last c.args.shelf.now c.read_priced.new.shelf
+    (Ok (settle (settle_asked c.args.words.now))))
+    c.from_residual.result c.in_err-priced.field-0.0 c.from_residual.ensures.1 c.in_err-priced.ensures.answers
 
 pub returns-in_err-settled-clause-prepared : goal.returns-in_err-settled-clause-prepared
 returns-in_err-settled-clause-prepared g c =
-    let p = err_from_is_err_and c.from_residual-in_err-settled.result c.from_residual-in_err-settled.ensures.1 in
-    let h = c.in_ok-priced.ensures.answers in
-    rw (p.1, p.2) (h.0, h.1, inr refl)
+    handed_on (HasPrepared g.F.Shelf.told g.F.Shelf.faults g.F.Shelf.last c.args.shelf.now c.read_priced.new.shelf
+    (Ok (settle (settle_asked c.args.words.now))))
+    c.from_residual-in_err-settled.result Memory c.from_residual-in_err-settled.ensures.1
+    (c.in_ok-priced.ensures.answers.0, c.in_ok-priced.ensures.answers.1, inr refl)
 
 pub returns-clause-prepared : goal.returns-clause-prepared
 returns-clause-prepared g c =
