@@ -4,7 +4,6 @@ pub use Rattle.std.proofs.Common.{[], ◌∷◌, ◌++◌, length, arith, length
 pub use Rattle.std.proofs.lemmas.Int.{to_z-of_z}
 pub use Rattle.std.proofs.lemmas.List.{length-map}
 pub use Rattle.std.proofs.lemmas.List.Elements.{All-push}
-pub use Rattle.std.proofs.lemmas.Result.{err_from_is_err_and}
 pub use Rattle.std.specs.Int.{w64}
 pub use Rattle.std.specs.List.{All}
 pub use Rattle.std.specs.Prelude.{OnOk, OnErr}
@@ -13,7 +12,8 @@ pub use Rattle.run_settle.specs.Rounds.{IsEnded}
 pub use Rattle.board_core.specs.Setups.{setup_of}
 pub use Rattle.board_core.specs.declared.terms.Terms.{Terms}
 pub use Rattle.audit_rows.specs.Benches.{IsBenchOver}
-pub use Rattle.hull_command.specs.Answers.{HasStatus, IsRunText}
+pub use Rattle.hull_command.specs.Answers.{HasStatus, IsRunText, IsCommandAnswer}
+pub use Rattle.hull_report.specs.declared.fault.TopFault.TheVariants.{Memory}
 pub use Rattle.hull_command.specs.Rest.{Completes, rest_with, rest_of, nothing_read}
 pub use Rattle.hull_command.specs.Outcome.{IsReportText, IsBoundText, IsFixedText, Command, command_for, Ends, HasText}
 pub use Rattle.hull_input.specs.Files.{Reads}

@@ -1,11 +1,17 @@
-use Rattle.hull_engine.proofs.Common.{refl, ap, ◌∙◌, err_from_is_err_and, report_of, planned_run}
+use Rattle.hull_engine.proofs.Common.{refl, ap, ◌∙◌, report_of, planned_run}
 use Rattle.hull_report.specs.AuditText.{audit_text}
+use Rattle.hull_engine.proofs.Common.{IsCommandAnswer, rest_with, nothing_read}
+use Rattle.hull_command.specs.declared.ready.Purpose.TheVariants.{Audit}
+use Rattle.hull_engine.proofs.Lemmas.{handed_on}
 use Rattle.hull_engine.proofs.answers.answer_audit.Goals as goal
 
 pub returns-in_err-right_proposals-clause-answers : goal.returns-in_err-right_proposals-clause-answers
 returns-in_err-right_proposals-clause-answers g c =
-    let p = err_from_is_err_and c.from_residual.result c.from_residual.ensures.1 in
-    rw (p.1, p.2) c.in_err-right_proposals.ensures.answers
+    let terms = c.args.terms in
+    handed_on (IsCommandAnswer (rest_with (Audit c.args.report) (planned_run terms) terms.budget terms.ahead)
+    nothing_read)
+    c.from_residual.result c.in_err-right_proposals.field-0.0 c.from_residual.ensures.1
+    c.in_err-right_proposals.ensures.answers
 
 pub returns-clause-answers : goal.returns-clause-answers
 returns-clause-answers g c =

@@ -1,11 +1,15 @@
-use Rattle.hull_engine.proofs.Common.{rules, inr, refl, w64, to_z-of_z, err_from_is_err_and, planned_run}
-use Rattle.hull_engine.proofs.Lemmas.{bound_texts}
+use Rattle.hull_engine.proofs.Common.{rules, ◌∙◌, inr, refl, w64, to_z-of_z, planned_run}
+use Rattle.hull_engine.proofs.Lemmas.{handed_on, bound_texts}
+use Rattle.hull_engine.proofs.Common.{IsCommandAnswer, rest_with, nothing_read, Memory}
+use Rattle.hull_command.specs.declared.ready.Purpose.TheVariants.{Bound}
 use Rattle.hull_engine.proofs.answers.answer_bound.Goals as goal
 
 pub returns-in_err-bounded_run-clause-answers : goal.returns-in_err-bounded_run-clause-answers
 returns-in_err-bounded_run-clause-answers g c =
-    let p = err_from_is_err_and c.from_residual.result c.from_residual.ensures.1 in
-    rw (p.1, p.2) (inr refl)
+    let terms = c.args.terms in
+    handed_on (IsCommandAnswer (rest_with (Bound c.args.radius) (planned_run terms) terms.budget terms.ahead)
+    nothing_read)
+    c.from_residual.result Memory c.from_residual.ensures.1 (inr refl)
 
 pub returns-clause-answers : goal.returns-clause-answers
 returns-clause-answers g c =
@@ -14,5 +18,5 @@ returns-clause-answers g c =
       refl,
       bound_texts c.args.terms b.field-0.done.closed.setup c.args.terms.budget c.args.terms.ahead b.field-0.radius
           c.args.radius b.ensures.ended.setup refl refl
-          (rw (to_z-of_z w64 c.args.radius (search rules)) at b.ensures.radius_is),
+          (b.ensures.radius_is ∙ to_z-of_z w64 c.args.radius (search rules)),
     )

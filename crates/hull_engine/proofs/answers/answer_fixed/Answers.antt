@@ -1,11 +1,14 @@
-use Rattle.hull_engine.proofs.Common.{inr, refl, err_from_is_err_and, planned_run}
-use Rattle.hull_engine.proofs.Lemmas.{sides_paid, fixed_texts}
+use Rattle.hull_engine.proofs.Common.{inr, refl, planned_run}
+use Rattle.hull_engine.proofs.Lemmas.{handed_on, sides_paid, fixed_texts}
+use Rattle.hull_engine.proofs.Common.{IsCommandAnswer, rest_with, nothing_read, Memory}
+use Rattle.hull_command.specs.declared.ready.Purpose.TheVariants.{Fixed}
 use Rattle.hull_engine.proofs.answers.answer_fixed.Goals as goal
 
 pub returns-in_err-compared_runs-clause-answers : goal.returns-in_err-compared_runs-clause-answers
 returns-in_err-compared_runs-clause-answers g c =
-    let p = err_from_is_err_and c.from_residual.result c.from_residual.ensures.1 in
-    rw (p.1, p.2) (inr refl)
+    let terms = c.args.terms in
+    handed_on (IsCommandAnswer (rest_with Fixed (planned_run terms) terms.budget terms.ahead) nothing_read)
+    c.from_residual.result Memory c.from_residual.ensures.1 (inr refl)
 
 pub returns-clause-answers : goal.returns-clause-answers
 returns-clause-answers g c = (

@@ -1,12 +1,16 @@
-use Rattle.hull_engine.proofs.Common.{inr, refl, sym, subst, ◌∙◌, err_from_is_err_and, try_text, planned_run, IsEnded}
+use Rattle.hull_engine.proofs.Common.{inr, refl, sym, subst, ◌∙◌, try_text, planned_run, IsEnded}
 use Rattle.board_history.specs.Board.{Setup}
-use Rattle.hull_engine.proofs.Lemmas.{run_texts}
+use Rattle.hull_engine.proofs.Lemmas.{handed_on, run_texts}
+use Rattle.hull_engine.proofs.Common.{IsCommandAnswer, rest_with, nothing_read, Memory}
+use Rattle.hull_command.specs.declared.ready.Purpose.TheVariants.{Try}
 use Rattle.hull_engine.proofs.answers.answer_try.Goals as goal
 
 pub returns-in_err-opened-clause-answers : goal.returns-in_err-opened-clause-answers
 returns-in_err-opened-clause-answers g c =
-    let p = err_from_is_err_and c.from_residual.result c.from_residual.ensures.1 in
-    rw (p.1, p.2) (inr refl)
+    let terms = c.args.terms in
+    handed_on (IsCommandAnswer (rest_with (Try c.args.number) (planned_run terms) terms.budget terms.ahead)
+    nothing_read)
+    c.from_residual.result Memory c.from_residual.ensures.1 (inr refl)
 
 pub returns-clause-answers : goal.returns-clause-answers
 returns-clause-answers g c = (

@@ -1,3 +1,8 @@
+use Rattle.hull_engine.proofs.Common.{sym, subst, Gains, FallsShort, HasStatus, report_text}
+use Rattle.board_history.specs.Board.{Content}
+use Rattle.right_report.specs.RecordReport.{report_of, IsSettledRecord}
+use Rattle.uc_model.specs.PriceRule.{Proposal}
+use Rattle.uplift_settle.specs.declared.settlement.Settlement.{Settlement}
 use Rattle.hull_engine.proofs.Lemmas.{status_written}
 use Rattle.hull_engine.proofs.end.finish_run.Goals as goal
 
@@ -6,7 +11,12 @@ returns-clause-report g c =
     let e = c.run_board-done.ensures in
     let d = c.run_board-done.result in
     let w = c.write_done-written.ensures in
-    rw (w.closed) (
+    subst (λ (x : Content). (s : Settlement) × (row : Proposal) × IsSettledRecord x s row
+    × HasStatus c.status_of.result
+    (Gains g.S.Sink.held g.S.Sink.faults c.args.out.now c.write_done-written.new.out (report_text (report_of x s)))
+    (FallsShort g.S.Sink.held g.S.Sink.faults g.S.Sink.last c.args.out.now c.write_done-written.new.out
+    (report_text (report_of x s))))
+    (sym w.closed) (
       d.settlement,
       e.row,
       e.settled,
