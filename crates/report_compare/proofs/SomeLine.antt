@@ -1,12 +1,11 @@
 -- Two texts that differ have a first line that does.
 use Rattle.report_compare.proofs.Common.{◌≡◌, ℕ, ◌+◌, ◌⊎◌, inl, inr, List, [], ◌∷◌, ◌++◌, length, length-append, refl}
-use Rattle.report_compare.proofs.Common.{sym, ap, ◌∙◌, subst, arith, append_assoc, eqb_tells, concat, Market, Schedule}
-use Rattle.report_compare.proofs.Common.{Report, report_text, report_lines, TextDeterminesReport, RightReportHasForm}
-use Rattle.report_compare.proofs.Common.{IsRightReport, IsReport, DiffersAt, IsLine, AreLines, line_feeds}
-use Rattle.uc_model.specs.Systems.{IsFeasiblePlan}
+use Rattle.report_compare.proofs.Common.{sym, ap, ◌∙◌, subst, arith, append_assoc, eqb_tells, concat}
+use Rattle.report_compare.proofs.Common.{report_text, report_lines, TextDeterminesReport, RightReportHasForm}
+use Rattle.report_compare.proofs.Common.{IsRightReport, DiffersAt, IsLine, AreLines}
 use Rattle.right_report.specs.Existence.{RightReportsExist}
-use Rattle.report_compare.specs.Right.{DiffersFromRight, SomeDifference}
-use Rattle.report_compare.proofs.FirstLine.{feeds_behind, line_feed, lines_are, one_front}
+use Rattle.report_compare.specs.Right.{SomeDifference}
+use Rattle.report_compare.proofs.FirstLine.{feeds_behind, line_feed, one_front}
 use Rattle.report_compare.proofs.LineBytes.{AreAllLines, report_are_lines}
 use Rattle.report_compare.proofs.Texts.{report_lined}
 use Rattle.report_compare.proofs.Verdicts.{bounds_form}

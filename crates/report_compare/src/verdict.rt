@@ -27,7 +27,7 @@ use uc_model::cases::{Case, Plan, Row};
 const NUMBER_LINE: u32 = 7;
 
 /// What an audit comes to.
-#[derive(Clone, Copy, Debug, Drop)]
+#[derive(Clone, Copy, Drop)]
 pub enum Audit {
     /// The report is the right one.
     Right,

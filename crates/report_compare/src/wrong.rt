@@ -3,7 +3,7 @@ ghost use Rattle.std.specs.Prelude.{◌≡◌, ◌+◌, ◌<◌, ◌≤◌, ◌^
 ghost use Rattle.report_compare.specs.Compared.{wrong_from};
 
 /// A line that differs, with its number from 1.
-#[derive(Clone, Copy, Debug, Drop)]
+#[derive(Clone, Copy, Drop)]
 pub struct WrongLine {
     /// The number of the line.
     pub line: u32,

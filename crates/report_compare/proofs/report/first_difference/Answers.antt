@@ -1,7 +1,8 @@
 use Rattle.report_compare.proofs.Common.{◌+◌, Ok, Err, map, arith, refl, sym, subst, w128, to_z-of_z, none-some}
 use Rattle.report_compare.proofs.Common.{length-map, IsWorth, market_of, schedules_of, proposal_of, report_of, told_of}
 use Rattle.report_compare.proofs.Common.{report_lines, answers_of, right_of, ◌≡◌, ℕ, ℤ, Result, Some, List, length}
-use Rattle.report_compare.proofs.Common.{slice_get, AllZip, flat_map, Schedule, Market, units, Proposal, IsTop}
+use Rattle.report_compare.proofs.Common.{slice_get, AllZip, flat_map, Schedule, Market, AnyUnit, units, Proposal, IsTop}
+use Rattle.report_compare.proofs.Common.{inl, inr}
 use Rattle.report_compare.proofs.Common.{IsSettled, Report, IsRightReport, Compares, told_lines, Answers, titles}
 use Rattle.report_compare.proofs.Common.{told_from, whole_lines, WrongLine}
 use Rattle.report_compare.proofs.RightReports.{right_is, counted, count_zipped}
@@ -65,6 +66,61 @@ module _ (c : After-index-rows-chosen) where
     lined o told =
         compared_as o _ (report_lines r) _ (report_lines right) (mine_whole c.args.report.now c.requires.order)
         (right_whole m a r.budget r.ahead c.args.cost rows (k + 1) row.value s.surplus s.total) told
+
+pub greatest-chosen-requires : goal.greatest-chosen-requires
+greatest-chosen-requires c =
+    let long = length-map c.args.rows.now proposal_of in
+    let least = c.requires.bounds.budget_at_least in
+    elim c.requires.run.whole [
+      | inl all ↦ omega (arith, long, least, all)
+      | inr some ↦ let within = some.2 in omega (arith, long, within)
+    ]
+
+pub bounds-rows-chosen : goal.bounds-rows-chosen
+bounds-rows-chosen c = c.greatest-chosen.ensures.place
+
+pub earn_all-requires-clause-some : goal.earn_all-requires-clause-some
+earn_all-requires-clause-some c = (schedules_of c.args.plan.now, c.requires.feasible.feasible)
+
+pub earn_all-requires-clause-bench : goal.earn_all-requires-clause-bench
+earn_all-requires-clause-bench c = c.requires.desk.bench
+
+pub earn_all-requires-clause-buffer : goal.earn_all-requires-clause-buffer
+earn_all-requires-clause-buffer c = c.requires.desk.answer
+
+pub earn_all-requires-clause-room : goal.earn_all-requires-clause-room
+earn_all-requires-clause-room c = c.requires.desk.earned
+
+pub settle-requires-clause-feasible : goal.settle-requires-clause-feasible
+settle-requires-clause-feasible c = c.requires.feasible
+
+pub settle-requires-clause-best : goal.settle-requires-clause-best
+settle-requires-clause-best c =
+    let market = market_of c.args.case.now in
+    let prices = (proposal_of c.index-rows-chosen.result).prices in
+    subst (λ (es : List ℤ). AllZip (λ (u : AnyUnit) (e : ℤ). IsTop u prices e) (units market) es)
+    (sym c.as_slice.ensures) c.earn_all.ensures.tops
+
+pub settle-requires-clause-scheduled : goal.settle-requires-clause-scheduled
+settle-requires-clause-scheduled c = c.requires.desk.scheduled
+
+pub settle-requires-clause-payments : goal.settle-requires-clause-payments
+settle-requires-clause-payments c = c.requires.desk.payments
+
+pub report_same-requires-clause-rows : goal.report_same-requires-clause-rows
+report_same-requires-clause-rows c =
+    let long = length-map c.args.rows.now proposal_of in
+    let within = c.requires.run.within in
+    let most = c.requires.bounds.budget_at_most in
+    omega (arith, long, within, most)
+
+pub report_same-requires-clause-chosen : goal.report_same-requires-clause-chosen
+report_same-requires-clause-chosen c =
+    let long = length-map c.args.rows.now proposal_of in
+    let within = c.requires.run.within in
+    let most = c.requires.bounds.budget_at_most in
+    let place = c.greatest-chosen.ensures.place in
+    omega (arith, long, within, most, place)
 
 pub earn_all-requires-clause-horizon : goal.earn_all-requires-clause-horizon
 earn_all-requires-clause-horizon c = long (goal.at.earn_all-requires-clause-horizon c).After-index-rows-chosen

@@ -111,3 +111,9 @@ returns c = λ (responses : List Schedule) fits.
     c.in_ok-line-4.line c.foot_same.result
     (head_given m c.args.cost (length c.args.rows.now) r q (Ok c.in_ok-line.line)
     (sym (length-map c.args.rows.now proposal_of)) head) rows chosen units gap
+
+pub overflow_sub-cost : goal.overflow_sub-cost
+overflow_sub-cost c = rw (
+  to_z-of_z w128 c.args.cost c.ranges.cost,
+  to_z-of_z w128 c.args.choice.now.row.now.value (search rules),
+) (worth_gap c.args.cost c.args.choice.now.row.now.value c.requires.cost c.requires.value)
