@@ -38,3 +38,37 @@ judged-audit-requires-clause-run g c =
 
 pub judged-audit-requires-clause-opening : goal.judged-audit-requires-clause-opening
 judged-audit-requires-clause-opening g c = rw (to_z-of_z w128 c.args.cost c.ranges.cost) c.requires.opening
+
+pub jobs_for-requires-clause-benches : goal.jobs_for-requires-clause-benches
+jobs_for-requires-clause-benches g c = c.requires.benches
+
+pub right_rows-requires-clause-count : goal.right_rows-requires-clause-count
+right_rows-requires-clause-count g c = λ κs out.
+    let long = c.in_ok-jobs.ensures.count in
+    let least = c.requires.count.0 in
+    let most = c.requires.count.1 in
+    (omega (arith, long, least), omega (arith, long, most))
+
+pub right_rows-requires-clause-jobs : goal.right_rows-requires-clause-jobs
+right_rows-requires-clause-jobs g c = λ κs out. c.in_ok-jobs.ensures.jobs
+
+pub judged-audit-requires-clause-feasible : goal.judged-audit-requires-clause-feasible
+judged-audit-requires-clause-feasible g c = c.requires.feasible
+
+pub judged-audit-requires-clause-cost : goal.judged-audit-requires-clause-cost
+judged-audit-requires-clause-cost g c = rw (to_z-of_z w128 c.args.cost c.ranges.cost) c.requires.cost
+
+pub judged-audit-requires-clause-bounds : goal.judged-audit-requires-clause-bounds
+judged-audit-requires-clause-bounds g c = c.requires.bounds
+
+pub judged-audit-requires-clause-order : goal.judged-audit-requires-clause-order
+judged-audit-requires-clause-order g c = c.requires.order
+
+pub judged-audit-requires-clause-desk : goal.judged-audit-requires-clause-desk
+judged-audit-requires-clause-desk g c = c.in_ok-desk.ensures
+
+pub returns-clause-right : goal.returns-clause-right
+returns-clause-right g c = c.judged-audit.ensures.right
+
+pub returns-clause-wrong : goal.returns-clause-wrong
+returns-clause-wrong g c = c.judged-audit.ensures.wrong
