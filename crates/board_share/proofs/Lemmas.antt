@@ -2,4 +2,5 @@
 pub use Rattle.board_share.proofs.Joins.{joins, tells, has_joined}
 pub use Rattle.board_share.proofs.Steps.{draws, passes, looks, took_from, grows, grown_by}
 pub use Rattle.board_share.proofs.Unmoved.{post_seen, claim_seen}
-pub use Rattle.board_share.proofs.WholeCalls.{calls, same_hand, handed, claim_goes_on, post_goes_on, length-entries}
+pub use Rattle.board_share.proofs.WholeCalls.{call_tells, handed, claim_goes_on, post_goes_on, halt_goes_on}
+pub use Rattle.board_share.proofs.WholeCalls.{length-entries, in_hand, lent_setup, seen_before, legal_after}

@@ -6,11 +6,11 @@ use Rattle.board_share.proofs.Common.{is_halt_of, ClaimReply, Finished, Halted, 
 use Rattle.board_share.proofs.Common.{OtherProposal, OtherUnit, OtherContent, Doubled, OtherHolder, TakenPost}
 use Rattle.board_share.proofs.Common.{claim_reply, post_reply, post_event, posts, with_post, is_closed, with_claim}
 use Rattle.board_share.proofs.Common.{with_answer, AnyUnit, PriceLists, BoardEvent, caller_of, content, idle, waits}
-use Rattle.board_share.proofs.Common.{View, at_stage, Sees, Mine, HasTaken, Follows, Called, OnlyMade}
+use Rattle.board_share.proofs.Common.{View, at_stage, Sees, Mine, HasTaken, Follows, Called, OnlyMade, IsLegalHistory}
 use Rattle.std.specs.List.{list_any}
 use Rattle.board_history.specs.Entries.{entry_of, entries_of}
 
-pub calls : (tells : Content → Type 0) (after : Content → Content) (m0 m1 m2 m3 : Mine) (t : ℕ) (b b' : Content) →
+calls : (tells : Content → Type 0) (after : Content → Content) (m0 m1 m2 m3 : Mine) (t : ℕ) (b b' : Content) →
     m0.0.stage ≡ idle → m1.0 ≡ at_stage m0.0 (waits t) → HasTaken m1 m2 b
     → tells b → b' ≡ after b → m3 ≡ (record m2.0 { seen = b'.events; stage = idle }, []) → Called tells after m0.0 m3.0
 calls tells after m0 m1 m2 m3 t b b' st drawn taken told went given =
@@ -30,20 +30,58 @@ calls tells after m0 m1 m2 m3 t b b' st drawn taken told went given =
           ∙ (λ i. let y : View = record m0.0 { seen = seen i; stage = sym st i } in y)));
     }
 
+pub length-entries : (h : List BoardEvent) → length (entries_of h) ≡ length h
+length-entries h = length-map h entry_of
+
 first_board : Content → List (ℕ × Content) → Content
 first_board d [] = d
 first_board d (x ∷ xs) = x.1
 
 -- what is lent is the board that was taken
-pub same_hand : (l more : List (ℕ × Content)) (b b' : Content) → l ≡ (0, b) ∷ [] → l ≡ (0, b') ∷ more → b' ≡ b
+same_hand : (l more : List (ℕ × Content)) (b b' : Content) → l ≡ (0, b) ∷ [] → l ≡ (0, b') ∷ more → b' ≡ b
 unfolding first_board
 same_hand l more b b' p q = ap (first_board b) (sym q ∙ p)
+
+-- the same of what the board's own call told of the board that was lent
+pub call_tells : (tells : Content → Type 0) (after : Content → Content) (m0 m1 m2 m3 : Mine) (more : List (ℕ × Content))
+    (t : ℕ) (b lent b' : Content) → m0.0.stage ≡ idle → m1.0 ≡ at_stage m0.0 (waits t) → HasTaken m1 m2 b →
+    m2.1 ≡ (0, lent) ∷ more → tells lent → b' ≡ after lent
+    → m3 ≡ (record m2.0 { seen = b'.events; stage = idle }, []) → Called tells after m0.0 m3.0
+call_tells tells after m0 m1 m2 m3 more t b lent b' st drawn taken is told went given =
+    let same : lent ≡ b = same_hand m2.1 more b lent taken.3 is in
+    calls tells after m0 m1 m2 m3 t b b' st drawn taken (subst tells same told) (went ∙ ap after same) given
 
 -- and is for what the seat names
 pub lent_setup : (m0 m1 m2 : Mine) (more : List (ℕ × Content)) (t : ℕ) (b lent : Content) →
     m1.0 ≡ at_stage m0.0 (waits t) → HasTaken m1 m2 b → m2.1 ≡ (0, lent) ∷ more → lent.setup ≡ m0.0.setup
 lent_setup m0 m1 m2 more t b lent drawn taken is =
     ap (λ (x : Content). x.setup) (same_hand m2.1 more b lent taken.3 is) ∙ (taken.1 ∙ ap (λ (x : View). x.setup) drawn)
+
+-- the hand has the board that was taken, and nothing else
+pub in_hand : (m1 m2 : Mine) (b : Content) → HasTaken m1 m2 b → (x : Content) × (m2.1 ≡ (0, x) ∷ rest m2.1)
+in_hand m1 m2 b taken = (b, taken.3 ∙ ap (λ (l : List (ℕ × Content)). (0, b) ∷ l) (sym (ap rest taken.3)))
+
+-- before the board's own call the seat has seen all of its entries es
+pub seen_before : (m1 m2 : Mine) (more : List (ℕ × Content)) (b lent : Content) (es : List Entry) → HasTaken m1 m2 b →
+    m2.1 ≡ (0, lent) ∷ more → es ≡ entries_of lent.events → length es ≡ length m2.0.seen
+seen_before m1 m2 more b lent es taken is listed =
+    let seen : m2.0.seen ≡ lent.events = ap (λ (x : View). x.seen) taken.2.1 ∙
+    sym (ap (λ (x : Content). x.events) (same_hand m2.1 more b lent taken.3 is)) in
+    ap (λ (l : List Entry). length l) listed ∙
+    (length-entries lent.events ∙ ap (λ (l : List BoardEvent). length l) (sym seen))
+
+-- what it has seen after the call is legal
+pub legal_after : (m0 m1 m2 m3 : Mine) (more : List (ℕ × Content)) (t : ℕ) (b lent b' : Content) →
+    m1.0 ≡ at_stage m0.0 (waits t) → HasTaken m1 m2 b → m2.1 ≡ (0, lent) ∷ more → b'.setup ≡ lent.setup
+    → m3 ≡ (record m2.0 { seen = b'.events; stage = idle }, []) → IsLegalHistory b'.setup b'.events →
+    IsLegalHistory m3.0.setup m3.0.seen
+legal_after m0 m1 m2 m3 more t b lent b' drawn taken is same given legal =
+    let named : m3.0.setup ≡ m0.0.setup = ap (λ (x : Mine). x.0.setup) given ∙
+    (ap (λ (x : View). x.setup) taken.2.1 ∙ ap (λ (x : View). x.setup) drawn) in
+    let setup : b'.setup ≡ m3.0.setup =
+    same ∙ (lent_setup m0 m1 m2 more t b lent drawn taken is ∙ sym named) in
+    let seen : b'.events ≡ m3.0.seen = sym (ap (λ (x : Mine). x.0.seen) given) in
+    subst (λ (x : Content). IsLegalHistory x.setup x.events) (λ i. content (setup i) (seen i)) legal
 
 -- ---- a call makes no event, or one of its caller
 
@@ -81,9 +119,6 @@ halt_follows h c false = inr (Stopped c, refl, refl)
 
 pub halt_goes_on : (b : Content) (c : ℕ) → Follows c b.events (after_halt b c).events
 halt_goes_on b c = halt_follows b.events c (list_any (is_halt_of c) b.events)
-
-pub length-entries : (h : List BoardEvent) → length (entries_of h) ≡ length h
-length-entries h = length-map h entry_of
 
 -- what is in the seat's hand after the board's own call, whose entries are es
 pub handed : (m0 m1 m2 : Mine) (more : List (ℕ × Content)) (t c : ℕ) (b lent b' : Content) (after : Content → Content)

@@ -1,6 +1,6 @@
-use Rattle.board_share.proofs.Common.{◌≡◌, refl, ap, subst, ◌∙◌, Content, claim_answer, after_claim, claim_of}
-use Rattle.board_share.proofs.Common.{LeavesTask, View}
-use Rattle.board_share.proofs.Lemmas.{calls, same_hand, handed, claim_goes_on}
+use Rattle.board_share.proofs.Common.{◌∙◌, ◌≡◌, refl, ap, claim_answer, after_claim, claim_of}
+use Rattle.board_share.proofs.Common.{LeavesTask, View, Mine, Content}
+use Rattle.board_share.proofs.Lemmas.{call_tells, handed, in_hand, seen_before, legal_after, claim_goes_on}
 use Rattle.board_share.proofs.shared.SharedBoard.claim_at.Goals as goal
 
 pub finish-requires-clause-turn : goal.finish-requires-clause-turn
@@ -18,11 +18,43 @@ finish-requires-clause-hand g c =
 
 pub returns-clause-called : goal.returns-clause-called
 returns-clause-called g c = let d = c.draw-ticket.ensures.drawn in let t = c.take_turn.ensures.taken in
-    let same = same_hand c.take_turn.new.seat.me.1 _ t.0 c.slot_mut-board.result.now t.1.3
-    c.slot_mut-board.ensures.value in
-    let tells : Content → Type 0 = λ b. (c.claim-answer.result ≡ claim_of (claim_answer b)) ×
-    LeavesTask b (claim_answer b) c.args.into.now c.claim-answer.new.into in
-    calls tells (λ b. after_claim b c.args.caller) c.args.seat.now.me c.draw-ticket.new.seat.me c.take_turn.new.seat.me
-    c.finish.new.seat.me d.0 t.0 c.claim-answer.new.self c.requires.ready.0 d.2 t.1
-    (subst tells same (c.claim-answer.ensures.answer, c.claim-answer.ensures.task))
-    (c.claim-answer.ensures.after ∙ ap (λ (b : Content). after_claim b c.args.caller) same) c.finish.ensures.given
+    call_tells (λ b. (c.claim-answer.result ≡ claim_of (claim_answer b)) ×
+    LeavesTask b (claim_answer b) c.args.into.now c.claim-answer.new.into)
+    (λ b. after_claim b c.args.caller) c.args.seat.now.me c.draw-ticket.new.seat.me c.take_turn.new.seat.me
+    c.finish.new.seat.me _ d.0 t.0 c.slot_mut-board.result.now c.claim-answer.new.self c.requires.ready.0 d.2 t.1
+    c.slot_mut-board.ensures.value (c.claim-answer.ensures.answer, c.claim-answer.ensures.task)
+    c.claim-answer.ensures.after c.finish.ensures.given
+
+pub take_turn-requires-clause-own : goal.take_turn-requires-clause-own
+take_turn-requires-clause-own g c = c.draw-ticket.ensures.same.0 ∙ c.requires.own
+
+pub take_turn-requires-clause-ready : goal.take_turn-requires-clause-ready
+take_turn-requires-clause-ready g c = let d = c.draw-ticket.ensures.drawn in
+    (c.draw-ticket.ensures.same.2 ∙ c.requires.ready.1, (d.0, ap (λ (x : View). x.stage) d.2, d.1))
+
+pub slot_mut-board-requires : goal.slot_mut-board-requires
+slot_mut-board-requires g c = (
+  c.take_turn.ensures.same.0 ∙ (c.draw-ticket.ensures.same.0 ∙ c.requires.own),
+  in_hand c.draw-ticket.new.seat.me c.take_turn.new.seat.me c.take_turn.ensures.taken.0 c.take_turn.ensures.taken.1,
+)
+
+pub finish-requires-clause-own : goal.finish-requires-clause-own
+finish-requires-clause-own g c = c.take_turn.ensures.same.0 ∙ (c.draw-ticket.ensures.same.0 ∙ c.requires.own)
+
+pub finish-requires-clause-before : goal.finish-requires-clause-before
+finish-requires-clause-before g c = seen_before c.draw-ticket.new.seat.me c.take_turn.new.seat.me _
+    c.take_turn.ensures.taken.0 c.slot_mut-board.result.now c.history-before.result.now c.take_turn.ensures.taken.1
+    c.slot_mut-board.ensures.value c.history-before.ensures.entries
+
+pub returns-clause-same : goal.returns-clause-same
+returns-clause-same g c = (
+  c.finish.ensures.same.0 ∙ (c.take_turn.ensures.same.0 ∙ c.draw-ticket.ensures.same.0),
+  c.finish.ensures.same.1 ∙ (c.take_turn.ensures.same.1 ∙ c.draw-ticket.ensures.same.1),
+  ap (λ (m : Mine). m.1) c.finish.ensures.given,
+)
+
+pub returns-clause-legal : goal.returns-clause-legal
+returns-clause-legal g c = legal_after c.args.seat.now.me c.draw-ticket.new.seat.me c.take_turn.new.seat.me
+    c.finish.new.seat.me _ c.draw-ticket.ensures.drawn.0 c.take_turn.ensures.taken.0 c.slot_mut-board.result.now
+    c.claim-answer.new.self c.draw-ticket.ensures.drawn.2 c.take_turn.ensures.taken.1 c.slot_mut-board.ensures.value
+    (ap (λ (b : Content). b.setup) c.claim-answer.ensures.after) c.finish.ensures.given c.history-after.ensures.legal

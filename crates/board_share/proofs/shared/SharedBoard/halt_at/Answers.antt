@@ -1,11 +1,62 @@
-use Rattle.board_share.proofs.Common.{ap, ◌∙◌, Content, after_halt}
-use Rattle.board_share.proofs.Lemmas.{calls, same_hand}
+use Rattle.board_share.proofs.Common.{◌∙◌, sym, subst, ◌<◌, refl, ap, after_halt, View, Mine, Content, Setup}
+use Rattle.board_share.proofs.Lemmas.{call_tells, handed, in_hand, seen_before, legal_after, lent_setup, halt_goes_on}
 use Rattle.board_share.proofs.shared.SharedBoard.halt_at.Goals as goal
+
+pub finish-requires-clause-turn : goal.finish-requires-clause-turn
+finish-requires-clause-turn g c = let t = c.take_turn.ensures.taken in (t.1.2.0, ap (λ (x : View). x.stage) t.1.2.1)
+
+pub finish-requires-clause-hand : goal.finish-requires-clause-hand
+finish-requires-clause-hand g c =
+    let d = c.draw-ticket.ensures.drawn in
+    let t = c.take_turn.ensures.taken in
+    handed c.args.seat.now.me c.draw-ticket.new.seat.me c.take_turn.new.seat.me _ d.0 c.args.caller t.0
+    c.slot_mut-board.result.now c.halt.new.self (λ b. after_halt b c.args.caller) c.history-after.result.now
+    c.requires.ready.2 d.2 t.1 c.slot_mut-board.ensures.value c.halt.ensures
+    (halt_goes_on c.slot_mut-board.result.now c.args.caller) refl c.history-after.ensures.entries
 
 pub returns-clause-called : goal.returns-clause-called
 returns-clause-called g c = let d = c.draw-ticket.ensures.drawn in let t = c.take_turn.ensures.taken in
-    let same = same_hand c.take_turn.new.seat.me.1 _ t.0 c.slot_mut-board.result.now t.1.3
-    c.slot_mut-board.ensures.value in
-    calls (λ b. Unit {0}) (λ b. after_halt b c.args.caller) c.args.seat.now.me c.draw-ticket.new.seat.me
-    c.take_turn.new.seat.me c.finish.new.seat.me d.0 t.0 c.halt.new.self c.requires.ready.0 d.2 t.1
-    tt (c.halt.ensures ∙ ap (λ (b : Content). after_halt b c.args.caller) same) c.finish.ensures.given
+    call_tells (λ b. Unit {0}) (λ b. after_halt b c.args.caller) c.args.seat.now.me c.draw-ticket.new.seat.me
+    c.take_turn.new.seat.me c.finish.new.seat.me _ d.0 t.0 c.slot_mut-board.result.now c.halt.new.self
+    c.requires.ready.0 d.2 t.1 c.slot_mut-board.ensures.value tt c.halt.ensures c.finish.ensures.given
+
+pub take_turn-requires-clause-own : goal.take_turn-requires-clause-own
+take_turn-requires-clause-own g c = c.draw-ticket.ensures.same.0 ∙ c.requires.own
+
+pub take_turn-requires-clause-ready : goal.take_turn-requires-clause-ready
+take_turn-requires-clause-ready g c = let d = c.draw-ticket.ensures.drawn in
+    (c.draw-ticket.ensures.same.2 ∙ c.requires.ready.1, (d.0, ap (λ (x : View). x.stage) d.2, d.1))
+
+pub slot_mut-board-requires : goal.slot_mut-board-requires
+slot_mut-board-requires g c = (
+  c.take_turn.ensures.same.0 ∙ (c.draw-ticket.ensures.same.0 ∙ c.requires.own),
+  in_hand c.draw-ticket.new.seat.me c.take_turn.new.seat.me c.take_turn.ensures.taken.0 c.take_turn.ensures.taken.1,
+)
+
+pub halt-requires : goal.halt-requires
+halt-requires g c = subst (λ (s : Setup). c.args.caller < s.callers)
+    (sym (lent_setup c.args.seat.now.me c.draw-ticket.new.seat.me c.take_turn.new.seat.me _
+    c.draw-ticket.ensures.drawn.0 c.take_turn.ensures.taken.0 c.slot_mut-board.result.now
+    c.draw-ticket.ensures.drawn.2 c.take_turn.ensures.taken.1 c.slot_mut-board.ensures.value))
+    c.requires.caller
+
+pub finish-requires-clause-own : goal.finish-requires-clause-own
+finish-requires-clause-own g c = c.take_turn.ensures.same.0 ∙ (c.draw-ticket.ensures.same.0 ∙ c.requires.own)
+
+pub finish-requires-clause-before : goal.finish-requires-clause-before
+finish-requires-clause-before g c = seen_before c.draw-ticket.new.seat.me c.take_turn.new.seat.me _
+    c.take_turn.ensures.taken.0 c.slot_mut-board.result.now c.history-before.result.now c.take_turn.ensures.taken.1
+    c.slot_mut-board.ensures.value c.history-before.ensures.entries
+
+pub returns-clause-same : goal.returns-clause-same
+returns-clause-same g c = (
+  c.finish.ensures.same.0 ∙ (c.take_turn.ensures.same.0 ∙ c.draw-ticket.ensures.same.0),
+  c.finish.ensures.same.1 ∙ (c.take_turn.ensures.same.1 ∙ c.draw-ticket.ensures.same.1),
+  ap (λ (m : Mine). m.1) c.finish.ensures.given,
+)
+
+pub returns-clause-legal : goal.returns-clause-legal
+returns-clause-legal g c = legal_after c.args.seat.now.me c.draw-ticket.new.seat.me c.take_turn.new.seat.me
+    c.finish.new.seat.me _ c.draw-ticket.ensures.drawn.0 c.take_turn.ensures.taken.0 c.slot_mut-board.result.now
+    c.halt.new.self c.draw-ticket.ensures.drawn.2 c.take_turn.ensures.taken.1 c.slot_mut-board.ensures.value
+    (ap (λ (b : Content). b.setup) c.halt.ensures) c.finish.ensures.given c.history-after.ensures.legal
