@@ -10,6 +10,7 @@ pub use Rattle.plan_check.proofs.PlanLaws.{first_thermal, first_renewable, first
 pub use Rattle.plan_check.proofs.PlanLaws.{HasLengths, refusals_are_exact}
 pub use Rattle.plan_check.proofs.RunLaws.{stops_from, false_true}
 pub use Rattle.plan_check.proofs.ShapeLaws.{covers}
-pub use Rattle.plan_check.proofs.SystemLaws.{sum_over-more, plan_cost_is, total_power_is, total_map-append, unbalanced}
+pub use Rattle.plan_check.proofs.SystemLaws.{sum_over-more, sum_over-whole, plan_cost_is, total_power_is}
+pub use Rattle.plan_check.proofs.SystemLaws.{total_map-append, unbalanced}
 pub use Rattle.plan_check.proofs.SystemLaws.{total_reserve_is}
 pub use Rattle.plan_check.proofs.ToldLaws.{told_none, told_first, some_first}

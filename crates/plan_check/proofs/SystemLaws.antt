@@ -1,11 +1,13 @@
 -- Sums over all units are sums over their schedules; what a bid buys counts below 0.
 use Rattle.plan_check.proofs.Common.{◌≡◌, ℕ, zero, suc, ◌+◌, ◌≤◌, ℤ, pos, neg_ℤ, ◌+ℤ◌, ◌-ℤ◌, Bool, true, false, ◌&&◌}
-use Rattle.plan_check.proofs.Common.{Some, List, [], ◌∷◌, ◌++◌, map, length, take, drop, refl, ap, arith, length-append}
+use Rattle.plan_check.proofs.Common.{Some, List, [], ◌∷◌, ◌++◌, map, length, take, drop, refl, ap, ◌∙◌, arith}
+use Rattle.plan_check.proofs.Common.{length-append}
 use Rattle.plan_check.proofs.Common.{length-take, length-drop, ints, length-map, All-append, All-map, int_le, slice_get}
 use Rattle.plan_check.proofs.Common.{All, AnyUnit, Thermal, Flat, Bid, NamedThermalUnit, NamedRenewableUnit}
 use Rattle.plan_check.proofs.Common.{NamedBidUnit, Schedule, Market, units, unit_count, supply_in, cost_of, unless}
 use Rattle.plan_check.proofs.Common.{power_in, reserve_in, total, total_power, total_reserve, plan_cost, same_item}
 use Rattle.plan_check.proofs.Common.{none_some, sum_over, thermal_units, bid_units, powers_at, reserves_at}
+use Rattle.std.proofs.Math.Seq.{take-length}
 use Rattle.plan_check.proofs.RunLaws.{both_true}
 use Rattle.plan_check.proofs.ThermalLaws.{le_from_z}
 
@@ -14,6 +16,12 @@ pub total_map-append : {X Y : Type 0} → (g : Y → ℤ) (f : X → Y) (xs : Li
     total (map g (map f (xs ++ x ∷ []))) ≡ total (map g (map f xs)) +ℤ g (f x)
 total_map-append g f [] x = omega (arith, ints)
 total_map-append g f (y ∷ xs) x = omega (arith, ints, total_map-append g f xs x)
+
+-- the sum over all of the units that there are
+pub sum_over-whole : (f : AnyUnit → Schedule → ℤ) (us : List AnyUnit) (ss : List Schedule) (n : ℕ) → n ≡ length us →
+    sum_over f (take n us) ss ≡ sum_over f us ss
+sum_over-whole f us ss n all =
+    ap (λ (l : List AnyUnit). sum_over f l ss) (ap (λ (k : ℕ). take k us) all ∙ take-length us)
 
 -- units at the front take the schedules at the front
 pub sum_over-front : (f : AnyUnit → Schedule → ℤ) (us vs : List AnyUnit) (ss : List Schedule) → length us ≤ length ss →

@@ -1,9 +1,10 @@
-use Rattle.plan_check.proofs.Common.{◌≡◌, ℕ, ◌++◌, Some, map, sym, subst, arith, ints, length-map, slice_get, AnyUnit}
+use Rattle.plan_check.proofs.Common.{◌≡◌, ◌∙◌, length, ℕ, ◌++◌, Some, map, sym, subst, arith, ints, length-map}
+use Rattle.plan_check.proofs.Common.{slice_get, AnyUnit}
 use Rattle.plan_check.proofs.Common.{Thermal, Flat, NamedThermalUnit, NamedRenewableUnit, Schedule, cost_of, market_of}
 use Rattle.plan_check.proofs.Common.{schedules_of, thermal_of, schedule_of, named_thermal_of, IsFeasible}
 use Rattle.plan_check.proofs.Common.{IsThermalFeasible, item_of, map_item, zip_item, front_item, thermal_units}
 use Rattle.plan_check.proofs.Common.{bid_units}
-use Rattle.plan_check.proofs.Lemmas.{HasLengths, sum_over-more}
+use Rattle.plan_check.proofs.Lemmas.{HasLengths, sum_over-more, sum_over-whole}
 use Rattle.plan_check.proofs.costs.thermal_costs.Goals as goal
 use Rattle.plan_check.proofs.costs.thermal_costs.Goals.{After-get-response}
 
@@ -61,3 +62,12 @@ loop-place-preserved c =
         at_most = omega (arith, ints, mapped);
       };
     }
+
+pub returns-clause-value : goal.returns-clause-value
+returns-clause-value c =
+    let m = market_of c.args.case.now in
+    let named = length-map c.args.case.now.thermal.items named_thermal_of in
+    let mapped = length-map m.thermal (λ (n : NamedThermalUnit). Thermal n.unit) in
+    let all : c.loop-place.place ≡ length (thermal_units m) = omega (arith, named, mapped) in
+    c.loop-place.invariant.is ∙
+    sum_over-whole cost_of (thermal_units m) (schedules_of c.args.plan.now) c.loop-place.place all

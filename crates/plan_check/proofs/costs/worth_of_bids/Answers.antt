@@ -1,7 +1,8 @@
-use Rattle.plan_check.proofs.Common.{◌≡◌, ℕ, ◌+◌, Some, length, drop, sym, ap, ◌∙◌, arith, ints, length-map, slice_get}
+use Rattle.plan_check.proofs.Common.{◌≡◌, ℕ, ◌+◌, ℤ, neg_ℤ, Some, length, drop, sym, ap, ◌∙◌, arith, ints, length-map}
+use Rattle.plan_check.proofs.Common.{slice_get}
 use Rattle.plan_check.proofs.Common.{Bid, NamedBidUnit, cost_of, IsBidUnit, market_of, schedules_of, schedule_of}
 use Rattle.plan_check.proofs.Common.{named_bid_of, item_of, map_item, drop_item, bid_units}
-use Rattle.plan_check.proofs.Lemmas.{HasLengths, sum_over-more}
+use Rattle.plan_check.proofs.Lemmas.{HasLengths, sum_over-more, sum_over-whole}
 use Rattle.plan_check.proofs.costs.worth_of_bids.Goals as goal
 use Rattle.plan_check.proofs.costs.worth_of_bids.Goals.{After-get-in-loop-place}
 
@@ -50,3 +51,12 @@ loop-place-preserved c =
         at_most = omega (arith, ints, mapped);
       };
     }
+
+pub returns-clause-value : goal.returns-clause-value
+returns-clause-value c =
+    let m = market_of c.args.case.now in
+    let named = length-map c.args.case.now.bids.items named_bid_of in
+    let mapped = length-map m.bids (λ (n : NamedBidUnit). Bid n.unit) in
+    let all : c.loop-place.place ≡ length (bid_units m) = omega (arith, named, mapped) in
+    c.loop-place.invariant.is ∙ ap (λ (z : ℤ). neg_ℤ z) (sum_over-whole cost_of (bid_units m)
+    (drop (length m.thermal + length m.flat) (schedules_of c.args.plan.now)) c.loop-place.place all)
