@@ -1,4 +1,6 @@
-//! The forms of fields: each reads one value, and its faults are at the site.
+//! The forms of fields: each reads one value, and its faults are at the site. What kind a value is, and
+//! whether a key is there, is tested where it is read: a number handed on by a call of its own would be
+//! copied once more.
 ghost use Rattle.std.specs.Prelude.{◌≡◌, ◌≤◌, ◌^◌, IfOk, length, pos};
 ghost use Rattle.plain_lists.specs.Ranges.{IsFrom};
 ghost use Rattle.uc_model.specs.Limits.{IsCost};
@@ -6,7 +8,7 @@ ghost use Rattle.uc_model.specs.declared.limits.TheConstants.{MOST_TIME};
 ghost use Rattle.text_tree.specs.View.{view, items_in, members_in, member_views};
 ghost use Rattle.uc_file.specs.Given.{Gives};
 ghost use Rattle.uc_field.specs.Sites.{fault};
-ghost use Rattle.uc_field.specs.Forms.{decimal, list, full, object, amount, power, cost};
+ghost use Rattle.uc_field.specs.Forms.{full, object, amount, power, cost};
 ghost use Rattle.uc_field.specs.Forms.{time_within, flag, under, part};
 ghost use Rattle.uc_file.specs.declared.stop.Stop.TheVariants as stops;
 
@@ -16,7 +18,7 @@ use std::alloc::Global;
 use text_tree::{Branch, ListBranch, Member, ObjectBranch};
 use uc_file::inside::{bit, find};
 use uc_file::stop::Stop;
-use uc_num::{Decimal, is_whole, whole};
+use uc_num::{is_whole, whole};
 
 /// Why the reading of a case stops.
 pub type FieldStop = Stop<FieldFault>;
@@ -27,26 +29,6 @@ impl Site {
         ensures { result ≡ stops.Fault (fault self code) }
     {
         Stop::Fault(self.fault(code))
-    }
-}
-
-/// The number that a value is; `WrongKind` where it is none.
-pub fn number_of(at: Site, branch: Branch<'_>) -> Result<Decimal, FieldStop>
-    ensures { Gives (λ d. d) result (decimal at (view branch.entry)) }
-{
-    match branch.number() {
-        Some(d) => Ok(d),
-        None => Err(at.stop(CaseCode::WrongKind)),
-    }
-}
-
-/// The list that a value is; `WrongKind` where it is none. It takes no memory.
-pub fn list_of(at: Site, branch: Branch<'_>) -> Result<ListBranch<'_>, FieldStop>
-    ensures { Gives items_in result (list at (view branch.entry)) }
-{
-    match branch.list() {
-        Some(list) => Ok(list),
-        None => Err(at.stop(CaseCode::WrongKind)),
     }
 }
 
@@ -67,7 +49,9 @@ pub fn full_list(at: Site, branch: Branch<'_>, periods: u32) -> Result<ListBranc
     ensures count { IfOk result (λ l. length (items_in l) ≡ periods) }
     ensures value { Gives items_in result (full periods at (view branch.entry)) }
 {
-    let list = list_of(at, branch)?;
+    let Some(list) = branch.list() else {
+        return Err(at.stop(CaseCode::WrongKind));
+    };
     if list.len() != periods as usize {
         return Err(at.stop(CaseCode::WrongLength));
     }
@@ -82,7 +66,10 @@ pub fn members_of<'a>(
 ) -> Result<Vec<Member<'a>>, FieldStop>
     ensures { Gives (λ ms. member_views ms.items) result (object at (view branch.entry)) }
 {
-    Ok(object_of(at, branch)?.members(alloc)?)
+    match branch.object() {
+        Some(object) => Ok(object.members(alloc)?),
+        None => Err(at.stop(CaseCode::WrongKind)),
+    }
 }
 
 /// A number at a scale, from 0 to the limit. It is tried in the order `WrongKind`, `TooLarge` in
@@ -94,7 +81,9 @@ pub fn read_amount(at: Site, branch: Branch<'_>, scale: u32, limit: u64) -> Resu
     ensures bound { IfOk result (λ n. IsFrom (pos 0) (pos limit) n) }
     ensures value { Gives (λ n. n) result (amount scale limit at (view branch.entry)) }
 {
-    let d = number_of(at, branch)?;
+    let Some(d) = branch.number() else {
+        return Err(at.stop(CaseCode::WrongKind));
+    };
     let Ok(amount) = whole(d, scale, limit) else {
         return Err(at.stop(CaseCode::TooLarge));
     };
@@ -120,7 +109,9 @@ pub fn read_cost(at: Site, branch: Branch<'_>) -> Result<i64, FieldStop>
     ensures bound { IfOk result (λ n. IsCost n) }
     ensures value { Gives (λ n. n) result (cost at (view branch.entry)) }
 {
-    let d = number_of(at, branch)?;
+    let Some(d) = branch.number() else {
+        return Err(at.stop(CaseCode::WrongKind));
+    };
     match whole(d, 6, COST) {
         Ok(cost) => Ok(cost),
         Err(_) => Err(at.stop(CaseCode::TooLarge)),
@@ -135,7 +126,9 @@ pub fn read_time(at: Site, branch: Branch<'_>, limit: u64) -> Result<u32, FieldS
     ensures bound { IfOk result (λ n. n ≤ limit) }
     ensures value { Gives (λ n. n) result (time_within limit at (view branch.entry)) }
 {
-    let d = number_of(at, branch)?;
+    let Some(d) = branch.number() else {
+        return Err(at.stop(CaseCode::WrongKind));
+    };
     if !is_whole(d) {
         return Err(at.stop(CaseCode::NotWhole));
     }
@@ -153,7 +146,9 @@ pub fn read_time(at: Site, branch: Branch<'_>, limit: u64) -> Result<u32, FieldS
 pub fn read_flag(at: Site, branch: Branch<'_>) -> Result<bool, FieldStop>
     ensures { Gives (λ b. b) result (flag at (view branch.entry)) }
 {
-    let d = number_of(at, branch)?;
+    let Some(d) = branch.number() else {
+        return Err(at.stop(CaseCode::WrongKind));
+    };
     if !is_whole(d) {
         return Err(at.stop(CaseCode::NotWhole));
     }

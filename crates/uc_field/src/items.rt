@@ -9,7 +9,7 @@ ghost use Rattle.uc_field.specs.Forms.{Read, few};
 ghost use Rattle.uc_field.specs.declared.fault.Site.{Site as PlainSite};
 
 use crate::fault::{CaseCode, Site};
-use crate::forms::{FieldStop, list_of};
+use crate::forms::FieldStop;
 use plain_lists::lists::ReservedList;
 use std::alloc::Global;
 use text_tree::{Branch, ListBranch};
@@ -98,7 +98,9 @@ pub fn read_few<I: Item + Drop>(
     ensures fits { IfOk result (λ l. I.Keeps l.items) }
     ensures value { Gives (λ l. l.items) result (few I.reading most at (view branch.entry)) }
 {
-    let list = list_of(at, branch)?;
+    let Some(list) = branch.list() else {
+        return Err(at.stop(CaseCode::WrongKind));
+    };
     if list.len() > most {
         return Err(at.stop(CaseCode::TooLarge));
     }
