@@ -2,17 +2,17 @@
 ghost use Rattle.std.specs.Prelude.{◌≡◌, ◌≤◌, length, IfOk};
 ghost use Rattle.uc_model.specs.declared.limits.TheConstants.{MOST_PERIODS};
 ghost use Rattle.text_tree.specs.Values.{scalar, number as number_spec};
-ghost use Rattle.text_tree.specs.View.{view, items_in, member_views};
+ghost use Rattle.text_tree.specs.View.{view, member_views};
 ghost use Rattle.uc_file.specs.Given.{Gives};
 ghost use Rattle.uc_field.specs.Forms.{keys, key_or_none, at_item};
-ghost use Rattle.uc_field.specs.Lists.{mark, mark_in, window_items, window, commitment};
+ghost use Rattle.uc_field.specs.Lists.{mark, mark_in, window, commitment};
 
 use crate::fault::{CaseCode, Field, Site};
 use crate::forms::FieldStop;
 use crate::items::{Item, read_items};
 use crate::keys::Keys;
 use std::alloc::Global;
-use text_tree::{Branch, ListBranch};
+use text_tree::Branch;
 use uc_file::inside::bit;
 use uc_model::units::{Mark, Marks};
 use uc_num::Decimal;
@@ -55,22 +55,8 @@ impl Item for Mark {
     }
 }
 
-/// The list of a window; `WindowShape` where the value is no list of an item for each period.
-#[tactic(auto, unfolding(crate::specs::Lists::window_items))]
-fn window_list(at: Site, branch: Branch<'_>, periods: u32) -> Result<ListBranch<'_>, FieldStop>
-    ensures count { IfOk result (λ l. length (items_in l) ≡ periods) }
-    ensures value { Gives items_in result (window_items periods at (view branch.entry)) }
-{
-    let Some(list) = branch.list() else {
-        return Err(at.stop(CaseCode::WindowShape));
-    };
-    if list.len() != periods as usize {
-        return Err(at.stop(CaseCode::WindowShape));
-    }
-    Ok(list)
-}
-
-#[tactic(auto, unfolding(crate::specs::Lists::window))]
+/// The marks of a window; `WindowShape` where the value is no list of an item for each period.
+#[tactic(auto, unfolding(crate::specs::Lists::window, crate::specs::Lists::window_items))]
 fn read_window(
     alloc: Global,
     at: Site,
@@ -81,7 +67,12 @@ fn read_window(
     ensures count { IfOk result (λ ms. length ms.items ≡ periods) }
     ensures value { Gives (λ ms. ms.items) result (window periods at (view branch.entry)) }
 {
-    let list = window_list(at, branch, periods)?;
+    let Some(list) = branch.list() else {
+        return Err(at.stop(CaseCode::WindowShape));
+    };
+    if list.len() != periods as usize {
+        return Err(at.stop(CaseCode::WindowShape));
+    }
     read_items::<Mark>(alloc, at, list)
 }
 
