@@ -12,10 +12,10 @@ pub use Rattle.hull_io.specs.Edge.{Rose, grown, Gains, FallsShort, Writes}
 pub use Rattle.report_form.specs.Laws.{IsFlatLine, TextDeterminesReport}
 pub use Rattle.report_form.specs.Numerals.{digits_up_to, signed_numeral}
 unfoldable pub use Rattle.report_form.specs.Numerals.{numeral}
-pub use Rattle.report_form.specs.Parts.{hex_of, stands_as_is, spaced_flags, flag_text, spaced_counts, spaced, tally}
+pub use Rattle.report_form.specs.Parts.{hex_of, stands_as_is, spaced_flags, spaced, tally}
 pub use Rattle.report_form.specs.Parts.{part_text}
 unfoldable pub use Rattle.report_form.specs.Parts.{escaped}
-pub use Rattle.report_form.specs.Forms.{is_gap, filled}
+pub use Rattle.report_form.specs.Forms.{is_blank, filled}
 pub use Rattle.report_form.specs.Pending.{Pends, Adds}
 pub use Rattle.report_form.specs.ReportText.{UnitLine, rows_text, renewable_text, bid_text, Report}
 pub use Rattle.report_form.specs.SettlementText.{SettlementReport, TextDeterminesSettlement}

@@ -1,8 +1,8 @@
--- Forms, cut at their gaps, and what of a form is written.
+-- Forms, cut at their blanks, and what of a form is written.
 use Rattle.report_form.proofs.Common.{◌≡◌, ℕ, suc, ◌+◌, ◌<◌, ◌≤◌, List, [], ◌++◌, length, take, drop, get_or, Option}
 use Rattle.report_form.proofs.Common.{None, Some, Result, IsErr, refl, sym, ap, subst, ◌∙◌, arith, append_assoc}
 use Rattle.report_form.proofs.Common.{take_all, true, false, cond, nat_lt, nat_tests, FallsShort, Writes, Pends}
-use Rattle.report_form.proofs.Common.{part_text, is_gap, filled}
+use Rattle.report_form.proofs.Common.{part_text, is_blank, filled}
 use Rattle.report_form.specs.declared.parts.Part.{Part}
 use Rattle.std.proofs.Math.Seq.{drop-cons}
 use Rattle.std.proofs.Common.{◌-◌, length-drop}
@@ -11,56 +11,56 @@ use Rattle.std.specs.List.{position, position_or_len, before_first, after_first}
 use Rattle.report_form.proofs.GrownLemmas.{short_more, writes_then, writes_exit}
 use Rattle.report_form.proofs.PieceLemmas.{pends_all, pends_then, short_behind}
 
--- ---- the first gap
+-- ---- the first blank
 
-pub gap_at : (form : List ℕ) (i : ℕ) → position is_gap form ≡ Some i → position_or_len is_gap form ≡ i
-gap_at form i h =
-    elim (nat_lt (position_or_len is_gap form) (length form)) as (λ b.
-    cond b (Some (position_or_len is_gap form)) None ≡ Some i → position_or_len is_gap form ≡ i) [
+pub blank_at : (form : List ℕ) (i : ℕ) → position is_blank form ≡ Some i → position_or_len is_blank form ≡ i
+blank_at form i h =
+    elim (nat_lt (position_or_len is_blank form) (length form)) as (λ b.
+    cond b (Some (position_or_len is_blank form)) None ≡ Some i → position_or_len is_blank form ≡ i) [
       | true ↦ λ e. (cc)
       | false ↦ λ e. (cc)
     ] h
 
-pub no_gap : (form : List ℕ) → position is_gap form ≡ None → length form ≤ position_or_len is_gap form
-no_gap form h =
-    elim (nat_lt (position_or_len is_gap form) (length form)) as (λ b.
-    nat_lt (position_or_len is_gap form) (length form) ≡ b → cond b (Some (position_or_len is_gap form)) None ≡ None
-    → length form ≤ position_or_len is_gap form) [
+pub no_blank : (form : List ℕ) → position is_blank form ≡ None → length form ≤ position_or_len is_blank form
+no_blank form h =
+    elim (nat_lt (position_or_len is_blank form) (length form)) as (λ b.
+    nat_lt (position_or_len is_blank form) (length form) ≡ b → cond b (Some (position_or_len is_blank form)) None ≡ None
+    → length form ≤ position_or_len is_blank form) [
       | true ↦ λ t e. (cc)
       | false ↦ λ t e. grind (arith, nat_tests)
     ] refl h
 
-pub before_gap : (form : List ℕ) (i : ℕ) → position is_gap form ≡ Some i → take i form ≡ before_first is_gap form
-before_gap form i h = ap (λ (k : ℕ). take k form) (sym (gap_at form i h))
+pub before_blank : (form : List ℕ) (i : ℕ) → position is_blank form ≡ Some i → take i form ≡ before_first is_blank form
+before_blank form i h = ap (λ (k : ℕ). take k form) (sym (blank_at form i h))
 
-pub behind_gap : (form : List ℕ) (i : ℕ) → position is_gap form ≡ Some i →
-    take (length form - (i + 1)) (drop (i + 1) form) ≡ after_first is_gap form
-behind_gap form i h =
+pub behind_blank : (form : List ℕ) (i : ℕ) → position is_blank form ≡ Some i →
+    take (length form - (i + 1)) (drop (i + 1) form) ≡ after_first is_blank form
+behind_blank form i h =
     let long = length-drop (i + 1) form in
     take_all (length form - (i + 1)) (drop (i + 1) form) (omega (arith, long))
-    ∙ ap (λ (k : ℕ). drop (k + 1) form) (sym (gap_at form i h))
+    ∙ ap (λ (k : ℕ). drop (k + 1) form) (sym (blank_at form i h))
 
-pub before_none : (form : List ℕ) → position is_gap form ≡ None → form ≡ before_first is_gap form
-before_none form h = sym (take_all (position_or_len is_gap form) form (no_gap form h))
+pub before_none : (form : List ℕ) → position is_blank form ≡ None → form ≡ before_first is_blank form
+before_none form h = sym (take_all (position_or_len is_blank form) form (no_blank form h))
 
-pub behind_none : (form : List ℕ) → position is_gap form ≡ None → [] ≡ after_first is_gap form
+pub behind_none : (form : List ℕ) → position is_blank form ≡ None → [] ≡ after_first is_blank form
 behind_none form h =
-    let past = no_gap form h in sym (drop_all (position_or_len is_gap form + 1) form (omega (arith, past)))
+    let past = no_blank form h in sym (drop_all (position_or_len is_blank form + 1) form (omega (arith, past)))
 
 -- ---- a form, part by part
 
 pub filled_at : (form : List ℕ) (parts : List Part) (i : ℕ) (d : Part) → i < length parts →
-    filled form (drop i parts) ≡ before_first is_gap form ++ part_text (get_or parts i d)
-    ++ filled (after_first is_gap form) (drop (i + 1) parts)
+    filled form (drop i parts) ≡ before_first is_blank form ++ part_text (get_or parts i d)
+    ++ filled (after_first is_blank form) (drop (i + 1) parts)
 filled_at form parts i d h =
     let next : suc i ≡ i + 1 = omega arith in
     ap (filled form) (drop-cons parts i d h)
-    ∙ ap (λ (k : ℕ). before_first is_gap form ++ part_text (get_or parts i d)
-    ++ filled (after_first is_gap form) (drop k parts)) next
+    ∙ ap (λ (k : ℕ). before_first is_blank form ++ part_text (get_or parts i d)
+    ++ filled (after_first is_blank form) (drop k parts)) next
 
 -- the same of a form that was cut
 pub filled_next : (form : List ℕ) (parts : List Part) (i : ℕ) (d : Part) (before behind : List ℕ) →
-    before ≡ before_first is_gap form → behind ≡ after_first is_gap form → i < length parts →
+    before ≡ before_first is_blank form → behind ≡ after_first is_blank form → i < length parts →
     filled form (drop i parts) ≡ (before ++ part_text (get_or parts i d)) ++ filled behind (drop (i + 1) parts)
 filled_next form parts i d before behind b a h =
     filled_at form parts i d h

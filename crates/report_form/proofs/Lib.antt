@@ -4,7 +4,7 @@ pub mod Common
 mod GrownLemmas
 -- pieces.rt: texts that are written in pieces
 mod PieceLemmas
--- form.rt: forms, cut at their gaps, and what of a form is written
+-- form.rt: forms, cut at their blanks, and what of a form is written
 mod FormLemmas
 -- parts.rt: how the bytes of a name are escaped
 mod NameLemmas

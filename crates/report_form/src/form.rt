@@ -1,33 +1,35 @@
-//! A text by its form: one text with gaps, and a part for each gap.
+//! A text by its form: one text with blanks, each a `%`, and a part for each blank.
 ghost use Rattle.std.specs.Prelude.{◌≡◌, ◌++◌};
 ghost use Rattle.std.specs.List.{position, before_first, after_first};
 ghost use Rattle.hull_io.specs.Edge.{Writes};
 ghost use Rattle.report_form.specs.Parts.{part_text};
-ghost use Rattle.report_form.specs.Forms.{is_gap, filled};
+ghost use Rattle.report_form.specs.Forms.{is_blank, filled};
 ghost use Rattle.report_form.specs.Pending.{Adds};
 
 use crate::parts::{Part, add_part};
 use crate::pieces::{Piece, add_bytes};
 use hull_io::{Sink, WriteFailed, write_whole};
 
-// What is before the first gap of a form, and what is behind it.
+// What is before the first blank of a form, and what is behind it.
 #[derive(Clone, Copy)]
 struct Cut<'a> {
     before: &'a [u8],
     behind: &'a [u8],
 }
 
-fn gap_of(form: &[u8]) -> Option<usize>
-    ensures { result ≡ position is_gap form.now }
+// Where the first blank is, if there is one.
+fn blank_in(form: &[u8]) -> Option<usize>
+    ensures { result ≡ position is_blank form.now }
 {
     form.iter().position(|byte| *byte == b'%')
 }
 
-fn cut_at_gap(form: &[u8]) -> Cut<'_>
-    ensures before { result.before.now ≡ before_first is_gap form.now }
-    ensures behind { result.behind.now ≡ after_first is_gap form.now }
+// The form cut at its first blank; all of it is before where there is none.
+fn cut_at_blank(form: &[u8]) -> Cut<'_>
+    ensures before { result.before.now ≡ before_first is_blank form.now }
+    ensures behind { result.behind.now ≡ after_first is_blank form.now }
 {
-    match gap_of(form) {
+    match blank_in(form) {
         Some(place) => Cut {
             before: &form[..place],
             behind: &form[place + 1..],
@@ -60,8 +62,8 @@ fn write_last<S: Sink>(out: &mut S, piece: Piece, text: &[u8]) -> Result<(), Wri
     write_whole(out, piece.as_slice())
 }
 
-/// Writes a form with its gaps filled, each `%` by the next part, in pieces of some KiB. A gap that
-/// no part is left for stays, and parts that no gap is left for come last. Refused only where the
+/// Writes a form with its blanks filled, each `%` by the next part, in pieces of some KiB. A blank
+/// that no part is left for stays, and parts that no blank is left for come last. Refused only where the
 /// sink's count of faults rose, and then the sink gained a front of the text.
 pub fn write_form<S: Sink>(out: &mut S, form: &[u8], parts: &[Part<'_>]) -> Result<(), WriteFailed>
     ensures { Writes S.held S.faults S.last out.old out.new result (filled form.now parts.now) }
@@ -69,7 +71,7 @@ pub fn write_form<S: Sink>(out: &mut S, form: &[u8], parts: &[Part<'_>]) -> Resu
     let mut piece = Piece::new();
     let mut rest = form;
     for part in parts {
-        let cut = cut_at_gap(rest);
+        let cut = cut_at_blank(rest);
         add_behind(out, &mut piece, cut.before, part)?;
         rest = cut.behind;
     }

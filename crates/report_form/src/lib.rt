@@ -1,4 +1,4 @@
-//! What a report is and how its text is made, by forms whose gaps parts fill, whatever it tells.
+//! What a report is and how its text is made, by forms whose blanks parts fill, whatever it tells.
 #![tactic(auto)]
 
 pub mod certificate;

@@ -1,5 +1,5 @@
-//! The parts that fill the gaps of a text.
-ghost use Rattle.std.specs.Prelude.{◌≡◌, ◌<◌, ◌++◌};
+//! The parts that fill the blanks of a text.
+ghost use Rattle.std.specs.Prelude.{◌≡◌, ◌<◌};
 ghost use Rattle.std.specs.List.{flat_map, list_all};
 ghost use Rattle.report_form.specs.Parts.{part_text, hex_of, stands_as_is, escaped, quoted, tally};
 ghost use Rattle.report_form.specs.Pending.{Adds};

@@ -9,15 +9,15 @@ loop-part-init g c = rw c.new-piece.ensures (goes_first c.args.out.now (filled c
 pub returns-in_err-add_behind : goal.returns-in_err-add_behind
 returns-in_err-add_behind g c =
     goes_short c.loop-part.piece _ _ _ _ _ c.from_residual.ensures.0
-    (filled_next c.loop-part.rest.now c.args.parts.now c.loop-part.part-index _ _ _ c.cut_at_gap-cut.ensures.before
-    c.cut_at_gap-cut.ensures.behind (omega arith))
+    (filled_next c.loop-part.rest.now c.args.parts.now c.loop-part.part-index _ _ _ c.cut_at_blank-cut.ensures.before
+    c.cut_at_blank-cut.ensures.behind (omega arith))
     c.in_err-add_behind.ensures.err c.loop-part.invariant
 
 pub loop-part-preserved : goal.loop-part-preserved
 loop-part-preserved g c =
     goes_on c.loop-part.piece _ _ _ _ _
-    (filled_next c.loop-part.rest.now c.args.parts.now c.loop-part.part-index _ _ _ c.cut_at_gap-cut.ensures.before
-    c.cut_at_gap-cut.ensures.behind (omega arith))
+    (filled_next c.loop-part.rest.now c.args.parts.now c.loop-part.part-index _ _ _ c.cut_at_blank-cut.ensures.before
+    c.cut_at_blank-cut.ensures.behind (omega arith))
     c.in_ok-add_behind.ensures.ok c.loop-part.invariant
 
 pub returns : goal.returns
