@@ -1,6 +1,5 @@
 //! The whole case.
-ghost use Rattle.std.specs.Prelude.{◌≡◌, ◌+◌, ◌*◌, ◌≤◌, ◌<◌, [], ◌∷◌, ◌++◌, IfOk, OnOk, map};
-ghost use Rattle.rand_pcg.specs.Lcg.{Lcg};
+ghost use Rattle.std.specs.Prelude.{◌≡◌, ◌+◌, ◌*◌, ◌<◌, [], ◌∷◌, ◌++◌, IfOk, OnOk, map};
 ghost use Rattle.uc_model.specs.Limits.{IsMarket};
 ghost use Rattle.uc_model.specs.PlainCases.{market_of, schedules_of};
 ghost use Rattle.uc_model.specs.PlainUnits.{named_thermal_of, named_renewable_of};
@@ -155,7 +154,7 @@ fn add_renewables(
 }
 
 // Draws all units, and adds their schedules to an empty plan.
-fn add_units(
+fn draw_units(
     alloc: Global,
     random: &mut Pcg32,
     plan: &mut Growing,
@@ -222,6 +221,6 @@ pub fn make_case(alloc: Global, number: u64) -> Result<(Case, Plan), AllocError>
 {
     let mut random = Pcg32::new(number, STREAM);
     let mut plan = Growing::make(alloc)?;
-    let (thermal, flat) = add_units(alloc, &mut random, &mut plan)?;
+    let (thermal, flat) = draw_units(alloc, &mut random, &mut plan)?;
     case_of(alloc, plan, thermal, flat)
 }

@@ -123,7 +123,7 @@ fn checked_input(case: Case, plan: Plan) -> Result<Input, TopFault>
 }
 
 /// The schedule's file, and its rules.
-fn read_schedule<F: Shelf>(
+fn read_checked_plan<F: Shelf>(
     alloc: Global,
     shelf: &mut F,
     name: &str,
@@ -155,7 +155,7 @@ pub fn read_input<F: Shelf>(
     ensures shelf { IsLaterShelf F.told F.faults shelf.old shelf.new }
 {
     let case = read_case_file(alloc, shelf, case_name)?;
-    read_schedule(alloc, shelf, schedule_name, case)
+    read_checked_plan(alloc, shelf, schedule_name, case)
 }
 
 /// The prices over so many periods that bytes are.

@@ -29,7 +29,7 @@ fn sold(flat: &Renewable, place: usize, price: i64) -> i64
 }
 
 // What all renewable units earn at best at a place.
-fn sold_at(case: &Case, place: usize, price: i64) -> i128
+fn renewables_at(case: &Case, place: usize, price: i64) -> i128
     requires place { place < (market_of case.now).periods }
     requires price { IsFrom (neg_ℤ price_limit) price_limit price }
     ensures value { result ≡ total (map (λ (n : NamedRenewableUnit). best_sold n.unit place price)
@@ -69,7 +69,7 @@ fn bought(blocks: &[Block], price: i64) -> i64
 }
 
 // What all bids earn at best at a place.
-fn bought_at(case: &Case, place: usize, price: i64) -> i128
+fn bids_at(case: &Case, place: usize, price: i64) -> i128
     requires place { place < (market_of case.now).periods }
     requires price { IsFrom (neg_ℤ price_limit) price_limit price }
     ensures value { result ≡ total (map (λ (n : NamedBidUnit). best_bought (blocks_at n.unit place)
@@ -91,5 +91,5 @@ pub fn flat_at(case: &Case, place: usize, price: i64) -> i128
     ensures value { result ≡ flat_of (market_of case.now) place price }
     ensures limit { IsFlat result }
 {
-    sold_at(case, place, price) + bought_at(case, place, price)
+    renewables_at(case, place, price) + bids_at(case, place, price)
 }

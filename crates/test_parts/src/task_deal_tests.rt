@@ -60,7 +60,7 @@ fn jobs_by(jobs: &[Keeper], number: u32, often: usize) -> usize {
 }
 
 // Each number was run by one job, once, and nothing else was run.
-fn each_ran_once(rt: &impl Abort, jobs: &[Keeper], numbers: u32) {
+fn assert_each_ran_once(rt: &impl Abort, jobs: &[Keeper], numbers: u32) {
     let mut ran = 0usize;
     for job in jobs {
         ran = ran.saturating_add(job.numbers.len());
@@ -73,7 +73,7 @@ fn each_ran_once(rt: &impl Abort, jobs: &[Keeper], numbers: u32) {
     }
 }
 
-fn each_runs_once<R: Threads + Wait + Sync + Abort>(
+fn deal_and_check<R: Threads + Wait + Sync + Abort>(
     rt: &R,
     alloc: Global,
     count: usize,
@@ -86,23 +86,23 @@ fn each_runs_once<R: Threads + Wait + Sync + Abort>(
     let mut jobs = keepers(alloc, count, numbers)?;
     deal_all(rt, alloc, numbers, &mut jobs)?;
     same(rt, jobs.len(), count);
-    each_ran_once(rt, &jobs, numbers);
+    assert_each_ran_once(rt, &jobs, numbers);
     Ok(())
 }
 
 #[test]
 fn no_number_changes_no_job(rt: HostRuntime) -> Result<(), AllocError> {
-    each_runs_once(&rt, rt.alloc(), 2, 0)
+    deal_and_check(&rt, rt.alloc(), 2, 0)
 }
 
 #[test]
 fn one_job_runs_each_number_once(rt: HostRuntime) -> Result<(), AllocError> {
-    each_runs_once(&rt, rt.alloc(), 1, 5)
+    deal_and_check(&rt, rt.alloc(), 1, 5)
 }
 
 #[test]
 fn four_jobs_run_each_number_once(rt: HostRuntime) -> Result<(), AllocError> {
-    each_runs_once(&rt, rt.alloc(), 4, 200)
+    deal_and_check(&rt, rt.alloc(), 4, 200)
 }
 
 // How often a job looks for the other.

@@ -21,16 +21,16 @@ pub returns-clause-answers : goal.returns-clause-answers
 returns-clause-answers g c =
     let told = g.F.Shelf.told c.args.shelf.now in
     let first = c.in_ok-case.ensures.answers in
-    let later = c.read_schedule.ensures.answers in
+    let later = c.read_checked_plan.ensures.answers in
     let case_name = c.args.case_name.now in
     let schedule_name = c.args.schedule_name.now in (
       two_reads first.0 later.0,
       are_two_reads told _ case_name schedule_name first.0 later.0
           (read_wider (told case_name) g.F.Shelf.last _ _ _ _ first.0 (omega arith)
-          (c.read_schedule.ensures.shelf.later case_name) first.1)
+          (c.read_checked_plan.ensures.shelf.later case_name) first.1)
           (read_wider (told schedule_name) g.F.Shelf.last _ _ _ _ later.0
           (c.in_ok-case.ensures.shelf.later schedule_name) (omega arith)
           (rw c.in_ok-case.ensures.shelf.told_same at later.1)),
       answer_then (IsCaseFile first.0) (λ (m : Market). Then (IsPlanFile m later.0) (IsChecked m))
-          (market_of c.in_ok-case.case) planned_of c.read_schedule.result first.2 later.2,
+          (market_of c.in_ok-case.case) planned_of c.read_checked_plan.result first.2 later.2,
     )

@@ -1,6 +1,6 @@
 use Rattle.hull_input.proofs.Common.{err_from_is_err_and, market_of, schedules_of, planned_of, IsPlanFile, IsChecked}
 use Rattle.hull_input.proofs.Lemmas.{refused_then, answer_then}
-use Rattle.hull_input.proofs.files.read_schedule.Goals as goal
+use Rattle.hull_input.proofs.files.read_checked_plan.Goals as goal
 
 pub returns-in_err-plan-clause-answers : goal.returns-in_err-plan-clause-answers
 returns-in_err-plan-clause-answers g c =

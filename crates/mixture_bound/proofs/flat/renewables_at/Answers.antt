@@ -6,7 +6,7 @@ use Rattle.std.proofs.lemmas.List.{length-map, take_all}
 use Rattle.plain_lists.proofs.ListLaws.{item_of, map_item}
 use Rattle.uc_model.specs.PlainUnits.{named_renewable_of}
 use Rattle.mixture_bound.proofs.SumLaws.{total_more}
-use Rattle.mixture_bound.proofs.flat.sold_at.Goals as goal
+use Rattle.mixture_bound.proofs.flat.renewables_at.Goals as goal
 
 pub sold-requires-clause-place : goal.sold-requires-clause-place
 sold-requires-clause-place c =

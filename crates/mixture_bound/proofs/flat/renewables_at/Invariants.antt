@@ -1,6 +1,6 @@
 use Rattle.mixture_bound.proofs.Common.{◌≡◌, ◌*◌, map, take, total, NamedRenewableUnit, best_sold, IsWithin}
 use Rattle.uc_model.specs.PlainCases.{market_of}
-use Rattle.mixture_bound.proofs.flat.sold_at.Given as goal
+use Rattle.mixture_bound.proofs.flat.renewables_at.Given as goal
 
 abbrev pub invariant-loop-number : goal.invariant-loop-number
 invariant-loop-number l = record {

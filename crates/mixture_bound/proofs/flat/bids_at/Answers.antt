@@ -8,7 +8,7 @@ use Rattle.plain_lists.proofs.ListLaws.{item_of, map_item}
 use Rattle.uc_model.specs.PlainUnits.{bid_of, named_bid_of}
 use Rattle.plain_lists.specs.Reserved.{items_in}
 use Rattle.mixture_bound.proofs.SumLaws.{total_more}
-use Rattle.mixture_bound.proofs.flat.bought_at.Goals as goal
+use Rattle.mixture_bound.proofs.flat.bids_at.Goals as goal
 
 pub get-requires-in-loop-number : goal.get-requires-in-loop-number
 get-requires-in-loop-number c =

@@ -1,6 +1,6 @@
 use Rattle.mixture_bound.proofs.Common.{◌≡◌, ◌*◌, pos, map, take, total, NamedBidUnit, best_bought, blocks_at, IsFrom}
 use Rattle.uc_model.specs.PlainCases.{market_of}
-use Rattle.mixture_bound.proofs.flat.bought_at.Given as goal
+use Rattle.mixture_bound.proofs.flat.bids_at.Given as goal
 
 abbrev pub invariant-loop-number : goal.invariant-loop-number
 invariant-loop-number l = record {

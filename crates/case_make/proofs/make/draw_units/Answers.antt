@@ -2,7 +2,7 @@ use Rattle.case_make.proofs.Common.{◌*◌, ◌∙◌, sym, subst, arith, IsSma
 use Rattle.case_make.proofs.LaterLaws.{renewable_units_later}
 use Rattle.case_make.proofs.MadeLaws.{plan_made}
 use Rattle.case_make.proofs.Lemmas.{thermal_small}
-use Rattle.case_make.proofs.make.add_units.Goals as goal
+use Rattle.case_make.proofs.make.draw_units.Goals as goal
 
 pub add_renewables-requires-clause-small : goal.add_renewables-requires-clause-small
 add_renewables-requires-clause-small c =
