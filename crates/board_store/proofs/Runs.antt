@@ -193,7 +193,7 @@ adding_run {A} ls vs ls2 vs2 row n left v so most ls3 vs3 longer longer2 =
     (subst (IsAdding ls vs ls2 vs2 row) cut so) (ls2 ++ n ∷ []) (vs2 ++ v ∷ []) (one_run ls2 vs2 n v so.pairs)))
 
 -- one more cell of a row, which is the same as those that are still to come
-pub adding_cell : {A : Type 0} (ls : List ℕ) (vs : List A) (ls2 : List ℕ) (vs2 row : List A) (k n : ℕ) (v : A) →
+adding_cell : {A : Type 0} (ls : List ℕ) (vs : List A) (ls2 : List ℕ) (vs2 row : List A) (k n : ℕ) (v : A) →
     IsAdding ls vs ls2 vs2 (take k row) (replicate n v) → k < length row → v ≡ get_or row k v →
     IsAdding ls vs ls2 vs2 (take (k + 1) row) (replicate (n + 1) v)
 adding_cell {A} ls vs ls2 vs2 row k n v so inside is =
@@ -349,12 +349,6 @@ module _ {A : Type 0} (ls : List ℕ) (vs : List A) (i : ℕ) (row : List A) (se
       let w = still_whole ls vs i (length row - seen) m v pairs some_left whole read least in
       let l = after in
       omega (arith, w, l)
-
--- the end of a row is there
-pub there_all : {A : Type 0} (row : List A) (seen : ℕ) (cells : List A) → length row ≤ seen → IsThere row seen cells
-there_all {A} row seen cells all =
-    let none : length row - seen ≡ 0 = omega (arith, all) in
-    ap (λ (k : ℕ). take k cells) none ∙ sym (drop_all seen row all)
 
 -- ---- cells that are all the same
 

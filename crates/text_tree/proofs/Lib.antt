@@ -1,7 +1,7 @@
 -- The names from elsewhere that the proofs here cite.
 pub mod Common
--- How far a walk over nodes comes.
-pub mod Walks
+-- The values behind nodes that were passed.
+pub mod Passed
 -- The items and members that are taken one after the other.
 pub mod Taken
 -- The lemmas that answers cite.

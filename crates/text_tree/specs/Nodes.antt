@@ -54,5 +54,6 @@ values_from (suc passing) bytes (n ∷ ns) = values_from passing bytes ns
 values_from zero bytes (n ∷ ns) =
     value_of bytes n (values_from 0 bytes ns) ∷ values_from (own n) bytes ns
 
+-- the values of nodes, from the first one on
 abbrev pub values : List ℕ → List Node → List Value
 values bytes ns = values_from 0 bytes ns

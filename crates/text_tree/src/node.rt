@@ -53,7 +53,7 @@ fn nodes_from(nodes: &[Node], count: usize) -> &[Node]
 }
 
 /// The nodes behind the first value, and none where there is none.
-#[tactic(auto, using(crate::proofs::Walks::leaf_passed))]
+#[tactic(auto, using(crate::proofs::Passed::leaf_passed))]
 pub fn skip(nodes: &[Node]) -> &[Node]
     ensures { (bytes : List ℕ) → values bytes result.now ≡ drop 1 (values bytes nodes.now) }
 {

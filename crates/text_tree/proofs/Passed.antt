@@ -1,4 +1,4 @@
--- How far a walk over nodes comes.
+-- The values behind nodes that were passed.
 use Rattle.text_tree.proofs.Common.{◌≡◌, ℕ, zero, suc, ◌-◌, ◌≤◌, List, [], ◌∷◌, length, get_or, take, drop, take_all}
 use Rattle.text_tree.proofs.Common.{refl, sym, ap, ◌∙◌, arith, own, values, values_from, Node}
 use Rattle.text_tree.specs.declared.node.Node.TheVariants.{Null}
