@@ -10,7 +10,7 @@ pub trait Gate: Sync {
     fn after(&self, caller: u32, proposal: u32, unit: u32);
 }
 
-/// A gate that does nothing.
+/// A gate that does nothing, which the program passes; tests pass one that counts or holds.
 pub struct NoGate;
 
 impl Gate for NoGate {

@@ -1,4 +1,6 @@
 //! The shape that keeps every value, over the heap: the plain one that others are compared with.
+//!
+//! For tests alone: the program takes `slope_list`.
 #![tactic(auto)]
 
 ghost use Rattle.std.specs.Prelude.{◌≡◌, ℕ, ℤ, ◌+◌, ◌<◌, ◌≤◌, pos, ◌+ℤ◌, ◌-ℤ◌, ◌*ℤ◌, ◌≤ℤ◌, ◌<ℤ◌};

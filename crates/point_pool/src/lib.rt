@@ -1,5 +1,7 @@
 //! Shapes that keep their breakpoints in the cells of a pool, whose memory is taken when it is
 //! made.
+//!
+//! For tests alone: the program takes `slope_list`.
 #![tactic(auto)]
 
 pub mod law;

@@ -4,6 +4,8 @@
 //! are afterwards: at most `used` and its charge. The slice has room for as many. What it does is
 //! said of the function that the knots stand for, as of any shape. Powers are kilowatts within
 //! 4 * 10^9 and values millionths of the currency within 10^18, before and after.
+//!
+//! For tests alone: the program takes `slope_list`.
 #![tactic(auto)]
 
 pub mod breakpoint;

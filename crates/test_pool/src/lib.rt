@@ -2,7 +2,7 @@
 //! the answers of the program's bench.
 #![tactic(auto)]
 
-ghost use Rattle.std.specs.Prelude.{◌≡◌, ℕ, ◌≤◌, length, suc, IsTrue, IsFalse, IfOk};
+ghost use Rattle.std.specs.Prelude.{◌≡◌, ℕ, ◌≤◌, length, IsTrue, IsFalse, IfOk};
 ghost use Rattle.uc_model.specs.Data.{Schedule, Thermal};
 ghost use Rattle.uc_model.specs.Earnings.{earnings, IsBest};
 ghost use Rattle.uc_model.specs.declared.limits.TheConstants.{MOST_PERIODS, MOST_POINTS};
@@ -62,8 +62,8 @@ impl PoolBench {
     }
 }
 
-/// The least best response of a thermal unit to prices over its horizon, as `best_response` answers
-/// it: leaves it in `into`, with what it earns, and answers true; or answers false exactly where no
+/// The least best response of a thermal unit to prices over its horizon, as `test_units::best_response`
+/// answers it: leaves it in `into`, with what it earns, and answers true; or answers false exactly where no
 /// schedule of the unit is feasible, and `into` is unchanged. The bench suffices for the prices'
 /// periods and the unit's cost points, and for all that it sufficed for afterwards; its pool can
 /// give as many cells as before. Takes no memory.

@@ -61,7 +61,7 @@ pub fn above(unit: &Unit, response: &Response, place: usize) -> i64
     }
 }
 
-// The same in the state before the horizon.
+// The power above the least power in the state before the horizon, 0 where the unit is off.
 fn above_at_first(unit: &Unit) -> i64
     ensures value { result ≡ (if unit.now.on0 then unit.now.power0
         -ℤ unit.now.min_power else pos 0) }
@@ -74,7 +74,8 @@ fn above_at_first(unit: &Unit) -> i64
     }
 }
 
-/// The same in the period before a place.
+/// The power above the least power in the period before a place, 0 where the unit is off there; at
+/// the first place, in the state before the horizon.
 pub fn above_before(unit: &Unit, response: &Response, place: usize) -> i64
     requires { place ≤ length response.now.on.items }
     ensures value { result ≡ above_min (thermal_of unit.now) (schedule_of response.now) place }
