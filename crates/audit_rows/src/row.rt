@@ -1,9 +1,9 @@
 //! The row of one proposal.
-ghost use Rattle.std.specs.Prelude.{◌≡◌, ℕ, ◌*◌, ◌<◌, ◌≤◌, [], length, IfOk, map};
+ghost use Rattle.std.specs.Prelude.{◌≡◌, ◌<◌, ◌≤◌, length, IfOk};
 ghost use Rattle.std.specs.List.{All};
 ghost use Rattle.task_deal.specs.declared.deal.TheConstants.{MOST_JOBS};
 ghost use Rattle.plain_lists.specs.declared.limits.TheConstants.{MOST_UNITS};
-ghost use Rattle.uc_model.specs.Data.{Market, PriceLists, unit_count};
+ghost use Rattle.uc_model.specs.Data.{unit_count};
 ghost use Rattle.uc_model.specs.PlainCases.{market_of, proposal_of};
 ghost use Rattle.uc_model.specs.PlainUnits.{prices_of};
 ghost use Rattle.audit_rows.specs.Jobs.{AreFor, HaveBegun};

@@ -1,16 +1,14 @@
 //! The board.
-ghost use Rattle.std.specs.Prelude.{◌≡◌, ◌+◌, ◌*◌, ◌<◌, ◌≤◌, true, false, IfOk, Option, Some, []};
-ghost use Rattle.std.specs.Prelude.{length, map, take, replicate, slice_get};
-ghost use Rattle.board_history.specs.Board.{Content, IsLegalHistory};
+ghost use Rattle.std.specs.Prelude.{◌≡◌, ◌+◌, ◌*◌, ◌<◌, ◌≤◌, true, false, IfOk, Some};
+ghost use Rattle.std.specs.Prelude.{length, map, take};
+ghost use Rattle.board_history.specs.Board.{IsLegalHistory};
 ghost use Rattle.board_history.specs.Calls.{own_rows, has_finished, claim_answer, after_claim};
 ghost use Rattle.board_history.specs.Calls.{post_answer, after_post, after_halt};
 ghost use Rattle.board_history.specs.Entries.{entries_of};
 ghost use Rattle.uc_model.specs.Data.{unit_count};
 ghost use Rattle.uc_model.specs.Earnings.{earnings};
-ghost use Rattle.uc_model.specs.PlainCases.{market_of, schedules_of, proposal_of, task_unit};
+ghost use Rattle.uc_model.specs.PlainCases.{proposal_of, task_unit};
 ghost use Rattle.uc_model.specs.PlainUnits.{prices_of, schedule_of};
-ghost use Rattle.uc_model.specs.PriceRule.{chosen_number, start_prices as start_prices_of};
-ghost use Rattle.uc_model.specs.PriceRule.{opening_prices_of};
 ghost use Rattle.uc_model.specs.Runs.{Fits};
 ghost use Rattle.uc_model.specs.TaskRoom.{IsTaskFor};
 ghost use Rattle.plain_lists.specs.declared.limits.TheConstants.{MOST_PROPOSALS};

@@ -1,5 +1,5 @@
 -- The bench that the owner of a run leaves.
-use Rattle.board_run.proofs.Common.{◌≡◌, ℕ, suc, List, [], ◌∷◌, ◌++◌, map, length, subst, arith, append_assoc, All-nil}
+use Rattle.board_run.proofs.Common.{ℕ, suc, List, [], ◌∷◌, ◌++◌, map, length, subst, arith, append_assoc, All-nil}
 use Rattle.board_run.proofs.Common.{All-cons, All, AnyUnit, Thermal, Flat, Bid, Market, NamedThermalUnit}
 use Rattle.board_run.proofs.Common.{NamedRenewableUnit, NamedBidUnit, IsBenchOver, Suffices, IsBenchOf}
 use Rattle.uc_model.specs.declared.units.Point.{Point}

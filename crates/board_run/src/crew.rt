@@ -1,7 +1,6 @@
 //! The workers of a run, from the splitting of their seats to the board's record.
-ghost use Rattle.std.specs.Prelude.{◌≡◌, ◌≤◌, ℕ, true, [], length, IfOk};
+ghost use Rattle.std.specs.Prelude.{◌≡◌, ◌≤◌, true, [], length, IfOk};
 ghost use Rattle.std.specs.List.{All};
-ghost use Rattle.board_history.specs.Board.{Setup};
 ghost use Rattle.board_history.specs.Calls.{has_finished};
 ghost use Rattle.board_core.specs.Boards.{empty_board};
 ghost use Rattle.board_share.specs.Seats.{view_of, IsSeatOf};

@@ -4,7 +4,7 @@ ghost use Rattle.std.specs.Prelude.{◌≡◌, ◌↔◌, ◌<◌, ◌≤◌, Is
 ghost use Rattle.std.specs.List.{All, flat_map};
 ghost use Rattle.uc_model.specs.Data.{units, unit_count};
 ghost use Rattle.uc_model.specs.PlainCases.{market_of, task_unit};
-ghost use Rattle.uc_model.specs.PlainUnits.{prices_of, thermal_of, renewable_of, bid_of};
+ghost use Rattle.uc_model.specs.PlainUnits.{prices_of, thermal_of, renewable_of};
 ghost use Rattle.plain_lists.specs.Reserved.{items_in};
 ghost use Rattle.uc_model.specs.TaskLists.{period_numbers, task_numbers};
 ghost use Rattle.uc_model.specs.declared.limits.TheConstants.{MOST_BLOCKS, MOST_PERIODS};

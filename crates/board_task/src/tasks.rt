@@ -1,9 +1,9 @@
 //! The task of a unit, written into room that is there already.
 ghost use Rattle.std.specs.Prelude.{◌≡◌, ◌<◌, ◌≤◌, length, map, Some, slice_get};
 ghost use Rattle.std.specs.List.{All};
-ghost use Rattle.uc_model.specs.Data.{units, unit_count, Thermal, Flat, Bid as BidOf};
+ghost use Rattle.uc_model.specs.Data.{units, unit_count, Thermal, Flat};
 ghost use Rattle.uc_model.specs.PlainCases.{market_of, task_unit};
-ghost use Rattle.uc_model.specs.PlainUnits.{prices_of, thermal_of, renewable_of, bid_of};
+ghost use Rattle.uc_model.specs.PlainUnits.{prices_of, renewable_of, bid_of};
 ghost use Rattle.plain_lists.specs.Reserved.{items_in};
 ghost use Rattle.plain_lists.specs.Reserved.{room_of};
 ghost use Rattle.uc_model.specs.TaskRoom.{IsTaskFor};

@@ -1,6 +1,6 @@
 //! A schedule of a system that grows unit by unit, with its sums.
 ghost use Rattle.std.specs.Prelude.{◌≡◌, ◌+◌, ◌*◌, ◌/◌, ◌≤◌, ◌<◌, ℕ, ℤ, pos, ◌+ℤ◌, [], ◌∷◌, ◌++◌};
-ghost use Rattle.std.specs.Prelude.{IfOk, map, length, replicate, slice_index};
+ghost use Rattle.std.specs.Prelude.{IfOk, length, replicate, slice_index};
 ghost use Rattle.std.specs.List.{All};
 ghost use Rattle.uc_model.specs.Limits.{IsPower};
 ghost use Rattle.uc_model.specs.PlainUnits.{schedule_of};

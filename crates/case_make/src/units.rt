@@ -2,7 +2,7 @@
 ghost use Rattle.std.specs.Prelude.{◌≡◌, ◌+◌, ◌*◌, ◌<◌, ◌≤◌, ◌^◌, IfOk, pos, map, if◌then◌else◌};
 ghost use Rattle.std.specs.List.{range_with_len};
 ghost use Rattle.uc_model.specs.PlainUnits.{thermal_of};
-ghost use Rattle.case_make.specs.Drawn.{min_of, is_on, level_of, lags_of, at_of, cost_of, point_of};
+ghost use Rattle.case_make.specs.Drawn.{is_on, level_of, lags_of, cost_of, point_of};
 ghost use Rattle.case_make.specs.Drawn.{unit_of};
 ghost use Rattle.case_make.specs.Sizes.{AreDrawn};
 

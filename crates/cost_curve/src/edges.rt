@@ -1,9 +1,7 @@
 //! The envelope goes from point to point, and needs at most two whole prices between two of them.
-ghost use Rattle.std.specs.Prelude.{◌≡◌, ◌+◌, ◌<◌, ◌≤◌, ◌⊎◌, pos, neg_ℤ, ◌<ℤ◌, ◌≤ℤ◌, length};
-ghost use Rattle.std.specs.Bool.{OnTrue, OnFalse};
+ghost use Rattle.std.specs.Prelude.{pos, neg_ℤ};
 ghost use Rattle.plain_lists.specs.Ranges.{IsFrom};
-ghost use Rattle.uc_model.specs.Limits.{IsPower, IsPoint};
-ghost use Rattle.cost_curve.specs.CostCurve.{AreCostPoints};
+ghost use Rattle.uc_model.specs.Limits.{IsPower};
 
 use uc_model::units::Point;
 

@@ -1,5 +1,5 @@
 //! The answer of a demand bid.
-ghost use Rattle.std.specs.Prelude.{◌≡◌, ◌<◌, pos, neg_ℤ, ◌+ℤ◌, ◌-ℤ◌, ◌*ℤ◌, int_lt, if◌then◌else◌};
+ghost use Rattle.std.specs.Prelude.{◌≡◌, ◌<◌, pos, neg_ℤ, ◌+ℤ◌};
 ghost use Rattle.std.specs.Prelude.{length};
 ghost use Rattle.uc_model.specs.Data.{Bid as BidOf};
 ghost use Rattle.uc_model.specs.Earnings.{earnings};

@@ -1,5 +1,5 @@
 //! The answer of a renewable unit.
-ghost use Rattle.std.specs.Prelude.{◌≡◌, ◌<◌, ◌≤ℤ◌, pos, neg_ℤ, length};
+ghost use Rattle.std.specs.Prelude.{◌≡◌, ◌<◌, ◌≤ℤ◌, neg_ℤ, length};
 ghost use Rattle.uc_model.specs.Data.{Flat};
 ghost use Rattle.uc_model.specs.Earnings.{earnings};
 ghost use Rattle.plain_lists.specs.Ranges.{IsFrom};

@@ -1,5 +1,5 @@
 //! The plane of a row: what its totals lack, and where the plane stands at prices of 0.
-ghost use Rattle.std.specs.Prelude.{◌≡◌, ℕ, ◌<◌, ◌*◌, neg_ℤ, ◌+ℤ◌, ◌-ℤ◌, ◌*ℤ◌, length};
+ghost use Rattle.std.specs.Prelude.{◌≡◌, ℕ, ◌<◌, ◌*◌, neg_ℤ, ◌+ℤ◌, ◌*ℤ◌, length};
 ghost use Rattle.std.specs.List.{All};
 ghost use Rattle.plain_lists.specs.Ranges.{IsFrom};
 ghost use Rattle.uc_model.specs.Limits.{price_limit};

@@ -1,6 +1,6 @@
 //! Weighted sums of planes, and their greatest height over a box of prices.
 ghost use Rattle.std.specs.Prelude.{◌≡◌, ℕ, ◌<◌, ◌*◌, pos, neg_ℤ, ◌+ℤ◌, ◌*ℤ◌, length};
-ghost use Rattle.std.specs.Prelude.{unsigned_abs, ◌≤ℤ◌};
+ghost use Rattle.std.specs.Prelude.{unsigned_abs};
 ghost use Rattle.std.specs.Int.{int_max};
 ghost use Rattle.std.specs.List.{All};
 ghost use Rattle.plain_lists.specs.Ranges.{IsFrom};

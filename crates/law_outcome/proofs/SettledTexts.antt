@@ -1,5 +1,5 @@
 -- The text of a settlement tells the settlement.
-use Rattle.law_outcome.proofs.Common.{◌≡◌, ℕ, ◌<◌, ℤ, true, false, List, [], ◌∷◌, length, slice_get, Some, refl, sym}
+use Rattle.law_outcome.proofs.Common.{◌≡◌, ℕ, ◌<◌, true, false, List, [], ◌∷◌, length, slice_get, Some, refl, sym}
 use Rattle.law_outcome.proofs.Common.{ap, ◌∙◌, subst, arith, same_Some, All, IsTrue, IsFlatLine, UnitLine, Market}
 use Rattle.law_outcome.proofs.Common.{PriceLists, Schedule, OneSettlement, Settled, IsSettledAt, Proposal}
 use Rattle.std.proofs.Common.{zero, suc, ◌+◌, map, get_or, replicate}

@@ -1,5 +1,5 @@
 //! The first rule that a plan breaks.
-ghost use Rattle.std.specs.Prelude.{◌≡◌, ◌≤◌, ◌<◌, ◌+◌, ℕ, length, drop, pos, ◌↔◌, Some, IsOk};
+ghost use Rattle.std.specs.Prelude.{◌≡◌, ◌≤◌, ◌<◌, ◌+◌, length, drop, ◌↔◌, Some, IsOk};
 ghost use Rattle.std.specs.Prelude.{IfOk, IfErr, slice_get};
 ghost use Rattle.std.specs.List.{flat_map};
 ghost use Rattle.uc_model.specs.Laws.{HasPlanShape};

@@ -1,5 +1,5 @@
 //! What the schedules of a feasible plan cost.
-ghost use Rattle.std.specs.Prelude.{◌≡◌, ◌≤◌, ◌<◌, ◌+◌, ℕ, suc, pos, neg_ℤ, ◌+ℤ◌, ◌-ℤ◌, ◌*ℤ◌};
+ghost use Rattle.std.specs.Prelude.{◌≡◌, ◌≤◌, ◌<◌, ◌+◌, suc, pos, neg_ℤ, ◌+ℤ◌, ◌-ℤ◌, ◌*ℤ◌};
 ghost use Rattle.std.specs.Prelude.{if◌then◌else◌, length, drop, slice_index_or, false};
 ghost use Rattle.std.specs.Int.{int_min};
 ghost use Rattle.uc_model.specs.declared.limits.TheConstants.{MOST_PERIODS};
@@ -14,7 +14,7 @@ ghost use Rattle.uc_model.specs.Schedules.{time_down, IsThermalFeasible};
 ghost use Rattle.uc_model.specs.Systems.{plan_cost, IsFeasiblePlan};
 ghost use Rattle.cost_curve.specs.Legs.{IsNear};
 ghost use Rattle.plan_check.specs.Costs.{sum_over, thermal_units, bid_units, production_at};
-ghost use Rattle.plan_check.specs.Costs.{start_cost_at, worth_at};
+ghost use Rattle.plan_check.specs.Costs.{start_cost_at};
 
 use crate::rules;
 use cost_curve::costs::{Leg, envelope_near};

@@ -1,11 +1,10 @@
 //! The rules of a thermal unit, each in one period.
-ghost use Rattle.std.specs.Prelude.{◌≡◌, ◌≤◌, ◌<◌, ◌+◌, ◌-◌, ◌-ℤ◌, ℕ, suc, length, if◌then◌else◌};
-ghost use Rattle.std.specs.Prelude.{int_le, slice_index_or, false, pos};
+ghost use Rattle.std.specs.Prelude.{◌≡◌, ◌≤◌, ◌<◌, ◌+◌, ◌-◌, ◌-ℤ◌, suc, length, if◌then◌else◌};
+ghost use Rattle.std.specs.Prelude.{int_le, false};
 ghost use Rattle.std.specs.Int.{int_min};
 ghost use Rattle.uc_model.specs.Data.{Schedule};
-ghost use Rattle.plain_lists.specs.Ranges.{IsFrom};
 ghost use Rattle.uc_model.specs.PlainUnits.{thermal_of, schedule_of};
-ghost use Rattle.uc_model.specs.Schedules.{on_in, power_in, above_min, above_with_reserve};
+ghost use Rattle.uc_model.specs.Schedules.{on_in, above_min, above_with_reserve};
 ghost use Rattle.uc_model.specs.Schedules.{starts_in, stops_in};
 ghost use Rattle.uc_model.specs.Refusals as refusals;
 ghost use Rattle.uc_model.specs.Refusals.{changed_in, or_else, must_run_broken, initial_broken};

@@ -1,5 +1,5 @@
 //! What is seen of a thermal unit in one period.
-ghost use Rattle.std.specs.Prelude.{◌≡◌, ◌≤◌, ◌<◌, ◌+◌, ◌-◌, pos, neg_ℤ, length};
+ghost use Rattle.std.specs.Prelude.{pos, neg_ℤ};
 ghost use Rattle.plain_lists.specs.Ranges.{IsFrom};
 
 use uc_model::units::{Response, Unit};

@@ -1,5 +1,5 @@
 //! Sums of powers and reserves over schedules.
-ghost use Rattle.std.specs.Prelude.{◌≡◌, ◌≤◌, ◌<◌, ◌+◌, ℕ, suc, pos, neg_ℤ, ◌+ℤ◌, length, map};
+ghost use Rattle.std.specs.Prelude.{◌≡◌, ◌≤◌, ◌<◌, ◌+◌, suc, pos, neg_ℤ, ◌+ℤ◌, length, map};
 ghost use Rattle.std.specs.List.{All};
 ghost use Rattle.uc_model.specs.declared.units.Response.{Response};
 ghost use Rattle.uc_model.specs.Data.{units};

@@ -1,5 +1,5 @@
 //! The shape that keeps its breakpoints.
-ghost use Rattle.std.specs.Prelude.{◌≡◌, ◌+◌, ◌≤◌, length, refl, [], IfOk};
+ghost use Rattle.std.specs.Prelude.{◌≡◌, ◌≤◌, length, refl, [], IfOk};
 ghost use Rattle.test_shapes.proofs.HomeLaws.{uncounted};
 ghost use Rattle.point_list.specs.Breaks.{IsCountedList};
 

@@ -1,5 +1,5 @@
 //! Steps on a whole list, which take the room that they need first.
-ghost use Rattle.std.specs.Prelude.{◌≡◌, ℕ, ℤ, ◌+◌, ◌^◌, ◌<◌, ◌≤◌, pos, ◌+ℤ◌, ◌*ℤ◌, ◌≤ℤ◌, length};
+ghost use Rattle.std.specs.Prelude.{◌≡◌, ℕ, ℤ, ◌+◌, ◌^◌, ◌<◌, ◌≤◌, pos, ◌*ℤ◌, ◌≤ℤ◌, length};
 ghost use Rattle.std.specs.Prelude.{IfOk, OnOk, OnErr, MatchOption};
 ghost use Rattle.shape_law.specs.Curve.{curve_value, reserve_term, IsLimitedCurve};
 ghost use Rattle.shape_law.specs.Effect.{IsPoint, IsSum, IsCurveSum, CanAddCurve, IsWindow};

@@ -2,7 +2,7 @@
 ghost use Rattle.std.specs.Prelude.{◌≡◌, ℤ, ◌+◌, ◌<◌, ◌≤◌, pos, ◌*ℤ◌, ◌≤ℤ◌, length, take};
 ghost use Rattle.shape_law.specs.Curve.{curve_value, reserve_term, IsLimitedCurve};
 ghost use Rattle.shape_law.specs.Effect.{IsSum, IsCurveSum, CanAddCurve, IsWindow};
-ghost use Rattle.shape_law.specs.Table.{IsPlace, IsAmount, CanAdd};
+ghost use Rattle.shape_law.specs.Table.{IsPlace, CanAdd};
 ghost use Rattle.ramp_step.specs.Tables.{function_of, IsBreakList};
 
 use crate::pool::Pool;

@@ -1,10 +1,7 @@
 //! The memory of a settlement, which is taken before the first answer.
-ghost use Rattle.std.specs.Prelude.{◌≡◌, ◌+◌, ◌≤◌, [], length, IfOk};
-ghost use Rattle.std.specs.List.{All};
-ghost use Rattle.uc_model.specs.declared.units.Answered.{Answered as PlainAnswered};
+ghost use Rattle.std.specs.Prelude.{IfOk};
 ghost use Rattle.uc_model.specs.Data.{unit_count};
 ghost use Rattle.uc_model.specs.PlainCases.{market_of};
-ghost use Rattle.uc_model.specs.PlainUnits.{schedule_of};
 ghost use Rattle.price_settle.specs.Rooms.{HasRoom, AreOver};
 
 use plain_lists::lists::{Amounts, Numbers};

@@ -1,5 +1,5 @@
 //! The direction in which the dual value of a row's prices rises.
-ghost use Rattle.std.specs.Prelude.{◌≡◌, ◌<◌, ◌*◌, ◌-ℤ◌, ◌≤ℤ◌, pos, neg_ℤ};
+ghost use Rattle.std.specs.Prelude.{◌≡◌, ◌<◌, ◌*◌, ◌-ℤ◌};
 ghost use Rattle.uc_model.specs.Limits.{IsPower, IsTotal};
 ghost use Rattle.uc_model.specs.PlainCases.{market_of, proposal_of};
 ghost use Rattle.uc_model.specs.PriceRule.{projected, direction_at, energy_direction};

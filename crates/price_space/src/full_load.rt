@@ -1,7 +1,7 @@
 //! What a kilowatt costs at a unit's greatest power.
-ghost use Rattle.std.specs.Prelude.{◌≡◌, ℤ, pos, neg_ℤ, unsigned_abs, ◌≤ℤ◌, ◌<ℤ◌};
+ghost use Rattle.std.specs.Prelude.{◌≡◌, pos, unsigned_abs};
 ghost use Rattle.plain_lists.specs.Ranges.{IsFrom};
-ghost use Rattle.uc_model.specs.Limits.{IsCost, IsOutput};
+ghost use Rattle.uc_model.specs.Limits.{IsCost};
 ghost use Rattle.uc_model.specs.PlainUnits.{thermal_of};
 ghost use Rattle.uc_model.specs.PriceRule.{full_load_price as full_load_price_of};
 ghost use Rattle.plain_lists.specs.Sums.{ceil_div};

@@ -1,9 +1,8 @@
 //! The start price of each period.
-ghost use Rattle.std.specs.Prelude.{◌≡◌, ◌≤◌, ◌<◌, ℤ, pos, neg_ℤ, ◌+ℤ◌, ◌-ℤ◌, ◌-◌, IfOk, length};
+ghost use Rattle.std.specs.Prelude.{◌≡◌, ◌≤◌, ◌<◌, ℤ, pos, ◌-ℤ◌, ◌-◌, IfOk, length};
 ghost use Rattle.std.specs.Prelude.{map, slice_get};
 ghost use Rattle.std.specs.List.{All};
 ghost use Rattle.std.specs.Option.{option_map_or};
-ghost use Rattle.plain_lists.specs.Ranges.{IsFrom};
 ghost use Rattle.uc_model.specs.Limits.{IsOutput};
 ghost use Rattle.uc_model.specs.PlainCases.{market_of};
 ghost use Rattle.uc_model.specs.PlainUnits.{thermal_of, named_renewable_of};

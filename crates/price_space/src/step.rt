@@ -1,6 +1,6 @@
 //! One step of all prices along the direction.
-ghost use Rattle.std.specs.Prelude.{◌≡◌, ◌<◌, ◌≤◌, ◌*◌, ◌/◌, ◌^◌, min, ℕ, ℤ, pos, neg_ℤ, ◌+ℤ◌};
-ghost use Rattle.std.specs.Prelude.{◌*ℤ◌, ◌≤ℤ◌, int_div, length, map};
+ghost use Rattle.std.specs.Prelude.{◌≡◌, ◌<◌, ◌≤◌, ◌*◌, ◌/◌, ◌^◌, min, ℤ, pos, neg_ℤ};
+ghost use Rattle.std.specs.Prelude.{◌*ℤ◌, int_div, length, map};
 ghost use Rattle.std.specs.List.{All, range_with_len};
 ghost use Rattle.plain_lists.specs.Ranges.{IsFrom};
 ghost use Rattle.uc_model.specs.Limits.{price_limit};

@@ -1,8 +1,8 @@
 //! A curve is added.
-ghost use Rattle.std.specs.Prelude.{◌≡◌, ℕ, ℤ, ◌+◌, ◌^◌, ◌-◌, ◌<◌, ◌≤◌, ◌+ℤ◌, ◌-ℤ◌, ◌*ℤ◌, ◌≤ℤ◌};
+ghost use Rattle.std.specs.Prelude.{◌≡◌, ℕ, ℤ, ◌+◌, ◌^◌, ◌-◌, ◌<◌, ◌≤◌, ◌+ℤ◌, ◌≤ℤ◌};
 ghost use Rattle.std.specs.Prelude.{◌<ℤ◌, length};
-ghost use Rattle.ramp_step.specs.Knots.{power, height, StandFor, IsShape, IsInside, HaveSameEnds};
-ghost use Rattle.ramp_step.specs.Knots.{IsFar, CanAdd, AreRaised, knot, IsWide};
+ghost use Rattle.ramp_step.specs.Knots.{power, height, StandFor, IsShape, HaveSameEnds};
+ghost use Rattle.ramp_step.specs.Knots.{CanAdd, AreRaised, knot, IsWide};
 ghost use Rattle.ramp_step.specs.Tables.{table_of, AreBreaks};
 ghost use Rattle.shape_law.specs.Curve.{curve_value, IsLimitedCurve};
 ghost use Rattle.shape_law.specs.Effect.{IsCurveSum, CanAddCurve};

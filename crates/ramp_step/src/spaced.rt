@@ -1,5 +1,5 @@
 //! Knots with free cells between them, so that many knots are put in by one pass.
-ghost use Rattle.std.specs.Prelude.{◌≡◌, ℕ, ◌+◌, ◌-◌, ◌<◌, ◌≤◌, length};
+ghost use Rattle.std.specs.Prelude.{◌+◌, ◌-◌, ◌<◌, ◌≤◌, length};
 ghost use Rattle.ramp_step.specs.Knots.{knot, IsShape};
 ghost use Rattle.ramp_step.specs.Cut.{IsLimited, AreBelow, IsSplit};
 ghost use Rattle.ramp_step.specs.Spaced.{spaced, AreMovedBack, IsMovedOn};

@@ -1,10 +1,10 @@
 //! The lines before and behind the proposals and units.
-ghost use Rattle.std.specs.Prelude.{◌≡◌, ℕ, ◌+◌, ◌<◌, ◌≤◌, ◌^◌, ◌-ℤ◌};
-ghost use Rattle.std.specs.Prelude.{ℤ, [], ◌∷◌, length, map, IfOk};
+ghost use Rattle.std.specs.Prelude.{◌≡◌, ◌+◌, ◌<◌, ◌^◌};
+ghost use Rattle.std.specs.Prelude.{[], ◌∷◌, length, IfOk};
 ghost use Rattle.std.specs.Bool.{Decides};
 ghost use Rattle.uc_model.specs.Data.{unit_count};
 ghost use Rattle.uc_model.specs.PlainCases.{market_of};
-ghost use Rattle.report_form.specs.ReportText.{Report as PlainReport, chosen_text};
+ghost use Rattle.report_form.specs.ReportText.{chosen_text};
 ghost use Rattle.report_read.specs.Plain.{report_of};
 ghost use Rattle.report_compare.specs.Compared.{Compares};
 ghost use Rattle.report_compare.specs.ReportLines.{opening_lines, number_line, head_lines};

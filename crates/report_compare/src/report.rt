@@ -1,6 +1,6 @@
 //! The first line at which a report differs from the right one.
-ghost use Rattle.std.specs.Prelude.{◌≡◌, ℕ, ◌+◌, ◌<◌, ◌≤◌, ◌-ℤ◌, ◌↔◌, ℤ, None};
-ghost use Rattle.std.specs.Prelude.{Some, List, ◌++◌, [], ◌∷◌, length, map, slice_get, IfSome};
+ghost use Rattle.std.specs.Prelude.{◌≡◌, ◌+◌, ◌<◌, ◌≤◌, ◌↔◌, None};
+ghost use Rattle.std.specs.Prelude.{Some, List, length, map, IfSome};
 ghost use Rattle.std.specs.List.{AllZip, flat_map};
 ghost use Rattle.uc_model.specs.Data.{Schedule, units, unit_count};
 ghost use Rattle.uc_model.specs.Limits.{IsWorth};

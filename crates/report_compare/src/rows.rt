@@ -1,5 +1,5 @@
 //! The lines of proposals.
-ghost use Rattle.std.specs.Prelude.{◌≡◌, ℕ, ◌+◌, ◌*◌, ◌<◌, ◌≤◌, ◌^◌, length, map, IfOk};
+ghost use Rattle.std.specs.Prelude.{◌≡◌, ℕ, ◌+◌, ◌*◌, ◌<◌, ◌^◌, length, map, IfOk};
 ghost use Rattle.uc_model.specs.PlainCases.{proposal_of};
 ghost use Rattle.report_compare.specs.Compared.{Compares};
 ghost use Rattle.report_compare.specs.ReportLines.{row_lines, rows_lines};

@@ -1,5 +1,5 @@
 //! The first of several lines that isn't as it should be.
-ghost use Rattle.std.specs.Prelude.{◌≡◌, ◌+◌, ◌<◌, ◌≤◌, ◌^◌, length};
+ghost use Rattle.std.specs.Prelude.{◌≡◌, ◌+◌, ◌<◌, ◌^◌, length};
 ghost use Rattle.report_compare.specs.Compared.{wrong_from};
 
 /// A line that differs, with its number from 1.

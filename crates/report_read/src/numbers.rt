@@ -1,5 +1,5 @@
 //! Numbers in decimal digits, as they are printed: with no leading zero, and no `-` before a 0.
-ghost use Rattle.std.specs.Prelude.{◌≡◌, ◌≢◌, ◌≤◌, ◌∷◌, slice_index, ℤ, pos, neg_ℤ};
+ghost use Rattle.std.specs.Prelude.{◌≡◌, ◌≢◌, ◌≤◌, ◌∷◌, slice_index, pos, neg_ℤ};
 ghost use Rattle.report_read.specs.Words.{Finds, digits_from as digits_spec, count_between};
 ghost use Rattle.report_read.specs.Words.{count_at as count_spec, integer_at};
 ghost use Rattle.report_read.specs.LineForms.{amount_at as amount_spec};

@@ -1,5 +1,5 @@
 //! The units and bids of a report.
-ghost use Rattle.std.specs.Prelude.{◌≡◌, ◌≤◌, map};
+ghost use Rattle.std.specs.Prelude.{◌≡◌, map};
 ghost use Rattle.uc_model.specs.PlainUnits.{schedule_of};
 ghost use Rattle.report_read.specs.Plain.{rank as rank_spec, told_of};
 ghost use Rattle.report_read.specs.Words.{Finds, FindsIfOk, kind_at as kind_spec};

@@ -109,10 +109,9 @@ fn lowest_of(pieces: &[Piece], stepped: Stepped) -> Option<Lowest>
 }
 
 impl Slopes {
-    ghost use Rattle.std.specs.Prelude.{◌≡◌, ℕ, ℤ, ◌+◌, ◌≤◌, pos, neg_ℤ, ◌+ℤ◌, ◌≤ℤ◌, ◌↔◌, IsTrue};
+    ghost use Rattle.std.specs.Prelude.{◌≡◌, ℤ, ◌+◌, ◌≤◌, ◌↔◌, IsTrue};
     ghost use Rattle.std.specs.Prelude.{length, IfOk, Some, MatchOption};
     ghost use Rattle.std.specs.Bool.{OnTrue};
-    ghost use Rattle.plain_lists.specs.Ranges.{IsFrom};
     ghost use Rattle.shape_law.specs.Effect.{IsPoint, IsLeast, IsLeastIn};
     ghost use Rattle.shape_law.specs.Steps.{IsFairStep, IsCostOf, IsStepped, IsSmall};
     ghost use Rattle.shape_law.specs.Table.{Table, value_of, IsPlace, IsAmount, IsEmpty, HasNone};

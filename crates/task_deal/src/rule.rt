@@ -1,6 +1,6 @@
 //! The rule of each queue.
-ghost use Rattle.std.specs.Prelude.{◌≡◌, ◌+◌, ◌-◌, [], ◌++◌};
-ghost use Rattle.task_deal.specs.Rule.{account, IsFair, Fits, IsSettled};
+ghost use Rattle.std.specs.Prelude.{◌≡◌, ◌+◌, ◌++◌};
+ghost use Rattle.task_deal.specs.Rule.{account, Fits, IsSettled};
 
 use crossbeam_deque::protocol::{Join, Lesson, Outcome, Protocol, Split};
 use crossbeam_deque::{Injector, InjectorPass, Pass, Stealer, Worker};

@@ -1,5 +1,5 @@
 // The steps of a shelf in memory.
-ghost use Rattle.std.specs.Prelude.{◌≡◌, ℕ, ◌-◌, ◌<◌, ◌≤◌, min, length, Some, IfOk, IfSome};
+ghost use Rattle.std.specs.Prelude.{◌≡◌, ◌-◌, ◌<◌, min, length, Some, IfOk, IfSome};
 ghost use Rattle.std.specs.Option.{option_copied};
 ghost use Rattle.hull_io.specs.Edge.{ReadsAt};
 ghost use Rattle.test_memory.specs.Named.{entry_of, entries_of, first_in, told_in, place_in};

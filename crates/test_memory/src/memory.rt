@@ -1,7 +1,7 @@
 // A shelf and a sink in memory, which tell what they hold. Neither takes memory once it is made.
 ghost use Rattle.std.specs.Prelude.{◌≡◌, ◌≢◌, ℕ, List, ◌+◌, ◌≤◌, ◌<◌, ◌==◌, min, length, take};
 ghost use Rattle.std.specs.Prelude.{Some, IfOk, IfSome, OnOk, OnErr, vec_len, vec_capacity};
-ghost use Rattle.std.specs.Prelude.{slice_index, if◌then◌else◌};
+ghost use Rattle.std.specs.Prelude.{if◌then◌else◌};
 ghost use Rattle.std.specs.Result.{result_ok};
 ghost use Rattle.hull_io.specs.Edge.{Rose, ReadsAt, grown};
 ghost use Rattle.test_memory.specs.Named.{told_in};
@@ -33,7 +33,7 @@ pub struct MemoryShelf {
 }
 
 impl MemoryShelf {
-    ghost use Rattle.test_memory.specs.OfShelf.{told_of, place_of, count_of, reads_of, IsNewShelf};
+    ghost use Rattle.test_memory.specs.OfShelf.{place_of, count_of, IsNewShelf};
 
     /// Copies the files. Their names are meant to differ; of two files of one name the first is
     /// read.

@@ -1,9 +1,6 @@
 // A shelf and a sink that never fail.
-ghost use Rattle.std.specs.Prelude.{◌≡◌, ℕ, List, ◌-◌, ◌≤◌, ◌<◌, min, length, Some, None, Ok, IfOk};
-ghost use Rattle.std.specs.Prelude.{IfSome, OnErr, unwrap_or};
-ghost use Rattle.std.specs.Result.{result_ok};
-ghost use Rattle.hull_io.specs.Edge.{Rose, ReadsAt, grown};
-ghost use Rattle.test_memory.specs.Named.{told_in, sure_in};
+ghost use Rattle.std.specs.Prelude.{◌≡◌, ◌-◌, ◌<◌, length, Ok, IfOk};
+ghost use Rattle.test_memory.specs.Named.{sure_in};
 
 use crate::copies::{bytes_of, copies_of, read_from};
 use crate::memory::File;

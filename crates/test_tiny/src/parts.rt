@@ -1,6 +1,6 @@
 //! Values of the types of a case from their parts, for tests: each part is within the limits of its
 //! type, and the contract says what the value is in plain records and lists.
-ghost use Rattle.std.specs.Prelude.{◌≡◌, ◌≤◌, ◌<◌, ℤ, pos, ◌≤ℤ◌, length, map, IfOk, EachIndex};
+ghost use Rattle.std.specs.Prelude.{◌≡◌, ◌≤◌, ◌<◌, pos, length, map, IfOk, EachIndex};
 ghost use Rattle.std.specs.Prelude.{slice_index, slice_set, [], ◌∷◌, ◌+◌};
 ghost use Rattle.test_tiny.specs.Small.{small_unit_of};
 ghost use Rattle.uc_model.specs.Limits.{IsMarket, IsRenewableUnit, IsBidUnit, ArePrices};

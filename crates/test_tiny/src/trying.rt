@@ -1,6 +1,6 @@
 //! The least of the best schedules, by trying all of them in the order for ties.
-ghost use Rattle.std.specs.Prelude.{◌≡◌, ◌≤◌, ◌<◌, suc, pos, false, length, replicate, IsTrue};
-ghost use Rattle.std.specs.Prelude.{IsFalse, IfOk, IfSome, IfNone};
+ghost use Rattle.std.specs.Prelude.{◌≡◌, ◌<◌, suc, pos, false, length, replicate};
+ghost use Rattle.std.specs.Prelude.{IfOk, IfSome, IfNone};
 ghost use Rattle.test_tiny.specs.Counts.{schedules_after, IsWithin};
 ghost use Rattle.test_tiny.specs.Tries.{IsKept};
 ghost use Rattle.uc_model.specs.Data.{Thermal, Schedule};

@@ -1,5 +1,5 @@
 //! The table filled, from the first period on.
-ghost use Rattle.std.specs.Prelude.{◌≡◌, ℕ, ◌+◌, ◌*◌, ◌<◌, ◌≤◌, [], true, IsTrue, IsFalse, OnOk};
+ghost use Rattle.std.specs.Prelude.{◌≡◌, ◌+◌, ◌*◌, ◌<◌, ◌≤◌, [], true, IsTrue, IsFalse, OnOk};
 ghost use Rattle.std.specs.Prelude.{IsOk, length, suc};
 ghost use Rattle.cost_curve.specs.CostCurve.{IsCostCurve};
 ghost use Rattle.test_shapes.specs.Cell.{Frame};

@@ -1,7 +1,7 @@
 //! Callers on seats of one shared board, one after another. The numbers expected are worked by
 //! hand.
-ghost use Rattle.std.specs.Prelude.{◌≡◌, ◌<◌, ◌≤◌, IfOk, [], length};
-ghost use Rattle.board_share.specs.Seats.{view_of, IsSeatOf, IsSameBoard, IsOwner};
+ghost use Rattle.std.specs.Prelude.{◌≡◌, ◌<◌, IfOk, []};
+ghost use Rattle.board_share.specs.Seats.{view_of, IsSeatOf, IsSameBoard};
 ghost use Rattle.board_share.specs.Tells.{KeepsRest};
 ghost use Rattle.uc_model.specs.TaskRoom.{IsTaskFor};
 

@@ -1,6 +1,6 @@
 //! Steps on shapes of small numbers: each is made where what it requires is seen to hold.
-ghost use Rattle.std.specs.Prelude.{◌≡◌, ℤ, ◌<◌, ◌≤◌, pos, neg_ℤ, ◌+ℤ◌};
-ghost use Rattle.std.specs.Prelude.{◌≤ℤ◌, IsTrue, IfOk, OnOk, length};
+ghost use Rattle.std.specs.Prelude.{◌≡◌, ◌<◌, pos};
+ghost use Rattle.std.specs.Prelude.{IsTrue, IfOk, length};
 ghost use Rattle.plain_lists.specs.Ranges.{IsFrom};
 ghost use Rattle.shape_law.specs.Curve.{end_of};
 ghost use Rattle.shape_law.specs.Table.{HasNone};

@@ -1,6 +1,6 @@
 //! Four threads on one board, many times over. The rows expected are worked by hand.
 ghost use Rattle.std.specs.Thread.{IsSync};
-ghost use Rattle.std.specs.Prelude.{◌≡◌, ◌+◌, ◌<◌, IfOk, [], length, All};
+ghost use Rattle.std.specs.Prelude.{◌≡◌, ◌+◌, ◌<◌, IfOk, [], length};
 ghost use Rattle.board_share.specs.Seats.{view_of, IsSeatOf, IsSameBoard, IsOwner};
 ghost use Rattle.board_share.specs.Tells.{KeepsRest};
 ghost use Rattle.uc_model.specs.TaskRoom.{IsTaskFor};

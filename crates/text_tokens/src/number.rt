@@ -1,5 +1,5 @@
 //! The number that a run of bytes is.
-ghost use Rattle.std.specs.Prelude.{◌≡◌, ◌<◌, ◌≤◌, ◌^◌, ◌++◌, [], length, drop, IfSome, IfNone};
+ghost use Rattle.std.specs.Prelude.{◌≡◌, ◌<◌, ◌≤◌, ◌^◌, length, drop, IfSome, IfNone};
 ghost use Rattle.std.specs.Prelude.{slice_index};
 ghost use Rattle.std.specs.Prelude.{true, false, if◌then◌else◌, pos, neg_ℤ, ◌-ℤ◌};
 ghost use Rattle.std.specs.List.{prefix_len};
@@ -11,7 +11,7 @@ ghost use Rattle.text_tokens.specs.Numbers.{number_token as number_spec};
 ghost use Rattle.text_tokens.specs.Numbers.{power_digits as power_digits_spec, power as power_spec};
 ghost use Rattle.text_tokens.specs.Numbers.{behind_fraction as behind_fraction_spec};
 ghost use Rattle.text_tokens.specs.Numbers.{behind_whole as behind_whole_spec};
-ghost use Rattle.text_tokens.specs.Numbers.{unsigned as unsigned_spec, number_of, exponent_of};
+ghost use Rattle.text_tokens.specs.Numbers.{unsigned as unsigned_spec, number_of};
 ghost use Rattle.text_tokens.specs.Grammar.{word};
 ghost use Rattle.text_tokens.specs.Numerals.{numeral_of};
 ghost use Rattle.text_tokens.specs.Small.{decimal_of};

@@ -1,6 +1,6 @@
 //! The strings of a text.
 ghost use Rattle.std.specs.Prelude.{◌≡◌, ◌<◌, ◌≤◌, ◌^◌, ◌++◌, ◌∷◌, [], ◌-◌, ◌≢◌, IsUtf8};
-ghost use Rattle.std.specs.Prelude.{string_bytes, length, take, drop, slice_index, Option};
+ghost use Rattle.std.specs.Prelude.{string_bytes, length, take, slice_index, Option};
 ghost use Rattle.std.specs.Prelude.{IfSome, IfNone, IfOk, Some, None, OnOk, option_map, true};
 ghost use Rattle.text_tokens.specs.declared.strings.Said.{Said};
 ghost use Rattle.text_tokens.specs.Strings.{hex_of, four, short_of, is_high as high_unit};

@@ -1,8 +1,6 @@
 //! The tokens of a text.
 ghost use Rattle.std.specs.Prelude.{◌≡◌, ◌<◌, ◌≤◌, ◌^◌, ◌+◌, ◌||◌, ◌==◌, true, length, slice_index};
 ghost use Rattle.std.specs.Prelude.{ℕ, List, drop, IfSome, IfNone, false};
-ghost use Rattle.std.specs.List.{prefix_len};
-ghost use Rattle.std.specs.Char.{is_ascii_digit as digit};
 ghost use Rattle.text_tokens.specs.Numbers.{is_number_byte as number_byte};
 ghost use Rattle.text_tokens.specs.Numbers.{number_of};
 ghost use Rattle.text_tokens.specs.Strings.{string_at as string_spec};

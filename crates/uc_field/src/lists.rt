@@ -1,11 +1,11 @@
 //! The lists of a unit.
-ghost use Rattle.std.specs.Prelude.{◌≡◌, ◌≤◌, IfOk, length, codes, false, nat_lt, int_lt};
+ghost use Rattle.std.specs.Prelude.{◌≡◌, ◌≤◌, IfOk, length, false, nat_lt, int_lt};
 ghost use Rattle.std.specs.List.{All};
 ghost use Rattle.uc_model.specs.Limits.{IsLag, IsPoint, IsPower};
 ghost use Rattle.uc_model.specs.declared.units.Lag.{Lag as PlainLag};
 ghost use Rattle.uc_model.specs.declared.units.Point.{Point as PlainPoint};
 ghost use Rattle.uc_model.specs.declared.limits.TheConstants.{MOST_LAGS, MOST_PERIODS};
-ghost use Rattle.text_tree.specs.View.{view, member_views};
+ghost use Rattle.text_tree.specs.View.{member_views};
 ghost use Rattle.uc_file.specs.Given.{Gives};
 ghost use Rattle.uc_field.specs.Kept.{AreLags, ArePoints, IsPointList};
 ghost use Rattle.uc_file.specs.Words.{last_is};

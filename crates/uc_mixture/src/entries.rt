@@ -1,5 +1,5 @@
 //! The entries of one unit.
-ghost use Rattle.std.specs.Prelude.{◌≡◌, IfOk, IfSome, map};
+ghost use Rattle.std.specs.Prelude.{◌≡◌, IfOk, IfSome};
 ghost use Rattle.std.specs.List.{All};
 ghost use Rattle.mixture_bound.specs.Mixtures.{entry_of, entries_of, AreEntries};
 ghost use Rattle.std.specs.Option.{option_map};

@@ -1,5 +1,5 @@
 //! The mixture of a tree.
-ghost use Rattle.std.specs.Prelude.{◌≡◌, IfOk, map, pos};
+ghost use Rattle.std.specs.Prelude.{◌≡◌, IfOk, pos};
 ghost use Rattle.std.specs.Option.{option_map};
 ghost use Rattle.mixture_bound.specs.Mixtures.{mixture_of, HasMixtureShape, most_whole};
 ghost use Rattle.plain_lists.specs.Ranges.{IsFrom};

@@ -1,5 +1,5 @@
 -- The room of a task: that of any unit of a case with so many periods (this project's profile).
-use Rattle.std.specs.Prelude.{◌≡◌, ℕ, ◌+◌, ◌≤◌, length}
+use Rattle.std.specs.Prelude.{◌≡◌, ℕ, ◌≤◌, length}
 use Rattle.std.specs.List.{All}
 use Rattle.uc_model.specs.declared.limits.TheConstants.{MOST_LAGS, MOST_POINTS, MOST_BLOCKS}
 use Rattle.uc_model.specs.declared.units.Block.{Block}

@@ -1,7 +1,6 @@
 //! The numbers of a schedule.
 ghost use Rattle.std.specs.Prelude.{◌≡◌, ◌≤◌, Option, IfOk, length};
 ghost use Rattle.uc_model.specs.declared.limits.TheConstants.{MOST_PERIODS};
-ghost use Rattle.uc_num.specs.Rounding.{rounded};
 ghost use Rattle.text_tree.specs.Values.{Value};
 ghost use Rattle.text_tree.specs.View.{view, views, items_in};
 ghost use Rattle.uc_file.specs.Given.{Gives};

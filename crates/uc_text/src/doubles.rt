@@ -1,11 +1,10 @@
 //! Which of an object's names is the first that stands before it too: names in order are passed,
 //! few are compared with one another, and many by the order of their hashes, which takes no step
 //! into memory that isn't near.
-ghost use Rattle.std.specs.Prelude.{◌≡◌, ◌≢◌, ◌/◌, ◌%◌, ◌<◌, ◌≤◌, ℕ, List, [], true, false, length};
-ghost use Rattle.std.specs.Prelude.{take, Contains, IfOk, bytes_eq, slice_index_or};
+ghost use Rattle.std.specs.Prelude.{◌≡◌, ◌≢◌, ◌/◌, ◌%◌, ◌<◌, ◌≤◌, ℕ, [], true, false, length};
+ghost use Rattle.std.specs.Prelude.{take, Contains, IfOk, slice_index_or};
 ghost use Rattle.std.specs.List.Sorted.{IsNonDecreasing};
-ghost use Rattle.text_tokens.specs.Strings.{said};
-ghost use Rattle.uc_text.specs.Known.{names_said, AreDifferent, IsFirst, key_at, AreKeys};
+ghost use Rattle.uc_text.specs.Known.{names_said, AreDifferent, IsFirst, AreKeys};
 
 use crate::names::{Name, above, is_among, name_hash, says_same};
 use std::alloc::{AllocError, Global};

@@ -1,5 +1,5 @@
 //! The way back by what the runners left.
-ghost use Rattle.std.specs.Prelude.{◌≡◌, ℕ, ℤ, ◌<◌, ◌≤◌, length, suc};
+ghost use Rattle.std.specs.Prelude.{◌≡◌, ◌<◌, ◌≤◌, length};
 ghost use Rattle.spell_run.specs.Notes.{IsSpellNoted};
 ghost use Rattle.uc_model.specs.Data.{Thermal};
 ghost use Rattle.uc_model.specs.Earnings.{earnings, IsBest};

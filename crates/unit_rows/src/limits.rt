@@ -3,7 +3,7 @@
 //! A period that the unit is on in costs no less than it would alone, with no ramps and no limits
 //! of starts and stops. So what is above the amount and all that later periods may earn is never
 //! within the amount.
-ghost use Rattle.std.specs.Prelude.{◌≡◌, ℕ, ◌<◌, ◌≤◌, ℤ, pos, neg_ℤ, ◌+ℤ◌, ◌-ℤ◌, ◌*ℤ◌, ◌≤ℤ◌};
+ghost use Rattle.std.specs.Prelude.{◌≡◌, ◌<◌, ◌≤◌, ℤ, pos, neg_ℤ, ◌+ℤ◌, ◌-ℤ◌, ◌*ℤ◌, ◌≤ℤ◌};
 ghost use Rattle.std.specs.Prelude.{◌⊎◌, length};
 ghost use Rattle.std.specs.List.{All};
 ghost use Rattle.uc_model.specs.Envelope.{envelope};

@@ -1,5 +1,5 @@
 //! What the schedules of a plan earn.
-ghost use Rattle.std.specs.Prelude.{◌≡◌, ◌≤◌, ◌<◌, pos, neg_ℤ, ◌*ℤ◌, length, Some, slice_get};
+ghost use Rattle.std.specs.Prelude.{◌≡◌, ◌≤◌, ◌<◌, pos, neg_ℤ, length, Some, slice_get};
 ghost use Rattle.std.specs.List.{All};
 ghost use Rattle.uc_model.specs.declared.limits.TheConstants.{MOST_PERIODS};
 ghost use Rattle.uc_model.specs.Data.{RenewableUnit, Thermal, Flat, Bid as BidOf, horizon_of};

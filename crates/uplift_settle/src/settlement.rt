@@ -1,6 +1,6 @@
 //! The payments of all units, and the surplus reserve.
-ghost use Rattle.std.specs.Prelude.{◌≡◌, ◌≤◌, ◌<◌, ◌+◌, suc, ℤ, pos, neg_ℤ, ◌+ℤ◌, ◌-ℤ◌, [], ◌∷◌};
-ghost use Rattle.std.specs.Prelude.{◌++◌, length, map, Some, slice_get};
+ghost use Rattle.std.specs.Prelude.{◌≡◌, ◌≤◌, ◌<◌, ◌+◌, ℤ, pos, neg_ℤ, ◌+ℤ◌, ◌-ℤ◌, [], ◌∷◌};
+ghost use Rattle.std.specs.Prelude.{◌++◌, length, Some, slice_get};
 ghost use Rattle.std.specs.List.{AllZip};
 ghost use Rattle.uc_model.specs.Data.{AnyUnit, units, unit_count};
 ghost use Rattle.uc_model.specs.Earnings.{IsTop};

@@ -1,4 +1,4 @@
-use Rattle.price_space.proofs.Common.{◌≡◌, ◌*◌, ◌*ℤ◌, ◌∙◌, to_z-of_z, w128}
+use Rattle.price_space.proofs.Common.{◌*◌, ◌*ℤ◌, to_z-of_z, w128}
 use Rattle.price_space.proofs.Squares.{square_within, entry_widened, entry_squared}
 use Rattle.price_space.proofs.step.square.Goals as goal
 

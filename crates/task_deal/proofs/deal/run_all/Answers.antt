@@ -5,7 +5,7 @@ use Rattle.task_deal.proofs.Together.{AreOf, ready, worked, whole, made_of, memb
 use Rattle.task_deal.proofs.Together.{purses_left, ledger_begins, Worked}
 use Rattle.task_deal.proofs.deal.run_all.Goals as goal
 use Rattle.task_deal.proofs.deal.run_all.Given.{Over}
-use Rattle.task_deal.proofs.deal.run_all.Goals.{After-work_all, After-take_apart}
+use Rattle.task_deal.proofs.deal.run_all.Goals.{After-work_all}
 
 -- the members before they work and after
 module _ (g : Over) (c : After-work_all g) where

@@ -1,4 +1,4 @@
-use Rattle.test_whole.proofs.Common.{◌≡◌, ◌≤◌, view_of, IsSameBoard, KeepsRest, IsTaskFor}
+use Rattle.test_whole.proofs.Common.{◌≤◌, view_of, IsSameBoard, KeepsRest, IsTaskFor}
 use Rattle.test_whole.proofs.seats.play.Given as goal
 
 abbrev pub invariant-loop-step : goal.invariant-loop-step
