@@ -8,11 +8,15 @@ by the clock, and beside them the share of one worker's time in the same round, 
 next. The number of workers that can be at work at once is that of open proposals times units, so `--ahead` matters; an audit works at one
 proposal at a time.
 
-The last column is what the machine gives: four whole runs of one worker are started at once, and a quarter of the time until the last
-has ended is put beside the time of one alone. 0.25 means four processors of full speed; a share of four workers can't be less.
+The column '4 runs' is what the machine gives: four whole runs of one worker are started at once, and a quarter of the longest one's
+time is put beside the time of one alone. 0.25 means four processors of full speed; a share of four workers can't be less.
+Where processors are halves of one core, or where others use them too, one that works alone is faster than one beside three others. So
+the last column, 'beside', puts four workers beside one of those four runs, the mean of them: both have all processors at work, and
+what is told is the program's share and not the machine's.
 Run this on a quiet machine with four processors or more, and compare figures of one machine alone.
 """
 import argparse
+import concurrent.futures
 import os
 import statistics
 import subprocess
@@ -35,11 +39,9 @@ def seconds(words):
 
 
 def seconds_at_once(words, number):
-    began = time.monotonic()
-    runs = [subprocess.Popen(words, stdin=subprocess.DEVNULL, stdout=subprocess.DEVNULL) for _ in range(number)]
-    for run_of in runs:
-        run_of.wait()
-    return time.monotonic() - began
+    """How long each of so many runs that begin at once takes, the longest last."""
+    with concurrent.futures.ThreadPoolExecutor(number) as runs:
+        return sorted(it.result()[0] for it in [runs.submit(seconds, words) for _ in range(number)])
 
 
 def main():
@@ -52,8 +54,8 @@ def main():
         sys.exit(f"workers.py: {given.program} isn't there: ./hull builds it on first use")
     only = given.only.split(",")
     print(f"{os.cpu_count()} processors\n")
-    print("| Case | Ahead | " + " | ".join(f"{it} workers" if it > 1 else "1 worker" for it in WORKERS) + " | 4 runs |")
-    print("|---|---|" + "---|" * (len(WORKERS) + 1), flush=True)
+    print("| Case | Ahead | " + " | ".join(f"{it} workers" if it > 1 else "1 worker" for it in WORKERS) + " | 4 runs | beside |")
+    print("|---|---|" + "---|" * (len(WORKERS) + 2), flush=True)
     with tempfile.TemporaryDirectory(prefix="hull-workers-") as room:
         for row in run.ROWS:
             name = row[0]
@@ -70,8 +72,9 @@ def main():
                 took = {it: statistics.median(row[it][0] for row, _ in rounds) for it in WORKERS}
                 share = {it: statistics.median(row[it][0] / row[1][0] for row, _ in rounds) for it in WORKERS}
                 cells = [f"{took[it]:.3f} ({share[it]:.2f})" for it in WORKERS]
-                four = statistics.median(at_once / 4 / row[1][0] for row, at_once in rounds)
-                print(f"| {name} | {ahead} | " + " | ".join(cells) + f" | {four:.2f} |", flush=True)
+                four = statistics.median(at_once[-1] / 4 / row[1][0] for row, at_once in rounds)
+                beside = statistics.median(row[4][0] / statistics.mean(at_once) for row, at_once in rounds)
+                print(f"| {name} | {ahead} | " + " | ".join(cells) + f" | {four:.2f} | {beside:.2f} |", flush=True)
 
 
 if __name__ == "__main__":
