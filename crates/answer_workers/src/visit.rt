@@ -12,8 +12,8 @@ use std::mem::swap;
 use std::sync::{Mutex, MutexGuard, Wait};
 use std::thread;
 
-// How often a worker looks whether no other visits the board, before it sleeps until that is so. To
-// wake takes longer than most visits do. Each look yields.
+// How often a worker looks whether no other visits the board, before it sleeps until that is so. By
+// the clock, so many looks cost less than a sleep. Each look yields.
 const MOST_LOOKS: u32 = 400;
 
 /// Held during a visit.
