@@ -293,6 +293,6 @@ class Program:
         seen = self.reached(crate, name)
         left = []
         for it in self.functions:
-            if (it.crate, it.module, it.owner, it.name, it.foreign) not in seen and it.module not in ("law", "laws"):
+            if (it.crate, it.module, it.owner, it.name, it.foreign) not in seen and it.module.split("_")[-1] not in ("law", "laws"):
                 left.append("::".join(filter(None, (it.crate, it.module, it.owner, it.name))))
         return sorted(set(left))

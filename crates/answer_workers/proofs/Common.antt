@@ -17,12 +17,12 @@ pub use Rattle.answer_workers.specs.Workers.{IsHeldFor}
 pub use Rattle.answer_workers.specs.declared.worker.Worker.{Worker}
 pub use Rattle.answer_workers.specs.declared.worker.Held.{Held}
 pub use Rattle.answer_workers.specs.declared.worker.TheConstants.{MOST_HELD}
-pub use Rattle.board_history.specs.Board.{Answer, Content, rules_of, Setup}
-pub use Rattle.board_history.specs.Calls.{differs_from, after_claim, after_post, claim_answer}
-pub use Rattle.board_history.specs.Rounds.{Given, Taken, Closing, Stopped, ClaimReply, Finished, Halted, GivenTask}
-pub use Rattle.board_history.specs.Rounds.{NotYet, PostReply, OtherProposal, OtherUnit, OtherContent, Doubled}
-pub use Rattle.board_history.specs.Rounds.{OtherHolder, TakenPost, claim_reply, post_reply, post_event, posts}
-pub use Rattle.board_history.specs.Rounds.{with_post, is_closed, with_claim, with_answer}
+pub use Rattle.board_store.specs.Board.{Answer, Content, rules_of, Setup}
+pub use Rattle.board_store.specs.Calls.{differs_from, after_claim, after_post, claim_answer}
+pub use Rattle.board_store.specs.Rounds.{Given, Taken, Closing, Stopped, ClaimReply, Finished, Halted, GivenTask}
+pub use Rattle.board_store.specs.Rounds.{NotYet, PostReply, OtherProposal, OtherUnit, OtherContent, Doubled}
+pub use Rattle.board_store.specs.Rounds.{OtherHolder, TakenPost, claim_reply, post_reply, post_event, posts}
+pub use Rattle.board_store.specs.Rounds.{with_post, is_closed, with_claim, with_answer}
 pub use Rattle.board_share.specs.Seats.{SeatValue, view_of, IsSameBoard}
 pub use Rattle.board_share.specs.Tells.{Called}
 pub use Rattle.board_share.specs.Views.{BoardEvent, View, caller_of, content}

@@ -3,7 +3,7 @@ use Rattle.answer_workers.proofs.Common.{◌≡◌, ℕ, refl, sym, ap, ◌∙�
 use Rattle.answer_workers.proofs.Common.{Halted, GivenTask, NotYet, view_of, Called, View, content, Market, units}
 use Rattle.answer_workers.proofs.Common.{task_unit, IsFeasible, Task, Contains, slice_get_within, get_or_from_slice_get}
 use Rattle.answer_workers.proofs.Common.{IsTold, IsAnswerable, market_at, Worker}
-use Rattle.board_history.specs.Laws.{ClaimsMean}
+use Rattle.board_store.specs.Laws.{ClaimsMean}
 use Rattle.board_core.specs.Replies.{claim_of}
 use Rattle.board_core.specs.Tasks.{IsOwnTask, LeavesTask}
 use Rattle.board_core.specs.declared.replies.Claim.{Claim}

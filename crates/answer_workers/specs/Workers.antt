@@ -1,8 +1,8 @@
 -- Workers at a shared board, and what their work does (this project's profile).
 use Rattle.std.specs.Prelude.{◌≡◌, ◌≢◌, ◌⊎◌, ⊤, ℕ, ◌≤◌, true, List, ◌++◌, length}
 use Rattle.std.specs.List.{All, AllWithin, AllZip, Contains, list_any}
-use Rattle.board_history.specs.Calls.{has_finished}
-use Rattle.board_history.specs.Rounds.{Stopped, is_halt}
+use Rattle.board_store.specs.Calls.{has_finished}
+use Rattle.board_store.specs.Rounds.{Stopped, is_halt}
 use Rattle.board_core.specs.declared.replies.Claim.{Claim}
 use Rattle.board_core.specs.declared.replies.Claim.TheVariants as claim
 use Rattle.board_share.specs.Seats.{SeatValue, view_of, IsSeatOf, IsSameBoard}

@@ -11,7 +11,7 @@ use board_share::SharedBoard;
 use std::sync::{Mutex, Wait};
 use std::thread;
 use std::thread::Threads;
-use thread_start::make_way;
+use task_deal::make_way;
 
 fn work_one<R: Wait, G: Gate>(
     rt: &R,

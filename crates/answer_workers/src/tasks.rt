@@ -9,8 +9,7 @@ ghost use Rattle.answer_workers.specs.Answers.{HasSchedule, IsResponse, Suffices
 use flat_answer::{best_bid, best_flat};
 use uc_model::cases::Task;
 use uc_model::units::{Answered, Prices, Unit, UnitKind};
-use unit_choice::least_on_bench;
-use unit_program::{Bench, LastAnswers};
+use unit_program::{Bench, LastAnswers, least_on_bench};
 
 // Answers the thermal unit of a number, which has a schedule.
 fn answer_thermal(

@@ -61,7 +61,7 @@ pub struct Worker {
 }
 
 /// How the work at a board ended.
-#[derive(Clone, Copy, PartialEq, Eq, Debug)]
+#[derive(Clone, Copy)]
 pub enum Ended {
     /// Every proposal that exists is closed.
     Finished,

@@ -5,8 +5,8 @@ ghost use Rattle.task_deal.specs.declared.deal.TheConstants.{MOST_JOBS};
 ghost use Rattle.uc_model.specs.Data.{Market};
 ghost use Rattle.uc_model.specs.PlainCases.{market_of, schedules_of};
 ghost use Rattle.uc_model.specs.Systems.{IsFeasiblePlan, plan_cost};
-ghost use Rattle.audit_rows.specs.Jobs.{AreFor};
-ghost use Rattle.case_answers.specs.Tops.{HasSchedules, IsBenchOver};
+ghost use Rattle.audit_check.specs.Jobs.{AreFor};
+ghost use Rattle.unit_program.specs.Tops.{HasSchedules, IsBenchOver};
 ghost use Rattle.right_report.specs.RightReport.{IsRightReport};
 ghost use Rattle.report_read.specs.Bounds.{IsReport, AreInOrder};
 ghost use Rattle.report_read.specs.Plain.{report_of, told_of};
@@ -16,7 +16,9 @@ ghost use Rattle.report_compare.specs.ReportLines.{opening_lines};
 ghost use Rattle.report_compare.specs.Right.{DiffersFromRight};
 ghost use Rattle.report_compare.specs.declared.verdict.Audit.TheVariants.{Right};
 
-use audit_rows::{Answerer, Means, right_rows};
+use crate::answerer::Answerer;
+use crate::count::Means;
+use crate::rows::right_rows;
 use report_compare::{Audit, Desk, judged, opening_right};
 use report_read::Report;
 use std::alloc::{AllocError, Global};
@@ -83,7 +85,7 @@ fn enough_rows(report: &Report) -> u32
 }
 
 // The audit of a report whose first six lines are right.
-fn rows_right<R: Threads + Wait + Sync>(
+fn judged_by_own_rows<R: Threads + Wait + Sync>(
     rt: &R,
     alloc: Global,
     case: &Case,
@@ -154,7 +156,7 @@ pub fn check_report<R: Threads + Wait + Sync>(
         (report_of report.now) line)) }
 {
     match opening_right(case, plan, cost, report) {
-        Ok(_) => rows_right(rt, alloc, case, plan, cost, report, benches),
+        Ok(_) => judged_by_own_rows(rt, alloc, case, plan, cost, report, benches),
         Err(wrong) => Ok(Audit::Wrong { line: wrong.line }),
     }
 }

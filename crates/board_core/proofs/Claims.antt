@@ -9,7 +9,7 @@ use Rattle.board_core.proofs.Common.{posts, holders, closed_front, opened, is_fi
 use Rattle.board_core.proofs.Common.{Holders, Finished, Halted, GivenTask, NotYet, claim_reply, PriceLists, unit_count}
 use Rattle.board_core.proofs.Common.{Proposal, no_prices, task_number, LedgerValue, Lists, task_count, sums_of}
 use Rattle.board_core.proofs.Common.{fronts_of, AreTakers, mark, AreMarks, AreTallies, AreRounds, IsBoard, IsSetup}
-use Rattle.board_history.specs.Words.{IsHeld, IsGoing, ClaimSays}
+use Rattle.board_store.specs.Words.{IsHeld, IsGoing, ClaimSays}
 use Rattle.board_core.proofs.Fronts.{closed_is, opened_is}
 use Rattle.board_core.proofs.Halts.{or_false}
 use Rattle.board_core.proofs.Lists.{place_before, place_same}

@@ -35,23 +35,23 @@ pub use Rattle.board_core.specs.Rounds.{Sums, Fronts, is_full, row_in, with_row,
 pub use Rattle.board_core.specs.Rounds.{with_opened}
 pub use Rattle.board_core.specs.Setups.{IsSetup, setup_of}
 pub use Rattle.board_core.specs.Stored.{answers_kept, answer_kept, answer_of}
-pub use Rattle.board_history.specs.Board.{Setup, Answer, rules_of, no_answer, Content, IsRight, IsLegalHistory}
-pub use Rattle.board_history.specs.Board.{earned_in, schedules_in}
-pub use Rattle.board_history.specs.BoardLaws.{RoundLaws, BoardLaws, DifferencesMean, Extends, TakenTells}
-pub use Rattle.board_history.specs.Bounds.{IsSum, IsTotal, TotalsAreWithin, IsWorth}
-pub use Rattle.board_history.specs.Calls.{differs_from, post_answer, after_post, after_halt, own_rows, claim_answer}
-pub use Rattle.board_history.specs.Calls.{after_claim, has_finished}
-pub use Rattle.board_history.specs.Entries.{entry_of, entries_of}
-pub use Rattle.board_history.specs.Rounds.{Rules, rows_by, prices_by, opened_in, Event, Given, sooner, only_at, posts}
-pub use Rattle.board_history.specs.Rounds.{holders, closed_front, opened, is_finished, prices_at, is_halt, is_halt_of}
-pub use Rattle.board_history.specs.Rounds.{Holders, Finished, Halted, GivenTask, NotYet, claim_reply, Posts, is_closed}
-pub use Rattle.board_history.specs.Rounds.{answer_at, row_by, rows_of, Stopped, Taken, Closing, post_event, with_post}
-pub use Rattle.board_history.specs.Rounds.{answers, rows_to, IsPost, IsNext, PostReply, OtherProposal, OtherUnit}
-pub use Rattle.board_history.specs.Rounds.{OtherContent, Doubled, OtherHolder, TakenPost, is_holder, with_answer}
-pub use Rattle.board_history.specs.Rounds.{opened as opened_of, ClaimReply, with_claim}
-pub use Rattle.board_history.specs.Tasks.{difference, IsOver, IsTask, Difference}
-pub use Rattle.board_history.specs.declared.entries.Entry.{Entry}
-pub use Rattle.board_task.specs.Same.{AreSame}
+pub use Rattle.board_store.specs.Board.{Setup, Answer, rules_of, no_answer, Content, IsRight, IsLegalHistory}
+pub use Rattle.board_store.specs.Board.{earned_in, schedules_in}
+pub use Rattle.board_store.specs.BoardLaws.{RoundLaws, BoardLaws, DifferencesMean, Extends, TakenTells}
+pub use Rattle.board_store.specs.Bounds.{IsSum, IsTotal, TotalsAreWithin, IsWorth}
+pub use Rattle.board_store.specs.Calls.{differs_from, post_answer, after_post, after_halt, own_rows, claim_answer}
+pub use Rattle.board_store.specs.Calls.{after_claim, has_finished}
+pub use Rattle.board_store.specs.Entries.{entry_of, entries_of}
+pub use Rattle.board_store.specs.Rounds.{Rules, rows_by, prices_by, opened_in, Event, Given, sooner, only_at, posts}
+pub use Rattle.board_store.specs.Rounds.{holders, closed_front, opened, is_finished, prices_at, is_halt, is_halt_of}
+pub use Rattle.board_store.specs.Rounds.{Holders, Finished, Halted, GivenTask, NotYet, claim_reply, Posts, is_closed}
+pub use Rattle.board_store.specs.Rounds.{answer_at, row_by, rows_of, Stopped, Taken, Closing, post_event, with_post}
+pub use Rattle.board_store.specs.Rounds.{answers, rows_to, IsPost, IsNext, PostReply, OtherProposal, OtherUnit}
+pub use Rattle.board_store.specs.Rounds.{OtherContent, Doubled, OtherHolder, TakenPost, is_holder, with_answer}
+pub use Rattle.board_store.specs.Rounds.{opened as opened_of, ClaimReply, with_claim}
+pub use Rattle.board_store.specs.TaskDifference.{difference, IsOver, IsTask, Difference}
+pub use Rattle.board_store.specs.declared.entries.Entry.{Entry}
+pub use Rattle.board_store.specs.Same.{AreSame}
 pub use Rattle.price_space.specs.Totals.{IsRaised}
 pub use Rattle.price_space.specs.Firsts.{IsFirstUpTo}
 pub use Rattle.price_space.specs.Moves.{is_last_settled, values_of}

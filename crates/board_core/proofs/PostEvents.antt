@@ -4,10 +4,10 @@ use Rattle.board_core.proofs.Common.{◌++◌, get_or, refl, sym, ap, ◌∙◌,
 use Rattle.board_core.proofs.Common.{map-append, is_some, Setup, Answer, no_answer, rules_of, Event, Taken, Closing}
 use Rattle.board_core.proofs.Common.{sooner, only_at, posts, post_event, Entry, unit_count, task_number, event_by}
 use Rattle.board_core.proofs.Common.{event_of, events_of, LedgerValue, Lists, IsBoard, reply_of}
-use Rattle.board_history.specs.Laws.{AnswersFit}
-use Rattle.board_history.specs.declared.entries.Call.TheVariants as calls
-use Rattle.board_history.specs.declared.entries.Reply.{Reply}
-use Rattle.board_history.specs.declared.entries.Reply.TheVariants as replies
+use Rattle.board_store.specs.Laws.{AnswersFit}
+use Rattle.board_store.specs.declared.entries.Call.TheVariants as calls
+use Rattle.board_store.specs.declared.entries.Reply.{Reply}
+use Rattle.board_store.specs.declared.entries.Reply.TheVariants as replies
 use Rattle.board_core.proofs.Lists.{some_of, place_same}
 use Rattle.board_core.proofs.PostLists.{IsHeldTask, only_here, kept_inside, closes_is}
 

@@ -8,7 +8,7 @@ use Rattle.board_core.proofs.Common.{earned_in, RoundLaws, Rules, Event, Posts, 
 use Rattle.board_core.proofs.Common.{AnyUnit, PriceLists, units, unit_count, supply_in, Proposal, reserve_in, int_at}
 use Rattle.board_core.proofs.Common.{total, total_power, total_reserve, LedgerValue, raised_by, with_schedule, Lists}
 use Rattle.board_core.proofs.Common.{supply_to, reserve_to, sums_of, fronts_of, AreTallies, IsLedger, IsBoard}
-use Rattle.board_history.specs.Totals.{AddsOne}
+use Rattle.board_store.specs.Totals.{AddsOne}
 use Rattle.board_core.proofs.Fronts.{closed_is}
 use Rattle.board_core.proofs.LedgerSteps.{map_unchanged, same_fronts}
 use Rattle.board_core.proofs.Lists.{map_range_same}

@@ -7,7 +7,7 @@ use Rattle.board_core.proofs.Common.{AnyUnit, PriceLists, units, unit_count, ear
 use Rattle.board_core.proofs.Common.{total_reserve, LedgerValue, Lists, supply_to, reserve_to, IsBoard, refusal_of}
 use Rattle.board_core.proofs.Common.{reply_of, IsSetup}
 use Rattle.std.proofs.lemmas.List.Elements.{All-map}
-use Rattle.board_history.specs.declared.entries.Call.TheVariants as calls
+use Rattle.board_store.specs.declared.entries.Call.TheVariants as calls
 use Rattle.board_core.proofs.Entries.{content}
 use Rattle.board_core.proofs.Fronts.{opened_is}
 use Rattle.board_core.proofs.PostLists.{IsHeldTask}

@@ -1,7 +1,7 @@
 -- What contracts say of boards.
 use Rattle.std.specs.Prelude.{ℕ, []}
-use Rattle.board_history.specs.Board.{Setup, Answer, Content, rules_of}
-use Rattle.board_history.specs.Rounds.{posts, answer_at}
+use Rattle.board_store.specs.Board.{Setup, Answer, Content, rules_of}
+use Rattle.board_store.specs.Rounds.{posts, answer_at}
 
 -- a board without events
 abbrev pub empty_board : Setup → Content

@@ -1,10 +1,10 @@
 -- The events of a board, read off its entries and its stored answers.
 use Rattle.std.specs.Prelude.{ℕ, ◌+◌, ◌-◌, ◌*◌, List, map, slice_index_or}
-use Rattle.board_history.specs.Board.{Answer, no_answer}
-use Rattle.board_history.specs.Rounds.{Event, Given, Taken, Closing, Stopped}
-use Rattle.board_history.specs.declared.entries.Entry.{Entry}
-use Rattle.board_history.specs.declared.entries.Reply.{Reply}
-use Rattle.board_history.specs.declared.entries.Reply.TheVariants as replies
+use Rattle.board_store.specs.Board.{Answer, no_answer}
+use Rattle.board_store.specs.Rounds.{Event, Given, Taken, Closing, Stopped}
+use Rattle.board_store.specs.declared.entries.Entry.{Entry}
+use Rattle.board_store.specs.declared.entries.Reply.{Reply}
+use Rattle.board_store.specs.declared.entries.Reply.TheVariants as replies
 
 -- the number of a task among all: by proposal, and then by unit
 abbrev pub task_number : ℕ → ℕ → ℕ → ℕ

@@ -3,12 +3,12 @@ use Rattle.std.specs.Prelude.{◌≡◌, ℕ, suc, ◌+◌, ◌-◌, ◌*◌, �
 use Rattle.std.specs.Prelude.{if◌then◌else◌, is_some, Option, Some, None, List, [], ◌∷◌, length}
 use Rattle.std.specs.Prelude.{map, take, sum_by, slice_get, slice_index, slice_index_or}
 use Rattle.std.specs.List.{All, list_any, range_with_len}
-use Rattle.board_history.specs.Board.{Setup, Answer, no_answer, rules_of, schedules_in, earned_in}
-use Rattle.board_history.specs.Board.{IsLegalHistory}
-use Rattle.board_history.specs.Entries.{entries_of}
-use Rattle.board_history.specs.Rounds.{Event, Posts, posts, Holders, holders, answers, prices_at}
-use Rattle.board_history.specs.Rounds.{rows_of, opened, is_halt_of, is_halt}
-use Rattle.board_history.specs.declared.entries.Entry.{Entry}
+use Rattle.board_store.specs.Board.{Setup, Answer, no_answer, rules_of, schedules_in, earned_in}
+use Rattle.board_store.specs.Board.{IsLegalHistory}
+use Rattle.board_store.specs.Entries.{entries_of}
+use Rattle.board_store.specs.Rounds.{Event, Posts, posts, Holders, holders, answers, prices_at}
+use Rattle.board_store.specs.Rounds.{rows_of, opened, is_halt_of, is_halt}
+use Rattle.board_store.specs.declared.entries.Entry.{Entry}
 use Rattle.board_store.specs.Answers.{Answers}
 use Rattle.uc_model.specs.Data.{units, unit_count}
 use Rattle.uc_model.specs.PriceRule.{Proposal}

@@ -2,12 +2,12 @@
 use Rattle.std.specs.Prelude.{ℕ, ◌-◌, Bool, false, ◌||◌, ◌==◌, if◌then◌else◌, nat_le, nat_lt}
 use Rattle.std.specs.Prelude.{Option, Some, None, List, slice_get, slice_index, slice_index_or}
 use Rattle.std.specs.Option.{option_map, option_map_or}
-use Rattle.board_history.specs.Board.{Setup}
-use Rattle.board_history.specs.Calls.{differs_from}
-use Rattle.board_history.specs.Rounds.{is_holder}
-use Rattle.board_history.specs.Tasks.{Difference}
-use Rattle.board_history.specs.declared.entries.Reply.{Reply}
-use Rattle.board_history.specs.declared.entries.Reply.TheVariants as replies
+use Rattle.board_store.specs.Board.{Setup}
+use Rattle.board_store.specs.Calls.{differs_from}
+use Rattle.board_store.specs.Rounds.{is_holder}
+use Rattle.board_store.specs.TaskDifference.{Difference}
+use Rattle.board_store.specs.declared.entries.Reply.{Reply}
+use Rattle.board_store.specs.declared.entries.Reply.TheVariants as replies
 use Rattle.uc_model.specs.Data.{AnyUnit, PriceLists, unit_count}
 use Rattle.board_core.specs.declared.replies.Differs.{Differs}
 use Rattle.board_core.specs.declared.replies.Differs.TheVariants as differs

@@ -1,9 +1,9 @@
 -- The answers of the calls, as the machine gives them (this project's profile).
 use Rattle.std.specs.Prelude.{ℕ, Bool, if◌then◌else◌, Option, Some, None}
-use Rattle.board_history.specs.Rounds.{ClaimReply, Finished, Halted, GivenTask, NotYet, PostReply}
-use Rattle.board_history.specs.Rounds.{OtherProposal, OtherUnit, OtherContent, Doubled, OtherHolder}
-use Rattle.board_history.specs.Rounds.{TakenPost}
-use Rattle.board_history.specs.Tasks.{Difference}
+use Rattle.board_store.specs.Rounds.{ClaimReply, Finished, Halted, GivenTask, NotYet, PostReply}
+use Rattle.board_store.specs.Rounds.{OtherProposal, OtherUnit, OtherContent, Doubled, OtherHolder}
+use Rattle.board_store.specs.Rounds.{TakenPost}
+use Rattle.board_store.specs.TaskDifference.{Difference}
 use Rattle.board_core.specs.declared.replies.Claim.{Claim}
 use Rattle.board_core.specs.declared.replies.Claim.TheVariants as claim
 use Rattle.board_core.specs.declared.replies.Posted.{Posted}

@@ -3,8 +3,8 @@ use Rattle.std.specs.Prelude.{◌≡◌, ℕ, suc, ◌+◌, ◌-◌, ◌<◌, �
 use Rattle.std.specs.Prelude.{if◌then◌else◌, nat_lt, List, [], ◌∷◌, ◌++◌, length, map, slice_index}
 use Rattle.std.specs.Prelude.{slice_index_or}
 use Rattle.std.specs.List.{range_with_len}
-use Rattle.board_history.specs.Board.{Setup, rules_of}
-use Rattle.board_history.specs.Rounds.{rows_by, prices_by, opened_in}
+use Rattle.board_store.specs.Board.{Setup, rules_of}
+use Rattle.board_store.specs.Rounds.{rows_by, prices_by, opened_in}
 use Rattle.uc_model.specs.Data.{Market, PriceLists}
 use Rattle.price_space.specs.Moves.{is_last_settled}
 use Rattle.uc_model.specs.PriceRule.{Proposal, next_prices, no_prices}

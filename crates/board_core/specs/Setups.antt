@@ -1,6 +1,6 @@
 -- What a board may be made for (the limits are this project's profile).
 use Rattle.std.specs.Prelude.{◌≡◌, ◌*◌, ◌≤◌}
-use Rattle.board_history.specs.Board.{Setup}
+use Rattle.board_store.specs.Board.{Setup}
 use Rattle.uc_model.specs.Data.{unit_count}
 use Rattle.plain_lists.specs.declared.limits.TheConstants.{MOST_PROPOSALS, MOST_AHEAD}
 use Rattle.plain_lists.specs.declared.limits.TheConstants.{MOST_CALLERS, MOST_WORK}

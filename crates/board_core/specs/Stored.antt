@@ -1,7 +1,7 @@
 -- The answers of a board, as its store keeps them.
 use Rattle.std.specs.Prelude.{List, map}
 use Rattle.board_store.specs.Answers.{Kept, Answers}
-use Rattle.board_history.specs.Board.{Answer}
+use Rattle.board_store.specs.Board.{Answer}
 use Rattle.uc_model.specs.PlainUnits.{schedule_of}
 use Rattle.uc_model.specs.declared.units.Answered.{Answered}
 

@@ -1,8 +1,8 @@
 -- The task that a claim leaves (this project's profile).
 use Rattle.std.specs.Prelude.{◌≡◌, ℕ, Some, slice_get}
-use Rattle.board_history.specs.Board.{Content}
-use Rattle.board_history.specs.Calls.{own_prices}
-use Rattle.board_history.specs.Rounds.{ClaimReply, Finished, Halted, GivenTask, NotYet}
+use Rattle.board_store.specs.Board.{Content}
+use Rattle.board_store.specs.Calls.{own_prices}
+use Rattle.board_store.specs.Rounds.{ClaimReply, Finished, Halted, GivenTask, NotYet}
 use Rattle.uc_model.specs.Data.{Schedule, units}
 use Rattle.uc_model.specs.PlainCases.{task_unit}
 use Rattle.uc_model.specs.PlainUnits.{prices_of}

@@ -1,9 +1,9 @@
 //! Rows of closed proposals and the prices of those that open, one after another.
 ghost use Rattle.std.specs.Prelude.{◌≡◌, ℕ, suc, ◌+◌, ◌<◌, ◌≤◌, true, false, not, length, map};
 ghost use Rattle.std.specs.List.{All};
-ghost use Rattle.board_history.specs.Board.{rules_of};
-ghost use Rattle.board_history.specs.Bounds.{IsSum};
-ghost use Rattle.board_history.specs.Rounds.{rows_by};
+ghost use Rattle.board_store.specs.Board.{rules_of};
+ghost use Rattle.board_store.specs.Bounds.{IsSum};
+ghost use Rattle.board_store.specs.Rounds.{rows_by};
 ghost use Rattle.price_space.specs.Firsts.{IsFirstUpTo};
 ghost use Rattle.price_space.specs.Moves.{is_last_settled, values_of};
 ghost use Rattle.price_space.specs.Sizes.{IsRowBelow};
@@ -20,7 +20,7 @@ ghost use Rattle.board_core.specs.Setups.{IsSetup, setup_of};
 
 use crate::ledger::Ledger;
 use crate::terms::Terms;
-use board_history::laws::board_laws;
+use board_store::laws::board_laws;
 use price_space::{Moved, dual_value, next_prices_from};
 use uc_model::cases::Row;
 use uc_model::laws::plan_costs_are_within;

@@ -1,10 +1,10 @@
 //! The board.
 ghost use Rattle.std.specs.Prelude.{◌≡◌, ◌+◌, ◌*◌, ◌<◌, ◌≤◌, true, false, IfOk, Some};
 ghost use Rattle.std.specs.Prelude.{length, map, take};
-ghost use Rattle.board_history.specs.Board.{IsLegalHistory};
-ghost use Rattle.board_history.specs.Calls.{own_rows, has_finished, claim_answer, after_claim};
-ghost use Rattle.board_history.specs.Calls.{post_answer, after_post, after_halt};
-ghost use Rattle.board_history.specs.Entries.{entries_of};
+ghost use Rattle.board_store.specs.Board.{IsLegalHistory};
+ghost use Rattle.board_store.specs.Calls.{own_rows, has_finished, claim_answer, after_claim};
+ghost use Rattle.board_store.specs.Calls.{post_answer, after_post, after_halt};
+ghost use Rattle.board_store.specs.Entries.{entries_of};
 ghost use Rattle.uc_model.specs.Data.{unit_count};
 ghost use Rattle.uc_model.specs.Earnings.{earnings};
 ghost use Rattle.uc_model.specs.PlainCases.{proposal_of, task_unit};
@@ -25,10 +25,10 @@ use crate::opening::{EventLists, Room, no_events, open_ledger};
 use crate::posts::{closed_of, count_up, refusal};
 use crate::replies::{Claim, Posted};
 use crate::terms::{Terms, number_before, task_number};
-use board_history::entries::{Call, Entry, Reply};
-use board_history::laws::board_laws;
 use board_store::Store;
-use board_task::tasks::copy_task;
+use board_store::entries::{Call, Entry, Reply};
+use board_store::laws::board_laws;
+use board_store::tasks::copy_task;
 use std::alloc::{AllocError, Global};
 use std::marker::Model;
 use uc_model::cases::{Row, Task};
@@ -56,7 +56,7 @@ impl Model for Board {
     ghost use Rattle.uc_model.specs.Data.{unit_count};
     ghost use Rattle.uc_model.specs.PlainUnits.{prices_of};
     ghost use Rattle.uc_model.specs.TaskRoom.{IsTaskFor};
-    ghost use Rattle.board_history.specs.Board.{Content};
+    ghost use Rattle.board_store.specs.Board.{Content};
     ghost use Rattle.board_core.specs.Events.{events_of};
     ghost use Rattle.board_core.specs.Parts.{IsBoard, IsKept};
     ghost use Rattle.board_core.specs.Setups.{setup_of};

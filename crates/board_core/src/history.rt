@@ -4,7 +4,7 @@ ghost use Rattle.plain_lists.specs.declared.limits.TheConstants.{MOST_CALLERS, M
 ghost use Rattle.plain_lists.specs.declared.limits.TheConstants.{MOST_UNITS};
 ghost use Rattle.board_core.specs.Refusals.{reply_of};
 
-use board_history::entries::{Call, Entry, Reply};
+use board_store::entries::{Call, Entry, Reply};
 use uc_model::cases::Task;
 
 fn reply_to(closes: bool) -> Reply

@@ -14,7 +14,7 @@ ghost use Rattle.plain_lists.specs.Sums.{int_at};
 ghost use Rattle.uc_model.specs.declared.limits.TheConstants.{MOST_PERIODS};
 ghost use Rattle.board_core.specs.Ledgers.{blank, with_prices, with_value, with_schedule};
 
-use board_task::tasks::copy_prices;
+use board_store::tasks::copy_prices;
 use plain_lists::lists::Amounts;
 use price_space::{add_response, greatest_with, take_bid};
 use std::alloc::{AllocError, Global};

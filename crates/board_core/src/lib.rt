@@ -5,7 +5,7 @@
 //! of its units has an answer, and then its row has the dual value of its prices. The prices of a
 //! later proposal follow from the rows of those at least so many before it (this project's profile
 //! of a subgradient method, `price_space`). What each call answers and what it adds to the history
-//! is the machine of `board_history`, exactly. All memory is taken when a board is made.
+//! is the machine of `board_store`, exactly. All memory is taken when a board is made.
 #![tactic(auto)]
 
 mod advance;

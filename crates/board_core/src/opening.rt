@@ -11,7 +11,7 @@ ghost use Rattle.board_core.specs.Blanks.{AreBlank};
 ghost use Rattle.board_core.specs.Openings.{blank_ledger, with_openings};
 
 use crate::ledger::Ledger;
-use board_history::entries::Entry;
+use board_store::entries::Entry;
 use plain_lists::lists::Numbers;
 use price_space::{opening_prices, start_prices};
 use std::alloc::{AllocError, Global};

@@ -1,9 +1,9 @@
 //! Why a post is refused, and the parts of one that is taken.
 ghost use Rattle.std.specs.Prelude.{◌≡◌, ℕ, ◌+◌, ◌-◌, ◌<◌, ◌≤◌, true, ◌==◌, length, slice_get};
 ghost use Rattle.std.specs.Prelude.{slice_index, slice_index_or, slice_set, false};
-ghost use Rattle.board_history.specs.Rounds.{is_holder as is_holder_of};
-ghost use Rattle.board_history.specs.Tasks.{difference as difference_of};
-ghost use Rattle.board_history.specs.Calls.{differs_from};
+ghost use Rattle.board_store.specs.Rounds.{is_holder as is_holder_of};
+ghost use Rattle.board_store.specs.TaskDifference.{difference as difference_of};
+ghost use Rattle.board_store.specs.Calls.{differs_from};
 ghost use Rattle.uc_model.specs.Data.{unit_count};
 ghost use Rattle.uc_model.specs.PlainCases.{task_unit};
 ghost use Rattle.uc_model.specs.PlainUnits.{prices_of};
@@ -19,9 +19,9 @@ ghost use Rattle.board_core.specs.Setups.{IsSetup, setup_of};
 use crate::ledger::Ledger;
 use crate::replies::{Differs, Posted};
 use crate::terms::{Terms, task_number};
-use board_history::laws::differences_mean;
-use board_task::same::{alike, is_unit_of, same_prices};
-use board_task::tasks::copy_task;
+use board_store::laws::differences_mean;
+use board_store::same::{alike, is_unit_of, same_prices};
+use board_store::tasks::copy_task;
 use uc_model::cases::Task;
 use uc_model::flat_list::flat_number;
 

@@ -17,15 +17,15 @@ pub use Rattle.answer_workers.specs.Workers.{HasFinished}
 pub use Rattle.answer_workers.specs.declared.worker.Worker.{Worker}
 pub use Rattle.board_core.specs.Boards.{empty_board}
 pub use Rattle.board_core.specs.Setups.{IsSetup, setup_of}
-pub use Rattle.board_history.specs.Board.{Content, IsLegalHistory, Setup}
-pub use Rattle.board_history.specs.Calls.{has_finished}
-pub use Rattle.board_history.specs.Laws.{FinishedStays}
+pub use Rattle.board_store.specs.Board.{Content, IsLegalHistory, Setup}
+pub use Rattle.board_store.specs.Calls.{has_finished}
+pub use Rattle.board_store.specs.Laws.{FinishedStays}
 pub use Rattle.board_run.specs.Crews.{StartsWith, named_by, IsNew, IsCrew, IsHired, IsCalmWorker, IsCalm, SomeEnd}
 pub use Rattle.board_run.specs.Crews.{AreOut}
-pub use Rattle.run_settle.specs.Rounds.{IsEnded}
+pub use Rattle.price_settle.specs.Ended.{IsEnded}
 pub use Rattle.board_share.specs.Seats.{SeatValue, view_of, IsSeatOf, IsSameBoard, IsOwner}
 pub use Rattle.board_share.specs.Views.{BoardEvent, View, caller_of, content, cut_left, cut_right, first_view, without}
-pub use Rattle.case_answers.specs.Tops.{IsBenchOver}
+pub use Rattle.unit_program.specs.Tops.{IsBenchOver}
 pub use Rattle.uc_model.specs.Data.{AnyUnit, Thermal, Flat, Bid, Market, NamedThermalUnit, NamedRenewableUnit}
 pub use Rattle.uc_model.specs.Data.{NamedBidUnit}
 pub use Rattle.uc_model.specs.PlainCases.{market_of}

@@ -10,7 +10,7 @@ use Rattle.board_run.proofs.Common.{without, IsBenchOf, IsWorkerOf, HasParts, Ca
 use Rattle.board_run.proofs.Common.{HasSeenHalt, HasFinished, Worker, StartsWith, named_by, IsNew, IsCrew, IsHired}
 use Rattle.board_run.proofs.Common.{IsCalmWorker, IsCalm, SomeEnd, AreOut}
 use Rattle.std.proofs.lemmas.List.Folds.{list_any-append}
-use Rattle.board_history.specs.Rounds.{Given, Taken, Closing, Stopped, is_halt}
+use Rattle.board_store.specs.Rounds.{Given, Taken, Closing, Stopped, is_halt}
 use Rattle.board_share.specs.Rule.{GoesOnWithout, Past, Sees}
 use Rattle.board_share.specs.Tells.{HasJoined}
 use Rattle.board_share.specs.declared.shared.SharedBoard.{SharedBoard}

@@ -1,9 +1,9 @@
 -- The workers of a run: one for each seat of its board (this project's profile).
 use Rattle.std.specs.Prelude.{◌≡◌, ◌≢◌, ◌⊎◌, ℕ, ◌+◌, true, List, [], ◌∷◌, ◌++◌, length}
 use Rattle.std.specs.List.{All, Contains, list_any}
-use Rattle.board_history.specs.Board.{Setup}
-use Rattle.board_history.specs.Calls.{has_finished}
-use Rattle.board_history.specs.Rounds.{Stopped, is_halt}
+use Rattle.board_store.specs.Board.{Setup}
+use Rattle.board_store.specs.Calls.{has_finished}
+use Rattle.board_store.specs.Rounds.{Stopped, is_halt}
 use Rattle.board_share.specs.Seats.{SeatValue, view_of, IsSeatOf, IsSameBoard, IsOwner}
 use Rattle.board_share.specs.Views.{BoardEvent, View, content, no_setup}
 use Rattle.board_share.specs.declared.shared.SharedBoard.{SharedBoard}

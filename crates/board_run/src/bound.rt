@@ -1,14 +1,14 @@
 //! A run with the best bound round the prices that it chose.
 ghost use Rattle.std.specs.Prelude.{IfOk};
-ghost use Rattle.gap_proof.specs.Sums.{IsRadius};
-ghost use Rattle.run_settle.specs.Bounded.{IsBounded};
+ghost use Rattle.gap_proof.specs.PlaneSums.{IsRadius};
+ghost use Rattle.price_settle.specs.Bounded.{IsBounded};
 ghost use Rattle.board_core.specs.Setups.{IsSetup, setup_of};
 
 use crate::run::{open_run, run_board};
 use answer_workers::Gate;
 use board_core::Terms;
 use plain_lists::lists::Amounts;
-use run_settle::{Bounded, certify};
+use price_settle::{Bounded, best_bound};
 use std::alloc::{AllocError, Global};
 use std::sync::Wait;
 use std::thread::Threads;
@@ -30,7 +30,7 @@ pub fn bounded_run<R: Threads + Wait + Sync, G: Gate>(
     let mut work = Amounts::filled(alloc, 2 * terms.case.periods, 0)?;
     let opened = open_run(alloc, terms)?;
     let done = run_board(rt, opened, gate);
-    let certified = certify(&done.closed, radius, &mut work);
+    let certified = best_bound(&done.closed, radius, &mut work);
     Ok(Bounded {
         done,
         radius,

@@ -1,7 +1,7 @@
 //! The workers of a run, from the splitting of their seats to the board's record.
 ghost use Rattle.std.specs.Prelude.{◌≡◌, ◌≤◌, true, [], length, IfOk};
 ghost use Rattle.std.specs.List.{All};
-ghost use Rattle.board_history.specs.Calls.{has_finished};
+ghost use Rattle.board_store.specs.Calls.{has_finished};
 ghost use Rattle.board_core.specs.Boards.{empty_board};
 ghost use Rattle.board_share.specs.Seats.{view_of, IsSeatOf};
 ghost use Rattle.board_share.specs.Views.{first_view};
@@ -12,8 +12,8 @@ ghost use Rattle.board_run.specs.Crews.{named_by, IsCrew, AreOut};
 
 use answer_workers::{Gate, Worker, answer_all};
 use board_core::Closed;
-use board_history::laws::finished_stays_finished;
 use board_share::{Seat, SharedBoard};
+use board_store::laws::finished_stays_finished;
 use std::alloc::{AllocError, Global};
 use std::sync::{Arc, Wait};
 use std::thread::Threads;

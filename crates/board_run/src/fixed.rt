@@ -3,16 +3,16 @@
 ghost use Rattle.std.specs.Prelude.{◌≡◌, IfOk};
 ghost use Rattle.uc_model.specs.PlainCases.{market_of};
 ghost use Rattle.uc_model.specs.Systems.{IsFeasiblePlan};
-ghost use Rattle.fixed_price.specs.FixedCase.{fixed_market};
+ghost use Rattle.price_settle.specs.FixedCase.{fixed_market};
 ghost use Rattle.board_core.specs.Setups.{IsSetup, setup_of};
-ghost use Rattle.run_settle.specs.Compared.{IsPaidSide, IsOwnSide, AreSides};
+ghost use Rattle.price_settle.specs.Compared.{IsPaidSide, IsOwnSide, AreSides};
 
 use crate::run::{open_run, run_board};
 use answer_workers::Gate;
 use board_core::Terms;
-use fixed_price::laws::commitments_are_fixed;
+use price_settle::held_laws::commitments_are_fixed;
+use price_settle::{Sides, hold, own_side, settled_side, side_room};
 use right_report::Side;
-use run_settle::{Sides, hold, own_side, settled_side, side_room};
 use std::alloc::{AllocError, Global};
 use std::sync::Wait;
 use std::thread::Threads;

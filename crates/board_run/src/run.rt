@@ -3,21 +3,21 @@
 ghost use Rattle.std.specs.Prelude.{◌≡◌, IfOk};
 ghost use Rattle.board_core.specs.Setups.{IsSetup, setup_of};
 ghost use Rattle.board_run.specs.Crews.{IsCrew};
-ghost use Rattle.run_settle.specs.Rounds.{IsEnded};
+ghost use Rattle.price_settle.specs.Ended.{IsEnded};
 
 use crate::crew::{answer_board, hire};
 use answer_workers::{Gate, Worker};
 use board_core::{Board, Terms};
 use board_share::SharedBoard;
-use case_answers::most_points;
 use plain_lists::lists::Numbers;
-use run_settle::{Done, room, settle_chosen};
+use plan_check::Settlement;
+use price_settle::{Done, chosen_room, settle_chosen};
 use std::alloc::{AllocError, Global};
 use std::marker::Model;
 use std::sync::Wait;
 use std::thread::Threads;
 use uc_model::units::Answered;
-use uplift_settle::Settlement;
+use unit_program::most_points;
 
 /// A run that is opened: its board with a worker for each seat, and room for the settlement, what
 /// each unit earns at best, and an answer. Contracts see it as what its board was made for.
@@ -33,16 +33,16 @@ pub struct Run {
 
 impl Model for Run {
     ghost use Rattle.std.specs.Prelude.{◌+◌, length};
-    ghost use Rattle.board_history.specs.Board.{Setup};
+    ghost use Rattle.board_store.specs.Board.{Setup};
     ghost use Rattle.board_run.specs.Crews.{named_by, IsCrew};
-    ghost use Rattle.run_settle.specs.Rooms.{HasRoom};
+    ghost use Rattle.price_settle.specs.RunRooms.{HasRunRoom};
 
     ghost Value = { Setup };
 
     ghost view = { λ r. named_by r.workers.items };
 
     ghost invariant = { λ r. IsCrew (named_by r.workers.items) r.board r.workers.items
-        × HasRoom (named_by r.workers.items) r.buffer r.settlement
+        × HasRunRoom (named_by r.workers.items) r.buffer r.settlement
         (length r.earned.items + r.earned.spare) };
 }
 
@@ -67,7 +67,7 @@ pub fn open_run(alloc: Global, terms: Terms) -> Result<Run, AllocError>
     requires { IsSetup (setup_of terms) }
     ensures { IfOk result (λ opened. opened ≡ setup_of terms) }
 {
-    let (buffer, settlement, earned) = room(alloc, &terms.case)?;
+    let (buffer, settlement, earned) = chosen_room(alloc, &terms.case)?;
     let (board, workers) = staff(alloc, terms)?;
     Ok(Run {
         board,

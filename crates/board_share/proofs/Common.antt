@@ -14,13 +14,13 @@ pub use Rattle.atomic_table.specs.Table.{takes, gives, Valid, carried_after, ste
 pub use Rattle.board_core.specs.Replies.{claim_of, posted_of}
 pub use Rattle.board_core.specs.Stored.{answer_of}
 pub use Rattle.board_core.specs.Tasks.{LeavesTask}
-pub use Rattle.board_history.specs.Board.{Content, Setup, Answer, rules_of, IsLegalHistory}
-pub use Rattle.board_history.specs.Calls.{differs_from, claim_answer, after_claim, post_answer, after_post, after_halt}
-pub use Rattle.board_history.specs.Rounds.{ClaimReply, Finished, Halted, GivenTask, NotYet, PostReply, OtherProposal}
-pub use Rattle.board_history.specs.Rounds.{OtherUnit, OtherContent, Doubled, OtherHolder, TakenPost, claim_reply}
-pub use Rattle.board_history.specs.Rounds.{post_reply, post_event, posts, with_claim, with_answer, Given, Taken}
-pub use Rattle.board_history.specs.Rounds.{Closing, Stopped, is_halt_of, with_post, is_closed}
-pub use Rattle.board_history.specs.declared.entries.Entry.{Entry}
+pub use Rattle.board_store.specs.Board.{Content, Setup, Answer, rules_of, IsLegalHistory}
+pub use Rattle.board_store.specs.Calls.{differs_from, claim_answer, after_claim, post_answer, after_post, after_halt}
+pub use Rattle.board_store.specs.Rounds.{ClaimReply, Finished, Halted, GivenTask, NotYet, PostReply, OtherProposal}
+pub use Rattle.board_store.specs.Rounds.{OtherUnit, OtherContent, Doubled, OtherHolder, TakenPost, claim_reply}
+pub use Rattle.board_store.specs.Rounds.{post_reply, post_event, posts, with_claim, with_answer, Given, Taken}
+pub use Rattle.board_store.specs.Rounds.{Closing, Stopped, is_halt_of, with_post, is_closed}
+pub use Rattle.board_store.specs.declared.entries.Entry.{Entry}
 pub use Rattle.board_share.specs.Rule.{Shared, Sees, home, HasTicket, Joined, Past, Callers, Spot, away, InSpot, Homes}
 pub use Rattle.board_share.specs.Rule.{Counted, Differ, Tickets, Slot, tickets_of, live_of}
 pub use Rattle.board_share.specs.Seats.{SeatValue}

@@ -5,7 +5,7 @@ use Rattle.board_share.proofs.Common.{GivenTask, NotYet, PostReply, OtherProposa
 use Rattle.board_share.proofs.Common.{OtherHolder, TakenPost, claim_reply, post_reply, post_event, posts, with_claim}
 use Rattle.board_share.proofs.Common.{with_answer, AnyUnit, PriceLists, claim_of, posted_of, LeavesTask, Called}
 use Rattle.board_share.proofs.Common.{UnlessGiven, UnlessTaken, BoardEvent, content, View}
-use Rattle.board_history.specs.Tasks.{Difference}
+use Rattle.board_store.specs.TaskDifference.{Difference}
 use Rattle.uc_model.specs.declared.cases.Task.{Task}
 use Rattle.board_core.specs.declared.replies.Claim.{Claim}
 use Rattle.board_core.specs.declared.replies.Claim.TheVariants as claim

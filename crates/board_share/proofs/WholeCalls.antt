@@ -8,7 +8,7 @@ use Rattle.board_share.proofs.Common.{claim_reply, post_reply, post_event, posts
 use Rattle.board_share.proofs.Common.{with_answer, AnyUnit, PriceLists, BoardEvent, caller_of, content, idle, waits}
 use Rattle.board_share.proofs.Common.{View, at_stage, Sees, Mine, HasTaken, Follows, Called, OnlyMade, IsLegalHistory}
 use Rattle.std.specs.List.{list_any}
-use Rattle.board_history.specs.Entries.{entry_of, entries_of}
+use Rattle.board_store.specs.Entries.{entry_of, entries_of}
 
 calls : (tells : Content → Type 0) (after : Content → Content) (m0 m1 m2 m3 : Mine) (t : ℕ) (b b' : Content) →
     m0.0.stage ≡ idle → m1.0 ≡ at_stage m0.0 (waits t) → HasTaken m1 m2 b

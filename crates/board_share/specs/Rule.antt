@@ -6,7 +6,7 @@ use mathlib.Core.Option.{some}
 use mathlib.Core.Option as maybe
 use lib.ListN.{get_elem?}
 use Rattle.atomic_table.specs.Table.{State}
-use Rattle.board_history.specs.Board.{Setup, Content}
+use Rattle.board_store.specs.Board.{Setup, Content}
 use Rattle.board_share.specs.Views.{BoardEvent, caller_of, content, Stage, idle, waits, turn, spent}
 use Rattle.board_share.specs.Views.{joined, View, ticket_count, live_count}
 

@@ -1,7 +1,7 @@
 -- What clauses see of seats and of the shared board (this project's profile).
 use Rattle.std.specs.Prelude.{◌≡◌, ℕ, ◌<◌, []}
 use Rattle.atomic_table.specs.Seated.{TableId}
-use Rattle.board_history.specs.Board.{IsLegalHistory}
+use Rattle.board_store.specs.Board.{IsLegalHistory}
 use Rattle.board_share.specs.Tells.{Mine}
 use Rattle.board_share.specs.Views.{View, idle}
 use Rattle.board_share.specs.declared.shared.SharedBoard.{SharedBoard}

@@ -2,7 +2,7 @@
 use Rattle.std.specs.Prelude.{◌≡◌, ◌≢◌, ◌⊎◌, ℕ, ◌+◌, ◌%◌, ◌^◌, ◌<◌, List, [], ◌∷◌, ◌++◌, length}
 use Rattle.std.specs.Prelude.{All}
 use Rattle.atomic_table.specs.Table.{Me, Step, rest}
-use Rattle.board_history.specs.Board.{Content}
+use Rattle.board_store.specs.Board.{Content}
 use Rattle.board_share.specs.Views.{BoardEvent, caller_of, content, Stage, idle, waits, turn, spent}
 use Rattle.board_share.specs.Views.{joined, View, at_stage}
 use Rattle.board_share.specs.Rule.{Sees, Joined, GoesOnWithout}

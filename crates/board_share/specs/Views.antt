@@ -1,7 +1,7 @@
 -- What a seat at the table knows (this project's profile).
 use Rattle.std.specs.Prelude.{ℕ, ◌+◌, ◌==◌, pos, List, [], ◌∷◌, ◌++◌, length, nat_lt, if◌then◌else◌}
-use Rattle.board_history.specs.Board.{Setup, Answer, Content}
-use Rattle.board_history.specs.Rounds.{Event, Given, Taken, Closing, Stopped}
+use Rattle.board_store.specs.Board.{Setup, Answer, Content}
+use Rattle.board_store.specs.Rounds.{Event, Given, Taken, Closing, Stopped}
 
 abbrev pub BoardEvent : Type 0
 BoardEvent = Event Answer

@@ -1,8 +1,8 @@
 //! The calls of a seat.
 ghost use Rattle.std.specs.Prelude.{◌≡◌, ◌+◌, ◌<◌, ◌≤◌, length, IfOk, IfSome, IfNone, All};
-ghost use Rattle.board_history.specs.Board.{IsLegalHistory};
-ghost use Rattle.board_history.specs.Calls.{claim_answer, after_claim, post_answer, after_post};
-ghost use Rattle.board_history.specs.Calls.{after_halt};
+ghost use Rattle.board_store.specs.Board.{IsLegalHistory};
+ghost use Rattle.board_store.specs.Calls.{claim_answer, after_claim, post_answer, after_post};
+ghost use Rattle.board_store.specs.Calls.{after_halt};
 ghost use Rattle.uc_model.specs.Earnings.{earnings};
 ghost use Rattle.uc_model.specs.PlainCases.{task_unit};
 ghost use Rattle.uc_model.specs.PlainUnits.{prices_of, schedule_of};

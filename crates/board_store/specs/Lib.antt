@@ -1,3 +1,14 @@
+pub mod Same
+pub mod Board
+pub mod BoardLaws
+pub mod Bounds
+pub mod Calls
+pub mod Entries
+pub mod Laws
+pub mod Rounds
+pub mod TaskDifference
+pub mod Totals
+pub mod Words
 pub mod Answers
-pub mod Runs
+pub mod RowRuns
 pub mod Tables

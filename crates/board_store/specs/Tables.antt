@@ -1,7 +1,7 @@
 -- Rows of one length, where places with the same row may share its runs.
 use Rattle.std.specs.Prelude.{◌≡◌, ℕ, suc, ◌*◌, ◌≤◌, List, length, map, slice_index, refl}
 use Rattle.std.specs.Coded.{Coded, code_by, coded×, coded_ℕ, coded_list}
-use Rattle.board_store.specs.Runs.{from_run, row_at}
+use Rattle.board_store.specs.RowRuns.{from_run, row_at}
 use Rattle.plain_lists.specs.declared.limits.TheConstants.{MOST_TASKS, MOST_WORK}
 
 -- what a contract sees of a table: its rows by their places, and how many more may be put

@@ -1,8 +1,9 @@
 //! Rows of one length, each kept as runs, and once where another is like it.
-ghost use Rattle.std.specs.Prelude.{◌≡◌, ◌+◌, ◌*◌, ◌<◌, ◌≤◌, ◌↔◌, [], ◌++◌, length, IfOk, IsTrue, take};
+ghost use Rattle.std.specs.Prelude.{◌≡◌, ◌+◌, ◌*◌, ◌<◌, ◌≤◌, ◌↔◌, [], ◌++◌, length, IfOk, IsTrue};
+ghost use Rattle.std.specs.Prelude.{take};
 ghost use Rattle.std.specs.Prelude.{replicate, slice_index_or, slice_set, vec_len, vec_capacity};
 ghost use Rattle.plain_lists.specs.declared.limits.TheConstants.{MOST_TASKS, MOST_WORK};
-ghost use Rattle.board_store.specs.Runs.{from_run, row_at, IsAdded, IsAt};
+ghost use Rattle.board_store.specs.RowRuns.{from_run, row_at, IsAdded, IsAt};
 
 use plain_lists::lists::ReservedList;
 use std::alloc::{AllocError, Global};

@@ -8,7 +8,7 @@ ghost use Rattle.uc_model.specs.PlainUnits.{prices_of};
 ghost use Rattle.plain_lists.specs.Sums.{int_at};
 ghost use Rattle.price_space.specs.Sizes.{IsEntry, IsRowOver};
 ghost use Rattle.gap_proof.specs.CertifiedBound.{price_at, slope_at, height_of};
-ghost use Rattle.gap_proof.specs.Sums.{IsRowWithin, IsUpTo, IsWeight, IsHeight, IsSlopeSum};
+ghost use Rattle.gap_proof.specs.PlaneSums.{IsRowWithin, IsUpTo, IsWeight, IsHeight, IsSlopeSum};
 
 use plain_lists::lists::Amounts;
 use price_space::lacking;

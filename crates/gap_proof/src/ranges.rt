@@ -6,11 +6,11 @@ ghost use Rattle.uc_model.specs.PlainUnits.{prices_of};
 ghost use Rattle.plain_lists.specs.Ranges.{IsFrom};
 ghost use Rattle.plain_lists.specs.declared.limits.TheConstants.{MOST_PROPOSALS};
 ghost use Rattle.gap_proof.specs.Candidates.{prices_of_row, range_bound, IsFirstLeast};
-ghost use Rattle.gap_proof.specs.Sums.{IsRowWithin, IsRadius, AreSums};
-ghost use Rattle.gap_proof.specs.Sums.{least_bound, most_bound};
+ghost use Rattle.gap_proof.specs.PlaneSums.{IsRowWithin, IsRadius, AreSums};
+ghost use Rattle.gap_proof.specs.PlaneSums.{least_bound, most_bound};
 
-use crate::bound::row_at;
-use crate::sums::{Sums, add_row, bound_by, clear_slopes};
+use crate::plane_sums::{Sums, add_row, bound_by, clear_slopes};
+use crate::rows_bound::row_at;
 use plain_lists::lists::Amounts;
 use uc_model::cases::{Case, Row};
 use uc_model::units::Prices;

@@ -8,7 +8,7 @@ pub use Rattle.std.proofs.lemmas.Result.{err_from_is_err_and}
 pub use Rattle.std.specs.Int.{w64, w128}
 pub use Rattle.std.specs.Prelude.{option_and_then}
 pub use Rattle.hull_input.specs.Planned.{planned_in, planned_of, planned_run, PlannedCase}
-pub use Rattle.run_settle.specs.Rounds.{IsEnded}
+pub use Rattle.price_settle.specs.Ended.{IsEnded}
 pub use Rattle.board_core.specs.declared.terms.Terms.{Terms}
 pub use Rattle.hull_command.specs.Answers.{IsRunText, IsCommandAnswer, IsEndOf, IsCertifiedAt}
 pub use Rattle.hull_input.specs.Answers.{IsFaultOf}
@@ -28,16 +28,16 @@ pub use Rattle.hull_report.specs.TryText.{try_text}
 pub use Rattle.hull_report.specs.declared.fault.FileKind.TheVariants.{ReportFile, CaseFile, PricesFile, MixtureFile}
 pub use Rattle.hull_report.specs.declared.fault.TopFault.{TopFault}
 pub use Rattle.hull_report.specs.declared.fault.TopFault.TheVariants.{Words}
-pub use Rattle.hull_words.specs.Asked.{Asked, Found, CheckAsked, PriceAsked, SettleAsked, price, check, try, bound}
-pub use Rattle.hull_words.specs.Asked.{fixed, audit, settle, certify, with_both, names_from, settle_from, asked_from}
-pub use Rattle.hull_words.specs.Asked.{asked, price_asked, settle_asked}
-pub use Rattle.hull_words.specs.Words.{first_fault, backwards, or_fault, or_missing, asked_of, later_words, texts}
-unfoldable pub use Rattle.hull_words.specs.Words.{found_in, words_of}
-pub use Rattle.hull_words.specs.declared.fault.WordFault.{WordFault}
+pub use Rattle.hull_io.specs.Asked.{Asked, Found, CheckAsked, PriceAsked, SettleAsked, price, check, try, bound}
+pub use Rattle.hull_io.specs.Asked.{fixed, audit, settle, certify, with_both, names_from, settle_from, asked_from}
+pub use Rattle.hull_io.specs.Asked.{asked, price_asked, settle_asked}
+pub use Rattle.hull_io.specs.Words.{first_fault, backwards, or_fault, or_missing, asked_of, later_words, texts}
+unfoldable pub use Rattle.hull_io.specs.Words.{found_in, words_of}
+pub use Rattle.hull_io.specs.declared.word_fault.WordFault.{WordFault}
 pub use Rattle.report_form.specs.ReportText.{Report}
 unfoldable pub use Rattle.report_read.specs.Plain.{report_of}
 pub use Rattle.uc_model.specs.Data.{unit_count}
 pub use Rattle.uc_model.specs.PlainCases.{market_of, schedules_of}
 pub use Rattle.uc_model.specs.PlainUnits.{prices_of}
-pub use Rattle.mixture_bound.specs.Mixtures.{MixtureLists, mixture_of}
-pub use Rattle.mixture_bound.specs.MixtureBound.{mixture_bound}
+pub use Rattle.gap_proof.specs.Mixtures.{MixtureLists, mixture_of}
+pub use Rattle.gap_proof.specs.MixtureBound.{mixture_bound}

@@ -8,7 +8,7 @@ use Rattle.hull_command.specs.declared.end.End.{End}
 use Rattle.hull_command.specs.declared.end.End.TheVariants.{Done, Cut, Refused}
 use Rattle.std.specs.Prelude.{IfOk, IsErrAnd}
 use Rattle.hull_input.specs.Answers.{HasReads}
-use Rattle.hull_words.specs.declared.command.Command.{Command as Given}
+use Rattle.hull_io.specs.declared.command.Command.{Command as Given}
 use Rattle.hull_report.specs.declared.fault.FileKind.{FileKind}
 use Rattle.hull_command.specs.Rest.{HasPrepared, AskForRun, IsAsked, IsBefore, IsBeforeOf, IsFit}
 use Rattle.hull_command.specs.declared.ready.Before.{Before}

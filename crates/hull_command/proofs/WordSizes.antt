@@ -6,12 +6,12 @@ use Rattle.hull_command.proofs.Common.{SettleAsked, price, check, try, bound, fi
 use Rattle.hull_command.proofs.Common.{names_from, settle_from, asked_from, first_fault, backwards, found_in, or_fault}
 use Rattle.hull_command.proofs.Common.{or_missing, asked_of, later_words, words_of}
 use Rattle.std.proofs.lemmas.Option.{same_Some}
-use Rattle.gap_proof.specs.Sums.{IsRadius}
+use Rattle.gap_proof.specs.PlaneSums.{IsRadius}
 use Rattle.std.specs.Str.Parse.{digits_value}
-use Rattle.hull_words.specs.declared.kinds.CommandKind.{CommandKind}
-use Rattle.hull_words.specs.declared.kinds.CommandKind.TheVariants as kinds
-use Rattle.hull_words.specs.Spelling.{command_named}
-use Rattle.hull_words.specs.Texts.{is_numeral, number_in}
+use Rattle.hull_io.specs.declared.kinds.CommandKind.{CommandKind}
+use Rattle.hull_io.specs.declared.kinds.CommandKind.TheVariants as kinds
+use Rattle.hull_io.specs.Spelling.{command_named}
+use Rattle.hull_io.specs.WordTexts.{is_numeral, number_in}
 use Rattle.hull_input.specs.Sizes.{IsWithin, IsWorkers, IsRunSize}
 use Rattle.hull_command.specs.Sizes.{HasSizes}
 

@@ -3,10 +3,10 @@ use Rattle.std.specs.Prelude.{◌≡◌, ◌⊎◌, ⊤, ℕ, ℤ, List, unsigne
 use Rattle.uc_model.specs.Data.{PriceLists}
 use Rattle.uc_model.specs.Limits.{IsSum, IsWorth}
 use Rattle.uc_model.specs.PlainCases.{market_of, schedules_of}
-use Rattle.mixture_bound.specs.Mixtures.{MixtureLists}
-use Rattle.mixture_bound.specs.MixtureBound.{mixture_bound}
+use Rattle.gap_proof.specs.Mixtures.{MixtureLists}
+use Rattle.gap_proof.specs.MixtureBound.{mixture_bound}
 use Rattle.right_report.specs.Told.{IsTold}
-use Rattle.board_history.specs.Board.{Setup}
+use Rattle.board_store.specs.Board.{Setup}
 use Rattle.hull_report.specs.AuditText.{audit_text}
 use Rattle.hull_report.specs.CertifiedText.{certificate_of}
 use Rattle.hull_report.specs.CheckText.{check_text}
@@ -30,11 +30,11 @@ use Rattle.hull_command.specs.Outcome.{Command, IsReportText, IsBoundText}
 use Rattle.hull_input.specs.Answers.{IsFaultOf}
 use Rattle.hull_input.specs.Files.{Reads}
 use Rattle.hull_input.specs.Planned.{PlannedCase, planned_in}
-use Rattle.run_settle.specs.Rounds.{IsEnded}
-use Rattle.run_settle.specs.Bounded.{IsBounded}
-use Rattle.run_settle.specs.Compared.{ArePaid}
-use Rattle.uplift_settle.specs.Settled.{HasEachUnit}
-use Rattle.uplift_settle.specs.Settled.{settled_of, IsSettledAt}
+use Rattle.price_settle.specs.Ended.{IsEnded}
+use Rattle.price_settle.specs.Bounded.{IsBounded}
+use Rattle.price_settle.specs.Compared.{ArePaid}
+use Rattle.plan_check.specs.Settled.{HasEachUnit}
+use Rattle.plan_check.specs.Settled.{settled_of, IsSettledAt}
 
 -- ---- the answer of a command
 

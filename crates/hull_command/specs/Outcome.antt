@@ -21,20 +21,19 @@
 -- settlement and a certificate are in report_form's ReportText, SettlementText and CertificateText.
 -- The others are in hull_report: CheckText, TryText, BoundText, FixedText, AuditText, FaultLines,
 -- and what `settle` and `certify` tell in SettledText and CertifiedText. A case with its schedule's
--- commitments held is in fixed_price's FixedCase. Which reports are read, and the first line in
+-- commitments held is in price_settle's FixedCase. Which reports are read, and the first line in
 -- fault, is in report_read's Bounds and Faults, and the first line at which a report differs from
--- the right one in report_compare's Right. The bound round a row is in gap_proof's Candidates, a
--- settlement at any prices in uplift_settle's Settled, and the bound by a mixture in mixture_bound's
--- MixtureBound.
+-- the right one in report_compare's Right. The bound round a row is in gap_proof's Candidates, the
+-- bound by a mixture in its MixtureBound, and a settlement at any prices in plan_check's Settled.
 use Rattle.std.specs.Prelude.{◌≡◌, ◌⊎◌, ℕ, ℤ, List, length, unsigned_abs, Option, None, Some}
 use Rattle.std.specs.Prelude.{Result, Ok, Err}
 use Rattle.uc_model.specs.Data.{PriceLists}
-use Rattle.fixed_price.specs.FixedCase.{fixed_market}
+use Rattle.price_settle.specs.FixedCase.{fixed_market}
 use Rattle.gap_proof.specs.Candidates.{RowRange, IsFirstLeast}
-use Rattle.hull_words.specs.Asked.{Asked, check, price, try, bound, fixed, audit, settle}
-use Rattle.hull_words.specs.Asked.{certify}
-use Rattle.hull_words.specs.Words.{words_of}
-use Rattle.hull_words.specs.declared.fault.WordFault.{WordFault}
+use Rattle.hull_io.specs.Asked.{Asked, check, price, try, bound, fixed, audit, settle}
+use Rattle.hull_io.specs.Asked.{certify}
+use Rattle.hull_io.specs.Words.{words_of}
+use Rattle.hull_io.specs.declared.word_fault.WordFault.{WordFault}
 use Rattle.hull_report.specs.AuditText.{audit_text}
 use Rattle.hull_report.specs.BoundText.{bound_text}
 use Rattle.hull_report.specs.CertifiedText.{certificate_of}
@@ -61,9 +60,9 @@ use Rattle.hull_input.specs.Steps.{IsMixtureFile, IsCertifiable}
 use Rattle.hull_command.specs.declared.end.End.{End}
 use Rattle.hull_command.specs.declared.end.End.TheVariants.{Done, Cut, Refused}
 use Rattle.hull_command.specs.FurtherSteps.{IsMade, IsAudit}
-use Rattle.uplift_settle.specs.Settled.{Settled, IsSettledAt}
-use Rattle.mixture_bound.specs.Mixtures.{MixtureLists}
-use Rattle.mixture_bound.specs.MixtureBound.{mixture_bound}
+use Rattle.plan_check.specs.Settled.{Settled, IsSettledAt}
+use Rattle.gap_proof.specs.Mixtures.{MixtureLists}
+use Rattle.gap_proof.specs.MixtureBound.{mixture_bound}
 
 -- ---- the commands
 

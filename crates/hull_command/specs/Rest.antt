@@ -1,12 +1,12 @@
 -- What a command comes to before any run, and what is then left of it.
 use Rattle.std.specs.Prelude.{◌≡◌, ⊤, ℕ, List, Option, None, Some, Result, Ok, Err}
-use Rattle.gap_proof.specs.Sums.{IsRadius}
+use Rattle.gap_proof.specs.PlaneSums.{IsRadius}
 use Rattle.hull_io.specs.Edge.{Rose}
-use Rattle.hull_words.specs.Asked.{Asked, check, price, try, bound, fixed, audit, settle}
-use Rattle.hull_words.specs.Asked.{certify}
-use Rattle.hull_words.specs.Words.{words_of}
-use Rattle.hull_words.specs.declared.command.PriceWords.{PriceWords}
-use Rattle.hull_words.specs.declared.fault.WordFault.{WordFault}
+use Rattle.hull_io.specs.Asked.{Asked, check, price, try, bound, fixed, audit, settle}
+use Rattle.hull_io.specs.Asked.{certify}
+use Rattle.hull_io.specs.Words.{words_of}
+use Rattle.hull_io.specs.declared.command.PriceWords.{PriceWords}
+use Rattle.hull_io.specs.declared.word_fault.WordFault.{WordFault}
 use Rattle.hull_report.specs.TryText.{try_text}
 use Rattle.hull_report.specs.declared.fault.TopFault.{TopFault}
 use Rattle.report_form.specs.ReportText.{report_text}

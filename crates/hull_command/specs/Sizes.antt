@@ -1,8 +1,8 @@
 -- The numbers that words ask for are within their ranges (this project's profile).
 use Rattle.std.specs.Prelude.{⊤}
-use Rattle.gap_proof.specs.Sums.{IsRadius}
-use Rattle.hull_words.specs.Asked.{Asked, price, check, try, bound, fixed, audit, settle}
-use Rattle.hull_words.specs.Asked.{certify}
+use Rattle.gap_proof.specs.PlaneSums.{IsRadius}
+use Rattle.hull_io.specs.Asked.{Asked, price, check, try, bound, fixed, audit, settle}
+use Rattle.hull_io.specs.Asked.{certify}
 use Rattle.hull_input.specs.Sizes.{IsWorkers, IsRunSize}
 
 abbrev pub HasSizes : Asked → Type 0

@@ -2,8 +2,8 @@
 
 use hull_input::Input;
 use hull_report::BoundWithin;
-use run_settle::{Bounded, Done, Sides};
-use uplift_settle::Settled;
+use plan_check::Settled;
+use price_settle::{Bounded, Done, Sides};
 
 /// A case with its schedule, and what that is settled at.
 pub struct SettledInput {

@@ -2,16 +2,16 @@
 ghost use Rattle.std.specs.Prelude.{◌≡◌, IfOk};
 ghost use Rattle.uc_model.specs.PlainCases.{market_of};
 ghost use Rattle.uc_model.specs.PlainUnits.{prices_of};
-ghost use Rattle.gap_proof.specs.Sums.{IsRadius};
-ghost use Rattle.mixture_bound.specs.Mixtures.{mixture_of, IsMixture, HasMixtureShape};
+ghost use Rattle.gap_proof.specs.PlaneSums.{IsRadius};
+ghost use Rattle.gap_proof.specs.Mixtures.{mixture_of, IsMixture, HasMixtureShape};
 ghost use Rattle.hull_input.specs.Answers.{IsFitPriced};
 ghost use Rattle.hull_command.specs.Answers.{HasCertified, IsCertifiedAt};
 
 use crate::answer::CertifiedInput;
 use crate::settle::settled_input;
+use gap_proof::{Mixture, bound_of_mixture};
 use hull_input::PricedInput;
 use hull_report::BoundWithin;
-use mixture_bound::{Mixture, bound_of};
 use std::alloc::{AllocError, Global};
 
 /// What the schedule of an input is settled at, at its prices, and the bound by a mixture on the
@@ -31,7 +31,7 @@ pub fn certified_input(
         (mixture_of mixture.now) radius x) }
     ensures told { IfOk result (λ x. HasCertified x) }
 {
-    let bound = bound_of(&priced.input.case, mixture, &priced.prices, radius);
+    let bound = bound_of_mixture(&priced.input.case, mixture, &priced.prices, radius);
     let settled = settled_input(alloc, priced)?;
     let within = BoundWithin { radius, bound };
     Ok(CertifiedInput { settled, within })

@@ -4,7 +4,7 @@ ghost use Rattle.uc_model.specs.PlainUnits.{schedule_of};
 ghost use Rattle.hull_io.specs.Edge.{Writes, Gains, FallsShort};
 ghost use Rattle.report_form.specs.ReportText.{report_text};
 ghost use Rattle.right_report.specs.RecordReport.{report_of};
-ghost use Rattle.run_settle.specs.Rounds.{IsEnded};
+ghost use Rattle.price_settle.specs.Ended.{IsEnded};
 ghost use Rattle.hull_input.specs.Planned.{PlannedCase};
 ghost use Rattle.hull_command.specs.Answers.{IsTextOf, IsAnswered, IsCommandAnswer, IsEndOf};
 ghost use Rattle.hull_command.specs.Outcome.{Ends, status_at};
@@ -18,8 +18,8 @@ use hull_report::{
     TopFault, write_audit, write_bound, write_certificate, write_check, write_fault, write_fixed,
     write_report, write_settlement, write_try,
 };
+use price_settle::Done;
 use right_report::laws::{record_report_is_right, settlements_are_of_all_units};
-use run_settle::Done;
 
 /// How a command ended.
 #[derive(Clone, Copy)]

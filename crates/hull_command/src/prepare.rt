@@ -1,11 +1,11 @@
 //! What a command comes to before a run: its words, its input and its answer, up to the first refusal.
 //! Nothing here starts a thread or waits.
 ghost use Rattle.std.specs.Prelude.{◌≡◌, Ok, Err, None, IfOk, IfErr};
-ghost use Rattle.gap_proof.specs.Sums.{IsRadius};
+ghost use Rattle.gap_proof.specs.PlaneSums.{IsRadius};
 ghost use Rattle.hull_io.specs.Edge.{Rose};
-ghost use Rattle.hull_words.specs.Asked.{asked, check, try, audit, settle, certify};
-ghost use Rattle.hull_words.specs.Asked.{check_asked, settle_asked};
-ghost use Rattle.hull_words.specs.Words.{texts, words_of};
+ghost use Rattle.hull_io.specs.Asked.{asked, check, try, audit, settle, certify};
+ghost use Rattle.hull_io.specs.Asked.{check_asked, settle_asked};
+ghost use Rattle.hull_io.specs.Words.{texts, words_of};
 ghost use Rattle.hull_report.specs.declared.fault.FileKind.{FileKind};
 ghost use Rattle.hull_input.specs.Answers.{IsFaultOf, IsLaterShelf, HasReads};
 ghost use Rattle.hull_input.specs.Files.{Reads};
@@ -28,12 +28,11 @@ use hull_input::{
     Input, MixedInput, ReportedRun, read_input, read_mixed, read_priced, read_reported, read_run,
     within_work,
 };
-use hull_io::Shelf;
-use hull_report::TopFault;
-use hull_words::{
-    AuditWords, CertifyWords, CheckWords, Command, PriceWords, SettleWords, TryWords, WordError,
-    read_words,
+use hull_io::{
+    AuditWords, CertifyWords, CheckWords, Command, PriceWords, SettleWords, Shelf, TryWords,
+    WordError, read_words,
 };
+use hull_report::TopFault;
 use plan_check::costs::cost_of_plan;
 use std::alloc::{AllocError, Global};
 use uc_model::laws::feasible_plans_have_shape;

@@ -2,9 +2,9 @@
 use Rattle.hull_engine.proofs.Common.{◌≡◌, ℕ, ℤ, List, subst, sym, ap, ◌∙◌, unit_count, market_of, Report, told_of}
 use Rattle.hull_engine.proofs.Common.{fixed_text, Terms, IsReportText, IsBoundText, IsFixedText, planned_in}
 use Rattle.hull_engine.proofs.Common.{planned_run, IsRunText, setup_of}
-use Rattle.board_history.specs.Board.{Setup}
-use Rattle.run_settle.specs.Compared.{AreSides, ArePaid}
-use Rattle.run_settle.specs.declared.sides.Sides.{Sides}
+use Rattle.board_store.specs.Board.{Setup}
+use Rattle.price_settle.specs.Compared.{AreSides, ArePaid}
+use Rattle.price_settle.specs.declared.sides.Sides.{Sides}
 
 -- the texts of a run are those of its input, with the numbers of the words
 pub run_texts : (text_of : Report → List ℕ) (terms : Terms) (b : Setup) (budget ahead : ℕ) → b ≡ setup_of terms →

@@ -1,6 +1,6 @@
 //! What a run leaves to be printed, but for the report of `hull price`.
 ghost use Rattle.std.specs.Prelude.{IfOk};
-ghost use Rattle.gap_proof.specs.Sums.{IsRadius};
+ghost use Rattle.gap_proof.specs.PlaneSums.{IsRadius};
 ghost use Rattle.board_core.specs.Setups.{IsSetup, setup_of};
 ghost use Rattle.hull_input.specs.Planned.{planned_run};
 ghost use Rattle.hull_input.specs.Sizes.{IsWorkers};

@@ -2,7 +2,7 @@
 ghost use Rattle.std.specs.Prelude.{◌≡◌, ℕ, ◌≤◌, length, map, IfOk};
 ghost use Rattle.std.specs.List.{All};
 ghost use Rattle.uc_model.specs.PlainCases.{market_of};
-ghost use Rattle.audit_rows.specs.Benches.{IsBenchOver};
+ghost use Rattle.unit_program.specs.Tops.{IsBenchOver};
 ghost use Rattle.report_read.specs.Bounds.{IsReport, AreInOrder};
 ghost use Rattle.report_read.specs.Plain.{report_of, told_of};
 ghost use Rattle.hull_input.specs.Answers.{IsAnswer};
@@ -13,7 +13,6 @@ ghost use Rattle.hull_command.specs.FurtherSteps.{IsJudged};
 
 use audit_check::check_report;
 use board_core::Terms;
-use case_answers::bench_for;
 use hull_report::{ReportCode, TopFault};
 use report_compare::Audit;
 use report_read::Report;
@@ -21,7 +20,7 @@ use std::alloc::{AllocError, Global};
 use std::sync::Wait;
 use std::thread::Threads;
 use uc_model::cases::Case;
-use unit_program::Bench;
+use unit_program::{Bench, bench_for};
 
 /// The units and periods of a proposal, multiplied, that are worth a job: to start a thread takes
 /// about as long.

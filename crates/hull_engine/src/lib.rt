@@ -4,7 +4,7 @@
 
 ghost use Rattle.std.specs.Prelude.{◌≡◌, ◌≤◌, None};
 ghost use Rattle.hull_io.specs.Edge.{Rose, Gains, FallsShort};
-ghost use Rattle.hull_words.specs.Words.{texts, words_of};
+ghost use Rattle.hull_io.specs.Words.{texts, words_of};
 ghost use Rattle.hull_report.specs.declared.fault.FileKind.{FileKind};
 ghost use Rattle.hull_command.specs.Outcome.{command_for, IsOutcome};
 ghost use Rattle.hull_input.specs.Answers.{IsLaterShelf};

@@ -21,11 +21,11 @@ pub use Rattle.hull_report.specs.declared.fault.FileKind.TheVariants.{CaseFile, 
 pub use Rattle.hull_report.specs.declared.fault.FileKind.TheVariants.{MixtureFile}
 pub use Rattle.hull_report.specs.declared.fault.TopFault.{TopFault}
 pub use Rattle.hull_report.specs.declared.fault.TopFault.TheVariants.{TooBig}
-pub use Rattle.hull_words.specs.Asked.{SettleAsked, settle_asked}
+pub use Rattle.hull_io.specs.Asked.{SettleAsked, settle_asked}
 pub use Rattle.report_form.specs.ReportText.{Report, report_text}
 unfoldable pub use Rattle.report_read.specs.Plain.{report_of}
-pub use Rattle.uc_file.specs.Files.{text, value}
+pub use Rattle.uc_text.specs.Files.{text, value}
 pub use Rattle.uc_model.specs.Data.{Market}
 pub use Rattle.uc_model.specs.PlainCases.{market_of, schedules_of}
 pub use Rattle.uc_model.specs.PlainUnits.{prices_of}
-pub use Rattle.mixture_bound.specs.Mixtures.{mixture_of}
+pub use Rattle.gap_proof.specs.Mixtures.{mixture_of}

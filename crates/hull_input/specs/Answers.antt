@@ -3,7 +3,7 @@ use Rattle.std.specs.Prelude.{◌≡◌, ◌⊎◌, ◌≤◌, ℕ, List, length
 use Rattle.uc_model.specs.PlainCases.{market_of}
 use Rattle.uc_model.specs.PlainUnits.{prices_of}
 use Rattle.board_core.specs.Setups.{IsSetup, setup_of}
-use Rattle.mixture_bound.specs.Mixtures.{mixture_of, IsMixture, HasMixtureShape}
+use Rattle.gap_proof.specs.Mixtures.{mixture_of, IsMixture, HasMixtureShape}
 use Rattle.hull_report.specs.declared.fault.FileKind.{FileKind}
 use Rattle.hull_report.specs.declared.fault.FileKind.TheVariants.{ReportFile, PricesFile, MixtureFile}
 use Rattle.hull_report.specs.declared.fault.TopFault.{TopFault}

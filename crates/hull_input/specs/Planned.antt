@@ -2,7 +2,7 @@
 use Rattle.std.specs.Prelude.{◌≡◌, ℤ, List}
 use Rattle.board_core.specs.Setups.{setup_of}
 use Rattle.board_core.specs.declared.terms.Terms.{Terms}
-use Rattle.board_history.specs.Board.{Setup}
+use Rattle.board_store.specs.Board.{Setup}
 use Rattle.uc_model.specs.Data.{Market, Schedule}
 use Rattle.uc_model.specs.PlainCases.{market_of, schedules_of}
 use Rattle.uc_model.specs.Systems.{IsFeasiblePlan, plan_cost}

@@ -1,7 +1,7 @@
 -- How large a run may be, and the numbers that words ask of it (this project's profile).
 use Rattle.std.specs.Prelude.{◌≡◌, ℕ, ◌≤◌}
 use Rattle.plain_lists.specs.declared.limits.TheConstants.{MOST_PROPOSALS, MOST_WORKERS, MOST_AHEAD}
-use Rattle.hull_words.specs.declared.command.PriceWords.{PriceWords}
+use Rattle.hull_io.specs.declared.command.PriceWords.{PriceWords}
 use Rattle.board_core.specs.declared.terms.Terms.{Terms}
 
 -- the number is from low to high

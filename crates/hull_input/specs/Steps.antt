@@ -9,7 +9,7 @@ use Rattle.uc_model.specs.Data.{Market, PriceLists, Schedule, unit_count}
 use Rattle.uc_model.specs.Systems.{IsFeasiblePlan, plan_cost}
 use Rattle.uc_model.specs.Refusals.{refusals}
 use Rattle.plain_lists.specs.declared.limits.TheConstants.{MOST_BYTES, MOST_WORK}
-use Rattle.uc_file.specs.Files.{FileFault, text, value}
+use Rattle.uc_text.specs.Files.{FileFault, text, value}
 use Rattle.uc_case.specs.CaseFiles.{IsCaseOf}
 use Rattle.uc_field.specs.declared.fault.FieldFault.{FieldFault}
 use Rattle.uc_plan.specs.PlanFiles.{IsPlanOf}
@@ -20,9 +20,9 @@ use Rattle.uc_prices.specs.PricesFiles.{IsPricesOf}
 use Rattle.uc_prices.specs.declared.fault.PriceFault.{PriceFault}
 use Rattle.uc_mixture.specs.MixtureFiles.{IsMixtureFileOf}
 use Rattle.uc_mixture.specs.declared.fault.ShareFault.{ShareFault}
-use Rattle.mixture_bound.specs.Mixtures.{MixtureLists, IsMixture}
-use Rattle.mixture_bound.specs.Refused.{mixture_refusals, entry_refusal_of}
-use Rattle.mixture_bound.specs.declared.check.EntryFault.{EntryFault}
+use Rattle.gap_proof.specs.Mixtures.{MixtureLists, IsMixture}
+use Rattle.gap_proof.specs.MixtureRefused.{mixture_refusals, entry_refusal_of}
+use Rattle.gap_proof.specs.declared.mixture_check.EntryFault.{EntryFault}
 use Rattle.plan_check.specs.Checks.{refusal_of}
 use Rattle.plan_check.specs.declared.RuleFault.{RuleFault}
 use Rattle.hull_report.specs.declared.fault.FileKind.{FileKind}

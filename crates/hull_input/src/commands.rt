@@ -1,7 +1,7 @@
 //! What the words of a command name, read one file after another.
 ghost use Rattle.std.specs.Prelude.{◌≡◌, IfOk};
 ghost use Rattle.hull_io.specs.Edge.{Rose};
-ghost use Rattle.hull_words.specs.Asked.{settle_asked};
+ghost use Rattle.hull_io.specs.Asked.{settle_asked};
 ghost use Rattle.board_core.specs.Setups.{IsSetup, setup_of};
 ghost use Rattle.hull_input.specs.Answers.{IsAnswer, IsLaterShelf, HasReads};
 ghost use Rattle.hull_input.specs.Answers.{IsFitPriced, IsPricedAnswer, IsFitMixed, IsMixedAnswer};
@@ -15,9 +15,8 @@ use crate::files::{read_input, read_prices_file, read_report_file};
 use crate::input::{MixedInput, PricedInput, ReportedRun, within_work};
 use crate::mixture::read_mixture_file;
 use board_core::Terms;
-use hull_io::Shelf;
+use hull_io::{AuditWords, CertifyWords, PriceWords, SettleWords, Shelf};
 use hull_report::TopFault;
-use hull_words::{AuditWords, CertifyWords, PriceWords, SettleWords};
 use std::alloc::Global;
 
 /// The terms of the run that words ask for, over the case and the schedule of their files; or the

@@ -9,8 +9,8 @@ ghost use Rattle.hull_input.specs.Steps.{IsWithinWork};
 ghost use Rattle.hull_input.specs.Answers.{IsAnswer};
 
 use board_core::Terms;
+use gap_proof::Mixture;
 use hull_report::TopFault;
-use mixture_bound::Mixture;
 use plain_lists::limits::MOST_WORK;
 use report_read::Report;
 use uc_model::cases::{Case, Plan};

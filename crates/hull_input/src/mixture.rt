@@ -2,14 +2,14 @@
 ghost use Rattle.std.specs.Prelude.{◌≤◌, length, IfOk};
 ghost use Rattle.uc_model.specs.PlainCases.{market_of};
 ghost use Rattle.hull_io.specs.Edge.{Rose};
-ghost use Rattle.mixture_bound.specs.Mixtures.{mixture_of, IsMixture, HasMixtureShape};
+ghost use Rattle.gap_proof.specs.Mixtures.{mixture_of, IsMixture, HasMixtureShape};
 ghost use Rattle.hull_input.specs.Answers.{IsAnswer, IsLaterShelf, HasRead};
 ghost use Rattle.hull_input.specs.Steps.{IsShares, IsSharesFile, IsMixed, IsMixtureFile};
 
 use crate::files::read_bytes;
+use gap_proof::{Mixture, check_mixture};
 use hull_io::Shelf;
 use hull_report::{FileKind, TopFault};
-use mixture_bound::{Mixture, check_mixture};
 use plain_lists::limits::MOST_BYTES;
 use std::alloc::Global;
 use uc_mixture::fault::MixtureFault;

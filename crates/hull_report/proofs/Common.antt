@@ -7,8 +7,8 @@ pub use Rattle.std.proofs.lemmas.List.{length-map, get_or-map, take_all}
 pub use Rattle.std.proofs.lemmas.Option.{get_or_from_slice_get}
 pub use Rattle.std.specs.Int.{w128}
 pub use Rattle.std.specs.List.{flat_map}
-pub use Rattle.board_history.specs.Board.{Content}
-pub use Rattle.board_history.specs.Calls.{own_rows}
+pub use Rattle.board_store.specs.Board.{Content}
+pub use Rattle.board_store.specs.Calls.{own_rows}
 pub use Rattle.hull_io.specs.Edge.{Gains, FallsShort, Writes}
 pub use Rattle.right_report.specs.Told.{IsTold}
 unfoldable pub use Rattle.hull_report.specs.BoundText.{bound_text}
@@ -39,8 +39,8 @@ unfoldable pub use Rattle.report_form.specs.ReportText.{report_text}
 pub use Rattle.plain_lists.proofs.ListLaws.{flat_map_at, flat_map_up_to}
 pub use Rattle.uc_model.specs.PlainCases.{market_of, proposal_of, unit_of}
 pub use Rattle.uc_model.specs.PlainUnits.{named_thermal_of, named_renewable_of, named_bid_of, schedule_of}
-pub use Rattle.uplift_settle.specs.declared.settlement.Settlement.{Settlement}
-pub use Rattle.uplift_settle.specs.Settled.{Settled, settled_of}
+pub use Rattle.plan_check.specs.declared.settlement.Settlement.{Settlement}
+pub use Rattle.plan_check.specs.Settled.{Settled, settled_of}
 pub use Rattle.hull_report.specs.SettledText.{settled_line}
 unfoldable pub use Rattle.hull_report.specs.SettledText.{settlement_of}
 unfoldable pub use Rattle.hull_report.specs.CertifiedText.{certificate_of}

@@ -1,8 +1,8 @@
 -- The status of each fault, and its line (this project's profile).
 use Rattle.std.specs.Prelude.{ℕ, List, [], ◌∷◌, ◌++◌, codes}
 use Rattle.std.specs.List.{concat}
-use Rattle.hull_words.specs.declared.fault.WordFault.{WordFault}
-use Rattle.hull_words.specs.Codes.{code_number as word_code}
+use Rattle.hull_io.specs.declared.word_fault.WordFault.{WordFault}
+use Rattle.hull_io.specs.Codes.{code_number as word_code}
 use Rattle.uc_text.specs.declared.fault.TextFault.{TextFault}
 use Rattle.uc_text.specs.Codes.{number_of as text_code}
 use Rattle.uc_field.specs.declared.fault.FieldFault.{FieldFault}
@@ -13,7 +13,7 @@ use Rattle.uc_prices.specs.declared.fault.PriceFault.{PriceFault}
 use Rattle.uc_prices.specs.Faults.{code_number as price_code, key_of as price_key}
 use Rattle.uc_mixture.specs.declared.fault.ShareFault.{ShareFault}
 use Rattle.uc_mixture.specs.Faults.{code_number as share_code}
-use Rattle.mixture_bound.specs.declared.check.EntryFault.{EntryFault}
+use Rattle.gap_proof.specs.declared.mixture_check.EntryFault.{EntryFault}
 use Rattle.plan_check.specs.declared.RuleFault.{RuleFault}
 use Rattle.uc_model.specs.declared.kinds.Kind.{Kind}
 use Rattle.uc_model.specs.Refusals.{rule_number}

@@ -1,6 +1,6 @@
 //! The text of `hull bound`.
 ghost use Rattle.std.specs.Prelude.{◌≡◌, ◌-ℤ◌, true, length, unsigned_abs};
-ghost use Rattle.board_history.specs.Calls.{own_rows, has_finished};
+ghost use Rattle.board_store.specs.Calls.{own_rows, has_finished};
 ghost use Rattle.hull_io.specs.Edge.{Writes};
 ghost use Rattle.hull_report.specs.BoundText.{bound_text};
 ghost use Rattle.right_report.specs.Told.{IsTold};

@@ -1,18 +1,18 @@
 //! The text of `hull certify`.
 ghost use Rattle.std.specs.Prelude.{◌≡◌, unsigned_abs};
 ghost use Rattle.hull_io.specs.Edge.{Writes};
-ghost use Rattle.mixture_bound.specs.Laws.{least_paid};
+ghost use Rattle.gap_proof.specs.MixtureLaws.{least_paid};
 ghost use Rattle.uc_model.specs.Limits.{IsSum, IsWorth};
 ghost use Rattle.uc_model.specs.PlainCases.{market_of};
-ghost use Rattle.uplift_settle.specs.Settled.{settled_of};
+ghost use Rattle.plan_check.specs.Settled.{settled_of};
 ghost use Rattle.report_form.specs.CertificateText.{certificate_in, certificate_text};
 ghost use Rattle.right_report.specs.Told.{IsTold};
 ghost use Rattle.hull_report.specs.CertifiedText.{certificate_of};
 
 use hull_io::{Sink, WriteFailed};
+use plan_check::Settled;
 use report_form::certificate::{CertificateLines, write_certificate_lines};
 use uc_model::cases::Case;
-use uplift_settle::Settled;
 
 /// A bound on the dual value of all prices within a radius of given ones.
 #[derive(Clone, Copy)]

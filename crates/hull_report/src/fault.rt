@@ -8,9 +8,8 @@ ghost use Rattle.hull_report.specs.FaultLines.{work_told, report_told, status_to
 ghost use Rattle.hull_report.specs.FaultLines.{price_told, share_told, entry_told, fault_line};
 ghost use Rattle.hull_report.specs.declared.fault.TopFault.TheVariants.{Memory};
 
-use hull_io::{Sink, WriteFailed, write_whole};
-use hull_words::WordFault;
-use mixture_bound::EntryFault;
+use gap_proof::EntryFault;
+use hull_io::{Sink, WordFault, WriteFailed, write_whole};
 use plan_check::RuleFault;
 use report_form::laws::texts_add_up;
 use report_form::{Part, write_form};

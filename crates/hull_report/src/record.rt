@@ -1,7 +1,7 @@
 //! The texts of a record: the report that `hull price` prints, and the lines of `hull try`.
 ghost use Rattle.std.specs.Prelude.{◌≡◌, ℕ, ◌+◌, ◌<◌, ◌≤◌, ◌++◌, true, List, length};
 ghost use Rattle.std.specs.List.{flat_map};
-ghost use Rattle.board_history.specs.Calls.{own_rows, has_finished};
+ghost use Rattle.board_store.specs.Calls.{own_rows, has_finished};
 ghost use Rattle.hull_io.specs.Edge.{Writes};
 ghost use Rattle.uc_model.specs.Data.{unit_count, thermal_names, renewable_names, bid_names};
 ghost use Rattle.uc_model.specs.PlainUnits.{schedule_of};
@@ -14,6 +14,7 @@ ghost use Rattle.hull_report.specs.TryText.{try_text};
 
 use board_core::Closed;
 use hull_io::{Sink, WriteFailed};
+use plan_check::Settlement;
 use report_form::laws::texts_add_up;
 use report_form::report::{
     Head, Owed, write_chosen, write_foot, write_head, write_rows, write_unit,
@@ -21,7 +22,6 @@ use report_form::report::{
 use report_form::{Part, write_form};
 use right_report::{Choice, choice_of};
 use uc_model::units::Answered;
-use uplift_settle::Settlement;
 
 // The numbers of the first lines.
 fn head_of(closed: &Closed, proposals: u32) -> Head

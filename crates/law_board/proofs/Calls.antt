@@ -4,9 +4,9 @@ use Rattle.law_board.proofs.Common.{◌≡◌, ℕ, cond, Option, Some, None, []
 use Rattle.law_board.proofs.Common.{no_prices, Fits, task_numbers, Setup, Answer, rules_of, IsRight, row_of}
 use Rattle.law_board.proofs.Common.{differs_from, CallsStayLegal, StepsAreMachine, PostsMean, HeldIsTaken, Posts, posts}
 use Rattle.law_board.proofs.Common.{prices_at, with_post, is_closed, difference}
-use Rattle.board_history.proofs.Held.{held_is_open}
-use Rattle.board_history.proofs.OwnTasks.{same_is_own, right_of, IsOwn}
-use Rattle.board_history.proofs.SameTask.{difference_same}
+use Rattle.board_store.proofs.Held.{held_is_open}
+use Rattle.board_store.proofs.OwnTasks.{same_is_own, right_of, IsOwn}
+use Rattle.board_store.proofs.SameTask.{difference_same}
 use Rattle.law_board.proofs.Machine.{claim_stays, post_stays, halt_stays, steps_are_machine, post_says}
 
 -- the board's own task nowhere differs from itself

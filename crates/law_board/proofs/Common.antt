@@ -13,18 +13,18 @@ pub use Rattle.std.proofs.lemmas.List.Sums.{prefix_len_passes}
 pub use Rattle.std.specs.List.{list_any, filter, flat_map, range_with_len, list_all}
 pub use Rattle.std.specs.Option.{option_map_or}
 pub use Rattle.std.specs.Prelude.{nat_le, nat_lt, not, is_some, is_none}
-pub use Rattle.board_history.specs.Board.{Answer, rules_of, IsRight, Setup, row_of}
-pub use Rattle.board_history.specs.Calls.{differs_from}
-pub use Rattle.board_history.specs.Rounds.{Rules, Event, Given, Taken, Closing, Stopped, is_halt_of, holders, Posts}
-pub use Rattle.board_history.specs.Rounds.{with_post, is_closed, prices_at, ClaimReply, Finished, Halted, GivenTask}
-pub use Rattle.board_history.specs.Rounds.{NotYet, claim_reply, with_claim, events_after_claim, PostReply}
-pub use Rattle.board_history.specs.Rounds.{OtherProposal, OtherUnit, OtherContent, Doubled, OtherHolder, TakenPost}
-pub use Rattle.board_history.specs.Rounds.{is_holder, post_reply, post_event, with_answer, events_after_post}
-pub use Rattle.board_history.specs.Rounds.{events_after_halt, IsPost, IsNext, IsLegal, sooner, first_some, given_by}
-pub use Rattle.board_history.specs.Rounds.{posted_by, is_halt, Holders, is_finished, next_task, claim_from, GoesOn}
-pub use Rattle.board_history.specs.Rounds.{rows_of, rows_to, closed_front, free_front, only_at, posts, opened}
-pub use Rattle.board_history.specs.Tasks.{difference, Difference}
-pub use Rattle.board_history.specs.Words.{IsOpenTask}
+pub use Rattle.board_store.specs.Board.{Answer, rules_of, IsRight, Setup, row_of}
+pub use Rattle.board_store.specs.Calls.{differs_from}
+pub use Rattle.board_store.specs.Rounds.{Rules, Event, Given, Taken, Closing, Stopped, is_halt_of, holders, Posts}
+pub use Rattle.board_store.specs.Rounds.{with_post, is_closed, prices_at, ClaimReply, Finished, Halted, GivenTask}
+pub use Rattle.board_store.specs.Rounds.{NotYet, claim_reply, with_claim, events_after_claim, PostReply}
+pub use Rattle.board_store.specs.Rounds.{OtherProposal, OtherUnit, OtherContent, Doubled, OtherHolder, TakenPost}
+pub use Rattle.board_store.specs.Rounds.{is_holder, post_reply, post_event, with_answer, events_after_post}
+pub use Rattle.board_store.specs.Rounds.{events_after_halt, IsPost, IsNext, IsLegal, sooner, first_some, given_by}
+pub use Rattle.board_store.specs.Rounds.{posted_by, is_halt, Holders, is_finished, next_task, claim_from, GoesOn}
+pub use Rattle.board_store.specs.Rounds.{rows_of, rows_to, closed_front, free_front, only_at, posts, opened}
+pub use Rattle.board_store.specs.TaskDifference.{difference, Difference}
+pub use Rattle.board_store.specs.Words.{IsOpenTask}
 pub use Rattle.law_board.specs.Counts.{is_claim, is_post, claims_in, posts_in, halts_in}
 pub use Rattle.law_board.specs.Laws.{HaltsChangeNothing, CallsStayLegal, StepsAreMachine, PostsMean}
 pub use Rattle.law_board.specs.Laws.{EventsAreAtMost}

@@ -9,9 +9,9 @@ use Rattle.law_board.proofs.Common.{with_claim, events_after_claim, PostReply, O
 use Rattle.law_board.proofs.Common.{Doubled, OtherHolder, TakenPost, is_holder, post_reply, post_event, with_answer}
 use Rattle.law_board.proofs.Common.{events_after_post, events_after_halt, IsPost, IsNext, IsLegal, no_difference}
 use Rattle.law_board.proofs.Common.{IsMachineStep, IsOpenTask, PostSays}
-use Rattle.board_history.proofs.Machine.{not_past, not_past_unit, same_number, is_holder_of, IsTaken, reply_taken}
-use Rattle.board_history.proofs.Machine.{reply_says, last, doubled, content}
-use Rattle.board_history.proofs.Stays.{legal_more}
+use Rattle.board_store.proofs.Machine.{not_past, not_past_unit, same_number, is_holder_of, IsTaken, reply_taken}
+use Rattle.board_store.proofs.Machine.{reply_says, last, doubled, content}
+use Rattle.board_store.proofs.Stays.{legal_more}
 
 -- a list isn't itself with one more
 longer : {X Y : Type 0} (h : List X) (e : X) → h ≡ h ++ e ∷ [] → Y

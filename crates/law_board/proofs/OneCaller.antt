@@ -11,13 +11,13 @@ use Rattle.law_board.proofs.Common.{is_halt, Holders, holders, Posts, posts, wit
 use Rattle.law_board.proofs.Common.{closed_front, opened, is_finished, ClaimReply, Finished, GivenTask, next_task}
 use Rattle.law_board.proofs.Common.{claim_from, claim_reply, with_claim, events_after_claim, PostReply, TakenPost}
 use Rattle.law_board.proofs.Common.{post_event, with_answer, post_reply, events_after_post, IsLegal, Fits, Difference}
-use Rattle.board_history.proofs.Answered.{posts-given, posts-taken, posts-closing, holders-given, holders-taken}
-use Rattle.board_history.proofs.Answered.{holders-closing, only_cases}
-use Rattle.board_history.proofs.Fronts.{front_stops}
-use Rattle.board_history.proofs.Held.{given_or, given_says, free_is_unposted}
-use Rattle.board_history.proofs.Machine.{IsTakeable, closed_of, reply_taken}
-use Rattle.board_history.proofs.NextTask.{none_in_rows}
-use Rattle.board_history.proofs.OwnTasks.{IsOwn}
+use Rattle.board_store.proofs.Answered.{posts-given, posts-taken, posts-closing, holders-given, holders-taken}
+use Rattle.board_store.proofs.Answered.{holders-closing, only_cases}
+use Rattle.board_store.proofs.Fronts.{front_stops}
+use Rattle.board_store.proofs.Held.{given_or, given_says, free_is_unposted}
+use Rattle.board_store.proofs.Machine.{IsTakeable, closed_of, reply_taken}
+use Rattle.board_store.proofs.NextTask.{none_in_rows}
+use Rattle.board_store.proofs.OwnTasks.{IsOwn}
 use Rattle.law_board.proofs.Calls.{own_is_same}
 
 -- ---- a claim finds a task

@@ -9,10 +9,10 @@ use Rattle.law_board.proofs.Common.{range_with_len, is_some, Fits, rules_of, IsR
 use Rattle.law_board.proofs.Common.{posts_in, halts_in, EventsAreAtMost, Rules, Event, Given, Taken, Closing, Stopped}
 use Rattle.law_board.proofs.Common.{sooner, only_at, is_halt, is_halt_of, Holders, holders, Posts, posts, with_post}
 use Rattle.law_board.proofs.Common.{IsPost, IsNext, IsLegal}
-use Rattle.board_history.proofs.Answered.{posts-given, posts-stopped, posts-taken, posts-closing, holders-given}
-use Rattle.board_history.proofs.Answered.{holders-taken, holders-closing, holders-stopped}
-use Rattle.board_history.proofs.Held.{along, given_says}
-use Rattle.board_history.specs.Entries.{entry_of, entries_of}
+use Rattle.board_store.proofs.Answered.{posts-given, posts-stopped, posts-taken, posts-closing, holders-given}
+use Rattle.board_store.proofs.Answered.{holders-taken, holders-closing, holders-stopped}
+use Rattle.board_store.proofs.Held.{along, given_says}
+use Rattle.board_store.specs.Entries.{entry_of, entries_of}
 use Rattle.std.proofs.Math.Nat.{suc-mul}
 
 -- ---- how many items pass a test

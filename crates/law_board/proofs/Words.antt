@@ -3,8 +3,8 @@ use Rattle.law_board.proofs.Common.{◌≡◌, ℕ, suc, ◌-◌, ◌<◌, ◌�
 use Rattle.law_board.proofs.Common.{subst, arith, false≢true, le-leb, leb-true, prefix_len_passes, not, is_some, Rules}
 use Rattle.law_board.proofs.Common.{Posts, is_closed, rows_to, closed_front, rows_of, free_front, opened, is_finished}
 use Rattle.law_board.proofs.Common.{IsClosed, IsOpen, Means}
-use Rattle.board_history.proofs.Fronts.{range_passes, prefix_most, front_most}
-use Rattle.board_history.proofs.Kept.{post_of, rows_length, rows_take, front_closed, free_le, get_or_take_of}
+use Rattle.board_store.proofs.Fronts.{range_passes, prefix_most, front_most}
+use Rattle.board_store.proofs.PostsKept.{post_of, rows_length, rows_take, front_closed, free_le, get_or_take_of}
 
 not_of_true : (b : Bool) → not b ≡ true → b ≡ false
 not_of_true true h = absurd (false≢true h)

@@ -1,6 +1,6 @@
 -- How many claims, posts and halts a history has (this project's profile).
 use Rattle.std.specs.Prelude.{ℕ, Bool, true, false, List, length, filter}
-use Rattle.board_history.specs.Rounds.{Event, Given, Taken, Closing, Stopped, is_halt}
+use Rattle.board_store.specs.Rounds.{Event, Given, Taken, Closing, Stopped, is_halt}
 
 abbrev pub is_claim : {A : Type 0} → Event A → Bool
 is_claim (Given c n u) = true

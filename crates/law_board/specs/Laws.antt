@@ -1,13 +1,13 @@
 -- What holds of every legal history of a board, beside what the board goes by. Each law is the
 -- clause of a public function.
 use Rattle.std.specs.Prelude.{◌≡◌, ◌↔◌, ℕ, ◌+◌, ◌*◌, ◌<◌, ◌≤◌, not, List, filter, length}
-use Rattle.board_history.specs.Board.{Setup, Answer, Content, rules_of, IsRight, IsLegalFor}
-use Rattle.board_history.specs.Board.{IsLegalHistory}
-use Rattle.board_history.specs.Calls.{differs_from, after_claim, after_post, after_halt}
+use Rattle.board_store.specs.Board.{Setup, Answer, Content, rules_of, IsRight, IsLegalFor}
+use Rattle.board_store.specs.Board.{IsLegalHistory}
+use Rattle.board_store.specs.Calls.{differs_from, after_claim, after_post, after_halt}
 use Rattle.law_board.specs.Counts.{claims_in, posts_in, halts_in}
-use Rattle.board_history.specs.Entries.{entries_of}
-use Rattle.board_history.specs.Rounds.{Event, posts, rows_of, is_halt, IsNext}
-use Rattle.board_history.specs.Tasks.{IsTask}
+use Rattle.board_store.specs.Entries.{entries_of}
+use Rattle.board_store.specs.Rounds.{Event, posts, rows_of, is_halt, IsNext}
+use Rattle.board_store.specs.TaskDifference.{IsTask}
 use Rattle.law_board.specs.Words.{IsMachineStep, Means, PostSays}
 use Rattle.uc_model.specs.Data.{AnyUnit, PriceLists, Schedule, unit_count}
 use Rattle.uc_model.specs.Earnings.{earnings}

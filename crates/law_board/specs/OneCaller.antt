@@ -2,12 +2,12 @@
 -- profile).
 use Rattle.std.specs.Prelude.{◌≡◌, ℕ, ◌+◌, ◌⊎◌, false, Option, Some, None, List, slice_get}
 use Rattle.std.specs.List.{list_any}
-use Rattle.board_history.specs.Board.{Answer, Content, IsLegalHistory}
-use Rattle.board_history.specs.Calls.{own_prices, claim_answer, after_claim, post_answer}
-use Rattle.board_history.specs.Calls.{after_post}
+use Rattle.board_store.specs.Board.{Answer, Content, IsLegalHistory}
+use Rattle.board_store.specs.Calls.{own_prices, claim_answer, after_claim, post_answer}
+use Rattle.board_store.specs.Calls.{after_post}
 use Rattle.law_board.specs.Counts.{posts_in}
-use Rattle.board_history.specs.Rounds.{Event, holders, posts, is_halt, Finished, GivenTask}
-use Rattle.board_history.specs.Rounds.{TakenPost}
+use Rattle.board_store.specs.Rounds.{Event, holders, posts, is_halt, Finished, GivenTask}
+use Rattle.board_store.specs.Rounds.{TakenPost}
 use Rattle.uc_model.specs.Data.{AnyUnit, PriceLists, units}
 
 -- a task that a caller holds and that has no answer: its post is taken, whatever else came since it

@@ -2,12 +2,12 @@
 -- (this project's profile).
 use Rattle.std.specs.Prelude.{◌≡◌, ◌↔◌, ℕ, suc, ◌-◌, ◌<◌, ◌≤◌, true, false, Option, Some, None}
 use Rattle.std.specs.Prelude.{List, [], ◌∷◌, ◌++◌, ◌⊎◌, if◌then◌else◌, slice_index_or}
-use Rattle.board_history.specs.Rounds.{Rules, Event, Given, Taken, Closing, Stopped, holders, Posts}
-use Rattle.board_history.specs.Rounds.{with_post, PostReply, OtherProposal, OtherUnit, OtherContent}
-use Rattle.board_history.specs.Rounds.{Doubled, OtherHolder, TakenPost, post_reply, posts}
-use Rattle.board_history.specs.Rounds.{is_closed, rows_to, prices_at, opened, is_finished}
-use Rattle.board_history.specs.Rounds.{events_after_claim, events_after_post, events_after_halt}
-use Rattle.board_history.specs.Words.{IsOpenTask}
+use Rattle.board_store.specs.Rounds.{Rules, Event, Given, Taken, Closing, Stopped, holders, Posts}
+use Rattle.board_store.specs.Rounds.{with_post, PostReply, OtherProposal, OtherUnit, OtherContent}
+use Rattle.board_store.specs.Rounds.{Doubled, OtherHolder, TakenPost, post_reply, posts}
+use Rattle.board_store.specs.Rounds.{is_closed, rows_to, prices_at, opened, is_finished}
+use Rattle.board_store.specs.Rounds.{events_after_claim, events_after_post, events_after_halt}
+use Rattle.board_store.specs.Words.{IsOpenTask}
 
 module _ {P R A : Type 0} (g : Rules P R A) (p : Posts A) where
   -- every unit of the proposal is posted

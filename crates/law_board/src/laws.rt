@@ -1,7 +1,7 @@
 //! Laws on the histories of a board: each is the contract of a function that does nothing.
 ghost use Rattle.uc_model.specs.Runs.{Fits};
-ghost use Rattle.board_history.specs.Tasks.{SameTask};
-ghost use Rattle.board_history.specs.Totals.{TotalsRun};
+ghost use Rattle.board_store.specs.TaskDifference.{SameTask};
+ghost use Rattle.board_store.specs.Totals.{TotalsRun};
 ghost use Rattle.law_board.specs.Laws.{WordsMean, PostsMean, StepsAreMachine, CallsStayLegal};
 ghost use Rattle.law_board.specs.Laws.{RowsAreRight, EventsAreAtMost, HaltsChangeNothing};
 ghost use Rattle.law_board.specs.OneCaller.{HeldIsTaken, ClaimsAreGiven, GivenIsTaken};

@@ -1,5 +1,5 @@
 //! What holds of every legal history of a board, beside what the board and the program go by
-//! (`board_history::laws`).
+//! (`board_store::laws`).
 //!
 //! Nothing here runs.
 #![tactic(auto)]

@@ -39,9 +39,9 @@ pub use Rattle.gap_proof.specs.Candidates.{RowRange, range_weights, candidates, 
 pub use Rattle.gap_proof.specs.CertifiedBound.{slope_at, height_of, most_over, price_at, lowest_price, weighted}
 pub use Rattle.gap_proof.specs.CertifiedBound.{low_end, high_end, AreWeights}
 unfoldable pub use Rattle.gap_proof.specs.CertifiedBound.{certified_bound}
-pub use Rattle.mixture_bound.specs.MixtureBound.{weighed, mixture_cost, lack, short, best_sold, best_bought, added}
-pub use Rattle.mixture_bound.specs.MixtureBound.{most_energy, most_reserve}
-unfoldable pub use Rattle.mixture_bound.specs.MixtureBound.{mixture_bound}
-pub use Rattle.mixture_bound.specs.Mixtures.{WeighedSchedule, MixtureLists, AreMixed, IsMixture}
+pub use Rattle.gap_proof.specs.MixtureBound.{weighed, mixture_cost, lack, short, best_sold, best_bought, added}
+pub use Rattle.gap_proof.specs.MixtureBound.{most_energy, most_reserve}
+unfoldable pub use Rattle.gap_proof.specs.MixtureBound.{mixture_bound}
+pub use Rattle.gap_proof.specs.Mixtures.{WeighedSchedule, MixtureLists, AreMixed, IsMixture}
 pub use Rattle.law_bounds.specs.Laws.{IsAnswered, ArePriced, IsInBox, RunBoundsHold, RunPricesAreWithin}
 pub use Rattle.law_bounds.specs.Laws.{AnsweredRowsAreWithin}

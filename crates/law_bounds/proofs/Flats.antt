@@ -12,7 +12,7 @@ use Rattle.flat_answer.specs.Choices.{IsBetween, IsWithinBlocks, IsLeastChoice, 
 use Rattle.flat_answer.proofs.Blocks.{wanted, in_bounds, wanted_is_choice}
 use Rattle.flat_answer.proofs.Forms.{flat_can, flat_earns, flat_by_place, bid_can, bid_earns, bid_by_place}
 use Rattle.flat_answer.proofs.Places.{IsAlwaysOn, IsByPlace}
-use Rattle.mixture_bound.proofs.Bought.{gain_is}
+use Rattle.gap_proof.proofs.Bought.{gain_is}
 
 -- ---- a schedule by its powers
 

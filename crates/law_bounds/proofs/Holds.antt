@@ -16,7 +16,7 @@ use Rattle.law_bounds.proofs.Subgradients.{energy_price, reserve_price}
 use Rattle.uc_model.specs.Laws.{ReserveFrom0, DualIsAtMostCost, PaymentsMakeUpTheGap}
 use Rattle.law_bounds.specs.MixtureLaws.{MixtureBoundHolds, MixtureBoundReachesCentre, PaymentsReachLeast}
 use Rattle.law_bounds.proofs.Flats.{AreFromLeast, renewables_top, bids_top}
-use Rattle.mixture_bound.proofs.Greatest.{at_most_greatest}
+use Rattle.gap_proof.proofs.Greatest.{at_most_greatest}
 use Rattle.law_bounds.proofs.Shares.{swap_factors, paid, powers, reserves, mixture_earns}
 
 -- ---- what all units earn at best, in two parts

@@ -11,7 +11,7 @@ use Rattle.uc_model.specs.Runs.{HasTotals, Fits, IsRun}
 use Rattle.uc_model.specs.Systems.{IsDualValue}
 use Rattle.gap_proof.specs.CertifiedBound.{AreWeights, price_at, low_end, high_end, certified_bound}
 use Rattle.gap_proof.specs.Candidates.{RowRange, IsFirstLeast, prices_of_row}
-use Rattle.gap_proof.specs.Sums.{IsRowWithin}
+use Rattle.gap_proof.specs.PlaneSums.{IsRowWithin}
 
 -- a row of a run, but for where its prices come from: its value is the dual value of its prices,
 -- and its totals are those of one answer per unit

@@ -4,9 +4,9 @@ use Rattle.std.specs.Prelude.{◌+ℤ◌, ℤ, pos, ◌≤ℤ◌, List}
 use Rattle.uc_model.specs.Data.{PriceLists, Schedule, Market}
 use Rattle.uc_model.specs.Limits.{IsMarket}
 use Rattle.uc_model.specs.Systems.{IsDualValue, IsFeasiblePlan, plan_cost, IsSettled}
-use Rattle.mixture_bound.specs.Laws.{least_paid}
-use Rattle.mixture_bound.specs.Mixtures.{MixtureLists, IsMixture}
-use Rattle.mixture_bound.specs.MixtureBound.{mixture_bound}
+use Rattle.gap_proof.specs.MixtureLaws.{least_paid}
+use Rattle.gap_proof.specs.Mixtures.{MixtureLists, IsMixture}
+use Rattle.gap_proof.specs.MixtureBound.{mixture_bound}
 use Rattle.law_bounds.specs.Laws.{ArePriced, IsInBox}
 
 -- no prices in the box have a dual value above the bound, whatever the mixture

@@ -6,20 +6,20 @@ use Rattle.uc_model.specs.declared.kinds.Kind.{Kind}
 use Rattle.uc_model.specs.declared.kinds.Kind.TheVariants as kinds
 use Rattle.uc_model.specs.Data.{NamedThermalUnit, NamedRenewableUnit, NamedBidUnit, Market, thermal_names}
 use Rattle.uc_model.specs.Data.{renewable_names, bid_names, unit_names}
-use Rattle.text_tree.specs.Values.{Value}
-use Rattle.text_tree.specs.Parts.{Pair}
-use Rattle.text_tree.specs.Inside.{object_in}
+use Rattle.uc_text.specs.Values.{Value}
+use Rattle.uc_text.specs.Pairs.{Pair}
+use Rattle.uc_text.specs.ValueParts.{object_in}
 use Rattle.uc_text.specs.declared.fault.TextFault.{TextFault}
 use Rattle.uc_text.specs.Grammar.{end}
 unfoldable use Rattle.uc_case.specs.Cases.{thermal, renewable, bid, units, bids, all_units, keyed_case, case_of}
 use Rattle.uc_case.specs.Cases.{whole, AllUnits, horizon, needs}
-use Rattle.uc_file.specs.Files.{IsFile, reading_of}
+use Rattle.uc_text.specs.Files.{IsFile, reading_of}
 use Rattle.uc_field.specs.Forms.{Read, Keys, keys, key, key_or_none, object, under}
-unfoldable use Rattle.uc_file.specs.Inside.{value_of}
+unfoldable use Rattle.uc_text.specs.Inside.{value_under}
 use Rattle.uc_field.specs.Sites.{site, field_at, key_of}
 use Rattle.uc_case.specs.Tables.{thermal_unit, renewable_unit, bid_unit}
-unfoldable use Rattle.uc_file.specs.Words.{each}
-use Rattle.uc_file.specs.Words.{need, position}
+unfoldable use Rattle.uc_text.specs.Words.{each}
+use Rattle.uc_text.specs.Words.{need, position}
 use Rattle.uc_field.specs.declared.fault.Field.{Field}
 use Rattle.uc_field.specs.declared.fault.Field.TheVariants as fields
 use Rattle.uc_field.specs.declared.fault.Site.{Site}
@@ -34,14 +34,14 @@ need_ok f (Some y) x e = cc
 
 -- ---- the value of a key
 
-found_named : (name : List ℕ) (ms : List Pair) (v : Value) → AllByRecursion IsNamedPair ms → value_of name ms ≡ Some v →
-    AreNamed v
-unfolding value_of
+found_named : (name : List ℕ) (ms : List Pair) (v : Value) → AllByRecursion IsNamedPair ms →
+    value_under name ms ≡ Some v → AreNamed v
+unfolding value_under
 found_named name [] v h e = absurd cc
 found_named name (m ∷ ms) v h e = by_name (bytes_eq m.name name) e (found_named name ms v h.1)
   where
-    by_name : (t : Bool) → cond t (Some m.value) (value_of name ms) ≡ Some v →
-        (value_of name ms ≡ Some v → AreNamed v) → AreNamed v
+    by_name : (t : Bool) → cond t (Some m.value) (value_under name ms) ≡ Some v →
+        (value_under name ms ≡ Some v → AreNamed v) → AreNamed v
     by_name true f later = let is : m.value ≡ v = cc in subst AreNamed is h.0.1
     by_name false f later = later f
 
@@ -81,7 +81,7 @@ key_named : {A : Type 0} (o : Keys) (f : Field) (form : Site → Value → Read 
 key_named o f form x h e =
     let found = bind_ok (under (field_at o.at f) (key_of f) o.members) (λ v. form (field_at o.at f) v) x e in (
       found.0,
-      found_named (key_of f) o.members found.0 h (need_ok _ (value_of (key_of f) o.members) found.0 found.1),
+      found_named (key_of f) o.members found.0 h (need_ok _ (value_under (key_of f) o.members) found.0 found.1),
       found.2,
     )
 
@@ -107,7 +107,7 @@ bid_name periods at m n e =
 
 -- bids may be absent
 bids_named : (periods : ℕ) (at : Site) (name : List ℕ) (ms : List Pair) (o : Option Value) (ns : List NamedBidUnit) →
-    AllByRecursion IsNamedPair ms → value_of name ms ≡ o → bids periods at o ≡ Ok ns →
+    AllByRecursion IsNamedPair ms → value_under name ms ≡ o → bids periods at o ≡ Ok ns →
     AllByRecursion IsUtf8 (map (λ (n : NamedBidUnit). n.name) ns)
 unfolding bids
 bids_named periods at name ms None ns h found e =
@@ -143,8 +143,8 @@ all_units_named periods c us h e =
           (thermal_name periods) _ g_at.0 g.0 g_at.1 g_at.2;
       renewable = units_named (λ (n : NamedRenewableUnit). n.name) fields.RenewableGenerators kinds.Renewable
           (renewable periods) (renewable_name periods) _ f_at.0 f.0 f_at.1 f_at.2;
-      bids = bids_named periods _ (key_of fields.DemandBids) c.members (value_of (key_of fields.DemandBids) c.members)
-          b.0 h refl b.1;
+      bids = bids_named periods _ (key_of fields.DemandBids) c.members
+          (value_under (key_of fields.DemandBids) c.members) b.0 h refl b.1;
     })
 
 abbrev units_in : Market → AllUnits

@@ -18,7 +18,7 @@ pub use Rattle.std.proofs.lemmas.Bool.{ltb-false, eqb-true}
 pub use Rattle.uc_case.specs.Cases.{whole, AllUnits, HorizonNeeds}
 unfoldable pub use Rattle.uc_case.specs.Cases.{units, thermal, renewable, bid, bids, all_units, horizon, needs}
 unfoldable pub use Rattle.uc_case.specs.Cases.{keyed_case, case_of}
-pub use Rattle.uc_file.specs.Files.{reading_of, of_value}
+pub use Rattle.uc_text.specs.Files.{reading_of, of_value}
 pub use Rattle.uc_field.specs.Forms.{Read, at_item, items, Keys, keys, key, key_or_none, under, part, decimal}
 unfoldable pub use Rattle.uc_field.specs.Forms.{amount, cost, time_within, flag, few, full}
 pub use Rattle.uc_field.specs.Kept.{AreLags, ArePoints, AreBlocks, IsPointList}
@@ -34,17 +34,17 @@ unfoldable pub use Rattle.uc_case.specs.Tables.{thermal_unit, renewable_unit}
 unfoldable pub use Rattle.uc_field.specs.Lists.{lag_in, point_in, block_in, window_items, window}
 unfoldable pub use Rattle.uc_case.specs.Tables.{bid_unit, unit_lists}
 unfoldable pub use Rattle.uc_case.specs.Tables.{keyed_unit, keyed_renewable}
-pub use Rattle.uc_file.specs.Words.{position, last_is, need, refuse}
-unfoldable pub use Rattle.uc_file.specs.Words.{each}
+pub use Rattle.uc_text.specs.Words.{position, last_is, need, refuse}
+unfoldable pub use Rattle.uc_text.specs.Words.{each}
 pub use Rattle.uc_field.specs.declared.fault.Site.{Site}
 pub use Rattle.plain_lists.specs.Ranges.{IsFrom}
 pub use Rattle.uc_model.specs.Data.{ThermalUnit, RenewableUnit, BidUnit, NamedThermalUnit, NamedRenewableUnit}
 pub use Rattle.uc_model.specs.Data.{NamedBidUnit, Market}
-pub use Rattle.uc_num.specs.Rounding.{rounded}
+pub use Rattle.text_tokens.specs.Rounding.{rounded}
 pub use Rattle.uc_model.specs.Limits.{IsPower, IsThermalUnit, IsRenewableUnit, IsLag, IsPoint, IsBlock, IsBlockList}
 pub use Rattle.uc_model.specs.Limits.{IsCost, IsStartCost, IsBidUnit, IsMarket}
 pub use Rattle.uc_model.specs.declared.units.Block.{Block}
 pub use Rattle.uc_model.specs.declared.units.Lag.{Lag}
 pub use Rattle.uc_model.specs.declared.units.Point.{Point}
-pub use Rattle.text_tree.specs.Parts.{Pair}
-pub use Rattle.text_tree.specs.Values.{Value}
+pub use Rattle.uc_text.specs.Pairs.{Pair}
+pub use Rattle.uc_text.specs.Values.{Value}

@@ -15,7 +15,7 @@ use Rattle.std.specs.List.{prefix_len}
 use Rattle.std.specs.Prelude.{◌==◌, ◌||◌}
 use Rattle.text_tokens.specs.Grammar.{Token, open_list, close_list, open_object, close_object, comma, colon, word, bad}
 use Rattle.text_tokens.specs.Scalars.{null, flag, number, long_number, text}
-use Rattle.uc_num.specs.declared.Decimal.{Decimal}
+use Rattle.text_tokens.specs.declared.decimal.Decimal.{Decimal}
 unfoldable use Rattle.text_tokens.specs.Strings.{string_of, string_at}
 use Rattle.text_tokens.specs.Strings.{Piece, string_token}
 unfoldable use Rattle.text_tokens.specs.Tokens.{token_at, tokens_from}

@@ -8,8 +8,8 @@ use Rattle.law_cases.proofs.Common.{Site, item_at, field_at, units, site, of_val
 use Rattle.uc_model.specs.declared.kinds.Kind.{Kind}
 use Rattle.uc_model.specs.declared.limits.TheConstants.{MOST_OF_A_KIND}
 use Rattle.uc_field.specs.Forms.{list, object}
-use Rattle.uc_file.specs.Magnitudes.{most_power, most_cost}
-use Rattle.uc_file.specs.Words.{◌>>=◌, ◌>>◌}
+use Rattle.uc_text.specs.Magnitudes.{most_power, most_cost}
+use Rattle.uc_text.specs.Words.{◌>>=◌, ◌>>◌}
 use Rattle.uc_field.specs.declared.fault.Field.{Field}
 use Rattle.uc_field.proofs.Fits.{not_above, within}
 

@@ -1,8 +1,8 @@
 -- The names in the value of a text are UTF-8.
 use Rattle.law_cases.proofs.Common.{◌≡◌, List, [], ◌∷◌, ◌++◌, Some, subst, AllByRecursion, IsUtf8}
-use Rattle.text_tree.specs.Values.{Value, scalar, list, object, Items, no_items, item, Members, no_members, member}
-use Rattle.text_tree.specs.Parts.{Pair}
-use Rattle.text_tree.specs.Inside.{member_pairs, object_in}
+use Rattle.uc_text.specs.Values.{Value, scalar, list, object, Items, no_items, item, Members, no_members, member}
+use Rattle.uc_text.specs.Pairs.{Pair}
+use Rattle.uc_text.specs.ValueParts.{member_pairs, object_in}
 use Rattle.uc_text.specs.Grammar.{Token, spell, spell_items, spell_more_items, spell_members, spell_more_members}
 use Rattle.law_cases.proofs.Keys.{IsKept}
 

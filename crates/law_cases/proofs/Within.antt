@@ -14,14 +14,14 @@ use Rattle.law_cases.proofs.Common.{output, ramps, past, at_least_one, thermal_u
 use Rattle.law_cases.proofs.Common.{renewable_unit, block, period_blocks, blocks, bid_unit, thermal, renewable, bid}
 use Rattle.law_cases.proofs.Common.{units, bids, case_of, whole, reading_of, IsThermalOf, IsRenewableOf, IsBidOf}
 use Rattle.plain_lists.specs.Sums.{total}
-use Rattle.text_tree.specs.Inside.{list_in}
+use Rattle.uc_text.specs.ValueParts.{list_in}
 use Rattle.uc_text.specs.declared.fault.TextFault.{TextFault}
 use Rattle.uc_model.specs.declared.limits.TheConstants.{MOST_PERIODS, MOST_TIME, MOST_LAGS, MOST_POINTS, MOST_BLOCKS}
 use Rattle.uc_model.specs.declared.limits.TheConstants.{MOST_OF_A_KIND, POWER_LIMIT}
 use Rattle.uc_model.specs.declared.units.Mark.{Mark}
 use Rattle.uc_model.specs.declared.units.Mark.TheVariants.{Free}
 use Rattle.uc_field.specs.Forms.{object}
-use Rattle.uc_file.specs.Magnitudes.{most_power, most_output, most_price}
+use Rattle.uc_text.specs.Magnitudes.{most_power, most_output, most_price}
 use Rattle.uc_case.specs.declared.parts.Output.{Output}
 use Rattle.uc_case.specs.declared.parts.Ramps.{Ramps}
 use Rattle.uc_case.specs.declared.parts.Past.{Past}

@@ -4,7 +4,7 @@ use Rattle.std.specs.List.{All}
 use Rattle.uc_model.specs.Data.{Market, unit_names}
 use Rattle.uc_model.specs.Limits.{IsMarket}
 use Rattle.uc_case.specs.CaseFiles.{IsCaseOf}
-use Rattle.uc_file.specs.Files.{FileFault}
+use Rattle.uc_text.specs.Files.{FileFault}
 use Rattle.uc_field.specs.declared.fault.FieldFault.{FieldFault}
 
 -- a file is a case, or has a first fault

@@ -1,7 +1,7 @@
 //! Laws over the cases that files are: each is the contract of a function that does nothing.
 ghost use Rattle.law_cases.specs.Laws.{SomeCase, CasesAreWithin, CaseNamesAreUtf8};
 
-use uc_file::laws::one_file;
+use uc_text::file_laws::one_file;
 
 /// Each list of bytes is a case or has a first fault.
 pub fn case_or_fault()

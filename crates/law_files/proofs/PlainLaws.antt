@@ -4,9 +4,9 @@ use Rattle.std.proofs.Common.{length, Option, Ok, Err, Some, None, refl, sym, ap
 use Rattle.std.proofs.lemmas.Bool.{ltb-true, ltb-false}
 use Rattle.std.proofs.lemmas.Int.{ints}
 use Rattle.std.specs.Prelude.{ℤ, pos, negsuc, neg_ℤ, unsigned_abs, nat_lt, int_lt}
-use Rattle.uc_file.specs.Magnitudes.{most_price}
-use Rattle.uc_file.specs.Words.{position}
-unfoldable use Rattle.uc_file.specs.Words.{each}
+use Rattle.uc_text.specs.Magnitudes.{most_price}
+use Rattle.uc_text.specs.Words.{position}
+unfoldable use Rattle.uc_text.specs.Words.{each}
 use Rattle.uc_model.specs.Data.{PriceLists}
 use Rattle.uc_prices.specs.Faults.{item_at}
 use Rattle.uc_prices.specs.declared.fault.PriceSite.{PriceSite}
@@ -18,12 +18,12 @@ use Rattle.std.proofs.lemmas.Option.{none-some, same_Some}
 use Rattle.std.specs.Prelude.{not, ◌==◌, codes}
 use Rattle.plain_lists.specs.Ranges.{IsFrom}
 use Rattle.uc_model.specs.Limits.{price_limit}
-use Rattle.text_tree.specs.Parts.{Pair}
-use Rattle.text_tree.specs.Values.{Value}
-use Rattle.uc_num.specs.Rounding.{RoundsToNearest, rounded}
-use Rattle.uc_num.specs.declared.Decimal.{Decimal}
-use Rattle.uc_file.specs.Inside.{number_in, list_in, object_in, value_of}
-use Rattle.uc_file.specs.Words.{◌>>=◌, ◌>>◌, refuse, need}
+use Rattle.uc_text.specs.Pairs.{Pair}
+use Rattle.uc_text.specs.Values.{Value}
+use Rattle.text_tokens.specs.Rounding.{RoundsToNearest, rounded}
+use Rattle.text_tokens.specs.declared.decimal.Decimal.{Decimal}
+use Rattle.uc_text.specs.Inside.{number_in, list_in, object_in, value_under}
+use Rattle.uc_text.specs.Words.{◌>>=◌, ◌>>◌, refuse, need}
 use Rattle.uc_prices.specs.Faults.{site, fault}
 use Rattle.law_files.specs.Plain.{ReadsAs, IsItem, IsTooLarge, IsItemFault, IsItemAt, IsPriceList, IsListFault}
 use Rattle.law_files.specs.Plain.{AreEnergyPrices, AreReservePrices, IsEnergyFault, IsReserveFault, HasFault}
@@ -244,9 +244,9 @@ module _ (nearest : RoundsToNearest) where
 -- ---- the value
 
 joined : (periods : ℕ) (v : Value) (ms : List Pair) → object_in v ≡ Some ms → (es rs : Read (List ℤ))
-    → Reads Energy (AreEnergyPrices periods (value_of (codes "energy") ms)) (IsEnergyFault periods (value_of
+    → Reads Energy (AreEnergyPrices periods (value_under (codes "energy") ms)) (IsEnergyFault periods (value_under
     (codes "energy") ms)) es
-    → Reads Reserve (AreReservePrices periods (value_of (codes "reserve") ms)) (IsReserveFault periods (value_of
+    → Reads Reserve (AreReservePrices periods (value_under (codes "reserve") ms)) (IsReserveFault periods (value_under
     (codes "reserve") ms)) rs
     → IsReadAs periods v (es >>= (λ e. rs >>= (λ r. let π : PriceLists = record { energy = e; reserve = r } in Ok π)))
 joined periods v ms is (Ok e) (Ok r) a b = record { members = ms; is_object = is; energy = a; reserve = b }
@@ -258,14 +258,14 @@ joined periods v ms is (Err f) rs a b = subst (λ (field : PriceField). HasFault
 module _ (nearest : RoundsToNearest) where
   value_by : (periods : ℕ) (v : Value) (o : Option (List Pair)) → object_in v ≡ o
       → IsReadAs periods v (need (fault (site Whole) WrongKind) o
-      >>= (λ ms. energy periods (value_of (codes "energy") ms)
-      >>= (λ e. reserve periods (value_of (codes "reserve") ms)
+      >>= (λ ms. energy periods (value_under (codes "energy") ms)
+      >>= (λ e. reserve periods (value_under (codes "reserve") ms)
       >>= (λ r. let π : PriceLists = record { energy = e; reserve = r } in Ok π))))
   value_by periods v None e = (e, refl, refl)
   value_by periods v (Some ms) e =
-      joined periods v ms e (energy periods (value_of (codes "energy") ms)) (reserve periods (value_of
-      (codes "reserve") ms)) (energy_is nearest periods (value_of (codes "energy") ms))
-      (reserve_is nearest periods (value_of (codes "reserve") ms))
+      joined periods v ms e (energy periods (value_under (codes "energy") ms)) (reserve periods (value_under
+      (codes "reserve") ms)) (energy_is nearest periods (value_under (codes "energy") ms))
+      (reserve_is nearest periods (value_under (codes "reserve") ms))
 
   pub is_read_as : (periods : ℕ) (v : Value) → IsReadAs periods v (prices_in periods v)
   unfolding prices_in

@@ -2,8 +2,8 @@
 -- function.
 use Rattle.std.specs.Prelude.{ℕ, List, Result}
 use Rattle.uc_model.specs.Data.{PriceLists}
-use Rattle.text_tree.specs.Values.{Value}
-use Rattle.uc_file.specs.Files.{FileFault}
+use Rattle.uc_text.specs.Values.{Value}
+use Rattle.uc_text.specs.Files.{FileFault}
 use Rattle.uc_prices.specs.PricesFiles.{IsPricesOf}
 use Rattle.uc_prices.specs.Tables.{prices_in}
 use Rattle.uc_prices.specs.declared.fault.PriceFault.{PriceFault}

@@ -5,11 +5,11 @@ use Rattle.std.specs.Prelude.{replicate, codes, slice_get, Option, Some, None, R
 use Rattle.plain_lists.specs.Ranges.{IsFrom}
 use Rattle.uc_model.specs.Data.{PriceLists}
 use Rattle.uc_model.specs.Limits.{price_limit}
-use Rattle.uc_num.specs.declared.Decimal.{Decimal}
-use Rattle.uc_num.specs.Rounding.{IsRounded}
-use Rattle.text_tree.specs.Parts.{Pair}
-use Rattle.text_tree.specs.Values.{Value}
-use Rattle.uc_file.specs.Inside.{number_in, list_in, object_in, value_of}
+use Rattle.text_tokens.specs.declared.decimal.Decimal.{Decimal}
+use Rattle.text_tokens.specs.Rounding.{IsRounded}
+use Rattle.uc_text.specs.Pairs.{Pair}
+use Rattle.uc_text.specs.Values.{Value}
+use Rattle.uc_text.specs.Inside.{number_in, list_in, object_in, value_under}
 use Rattle.uc_prices.specs.Kept.{IsPriceOf}
 use Rattle.uc_prices.specs.declared.fault.PriceCode.{PriceCode}
 use Rattle.uc_prices.specs.declared.fault.PriceCode.TheVariants.{Missing, WrongKind, Negative}
@@ -104,19 +104,19 @@ IsReserveFault periods (Some v) code item = IsListFault periods Reserve v code i
 pub record HasPrices (periods : ℕ) (v : Value) (π : PriceLists) : Type 0 where
   pub members : List Pair
   pub is_object : object_in v ≡ Some members
-  pub energy : AreEnergyPrices periods (value_of (codes "energy") members) π.energy
-  pub reserve : AreReservePrices periods (value_of (codes "reserve") members) π.reserve
+  pub energy : AreEnergyPrices periods (value_under (codes "energy") members) π.energy
+  pub reserve : AreReservePrices periods (value_under (codes "reserve") members) π.reserve
 
 -- the fault is that of the outermost value, or else of the energy prices, or else of the reserve
 abbrev pub HasFault : ℕ → Value → PriceField → PriceCode → ℕ → Type 0
 HasFault periods v Whole code item = (object_in v ≡ None) × (code ≡ WrongKind) × (item ≡ 0)
 HasFault periods v Energy code item =
     (members : List Pair) × (object_in v ≡ Some members)
-    × IsEnergyFault periods (value_of (codes "energy") members) code item
+    × IsEnergyFault periods (value_under (codes "energy") members) code item
 HasFault periods v Reserve code item =
     (members : List Pair) × (object_in v ≡ Some members)
-    × ((xs : List ℤ) × AreEnergyPrices periods (value_of (codes "energy") members) xs)
-    × IsReserveFault periods (value_of (codes "reserve") members) code item
+    × ((xs : List ℤ) × AreEnergyPrices periods (value_under (codes "energy") members) xs)
+    × IsReserveFault periods (value_under (codes "reserve") members) code item
 
 -- what is read of the value
 abbrev pub IsReadAs : ℕ → Value → Result PriceLists PriceFault → Type 0

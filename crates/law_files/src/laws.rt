@@ -1,8 +1,8 @@
 //! Laws over the definitions: each is the contract of a function that does nothing.
 ghost use Rattle.law_files.specs.Laws.{SomePrices, ValuesAreReadAs};
 
-use uc_file::laws::one_file;
-use uc_num::laws::rounds_to_nearest;
+use text_tokens::decimal_laws::rounds_to_nearest;
+use uc_text::file_laws::one_file;
 
 /// Each list of bytes has prices over so many periods or a first fault.
 pub fn prices_or_fault()

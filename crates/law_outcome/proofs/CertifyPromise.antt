@@ -8,15 +8,15 @@ use Rattle.law_outcome.proofs.Common.{with_mixture, HasText, Ends, status_at, Ov
 use Rattle.law_outcome.proofs.Common.{HasNoMixture, WordsHaveSizes, words_of, BytesAreThoseRead, SettlementsAddUp}
 use Rattle.law_outcome.proofs.Common.{mixture_fault, MixtureLists, IsMixture}
 use Rattle.law_bounds.specs.Laws.{ArePriced}
-use Rattle.uc_file.specs.Files.{text, value}
+use Rattle.uc_text.specs.Files.{text, value}
 use Rattle.law_cases.specs.Laws.{CasesAreWithin}
 use Rattle.uc_mixture.specs.Laws.{OneMixture}
 use Rattle.uc_mixture.specs.MixtureFiles.{IsMixtureFileOf}
 use Rattle.uc_prices.specs.Laws.{OnePrices, HaveForm, PricesHaveForm}
 use Rattle.law_bounds.specs.MixtureLaws.{MixtureBoundHolds, MixtureBoundReachesCentre, PaymentsReachLeast}
-use Rattle.mixture_bound.specs.Laws.{MixturesBreakNoRule}
-use Rattle.mixture_bound.specs.MixtureBound.{mixture_bound}
-use Rattle.mixture_bound.specs.Refused.{EntryRefusal, mixture_refusals}
+use Rattle.gap_proof.specs.MixtureLaws.{MixturesBreakNoRule}
+use Rattle.gap_proof.specs.MixtureBound.{mixture_bound}
+use Rattle.gap_proof.specs.MixtureRefused.{EntryRefusal, mixture_refusals}
 use Rattle.report_form.specs.CertificateText.{certificate_text}
 use Rattle.hull_report.specs.CertifiedText.{certificate_of}
 use Rattle.law_outcome.proofs.OutcomeLaws.{status_within, same_fault, bytes_fault, priced_fault, mixture_file_fault}

@@ -8,7 +8,7 @@ pub use Rattle.std.proofs.lemmas.Option.{slice_get_within, same_Some}
 pub use Rattle.std.specs.List.{All}
 pub use Rattle.std.specs.Prelude.{nat_lt, if◌then◌else◌, IsTrue, IfSome, IsSome, ◌≤ℤ◌}
 pub use Rattle.hull_input.specs.Planned.{PlannedCase}
-pub use Rattle.fixed_price.specs.FixedCase.{fixed_market}
+pub use Rattle.price_settle.specs.FixedCase.{fixed_market}
 pub use Rattle.law_bounds.specs.Laws.{RunPricesAreWithin}
 pub use Rattle.hull_input.specs.Files.{IsReadOf, AreReads, Reads, case_and_schedule, with_report, with_prices}
 pub use Rattle.hull_input.specs.Files.{with_mixture}
@@ -38,10 +38,10 @@ pub use Rattle.hull_report.specs.declared.fault.TopFault.TheVariants.{TooBig, Re
 pub use Rattle.hull_report.specs.declared.fault.TopFault.TheVariants.{CaseText, CaseField, PlanText, PlanShape, Work}
 pub use Rattle.hull_report.specs.declared.fault.TopFault.TheVariants.{Memory, PricesText, PricesValue, MixtureText}
 pub use Rattle.hull_report.specs.declared.fault.TopFault.TheVariants.{MixtureShare, MixtureRule, Report as report_fault}
-pub use Rattle.hull_words.specs.Asked.{Asked, AuditAsked, audit, BoundAsked, bound, PriceAsked, fixed, price, check}
-pub use Rattle.hull_words.specs.Asked.{try, settle, certify, CheckAsked, SettleAsked, CertifyAsked}
-pub use Rattle.hull_words.specs.Words.{words_of}
-pub use Rattle.hull_words.specs.declared.fault.WordFault.{WordFault}
+pub use Rattle.hull_io.specs.Asked.{Asked, AuditAsked, audit, BoundAsked, bound, PriceAsked, fixed, price, check}
+pub use Rattle.hull_io.specs.Asked.{try, settle, certify, CheckAsked, SettleAsked, CertifyAsked}
+pub use Rattle.hull_io.specs.Words.{words_of}
+pub use Rattle.hull_io.specs.declared.word_fault.WordFault.{WordFault}
 pub use Rattle.report_form.specs.Laws.{IsFlatLine, HasForm, TextDeterminesReport}
 pub use Rattle.report_form.specs.ReportText.{UnitLine, Report, report_text}
 pub use Rattle.law_outcome.specs.Laws.{OverReads, IsAuditPromised, IsWrongAt, IsAuditRefused, IsBoundPromised}
@@ -51,9 +51,9 @@ pub use Rattle.law_outcome.specs.Laws.{IsCertifyPromised, HasNoMixture, AskForPr
 pub use Rattle.law_outcome.specs.Laws.{TellTheSame}
 pub use Rattle.uc_model.specs.Data.{Market, PriceLists, Schedule, unit_count}
 pub use Rattle.price_settle.specs.Laws.{OneSettlement, SettlementsAddUp}
-pub use Rattle.uplift_settle.specs.Settled.{Settled, IsSettledAt}
+pub use Rattle.plan_check.specs.Settled.{Settled, IsSettledAt}
 pub use Rattle.uc_model.specs.Laws.{NothingIsPaidBack}
 pub use Rattle.uc_model.specs.PriceRule.{Proposal, chosen_number}
 pub use Rattle.plain_lists.specs.Sums.{int_at}
 pub use Rattle.uc_model.specs.Systems.{plan_cost, IsFeasiblePlan}
-pub use Rattle.mixture_bound.specs.Mixtures.{MixtureLists, IsMixture}
+pub use Rattle.gap_proof.specs.Mixtures.{MixtureLists, IsMixture}

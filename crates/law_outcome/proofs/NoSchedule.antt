@@ -7,7 +7,7 @@ use Rattle.law_outcome.proofs.Common.{price, try, bound, fixed, audit, settle, c
 use Rattle.law_outcome.proofs.Common.{done_whole, Cut, Refused, Reads, PlannedCase, bytes_of, Then, IsBytes, IsCaseFile}
 use Rattle.law_outcome.proofs.Common.{IsPlanFile, IsChecked, IsInput, status_of, fault_line, command_for, AreReads}
 use Rattle.law_outcome.proofs.Common.{Ends, status_at, OverReads}
-use Rattle.uc_file.specs.Files.{text, value}
+use Rattle.uc_text.specs.Files.{text, value}
 use Rattle.uc_case.specs.Laws.{OneCase}
 use Rattle.law_cases.specs.Laws.{CasesAreWithin}
 use Rattle.uc_model.specs.Laws.{RefusalsAreExact}

@@ -19,9 +19,9 @@ use Rattle.uc_case.specs.Laws.{OneCase}
 use Rattle.uc_plan.specs.Laws.{OnePlan}
 use Rattle.uc_prices.specs.Laws.{OnePrices}
 use Rattle.uc_mixture.specs.Laws.{OneMixture}
-use Rattle.mixture_bound.specs.MixtureBound.{mixture_bound}
-use Rattle.mixture_bound.specs.Refused.{EntryRefusal, entry_refusal_of}
-use Rattle.mixture_bound.specs.declared.check.EntryFault.{EntryFault}
+use Rattle.gap_proof.specs.MixtureBound.{mixture_bound}
+use Rattle.gap_proof.specs.MixtureRefused.{EntryRefusal, entry_refusal_of}
+use Rattle.gap_proof.specs.declared.mixture_check.EntryFault.{EntryFault}
 use Rattle.report_form.specs.CertificateText.{certificate_text}
 use Rattle.hull_report.specs.CertifiedText.{certificate_of}
 use Rattle.report_form.specs.SettlementText.{settlement_text}

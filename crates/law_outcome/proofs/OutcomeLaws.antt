@@ -16,7 +16,7 @@ use Rattle.law_outcome.proofs.Common.{IsWithinWork, IsReportFile, IsAudit, Plann
 use Rattle.law_outcome.proofs.Common.{IsReadOf, AreReads, HasText, Ends, status_at, is_refusal, IsWritten, IsUnread}
 use Rattle.law_outcome.proofs.Common.{HasCause, IsQuiet, IsDecided, word_fault, FollowsFromWords, IsPromised}
 use Rattle.law_outcome.proofs.Common.{BytesAreThoseRead, ◌≢◌}
-use Rattle.uc_file.specs.Files.{text, value}
+use Rattle.uc_text.specs.Files.{text, value}
 use Rattle.uc_case.specs.CaseFiles.{IsCaseOf}
 use Rattle.uc_plan.specs.PlanFiles.{IsPlanOf}
 use Rattle.hull_report.specs.declared.fault.FileKind.{FileKind}

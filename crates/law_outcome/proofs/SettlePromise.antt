@@ -7,7 +7,7 @@ use Rattle.law_outcome.proofs.Common.{Done, Cut, Refused, Reads, bytes_of, IsInp
 use Rattle.law_outcome.proofs.Common.{Market, PlannedCase, command_for, IsReadOf, AreReads, with_prices, HasText, Ends}
 use Rattle.law_outcome.proofs.Common.{status_at, OverReads, IsSettlePromised, HasNoPrices, Command, pos}
 use Rattle.law_outcome.proofs.Common.{BytesAreThoseRead, SettlementsAddUp, prices_fault}
-use Rattle.uc_file.specs.Files.{text, value}
+use Rattle.uc_text.specs.Files.{text, value}
 use Rattle.uc_prices.specs.PricesFiles.{IsPricesOf}
 use Rattle.report_form.specs.SettlementText.{settlement_text}
 use Rattle.hull_report.specs.SettledText.{settlement_of}

@@ -12,27 +12,27 @@ use Rattle.uc_model.specs.Limits.{IsMarket}
 use Rattle.uc_model.specs.PriceRule.{Proposal}
 use Rattle.uc_model.specs.Systems.{IsFeasiblePlan, plan_cost, IsDualValue, IsSettled}
 use Rattle.uc_case.specs.CaseFiles.{IsCaseOf}
-use Rattle.uc_file.specs.Files.{FileFault}
+use Rattle.uc_text.specs.Files.{FileFault}
 use Rattle.uc_plan.specs.PlanFiles.{IsPlanOf}
 use Rattle.uc_prices.specs.PricesFiles.{IsPricesOf}
 use Rattle.uc_prices.specs.declared.fault.PriceFault.{PriceFault}
 use Rattle.uc_mixture.specs.MixtureFiles.{IsMixtureFileOf}
 use Rattle.uc_mixture.specs.declared.fault.ShareFault.{ShareFault}
-use Rattle.mixture_bound.specs.Laws.{least_paid}
-use Rattle.mixture_bound.specs.Mixtures.{MixtureLists, IsMixture}
-use Rattle.mixture_bound.specs.MixtureBound.{mixture_bound}
-use Rattle.mixture_bound.specs.Refused.{mixture_refusals, entry_refusal_of}
-use Rattle.mixture_bound.specs.declared.check.EntryFault.{EntryFault}
+use Rattle.gap_proof.specs.MixtureLaws.{least_paid}
+use Rattle.gap_proof.specs.Mixtures.{MixtureLists, IsMixture}
+use Rattle.gap_proof.specs.MixtureBound.{mixture_bound}
+use Rattle.gap_proof.specs.MixtureRefused.{mixture_refusals, entry_refusal_of}
+use Rattle.gap_proof.specs.declared.mixture_check.EntryFault.{EntryFault}
 use Rattle.price_settle.specs.Laws.{AddsUp}
-use Rattle.uplift_settle.specs.Settled.{Settled, IsSettledAt}
+use Rattle.plan_check.specs.Settled.{Settled, IsSettledAt}
 use Rattle.hull_io.specs.Edge.{Rose, Gains, FallsShort}
 use Rattle.plain_lists.specs.declared.limits.TheConstants.{MOST_BYTES}
-use Rattle.hull_words.specs.Asked.{Asked, CheckAsked, PriceAsked, TryAsked, BoundAsked, AuditAsked}
-use Rattle.hull_words.specs.Asked.{SettleAsked, CertifyAsked, check, price, try, bound, fixed, audit}
-use Rattle.hull_words.specs.Asked.{settle, certify}
-use Rattle.hull_words.specs.Words.{words_of}
-use Rattle.hull_words.specs.declared.fault.WordFault.{WordFault}
-use Rattle.fixed_price.specs.FixedCase.{fixed_market}
+use Rattle.hull_io.specs.Asked.{Asked, CheckAsked, PriceAsked, TryAsked, BoundAsked, AuditAsked}
+use Rattle.hull_io.specs.Asked.{SettleAsked, CertifyAsked, check, price, try, bound, fixed, audit}
+use Rattle.hull_io.specs.Asked.{settle, certify}
+use Rattle.hull_io.specs.Words.{words_of}
+use Rattle.hull_io.specs.declared.word_fault.WordFault.{WordFault}
+use Rattle.price_settle.specs.FixedCase.{fixed_market}
 use Rattle.gap_proof.specs.Candidates.{RowRange, IsFirstLeast}
 use Rattle.law_bounds.specs.Laws.{IsBoundRound, IsInBox}
 use Rattle.hull_report.specs.AuditText.{audit_text}

@@ -7,6 +7,7 @@ ghost use Rattle.law_outcome.specs.Laws.{BoundsHold, BothGapsAreMadeUp, AuditsHo
 ghost use Rattle.law_outcome.specs.Laws.{SettlementsHold, CertificatesHold, WorkersAreFree};
 ghost use Rattle.law_outcome.specs.Laws.{RunsPrintTheSame};
 
+use gap_proof::mixture_laws::mixtures_break_no_rule;
 use hull_command::laws::words_have_sizes;
 use hull_input::laws::{bytes_are_those_read, report_bytes_are_its_text};
 use hull_io::{Shelf, Sink};
@@ -16,7 +17,6 @@ use law_bounds::laws::{
     run_prices_are_within,
 };
 use law_cases::laws::cases_are_within;
-use mixture_bound::laws::mixtures_break_no_rule;
 use plan_check::laws::refusals_are_exact;
 use price_settle::laws::{one_settlement, settlements_add_up};
 use report_form::laws::text_determines_the_report;

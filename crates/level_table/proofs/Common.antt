@@ -10,8 +10,8 @@ pub use Rattle.std.specs.Int.{int_max, int_min, w64}
 pub use Rattle.std.specs.Prelude.{ℤ, pos, ◌+ℤ◌, ◌≤ℤ◌, ◌<ℤ◌, ◌⊎◌, slice_get, MatchOption, ◌-ℤ◌, ◌*ℤ◌, FitsSigned, neg_ℤ}
 pub use Rattle.level_table.proofs.LimitLaws.{within_limits}
 pub use Rattle.level_table.specs.Values.{table, IsLeastOf, AreWithin}
-pub use Rattle.shape_law.specs.Curve.{curve_value, reserve_term}
-pub use Rattle.shape_law.specs.Effect.{IsLeast, IsLeastIn, IsSum, IsWindow, Reaches, IsCurveSum}
-pub use Rattle.shape_law.proofs.Lookup.{IsAt-from_value, value-from_is_at, value_of-at, value_of-below, power_split}
-pub use Rattle.shape_law.proofs.Lookup.{slice_get_past, same_some, value-from_index, slice_get_in}
-pub use Rattle.shape_law.specs.Table.{value_of, HasNone, IsWithinLimits, IsPlace}
+pub use Rattle.slope_list.specs.Curve.{curve_value, reserve_term}
+pub use Rattle.slope_list.specs.Effect.{IsLeast, IsLeastIn, IsSum, IsWindow, Reaches, IsCurveSum}
+pub use Rattle.slope_list.proofs.Lookup.{IsAt-from_value, value-from_is_at, value_of-at, value_of-below, power_split}
+pub use Rattle.slope_list.proofs.Lookup.{slice_get_past, same_some, value-from_index, slice_get_in}
+pub use Rattle.slope_list.specs.Table.{value_of, HasNone, IsWithinLimits, IsPlace}

@@ -1,6 +1,6 @@
 -- The values of a function, which stand from its first power on.
 use Rattle.std.specs.Prelude.{◌≡◌, ℕ, ◌<◌, ℤ, pos, ◌+ℤ◌, ◌≤ℤ◌, ◌<ℤ◌, List, length, slice_index_or}
-use Rattle.shape_law.specs.Table.{Table, IsPlace, IsAmount}
+use Rattle.slope_list.specs.Table.{Table, IsPlace, IsAmount}
 
 abbrev pub table : ℤ → List ℤ → Table
 table lo values = record { lo = lo; values = values }

@@ -9,12 +9,14 @@ ghost use Rattle.std.specs.Prelude.{Some, refl, []};
 ghost use Rattle.std.specs.Int.{int_max};
 ghost use Rattle.test_shapes.proofs.HomeLaws.{uncounted};
 ghost use Rattle.level_table.specs.Values.{table, AreWithin, IsLeastOf};
-ghost use Rattle.shape_law.specs.Curve.{curve_value, reserve_term, IsLimitedCurve};
-ghost use Rattle.shape_law.specs.Effect.{IsWindow, IsLeastIn, Reaches};
-ghost use Rattle.shape_law.proofs.Lookup.{within_by_index};
-ghost use Rattle.shape_law.specs.Table.{value_of, IsConvexList, IsPlace, IsAmount, HasNone};
+ghost use Rattle.slope_list.specs.Curve.{curve_value, reserve_term, IsLimitedCurve};
+ghost use Rattle.slope_list.specs.Effect.{IsWindow, IsLeastIn, Reaches};
+ghost use Rattle.slope_list.proofs.Lookup.{within_by_index};
+ghost use Rattle.slope_list.specs.Table.{value_of, IsConvexList, IsPlace, IsAmount, HasNone};
 
-use shape_law::laws::{curve_places_are_limited, effects_keep_convexity, effects_keep_limits};
+use slope_list::shape_laws::{
+    curve_places_are_limited, effects_keep_convexity, effects_keep_limits,
+};
 use std::alloc::{AllocError, Global};
 use test_curves::curve_at;
 use test_shapes::{Cells, Heap, Shape};

@@ -4,13 +4,15 @@ pub use Rattle.plan_check.proofs.ChangeLaws.{min_down-none}
 pub use Rattle.plan_check.proofs.CostSums.{product_fits, worth_fits, worth_is, worth_within, bought_within, left_fits}
 pub use Rattle.plan_check.proofs.CostSums.{rest_is, rest_within, power_spans, cond_at_most}
 pub use Rattle.plan_check.proofs.FindLaws.{flat_map_on, flat_map_first, over_units_first, over_units_none}
-pub use Rattle.plan_check.proofs.FindLaws.{NoneBefore-more, all_renewable_is, NoneBefore, thermal_rules, all_thermal_is}
-pub use Rattle.plan_check.proofs.FindLaws.{all_bids_is}
+pub use Rattle.plan_check.proofs.FindLaws.{NoneBefore-more, all_renewable_is, NoneBefore, thermal_rules}
+pub use Rattle.plan_check.proofs.FindLaws.{all_thermal_is, all_bids_is}
 pub use Rattle.plan_check.proofs.PlanLaws.{first_thermal, first_renewable, first_bid, first_balance, found_last}
 pub use Rattle.plan_check.proofs.PlanLaws.{HasLengths, refusals_are_exact}
 pub use Rattle.plan_check.proofs.RunLaws.{stops_from, false_true}
 pub use Rattle.plan_check.proofs.ShapeLaws.{covers}
 pub use Rattle.plan_check.proofs.SystemLaws.{sum_over-more, sum_over-whole, plan_cost_is, total_power_is}
-pub use Rattle.plan_check.proofs.SystemLaws.{total_map-append, unbalanced}
-pub use Rattle.plan_check.proofs.SystemLaws.{total_reserve_is}
+pub use Rattle.plan_check.proofs.SystemLaws.{total_map-append, unbalanced, total_reserve_is}
 pub use Rattle.plan_check.proofs.ToldLaws.{told_none, told_first, some_first}
+pub use Rattle.plan_check.proofs.Bounds.{best_within, scheduled_within}
+pub use Rattle.plan_check.proofs.Paid.{flat_paid, bid_paid, thermal_paid}
+pub use Rattle.plan_check.proofs.Units.{earned_length, earned_item}

@@ -1,3 +1,5 @@
+pub mod Earned
+pub mod Settled
 pub mod Checks
 pub mod Costs
 pub mod States

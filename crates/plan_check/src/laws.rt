@@ -1,4 +1,4 @@
-//! Laws over the definitions: each is the contract of a function that does nothing.
+//! A law of refusals: the contract of a function that does nothing.
 ghost use Rattle.uc_model.specs.Laws.{RefusalsAreExact};
 
 /// A plan with a schedule over the horizon for each unit, where only thermal units are off or give

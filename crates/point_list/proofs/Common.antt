@@ -7,4 +7,4 @@ pub use Rattle.std.specs.Prelude.{ℤ, pos, ◌*ℤ◌, FitsSigned}
 pub use Rattle.point_list.specs.Breaks.{IsCountedList}
 pub use Rattle.ramp_step.specs.Knots.{knot}
 pub use Rattle.ramp_step.specs.declared.breakpoint.Knot.{Knot}
-pub use Rattle.shape_law.specs.Curve.{curve_value, reserve_term}
+pub use Rattle.slope_list.specs.Curve.{curve_value, reserve_term}

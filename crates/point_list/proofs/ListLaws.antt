@@ -2,9 +2,9 @@
 use Rattle.point_list.proofs.Common.{◌≡◌, ℕ, ◌^◌, ◌<◌, ◌≤◌, List, ◌++◌, length, take, drop, Option, sym, ◌∙◌, subst}
 use Rattle.point_list.proofs.Common.{arith, ℤ, pos, Knot, knot, IsCountedList}
 use Rattle.std.proofs.lemmas.List.{length-append, length-take-le, get_or-take, get_or_append_left}
-use Rattle.shape_law.specs.Effect.{IsSame, IsSum, IsCurveSum, CanAddCurve, IsWindow}
-use Rattle.shape_law.specs.Laws.{SumIsOfValues, CurveSumIsOfValues, WindowIsOfValues}
-use Rattle.shape_law.specs.Table.{CanAdd}
+use Rattle.slope_list.specs.Effect.{IsSame, IsSum, IsCurveSum, CanAddCurve, IsWindow}
+use Rattle.slope_list.specs.ShapeLaws.{SumIsOfValues, CurveSumIsOfValues, WindowIsOfValues}
+use Rattle.slope_list.specs.Table.{CanAdd}
 use Rattle.ramp_step.specs.Laws.{SameKnotsAreSame}
 use Rattle.ramp_step.specs.Tables.{table_of, function_of, AreBreaks}
 

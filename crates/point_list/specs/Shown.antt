@@ -1,6 +1,6 @@
 -- What is seen of a shape of breakpoints.
 use Rattle.std.specs.Prelude.{◌≡◌, ℕ, length}
-use Rattle.shape_law.specs.Table.{Table}
+use Rattle.slope_list.specs.Table.{Table}
 use Rattle.point_list.specs.declared.breaks.Breaks.{Breaks}
 use Rattle.ramp_step.specs.Tables.{function_of}
 

@@ -30,10 +30,10 @@ impl Breaks {
 
 impl Shape for Breaks {
     ghost use Rattle.std.specs.Prelude.{◌+◌, OnOk, OnErr, pos, ◌*ℤ◌, ◌≤ℤ◌};
-    ghost use Rattle.shape_law.specs.Curve.{curve_value, reserve_term, IsLimitedCurve};
-    ghost use Rattle.shape_law.specs.Effect.{IsPoint, IsSame, IsSum, IsCurveSum, CanAddCurve};
-    ghost use Rattle.shape_law.specs.Effect.{IsWindow};
-    ghost use Rattle.shape_law.specs.Table.{IsPlace, IsAmount, CanAdd};
+    ghost use Rattle.slope_list.specs.Curve.{curve_value, reserve_term, IsLimitedCurve};
+    ghost use Rattle.slope_list.specs.Effect.{IsPoint, IsSame, IsSum, IsCurveSum, CanAddCurve};
+    ghost use Rattle.slope_list.specs.Effect.{IsWindow};
+    ghost use Rattle.slope_list.specs.Table.{IsPlace, IsAmount, CanAdd};
     ghost use Rattle.point_list.specs.Shown.{count_of, shown, IsUntouched};
 
     type Home = Heap;

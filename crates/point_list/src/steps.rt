@@ -1,10 +1,10 @@
 //! Steps on a whole list, which take the room that they need first.
 ghost use Rattle.std.specs.Prelude.{◌≡◌, ℕ, ℤ, ◌+◌, ◌^◌, ◌<◌, ◌≤◌, pos, ◌*ℤ◌, ◌≤ℤ◌, length};
 ghost use Rattle.std.specs.Prelude.{IfOk, OnOk, OnErr, MatchOption};
-ghost use Rattle.shape_law.specs.Curve.{curve_value, reserve_term, IsLimitedCurve};
-ghost use Rattle.shape_law.specs.Effect.{IsPoint, IsSum, IsCurveSum, CanAddCurve, IsWindow};
-ghost use Rattle.shape_law.specs.Effect.{IsLeast, IsLeastIn};
-ghost use Rattle.shape_law.specs.Table.{value_of, IsPlace, IsAmount, IsEmpty, HasNone, CanAdd};
+ghost use Rattle.slope_list.specs.Curve.{curve_value, reserve_term, IsLimitedCurve};
+ghost use Rattle.slope_list.specs.Effect.{IsPoint, IsSum, IsCurveSum, CanAddCurve, IsWindow};
+ghost use Rattle.slope_list.specs.Effect.{IsLeast, IsLeastIn};
+ghost use Rattle.slope_list.specs.Table.{value_of, IsPlace, IsAmount, IsEmpty, HasNone, CanAdd};
 ghost use Rattle.ramp_step.specs.Knots.{knot};
 ghost use Rattle.ramp_step.specs.Tables.{function_of};
 ghost use Rattle.point_list.specs.Breaks.{IsCountedList};
@@ -16,7 +16,7 @@ use ramp_step::law::knots_decide;
 use ramp_step::line::line_step;
 use ramp_step::read;
 use ramp_step::window::window_step;
-use shape_law::laws::effects_are_of_values;
+use slope_list::shape_laws::effects_are_of_values;
 use std::alloc::{AllocError, Global};
 use uc_model::units::Curve;
 

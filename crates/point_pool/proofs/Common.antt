@@ -19,6 +19,6 @@ pub use Rattle.ramp_step.specs.Laws.{SameKnotsAreSame, IsRun, TurnIsLeast, Neare
 pub use Rattle.ramp_step.specs.Tables.{IsBreakList, table_of, function_of, AreBreaks}
 pub use Rattle.ramp_step.specs.declared.breakpoint.Knot.{Knot}
 pub use Rattle.test_shapes.specs.Cell.{IsAmong, Frame, AreDistinct}
-pub use Rattle.shape_law.specs.Curve.{curve_value, reserve_term}
-pub use Rattle.shape_law.specs.Effect.{IsSame, IsSum, IsCurveSum, CanAddCurve, IsWindow, IsLeast, IsLeastIn, IsPoint}
-pub use Rattle.shape_law.specs.Table.{CanAdd, value_of, HasNone}
+pub use Rattle.slope_list.specs.Curve.{curve_value, reserve_term}
+pub use Rattle.slope_list.specs.Effect.{IsSame, IsSum, IsCurveSum, CanAddCurve, IsWindow, IsLeast, IsLeastIn, IsPoint}
+pub use Rattle.slope_list.specs.Table.{CanAdd, value_of, HasNone}

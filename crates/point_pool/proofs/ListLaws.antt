@@ -3,7 +3,7 @@ use Rattle.point_pool.proofs.Common.{◌≡◌, ℕ, ◌<◌, ◌≤◌, List, �
 use Rattle.point_pool.proofs.Common.{pos, length-take-le, get_or-take, take_at, IsSame, IsSum, IsCurveSum, CanAddCurve}
 use Rattle.point_pool.proofs.Common.{IsWindow, CanAdd, Knot, knot, SameKnotsAreSame, table_of, function_of, AreBreaks}
 use Rattle.point_pool.proofs.Common.{IsBreakList}
-use Rattle.shape_law.specs.Laws.{SumIsOfValues, CurveSumIsOfValues, WindowIsOfValues}
+use Rattle.slope_list.specs.ShapeLaws.{SumIsOfValues, CurveSumIsOfValues, WindowIsOfValues}
 
 nothing : Knot
 nothing = record { at = pos 0; value = pos 0 }

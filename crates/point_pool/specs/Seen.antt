@@ -1,7 +1,7 @@
 -- What is seen of a pool and of a shape in it.
 use Rattle.std.specs.Prelude.{◌≡◌, ℕ, List, map}
 use Rattle.test_shapes.specs.Cell.{Cell, AreSameAt}
-use Rattle.shape_law.specs.Table.{Table}
+use Rattle.slope_list.specs.Table.{Table}
 use Rattle.ramp_step.specs.declared.breakpoint.Knot.{Knot}
 use Rattle.point_pool.specs.declared.pool.Pool.{Pool}
 use Rattle.point_pool.specs.declared.pooled.Pooled.{Pooled}

@@ -1,6 +1,6 @@
 //! What is read off a list of cells, cell by cell.
 ghost use Rattle.std.specs.Prelude.{◌≡◌, ◌<◌};
-ghost use Rattle.shape_law.specs.Table.{value_of};
+ghost use Rattle.slope_list.specs.Table.{value_of};
 ghost use Rattle.ramp_step.specs.Tables.{function_of, IsBreakList};
 ghost use Rattle.point_pool.specs.Turn.{IsAtTurn};
 ghost use Rattle.point_pool.specs.Walk.{walk, knots_at, AreUsed};

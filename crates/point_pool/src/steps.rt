@@ -1,8 +1,8 @@
 //! Steps on the first breakpoints of the work list.
 ghost use Rattle.std.specs.Prelude.{◌≡◌, ℤ, ◌+◌, ◌<◌, ◌≤◌, pos, ◌*ℤ◌, ◌≤ℤ◌, length, take};
-ghost use Rattle.shape_law.specs.Curve.{curve_value, reserve_term, IsLimitedCurve};
-ghost use Rattle.shape_law.specs.Effect.{IsSum, IsCurveSum, CanAddCurve, IsWindow};
-ghost use Rattle.shape_law.specs.Table.{IsPlace, CanAdd};
+ghost use Rattle.slope_list.specs.Curve.{curve_value, reserve_term, IsLimitedCurve};
+ghost use Rattle.slope_list.specs.Effect.{IsSum, IsCurveSum, CanAddCurve, IsWindow};
+ghost use Rattle.slope_list.specs.Table.{IsPlace, CanAdd};
 ghost use Rattle.ramp_step.specs.Tables.{function_of, IsBreakList};
 
 use crate::pool::Pool;
@@ -11,7 +11,7 @@ use ramp_step::kink::kink_step;
 use ramp_step::law::knots_decide;
 use ramp_step::line::line_step;
 use ramp_step::window::window_step;
-use shape_law::laws::effects_are_of_values;
+use slope_list::shape_laws::effects_are_of_values;
 use uc_model::units::Curve;
 
 impl Pool {

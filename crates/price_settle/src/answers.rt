@@ -3,17 +3,16 @@ ghost use Rattle.std.specs.Prelude.{◌≡◌, ◌≤◌, [], length, map};
 ghost use Rattle.uc_model.specs.Data.{unit_count};
 ghost use Rattle.uc_model.specs.PlainCases.{market_of};
 ghost use Rattle.uc_model.specs.PlainUnits.{prices_of, schedule_of};
-ghost use Rattle.case_answers.specs.Tops.{HasSchedules, IsBenchOver};
+ghost use Rattle.unit_program.specs.Tops.{HasSchedules, IsBenchOver};
 ghost use Rattle.price_settle.specs.Answers.{AreAnswersTo};
 ghost use Rattle.price_settle.specs.Rooms.{AreOver};
 
 use crate::room::Spare;
-use case_answers::answer_at;
-use case_answers::laws::units_can_answer;
 use plain_lists::lists::Numbers;
 use uc_model::cases::Case;
 use uc_model::units::{Prices, ResponseList};
-use unit_program::Bench;
+use unit_program::case_laws::units_can_answer;
+use unit_program::{Bench, answer_at};
 
 /// Leaves the least best response of each unit and bid at the prices in `responses`, and what it
 /// earns in money in `earned`, in the order of the units' numbers. Both lists have room for them.

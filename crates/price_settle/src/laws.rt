@@ -1,4 +1,4 @@
-//! Laws over the definitions: each is the contract of a function that does nothing of its own.
+//! Laws of settlements: each is the contract of a function that does nothing of its own.
 ghost use Rattle.price_settle.specs.Laws.{OneSettlement, SettlementsAddUp};
 ghost use Rattle.price_settle.specs.Laws.{SettlementsHaveEachUnit};
 

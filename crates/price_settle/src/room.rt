@@ -5,11 +5,11 @@ ghost use Rattle.uc_model.specs.PlainCases.{market_of};
 ghost use Rattle.price_settle.specs.Rooms.{HasRoom, AreOver};
 
 use plain_lists::lists::{Amounts, Numbers};
+use plan_check::Settlement;
 use std::alloc::{AllocError, Global};
 use uc_model::cases::Case;
 use uc_model::units::{Answered, ResponseList};
 use unit_program::LastAnswers;
-use uplift_settle::Settlement;
 
 /// What answers are written over, one for each unit, and no last answers to begin with.
 #[derive(Drop)]

@@ -3,13 +3,14 @@ ghost use Rattle.std.specs.Prelude.{◌≡◌, length, IfOk};
 ghost use Rattle.uc_model.specs.PlainCases.{market_of, schedules_of};
 ghost use Rattle.uc_model.specs.PlainUnits.{prices_of};
 ghost use Rattle.uc_model.specs.Systems.{IsFeasiblePlan};
-ghost use Rattle.case_answers.specs.Tops.{IsBenchOver};
-ghost use Rattle.uplift_settle.specs.Settled.{IsSettledAt, settled_of};
+ghost use Rattle.unit_program.specs.Tops.{IsBenchOver};
+ghost use Rattle.plan_check.specs.Settled.{IsSettledAt, settled_of};
 ghost use Rattle.price_settle.specs.Rooms.{HasRoom};
 
 use crate::answers::answer_all;
 use crate::room::Room;
 use crate::totals::{earned_sum, total_all};
+use plan_check::{Settled, settle};
 use price_space::dual_value;
 use std::alloc::{AllocError, Global};
 use uc_model::cases::{Case, Plan, Row};
@@ -19,7 +20,6 @@ use uc_model::laws::{
 };
 use uc_model::units::Prices;
 use unit_program::Bench;
-use uplift_settle::{Settled, settle};
 
 // The settlement in room that is there.
 fn settle_in(case: &Case, plan: &Plan, prices: Prices, bench: &mut Bench, room: Room) -> Settled

@@ -26,10 +26,10 @@ pub use Rattle.ramp_step.specs.Tables.{table_of, AreWithinLimits, AreBreaks}
 pub use Rattle.ramp_step.specs.Values.{line_at, value_upto, values_of}
 pub use Rattle.ramp_step.specs.Window.{IsLeastInReach, IsTurn, IsWindow, AreSpread, AreWindow}
 pub use Rattle.ramp_step.specs.declared.breakpoint.Knot.{Knot}
-pub use Rattle.shape_law.specs.Curve.{rise_at, curve_value, end_of, reserve_term, IsLimitedCurve}
-pub use Rattle.shape_law.specs.Effect.{CanAddCurve, IsSame, IsPoint, IsSum, IsCurveSum, IsLeast, IsLeastIn}
-pub use Rattle.shape_law.specs.Table.{IsAmount, IsWithinLimits, value_of, Table, IsConvexList, IsEmpty, HasNone}
-pub use Rattle.shape_law.specs.Table.{IsPlace}
+pub use Rattle.slope_list.specs.Curve.{rise_at, curve_value, end_of, reserve_term, IsLimitedCurve}
+pub use Rattle.slope_list.specs.Effect.{CanAddCurve, IsSame, IsPoint, IsSum, IsCurveSum, IsLeast, IsLeastIn}
+pub use Rattle.slope_list.specs.Table.{IsAmount, IsWithinLimits, value_of, Table, IsConvexList, IsEmpty, HasNone}
+pub use Rattle.slope_list.specs.Table.{IsPlace}
 pub use Rattle.plain_lists.proofs.IntLaws.{mul-add, mul-mono_of, mul-sub}
 pub use Rattle.plain_lists.specs.Sums.{clamped}
 pub use Rattle.uc_model.specs.declared.units.Block.{Block}

@@ -5,7 +5,7 @@ use Rattle.ramp_step.proofs.Common.{option_map, ints, by_lt_z, Block, Curve, ris
 use Rattle.ramp_step.proofs.Common.{IsWithinLimits, IsAmount, Knot, power, StandFor, IsShape, IsInside, CanAdd}
 use Rattle.ramp_step.proofs.Common.{rise_over, curve_term, block_end, AreBlocks, AreLimitedBlocks, IsOver, table_of}
 use Rattle.uc_model.specs.Limits.{IsCurve}
-use Rattle.shape_law.specs.Curve as curves
+use Rattle.slope_list.specs.Curve as curves
 use Rattle.ramp_step.proofs.KnotLaws.{is_inside}
 use Rattle.ramp_step.proofs.CurveLaws.{rise_left, rise_right, rise_zero, block_end_far}
 use Rattle.ramp_step.proofs.ShapeLaws.{value_inside}

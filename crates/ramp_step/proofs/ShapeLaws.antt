@@ -5,9 +5,9 @@ use Rattle.ramp_step.proofs.Common.{HasNone, IsWithinLimits, IsAmount, IsPoint, 
 use Rattle.ramp_step.proofs.Common.{Knot, power, height, StandFor, IsShape, IsInside, HaveSameEnds, CanAdd, IsWindow}
 use Rattle.ramp_step.proofs.Common.{IsLowest, HasNoPower, IsInsideWithin, IsValueAt, values_of, table_of}
 use Rattle.ramp_step.proofs.Common.{AreWithinLimits}
-use Rattle.shape_law.specs.Table as tables
-use Rattle.shape_law.specs.Effect as effects
-use Rattle.shape_law.proofs.Lookup.{IsAt-from_value, value-from_is_at}
+use Rattle.slope_list.specs.Table as tables
+use Rattle.slope_list.specs.Effect as effects
+use Rattle.slope_list.proofs.Lookup.{IsAt-from_value, value-from_is_at}
 use Rattle.ramp_step.proofs.ValueLaws.{values_of_is}
 use Rattle.ramp_step.proofs.KnotLaws.{inside_same, is_inside, HaveSameEnds-back}
 

@@ -2,8 +2,8 @@
 use Rattle.ramp_step.proofs.Common.{ℕ, ◌<◌, List, ℤ, ◌+ℤ◌, ◌-ℤ◌, Curve, curve_value, IsLimitedCurve, IsSum, IsCurveSum}
 use Rattle.ramp_step.proofs.Common.{CanAddCurve, Knot, curve_term, StandFor, HaveSameEnds, CanAdd, table_of, AreBreaks}
 use Rattle.ramp_step.proofs.Common.{AreWithinLimits}
-use Rattle.shape_law.specs.Laws.{SumIsWithinLimits, CurveSumIsWithinLimits}
-use Rattle.shape_law.specs.Table as tables
+use Rattle.slope_list.specs.ShapeLaws.{SumIsWithinLimits, CurveSumIsWithinLimits}
+use Rattle.slope_list.specs.Table as tables
 use Rattle.ramp_step.proofs.RunLaws.{shape_of, AreBreaks-from}
 use Rattle.ramp_step.proofs.CurveShapeLaws.{curve_on}
 use Rattle.ramp_step.proofs.ShapeLaws.{IsSum-from_knots, IsCurveSum-from_knots, CanAdd-from_table}

@@ -6,7 +6,7 @@ use Rattle.std.specs.Int.{int_min, int_max}
 use Rattle.ramp_step.specs.declared.breakpoint.Knot.{Knot}
 use Rattle.uc_model.specs.declared.units.Block.{Block}
 use Rattle.ramp_step.specs.Knots.{power, StandFor, IsInside, HaveSameEnds, IsWide}
-use Rattle.shape_law.specs.Table.{IsAmount}
+use Rattle.slope_list.specs.Table.{IsAmount}
 
 -- the rise from power s to power x over blocks that begin at s
 abbrev pub rise_over : List Block → ℤ → ℤ → ℤ

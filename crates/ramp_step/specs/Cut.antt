@@ -2,7 +2,7 @@
 use Rattle.std.specs.Prelude.{◌≡◌, ℕ, ◌+◌, ◌<◌, ◌≤◌, ℤ, ◌+ℤ◌, ◌-ℤ◌, ◌*ℤ◌, ◌≤ℤ◌, ◌<ℤ◌, ◌⊎◌, List}
 use Rattle.ramp_step.specs.declared.breakpoint.Knot.{Knot}
 use Rattle.ramp_step.specs.Knots.{knot, power, height, StandFor, IsInside, HaveSameEnds, IsFar}
-use Rattle.shape_law.specs.Table.{IsAmount}
+use Rattle.slope_list.specs.Table.{IsAmount}
 
 -- a line with a whole slope goes from knot a to knot b, and x is a power on it
 pub record IsOnLine (a b : Knot) (x : ℤ) : Type 0 where

@@ -2,7 +2,7 @@
 use Rattle.std.specs.Prelude.{◌≡◌, ℕ, ◌+◌, ◌-◌, ◌<◌, ℤ, pos, negsuc, ◌+ℤ◌, ◌-ℤ◌, ◌≤ℤ◌, ◌<ℤ◌, List}
 use Rattle.std.specs.Prelude.{slice_index_or}
 use Rattle.ramp_step.specs.declared.breakpoint.Knot.{Knot}
-use Rattle.shape_law.specs.Table.{IsPlace, IsAmount}
+use Rattle.slope_list.specs.Table.{IsPlace, IsAmount}
 
 -- the knot at an index
 abbrev pub knot : List Knot → ℕ → Knot

@@ -3,8 +3,8 @@
 use Rattle.std.specs.Prelude.{◌≡◌, ℕ, ◌+◌, ◌-◌, ◌<◌, ◌≤◌, ℤ, pos, ◌+ℤ◌, ◌-ℤ◌, ◌≤ℤ◌, ◌<ℤ◌, List}
 use Rattle.std.specs.Prelude.{MatchOption}
 use Rattle.std.specs.Int.{int_min, int_max}
-use Rattle.shape_law.specs.Effect.{IsPoint, IsSame, IsLeast, IsLeastIn}
-use Rattle.shape_law.specs.Table.{value_of, HasNone, IsPlace, IsAmount}
+use Rattle.slope_list.specs.Effect.{IsPoint, IsSame, IsLeast, IsLeastIn}
+use Rattle.slope_list.specs.Table.{value_of, HasNone, IsPlace, IsAmount}
 use Rattle.ramp_step.specs.declared.breakpoint.Knot.{Knot}
 use Rattle.ramp_step.specs.Knots.{IsConvex, knot, power, height}
 use Rattle.ramp_step.specs.Tables.{table_of, AreBreaks}

@@ -3,7 +3,7 @@ use Rattle.std.specs.Prelude.{◌≡◌, ℕ, ◌<◌, ◌≤◌, ℤ, ◌+ℤ�
 use Rattle.ramp_step.specs.declared.breakpoint.Knot.{Knot}
 use Rattle.uc_model.specs.declared.units.Block.{Block}
 use Rattle.ramp_step.specs.Knots.{knot, power, height, IsWide}
-use Rattle.shape_law.specs.Table.{IsAmount}
+use Rattle.slope_list.specs.Table.{IsAmount}
 use Rattle.ramp_step.specs.Curve.{block_end, curve_term}
 
 -- the value at x on the line that has this level at a start

@@ -1,6 +1,6 @@
 -- The function on a whole interval that knots stand for (this project's profile).
 use Rattle.std.specs.Prelude.{ℕ, ◌<◌, List, length}
-use Rattle.shape_law.specs.Table.{Table, IsConvex, IsPlace, IsAmount, IsWithinLimits}
+use Rattle.slope_list.specs.Table.{Table, IsConvex, IsPlace, IsAmount, IsWithinLimits}
 use Rattle.ramp_step.specs.declared.breakpoint.Knot.{Knot}
 use Rattle.ramp_step.specs.Breakpoints.{AreBreakpoints}
 use Rattle.ramp_step.specs.Knots.{power, height}

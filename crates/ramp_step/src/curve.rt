@@ -4,9 +4,9 @@ ghost use Rattle.std.specs.Prelude.{◌<ℤ◌, length};
 ghost use Rattle.ramp_step.specs.Knots.{power, height, StandFor, IsShape, HaveSameEnds};
 ghost use Rattle.ramp_step.specs.Knots.{CanAdd, AreRaised, knot, IsWide};
 ghost use Rattle.ramp_step.specs.Tables.{table_of, AreBreaks};
-ghost use Rattle.shape_law.specs.Curve.{curve_value, IsLimitedCurve};
-ghost use Rattle.shape_law.specs.Effect.{IsCurveSum, CanAddCurve};
-ghost use Rattle.shape_law.specs.Table.{IsAmount};
+ghost use Rattle.slope_list.specs.Curve.{curve_value, IsLimitedCurve};
+ghost use Rattle.slope_list.specs.Effect.{IsCurveSum, CanAddCurve};
+ghost use Rattle.slope_list.specs.Table.{IsAmount};
 ghost use Rattle.ramp_step.specs.Cut.{IsLimited};
 ghost use Rattle.ramp_step.specs.Curve.{block_end, IsOver, AreBlocks, AreLimitedBlocks, IsRefined};
 ghost use Rattle.ramp_step.specs.Curve.{curve_term};
@@ -16,7 +16,7 @@ use crate::breakpoint::Knot;
 use crate::cutting::drop_from;
 use crate::spaced::{advance, fill, open};
 use crate::splitting::along;
-use shape_law::laws::effects_keep_limits;
+use slope_list::shape_laws::effects_keep_limits;
 use uc_model::units::{Block, Curve};
 
 /// Puts a knot in wherever a block ends between two knots.

@@ -2,13 +2,13 @@
 ghost use Rattle.std.specs.Prelude.{◌≡◌, ℕ, ℤ, ◌+◌, ◌^◌, ◌-◌, ◌<◌, ◌≤◌, pos, ◌+ℤ◌, ◌≤ℤ◌, length};
 ghost use Rattle.ramp_step.specs.Knots.{power, height, IsFar, AreRaised, knot};
 ghost use Rattle.ramp_step.specs.Tables.{table_of, AreBreaks};
-ghost use Rattle.shape_law.specs.Curve.{reserve_term};
-ghost use Rattle.shape_law.specs.Effect.{IsSum};
-ghost use Rattle.shape_law.specs.Table.{IsPlace, IsAmount, CanAdd};
+ghost use Rattle.slope_list.specs.Curve.{reserve_term};
+ghost use Rattle.slope_list.specs.Effect.{IsSum};
+ghost use Rattle.slope_list.specs.Table.{IsPlace, IsAmount, CanAdd};
 
 use crate::breakpoint::Knot;
 use crate::splitting::split;
-use shape_law::laws::effects_keep_limits;
+use slope_list::shape_laws::effects_keep_limits;
 
 /// The knot after the worth of the reserve is taken off.
 fn lowered(knot: Knot, mu: i64, cap: i64, up: i64) -> Knot

@@ -2,11 +2,11 @@
 ghost use Rattle.std.specs.Prelude.{◌≡◌, ℕ, ℤ, ◌+◌, ◌<◌, ◌≤◌, ◌+ℤ◌, ◌*ℤ◌, length};
 ghost use Rattle.ramp_step.specs.Knots.{power, height, AreRaised, knot};
 ghost use Rattle.ramp_step.specs.Tables.{table_of, AreBreaks};
-ghost use Rattle.shape_law.specs.Effect.{IsSum};
-ghost use Rattle.shape_law.specs.Table.{IsPlace, IsAmount, CanAdd};
+ghost use Rattle.slope_list.specs.Effect.{IsSum};
+ghost use Rattle.slope_list.specs.Table.{IsPlace, IsAmount, CanAdd};
 
 use crate::breakpoint::Knot;
-use shape_law::laws::effects_keep_limits;
+use slope_list::shape_laws::effects_keep_limits;
 
 /// The knot after a line is added.
 fn on_line(knot: Knot, slope: i64) -> Knot

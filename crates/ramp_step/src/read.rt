@@ -1,8 +1,8 @@
 //! Values and least values.
 ghost use Rattle.std.specs.Prelude.{◌≡◌, ◌≤◌, length, MatchOption};
 ghost use Rattle.ramp_step.specs.Tables.{table_of, AreBreaks};
-ghost use Rattle.shape_law.specs.Effect.{IsLeast, IsLeastIn};
-ghost use Rattle.shape_law.specs.Table.{value_of, IsEmpty, HasNone};
+ghost use Rattle.slope_list.specs.Effect.{IsLeast, IsLeastIn};
+ghost use Rattle.slope_list.specs.Table.{value_of, IsEmpty, HasNone};
 
 use crate::breakpoint::Knot;
 use crate::splitting::{below, between};

@@ -2,7 +2,7 @@
 ghost use Rattle.std.specs.Prelude.{◌≡◌, ℤ, ◌+◌, ◌-◌, ◌<◌, ◌≤◌, pos, ◌+ℤ◌, ◌*ℤ◌, ◌≤ℤ◌, ◌<ℤ◌};
 ghost use Rattle.std.specs.Prelude.{length};
 ghost use Rattle.ramp_step.specs.Knots.{power, IsShape, knot};
-ghost use Rattle.shape_law.specs.Table.{IsAmount};
+ghost use Rattle.slope_list.specs.Table.{IsAmount};
 ghost use Rattle.ramp_step.specs.Cut.{IsOnLine, IsBetween, AreWithin, IsInserted, IsSplit};
 ghost use Rattle.ramp_step.specs.Cut.{IsLimited, AreBelow};
 

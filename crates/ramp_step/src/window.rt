@@ -3,14 +3,14 @@ ghost use Rattle.std.specs.Prelude.{◌≡◌, ℕ, ℤ, ◌+◌, ◌^◌, ◌-�
 ghost use Rattle.std.specs.Prelude.{length};
 ghost use Rattle.ramp_step.specs.Knots.{power, height, IsShape, knot};
 ghost use Rattle.ramp_step.specs.Tables.{table_of, AreBreaks};
-ghost use Rattle.shape_law.specs.Effect.{IsWindow};
-ghost use Rattle.shape_law.specs.Table.{IsPlace, IsAmount};
+ghost use Rattle.slope_list.specs.Effect.{IsWindow};
+ghost use Rattle.slope_list.specs.Table.{IsPlace, IsAmount};
 ghost use Rattle.ramp_step.specs.Cut.{IsLimited};
 ghost use Rattle.ramp_step.specs.Window.{IsTurn, AreSpread, AreWindow};
 
 use crate::breakpoint::Knot;
 use crate::cutting::{cut_above, cut_below};
-use shape_law::laws::effects_keep_limits;
+use slope_list::shape_laws::effects_keep_limits;
 
 /// The knot moved to the right.
 fn later(knot: Knot, by: i64) -> Knot

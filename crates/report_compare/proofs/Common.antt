@@ -15,7 +15,7 @@ pub use Rattle.std.specs.Bool.{Decides}
 pub use Rattle.std.specs.Int.{w128}
 pub use Rattle.std.specs.List.{concat, AllByRecursion, flat_map, list_all, AllZip, range_with_len, All}
 pub use Rattle.std.specs.Prelude.{min, IfOk, IfErr, ◌==◌, nat_le, slice_get, slice_index_or, FitsSigned}
-pub use Rattle.case_answers.specs.Tops.{IsBenchOver}
+pub use Rattle.unit_program.specs.Tops.{IsBenchOver}
 pub use Rattle.right_report.specs.Laws.{OneRun, OneRightReport, RightReportHasForm}
 pub use Rattle.right_report.specs.RightReport.{IsRightReport}
 pub use Rattle.report_compare.specs.Compared.{Differ, DifferBehind, Compares, wrong_from, Judged, AreJudged}

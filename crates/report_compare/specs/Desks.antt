@@ -2,7 +2,7 @@
 use Rattle.std.specs.Prelude.{◌≡◌, ◌+◌, ◌≤◌, length}
 use Rattle.uc_model.specs.Data.{Market, unit_count}
 use Rattle.uc_model.specs.PlainUnits.{schedule_of}
-use Rattle.case_answers.specs.Tops.{IsBenchOver}
+use Rattle.unit_program.specs.Tops.{IsBenchOver}
 use Rattle.report_compare.specs.declared.desk.Desk.{Desk}
 
 -- it suffices for the case

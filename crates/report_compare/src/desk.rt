@@ -1,12 +1,12 @@
 //! The memory of a comparison.
 
 use plain_lists::lists::Numbers;
+use plan_check::Settlement;
 use std::alloc::{AllocError, Global};
 use std::sync::Arc;
 use uc_model::cases::Case;
 use uc_model::units::Answered;
 use unit_program::{Bench, LastAnswers};
-use uplift_settle::Settlement;
 
 /// What a comparison writes to: a bench on which units are answered, begun with their last answers,
 /// their answers one after another, and the money of all units at the chosen prices.
@@ -39,7 +39,7 @@ impl Drop for Desk {
 impl Desk {
     ghost use Rattle.std.specs.Prelude.{IfOk};
     ghost use Rattle.uc_model.specs.PlainCases.{market_of};
-    ghost use Rattle.case_answers.specs.Tops.{IsBenchOver};
+    ghost use Rattle.unit_program.specs.Tops.{IsBenchOver};
     ghost use Rattle.report_compare.specs.Desks.{IsDeskFor};
 
     /// A desk for the case, with a bench that suffices for each of its thermal units.

@@ -13,9 +13,9 @@ ghost use Rattle.report_compare.specs.Heads.{right_opening, right_head};
 
 use crate::lines::{same_amount, same_count};
 use crate::wrong::{WrongLine, all_same};
+use plan_check::Settlement;
 use report_read::Report;
 use uc_model::cases::Case;
-use uplift_settle::Settlement;
 
 // Whether there are so many proposals.
 fn same_length(report: &Report, proposals: usize) -> bool

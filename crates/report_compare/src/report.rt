@@ -9,7 +9,7 @@ ghost use Rattle.uc_model.specs.PlainUnits.{prices_of};
 ghost use Rattle.uc_model.specs.Runs.{IsRun, Fits};
 ghost use Rattle.uc_model.specs.Systems.{IsFeasiblePlan, plan_cost};
 ghost use Rattle.plain_lists.specs.declared.limits.TheConstants.{MOST_PROPOSALS, MOST_UNITS};
-ghost use Rattle.case_answers.specs.Tops.{HasSchedules};
+ghost use Rattle.unit_program.specs.Tops.{HasSchedules};
 ghost use Rattle.right_report.specs.RightReport.{IsRightReport};
 ghost use Rattle.report_read.specs.Bounds.{IsReport, AreInOrder};
 ghost use Rattle.report_read.specs.Plain.{report_of, told_of};
@@ -25,7 +25,7 @@ use crate::parts::{chosen_same, foot_same, head_same};
 use crate::rows::rows_same;
 use crate::units::units_same;
 use crate::wrong::WrongLine;
-use case_answers::earn_all;
+use plan_check::settle;
 use price_space::greatest;
 use report_form::laws::text_determines_the_report;
 use report_read::Report;
@@ -34,7 +34,7 @@ use right_report::laws::{
 };
 use uc_model::cases::{Case, Plan, Row};
 use uc_model::laws::{dual_values_are_within, plan_costs_are_within};
-use uplift_settle::settle;
+use unit_program::earn_all;
 
 // The chosen row, and its place among all rows.
 #[derive(Clone, Copy)]

@@ -7,7 +7,7 @@ ghost use Rattle.uc_model.specs.PlainCases.{market_of};
 ghost use Rattle.uc_model.specs.PlainUnits.{prices_of, schedule_of};
 ghost use Rattle.uc_model.specs.Runs.{Fits};
 ghost use Rattle.plain_lists.specs.Sums.{int_at};
-ghost use Rattle.case_answers.specs.Tops.{HasSchedules};
+ghost use Rattle.unit_program.specs.Tops.{HasSchedules};
 ghost use Rattle.report_form.specs.ReportText.{owed_line};
 ghost use Rattle.report_read.specs.Plain.{told_of};
 ghost use Rattle.report_compare.specs.Compared.{Compares};
@@ -19,14 +19,14 @@ use crate::desk::Desk;
 use crate::due::{Title, title_at};
 use crate::lines::{same_flags, same_name, same_powers};
 use crate::wrong::{WrongLine, all_same};
-use case_answers::answer_at;
-use case_answers::laws::units_can_answer;
 use report_form::report::Owed;
 use report_read::UnitLine;
 use uc_model::cases::Case;
 use uc_model::kinds::Kind;
 use uc_model::laws::one_schedule_is_least;
 use uc_model::units::{Prices, Response};
+use unit_program::answer_at;
+use unit_program::case_laws::units_can_answer;
 
 // Whether the money is what a unit earns and is owed.
 fn same_money(mine: &UnitLine, owed: &Owed) -> bool

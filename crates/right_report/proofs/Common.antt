@@ -23,11 +23,11 @@ pub use Rattle.std.specs.Ordering.{ordering_reverse}
 pub use Rattle.std.specs.declared.cmp.Ordering.{Ordering}
 pub use Rattle.std.specs.declared.cmp.Ordering.TheVariants.{Less, Equal, Greater}
 pub use Rattle.board_core.specs.Setups.{IsSetup}
-pub use Rattle.board_history.specs.Board.{Content, IsLegalHistory, Answer, rules_of, row_of, schedules_in}
-pub use Rattle.board_history.specs.Bounds.{RowsAreWithin, IsRowWithin}
-pub use Rattle.board_history.specs.Calls.{own_rows, has_finished}
-pub use Rattle.board_history.specs.Laws.{FinishedIsRun, FinishedHasRow, AnswersFit, RowsAreMade}
-pub use Rattle.board_history.specs.Rounds.{posts, answer_at, answers, prices_at}
+pub use Rattle.board_store.specs.Board.{Content, IsLegalHistory, Answer, rules_of, row_of, schedules_in}
+pub use Rattle.board_store.specs.Bounds.{RowsAreWithin, IsRowWithin}
+pub use Rattle.board_store.specs.Calls.{own_rows, has_finished}
+pub use Rattle.board_store.specs.Laws.{FinishedIsRun, FinishedHasRow, AnswersFit, RowsAreMade}
+pub use Rattle.board_store.specs.Rounds.{posts, answer_at, answers, prices_at}
 pub use Rattle.right_report.specs.Told.{IsTold}
 pub use Rattle.right_report.specs.Laws.{OneRun, RightReportHasForm, OneIsChosen, OneRightReport}
 pub use Rattle.right_report.specs.Laws.{ReportPaymentsMakeUpTheGap}
@@ -53,5 +53,5 @@ pub use Rattle.uc_model.specs.Schedules.{IsThermalFeasible, IsRenewableFeasible,
 pub use Rattle.plain_lists.specs.Sums.{total, int_at, zip_with}
 pub use Rattle.uc_model.specs.Systems.{worth_of_demand, IsDualValue, plan_cost, IsSettled}
 pub use Rattle.uc_model.specs.declared.cases.Row.{Row}
-pub use Rattle.uplift_settle.specs.declared.settlement.Settlement.{Settlement}
+pub use Rattle.plan_check.specs.declared.settlement.Settlement.{Settlement}
 pub use Rattle.right_report.specs.Existence.{AreFeasible, DualValuesExist, BestResponsesExist, RunsExist}

@@ -3,16 +3,16 @@
 use Rattle.std.specs.Prelude.{◌≡◌, ℕ, suc, ◌+◌, ◌-◌, ◌<◌, ◌≤◌, ℤ, ◌-ℤ◌, true, Some, List, [], ◌∷◌}
 use Rattle.std.specs.Prelude.{map, length, slice_get}
 use Rattle.std.specs.List.{AllZip}
-use Rattle.board_history.specs.Board.{Answer, Content, rules_of, IsLegalHistory}
-use Rattle.board_history.specs.Calls.{own_rows, has_finished}
-use Rattle.board_history.specs.Rounds.{posts, answer_at}
+use Rattle.board_store.specs.Board.{Answer, Content, rules_of, IsLegalHistory}
+use Rattle.board_store.specs.Calls.{own_rows, has_finished}
+use Rattle.board_store.specs.Rounds.{posts, answer_at}
 use Rattle.uc_model.specs.Data.{PriceLists, Schedule, Market, units, unit_count}
 use Rattle.uc_model.specs.Data.{thermal_names, renewable_names, bid_names}
 use Rattle.uc_model.specs.Earnings.{IsTop}
 use Rattle.uc_model.specs.PriceRule.{Proposal, chosen_number}
 use Rattle.plain_lists.specs.Sums.{int_at}
 use Rattle.uc_model.specs.Systems.{IsFeasiblePlan, plan_cost, IsSettled}
-use Rattle.uplift_settle.specs.declared.settlement.Settlement.{Settlement}
+use Rattle.plan_check.specs.declared.settlement.Settlement.{Settlement}
 use Rattle.report_form.specs.ReportText.{UnitLine, Report}
 use Rattle.right_report.specs.RightReport.{IsRightReport}
 

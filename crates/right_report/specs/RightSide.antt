@@ -3,8 +3,8 @@
 -- Pope (2007); the price rule is this project's profile.
 use Rattle.std.specs.Prelude.{◌≡◌, ℕ, ◌-◌, ℤ, ◌+ℤ◌, ◌-ℤ◌, true, Some, List, length, slice_get}
 use Rattle.board_core.specs.Setups.{IsSetup}
-use Rattle.board_history.specs.Board.{Content, IsLegalHistory}
-use Rattle.board_history.specs.Calls.{own_rows, has_finished}
+use Rattle.board_store.specs.Board.{Content, IsLegalHistory}
+use Rattle.board_store.specs.Calls.{own_rows, has_finished}
 use Rattle.uc_model.specs.Data.{PriceLists, Schedule, Market}
 use Rattle.uc_model.specs.PlainUnits.{prices_of}
 use Rattle.uc_model.specs.PriceRule.{Proposal, chosen_number}

@@ -1,12 +1,12 @@
 //! What a run chooses.
 ghost use Rattle.std.specs.Prelude.{◌≡◌, ◌≤◌, ◌-ℤ◌, true, length};
-ghost use Rattle.board_history.specs.Calls.{own_rows, has_finished};
+ghost use Rattle.board_store.specs.Calls.{own_rows, has_finished};
 ghost use Rattle.plain_lists.specs.declared.limits.TheConstants.{MOST_PROPOSALS};
 ghost use Rattle.right_report.specs.RecordReport.{chosen_of, value_of};
 ghost use Rattle.right_report.specs.Told.{IsTold};
 
 use board_core::Closed;
-use board_history::laws::{finished_has_row, finished_is_run, rows_are_within};
+use board_store::laws::{finished_has_row, finished_is_run, rows_are_within};
 use uc_model::laws::plan_costs_are_within;
 
 /// How many proposals a run has, the number from 1 of the chosen one, its dual value in money, and

@@ -8,7 +8,7 @@ ghost use Rattle.right_report.specs.RecordReport.{AnswersAreTops};
 ghost use Rattle.right_report.specs.RightSide.{OneRightSide, SidePaymentsMakeUpTheGap};
 ghost use Rattle.right_report.specs.RightSide.{SettledSidesAreRight};
 
-use board_history::laws::{answers_fit, finished_has_row, finished_is_run, rows_are_made};
+use board_store::laws::{answers_fit, finished_has_row, finished_is_run, rows_are_made};
 use uc_model::laws::{one_schedule_is_least, payments_make_up_the_gap};
 
 /// A right report is such a report as its text determines, so no two have one text.

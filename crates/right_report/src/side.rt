@@ -1,15 +1,15 @@
 //! What is told of one run of `hull fixed`.
 ghost use Rattle.std.specs.Prelude.{◌≡◌, true, length};
-ghost use Rattle.board_history.specs.Calls.{has_finished};
+ghost use Rattle.board_store.specs.Calls.{has_finished};
 ghost use Rattle.uc_model.specs.PlainUnits.{prices_of};
 ghost use Rattle.right_report.specs.RightSide.{TellsChoice};
 
 use crate::choice::choice_of;
 use board_core::Closed;
-use board_history::laws::rows_are_within;
+use board_store::laws::rows_are_within;
 use plain_lists::lists::copy_list;
+use plan_check::Settlement;
 use uc_model::units::Prices;
-use uplift_settle::Settlement;
 
 /// What is told of one run: how many proposals it has, the number from 1 of the chosen one, its
 /// dual value in money and its prices in money for a kilowatt and period, and the settlement of the

@@ -4,7 +4,7 @@ use Rattle.slope_list.proofs.Common.{refl, sym, ap, ◌∙◌, subst, inl, inr, 
 use Rattle.slope_list.proofs.Common.{option_map, ints, by_lt_z, cases_lt, Block, Curve, rise_at, curve_value, end_of}
 use Rattle.slope_list.proofs.Common.{IsLimitedCurve, IsPlace, IsLine, block, width_to, IsInBlock, IsPrice, HasCosts}
 use Rattle.slope_list.proofs.Common.{Span, cost_at}
-use Rattle.slope_piece.proofs.LineLaws.{lt_is, not_lt_is, times_none, times_split, line_step}
+use Rattle.slope_list.proofs.LineLaws.{lt_is, not_lt_is, times_none, times_split, line_step}
 
 pub cost_at_is : (c : Curve) (x v : ℤ) → curve_value c x ≡ Some v → cost_at c x ≡ v
 cost_at_is c x v h = rw h

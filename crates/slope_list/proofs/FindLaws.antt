@@ -4,8 +4,8 @@ use Rattle.slope_list.proofs.Common.{◌<ℤ◌, FitsSigned, w64, ints, Curve, c
 use Rattle.slope_list.proofs.Common.{CanGo, rise_at, block}
 use Rattle.slope_list.proofs.BlockLaws.{rise_to, wide_of, width_to-next, rise_to-next, value_in_block, block_power}
 use Rattle.slope_list.proofs.BlockLaws.{end_of-width, rise_at_end, curve_value_is, width_to-positive}
-use Rattle.slope_piece.proofs.WrapLaws.{coded, IsNear, near_fits, coded_is}
-use Rattle.slope_piece.proofs.LineLaws.{times_none}
+use Rattle.slope_list.proofs.WrapLaws.{coded, IsNear, near_fits, coded_is}
+use Rattle.slope_list.proofs.LineLaws.{times_none}
 
 module _ (c : Curve) (limited : IsLimitedCurve c) (k : ℕ) (inside : k < length c.blocks.items) (from value : ℤ)
     (from_is : from ≡ c.at +ℤ width_to c.blocks.items k) (value_is : value ≡ rise_to c.blocks.items k +ℤ c.value) where

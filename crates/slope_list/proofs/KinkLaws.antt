@@ -5,9 +5,9 @@ use Rattle.slope_list.proofs.Common.{*ℤ_comm, mul-add, mul-sub, mul-mono_of, S
 use Rattle.slope_list.proofs.Common.{Start, Cursor, piece, end_at, last_power, function_of, AreSlopes, IsLine, Curves}
 use Rattle.slope_list.proofs.Common.{kinked, bend_of, IsLowered, IsPlaced, AreSmall, AreWithin, IsGentle, IsSteep}
 use Rattle.slope_list.proofs.Common.{IsValley, parts_from, IsOutput}
-use Rattle.slope_piece.proofs.LineLaws.{lt_is, not_lt_is, times_split, line_step, line_part}
-use Rattle.slope_piece.proofs.CursorLaws.{placed_after, placed_within}
-use Rattle.slope_piece.proofs.PieceLaws.{along_line, along_curves}
+use Rattle.slope_list.proofs.LineLaws.{lt_is, not_lt_is, times_split, line_step, line_part}
+use Rattle.slope_list.proofs.CursorLaws.{placed_after, placed_within}
+use Rattle.slope_list.proofs.PieceLaws.{along_line, along_curves}
 
 -- ---- the term
 

@@ -2,8 +2,8 @@
 use Rattle.slope_list.proofs.Common.{◌≡◌, ap, ◌∙◌, arith, neg_ℤ, ℤ, pos, ◌+ℤ◌, ◌-ℤ◌, ◌*ℤ◌, FitsSigned, w64, int_min}
 use Rattle.slope_list.proofs.Common.{ints, IsFrom, IsOutput, IsCost, Step, IsFairStep}
 use Rattle.slope_list.proofs.BoundLaws.{reserve_within, slope_within}
-use Rattle.slope_piece.proofs.WrapLaws.{coded, IsNear, near_fits, coded_is, output_near, price_near, slope_near}
-use Rattle.slope_piece.proofs.WrapLaws.{most_near}
+use Rattle.slope_list.proofs.WrapLaws.{coded, IsNear, near_fits, coded_is, output_near, price_near, slope_near}
+use Rattle.slope_list.proofs.WrapLaws.{most_near}
 
 module _ (s : Step) (fair : IsFairStep s) (value near x cost m : ℤ)
     (v : IsFrom (neg_ℤ (pos 500000000000000000)) (pos 500000000000000000) value)

@@ -1,5 +1,35 @@
 -- The names from elsewhere that the proofs here cite.
 pub mod Common
+-- shape_laws.rt: a table's value by its offset from the first power
+pub mod Lookup
+-- shape_laws.rt: each effect keeps convexity, whatever the representation
+pub mod ConvexLaws
+-- shape_laws.rt: the sum of a convex function and a curve is convex
+pub mod CurveLaws
+-- shape_laws.rt: each effect keeps powers and values within the limits
+pub mod LimitLaws
+-- shape_laws.rt: each effect fixes the new function, and is that of any function with the same values
+pub mod EffectLaws
+-- lines, their parts, sums and moves
+pub mod LineLaws
+-- pieces and the function that they stand for
+pub mod PieceLaws
+-- a function as a table, and back
+pub mod FunctionLaws
+-- falling and rising parts
+pub mod ValleyLaws
+-- powers among the pieces
+pub mod CursorLaws
+-- the first and the last power
+pub mod RangeLaws
+-- numbers that fit 64 bits
+pub mod WrapLaws
+-- the order of numbers
+pub mod OrderLaws
+-- one function below another one
+pub mod BelowLaws
+-- what is read off pieces
+pub mod ReadLaws
 -- the curve's values block by block
 pub mod BlockLaws
 -- a walk over the blocks of a curve

@@ -1,8 +1,8 @@
 -- A valley as a table, and the window over it.
 use Rattle.slope_list.proofs.Common.{◌≡◌, Some, sym, ap, ◌∙◌, arith, ℤ, pos, ◌+ℤ◌, ◌-ℤ◌, ◌≤ℤ◌, ◌<ℤ◌, int_min, int_max}
 use Rattle.slope_list.proofs.Common.{ints, clamps, by_lt_z, IsWindow, table_on, IsValley, IsBottom, nearest}
-use Rattle.slope_piece.proofs.FunctionLaws.{on_inside, on_back}
-use Rattle.slope_piece.proofs.ValleyLaws.{falls_to, rises_to, valley_least}
+use Rattle.slope_list.proofs.FunctionLaws.{on_inside, on_back}
+use Rattle.slope_list.proofs.ValleyLaws.{falls_to, rises_to, valley_least}
 
 module _ (f : ℤ → ℤ) (a b m : ℤ) (v : IsValley f a b m) where
   falls_below : (x y : ℤ) → a ≤ℤ x → x <ℤ y → y ≤ℤ m → f y <ℤ f x

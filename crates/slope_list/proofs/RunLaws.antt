@@ -3,9 +3,9 @@ use Rattle.slope_list.proofs.Common.{◌≡◌, ◌+◌, ◌<◌, ◌≤◌, sub
 use Rattle.slope_list.proofs.Common.{◌<ℤ◌, int_min, ints, clamps, by_lt_z, Cursor, Run, Window, IsFrom, IsLine}
 use Rattle.slope_list.proofs.Common.{IsLowered, IsGentle, IsPlaced, kinked, last_power, function_of, moved, paid, IsRun}
 use Rattle.slope_list.proofs.Common.{FitsSigned, w64}
-use Rattle.slope_piece.proofs.LineLaws.{line_sum, line_product}
+use Rattle.slope_list.proofs.LineLaws.{line_sum, line_product}
 use Rattle.slope_list.proofs.KinkLaws.{IsLeft, left, left_steep, IsEnd, end_within, end_of_valley}
-use Rattle.slope_piece.proofs.WrapLaws.{coded, coded_is, output_near, coded_add, up_coded, fits_sum}
+use Rattle.slope_list.proofs.WrapLaws.{coded, coded_is, output_near, coded_add, up_coded, fits_sum}
 use Rattle.slope_list.proofs.WindowLaws.{line_falling, line_rising, fewer_bend, fewer_turn}
 
 pub gentle_slope : (w : Window) → IsGentle w.step.slope

@@ -4,8 +4,8 @@ use Rattle.slope_list.proofs.Common.{pos, negsuc, ◌+ℤ◌, ◌-ℤ◌, ◌*�
 use Rattle.slope_list.proofs.Common.{offset_value, IsEmpty, Made, IsLeast, IsTurn}
 use Rattle.std.specs.Option.{option_map}
 use Rattle.uc_model.specs.declared.units.Curve.{Curve}
-use Rattle.shape_law.specs.declared.step.Step.{Step}
-use Rattle.shape_law.specs.Curve.{curve_value, reserve_term}
+use Rattle.slope_list.specs.declared.step_terms.Step.{Step}
+use Rattle.slope_list.specs.Curve.{curve_value, reserve_term}
 use Rattle.slope_list.specs.declared.slopes.Lowest.{Lowest}
 
 -- ---- an empty interval

@@ -7,10 +7,10 @@ use Rattle.slope_list.proofs.Common.{IsCostOf, IsStepped, IsSmall, Table, value_
 use Rattle.slope_list.proofs.Common.{IsAmount, Piece, Start, piece, end_at, last_power, function_of, table_on, table_of}
 use Rattle.slope_list.proofs.Common.{AreSlopes, Stand, kinked, AreSmall, AreWithin, AreGentle, IsValley, nearest, moved}
 use Rattle.slope_list.proofs.Common.{HasCosts, cost_at, paid, stepped, IsTurn}
-use Rattle.slope_piece.proofs.LineLaws.{line_step}
-use Rattle.slope_piece.proofs.PieceLaws.{ends_rise_to, along_line, along_curves, along_from_stand, last_power-take}
-use Rattle.slope_piece.proofs.PieceLaws.{stand-take}
-use Rattle.slope_piece.proofs.FunctionLaws.{on_inside, by_power, on_same}
+use Rattle.slope_list.proofs.LineLaws.{line_step}
+use Rattle.slope_list.proofs.PieceLaws.{ends_rise_to, along_line, along_curves, along_from_stand, last_power-take}
+use Rattle.slope_list.proofs.PieceLaws.{stand-take}
+use Rattle.slope_list.proofs.FunctionLaws.{on_inside, by_power, on_same}
 use Rattle.slope_list.proofs.TableLaws.{IsConvex-from_curves, convex_steps, IsSum-on, IsCurveSum-on}
 use Rattle.slope_list.proofs.BlockLaws.{cost_at_is}
 use Rattle.slope_list.proofs.ReachLaws.{IsBottom-valley, IsWindow-valley}

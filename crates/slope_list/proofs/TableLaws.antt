@@ -3,7 +3,7 @@ use Rattle.slope_list.proofs.Common.{◌≡◌, ◌≤◌, Option, Some, None, s
 use Rattle.slope_list.proofs.Common.{MatchOption, option_map, ints, value_of, IsConvex, IsSum, IsCurveSum, curve_value}
 use Rattle.slope_list.proofs.Common.{ConvexityIsOfPlaces, Curve, HasCosts, with_cost, table_on, Curves}
 use Rattle.slope_list.proofs.BlockLaws.{cost_at_is}
-use Rattle.slope_piece.proofs.FunctionLaws.{on_inside, by_power, on_back}
+use Rattle.slope_list.proofs.FunctionLaws.{on_inside, by_power, on_back}
 
 -- ---- convexity
 

@@ -3,8 +3,8 @@ use Rattle.slope_list.proofs.Common.{◌≡◌, ℕ, suc, ◌+◌, ◌<◌, ◌�
 use Rattle.slope_list.proofs.Common.{ints, Curve, Piece, Cursor, Pen, Run, Way, Window, piece, end_at, IsPlace}
 use Rattle.slope_list.proofs.Common.{IsInBlock, IsDrawn, IsFurther, stepped, IsLine, IsPlaced, last_power, function_of}
 use Rattle.slope_list.proofs.Common.{nearest, paid, runs_from, IsRun}
-use Rattle.slope_piece.proofs.LineLaws.{line_part}
-use Rattle.slope_piece.proofs.PieceLaws.{along_line}
+use Rattle.slope_list.proofs.LineLaws.{line_part}
+use Rattle.slope_list.proofs.PieceLaws.{along_line}
 use Rattle.slope_list.proofs.RunLaws.{cursor_in}
 
 pub before_moved : (x y u d : ℤ) → x ≡ y +ℤ d → x <ℤ (u +ℤ d) → y <ℤ u

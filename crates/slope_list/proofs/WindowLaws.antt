@@ -2,7 +2,7 @@
 use Rattle.slope_list.proofs.Common.{◌≡◌, ◌+◌, ◌<◌, ◌≤◌, refl, sym, ap, ◌∙◌, arith, ℤ, pos, ◌+ℤ◌, ◌-ℤ◌, ◌*ℤ◌, ◌≤ℤ◌}
 use Rattle.slope_list.proofs.Common.{◌<ℤ◌, negsuc, unsigned_abs, ints, clamps, by_lt_z, zero-*ℤ, Step, IsLine, bend_of}
 use Rattle.slope_list.proofs.Common.{nearest, one_before, runs_from, IsFlat}
-use Rattle.slope_piece.proofs.LineLaws.{lt_is, not_lt_is, line_moved, line_same, line_flat}
+use Rattle.slope_list.proofs.LineLaws.{lt_is, not_lt_is, line_moved, line_same, line_flat}
 
 -- ---- lines that move
 

@@ -1,12 +1,12 @@
 -- What a step makes (this project's profile).
 use Rattle.std.specs.Prelude.{ℤ, pos, List, [], take, Option, Some, None}
 use Rattle.uc_model.specs.declared.units.Curve.{Curve}
-use Rattle.shape_law.specs.declared.step.Step.{Step}
-use Rattle.shape_law.specs.Table.{Table}
-use Rattle.slope_piece.specs.declared.piece.Piece.{Piece}
-use Rattle.slope_piece.specs.declared.piece.Start.{Start}
-use Rattle.slope_piece.specs.Pieces.{table_of, AreSlopes}
-use Rattle.slope_piece.specs.Cursors.{AreWithin}
+use Rattle.slope_list.specs.declared.step_terms.Step.{Step}
+use Rattle.slope_list.specs.Table.{Table}
+use Rattle.slope_list.specs.declared.piece.Piece.{Piece}
+use Rattle.slope_list.specs.declared.piece.Start.{Start}
+use Rattle.slope_list.specs.Pieces.{table_of, AreSlopes}
+use Rattle.slope_list.specs.Cursors.{AreWithin}
 use Rattle.slope_list.specs.Drawn.{with_cost}
 use Rattle.slope_list.specs.Window.{paid}
 use Rattle.slope_list.specs.declared.step.Made.{Made}

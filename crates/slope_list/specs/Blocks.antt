@@ -5,7 +5,7 @@ use Rattle.uc_model.specs.declared.units.Block.{Block}
 use Rattle.uc_model.specs.declared.units.Curve.{Curve}
 use Rattle.plain_lists.specs.Ranges.{IsFrom}
 use Rattle.uc_model.specs.Limits.{IsCost}
-use Rattle.shape_law.specs.Curve.{curve_value}
+use Rattle.slope_list.specs.Curve.{curve_value}
 use Rattle.slope_list.specs.declared.blocks.Span.{Span}
 
 -- the block at an index

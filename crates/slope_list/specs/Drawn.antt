@@ -1,10 +1,10 @@
 -- What has been written so far (this project's profile).
 use Rattle.std.specs.Prelude.{◌≡◌, ℤ, pos, ◌+ℤ◌, List, unwrap_or}
 use Rattle.uc_model.specs.declared.units.Curve.{Curve}
-use Rattle.shape_law.specs.Curve.{curve_value}
-use Rattle.slope_piece.specs.declared.piece.Piece.{Piece}
+use Rattle.slope_list.specs.Curve.{curve_value}
+use Rattle.slope_list.specs.declared.piece.Piece.{Piece}
 use Rattle.slope_list.specs.declared.draw.Pen.{Pen}
-use Rattle.slope_piece.specs.Pieces.{end_at, Stand}
+use Rattle.slope_list.specs.Pieces.{end_at, Stand}
 
 -- what the curve costs at a power
 abbrev pub cost_at : Curve → ℤ → ℤ

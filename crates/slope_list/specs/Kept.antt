@@ -1,7 +1,7 @@
 -- What a list of pieces keeps (this project's profile).
 use Rattle.std.specs.Prelude.{ℕ, ◌≤◌, List, length, Option, Some, None}
 use Rattle.std.specs.Option.{ForSome}
-use Rattle.slope_piece.specs.declared.piece.Piece.{Piece}
+use Rattle.slope_list.specs.declared.piece.Piece.{Piece}
 use Rattle.slope_list.specs.declared.step.Made.{Made}
 use Rattle.slope_list.specs.After.{ArePiecesAfter, AreWithinAfter}
 

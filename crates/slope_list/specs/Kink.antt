@@ -6,12 +6,12 @@ use Rattle.std.specs.Int.{int_min}
 use Rattle.plain_lists.specs.Ranges.{IsFrom}
 use Rattle.uc_model.specs.Limits.{IsOutput}
 use Rattle.uc_model.specs.declared.limits.TheConstants.{SPELL_LIMIT}
-use Rattle.shape_law.specs.declared.step.Step.{Step}
-use Rattle.shape_law.specs.Curve.{reserve_term}
-use Rattle.slope_piece.specs.declared.piece.Piece.{Piece}
-use Rattle.slope_piece.specs.declared.piece.Start.{Start}
-use Rattle.slope_piece.specs.declared.cursor.Cursor.{Cursor}
-use Rattle.slope_piece.specs.Pieces.{piece, last_power, function_of}
+use Rattle.slope_list.specs.declared.step_terms.Step.{Step}
+use Rattle.slope_list.specs.Curve.{reserve_term}
+use Rattle.slope_list.specs.declared.piece.Piece.{Piece}
+use Rattle.slope_list.specs.declared.piece.Start.{Start}
+use Rattle.slope_list.specs.declared.cursor.Cursor.{Cursor}
+use Rattle.slope_list.specs.Pieces.{piece, last_power, function_of}
 
 -- the value less the worth of the best reserve
 abbrev pub kinked : Start → List Piece → Step → ℤ → ℤ

@@ -2,7 +2,7 @@
 use Rattle.std.specs.Prelude.{◌≡◌, ◌+◌, ◌≤◌, ℤ, neg_ℤ, ◌+ℤ◌, ◌≤ℤ◌, ◌<ℤ◌}
 use Rattle.uc_model.specs.declared.limits.TheConstants.{POWER_LIMIT}
 use Rattle.plain_lists.specs.Ranges.{IsFrom}
-use Rattle.slope_piece.specs.Pieces.{last_power, function_of, IsLine}
+use Rattle.slope_list.specs.Pieces.{last_power, function_of, IsLine}
 use Rattle.slope_list.specs.declared.run.Run.{Run}
 use Rattle.slope_list.specs.declared.window.Window.{Window}
 use Rattle.slope_list.specs.Kink.{IsSteep}

@@ -1,6 +1,6 @@
 -- What is seen of slopes (this project's profile).
 use Rattle.std.specs.Prelude.{◌≡◌, ℕ, ◌+◌, ◌≤◌, ℤ}
-use Rattle.shape_law.specs.Table.{Table}
+use Rattle.slope_list.specs.Table.{Table}
 use Rattle.slope_list.specs.After.{table_after}
 use Rattle.slope_list.specs.declared.slopes.Slopes.{Slopes}
 use Rattle.slope_list.specs.declared.slopes.Spare.{Spare}

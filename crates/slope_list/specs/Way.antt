@@ -1,8 +1,8 @@
 -- The way over the runs of a step (this project's profile).
 use Rattle.std.specs.Prelude.{◌+◌, ◌≤◌, ℤ, ◌≤ℤ◌, ◌<ℤ◌, List}
 use Rattle.uc_model.specs.declared.units.Curve.{Curve}
-use Rattle.slope_piece.specs.declared.piece.Piece.{Piece}
-use Rattle.slope_piece.specs.Cursors.{IsPlaced}
+use Rattle.slope_list.specs.declared.piece.Piece.{Piece}
+use Rattle.slope_list.specs.Cursors.{IsPlaced}
 use Rattle.slope_list.specs.Blocks.{IsInBlock}
 use Rattle.slope_list.specs.Drawn.{IsDrawn}
 use Rattle.slope_list.specs.declared.window.Window.{Window}

@@ -2,13 +2,13 @@
 -- part moved up (this project's profile).
 use Rattle.std.specs.Prelude.{◌≡◌, ℕ, ◌+◌, ℤ, ◌+ℤ◌, ◌-ℤ◌, ◌*ℤ◌, ◌≤ℤ◌, int_lt, if◌then◌else◌, List}
 use Rattle.std.specs.Int.{int_min, int_max}
-use Rattle.shape_law.specs.declared.step.Step.{Step}
-use Rattle.shape_law.specs.Steps.{IsFairStep}
-use Rattle.slope_piece.specs.declared.piece.Piece.{Piece}
-use Rattle.slope_piece.specs.declared.piece.Start.{Start}
-use Rattle.slope_piece.specs.Pieces.{last_power, AreSlopes}
+use Rattle.slope_list.specs.declared.step_terms.Step.{Step}
+use Rattle.slope_list.specs.Steps.{IsFairStep}
+use Rattle.slope_list.specs.declared.piece.Piece.{Piece}
+use Rattle.slope_list.specs.declared.piece.Start.{Start}
+use Rattle.slope_list.specs.Pieces.{last_power, AreSlopes}
 use Rattle.slope_list.specs.Kink.{kinked, bend_of, AreSmall, AreGentle}
-use Rattle.slope_piece.specs.Cursors.{IsValley}
+use Rattle.slope_list.specs.Cursors.{IsValley}
 
 -- the power in reach of x that is nearest to m
 abbrev pub nearest : ℤ → ℤ → ℤ → ℤ → ℤ
@@ -23,7 +23,7 @@ abbrev pub paid : Start → List Piece → Step → ℤ → ℤ → ℤ
 paid start ps s m x = moved start ps s m x +ℤ s.slope *ℤ x
 
 -- the parts of a step are those of a valley
-pub record IsWindow (ps : List Piece) (start : Start) (s : Step) (m hi : ℤ) : Type 0 where
+pub record IsStepOver (ps : List Piece) (start : Start) (s : Step) (m hi : ℤ) : Type 0 where
   pub slopes : AreSlopes start.first ps
   pub small : AreSmall start ps
   pub gentle : AreGentle ps

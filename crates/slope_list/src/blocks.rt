@@ -1,9 +1,9 @@
 //! The curve of production costs, block by block.
 ghost use Rattle.std.specs.Prelude.{◌≡◌, ◌≤◌, ◌≤ℤ◌, ◌<ℤ◌, length, Some};
-ghost use Rattle.shape_law.specs.Curve.{curve_value, end_of, IsLimitedCurve};
+ghost use Rattle.slope_list.specs.Curve.{curve_value, end_of, IsLimitedCurve};
 ghost use Rattle.slope_list.specs.Blocks.{IsInBlock};
 
-use slope_piece::piece::{Piece, along};
+use crate::piece::{Piece, along};
 use uc_model::units::Curve;
 
 /// A block of the curve.

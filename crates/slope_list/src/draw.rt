@@ -1,14 +1,14 @@
 //! Pieces that are written one after another.
 ghost use Rattle.std.specs.Prelude.{◌≡◌, ℤ, suc, ◌+◌, ◌<◌, ◌≤◌, ◌+ℤ◌, ◌≤ℤ◌, ◌<ℤ◌, length};
-ghost use Rattle.shape_law.specs.Curve.{IsLimitedCurve};
+ghost use Rattle.slope_list.specs.Curve.{IsLimitedCurve};
 ghost use Rattle.std.specs.Int.{int_max};
-ghost use Rattle.slope_piece.specs.Pieces.{IsLine};
-ghost use Rattle.slope_piece.specs.Totals.{IsTotal};
+ghost use Rattle.slope_list.specs.Pieces.{IsLine};
+ghost use Rattle.slope_list.specs.Totals.{IsTotal};
 ghost use Rattle.slope_list.specs.Blocks.{IsInBlock, HasCosts, IsPrice};
 ghost use Rattle.slope_list.specs.Drawn.{with_cost, IsDrawn};
 
 use crate::blocks::Span;
-use slope_piece::piece::Piece;
+use crate::piece::Piece;
 use uc_model::units::Curve;
 
 /// Where the next piece goes.

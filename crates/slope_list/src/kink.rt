@@ -1,14 +1,14 @@
 //! The function less the worth of the best reserve, part by part.
 ghost use Rattle.std.specs.Prelude.{◌≡◌, ℤ, ◌+◌, ◌<◌, ◌≤◌, pos, negsuc, ◌≤ℤ◌, ◌<ℤ◌, length};
-ghost use Rattle.shape_law.specs.Steps.{IsFairStep};
-ghost use Rattle.slope_piece.specs.Pieces.{piece, last_power, AreSlopes, IsLine};
-ghost use Rattle.slope_piece.specs.Cursors.{IsPlaced, IsValley};
+ghost use Rattle.slope_list.specs.Steps.{IsFairStep};
+ghost use Rattle.slope_list.specs.Pieces.{piece, last_power, AreSlopes, IsLine};
+ghost use Rattle.slope_list.specs.Cursors.{IsPlaced, IsValley};
 ghost use Rattle.slope_list.specs.Kink.{kinked, bend_of, parts_from, IsLowered};
 ghost use Rattle.slope_list.specs.Kink.{IsGentle, AreGentle, IsSteep};
 
-use shape_law::step::Step;
-use slope_piece::cursor::{Cursor, fall};
-use slope_piece::piece::{Piece, Start};
+use crate::cursor::{Cursor, fall};
+use crate::piece::{Piece, Start};
+use crate::step_terms::Step;
 
 /// A part of one slope, and the power where it ends.
 #[derive(Clone, Copy)]

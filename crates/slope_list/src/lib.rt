@@ -1,5 +1,9 @@
-//! A convex function as pieces of one slope, kept in room that is taken once, and one step of a
-//! spell on it.
+//! A convex function on a whole interval, and one step of a spell on it.
+//!
+//! What a step does to such a function is said power by power, with laws on it (`shape_laws`). The
+//! function is kept as pieces of one slope, in room that is taken once. Its powers are found among
+//! the pieces. What is read off them are its least values, and whether it lies above a limit or
+//! below another function.
 //!
 //! The step takes the worth of the best reserve off, takes the least value in reach of the ramps,
 //! and adds what the prices pay and the production cost, all in one pass. It goes over the function
@@ -7,14 +11,21 @@
 //! one after another along the blocks of the cost curve.
 #![tactic(auto)]
 
+pub mod below;
 mod blocks;
+pub mod cursor;
 mod draw;
 mod kink;
+pub mod piece;
+mod piece_laws;
+pub mod read;
 mod run;
+pub mod shape_laws;
 mod slopes;
 mod step;
+pub mod step_terms;
 mod way;
 mod window;
 
-pub use slope_piece::read::Spot;
+pub use read::Spot;
 pub use slopes::{Lowest, Slopes, Spare};

@@ -1,15 +1,15 @@
 //! Runs of pieces that go into the function after a step alike.
 ghost use Rattle.std.specs.Prelude.{◌≡◌, neg_ℤ, ◌+ℤ◌, ◌≤ℤ◌, ◌<ℤ◌};
-ghost use Rattle.shape_law.specs.Steps.{IsFairStep};
+ghost use Rattle.slope_list.specs.Steps.{IsFairStep};
 ghost use Rattle.slope_list.specs.Kink.{IsGentle, IsLowered};
-ghost use Rattle.slope_piece.specs.Cursors.{IsPlaced};
+ghost use Rattle.slope_list.specs.Cursors.{IsPlaced};
 ghost use Rattle.slope_list.specs.Runs.{IsRun};
 
+use crate::cursor::Cursor;
 use crate::kink::lowered;
+use crate::piece::Piece;
+use crate::step_terms::Step;
 use crate::window::Window;
-use shape_law::step::Step;
-use slope_piece::cursor::Cursor;
-use slope_piece::piece::Piece;
 
 /// Pieces that go into the function after a step alike, up to a power before it.
 #[derive(Clone, Copy)]

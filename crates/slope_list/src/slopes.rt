@@ -1,16 +1,16 @@
 //! The function, and room for the next one, which several functions may share.
 ghost use Rattle.std.specs.Prelude.{◌≡◌, ◌≤◌, length, vec_capacity, IfOk, IfSome, MatchOption};
-ghost use Rattle.shape_law.specs.Effect.{IsLeast};
-ghost use Rattle.shape_law.specs.Table.{IsEmpty};
+ghost use Rattle.slope_list.specs.Effect.{IsLeast};
+ghost use Rattle.slope_list.specs.Table.{IsEmpty};
 ghost use Rattle.slope_list.specs.After.{table_after, ArePiecesAfter, AreWithinAfter};
 ghost use Rattle.slope_list.specs.Kept.{AreKept};
 
+use crate::below;
+use crate::piece::{self, Piece, Start};
+use crate::piece_laws::pieces_begin_and_end;
+use crate::read::{self, Spot};
 use crate::step::{Made, Stepped, slope_step};
-use shape_law::step::Step;
-use slope_piece::below;
-use slope_piece::laws::pieces_begin_and_end;
-use slope_piece::piece::{self, Piece, Start};
-use slope_piece::read::{self, Spot};
+use crate::step_terms::Step;
 use std::alloc::{AllocError, Global};
 use std::mem;
 use uc_model::units::Curve;
@@ -112,11 +112,11 @@ impl Slopes {
     ghost use Rattle.std.specs.Prelude.{◌≡◌, ℤ, ◌+◌, ◌≤◌, ◌↔◌, IsTrue};
     ghost use Rattle.std.specs.Prelude.{length, IfOk, Some, MatchOption};
     ghost use Rattle.std.specs.Bool.{OnTrue};
-    ghost use Rattle.shape_law.specs.Effect.{IsPoint, IsLeast, IsLeastIn};
-    ghost use Rattle.shape_law.specs.Steps.{IsFairStep, IsCostOf, IsStepped, IsSmall};
-    ghost use Rattle.shape_law.specs.Table.{Table, value_of, IsPlace, IsAmount, IsEmpty, HasNone};
-    ghost use Rattle.slope_piece.specs.Below.{IsShift, IsNowhereAbove, IsAbove};
-    ghost use Rattle.slope_piece.specs.Turn.{IsTurn, IsFirst, IsLast};
+    ghost use Rattle.slope_list.specs.Effect.{IsPoint, IsLeast, IsLeastIn};
+    ghost use Rattle.slope_list.specs.Steps.{IsFairStep, IsCostOf, IsStepped, IsSmall};
+    ghost use Rattle.slope_list.specs.Table.{Table, value_of, IsPlace, IsAmount, IsEmpty, HasNone};
+    ghost use Rattle.slope_list.specs.Below.{IsShift, IsNowhereAbove, IsAbove};
+    ghost use Rattle.slope_list.specs.Turn.{IsTurn, IsFirst, IsLast};
     ghost use Rattle.slope_list.specs.Slopes.{shown, room_of, count_of, turn_of, space_of};
     ghost use Rattle.slope_list.specs.Slopes.{MayGrow, IsGrown};
 

@@ -4,24 +4,24 @@ ghost use Rattle.std.specs.Option.{IfSome};
 ghost use Rattle.plain_lists.specs.Ranges.{IsFrom};
 ghost use Rattle.uc_model.specs.Limits.{IsOutput, IsCost};
 ghost use Rattle.uc_model.specs.declared.limits.TheConstants.{SPELL_LIMIT};
-ghost use Rattle.shape_law.specs.Curve.{reserve_term, IsLimitedCurve};
-ghost use Rattle.shape_law.specs.Steps.{IsFairStep, IsCostOf, IsStepped, IsSmall};
-ghost use Rattle.slope_piece.specs.Pieces.{table_of, AreSlopes};
-ghost use Rattle.slope_piece.specs.Cursors.{IsPlaced};
+ghost use Rattle.slope_list.specs.Curve.{reserve_term, IsLimitedCurve};
+ghost use Rattle.slope_list.specs.Steps.{IsFairStep, IsCostOf, IsStepped, IsSmall};
+ghost use Rattle.slope_list.specs.Pieces.{table_of, AreSlopes};
+ghost use Rattle.slope_list.specs.Cursors.{IsPlaced};
 ghost use Rattle.slope_list.specs.Window.{nearest};
 ghost use Rattle.slope_list.specs.Blocks.{IsInBlock, HasCosts};
 ghost use Rattle.slope_list.specs.After.{stepped, table_after, ArePiecesAfter, AreWithinAfter};
-ghost use Rattle.slope_piece.specs.Turn.{IsTurn};
+ghost use Rattle.slope_list.specs.Turn.{IsTurn};
 
 use crate::blocks::find;
+use crate::cursor::{Cursor, seek};
 use crate::draw::Pen;
 use crate::kink::turn;
+use crate::piece::{Piece, Start, last_power};
+use crate::shape_laws::{convexity_is_of_places, steps_keep_convexity};
+use crate::step_terms::Step;
 use crate::way::draw;
 use crate::window::Window;
-use shape_law::laws::{convexity_is_of_places, steps_keep_convexity};
-use shape_law::step::Step;
-use slope_piece::cursor::{Cursor, seek};
-use slope_piece::piece::{Piece, Start, last_power};
 use uc_model::units::Curve;
 
 /// A function that a step has made: where it begins, and how many pieces it has.

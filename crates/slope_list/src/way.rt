@@ -1,21 +1,21 @@
 //! The way through a step, run by run.
 ghost use Rattle.std.specs.Prelude.{◌≡◌, ℤ, ◌+◌, ◌≤◌, ◌+ℤ◌, ◌≤ℤ◌, ◌<ℤ◌, length};
-ghost use Rattle.shape_law.specs.Curve.{IsLimitedCurve};
-ghost use Rattle.shape_law.specs.Table.{IsPlace};
-ghost use Rattle.slope_piece.specs.Pieces.{end_at, IsLine, Stand};
+ghost use Rattle.slope_list.specs.Curve.{IsLimitedCurve};
+ghost use Rattle.slope_list.specs.Table.{IsPlace};
+ghost use Rattle.slope_list.specs.Pieces.{end_at, IsLine, Stand};
 ghost use Rattle.slope_list.specs.Kink.{IsGentle, IsSteep};
-ghost use Rattle.slope_piece.specs.Cursors.{IsPlaced};
+ghost use Rattle.slope_list.specs.Cursors.{IsPlaced};
 ghost use Rattle.slope_list.specs.Blocks.{IsInBlock, HasCosts};
 ghost use Rattle.slope_list.specs.After.{stepped};
 ghost use Rattle.slope_list.specs.Drawn.{with_cost, IsDrawn};
 ghost use Rattle.slope_list.specs.Way.{IsFurther};
 ghost use Rattle.slope_list.specs.Runs.{IsNear, IsRun};
 
+use crate::cursor::Cursor;
 use crate::draw::{Pen, put};
+use crate::piece::Piece;
 use crate::run::{Run, next_run};
 use crate::window::{Window, is_flat, past_flat};
-use slope_piece::cursor::Cursor;
-use slope_piece::piece::Piece;
 use uc_model::units::Curve;
 
 /// Where a way through a step is: the cursor before the step, and the pen after it.

@@ -1,13 +1,13 @@
 //! The least value in reach of the ramps, run by run.
 ghost use Rattle.std.specs.Prelude.{◌≡◌, ◌≤◌, ◌+ℤ◌, ◌≤ℤ◌, ◌<ℤ◌, IsTrue, IsFalse};
 ghost use Rattle.slope_list.specs.Kink.{kinked};
-ghost use Rattle.slope_piece.specs.Cursors.{IsPlaced};
-ghost use Rattle.slope_list.specs.Window.{IsWindow, IsFlat};
+ghost use Rattle.slope_list.specs.Cursors.{IsPlaced};
+ghost use Rattle.slope_list.specs.Window.{IsStepOver, IsFlat};
 
+use crate::cursor::Cursor;
 use crate::kink::part_at;
-use shape_law::step::Step;
-use slope_piece::cursor::Cursor;
-use slope_piece::piece::{Piece, Start};
+use crate::piece::{Piece, Start};
+use crate::step_terms::Step;
 
 /// A function with the step over it.
 #[derive(Drop)]
@@ -19,7 +19,7 @@ pub struct Window<'a> {
     pub turn: i64,
     /// The last power that is asked for, in kilowatts.
     pub high: i64,
-    ghost valid: { IsWindow pieces.now start step turn high },
+    ghost valid: { IsStepOver pieces.now start step turn high },
 }
 
 /// The last power of the least value, as far as one piece goes.

@@ -16,12 +16,12 @@ pub use Rattle.std.specs.Int.{int_min, int_max}
 pub use Rattle.std.specs.Option.{option_map}
 pub use Rattle.std.specs.Prelude.{slice_get, MatchOption, IfNone, IsTrue, int_lt}
 pub use Rattle.cost_curve.specs.CostCurve.{IsCostCurve, AreCostPoints, EnvelopeIsCost}
-pub use Rattle.shape_law.specs.Curve.{curve_value, reserve_term, end_of, IsLimitedCurve}
-pub use Rattle.shape_law.specs.Effect.{IsSum, IsLeastIn, IsLeast, IsCurveSum, IsPoint, Reaches}
-pub use Rattle.shape_law.specs.Table.{Table, value_of, HasNone, offset_value, IsEmpty, IsPlace, IsAmount}
-pub use Rattle.shape_law.specs.declared.step.Step.{Step}
+pub use Rattle.slope_list.specs.Curve.{curve_value, reserve_term, end_of, IsLimitedCurve}
+pub use Rattle.slope_list.specs.Effect.{IsSum, IsLeastIn, IsLeast, IsCurveSum, IsPoint, Reaches}
+pub use Rattle.slope_list.specs.Table.{Table, value_of, HasNone, offset_value, IsEmpty, IsPlace, IsAmount}
+pub use Rattle.slope_list.specs.declared.step_terms.Step.{Step}
 pub use Rattle.slope_list.specs.declared.slopes.Lowest.{Lowest}
-pub use Rattle.slope_piece.specs.Turn.{IsTurn, IsBottom, IsFirst, IsLast}
+pub use Rattle.slope_list.specs.Turn.{IsTurn, IsBottom, IsFirst, IsLast}
 pub use Rattle.spell_run.proofs.Arithmetic.{signed, bounded}
 pub use Rattle.spell_run.proofs.Options.{same_some}
 pub use Rattle.spell_run.specs.Frontier.{IsFrontier, IsReached}

@@ -7,7 +7,7 @@ use Common.{value_of, offset_value, IsTurn, Curve, ThermalUnit, PriceLists, IsTh
 use Common.{IsKinked, IsStepped, signed}
 use Rattle.std.proofs.Common.{get_or}
 use Rattle.std.proofs.lemmas.Option.{slice_get_within, slice_get-get_or}
-use Rattle.slope_piece.specs.Pieces.{powers_to}
+use Rattle.slope_list.specs.Pieces.{powers_to}
 use Rattle.spell_run.proofs.StepLaws.{under_cap, cap_over, under_most, step_sound}
 
 -- ---- powers of a table

@@ -5,7 +5,7 @@ use Common.{arith, IfSome, IfNone, MatchOption, lt-ltb, le-ltb, IsCostCurve, IsL
 use Common.{IsEmpty, HasNone, Lowest, IsTurn, Curve, ThermalUnit, PriceLists, IsThermalUnit, int_at, Note, IsFrontier}
 use Common.{IsNoted, IsEndNoted, level, end_cost, IsSpellWithin, cap_at, step_at, IsStepped, IsLeastCost}
 use Common.{IsLeastCostIn}
-use Rattle.slope_piece.specs.declared.read.Spot.{Spot}
+use Rattle.slope_list.specs.declared.read.Spot.{Spot}
 use Rattle.spell_run.proofs.CutLaws.{cut, stepped_cut, least_cut, turn_alike}
 use Rattle.spell_run.proofs.FrontierLaws.{frontier_same}
 use Rattle.spell_run.proofs.RunLaws.{run_less}

@@ -1,7 +1,7 @@
 -- The least costs of the first periods of a spell, by the power at their end (Bellman's principle
 -- on the spell's periods).
 use Rattle.std.specs.Prelude.{◌≡◌, ℕ, suc, ℤ, pos, ◌≤ℤ◌, Some, length}
-use Rattle.shape_law.specs.Table.{Table, value_of}
+use Rattle.slope_list.specs.Table.{Table, value_of}
 use Rattle.uc_model.specs.Data.{ThermalUnit, PriceLists, Schedule}
 use Rattle.uc_model.specs.Limits.{IsOutput}
 use Rattle.uc_model.specs.Schedules.{reserve_in}

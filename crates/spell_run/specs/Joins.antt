@@ -3,7 +3,7 @@
 -- may be put behind a run of another spell that ends where that one does before it. Each law is the
 -- clause of a public function.
 use Rattle.std.specs.Prelude.{◌≡◌, ℕ, suc, ◌<◌, ◌≤◌, ℤ, ◌+ℤ◌, Some, length}
-use Rattle.shape_law.specs.Table.{Table, value_of}
+use Rattle.slope_list.specs.Table.{Table, value_of}
 use Rattle.uc_model.specs.Data.{ThermalUnit, PriceLists, Schedule}
 use Rattle.uc_model.specs.Limits.{IsThermalUnit}
 use Rattle.spell_run.specs.Frontier.{IsFrontier}

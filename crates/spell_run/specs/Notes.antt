@@ -4,10 +4,10 @@ use Rattle.std.specs.Prelude.{◌≡◌, ℕ, suc, ◌-◌, ◌<◌, ◌≤◌, 
 use Rattle.std.specs.Prelude.{false, List, length, slice_index_or, Option, Some, None}
 use Rattle.std.specs.Option.{option_map}
 use Rattle.cost_curve.specs.CostCurve.{IsCostCurve}
-use Rattle.shape_law.specs.Effect.{IsLeast}
-use Rattle.shape_law.specs.Table.{Table}
+use Rattle.slope_list.specs.Effect.{IsLeast}
+use Rattle.slope_list.specs.Table.{Table}
 use Rattle.slope_list.specs.declared.slopes.Lowest.{Lowest}
-use Rattle.slope_piece.specs.Turn.{IsTurn, IsFirst, IsLast}
+use Rattle.slope_list.specs.Turn.{IsTurn, IsFirst, IsLast}
 use Rattle.uc_model.specs.declared.units.Curve.{Curve}
 use Rattle.uc_model.specs.Data.{ThermalUnit, PriceLists}
 use Rattle.spell_run.specs.declared.notes.Note.{Note}

@@ -4,15 +4,15 @@
 use Rattle.std.specs.Prelude.{ℕ, suc, ◌≤◌, ◌==◌, nat_lt, ℤ, ◌+ℤ◌, ◌-ℤ◌, ◌≤ℤ◌, Bool, false}
 use Rattle.std.specs.Prelude.{if◌then◌else◌, IsTrue, Option, MatchOption}
 use Rattle.std.specs.Int.{int_min}
-use Rattle.shape_law.specs.Effect.{IsLeast, IsLeastIn}
-use Rattle.shape_law.specs.Table.{Table, IsEmpty, HasNone}
+use Rattle.slope_list.specs.Effect.{IsLeast, IsLeastIn}
+use Rattle.slope_list.specs.Table.{Table, IsEmpty, HasNone}
 use Rattle.uc_model.specs.Data.{ThermalUnit, PriceLists, Schedule}
 use Rattle.uc_model.specs.Schedules.{power_in, reserve_in, cap_of}
 use Rattle.plain_lists.specs.Sums.{int_at}
-use Rattle.shape_law.specs.declared.step.Step.{Step}
+use Rattle.slope_list.specs.declared.step_terms.Step.{Step}
 use Rattle.spell_run.specs.Spells.{over_min}
 -- what a step does to a function is said beside the shapes
-pub use Rattle.shape_law.specs.Steps.{IsFairStep, IsCostOf, IsKinked, IsStepped, IsSmall}
+pub use Rattle.slope_list.specs.Steps.{IsFairStep, IsCostOf, IsKinked, IsStepped, IsSmall}
 
 -- the greatest power with reserve in a period where the unit starts, or stops in the next one
 abbrev pub cap_at : ThermalUnit → Bool → Bool → ℤ

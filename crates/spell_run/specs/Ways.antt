@@ -2,9 +2,9 @@
 -- (Bellman's principle on the spell's periods).
 use Rattle.std.specs.Prelude.{◌≡◌, ℕ, suc, ◌<◌, ◌≤◌, ◌==◌, nat_lt, ℤ, ◌+ℤ◌, ◌-ℤ◌, ◌≤ℤ◌, Bool}
 use Rattle.std.specs.Prelude.{false, ◌&&◌, IsTrue, Some, length, slice_index_or}
-use Rattle.shape_law.specs.Effect.{IsLeastIn}
-use Rattle.shape_law.specs.Table.{Table, value_of}
-use Rattle.shape_law.specs.declared.step.Step.{Step}
+use Rattle.slope_list.specs.Effect.{IsLeastIn}
+use Rattle.slope_list.specs.Table.{Table, value_of}
+use Rattle.slope_list.specs.declared.step_terms.Step.{Step}
 use Rattle.uc_model.specs.Data.{ThermalUnit, PriceLists, Schedule}
 use Rattle.uc_model.specs.Schedules.{power_in, reserve_in}
 use Rattle.plain_lists.specs.Sums.{int_at}

@@ -2,9 +2,9 @@
 ghost use Rattle.std.specs.Prelude.{◌≡◌, ℤ, suc, ◌==◌, ◌+◌, ◌-◌, ◌<◌, ◌≤◌, false, length, Some};
 ghost use Rattle.std.specs.Prelude.{IfSome, IfNone, None};
 ghost use Rattle.cost_curve.specs.CostCurve.{IsCostCurve};
-ghost use Rattle.shape_law.specs.Table.{value_of};
+ghost use Rattle.slope_list.specs.Table.{value_of};
 ghost use Rattle.slope_list.specs.Slopes.{shown, count_of, room_of, MayGrow, IsGrown};
-ghost use Rattle.slope_piece.specs.Turn.{IsFirst, IsLast};
+ghost use Rattle.slope_list.specs.Turn.{IsFirst, IsLast};
 ghost use Rattle.spell_run.specs.Frontier.{IsFrontier};
 ghost use Rattle.spell_run.specs.Notes.{IsNoted, IsEndNoted, end_cost};
 ghost use Rattle.spell_run.specs.Spells.{IsSpellAnswer, IsSpellWithin};

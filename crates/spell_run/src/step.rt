@@ -6,7 +6,7 @@ ghost use Rattle.std.specs.Int.{int_min};
 ghost use Rattle.spell_run.specs.Steps.{cap_at, step_at, IsFairStep};
 ghost use Rattle.uc_model.specs.PlainUnits.{thermal_of, prices_of};
 
-pub use shape_law::step::Step;
+pub use slope_list::step_terms::Step;
 use uc_model::rules::cap;
 use uc_model::units::{Prices, Unit};
 

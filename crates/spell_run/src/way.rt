@@ -4,9 +4,9 @@
 //! the one that is nearest to the turn. So three numbers of a step suffice to find the cheapest
 //! power before it.
 ghost use Rattle.std.specs.Prelude.{◌≡◌, ℤ, suc, ◌==◌, ◌-◌, ◌<◌, ◌≤◌, length, Some};
-ghost use Rattle.shape_law.specs.Effect.{Reaches};
-ghost use Rattle.shape_law.specs.Table.{Table, value_of};
-ghost use Rattle.slope_piece.specs.Turn.{IsTurn, IsFirst, IsLast};
+ghost use Rattle.slope_list.specs.Effect.{Reaches};
+ghost use Rattle.slope_list.specs.Table.{Table, value_of};
+ghost use Rattle.slope_list.specs.Turn.{IsTurn, IsFirst, IsLast};
 ghost use Rattle.spell_run.specs.Entries.{IsOnFromTo, IsSameOutside};
 ghost use Rattle.spell_run.specs.Ways.{IsChosen};
 ghost use Rattle.spell_run.specs.Logs.{left_by, IsTrail};

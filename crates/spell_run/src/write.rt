@@ -6,7 +6,7 @@ ghost use Rattle.spell_run.specs.Steps.{IsFairStep};
 ghost use Rattle.uc_model.specs.Limits.{IsOutput};
 ghost use Rattle.uc_model.specs.PlainUnits.{schedule_of};
 
-use shape_law::step::Step;
+use slope_list::step_terms::Step;
 use uc_model::units::Answered;
 
 /// The best reserve at a power after another.

@@ -6,10 +6,10 @@ ghost use Rattle.task_deal.specs.Members.{HasWorked};
 use crate::job::Job;
 use crate::rule::Shared;
 use crate::seat::{Seat, next_number};
+use crate::start::make_way;
 use std::sync::Wait;
 use std::thread;
 use std::thread::Threads;
-use thread_start::make_way;
 
 /// A job with the handles of its worker: what one thread gets.
 #[derive(Drop)]

@@ -1,6 +1,6 @@
 ghost use Rattle.std.specs.Prelude.{◌≡◌, ◌∷◌, [], pos, length, IfOk};
 ghost use Rattle.uc_model.specs.PlainCases.{market_of};
-ghost use Rattle.gap_proof.specs.Sums.{IsRadius};
+ghost use Rattle.gap_proof.specs.PlaneSums.{IsRadius};
 
 use crate::same::same;
 use crate::small_cases::{one_period, one_row};

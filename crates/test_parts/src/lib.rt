@@ -1,6 +1,6 @@
-//! Tests of one crate each: a file for each crate that is tested, named after it, `small_cases` for
-//! what several of them begin from, and `same` and `tree_values` for what they compare. They stand
-//! above those crates, which so are proved without tests alone.
+//! Tests of one crate each: files named after the crate that is tested, or after a part of it,
+//! `small_cases` for what several of them begin from, and `same` and `tree_values` for what they
+//! compare. They stand above those crates, which so are proved without tests alone.
 #![tactic(auto)]
 
 #[cfg(test)]
@@ -8,13 +8,13 @@ mod board_store_tests;
 #[cfg(test)]
 mod cost_curve_tests;
 #[cfg(test)]
+mod decimal_tests;
+#[cfg(test)]
 mod flat_answer_tests;
 #[cfg(test)]
 mod gap_proof_tests;
 #[cfg(test)]
 mod hull_io_tests;
-#[cfg(test)]
-mod hull_words_tests;
 #[cfg(test)]
 mod mixture_bound_tests;
 #[cfg(test)]
@@ -30,14 +30,14 @@ mod small_cases;
 #[cfg(test)]
 mod task_deal_tests;
 #[cfg(test)]
-mod text_tree_tests;
+mod tree_tests;
 #[cfg(test)]
 mod tree_values;
 #[cfg(test)]
 mod uc_mixture_tests;
 #[cfg(test)]
-mod uc_num_tests;
-#[cfg(test)]
 mod uc_prices_tests;
 #[cfg(test)]
 mod uc_text_tests;
+#[cfg(test)]
+mod word_tests;

@@ -1,9 +1,9 @@
 //! Bounds by mixtures that were worked out by hand, and the first rule that an entry breaks.
 ghost use Rattle.std.specs.Prelude.{◌≤◌, length};
-ghost use Rattle.gap_proof.specs.Sums.{IsRadius};
+ghost use Rattle.gap_proof.specs.PlaneSums.{IsRadius};
 
 use crate::same::same;
-use mixture_bound::{EntryFault, bound_of, check_mixture};
+use gap_proof::{EntryFault, bound_of_mixture, check_mixture};
 use std::alloc::Global;
 use std::process::Abort;
 use std::test::Fail;
@@ -35,7 +35,7 @@ fn bound_by(alloc: Global, mixture: &[u8], radius: i64) -> Result<Result<i128, E
     let centre = read_prices(alloc, b"{\"energy\":[98]}", case.periods)?;
     let mixture = read_mixture(alloc, &case, mixture)?;
     Ok(match check_mixture(&case, &mixture) {
-        Ok(()) => Ok(bound_of(&case, &mixture, &centre, radius)),
+        Ok(()) => Ok(bound_of_mixture(&case, &mixture, &centre, radius)),
         Err(fault) => Err(fault),
     })
 }

@@ -11,8 +11,7 @@ use std::sync::atomic::AtomicUsize;
 use std::sync::atomic::Ordering::SeqCst;
 use std::thread;
 use std::thread::Threads;
-use task_deal::{Job, deal_all};
-use thread_start::make_way;
+use task_deal::{Job, deal_all, make_way};
 
 /// Keeps the numbers that it ran.
 #[derive(Drop)]

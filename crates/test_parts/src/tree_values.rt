@@ -1,8 +1,8 @@
 //! What the values of a tree must be.
 use crate::same::same;
 use std::process::Abort;
-use text_tree::{Branch, ListBranch, ObjectBranch};
-use uc_num::Decimal;
+use text_tokens::Decimal;
+use uc_text::{Branch, ListBranch, ObjectBranch};
 
 /// The object that a value is. Ends the test where it is none.
 pub fn object_in<'a>(rt: &impl Abort, value: Branch<'a>) -> ObjectBranch<'a> {

@@ -1,7 +1,7 @@
 //! Mixture files of a case: what is read, and the first fault of a file.
 
 use crate::same::{same, same_of};
-use mixture_bound::Entry;
+use gap_proof::Entry;
 use std::alloc::Global;
 use std::process::Abort;
 use std::test::Fail;

@@ -3,9 +3,8 @@ use crate::tree_values::{list_in, numbers_are, object_in};
 use std::alloc::{AllocError, Global};
 use std::process::Abort;
 use std::test::Fail;
-use text_tree::{Branch, ListBranch, ObjectBranch, Tree};
-use uc_num::Decimal;
-use uc_text::{TextError, read_tree};
+use text_tokens::Decimal;
+use uc_text::{Branch, ListBranch, ObjectBranch, TextError, Tree, read_tree};
 
 /// The code and the offset of the fault of a text, or zeros where it has none.
 fn answer_of(alloc: Global, bytes: &[u8]) -> (u32, u32) {

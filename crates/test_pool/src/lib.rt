@@ -20,7 +20,7 @@ use test_units::answer::write_best;
 use test_units::laws::no_end_is_no_schedule;
 use test_units::program::fill;
 use uc_model::units::{Answered, Blocks, Curve, Prices, Unit};
-use unit_program::answer::least_end;
+use unit_program::least_end::least_end;
 use unit_rows::table::Table;
 
 /// Memory for answers by shapes in a pool. What its curve, costs and table hold between two calls

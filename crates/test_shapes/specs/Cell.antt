@@ -2,7 +2,7 @@
 use Rattle.std.specs.Prelude.{◌≡◌, ℕ, ◌≤◌, ◌+◌, ℤ, Bool, true, ◌⊎◌, List, [], ◌∷◌, slice_get}
 use Rattle.std.specs.Prelude.{Option, Some}
 use Rattle.std.specs.Option.{option_map}
-use Rattle.shape_law.specs.Table.{Table}
+use Rattle.slope_list.specs.Table.{Table}
 
 -- a cell: whether it is in use, and its numbers
 pub record Cell : Type 0 where

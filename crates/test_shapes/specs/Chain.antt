@@ -2,9 +2,9 @@
 use Rattle.std.specs.Prelude.{◌≡◌, ℕ, ℤ, ◌+◌, ◌-◌, ◌*◌, ◌*ℤ◌, ◌≤◌, List, [], ◌∷◌, length, Bool}
 use Rattle.uc_model.specs.declared.units.Curve.{Curve}
 use Rattle.test_shapes.specs.Cell.{Balance}
-use Rattle.shape_law.specs.Curve.{curve_value, reserve_term}
-use Rattle.shape_law.specs.Effect.{IsPoint, IsSum, IsCurveSum, IsWindow}
-use Rattle.shape_law.specs.Table.{Table}
+use Rattle.slope_list.specs.Curve.{curve_value, reserve_term}
+use Rattle.slope_list.specs.Effect.{IsPoint, IsSum, IsCurveSum, IsWindow}
+use Rattle.slope_list.specs.Table.{Table}
 
 -- a call that changes a shape
 pub data Call : Type 0 where

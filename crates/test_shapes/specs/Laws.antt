@@ -1,6 +1,6 @@
 -- What holds of every shape. Each law is the clause of a public function of its name.
 use Rattle.std.specs.Prelude.{◌≡◌, ℕ, List, []}
-use Rattle.shape_law.specs.Table.{Table}
+use Rattle.slope_list.specs.Table.{Table}
 use Rattle.test_shapes.specs.Cell.{Cell, AreApart, Frame}
 
 module _ {H S : Type 0} (cell_list : H → List Cell) (is_in : H → S → Type 0) (numbers : H → S →

@@ -7,11 +7,12 @@ ghost use Rattle.std.specs.Prelude.{false, IfOk, OnOk, OnErr, IsOk, MatchOption,
 ghost use Rattle.test_shapes.specs.Cell.{Cell, Frame, AreSameAt, IsAmong, IsUsed, IsUnchanged};
 ghost use Rattle.test_shapes.specs.Cell.{Owns};
 ghost use Rattle.test_shapes.specs.Cell.{Balance};
-ghost use Rattle.shape_law.specs.Curve.{curve_value, reserve_term, IsLimitedCurve};
-ghost use Rattle.shape_law.specs.Effect.{IsPoint, IsSame, IsSum, IsCurveSum, CanAddCurve, IsWindow};
-ghost use Rattle.shape_law.specs.Effect.{IsLeast, IsLeastIn};
-ghost use Rattle.shape_law.specs.Table.{Table, value_of, IsConvex, IsPlace, IsAmount};
-ghost use Rattle.shape_law.specs.Table.{IsWithinLimits, IsEmpty, CanAdd, HasNone};
+ghost use Rattle.slope_list.specs.Curve.{curve_value, reserve_term, IsLimitedCurve};
+ghost use Rattle.slope_list.specs.Effect.{IsPoint, IsSame, IsSum, IsCurveSum, CanAddCurve};
+ghost use Rattle.slope_list.specs.Effect.{IsWindow};
+ghost use Rattle.slope_list.specs.Effect.{IsLeast, IsLeastIn};
+ghost use Rattle.slope_list.specs.Table.{Table, value_of, IsConvex, IsPlace, IsAmount};
+ghost use Rattle.slope_list.specs.Table.{IsWithinLimits, IsEmpty, CanAdd, HasNone};
 
 pub mod laws;
 

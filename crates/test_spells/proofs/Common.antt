@@ -13,11 +13,11 @@ pub use Rattle.std.specs.Option.{option_map}
 pub use Rattle.std.specs.Prelude.{MatchOption}
 pub use Rattle.cost_curve.specs.CostCurve.{IsCostCurve, EnvelopeIsCost}
 pub use Rattle.test_shapes.specs.Cell.{Cell, Frame}
-pub use Rattle.shape_law.specs.Curve.{curve_value, reserve_term}
-pub use Rattle.shape_law.specs.Effect.{IsSum, IsWindow, CanAddCurve, IsLeastIn, IsLeast, IsSame, IsPoint}
+pub use Rattle.slope_list.specs.Curve.{curve_value, reserve_term}
+pub use Rattle.slope_list.specs.Effect.{IsSum, IsWindow, CanAddCurve, IsLeastIn, IsLeast, IsSame, IsPoint}
 pub use Rattle.test_shapes.specs.Laws.{StaysAs, OthersStay}
-pub use Rattle.shape_law.specs.Table.{Table, value_of, CanAdd, HasNone, IsEmpty}
-pub use Rattle.shape_law.specs.declared.step.Step.{Step}
+pub use Rattle.slope_list.specs.Table.{Table, value_of, CanAdd, HasNone, IsEmpty}
+pub use Rattle.slope_list.specs.declared.step_terms.Step.{Step}
 pub use Rattle.spell_run.specs.Entries.{IsOnFromTo, IsSameOutside}
 pub use Rattle.spell_run.specs.Frontier.{IsFrontier}
 pub use Rattle.spell_run.specs.Ways.{IsWritten, IsChosen, IsWayFrom, stops_at}

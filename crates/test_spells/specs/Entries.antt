@@ -2,8 +2,8 @@
 use Rattle.std.specs.Prelude.{◌≡◌, ℕ, ◌+◌, ◌-◌, ◌*◌, ◌≤◌, ℤ, ◌+ℤ◌, ◌-ℤ◌, Bool, if◌then◌else◌}
 use Rattle.std.specs.Prelude.{IsTrue, IsFalse, nat_lt, suc, length, List, slice_index_or, Option, None, MatchOption}
 use Rattle.std.specs.Option.{IfSome}
-use Rattle.shape_law.specs.Table.{Table, HasNone}
-use Rattle.shape_law.specs.declared.step.Step.{Step}
+use Rattle.slope_list.specs.Table.{Table, HasNone}
+use Rattle.slope_list.specs.declared.step_terms.Step.{Step}
 use Rattle.spell_run.specs.Spells.{HasNoDispatch, IsSpellAnswer, IsSpellWithin}
 use Rattle.spell_run.specs.Steps.{IsKinked}
 use Rattle.spell_run.specs.Entries.{IsOnFromTo}

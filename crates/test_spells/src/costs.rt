@@ -4,7 +4,7 @@ ghost use Rattle.std.specs.Prelude.{length, slice_index_or, None, OnOk, IfOk, Is
 ghost use Rattle.std.specs.Option.{IfSome};
 ghost use Rattle.cost_curve.specs.CostCurve.{IsCostCurve};
 ghost use Rattle.test_shapes.specs.Cell.{Frame, Balance};
-ghost use Rattle.shape_law.specs.Table.{Table};
+ghost use Rattle.slope_list.specs.Table.{Table};
 ghost use Rattle.test_spells.specs.Entries.{entry_of, cells_for, spell_first, IsSpellStart};
 ghost use Rattle.test_spells.specs.Entries.{IsSpellCost};
 ghost use Rattle.spell_run.specs.Frontier.{IsFrontier};
@@ -16,7 +16,7 @@ ghost use Rattle.uc_model.specs.PlainUnits.{thermal_of, prices_of};
 use crate::spell::SpellCosts;
 use crate::step::{beginning, starts_at, stepped, take_step};
 use cost_curve::laws::envelope_is_cost;
-use shape_law::step::Step;
+use slope_list::step_terms::Step;
 use spell_run::step::{is_alike, step_of};
 use std::alloc::AllocError;
 use test_shapes::Shape;

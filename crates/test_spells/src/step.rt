@@ -1,12 +1,12 @@
 //! One period of a spell, as a step on a shape.
 ghost use Rattle.std.specs.Prelude.{◌≡◌, suc, ◌==◌, ◌+◌, ◌^◌, ◌<◌, ◌≤◌, pos, true};
 ghost use Rattle.std.specs.Prelude.{if◌then◌else◌, length, [], OnOk, OnErr, IfOk, IsOk};
-ghost use Rattle.shape_law.specs.Effect.{IsPoint};
+ghost use Rattle.slope_list.specs.Effect.{IsPoint};
 ghost use Rattle.spell_run.specs.Steps.{IsFairStep, IsCostOf, IsKinked, IsStepped, IsSmall};
 ghost use Rattle.test_shapes.specs.Cell.{Frame, Balance};
 ghost use Rattle.test_spells.specs.Entries.{spell_first};
 
-use shape_law::step::Step;
+use slope_list::step_terms::Step;
 use std::alloc::AllocError;
 use test_shapes::Shape;
 use test_shapes::laws::frames_join;

@@ -24,7 +24,7 @@ use test_curves::curve_of;
 use test_shapes::Shape;
 use test_spells::{Spell, SpellCosts, spell_best};
 use uc_model::units::{Answered, Curve, Prices, Unit};
-use unit_program::answer::{clear, is_all_off, least_end, negated};
+use unit_program::least_end::{clear, is_all_off, least_end, negated};
 use unit_rows::table::{Ended, Entry, Table};
 
 // Writes a dispatch of least net cost of the spell from `first` to `last`; nothing where it ends

@@ -10,9 +10,9 @@ pub use Rattle.std.specs.List.{All}
 pub use Rattle.std.specs.Prelude.{ℤ, pos, neg_ℤ, ◌+ℤ◌, ◌-ℤ◌, ◌*ℤ◌, ◌≤ℤ◌, ◌<ℤ◌, int_lt, true, false, FitsSigned}
 pub use Rattle.board_share.specs.Seats.{view_of, IsSameBoard}
 pub use Rattle.board_share.specs.Tells.{KeepsRest}
-pub use Rattle.audit_rows.specs.Benches.{IsBenchOver}
-pub use Rattle.audit_rows.specs.Jobs.{AreFor}
-pub use Rattle.shape_law.specs.Curve.{rise_at, curve_value, end_of, reserve_term, IsLimitedCurve}
+pub use Rattle.unit_program.specs.Tops.{IsBenchOver}
+pub use Rattle.audit_check.specs.Jobs.{AreFor}
+pub use Rattle.slope_list.specs.Curve.{rise_at, curve_value, end_of, reserve_term, IsLimitedCurve}
 pub use Rattle.uc_model.specs.PlainCases.{schedules_of, market_of}
 pub use Rattle.uc_model.specs.TaskRoom.{IsTaskFor}
 pub use Rattle.uc_model.specs.declared.units.Block.{Block}

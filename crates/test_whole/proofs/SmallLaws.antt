@@ -11,10 +11,10 @@ use Rattle.plain_lists.specs.Ranges.{IsFrom}
 use Rattle.uc_model.specs.Limits.{IsCurve}
 use Rattle.plain_lists.proofs.IntLaws.{mul-sub}
 use Rattle.plain_lists.proofs.SignedLaws.{IsWithin, product_within}
-use Rattle.shape_law.specs.Effect.{CanAddCurve}
-use Rattle.shape_law.specs.Laws.{CurvesHaveValues}
-use Rattle.shape_law.proofs.Lookup.{power_split}
-use Rattle.shape_law.specs.Table.{Table, value_of, IsWithinLimits, HasNone, CanAdd}
+use Rattle.slope_list.specs.Effect.{CanAddCurve}
+use Rattle.slope_list.specs.ShapeLaws.{CurvesHaveValues}
+use Rattle.slope_list.proofs.Lookup.{power_split}
+use Rattle.slope_list.specs.Table.{Table, value_of, IsWithinLimits, HasNone, CanAdd}
 
 near : (f : Table) → IsWithinLimits f → HasNone (neg_ℤ (pos 4000000000)) (neg_ℤ (pos 1001)) f →
     HasNone (pos 1001) (pos 4000000000) f → (x v : ℤ) → value_of f x ≡ Some v → IsNear x

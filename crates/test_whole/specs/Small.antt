@@ -2,7 +2,7 @@
 use Rattle.std.specs.Prelude.{◌≡◌, ℕ, suc, ◌<◌, ℤ, pos, neg_ℤ, ◌≤ℤ◌, List, slice_index_or, Some}
 use Rattle.uc_model.specs.declared.units.Block.{Block}
 use Rattle.plain_lists.specs.Ranges.{IsFrom}
-use Rattle.shape_law.specs.Table.{Table, value_of}
+use Rattle.slope_list.specs.Table.{Table, value_of}
 
 -- each place is within 1,000 of 0
 abbrev pub IsNear : ℤ → Type 0

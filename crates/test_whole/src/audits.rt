@@ -3,13 +3,12 @@
 ghost use Rattle.std.specs.Prelude.{◌≡◌, ◌≤◌, length, IfOk};
 ghost use Rattle.std.specs.List.{All};
 ghost use Rattle.uc_model.specs.PlainCases.{market_of};
-ghost use Rattle.audit_rows.specs.Benches.{IsBenchOver};
+ghost use Rattle.unit_program.specs.Tops.{IsBenchOver};
 
 use crate::boards::{CASE, PLAN, planned};
 use crate::same::same_of;
 use crate::texts::{Change, changed};
 use audit_check::check_report;
-use case_answers::laws::benches_serve_all;
 use report_compare::Audit;
 use report_read::read_report;
 use std::alloc::Global;
@@ -21,6 +20,7 @@ use std::thread::Threads;
 use uc_model::cases::Case;
 use uc_model::limits::MOST_POINTS;
 use unit_program::Bench;
+use unit_program::case_laws::benches_serve_all;
 
 pub(crate) const RIGHT: &str = "hull-report 1\n\
     periods 1\nunits 2\nbudget 1\nahead 1\ncost 3500\nproposals 1\n\

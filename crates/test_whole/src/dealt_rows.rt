@@ -4,13 +4,12 @@
 
 ghost use Rattle.std.specs.Prelude.{◌≡◌, ◌≤◌, length, IfOk};
 ghost use Rattle.uc_model.specs.PlainCases.{market_of};
-ghost use Rattle.audit_rows.specs.Benches.{HasSchedules};
-ghost use Rattle.audit_rows.specs.Jobs.{AreFor};
+ghost use Rattle.unit_program.specs.Tops.{HasSchedules};
+ghost use Rattle.audit_check.specs.Jobs.{AreFor};
 
 use crate::boards::{CASE, PLAN, planned, same_row};
 use crate::same::same;
-use audit_rows::{Answerer, right_rows};
-use case_answers::laws::benches_serve_all;
+use audit_check::{Answerer, right_rows};
 use plain_lists::lists::ReservedList;
 use std::alloc::Global;
 use std::sync::{Arc, Wait};
@@ -18,6 +17,7 @@ use std::test::Fail;
 use std::thread::Threads;
 use uc_model::cases::{Case, Row};
 use uc_model::limits::MOST_POINTS;
+use unit_program::case_laws::benches_serve_all;
 use unit_program::{Bench, LastAnswers};
 
 // A job with a bench for any unit.

@@ -21,8 +21,7 @@ use test_tiny::small::SmallUnit;
 use test_tiny::trying::least_by_trying;
 use test_units::best_response;
 use uc_model::units::{Answered, Mark, Prices, Unit};
-use unit_choice::least_on_bench;
-use unit_program::{Bench, LastAnswers};
+use unit_program::{Bench, LastAnswers, least_on_bench};
 
 // What a response does in each period, and what it earns.
 #[derive(Clone, Copy)]

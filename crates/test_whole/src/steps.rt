@@ -2,11 +2,11 @@
 ghost use Rattle.std.specs.Prelude.{◌≡◌, ◌<◌, pos};
 ghost use Rattle.std.specs.Prelude.{IsTrue, IfOk, length};
 ghost use Rattle.plain_lists.specs.Ranges.{IsFrom};
-ghost use Rattle.shape_law.specs.Curve.{end_of};
-ghost use Rattle.shape_law.specs.Table.{HasNone};
+ghost use Rattle.slope_list.specs.Curve.{end_of};
+ghost use Rattle.slope_list.specs.Table.{HasNone};
 ghost use Rattle.test_whole.specs.Small.{IsSmall, IsModestAt, IsNear, AreFair};
 
-use shape_law::laws::curves_have_values;
+use slope_list::shape_laws::curves_have_values;
 use std::alloc::{AllocError, Global};
 use std::process::Abort;
 use std::test::Fail;

@@ -13,3 +13,7 @@ pub use Rattle.text_tokens.proofs.Shortest.{shortest_is, shortest_says, says_not
 pub use Rattle.text_tokens.proofs.Texts.{raw_utf8, no_string, not_utf8, string_of_len, closed, not_utf8_test, ends}
 pub use Rattle.text_tokens.proofs.Texts.{closes, goes_on, is_none, said_goes_on, nothing_said, said_is, never}
 pub use Rattle.text_tokens.proofs.Texts.{len_goes_on, quote_len}
+pub use Rattle.text_tokens.proofs.Nearest.{rounded_is, rounded_only, cut_to_none, cut_up, cut_down, size_right}
+pub use Rattle.text_tokens.proofs.Nearest.{size_left, size-rounded, rounded_plus, rounded_minus, refused, answered}
+pub use Rattle.text_tokens.proofs.Powers.{ten_some, ten_up, whole_right, whole_far, whole_none, whole_is_multiple}
+pub use Rattle.text_tokens.proofs.Powers.{multiple_is_whole, same_test}

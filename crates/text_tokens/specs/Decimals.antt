@@ -1,6 +1,6 @@
 -- The number that a token is.
 use Rattle.std.specs.Prelude.{Bool, true, false, pos}
-use Rattle.uc_num.specs.declared.Decimal.{Decimal}
+use Rattle.text_tokens.specs.declared.decimal.Decimal.{Decimal}
 use Rattle.text_tokens.specs.Scalars.{number}
 use Rattle.text_tokens.specs.Grammar.{Token, word}
 

@@ -1,3 +1,4 @@
+pub mod Rounding
 pub mod Scalars
 pub mod Grammar
 pub mod Numbers

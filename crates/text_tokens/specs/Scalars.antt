@@ -1,6 +1,6 @@
 -- What a token says that is a value by itself. Text is a list of bytes.
 use Rattle.std.specs.Prelude.{ℕ, Bool, List}
-use Rattle.uc_num.specs.declared.Decimal.{Decimal}
+use Rattle.text_tokens.specs.declared.decimal.Decimal.{Decimal}
 
 pub data Scalar : Type 0 where
   null : Scalar

@@ -1,5 +1,5 @@
 -- The number that a small one is.
-use Rattle.uc_num.specs.declared.Decimal.{Decimal}
+use Rattle.text_tokens.specs.declared.decimal.Decimal.{Decimal}
 use Rattle.text_tokens.specs.declared.small.SmallNumber.{SmallNumber}
 
 abbrev pub decimal_of : SmallNumber → Decimal

@@ -1,18 +1,22 @@
-//! The tokens of JSON texts of RFC 8259, one after the other, each with its offset.
+//! The tokens of JSON texts of RFC 8259, one after the other, each with its offset; decimal
+//! numbers, and the whole numbers nearest to them.
 #![tactic(auto)]
 
 mod bytes;
+mod decimal;
+pub mod decimal_laws;
 mod number;
+mod number_run;
 mod quoted;
 mod reader;
-mod run;
 mod said;
 pub mod small;
 mod strings;
 mod token;
 
+pub use decimal::{Decimal, NumFault, is_whole, whole};
+pub use number_run::decimal_at;
 pub use quoted::Quoted;
 pub use reader::Reader;
-pub use run::{NumberRun, decimal_at};
 pub use strings::{quoted_or_empty, text_of};
 pub use token::{Lexeme, Token, Word};

@@ -19,8 +19,8 @@ ghost use Rattle.text_tokens.specs.Tokens.{number_at};
 ghost use Rattle.text_tokens.specs.Scalars.{number};
 
 use crate::bytes::{begins_with, digits_len, is_number_byte, rest_from};
+use crate::decimal::Decimal;
 use crate::small::SmallNumber;
-use uc_num::Decimal;
 
 /// What a run of bytes is: a number, one of too many digits or too large an exponent, or none.
 #[derive(Clone, Copy)]

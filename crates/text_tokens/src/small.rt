@@ -2,7 +2,7 @@
 ghost use Rattle.std.specs.Prelude.{◌≡◌, IfSome};
 ghost use Rattle.text_tokens.specs.Small.{decimal_of};
 
-use uc_num::Decimal;
+use crate::decimal::Decimal;
 
 /// A number of few digits, as most are, in 8 bytes: a `Decimal` takes 32.
 #[derive(Clone, Copy)]

@@ -13,8 +13,8 @@ ghost use Rattle.text_tokens.specs.Stands.{RefersTo, number_run};
 
 use crate::bytes::{letters_len, number_len, rest_from};
 use crate::number::{Numeral, numeral_in, short_number};
+use crate::number_run::NumberRun;
 use crate::quoted::Quoted;
-use crate::run::NumberRun;
 use crate::small::SmallNumber;
 use crate::strings::quoted_at;
 

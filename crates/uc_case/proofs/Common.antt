@@ -11,11 +11,11 @@ pub use Rattle.std.specs.List.{All}
 pub use Rattle.std.specs.Prelude.{ℤ, pos, negsuc, int_lt, ◌≤ℤ◌, codes}
 pub use Rattle.uc_case.specs.Cases.{each_member, AllUnits, HorizonNeeds, no_unit, joined_case}
 unfoldable pub use Rattle.uc_case.specs.Cases.{units, renewable, bids, all_units, horizon, needs, keyed_case, case_of}
-pub use Rattle.uc_file.proofs.EachLaws.{goes_on, ends, counted, is_done}
-pub use Rattle.uc_file.specs.Files.{FileFault, text, value, reading_of, of_value}
+pub use Rattle.uc_text.proofs.EachLaws.{goes_on, ends, counted, is_done}
+pub use Rattle.uc_text.specs.Files.{FileFault, text, value, reading_of, of_value}
 pub use Rattle.uc_field.specs.Forms.{Read}
 unfoldable pub use Rattle.uc_field.specs.Forms.{amount, time_within, full}
-unfoldable pub use Rattle.uc_file.specs.Inside.{value_of}
+unfoldable pub use Rattle.uc_text.specs.Inside.{value_under}
 pub use Rattle.uc_case.specs.Kept.{IsRange, AreRamps, IsPast, AreUnitLists}
 pub use Rattle.uc_case.specs.Kept.{AreNeeds, AreAllUnits}
 pub use Rattle.uc_case.specs.Laws.{OneCase}
@@ -23,15 +23,15 @@ pub use Rattle.uc_field.specs.Sites.{site}
 pub use Rattle.uc_case.specs.Tables.{first_crossed, UnitLists, joined_unit}
 unfoldable pub use Rattle.uc_field.specs.Lists.{powers}
 unfoldable pub use Rattle.uc_case.specs.Tables.{renewable_unit, keyed_renewable}
-pub use Rattle.uc_file.specs.Words.{position}
-unfoldable pub use Rattle.uc_file.specs.Words.{each}
+pub use Rattle.uc_text.specs.Words.{position}
+unfoldable pub use Rattle.uc_text.specs.Words.{each}
 pub use Rattle.uc_field.specs.declared.fault.FieldFault.{FieldFault}
 pub use Rattle.uc_field.specs.declared.fault.Site.{Site}
 pub use Rattle.uc_model.specs.Limits.{IsPower, IsOutput, IsThermalUnit, IsRenewableUnit}
 pub use Rattle.uc_model.specs.Limits.{IsMarket}
-pub use Rattle.text_tree.specs.Parts.{Pair, items_of, members_of}
+pub use Rattle.uc_text.specs.Pairs.{Pair, items_of, members_of}
 pub use Rattle.uc_text.specs.Texts.{IsFirstFault}
 pub use Rattle.uc_text.specs.View.{tree_view}
-pub use Rattle.text_tree.specs.Values.{Value, list, object, scalar, number}
-pub use Rattle.text_tree.specs.View.{member_view, member_views, view}
-pub use Rattle.text_tree.specs.declared.object.Member.{Member}
+pub use Rattle.uc_text.specs.Values.{Value, list, object, scalar, number}
+pub use Rattle.uc_text.specs.View.{member_view, member_views, view}
+pub use Rattle.uc_text.specs.declared.object.Member.{Member}

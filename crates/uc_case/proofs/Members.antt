@@ -3,9 +3,9 @@ use Rattle.uc_case.proofs.Common.{◌≡◌, ℕ, ◌+◌, ◌<◌, List, [], �
 use Rattle.uc_case.proofs.Common.{subst, ◌∙◌, length-map, map_push, Pair, member_view, member_views, Member, goes_on}
 use Rattle.uc_case.proofs.Common.{ends, site, each, position, Read, Site, FieldFault}
 use Rattle.uc_model.specs.declared.kinds.Kind.{Kind}
-use Rattle.uc_file.specs.Given.{Fails}
+use Rattle.uc_text.specs.Given.{Fails}
 use Rattle.uc_field.specs.declared.fault.Field.{Field}
-use Rattle.uc_file.specs.declared.stop.Stop.{Stop}
+use Rattle.uc_text.specs.declared.stop.Stop.{Stop}
 
 one_here : {A X : Type 0} (one : Site → Pair → Read A) (named : X → A) (field : Field) (kind : Kind) (p : Site)
     (front : List X) (n : ℕ) (v : Pair) → p ≡ site field kind (n + 1) → n ≡ length front →

@@ -1,9 +1,10 @@
 -- Worked trees: the definition computes.
 use Rattle.uc_case.proofs.Common.{◌≡◌, [], ◌∷◌, Ok, Err, ℕ, List, true, false, refl, pos, negsuc, codes, Value, scalar}
-use Rattle.uc_case.proofs.Common.{number, list, object, Pair, items_of, members_of, value_of, each, amount, time_within}
+use Rattle.uc_case.proofs.Common.{number, list, object, Pair, items_of, members_of, value_under, each, amount}
+use Rattle.uc_case.proofs.Common.{time_within}
 use Rattle.uc_case.proofs.Common.{powers, full, renewable_unit, keyed_renewable, units, renewable, bids, all_units}
 use Rattle.uc_case.proofs.Common.{horizon, needs, keyed_case, case_of}
-use Rattle.uc_num.specs.Rounding.{rounded, rounded_size}
+use Rattle.text_tokens.specs.Rounding.{rounded, rounded_size}
 use Rattle.uc_field.specs.declared.fault.CaseCode.TheVariants as codes_of
 use Rattle.uc_field.specs.declared.fault.Field.TheVariants as fields
 use Rattle.uc_model.specs.declared.kinds.Kind.TheVariants as kinds
@@ -24,7 +25,7 @@ one v = list (items_of (v ∷ []))
 -- no key at all: 20 at time_periods
 pub empty_object : case_of (object (members_of [])) ≡ Err
     (record { code = codes_of.Missing; field = fields.TimePeriods; kind = kinds.Case; unit = 0; item = 0 })
-unfolding case_of keyed_case horizon value_of
+unfolding case_of keyed_case horizon value_under
 empty_object = refl
 
 -- one period, and a demand of one item that is negative: 23 at demand, item 1
@@ -32,7 +33,7 @@ pub negative_demand : case_of
     (object (members_of
     (under (codes "demand") (one (minus_tenths 5)) ∷ under (codes "time_periods") (whole_number 1) ∷ [])))
     ≡ Err (record { code = codes_of.Negative; field = fields.Demand; kind = kinds.Case; unit = 0; item = 1 })
-unfolding case_of keyed_case horizon needs value_of powers full amount time_within each rounded rounded_size
+unfolding case_of keyed_case horizon needs value_under powers full amount time_within each rounded rounded_size
 negative_demand = refl
 
 -- a renewable unit of 100 MW, and the kilowatts of its case
@@ -55,6 +56,6 @@ pub smallest_case : case_of smallest ≡ Ok (record {
   flat = record { name = codes "W"; unit = record { least = pos 0 ∷ []; most = pos 100000 ∷ [] } } ∷ [];
   bids = [];
 })
-unfolding case_of keyed_case horizon needs all_units value_of powers full amount time_within each rounded rounded_size
-    units renewable renewable_unit keyed_renewable bids
+unfolding case_of keyed_case horizon needs all_units value_under powers full amount time_within each rounded
+    rounded_size units renewable renewable_unit keyed_renewable bids
 smallest_case = refl

@@ -2,7 +2,7 @@
 use Rattle.std.specs.Prelude.{ℕ, List, Result, Ok, Err}
 use Rattle.uc_model.specs.Data.{Market}
 use Rattle.uc_case.specs.Cases.{case_of}
-use Rattle.uc_file.specs.Files.{FileFault, text, value, IsReading}
+use Rattle.uc_text.specs.Files.{FileFault, text, value, IsReading}
 use Rattle.uc_case.specs.declared.fault.CaseFault.{CaseFault}
 use Rattle.uc_case.specs.declared.fault.CaseFault.TheVariants as faults
 use Rattle.uc_field.specs.declared.fault.FieldFault.{FieldFault}

@@ -5,10 +5,10 @@ use Rattle.uc_model.specs.declared.kinds.Kind.{Kind}
 use Rattle.uc_model.specs.declared.kinds.Kind.TheVariants.{Case, Thermal, Renewable, Bid}
 use Rattle.uc_model.specs.declared.limits.TheConstants.{MOST_PERIODS, MOST_OF_A_KIND}
 use Rattle.uc_model.specs.Data.{NamedThermalUnit, NamedRenewableUnit, NamedBidUnit, Market}
-use Rattle.text_tree.specs.Values.{Value}
-use Rattle.text_tree.specs.Parts.{Pair}
+use Rattle.uc_text.specs.Values.{Value}
+use Rattle.uc_text.specs.Pairs.{Pair}
 use Rattle.uc_field.specs.Sites.{fault, field_at, site}
-use Rattle.uc_file.specs.Words.{◌>>=◌, ◌>>◌, refuse, each, position}
+use Rattle.uc_text.specs.Words.{◌>>=◌, ◌>>◌, refuse, each, position}
 use Rattle.uc_field.specs.Forms.{Read, Keys, keys, key, key_or_none, object, time_within}
 use Rattle.uc_field.specs.Lists.{powers}
 use Rattle.uc_case.specs.Tables.{thermal_unit, renewable_unit, bid_unit}

@@ -2,7 +2,7 @@
 use Rattle.std.specs.Prelude.{◌≡◌, ℕ, List, Result}
 use Rattle.uc_model.specs.Data.{Market}
 use Rattle.uc_case.specs.CaseFiles.{IsCaseOf}
-use Rattle.uc_file.specs.Files.{FileFault}
+use Rattle.uc_text.specs.Files.{FileFault}
 use Rattle.uc_field.specs.declared.fault.FieldFault.{FieldFault}
 
 abbrev pub OneCase : Type 0

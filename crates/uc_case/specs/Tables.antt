@@ -5,10 +5,10 @@ use Rattle.uc_model.specs.declared.units.Lag.{Lag}
 use Rattle.uc_model.specs.declared.units.Point.{Point}
 use Rattle.uc_model.specs.declared.units.Mark.{Mark}
 use Rattle.uc_model.specs.Data.{ThermalUnit, RenewableUnit, BidUnit}
-use Rattle.text_tree.specs.Values.{Value}
-use Rattle.uc_file.specs.Magnitudes.{most_power, most_output}
+use Rattle.uc_text.specs.Values.{Value}
+use Rattle.uc_text.specs.Magnitudes.{most_power, most_output}
 use Rattle.uc_field.specs.Sites.{fault, field_at, item_at}
-use Rattle.uc_file.specs.Words.{◌>>=◌, ◌>>◌, refuse}
+use Rattle.uc_text.specs.Words.{◌>>=◌, ◌>>◌, refuse}
 use Rattle.uc_field.specs.Forms.{Read, Keys, keys, key, key_or_none, object, power, time, flag}
 use Rattle.uc_field.specs.Lists.{startup, piecewise, commitment, powers, blocks}
 use Rattle.uc_field.specs.declared.fault.CaseCode.TheVariants.{RangeOrder}

@@ -3,17 +3,17 @@ ghost use Rattle.std.specs.Prelude.{◌≡◌, ◌≤◌, length, IfOk};
 ghost use Rattle.uc_model.specs.Limits.{IsBidUnit};
 ghost use Rattle.uc_model.specs.PlainUnits.{bid_of};
 ghost use Rattle.uc_model.specs.declared.limits.TheConstants.{MOST_PERIODS};
-ghost use Rattle.text_tree.specs.View.{view};
-ghost use Rattle.uc_file.specs.Given.{Gives};
+ghost use Rattle.uc_text.specs.View.{view};
+ghost use Rattle.uc_text.specs.Given.{Gives};
 ghost use Rattle.uc_case.specs.Tables.{bid_unit};
 
 use std::alloc::Global;
-use text_tree::Branch;
 use uc_field::blocks::read_block_lists;
 use uc_field::fault::Site;
 use uc_field::forms::{FieldStop, members_of};
 use uc_field::keys::Keys;
 use uc_model::units::Bid;
+use uc_text::Branch;
 
 /// A bid, or the first of its faults; those of a block are at its period.
 #[tactic(auto, unfolding(crate::specs::Tables::bid_unit))]

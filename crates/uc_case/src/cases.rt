@@ -4,8 +4,8 @@ ghost use Rattle.std.specs.List.{All};
 ghost use Rattle.uc_model.specs.PlainCases.{market_of};
 ghost use Rattle.uc_model.specs.PlainUnits.{named_thermal_of, named_renewable_of, named_bid_of};
 ghost use Rattle.uc_model.specs.declared.limits.TheConstants.{MOST_OF_A_KIND, MOST_PERIODS};
-ghost use Rattle.text_tree.specs.View.{view, member_views};
-ghost use Rattle.uc_file.specs.Given.{Gives};
+ghost use Rattle.uc_text.specs.View.{view, member_views};
+ghost use Rattle.uc_text.specs.Given.{Gives};
 ghost use Rattle.uc_case.specs.Kept.{IsThermalOf, IsRenewableOf, IsBidOf, AreNeeds, AreAllUnits};
 ghost use Rattle.uc_case.specs.Parts.{needs_of, units_of};
 ghost use Rattle.uc_field.specs.Forms.{keys, key, key_or_none};
@@ -15,7 +15,6 @@ ghost use Rattle.uc_case.specs.Cases.{all_units, no_unit, joined_case, keyed_cas
 use crate::listed::{read_units, unit_site};
 use crate::parts::{Needs, Units};
 use std::alloc::Global;
-use text_tree::Branch;
 use uc_field::fault::{CaseCode, Field, Kind};
 use uc_field::forms::{FieldStop, members_of};
 use uc_field::keys::Keys;
@@ -23,6 +22,7 @@ use uc_field::limits::PERIODS;
 use uc_field::lists::read_powers;
 use uc_model::cases::Case;
 use uc_model::units::{BidList, FlatList, NamedBid, NamedFlat, NamedUnit, ThermalList};
+use uc_text::Branch;
 
 /// The thermal units, in file order.
 fn read_thermal_units(alloc: Global, c: &Keys, periods: u32) -> Result<ThermalList, FieldStop>

@@ -4,9 +4,9 @@ ghost use Rattle.std.specs.List.{All};
 ghost use Rattle.uc_model.specs.Data.{NamedThermalUnit, NamedRenewableUnit, NamedBidUnit};
 ghost use Rattle.uc_model.specs.PlainUnits.{named_thermal_of, named_renewable_of, named_bid_of};
 ghost use Rattle.uc_model.specs.declared.limits.TheConstants.{MOST_OF_A_KIND, MOST_PERIODS};
-ghost use Rattle.text_tree.specs.Parts.{Pair};
-ghost use Rattle.text_tree.specs.View.{view, member_view, member_views};
-ghost use Rattle.uc_file.specs.Given.{Gives};
+ghost use Rattle.uc_text.specs.Pairs.{Pair};
+ghost use Rattle.uc_text.specs.View.{view, member_view, member_views};
+ghost use Rattle.uc_text.specs.Given.{Gives};
 ghost use Rattle.uc_case.specs.Kept.{IsThermalOf, IsRenewableOf, IsBidOf};
 ghost use Rattle.uc_field.specs.Forms.{Read};
 ghost use Rattle.uc_field.specs.Sites.{site};
@@ -18,11 +18,11 @@ use crate::units::{read_renewable, read_unit};
 use plain_lists::lists::{Name, ReservedList};
 use std::alloc::{AllocError, Global};
 use text_tokens::text_of;
-use text_tree::{Branch, Member};
 use uc_field::fault::{CaseCode, Field, Kind, Site};
 use uc_field::forms::{FieldStop, object_of};
 use uc_field::limits::UNITS;
 use uc_model::units::{NamedBid, NamedFlat, NamedUnit};
+use uc_text::{Branch, Member};
 
 /// A unit or bid under its name.
 pub trait Listed: Sized {

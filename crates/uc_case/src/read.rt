@@ -4,15 +4,15 @@ ghost use Rattle.uc_model.specs.Data.{Market};
 ghost use Rattle.uc_model.specs.PlainCases.{market_of};
 ghost use Rattle.plain_lists.specs.declared.limits.TheConstants.{MOST_BYTES};
 ghost use Rattle.uc_case.specs.CaseFiles.{IsCaseOf, IfRead};
-ghost use Rattle.uc_file.specs.Files.{FileFault};
+ghost use Rattle.uc_text.specs.Files.{FileFault};
 ghost use Rattle.uc_field.specs.declared.fault.FieldFault.{FieldFault as PlainFault};
 
 use crate::cases::case_of_tree;
 use crate::fault::CaseFault;
 use crate::laws::one_case;
 use std::alloc::Global;
-use uc_file::stop::Stop;
 use uc_model::cases::Case;
+use uc_text::stop::Stop;
 use uc_text::{TextError, read_tree};
 
 /// The case of a file, as pglib-uc has it, with `commitment` lists and `demand_bids`. Powers are

@@ -3,17 +3,18 @@ ghost use Rattle.std.specs.Prelude.{◌≡◌, ◌≤◌, IfOk, length};
 ghost use Rattle.uc_model.specs.PlainUnits.{thermal_of, renewable_of};
 ghost use Rattle.uc_model.specs.Limits.{IsThermalUnit, IsRenewableUnit};
 ghost use Rattle.uc_model.specs.declared.limits.TheConstants.{MOST_PERIODS};
-ghost use Rattle.text_tree.specs.View.{view, member_views};
-ghost use Rattle.uc_file.specs.Given.{Gives};
+ghost use Rattle.uc_text.specs.View.{view, member_views};
+ghost use Rattle.uc_text.specs.Given.{Gives};
 ghost use Rattle.uc_case.specs.Kept.{IsRange, AreRamps, IsPast, AreUnitLists};
 ghost use Rattle.uc_case.specs.Parts.{lists_of};
 ghost use Rattle.uc_field.specs.Forms.{keys};
-ghost use Rattle.uc_case.specs.Tables.{thermal_unit, renewable_unit, keyed_renewable, first_crossed};
-ghost use Rattle.uc_case.specs.Tables.{output, ramps, past, unit_lists, keyed_unit, joined_unit, at_least_one};
+ghost use Rattle.uc_case.specs.Tables.{thermal_unit, renewable_unit, keyed_renewable};
+ghost use Rattle.uc_case.specs.Tables.{first_crossed};
+ghost use Rattle.uc_case.specs.Tables.{output, ramps, past, unit_lists, keyed_unit, joined_unit};
+ghost use Rattle.uc_case.specs.Tables.{at_least_one};
 
 use crate::parts::{Lists, Output, Past, Ramps};
 use std::alloc::Global;
-use text_tree::Branch;
 use uc_field::fault::{CaseCode, Field, Site};
 use uc_field::forms::{FieldStop, members_of};
 use uc_field::keys::Keys;
@@ -21,6 +22,7 @@ use uc_field::limits::{OUTPUT, POWER, TIME};
 use uc_field::lists::{read_piecewise, read_powers, read_startup};
 use uc_field::windows::read_commitment;
 use uc_model::units::{Renewable, Unit};
+use uc_text::Branch;
 
 fn raised_to_one(time: u32) -> u32
     ensures { result ≡ at_least_one time }

@@ -10,15 +10,15 @@ pub use Rattle.std.proofs.lemmas.Result.{err_from_is_err_and}
 pub use Rattle.std.specs.List.{All}
 pub use Rattle.std.specs.Prelude.{ℤ, pos, negsuc, neg_ℤ, unsigned_abs, nat_lt, int_lt, ◌≤ℤ◌, slice_get}
 pub use Rattle.std.specs.Prelude.{FitsSigned}
-pub use Rattle.uc_file.proofs.EachLaws.{goes_on, ends, counted, is_done}
+pub use Rattle.uc_text.proofs.EachLaws.{goes_on, ends, counted, is_done}
 pub use Rattle.uc_field.specs.Forms.{Read, items}
 unfoldable pub use Rattle.uc_field.specs.Forms.{few}
 pub use Rattle.uc_field.specs.Kept.{AreLags, ArePoints, AreBlocks, IsPointList}
 pub use Rattle.uc_field.specs.Sites.{fault, item_at}
 pub use Rattle.uc_field.specs.Lists.{ends_miss}
 unfoldable pub use Rattle.uc_field.specs.Lists.{block, period_blocks}
-pub use Rattle.uc_file.specs.Words.{position, last_is}
-unfoldable pub use Rattle.uc_file.specs.Words.{each}
+pub use Rattle.uc_text.specs.Words.{position, last_is}
+unfoldable pub use Rattle.uc_text.specs.Words.{each}
 pub use Rattle.uc_field.specs.declared.fault.FieldFault.{FieldFault}
 pub use Rattle.uc_field.specs.declared.fault.Site.{Site}
 pub use Rattle.plain_lists.specs.Ranges.{IsFrom}
@@ -28,6 +28,6 @@ pub use Rattle.plain_lists.specs.Reserved.{Reserved, items_in}
 pub use Rattle.uc_model.specs.declared.units.Block.{Block}
 pub use Rattle.uc_model.specs.declared.units.Lag.{Lag}
 pub use Rattle.uc_model.specs.declared.units.Point.{Point}
-pub use Rattle.text_tree.specs.Values.{Value}
-pub use Rattle.text_tree.specs.View.{view, views}
-pub use Rattle.text_tree.specs.declared.branch.Branch.{Branch}
+pub use Rattle.uc_text.specs.Values.{Value}
+pub use Rattle.uc_text.specs.View.{view, views}
+pub use Rattle.uc_text.specs.declared.branch.Branch.{Branch}

@@ -3,8 +3,8 @@ use Rattle.uc_field.proofs.Common.{◌≡◌, ℕ, ◌+◌, ◌<◌, List, [], �
 use Rattle.uc_field.proofs.Common.{subst, ◌∙◌, length-map, map_push, Reserved, items_in, Block, period_blocks, Value}
 use Rattle.uc_field.proofs.Common.{view, views, Branch, goes_on, ends, item_at, each, position, Read, Site}
 use Rattle.uc_field.proofs.Common.{FieldFault, few, block, int_lt, false, true, Err, fault}
-use Rattle.uc_file.specs.Given.{Fails}
-use Rattle.uc_file.specs.declared.stop.Stop.{Stop}
+use Rattle.uc_text.specs.Given.{Fails}
+use Rattle.uc_text.specs.declared.stop.Stop.{Stop}
 use Rattle.plain_lists.specs.Sums.{total}
 use Rattle.uc_model.specs.declared.limits.TheConstants.{MOST_BLOCKS, POWER_LIMIT}
 use Rattle.uc_field.specs.declared.fault.CaseCode.TheVariants as codes

@@ -2,14 +2,14 @@
 use Rattle.std.specs.Prelude.{ℕ, ◌==◌, Bool, List, [], length, Option, Result, Ok, ℤ, pos}
 use Rattle.std.specs.Prelude.{nat_abs, unsigned_abs, nat_lt, int_lt, not}
 use Rattle.uc_model.specs.declared.limits.TheConstants.{MOST_TIME}
-use Rattle.uc_num.specs.declared.Decimal.{Decimal}
-use Rattle.uc_num.specs.Rounding.{rounded}
-use Rattle.text_tree.specs.Values.{Value}
-use Rattle.text_tree.specs.Parts.{Pair}
-use Rattle.uc_file.specs.Inside.{number_in, list_in, object_in, value_of, is_whole, bit_of}
+use Rattle.text_tokens.specs.declared.decimal.Decimal.{Decimal}
+use Rattle.text_tokens.specs.Rounding.{rounded}
+use Rattle.uc_text.specs.Values.{Value}
+use Rattle.uc_text.specs.Pairs.{Pair}
+use Rattle.uc_text.specs.Inside.{number_in, list_in, object_in, value_under, is_whole, bit_of}
 use Rattle.uc_field.specs.Sites.{fault, field_at, item_at, key_of}
-use Rattle.uc_file.specs.Magnitudes.{most_cost}
-use Rattle.uc_file.specs.Words.{◌>>=◌, ◌>>◌, refuse, need, each, position}
+use Rattle.uc_text.specs.Magnitudes.{most_cost}
+use Rattle.uc_text.specs.Words.{◌>>=◌, ◌>>◌, refuse, need, each, position}
 use Rattle.uc_field.specs.declared.fault.CaseCode.TheVariants.{Missing, WrongKind, NotWhole}
 use Rattle.uc_field.specs.declared.fault.CaseCode.TheVariants.{Negative, TooLarge, WrongLength, NotFlag}
 use Rattle.uc_field.specs.declared.fault.Field.{Field}
@@ -72,7 +72,7 @@ flag at v = do
 
 -- the value under a key that must be there
 abbrev pub under : Site → List ℕ → List Pair → Read Value
-under at key members = need (fault at Missing) (value_of key members)
+under at key members = need (fault at Missing) (value_under key members)
 
 -- a key of an item, whose faults are those of the item's site
 abbrev pub part : {A : Type 0} → Site → List ℕ → (Site → Value → Read A) → List Pair → Read A
@@ -96,7 +96,7 @@ key o f form = do
 
 -- a key that may be absent
 abbrev pub key_or_none : {A : Type 0} → Keys → Field → (Site → Option Value → Read A) → Read A
-key_or_none o f form = form (field_at o.at f) (value_of (key_of f) o.members)
+key_or_none o f form = form (field_at o.at f) (value_under (key_of f) o.members)
 
 -- an item of a list, at the site of its position
 abbrev pub at_item : {A : Type 0} → (Site → List A → Value → Read A)

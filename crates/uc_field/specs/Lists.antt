@@ -12,12 +12,12 @@ use Rattle.uc_model.specs.declared.units.Mark.TheVariants.{Free, MustOff, MustOn
 use Rattle.uc_model.specs.declared.limits.TheConstants.{MOST_LAGS, MOST_POINTS}
 use Rattle.uc_model.specs.declared.limits.TheConstants.{MOST_BLOCKS, POWER_LIMIT}
 use Rattle.plain_lists.specs.Sums.{total}
-use Rattle.text_tree.specs.Values.{Value, scalar, null, number}
-use Rattle.text_tree.specs.Parts.{Pair}
-use Rattle.uc_file.specs.Inside.{list_in, bit_of}
-use Rattle.uc_file.specs.Magnitudes.{most_power, most_price}
+use Rattle.uc_text.specs.Values.{Value, scalar, null, number}
+use Rattle.uc_text.specs.Pairs.{Pair}
+use Rattle.uc_text.specs.Inside.{list_in, bit_of}
+use Rattle.uc_text.specs.Magnitudes.{most_power, most_price}
 use Rattle.uc_field.specs.Sites.{fault}
-use Rattle.uc_file.specs.Words.{◌>>=◌, ◌>>◌, refuse, need, last_is}
+use Rattle.uc_text.specs.Words.{◌>>=◌, ◌>>◌, refuse, need, last_is}
 use Rattle.uc_field.specs.Forms.{Read, part, at_item, items, few, full}
 use Rattle.uc_field.specs.Forms.{object, amount, power, cost, start_cost, time}
 use Rattle.uc_field.specs.declared.fault.CaseCode.TheVariants.{TooLarge, CurveOrder}

@@ -5,10 +5,10 @@ ghost use Rattle.uc_model.specs.Limits.{IsBlock, IsBlockList};
 ghost use Rattle.plain_lists.specs.Reserved.{items_in};
 ghost use Rattle.uc_model.specs.declared.units.Block.{Block as PlainBlock};
 ghost use Rattle.uc_model.specs.declared.limits.TheConstants.{MOST_PERIODS};
-ghost use Rattle.text_tree.specs.View.{view, views, member_views};
-ghost use Rattle.uc_file.specs.Given.{Gives};
+ghost use Rattle.uc_text.specs.View.{view, views, member_views};
+ghost use Rattle.uc_text.specs.Given.{Gives};
 ghost use Rattle.uc_field.specs.Kept.{AreBlocks};
-ghost use Rattle.uc_file.specs.Words.{last_is};
+ghost use Rattle.uc_text.specs.Words.{last_is};
 ghost use Rattle.uc_field.specs.Forms.{key, keys, items};
 ghost use Rattle.uc_field.specs.Lists.{block, block_in, period_blocks, blocks};
 
@@ -18,10 +18,10 @@ use crate::items::{Item, read_few};
 use crate::keys::Keys;
 use crate::limits::{BLOCKS, POWER, PRICE};
 use std::alloc::Global;
-use text_tree::{Branch, Member};
 use uc_model::limits::POWER_LIMIT;
 use uc_model::money::total_width;
 use uc_model::units::{Block, BlockLists, Blocks};
+use uc_text::{Branch, Member};
 
 /// Whether a price is above that of the last of these blocks.
 fn is_dearer(before: &[Block], price: i64) -> bool

@@ -5,20 +5,20 @@ ghost use Rattle.std.specs.Prelude.{◌≡◌, ◌≤◌, ◌^◌, IfOk, length,
 ghost use Rattle.plain_lists.specs.Ranges.{IsFrom};
 ghost use Rattle.uc_model.specs.Limits.{IsCost};
 ghost use Rattle.uc_model.specs.declared.limits.TheConstants.{MOST_TIME};
-ghost use Rattle.text_tree.specs.View.{view, items_in, members_in, member_views};
-ghost use Rattle.uc_file.specs.Given.{Gives};
+ghost use Rattle.uc_text.specs.View.{view, items_in, members_in, member_views};
+ghost use Rattle.uc_text.specs.Given.{Gives};
 ghost use Rattle.uc_field.specs.Sites.{fault};
 ghost use Rattle.uc_field.specs.Forms.{full, object, amount, power, cost};
 ghost use Rattle.uc_field.specs.Forms.{time_within, flag, under, part};
-ghost use Rattle.uc_file.specs.declared.stop.Stop.TheVariants as stops;
+ghost use Rattle.uc_text.specs.declared.stop.Stop.TheVariants as stops;
 
 use crate::fault::{CaseCode, FieldFault, Site};
 use crate::limits::COST;
 use std::alloc::Global;
-use text_tree::{Branch, ListBranch, Member, ObjectBranch};
-use uc_file::inside::{bit, find};
-use uc_file::stop::Stop;
-use uc_num::{is_whole, whole};
+use text_tokens::{is_whole, whole};
+use uc_text::inside::{bit, find};
+use uc_text::stop::Stop;
+use uc_text::{Branch, ListBranch, Member, ObjectBranch};
 
 /// Why the reading of a case stops.
 pub type FieldStop = Stop<FieldFault>;

@@ -1,10 +1,10 @@
 //! Lists whose items are read one behind the other.
 ghost use Rattle.std.specs.Prelude.{◌≡◌, ◌≤◌, [], ◌∷◌, ◌++◌, List, IfOk, length};
 ghost use Rattle.uc_model.specs.declared.limits.TheConstants.{MOST_OF_A_KIND};
-ghost use Rattle.text_tree.specs.Values.{Value};
-ghost use Rattle.text_tree.specs.View.{view, views, items_in};
-ghost use Rattle.uc_file.specs.Given.{Gives};
-ghost use Rattle.uc_file.specs.Words.{each};
+ghost use Rattle.uc_text.specs.Values.{Value};
+ghost use Rattle.uc_text.specs.View.{view, views, items_in};
+ghost use Rattle.uc_text.specs.Given.{Gives};
+ghost use Rattle.uc_text.specs.Words.{each};
 ghost use Rattle.uc_field.specs.Forms.{Read, few};
 ghost use Rattle.uc_field.specs.declared.fault.Site.{Site as PlainSite};
 
@@ -12,7 +12,7 @@ use crate::fault::{CaseCode, Site};
 use crate::forms::FieldStop;
 use plain_lists::lists::ReservedList;
 use std::alloc::Global;
-use text_tree::{Branch, ListBranch};
+use uc_text::{Branch, ListBranch};
 
 /// An item of a list, whose tests may look at the items before it.
 pub trait Item: Sized {

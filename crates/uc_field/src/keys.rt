@@ -3,16 +3,16 @@ ghost use Rattle.std.specs.Prelude.{◌≡◌, ◌≤◌, ◌^◌, IfOk, pos};
 ghost use Rattle.std.specs.Option.{option_map};
 ghost use Rattle.plain_lists.specs.Ranges.{IsFrom};
 ghost use Rattle.uc_model.specs.declared.limits.TheConstants.{MOST_TIME};
-ghost use Rattle.text_tree.specs.View.{view, member_views};
-ghost use Rattle.uc_file.specs.Given.{Gives};
-ghost use Rattle.uc_file.specs.Inside.{value_of};
+ghost use Rattle.uc_text.specs.View.{view, member_views};
+ghost use Rattle.uc_text.specs.Given.{Gives};
+ghost use Rattle.uc_text.specs.Inside.{value_under};
 ghost use Rattle.uc_field.specs.Sites.{key_of, field_at};
 ghost use Rattle.uc_field.specs.Forms.{keys, key, under, flag, power, time_within};
 
 use crate::fault::{Field, Site};
 use crate::forms::{FieldStop, amount_under, read_flag, time_under, value_under};
-use text_tree::{Branch, Member};
-use uc_file::inside::find;
+use uc_text::inside::find;
+use uc_text::{Branch, Member};
 
 /// A unit or the case: the site of its faults but for the field, and its members.
 #[derive(Drop)]
@@ -36,7 +36,7 @@ impl<'a> Keys<'a> {
     /// The value under the key of a field, if it is there.
     pub fn find(&self, field: Field) -> Option<Branch<'a>>
         ensures { option_map view result
-            ≡ value_of (key_of field) (member_views self.now.members.items) }
+            ≡ value_under (key_of field) (member_views self.now.members.items) }
     {
         find(&self.members, field.key())
     }

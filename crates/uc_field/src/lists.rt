@@ -5,10 +5,10 @@ ghost use Rattle.uc_model.specs.Limits.{IsLag, IsPoint, IsPower};
 ghost use Rattle.uc_model.specs.declared.units.Lag.{Lag as PlainLag};
 ghost use Rattle.uc_model.specs.declared.units.Point.{Point as PlainPoint};
 ghost use Rattle.uc_model.specs.declared.limits.TheConstants.{MOST_LAGS, MOST_PERIODS};
-ghost use Rattle.text_tree.specs.View.{member_views};
-ghost use Rattle.uc_file.specs.Given.{Gives};
+ghost use Rattle.uc_text.specs.View.{member_views};
+ghost use Rattle.uc_text.specs.Given.{Gives};
 ghost use Rattle.uc_field.specs.Kept.{AreLags, ArePoints, IsPointList};
-ghost use Rattle.uc_file.specs.Words.{last_is};
+ghost use Rattle.uc_text.specs.Words.{last_is};
 ghost use Rattle.uc_field.specs.Forms.{key, keys, at_item};
 ghost use Rattle.uc_field.specs.Lists.{lag, startup, point, piecewise, powers, one_power};
 ghost use Rattle.uc_field.specs.Lists.{lag_in, point_in, ends_miss};
@@ -22,8 +22,8 @@ use crate::keys::Keys;
 use crate::limits::{COST, LAGS, POINTS, POWER, TIME};
 use plain_lists::lists::Numbers;
 use std::alloc::Global;
-use text_tree::{Branch, Member};
 use uc_model::units::{Lag, Lags, Point, Points};
+use uc_text::{Branch, Member};
 
 /// Whether a lag is below the last of these.
 fn is_sooner(before: &[Lag], lag: u32) -> bool

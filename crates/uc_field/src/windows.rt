@@ -1,9 +1,9 @@
 //! The commitment window of a unit.
 ghost use Rattle.std.specs.Prelude.{◌≡◌, ◌≤◌, length, IfOk};
 ghost use Rattle.uc_model.specs.declared.limits.TheConstants.{MOST_PERIODS};
-ghost use Rattle.text_tree.specs.Values.{scalar, number as number_spec};
-ghost use Rattle.text_tree.specs.View.{view, member_views};
-ghost use Rattle.uc_file.specs.Given.{Gives};
+ghost use Rattle.uc_text.specs.Values.{scalar, number as number_spec};
+ghost use Rattle.uc_text.specs.View.{view, member_views};
+ghost use Rattle.uc_text.specs.Given.{Gives};
 ghost use Rattle.uc_field.specs.Forms.{keys, key_or_none, at_item};
 ghost use Rattle.uc_field.specs.Lists.{mark, mark_in, window, commitment};
 
@@ -12,10 +12,10 @@ use crate::forms::FieldStop;
 use crate::items::{Item, read_items};
 use crate::keys::Keys;
 use std::alloc::Global;
-use text_tree::Branch;
-use uc_file::inside::bit;
+use text_tokens::Decimal;
 use uc_model::units::{Mark, Marks};
-use uc_num::Decimal;
+use uc_text::Branch;
+use uc_text::inside::bit;
 
 /// The mark of a period that the number 1 keeps on and the number 0 off.
 fn mark_set(number: Decimal) -> Option<Mark>

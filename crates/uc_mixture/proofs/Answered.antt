@@ -1,7 +1,7 @@
 -- The answer of the reader is the only one.
 use Rattle.uc_mixture.proofs.Common.{◌≡◌, ℕ, List, Result, Ok, Err, Market, MixtureLists, mixture_of, FileFault, text}
 use Rattle.uc_mixture.proofs.Common.{value, ShareFault}
-use Rattle.mixture_bound.specs.declared.mixtures.Mixture.{Mixture}
+use Rattle.gap_proof.specs.declared.mixtures.Mixture.{Mixture}
 use Rattle.uc_mixture.specs.Laws.{OneMixture}
 use Rattle.uc_mixture.specs.MixtureFiles.{IsMixtureFileOf, IfRead}
 use Rattle.uc_mixture.specs.declared.fault.MixtureFault.{MixtureFault}

@@ -12,21 +12,21 @@ pub use Rattle.std.specs.List.{All, AllZip}
 pub use Rattle.std.specs.Int.{cast_signed, w128}
 pub use Rattle.std.specs.Prelude.{ℤ, slice_get, pos, negsuc, neg_ℤ, ◌+ℤ◌, ◌≤ℤ◌, unsigned_abs, nat_lt, int_lt, int_le}
 pub use Rattle.std.specs.Prelude.{FitsSigned}
-pub use Rattle.mixture_bound.specs.Mixtures.{WeighedSchedule, MixtureLists, entry_of, entries_of, mixture_of, AreShares}
-pub use Rattle.mixture_bound.specs.Mixtures.{AreEntries, IsOver, HasMixtureShape, most_whole}
+pub use Rattle.gap_proof.specs.Mixtures.{WeighedSchedule, MixtureLists, entry_of, entries_of, mixture_of, AreShares}
+pub use Rattle.gap_proof.specs.Mixtures.{AreEntries, IsOver, HasMixtureShape, most_whole}
 pub use Rattle.plain_lists.proofs.SignedLaws.{IsWithin, fits_within}
 pub use Rattle.plain_lists.specs.Ranges.{IsFrom}
 pub use Rattle.plain_lists.specs.Sums.{total}
-pub use Rattle.text_tree.specs.Parts.{Pair}
-pub use Rattle.text_tree.specs.Values.{Value}
-pub use Rattle.text_tree.specs.View.{view, views, members_in}
-pub use Rattle.text_tree.specs.declared.branch.Branch.{Branch}
-pub use Rattle.uc_file.proofs.EachLaws.{goes_on, ends, is_done, counted}
-pub use Rattle.uc_file.specs.Files.{FileFault, text, value, reading_of, of_value}
-pub use Rattle.uc_file.specs.Given.{Fails}
-pub use Rattle.uc_file.specs.Words.{◌>>=◌, ◌>>◌, need, position}
-unfoldable pub use Rattle.uc_file.specs.Words.{each}
-pub use Rattle.uc_file.specs.declared.stop.Stop.{Stop}
+pub use Rattle.uc_text.specs.Pairs.{Pair}
+pub use Rattle.uc_text.specs.Values.{Value}
+pub use Rattle.uc_text.specs.View.{view, views, members_in}
+pub use Rattle.uc_text.specs.declared.branch.Branch.{Branch}
+pub use Rattle.uc_text.proofs.EachLaws.{goes_on, ends, is_done, counted}
+pub use Rattle.uc_text.specs.Files.{FileFault, text, value, reading_of, of_value}
+pub use Rattle.uc_text.specs.Given.{Fails}
+pub use Rattle.uc_text.specs.Words.{◌>>=◌, ◌>>◌, need, position}
+unfoldable pub use Rattle.uc_text.specs.Words.{each}
+pub use Rattle.uc_text.specs.declared.stop.Stop.{Stop}
 pub use Rattle.uc_model.specs.Data.{Market, NamedThermalUnit, thermal_names}
 pub use Rattle.uc_model.specs.PlainCases.{market_of}
 pub use Rattle.uc_mixture.specs.Faults.{site_of_unit, entry_at, within, stop_within}

@@ -4,7 +4,7 @@ use Rattle.uc_mixture.proofs.Common.{sym, subst, ◌∙◌, map_push, length-map
 use Rattle.uc_mixture.proofs.Common.{Stop, goes_on, ends, is_done, each, position, WeighedSchedule, entry_of}
 use Rattle.uc_mixture.proofs.Common.{entries_of, Read, entry, entries, named, units, names_of, site_of_unit, entry_at}
 use Rattle.uc_mixture.proofs.Common.{Frame, ShareFault, ShareSite}
-use Rattle.mixture_bound.specs.declared.mixtures.Entry.{Entry}
+use Rattle.gap_proof.specs.declared.mixtures.Entry.{Entry}
 use Rattle.plain_lists.specs.Reserved.{Reserved}
 use Rattle.uc_model.specs.declared.units.NamedUnit.{NamedUnit}
 

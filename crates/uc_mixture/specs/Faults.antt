@@ -1,7 +1,7 @@
 -- The faults of a mixture file (this project's profile).
 use Rattle.std.specs.Prelude.{ℕ, Result, Ok, Err}
-use Rattle.uc_file.specs.declared.stop.Stop.{Stop}
-use Rattle.uc_file.specs.declared.stop.Stop.TheVariants as stops
+use Rattle.uc_text.specs.declared.stop.Stop.{Stop}
+use Rattle.uc_text.specs.declared.stop.Stop.TheVariants as stops
 use Rattle.uc_model.specs.declared.kinds.Kind.TheVariants.{Case, Thermal}
 use Rattle.uc_plan.specs.Shapes.{shape_number}
 use Rattle.uc_plan.specs.declared.fault.ShapeSite.{ShapeSite}

@@ -1,7 +1,7 @@
 -- What an entry that was read keeps.
 use Rattle.std.specs.Prelude.{◌≤◌, pos, List}
 use Rattle.std.specs.List.{All}
-use Rattle.mixture_bound.specs.Mixtures.{WeighedSchedule, IsOver, most_whole}
+use Rattle.gap_proof.specs.Mixtures.{WeighedSchedule, IsOver, most_whole}
 use Rattle.plain_lists.specs.Ranges.{IsFrom}
 use Rattle.uc_model.specs.declared.limits.TheConstants.{MOST_PERIODS}
 use Rattle.uc_mixture.specs.declared.entries.Frame.{Frame}

@@ -1,7 +1,7 @@
 -- A file is one mixture for a case, or has one first fault.
 use Rattle.std.specs.Prelude.{◌≡◌, ℕ, List, Result}
-use Rattle.mixture_bound.specs.Mixtures.{MixtureLists}
-use Rattle.uc_file.specs.Files.{FileFault}
+use Rattle.gap_proof.specs.Mixtures.{MixtureLists}
+use Rattle.uc_text.specs.Files.{FileFault}
 use Rattle.uc_model.specs.Data.{Market}
 use Rattle.uc_mixture.specs.MixtureFiles.{IsMixtureFileOf}
 use Rattle.uc_mixture.specs.declared.fault.ShareFault.{ShareFault}

@@ -1,7 +1,7 @@
 -- What a mixture file is for a case, and what its reader answers.
 use Rattle.std.specs.Prelude.{ℕ, List, Result, Ok, Err}
-use Rattle.mixture_bound.specs.Mixtures.{MixtureLists}
-use Rattle.uc_file.specs.Files.{FileFault, text, value, IsReading}
+use Rattle.gap_proof.specs.Mixtures.{MixtureLists}
+use Rattle.uc_text.specs.Files.{FileFault, text, value, IsReading}
 use Rattle.uc_model.specs.Data.{Market}
 use Rattle.uc_mixture.specs.Tables.{mixture_in}
 use Rattle.uc_mixture.specs.declared.fault.MixtureFault.{MixtureFault}

@@ -4,16 +4,16 @@ use Rattle.std.specs.Prelude.{ℕ, ℤ, pos, not, ◌==◌, nat_lt, int_lt, unsi
 use Rattle.std.specs.Prelude.{map, length, codes, if◌then◌else◌, Option, Some, None, Result, Ok}
 use Rattle.std.specs.Option.{option_and_then, option_zip}
 use Rattle.std.specs.Ordering.{int_eq}
-use Rattle.mixture_bound.specs.Mixtures.{WeighedSchedule, MixtureLists, most_whole}
+use Rattle.gap_proof.specs.Mixtures.{WeighedSchedule, MixtureLists, most_whole}
 use Rattle.plain_lists.specs.Sums.{total}
-use Rattle.text_tree.specs.Parts.{Pair}
-use Rattle.text_tree.specs.Values.{Value}
-use Rattle.uc_file.specs.Inside.{number_in, list_in, object_in, value_of, is_whole}
-use Rattle.uc_file.specs.Words.{◌>>=◌, ◌>>◌, refuse, need, each, position}
+use Rattle.uc_text.specs.Pairs.{Pair}
+use Rattle.uc_text.specs.Values.{Value}
+use Rattle.uc_text.specs.Inside.{number_in, list_in, object_in, value_under, is_whole}
+use Rattle.uc_text.specs.Words.{◌>>=◌, ◌>>◌, refuse, need, each, position}
 use Rattle.uc_model.specs.Data.{Market, thermal_names}
 use Rattle.uc_model.specs.declared.kinds.Kind.TheVariants.{Thermal}
-use Rattle.uc_num.specs.Rounding.{rounded}
-use Rattle.uc_num.specs.declared.Decimal.{Decimal}
+use Rattle.text_tokens.specs.Rounding.{rounded}
+use Rattle.text_tokens.specs.declared.decimal.Decimal.{Decimal}
 use Rattle.uc_plan.specs.Plans.{ThermalLists, thermal_lists, listed_schedule, all_known, object_under}
 use Rattle.uc_plan.specs.declared.fault.ShapeCode.TheVariants.{MissingUnit, PlanShape}
 use Rattle.uc_mixture.specs.Faults.{site_of_file, site_of_unit, entry_at, shape_site_of, fault, within}
@@ -46,7 +46,7 @@ weight_sum entries = total (map (λ (e : WeighedSchedule). e.weight) entries)
 
 -- the weight and the lists of an entry, where each is among its members
 abbrev pub entry_parts : ℕ → List Pair → Option (Value × ThermalLists)
-entry_parts periods ms = option_zip (value_of (codes "weight") ms) (thermal_lists periods ms)
+entry_parts periods ms = option_zip (value_under (codes "weight") ms) (thermal_lists periods ms)
 
 -- an entry of these: its weight comes first, and then the items of its lists
 unfoldable pub weighed : Frame → ShareSite → Value → ThermalLists → Read WeighedSchedule
@@ -83,7 +83,7 @@ unit_entries frame at v = do
 
 unfoldable pub named : Frame → List Pair → ShareSite → List ℕ → Read (List WeighedSchedule)
 named frame members at name = do
-  v ← need (fault at (Shape MissingUnit)) (value_of name members)
+  v ← need (fault at (Shape MissingUnit)) (value_under name members)
   unit_entries frame at v
 
 -- the entries of each unit in the order of the case
@@ -100,7 +100,7 @@ pub record Head : Type 0 where
 
 -- the weight and the units of a mixture, where each is among its members
 abbrev pub head_parts : List Pair → Option (Value × List Pair)
-head_parts ms = option_zip (value_of (codes "weight") ms) (object_under (codes "thermal") ms)
+head_parts ms = option_zip (value_under (codes "weight") ms) (object_under (codes "thermal") ms)
 
 unfoldable pub head : Value → Read Head
 head v = do

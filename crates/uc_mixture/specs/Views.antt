@@ -1,6 +1,6 @@
 -- What the reader's own types say.
 use Rattle.std.specs.Prelude.{ℕ, List, map}
-use Rattle.text_tree.specs.View.{members_in}
+use Rattle.uc_text.specs.View.{members_in}
 use Rattle.uc_model.specs.declared.units.NamedUnit.{NamedUnit}
 use Rattle.uc_mixture.specs.Tables as plain
 use Rattle.uc_mixture.specs.declared.mixtures.Head.{Head}

@@ -1,10 +1,10 @@
 //! The entries of one unit.
 ghost use Rattle.std.specs.Prelude.{◌≡◌, IfOk, IfSome};
 ghost use Rattle.std.specs.List.{All};
-ghost use Rattle.mixture_bound.specs.Mixtures.{entry_of, entries_of, AreEntries};
+ghost use Rattle.gap_proof.specs.Mixtures.{entry_of, entries_of, AreEntries};
 ghost use Rattle.std.specs.Option.{option_map};
-ghost use Rattle.text_tree.specs.View.{view, views, items_in, member_views};
-ghost use Rattle.uc_file.specs.Given.{Gives};
+ghost use Rattle.uc_text.specs.View.{view, views, items_in, member_views};
+ghost use Rattle.uc_text.specs.Given.{Gives};
 ghost use Rattle.uc_plan.specs.Views.{lists_of, AreFull};
 ghost use Rattle.uc_mixture.specs.Kept.{IsFrame, IsEntryIn};
 ghost use Rattle.uc_mixture.specs.Tables.{entry_parts as entry_parts_spec, weighed, entry};
@@ -13,14 +13,14 @@ ghost use Rattle.uc_mixture.specs.Tables.{some_list as some_list_spec};
 
 use crate::fault::{ShareCode, ShareSite, ShareStop};
 use crate::weights::{sum_to, weight_at};
-use mixture_bound::{Entries, Entry};
+use gap_proof::{Entries, Entry};
 use std::alloc::Global;
-use text_tree::{Branch, ListBranch, Member};
-use uc_file::inside::find;
-use uc_file::stop::Stop;
 use uc_plan::fault::ShapeCode;
 use uc_plan::shapes::{ThermalLists, thermal_lists};
 use uc_plan::units::read_lists;
+use uc_text::inside::find;
+use uc_text::stop::Stop;
+use uc_text::{Branch, ListBranch, Member};
 
 /// What all entries have in common: over how many periods they are, and the whole that the weights
 /// of each unit sum to.

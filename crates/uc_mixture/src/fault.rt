@@ -1,15 +1,15 @@
 //! Why a file is no mixture for a case, and where.
 ghost use Rattle.std.specs.Prelude.{◌≡◌};
-ghost use Rattle.uc_file.specs.declared.stop.Stop.TheVariants as stops;
+ghost use Rattle.uc_text.specs.declared.stop.Stop.TheVariants as stops;
 ghost use Rattle.uc_mixture.specs.Faults.{code_number, fault, site_of_file, site_of_unit};
 ghost use Rattle.uc_mixture.specs.Faults.{entry_at, shape_site_of, stop_within};
 
 use std::fmt;
 use thiserror::Error;
-use uc_file::stop::Stop;
 use uc_model::kinds::Kind;
 use uc_plan::fault::{ShapeCode, ShapeSite, ShapeStop};
 use uc_text::TextFault;
+use uc_text::stop::Stop;
 
 /// What is wrong with a mixture.
 #[derive(Clone, Copy, Debug, PartialEq, Eq)]

@@ -1,10 +1,10 @@
 //! The mixture of a tree.
 ghost use Rattle.std.specs.Prelude.{◌≡◌, IfOk, pos};
 ghost use Rattle.std.specs.Option.{option_map};
-ghost use Rattle.mixture_bound.specs.Mixtures.{mixture_of, HasMixtureShape, most_whole};
+ghost use Rattle.gap_proof.specs.Mixtures.{mixture_of, HasMixtureShape, most_whole};
 ghost use Rattle.plain_lists.specs.Ranges.{IsFrom};
-ghost use Rattle.text_tree.specs.View.{view, member_views, members_in};
-ghost use Rattle.uc_file.specs.Given.{Gives};
+ghost use Rattle.uc_text.specs.View.{view, member_views, members_in};
+ghost use Rattle.uc_text.specs.Given.{Gives};
 ghost use Rattle.uc_model.specs.PlainCases.{market_of};
 ghost use Rattle.uc_model.specs.declared.kinds.Kind.TheVariants as kinds;
 ghost use Rattle.uc_plan.specs.Plans.{all_known};
@@ -16,16 +16,16 @@ use crate::entries::Frame;
 use crate::fault::{ShareCode, ShareSite, ShareStop};
 use crate::units::read_units;
 use crate::weights::weight_at;
-use mixture_bound::Mixture;
+use gap_proof::Mixture;
 use std::alloc::Global;
-use text_tree::{Branch, Member, ObjectBranch};
-use uc_file::inside::find;
 use uc_model::cases::Case;
 use uc_model::kinds::Kind;
 use uc_model::units::NamedUnit;
 use uc_plan::fault::ShapeCode;
 use uc_plan::plans::check_names;
 use uc_plan::shapes::object_under;
+use uc_text::inside::find;
+use uc_text::{Branch, Member, ObjectBranch};
 
 /// The greatest weight of a mixture.
 const MOST_WHOLE: i64 = 1_000_000_000_000;

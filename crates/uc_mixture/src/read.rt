@@ -1,8 +1,8 @@
 //! The mixture of a file.
 ghost use Rattle.std.specs.Prelude.{◌≡◌, ◌≤◌, Result, IfOk, length};
-ghost use Rattle.mixture_bound.specs.Mixtures.{MixtureLists, mixture_of, HasMixtureShape};
+ghost use Rattle.gap_proof.specs.Mixtures.{MixtureLists, mixture_of, HasMixtureShape};
 ghost use Rattle.plain_lists.specs.declared.limits.TheConstants.{MOST_BYTES};
-ghost use Rattle.uc_file.specs.Files.{FileFault};
+ghost use Rattle.uc_text.specs.Files.{FileFault};
 ghost use Rattle.uc_model.specs.PlainCases.{market_of};
 ghost use Rattle.uc_mixture.specs.MixtureFiles.{IsMixtureFileOf, IfRead};
 ghost use Rattle.uc_mixture.specs.declared.fault.ShareFault.{ShareFault as PlainFault};
@@ -10,10 +10,10 @@ ghost use Rattle.uc_mixture.specs.declared.fault.ShareFault.{ShareFault as Plain
 use crate::fault::MixtureFault;
 use crate::laws::one_mixture;
 use crate::mixtures::mixture_of_tree;
-use mixture_bound::Mixture;
+use gap_proof::Mixture;
 use std::alloc::Global;
-use uc_file::stop::Stop;
 use uc_model::cases::Case;
+use uc_text::stop::Stop;
 use uc_text::{TextError, read_tree};
 
 /// The mixture of a file for a case: its whole, from 1 to 10^12, and for each thermal unit by its

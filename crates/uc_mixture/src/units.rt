@@ -3,11 +3,11 @@ ghost use Rattle.std.specs.Prelude.{◌≡◌, ◌≤◌, ℕ, List, IfOk, lengt
 ghost use Rattle.std.specs.List.{All};
 ghost use Rattle.std.specs.Option.{option_map};
 ghost use Rattle.indexmap.specs.IndexMap.{get_by_text};
-ghost use Rattle.mixture_bound.specs.Mixtures.{WeighedSchedule, entries_of, AreEntries};
-ghost use Rattle.text_tree.specs.Parts.{Pair};
-ghost use Rattle.text_tree.specs.View.{view, members_in};
-ghost use Rattle.uc_file.specs.Given.{Gives};
-ghost use Rattle.uc_file.specs.Inside.{value_of};
+ghost use Rattle.gap_proof.specs.Mixtures.{WeighedSchedule, entries_of, AreEntries};
+ghost use Rattle.uc_text.specs.Pairs.{Pair};
+ghost use Rattle.uc_text.specs.View.{view, members_in};
+ghost use Rattle.uc_text.specs.Given.{Gives};
+ghost use Rattle.uc_text.specs.Inside.{value_under};
 ghost use Rattle.uc_model.specs.declared.limits.TheConstants.{MOST_OF_A_KIND};
 ghost use Rattle.uc_mixture.specs.Kept.{IsFrame};
 ghost use Rattle.uc_mixture.specs.Tables.{named, units as units_spec};
@@ -15,12 +15,12 @@ ghost use Rattle.uc_mixture.specs.Views.{names_of};
 
 use crate::entries::{Frame, read_unit};
 use crate::fault::{ShareCode, ShareSite, ShareStop};
-use mixture_bound::{Entries, EntryLists};
+use gap_proof::{Entries, EntryLists};
 use std::alloc::Global;
-use text_tree::{Branch, ObjectBranch};
 use uc_model::units::NamedUnit;
 use uc_plan::fault::ShapeCode;
 use uc_plan::lookup::{Values, values_of};
+use uc_text::{Branch, ObjectBranch};
 
 #[tactic(auto, unfolding(crate::specs::Tables::named))]
 fn read_named(
@@ -33,7 +33,7 @@ fn read_named(
     requires { IsFrame frame }
     ensures fits { IfOk result (λ l. AreEntries frame.periods frame.whole (entries_of l)) }
     ensures value { (ms : List Pair)
-        → ((q : List ℕ) → option_map view (get_by_text values.now.by_key q) ≡ value_of q ms)
+        → ((q : List ℕ) → option_map view (get_by_text values.now.by_key q) ≡ value_under q ms)
         → Gives entries_of result (named frame ms at name.now) }
 {
     match values.by_key.get(name) {

@@ -1,15 +1,15 @@
 //! Weights: whole numbers, however they are written.
 ghost use Rattle.std.specs.Prelude.{◌≡◌, ◌≤ℤ◌, ◌^◌, IfSome, pos, map};
 ghost use Rattle.std.specs.Ordering.{int_eq};
-ghost use Rattle.mixture_bound.specs.Mixtures.{entry_of};
+ghost use Rattle.gap_proof.specs.Mixtures.{entry_of};
 ghost use Rattle.plain_lists.specs.Ranges.{IsFrom};
-ghost use Rattle.text_tree.specs.View.{view};
+ghost use Rattle.uc_text.specs.View.{view};
 ghost use Rattle.uc_mixture.specs.Kept.{AreLow};
 ghost use Rattle.uc_mixture.specs.Tables.{weight_of as weight_of_spec, weight_in, weight_sum};
 
-use mixture_bound::Entry;
-use text_tree::Branch;
-use uc_num::{Decimal, is_whole, whole};
+use gap_proof::Entry;
+use text_tokens::{Decimal, is_whole, whole};
+use uc_text::Branch;
 
 #[tactic(auto, using(crate::proofs::WeightLaws::within))]
 fn weight_of(d: Decimal, least: i64, most: i64) -> Option<i64>

@@ -9,13 +9,13 @@ pub use Rattle.std.proofs.lemmas.Result.{err_from_is_err_and}
 pub use Rattle.std.specs.List.{All}
 pub use Rattle.std.specs.Option.{option_map}
 pub use Rattle.indexmap.specs.IndexSet.{contains_by}
-pub use Rattle.uc_file.proofs.EachLaws.{goes_on, ends, is_done, counted}
-pub use Rattle.uc_file.specs.Files.{FileFault, text, value, reading_of, of_value}
-pub use Rattle.uc_file.specs.Given.{Fails}
-unfoldable pub use Rattle.uc_file.specs.Inside.{value_of}
-pub use Rattle.uc_file.specs.Words.{◌>>=◌, ◌>>◌, need, position}
-unfoldable pub use Rattle.uc_file.specs.Words.{each}
-pub use Rattle.uc_file.specs.declared.stop.Stop.{Stop}
+pub use Rattle.uc_text.proofs.EachLaws.{goes_on, ends, is_done, counted}
+pub use Rattle.uc_text.specs.Files.{FileFault, text, value, reading_of, of_value}
+pub use Rattle.uc_text.specs.Given.{Fails}
+unfoldable pub use Rattle.uc_text.specs.Inside.{value_under}
+pub use Rattle.uc_text.specs.Words.{◌>>=◌, ◌>>◌, need, position}
+unfoldable pub use Rattle.uc_text.specs.Words.{each}
+pub use Rattle.uc_text.specs.declared.stop.Stop.{Stop}
 pub use Rattle.uc_model.specs.Data.{Market, Schedule, NamedThermalUnit, NamedRenewableUnit, NamedBidUnit, thermal_names}
 pub use Rattle.uc_model.specs.Data.{renewable_names, bid_names}
 pub use Rattle.uc_model.specs.Laws.{HasPlanShape}
@@ -38,9 +38,9 @@ unfoldable pub use Rattle.uc_plan.specs.Plans.{
 }
 pub use Rattle.uc_plan.specs.declared.fault.ShapeSite.{ShapeSite}
 pub use Rattle.uc_plan.specs.declared.fault.ShapeFault.{ShapeFault}
-pub use Rattle.text_tree.specs.Parts.{Pair, items_of, members_of}
-pub use Rattle.text_tree.specs.Values.{Value, scalar, number, list, object}
-pub use Rattle.text_tree.specs.View.{view, member_view, member_views, members_in, views}
+pub use Rattle.uc_text.specs.Pairs.{Pair, items_of, members_of}
+pub use Rattle.uc_text.specs.Values.{Value, scalar, number, list, object}
+pub use Rattle.uc_text.specs.View.{view, member_view, member_views, members_in, views}
 pub use Rattle.uc_text.specs.View.{tree_view}
-pub use Rattle.text_tree.specs.declared.branch.Branch.{Branch}
-pub use Rattle.text_tree.specs.declared.object.Member.{Member}
+pub use Rattle.uc_text.specs.declared.branch.Branch.{Branch}
+pub use Rattle.uc_text.specs.declared.object.Member.{Member}

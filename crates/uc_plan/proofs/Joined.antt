@@ -7,13 +7,13 @@ use Rattle.uc_plan.proofs.Common.{Fails, ◌>>=◌, ◌>>◌, Stop, IsShaped, Ha
 use Rattle.uc_plan.proofs.Common.{all_known, all_named, schedules, all_schedules, plan_of, ShapeFault}
 use Rattle.std.proofs.Math.Seq.{drop-append_seam}
 use Rattle.std.specs.Prelude.{IfOk}
-use Rattle.uc_file.specs.Given.{Gives}
+use Rattle.uc_text.specs.Given.{Gives}
 use Rattle.uc_plan.specs.Added.{Adds}
 use Rattle.uc_model.specs.declared.kinds.Kind.TheVariants.{Thermal, Renewable, Bid}
 use Rattle.uc_model.specs.declared.units.NamedUnit.{NamedUnit}
 use Rattle.uc_model.specs.declared.units.NamedFlat.{NamedFlat}
 use Rattle.uc_model.specs.declared.units.NamedBid.{NamedBid}
-use Rattle.uc_file.specs.declared.stop.Stop.TheVariants as stops
+use Rattle.uc_text.specs.declared.stop.Stop.TheVariants as stops
 
 pub thermal_named : (ts : List NamedUnit) →
     map (λ (n : NamedThermalUnit). n.name) (map named_thermal_of ts) ≡ map (λ (n : NamedUnit). n.name.items) ts

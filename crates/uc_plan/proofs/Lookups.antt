@@ -2,16 +2,16 @@
 use Rattle.uc_plan.proofs.Common.{◌≡◌, ℕ, suc, ◌+◌, ◌-◌, ◌<◌, ◌≤◌, Bool, true, false, cond, List, [], length, map}
 use Rattle.uc_plan.proofs.Common.{get_or, drop, Option, Some, None, bytes_eq, refl, sym, ap, ◌∙◌, if◌then◌else◌}
 use Rattle.uc_plan.proofs.Common.{drop-cons, add-one, arith, option_map, nil_from_length, length-drop, view}
-use Rattle.uc_plan.proofs.Common.{member_view, member_views, Branch, Member, value_of, is_among, first_unknown}
+use Rattle.uc_plan.proofs.Common.{member_view, member_views, Branch, Member, value_under, is_among, first_unknown}
 
 -- nothing is left behind the last one
 all_dropped : {A : Type 0} (xs : List A) (n : ℕ) → length xs ≤ n → drop n xs ≡ []
 all_dropped xs n le = nil_from_length (drop n xs) (omega (arith, length-drop n xs))
 
 -- an empty map has what no member has
-pub none_yet : (q : List ℕ) (ms : List Member) → value_of q (member_views (drop (length ms - 0) ms)) ≡ None
-unfolding value_of
-none_yet q ms = ap (λ rest. value_of q (member_views rest)) (all_dropped ms (length ms - 0) (omega arith))
+pub none_yet : (q : List ℕ) (ms : List Member) → value_under q (member_views (drop (length ms - 0) ms)) ≡ None
+unfolding value_under
+none_yet q ms = ap (λ rest. value_under q (member_views rest)) (all_dropped ms (length ms - 0) (omega arith))
 
 seen_cond : (b : Bool) (t : Branch) (old : Option Branch) →
     option_map view (cond b (Some t) old) ≡ cond b (Some (view t)) (option_map view old)
@@ -19,17 +19,17 @@ seen_cond true t old = refl
 seen_cond false t old = refl
 
 value_split : (q : List ℕ) (ms : List Member) (i : ℕ) (m : Member) → i < length ms → m ≡ get_or ms i m
-    → value_of q (member_views (drop i ms)) ≡ cond (bytes_eq (member_view m).name q) (Some (member_view m).value)
-    (value_of q (member_views (drop (i + 1) ms)))
-unfolding value_of
+    → value_under q (member_views (drop i ms)) ≡ cond (bytes_eq (member_view m).name q) (Some (member_view m).value)
+    (value_under q (member_views (drop (i + 1) ms)))
+unfolding value_under
 value_split q ms i m lt is = rw (drop-cons ms i m lt, ← is, add-one i) refl
 
 -- one member more, before those that are in the map
 pub put_member : (q name : List ℕ) (ms : List Member) (done : ℕ) (m : Member) (t : Branch) (old new : Option Branch) →
     done < length ms → m ≡ get_or ms (length ms - 1 - done) m
     → name ≡ (member_view m).name → view t ≡ (member_view m).value → new ≡ cond (bytes_eq name q) (Some t) old
-    → option_map view old ≡ value_of q (member_views (drop (length ms - done) ms)) →
-    option_map view new ≡ value_of q (member_views (drop (length ms - (done + 1)) ms))
+    → option_map view old ≡ value_under q (member_views (drop (length ms - done) ms)) →
+    option_map view new ≡ value_under q (member_views (drop (length ms - (done + 1)) ms))
 put_member q name ms done m t old new lt is name_is value_is put before =
     let i = length ms - 1 - done in
     let here : length ms - (done + 1) ≡ length ms - 1 - done = omega (arith, lt) in

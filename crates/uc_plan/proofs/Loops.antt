@@ -2,7 +2,7 @@
 use Rattle.uc_plan.proofs.Common.{◌≡◌, ℕ, ◌+◌, ◌<◌, ◌≤◌, List, [], ◌∷◌, ◌++◌, length, get_or, drop, Option, Some, None}
 use Rattle.uc_plan.proofs.Common.{Result, Ok, Err, refl, ap, Value, view, views, Branch, Fails, need, each, position}
 use Rattle.uc_plan.proofs.Common.{Stop, goes_on, ends, is_done, Read, numbers, ShapeSite, ShapeFault}
-use Rattle.uc_file.specs.declared.stop.Stop.TheVariants as stops
+use Rattle.uc_text.specs.declared.stop.Stop.TheVariants as stops
 use Rattle.uc_plan.specs.Shapes.{fault}
 use Rattle.uc_plan.specs.declared.fault.ShapeCode.TheVariants.{PlanNumber}
 

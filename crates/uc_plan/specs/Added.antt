@@ -4,8 +4,8 @@ use Rattle.std.specs.List.{All}
 use Rattle.uc_model.specs.Data.{Schedule}
 use Rattle.uc_model.specs.declared.kinds.Kind.{Kind}
 use Rattle.uc_model.specs.declared.kinds.Kind.TheVariants.{Thermal}
-use Rattle.uc_file.specs.Given.{Fails}
-use Rattle.uc_file.specs.declared.stop.Stop.{Stop}
+use Rattle.uc_text.specs.Given.{Fails}
+use Rattle.uc_text.specs.declared.stop.Stop.{Stop}
 
 -- the list has in addition what the tests give, so many and each with P, unless memory ran out
 abbrev pub Adds : {A F U : Type 0} → (A → Type 0) → ℕ → List A → List A → Result U (Stop F)

@@ -1,7 +1,7 @@
 -- A file is one schedule of a case, or has one first fault.
 use Rattle.std.specs.Prelude.{◌≡◌, ℕ, List, Result}
 use Rattle.uc_model.specs.Data.{Market, Schedule}
-use Rattle.uc_file.specs.Files.{FileFault}
+use Rattle.uc_text.specs.Files.{FileFault}
 use Rattle.uc_plan.specs.PlanFiles.{IsPlanOf}
 use Rattle.uc_plan.specs.declared.fault.ShapeFault.{ShapeFault}
 

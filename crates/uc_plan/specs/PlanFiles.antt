@@ -1,7 +1,7 @@
 -- What a schedule file is for a case, and what its reader answers.
 use Rattle.std.specs.Prelude.{ℕ, List, Result, Ok, Err}
 use Rattle.uc_model.specs.Data.{Market, Schedule}
-use Rattle.uc_file.specs.Files.{FileFault, text, value, IsReading}
+use Rattle.uc_text.specs.Files.{FileFault, text, value, IsReading}
 use Rattle.uc_plan.specs.Plans.{plan_of}
 use Rattle.uc_plan.specs.declared.fault.PlanFault.{PlanFault}
 use Rattle.uc_plan.specs.declared.fault.PlanFault.TheVariants as faults

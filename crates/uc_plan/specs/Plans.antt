@@ -7,13 +7,13 @@ use Rattle.std.specs.Option.{option_map, option_and_then}
 use Rattle.uc_model.specs.Data.{Schedule, Market, thermal_names, renewable_names, bid_names}
 use Rattle.uc_model.specs.declared.kinds.Kind.{Kind}
 use Rattle.uc_model.specs.declared.kinds.Kind.TheVariants.{Case, Thermal, Renewable, Bid}
-use Rattle.uc_num.specs.declared.Decimal.{Decimal}
-use Rattle.uc_num.specs.Rounding.{rounded}
-use Rattle.text_tree.specs.Values.{Value}
-use Rattle.text_tree.specs.Parts.{Pair}
-use Rattle.uc_file.specs.Inside.{number_in, list_in, object_in, value_of, is_whole, bit_of}
-use Rattle.uc_file.specs.Magnitudes.{most_power}
-use Rattle.uc_file.specs.Words.{◌>>=◌, ◌>>◌, refuse, need, each, position}
+use Rattle.text_tokens.specs.declared.decimal.Decimal.{Decimal}
+use Rattle.text_tokens.specs.Rounding.{rounded}
+use Rattle.uc_text.specs.Values.{Value}
+use Rattle.uc_text.specs.Pairs.{Pair}
+use Rattle.uc_text.specs.Inside.{number_in, list_in, object_in, value_under, is_whole, bit_of}
+use Rattle.uc_text.specs.Magnitudes.{most_power}
+use Rattle.uc_text.specs.Words.{◌>>=◌, ◌>>◌, refuse, need, each, position}
 use Rattle.uc_plan.specs.Shapes.{fault}
 use Rattle.uc_plan.specs.declared.fault.ShapeSite.{ShapeSite}
 use Rattle.uc_plan.specs.declared.fault.ShapeCode.TheVariants.{UnknownUnit, MissingUnit}
@@ -57,7 +57,7 @@ full_list periods v =
     (list_in v)
 
 abbrev pub list_under : ℕ → List ℕ → List Pair → Option (List Value)
-list_under periods key ms = option_and_then (full_list periods) (value_of key ms)
+list_under periods key ms = option_and_then (full_list periods) (value_under key ms)
 
 -- the lists of a thermal unit, each of an item for each period
 pub record ThermalLists : Type 0 where
@@ -111,7 +111,7 @@ is_among name (n ∷ ns) = if bytes_eq n name then true else is_among name ns
 -- the schedule under a unit's name
 unfoldable pub named : ℕ → List Pair → ShapeSite → List ℕ → Read Schedule
 named periods members at name = do
-  v ← need (fault at 0 MissingUnit) (value_of name members)
+  v ← need (fault at 0 MissingUnit) (value_under name members)
   schedule periods at v
 
 -- the position of the first member whose name isn't one of these, or 0
@@ -135,7 +135,7 @@ abbrev pub whole : ShapeSite
 whole = shape_site Case 0
 
 abbrev pub object_under : List ℕ → List Pair → Option (List Pair)
-object_under key ms = option_and_then object_in (value_of key ms)
+object_under key ms = option_and_then object_in (value_under key ms)
 
 -- absent bids are none, where the case has none
 abbrev pub bids_in : ℕ → Option Value → Option (List Pair)
@@ -157,7 +157,7 @@ groups_in count ms =
       renewable = renewable;
       bids = bids;
     })
-    (bids_in count (value_of (codes "bids") ms)))
+    (bids_in count (value_under (codes "bids") ms)))
     (object_under (codes "renewable") ms))
     (object_under (codes "thermal") ms)
 

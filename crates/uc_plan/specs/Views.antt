@@ -1,6 +1,6 @@
 -- What the reader's own types say.
 use Rattle.std.specs.Prelude.{◌≡◌, ℕ, length}
-use Rattle.text_tree.specs.View.{members_in, items_in}
+use Rattle.uc_text.specs.View.{members_in, items_in}
 use Rattle.uc_plan.specs.Plans as plain
 use Rattle.uc_plan.specs.declared.shapes.Groups.{Groups}
 use Rattle.uc_plan.specs.declared.shapes.ThermalLists.{ThermalLists}

@@ -1,13 +1,13 @@
 //! Why a file is no schedule of a case, and where.
 ghost use Rattle.std.specs.Prelude.{◌≡◌};
 ghost use Rattle.uc_plan.specs.Shapes.{fault, shape_number};
-ghost use Rattle.uc_file.specs.declared.stop.Stop.TheVariants as stops;
+ghost use Rattle.uc_text.specs.declared.stop.Stop.TheVariants as stops;
 
 use std::fmt;
 use thiserror::Error;
-use uc_file::stop::Stop;
 use uc_model::kinds::Kind;
 use uc_text::TextFault;
+use uc_text::stop::Stop;
 
 /// What is wrong with a schedule.
 #[derive(Clone, Copy, Debug, PartialEq, Eq)]

@@ -1,7 +1,7 @@
 //! Laws over the definitions: each is the contract of a function that does nothing.
 ghost use Rattle.uc_plan.specs.Laws.{SomePlan, OnePlan};
 
-use uc_file::laws::one_file;
+use uc_text::file_laws::one_file;
 
 /// Each list of bytes is a schedule of a case or has a first fault.
 pub fn plan_or_fault()

@@ -4,15 +4,15 @@ ghost use Rattle.std.specs.Prelude.{if◌then◌else◌};
 ghost use Rattle.std.specs.Option.{option_map};
 ghost use Rattle.indexmap.specs.IndexMap.{get_by_text};
 ghost use Rattle.indexmap.specs.IndexSet.{contains_by};
-ghost use Rattle.text_tree.specs.View.{view, member_view, member_views, members_in};
-ghost use Rattle.uc_file.specs.Inside.{value_of};
+ghost use Rattle.uc_text.specs.View.{view, member_view, member_views, members_in};
+ghost use Rattle.uc_text.specs.Inside.{value_under};
 ghost use Rattle.uc_plan.specs.Plans.{is_among, first_unknown};
 
 use crate::named::Named;
 use indexmap::{IndexMap, IndexSet};
 use std::alloc::{AllocError, Global};
 use text_tokens::text_of;
-use text_tree::{Branch, Member, ObjectBranch};
+use uc_text::{Branch, Member, ObjectBranch};
 
 /// The values of an object.
 pub struct Values<'a> {
@@ -56,7 +56,7 @@ impl<'a> Values<'a> {
         requires { (q : List ℕ) → get_by_text self.old.by_key q ≡ None }
         ensures { OnOk result ((q : List ℕ)
             → option_map view (get_by_text self.new.by_key q)
-            ≡ value_of q (member_views members.now)) }
+            ≡ value_under q (member_views members.now)) }
     {
         for done in 0..members.len() {
             let member = members[members.len() - 1 - done];
@@ -69,7 +69,7 @@ impl<'a> Values<'a> {
 /// The members of an object by their keys.
 fn by_key<'a>(alloc: Global, members: &[Member<'a>]) -> Result<Values<'a>, AllocError>
     ensures { IfOk result (λ v. (q : List ℕ)
-        → option_map view (get_by_text v.by_key q) ≡ value_of q (member_views members.now)) }
+        → option_map view (get_by_text v.by_key q) ≡ value_under q (member_views members.now)) }
 {
     let by_key = IndexMap::with_capacity(alloc, members.len())?;
     let mut values = Values { by_key };
@@ -128,7 +128,7 @@ pub fn stranger_in<N: Named>(
 /// The values of an object.
 pub fn values_of<'a>(alloc: Global, object: ObjectBranch<'a>) -> Result<Values<'a>, AllocError>
     ensures { IfOk result (λ v. (q : List ℕ)
-        → option_map view (get_by_text v.by_key q) ≡ value_of q (members_in object.entry)) }
+        → option_map view (get_by_text v.by_key q) ≡ value_under q (members_in object.entry)) }
 {
     let members = object.members(alloc)?;
     by_key(alloc, &members)

@@ -1,18 +1,18 @@
 //! The numbers of a schedule.
 ghost use Rattle.std.specs.Prelude.{◌≡◌, ◌≤◌, Option, IfOk, length};
 ghost use Rattle.uc_model.specs.declared.limits.TheConstants.{MOST_PERIODS};
-ghost use Rattle.text_tree.specs.Values.{Value};
-ghost use Rattle.text_tree.specs.View.{view, views, items_in};
-ghost use Rattle.uc_file.specs.Given.{Gives};
+ghost use Rattle.uc_text.specs.Values.{Value};
+ghost use Rattle.uc_text.specs.View.{view, views, items_in};
+ghost use Rattle.uc_text.specs.Given.{Gives};
 ghost use Rattle.uc_plan.specs.Plans.{kilowatts_of, kilowatts_in, flag_in, numbers};
 
 use crate::fault::{ShapeCode, ShapeSite, ShapeStop};
 use plain_lists::lists::ReservedList;
 use std::alloc::Global;
-use text_tree::{Branch, ListBranch};
-use uc_file::inside::bit;
+use text_tokens::{Decimal, is_whole, whole};
 use uc_model::limits::POWER_LIMIT;
-use uc_num::{Decimal, is_whole, whole};
+use uc_text::inside::bit;
+use uc_text::{Branch, ListBranch};
 
 const MOST: u64 = POWER_LIMIT as u64;
 

@@ -6,10 +6,10 @@ ghost use Rattle.uc_model.specs.Laws.{HasPlanShape};
 ghost use Rattle.uc_model.specs.PlainCases.{market_of, schedules_of};
 ghost use Rattle.uc_model.specs.PlainUnits.{schedule_of};
 ghost use Rattle.uc_model.specs.declared.limits.TheConstants.{MOST_OF_A_KIND, MOST_PERIODS};
-ghost use Rattle.text_tree.specs.Parts.{Pair};
-ghost use Rattle.text_tree.specs.View.{view, members_in};
-ghost use Rattle.uc_file.specs.Given.{Gives};
-ghost use Rattle.uc_file.specs.Inside.{value_of};
+ghost use Rattle.uc_text.specs.Pairs.{Pair};
+ghost use Rattle.uc_text.specs.View.{view, members_in};
+ghost use Rattle.uc_text.specs.Given.{Gives};
+ghost use Rattle.uc_text.specs.Inside.{value_under};
 ghost use Rattle.uc_plan.specs.Added.{Adds, IsShaped};
 ghost use Rattle.uc_plan.specs.Plans.{named, schedules, all_known, all_named};
 ghost use Rattle.uc_plan.specs.Plans.{all_schedules, plan_of};
@@ -21,11 +21,11 @@ use crate::named::Named;
 use crate::shapes::{Groups, read_groups};
 use crate::units::read_schedule;
 use std::alloc::Global;
-use text_tree::{Branch, ObjectBranch};
-use uc_file::stop::Stop;
 use uc_model::cases::{Case, Plan};
 use uc_model::kinds::Kind;
 use uc_model::units::{Response, ResponseList};
+use uc_text::stop::Stop;
+use uc_text::{Branch, ObjectBranch};
 
 /// Refuses the first member whose name isn't that of a unit, with `UnknownUnit` at its position
 /// in the file.
@@ -61,7 +61,7 @@ fn read_named(
     requires { periods ≤ MOST_PERIODS }
     ensures shape { IfOk result (λ r. IsShaped at.kind periods (schedule_of r)) }
     ensures value { (ms : List Pair)
-        → ((q : List ℕ) → option_map view (get_by_text values.now.by_key q) ≡ value_of q ms)
+        → ((q : List ℕ) → option_map view (get_by_text values.now.by_key q) ≡ value_under q ms)
         → Gives schedule_of result (named periods ms at name.now) }
 {
     match values.by_key.get(name) {

@@ -4,7 +4,7 @@ ghost use Rattle.uc_model.specs.Data.{Schedule};
 ghost use Rattle.uc_model.specs.Laws.{HasPlanShape};
 ghost use Rattle.uc_model.specs.PlainCases.{market_of, schedules_of};
 ghost use Rattle.plain_lists.specs.declared.limits.TheConstants.{MOST_BYTES};
-ghost use Rattle.uc_file.specs.Files.{FileFault};
+ghost use Rattle.uc_text.specs.Files.{FileFault};
 ghost use Rattle.uc_plan.specs.PlanFiles.{IsPlanOf, IfRead};
 ghost use Rattle.uc_plan.specs.declared.fault.ShapeFault.{ShapeFault as PlainFault};
 
@@ -12,8 +12,8 @@ use crate::fault::PlanFault;
 use crate::laws::one_plan;
 use crate::plans::plan_of_tree;
 use std::alloc::Global;
-use uc_file::stop::Stop;
 use uc_model::cases::{Case, Plan};
+use uc_text::stop::Stop;
 use uc_text::{TextError, read_tree};
 
 /// The schedule of a file for a case: on flags, and powers and reserves in whole kilowatts, of each

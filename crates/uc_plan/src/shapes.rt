@@ -1,9 +1,9 @@
 //! The objects and lists of a schedule.
 ghost use Rattle.std.specs.Prelude.{◌≡◌, IfSome, [], length, codes};
 ghost use Rattle.std.specs.Option.{option_map};
-ghost use Rattle.text_tree.specs.View.{view, items_in, member_views, members_in};
-ghost use Rattle.uc_file.specs.Given.{Gives};
-ghost use Rattle.uc_file.specs.Inside.{value_of};
+ghost use Rattle.uc_text.specs.View.{view, items_in, member_views, members_in};
+ghost use Rattle.uc_text.specs.Given.{Gives};
+ghost use Rattle.uc_text.specs.Inside.{value_under};
 ghost use Rattle.uc_plan.specs.Plans.{full_list as full_list_spec, bids_in, groups_in, groups};
 ghost use Rattle.uc_plan.specs.Plans.{list_under as list_under_spec};
 ghost use Rattle.uc_plan.specs.Plans.{object_under as object_under_spec};
@@ -12,9 +12,9 @@ ghost use Rattle.uc_plan.specs.Views.{groups_of, lists_of, AreFull};
 
 use crate::fault::{ShapeCode, ShapeSite, ShapeStop};
 use std::alloc::Global;
-use text_tree::{Branch, ListBranch, Member, ObjectBranch};
-use uc_file::inside::find;
 use uc_model::kinds::Kind;
+use uc_text::inside::find;
+use uc_text::{Branch, ListBranch, Member, ObjectBranch};
 
 /// A list of an item for each period.
 pub fn full_list<'a>(branch: Branch<'a>, periods: u32) -> Option<ListBranch<'a>>
@@ -98,7 +98,7 @@ fn no_members<'a>() -> ObjectBranch<'a>
 
 fn bids_object<'a>(members: &[Member<'a>], bids: usize) -> Option<ObjectBranch<'a>>
     ensures { option_map members_in result
-        ≡ bids_in bids (value_of (codes "bids") (member_views members.now)) }
+        ≡ bids_in bids (value_under (codes "bids") (member_views members.now)) }
 {
     match find(members, "bids") {
         Some(branch) => branch.object(),

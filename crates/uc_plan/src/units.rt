@@ -2,8 +2,8 @@
 ghost use Rattle.std.specs.Prelude.{◌≡◌, ◌≤◌, IfOk, length, replicate, true};
 ghost use Rattle.uc_model.specs.PlainUnits.{schedule_of};
 ghost use Rattle.uc_model.specs.declared.limits.TheConstants.{MOST_PERIODS};
-ghost use Rattle.text_tree.specs.View.{view};
-ghost use Rattle.uc_file.specs.Given.{Gives};
+ghost use Rattle.uc_text.specs.View.{view};
+ghost use Rattle.uc_text.specs.Given.{Gives};
 ghost use Rattle.uc_plan.specs.Added.{HasLengths, IsFlat, IsShaped};
 ghost use Rattle.uc_plan.specs.Plans.{listed_schedule, thermal_schedule, flat_schedule, schedule};
 ghost use Rattle.uc_plan.specs.Views.{lists_of, AreFull};
@@ -13,9 +13,9 @@ use crate::numbers::read_items;
 use crate::shapes::{ThermalLists, full_list, thermal_lists};
 use plain_lists::lists::Flags;
 use std::alloc::{AllocError, Global};
-use text_tree::Branch;
 use uc_model::kinds::Kind;
 use uc_model::units::{Powers, Response};
+use uc_text::Branch;
 
 /// The schedule of a thermal unit by its lists. `PlanNumber` at the first wrong item: of the flags,
 /// then of the powers, and then of the reserves.

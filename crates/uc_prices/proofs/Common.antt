@@ -8,12 +8,12 @@ pub use Rattle.std.proofs.lemmas.List.Elements.{All-nil, All-push}
 pub use Rattle.std.proofs.lemmas.Result.{err_from_is_err_and}
 pub use Rattle.std.specs.List.{All}
 pub use Rattle.std.specs.Prelude.{ℤ, pos, negsuc, unsigned_abs, nat_lt, int_lt, FitsSigned}
-pub use Rattle.text_tree.specs.View.{view, views}
-pub use Rattle.uc_file.proofs.EachLaws.{goes_on, ends, is_done, counted}
-pub use Rattle.uc_file.specs.Files.{FileFault, text, value, reading_of, of_value}
-pub use Rattle.uc_file.specs.Magnitudes.{most_price}
-pub use Rattle.uc_file.specs.Words.{position}
-unfoldable pub use Rattle.uc_file.specs.Words.{each}
+pub use Rattle.uc_text.specs.View.{view, views}
+pub use Rattle.uc_text.proofs.EachLaws.{goes_on, ends, is_done, counted}
+pub use Rattle.uc_text.specs.Files.{FileFault, text, value, reading_of, of_value}
+pub use Rattle.uc_text.specs.Magnitudes.{most_price}
+pub use Rattle.uc_text.specs.Words.{position}
+unfoldable pub use Rattle.uc_text.specs.Words.{each}
 pub use Rattle.uc_model.specs.Data.{PriceLists}
 pub use Rattle.uc_model.specs.PlainUnits.{prices_of}
 pub use Rattle.uc_prices.specs.Faults.{item_at}

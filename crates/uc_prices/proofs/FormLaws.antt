@@ -10,16 +10,16 @@ use Rattle.std.proofs.lemmas.Int.{ints}
 use Rattle.std.proofs.lemmas.List.Elements.{All-from_get_or}
 use Rattle.std.proofs.lemmas.Bool.{eqb-true}
 use Rattle.std.specs.Prelude.{Option, not, ◌==◌, codes}
-use Rattle.text_tree.specs.Values.{Value}
-use Rattle.uc_num.specs.Rounding.{rounded}
+use Rattle.uc_text.specs.Values.{Value}
+use Rattle.text_tokens.specs.Rounding.{rounded}
 use Rattle.uc_text.specs.declared.fault.TextFault.{TextFault}
-use Rattle.uc_file.specs.Inside.{number_in, list_in, object_in, value_of}
-use Rattle.uc_file.specs.Words.{◌>>=◌, ◌>>◌, refuse, need}
+use Rattle.uc_text.specs.Inside.{number_in, list_in, object_in, value_under}
+use Rattle.uc_text.specs.Words.{◌>>=◌, ◌>>◌, refuse, need}
 use Rattle.uc_prices.specs.Faults.{site, fault}
 use Rattle.uc_prices.specs.Laws.{HaveForm}
 use Rattle.uc_prices.specs.PricesFiles.{IsPricesOf}
-use Rattle.uc_file.specs.Laws.{OneFile}
-use Rattle.text_tree.specs.Parts.{Pair}
+use Rattle.uc_text.specs.FileLaws.{OneFile}
+use Rattle.uc_text.specs.Pairs.{Pair}
 use Rattle.uc_prices.specs.declared.fault.PriceCode.TheVariants.{WrongKind, Negative, TooLarge, WrongLength}
 use Rattle.uc_prices.specs.declared.fault.PriceField.{PriceField}
 use Rattle.uc_prices.specs.declared.fault.PriceField.TheVariants.{Whole, Energy, Reserve}
@@ -132,35 +132,35 @@ record ValueForm (periods : ℕ) (v : Value) (π : PriceLists) : Type 0 where
   reserve : length π.reserve ≡ periods
   energy_within : All (IsPriceOf Energy) π.energy
   reserve_within : All (IsPriceOf Reserve) π.reserve
-  left_out : (ms : List Pair) → object_in v ≡ Some ms → value_of (codes "reserve") ms ≡ None →
+  left_out : (ms : List Pair) → object_in v ≡ Some ms → value_under (codes "reserve") ms ≡ None →
       π.reserve ≡ replicate periods (pos 0)
 
 value_form : (periods : ℕ) (v : Value) (π : PriceLists) → prices_in periods v ≡ Ok π → ValueForm periods v π
 unfolding prices_in
 value_form periods v π e =
     let p = bound (need (fault (site Whole) WrongKind) (object_in v))
-    (λ ms. energy periods (value_of (codes "energy") ms) >>=
-    (λ es. reserve periods (value_of (codes "reserve") ms) >>=
+    (λ ms. energy periods (value_under (codes "energy") ms) >>=
+    (λ es. reserve periods (value_under (codes "reserve") ms) >>=
     (λ rs. let π : PriceLists = record { energy = es; reserve = rs } in Ok π))) π e in
-    let q = bound (energy periods (value_of (codes "energy") p.0))
-    (λ es. reserve periods (value_of (codes "reserve") p.0) >>=
+    let q = bound (energy periods (value_under (codes "energy") p.0))
+    (λ es. reserve periods (value_under (codes "reserve") p.0) >>=
     (λ rs. let π : PriceLists = record { energy = es; reserve = rs } in Ok π)) π p.2 in
-    let r = bound (reserve periods (value_of (codes "reserve") p.0))
+    let r = bound (reserve periods (value_under (codes "reserve") p.0))
     (λ rs. let π : PriceLists = record { energy = q.0; reserve = rs } in Ok π) π q.2 in
     let last = r.2 in
     let at : PriceLists = record { energy = q.0; reserve = r.0 } in
     let same : at ≡ π = cc in
     let is = needed (fault (site Whole) WrongKind) (object_in v) p.0 p.1 in
-    let energies = energy_is periods (value_of (codes "energy") p.0) q.0 q.1 in
-    let reserves = reserve_is periods (value_of (codes "reserve") p.0) r.0 r.1 in
+    let energies = energy_is periods (value_under (codes "energy") p.0) q.0 q.1 in
+    let reserves = reserve_is periods (value_under (codes "reserve") p.0) r.0 r.1 in
     let form : ValueForm periods v at = record {
       energy = energies.1;
       reserve = reserves.1;
       energy_within = energies.0;
       reserve_within = reserves.0;
       left_out = λ ms given none. (let one : ms ≡ p.0 = cc in
-          left_out_is periods (value_of (codes "reserve") p.0) r.0 r.1
-          (subst (λ (xs : List Pair). value_of (codes "reserve") xs ≡ None) one none));
+          left_out_is periods (value_under (codes "reserve") p.0) r.0 r.1
+          (subst (λ (xs : List Pair). value_under (codes "reserve") xs ≡ None) one none));
     } in
     subst (ValueForm periods v) {x = at} same form
 

@@ -2,10 +2,10 @@
 use Rattle.uc_prices.proofs.Common.{◌≡◌, ℕ, ◌+◌, ◌<◌, ◌≤◌, ℤ, List, [], ◌∷◌, ◌++◌, length, get_or, drop, Ok, refl, sym}
 use Rattle.uc_prices.proofs.Common.{subst, ◌∙◌, view, views, goes_on, ends, is_done, each, position, item_at, price}
 use Rattle.uc_prices.proofs.Common.{prices, Read, PriceSite}
-use Rattle.text_tree.specs.Values.{Value}
-use Rattle.text_tree.specs.declared.branch.Branch.{Branch}
-use Rattle.uc_file.specs.Given.{Fails}
-use Rattle.uc_file.specs.declared.stop.Stop.{Stop}
+use Rattle.uc_text.specs.Values.{Value}
+use Rattle.uc_text.specs.declared.branch.Branch.{Branch}
+use Rattle.uc_text.specs.Given.{Fails}
+use Rattle.uc_text.specs.declared.stop.Stop.{Stop}
 use Rattle.uc_prices.specs.declared.fault.PriceFault.{PriceFault}
 
 -- one of the prices, with those before it

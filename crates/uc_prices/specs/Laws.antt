@@ -2,11 +2,11 @@
 use Rattle.std.specs.Prelude.{◌≡◌, ℕ, pos, List, length, replicate, codes, Result, Ok, Some, None}
 use Rattle.std.specs.List.{All}
 use Rattle.uc_model.specs.Data.{PriceLists}
-use Rattle.text_tree.specs.Parts.{Pair}
-use Rattle.text_tree.specs.Values.{Value}
+use Rattle.uc_text.specs.Pairs.{Pair}
+use Rattle.uc_text.specs.Values.{Value}
 use Rattle.uc_text.specs.Texts.{IsText}
-use Rattle.uc_file.specs.Files.{FileFault}
-use Rattle.uc_file.specs.Inside.{object_in, value_of}
+use Rattle.uc_text.specs.Files.{FileFault}
+use Rattle.uc_text.specs.Inside.{object_in, value_under}
 use Rattle.uc_prices.specs.Kept.{IsPriceOf}
 use Rattle.uc_prices.specs.PricesFiles.{IsPricesOf}
 use Rattle.uc_prices.specs.declared.fault.PriceFault.{PriceFault}
@@ -20,7 +20,7 @@ OnePrices = (periods : ℕ) (bytes : List ℕ) (r s : Result PriceLists (FileFau
 abbrev pub LeavesReserveOut : List ℕ → Type 0
 LeavesReserveOut bytes =
     (v : Value) × (members : List Pair) × IsText 32 bytes v × (object_in v ≡ Some members)
-    × (value_of (codes "reserve") members ≡ None)
+    × (value_under (codes "reserve") members ≡ None)
 
 -- a file's prices: of both kinds one for each period, each within its limits, so that no reserve
 -- price is below 0; all of those are 0 where the file leaves them out

@@ -1,7 +1,7 @@
 -- What a prices file is over so many periods, and what its reader answers.
 use Rattle.std.specs.Prelude.{ℕ, List, Result, Ok, Err}
 use Rattle.uc_model.specs.Data.{PriceLists}
-use Rattle.uc_file.specs.Files.{FileFault, text, value, IsReading}
+use Rattle.uc_text.specs.Files.{FileFault, text, value, IsReading}
 use Rattle.uc_prices.specs.Tables.{prices_in}
 use Rattle.uc_prices.specs.declared.fault.PriceFault.{PriceFault}
 use Rattle.uc_prices.specs.declared.fault.PricesFault.{PricesFault}

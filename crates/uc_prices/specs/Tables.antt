@@ -4,11 +4,11 @@ use Rattle.std.specs.Prelude.{ℕ, ℤ, pos, Bool, true, false, not, ◌&&◌, �
 use Rattle.std.specs.Prelude.{unsigned_abs, List, [], length, replicate, codes, Option, Some, None}
 use Rattle.std.specs.Prelude.{Result, Ok, Err}
 use Rattle.uc_model.specs.Data.{PriceLists}
-use Rattle.uc_num.specs.Rounding.{rounded}
-use Rattle.text_tree.specs.Values.{Value}
-use Rattle.uc_file.specs.Inside.{number_in, list_in, object_in, value_of}
-use Rattle.uc_file.specs.Magnitudes.{most_price}
-use Rattle.uc_file.specs.Words.{◌>>=◌, ◌>>◌, refuse, need, each, position}
+use Rattle.text_tokens.specs.Rounding.{rounded}
+use Rattle.uc_text.specs.Values.{Value}
+use Rattle.uc_text.specs.Inside.{number_in, list_in, object_in, value_under}
+use Rattle.uc_text.specs.Magnitudes.{most_price}
+use Rattle.uc_text.specs.Words.{◌>>=◌, ◌>>◌, refuse, need, each, position}
 use Rattle.uc_prices.specs.Faults.{site, item_at, fault}
 use Rattle.uc_prices.specs.declared.fault.PriceCode.TheVariants.{Missing, WrongKind, Negative}
 use Rattle.uc_prices.specs.declared.fault.PriceCode.TheVariants.{TooLarge, WrongLength}
@@ -58,6 +58,6 @@ reserve periods (Some v) = list periods Reserve v
 unfoldable pub prices_in : ℕ → Value → Read PriceLists
 prices_in periods v = do
   ms ← need (fault (site Whole) WrongKind) (object_in v)
-  energy ← energy periods (value_of (codes "energy") ms)
-  reserve ← reserve periods (value_of (codes "reserve") ms)
+  energy ← energy periods (value_under (codes "energy") ms)
+  reserve ← reserve periods (value_under (codes "reserve") ms)
   Ok (record { energy = energy; reserve = reserve })

@@ -2,17 +2,17 @@
 ghost use Rattle.std.specs.Prelude.{◌≡◌, ◌≤◌, IfOk, length};
 ghost use Rattle.std.specs.List.{All};
 ghost use Rattle.uc_model.specs.declared.limits.TheConstants.{MOST_PERIODS};
-ghost use Rattle.text_tree.specs.View.{view, views};
-ghost use Rattle.uc_file.specs.Given.{Gives};
+ghost use Rattle.uc_text.specs.View.{view, views};
+ghost use Rattle.uc_text.specs.Given.{Gives};
 ghost use Rattle.uc_prices.specs.Kept.{IsPriceOf};
 ghost use Rattle.uc_prices.specs.Tables.{price, prices, is_reserve as is_reserve_spec};
 
 use crate::fault::{PriceCode, PriceField, PriceSite, PriceStop};
 use plain_lists::lists::Numbers;
 use std::alloc::Global;
-use text_tree::Branch;
+use text_tokens::whole;
 use uc_model::limits::PRICE_LIMIT;
-use uc_num::whole;
+use uc_text::Branch;
 
 const MOST: u64 = PRICE_LIMIT as u64;
 

@@ -1,12 +1,12 @@
 //! Why a file has no prices, and where.
 ghost use Rattle.std.specs.Prelude.{◌≡◌};
-ghost use Rattle.uc_file.specs.declared.stop.Stop.TheVariants as stops;
+ghost use Rattle.uc_text.specs.declared.stop.Stop.TheVariants as stops;
 ghost use Rattle.uc_prices.specs.Faults.{code_number, fault, item_at, key_of};
 
 use std::fmt;
 use thiserror::Error;
-use uc_file::stop::Stop;
 use uc_text::TextFault;
+use uc_text::stop::Stop;
 
 /// What is wrong with a value.
 #[derive(Clone, Copy, Debug, PartialEq, Eq)]

@@ -1,7 +1,7 @@
 //! Laws over the definitions: each is the contract of a function that does nothing.
 ghost use Rattle.uc_prices.specs.Laws.{OnePrices, PricesHaveForm};
 
-use uc_file::laws::one_file;
+use uc_text::file_laws::one_file;
 
 /// A list of bytes has at most one list of prices over so many periods or at most one first fault.
 pub fn one_prices()

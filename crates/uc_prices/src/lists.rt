@@ -3,9 +3,9 @@ ghost use Rattle.std.specs.Prelude.{◌≡◌, ◌≤◌, IfOk, length, codes};
 ghost use Rattle.std.specs.List.{All};
 ghost use Rattle.uc_model.specs.PlainUnits.{prices_of};
 ghost use Rattle.uc_model.specs.declared.limits.TheConstants.{MOST_PERIODS};
-ghost use Rattle.text_tree.specs.View.{view, member_views};
-ghost use Rattle.uc_file.specs.Given.{Gives};
-ghost use Rattle.uc_file.specs.Inside.{value_of};
+ghost use Rattle.uc_text.specs.View.{view, member_views};
+ghost use Rattle.uc_text.specs.Given.{Gives};
+ghost use Rattle.uc_text.specs.Inside.{value_under};
 ghost use Rattle.uc_prices.specs.Kept.{IsPriceOf};
 ghost use Rattle.uc_prices.specs.Tables.{list, energy, reserve, prices_in};
 
@@ -13,9 +13,9 @@ use crate::entries::read_entries;
 use crate::fault::{PriceCode, PriceField, PriceSite, PriceStop};
 use plain_lists::lists::Numbers;
 use std::alloc::Global;
-use text_tree::{Branch, Member};
-use uc_file::inside::find;
 use uc_model::units::Prices;
+use uc_text::inside::find;
+use uc_text::{Branch, Member};
 
 /// The prices of a list, one for each period. It is tried in the order `WrongKind`, `WrongLength`,
 /// and then item by item.
@@ -49,7 +49,7 @@ fn read_energy(alloc: Global, members: &[Member<'_>], periods: u32) -> Result<Nu
     ensures count { IfOk result (λ ns. length ns.items ≡ periods) }
     ensures fits { IfOk result (λ ns. All (IsPriceOf PriceField.Energy) ns.items) }
     ensures value { Gives (λ ns. ns.items) result
-        (energy periods (value_of (codes "energy") (member_views members.now))) }
+        (energy periods (value_under (codes "energy") (member_views members.now))) }
 {
     let field = PriceField::Energy;
     match find(members, field.key()) {
@@ -65,7 +65,7 @@ fn read_reserve(alloc: Global, members: &[Member<'_>], periods: u32) -> Result<N
     ensures count { IfOk result (λ ns. length ns.items ≡ periods) }
     ensures fits { IfOk result (λ ns. All (IsPriceOf PriceField.Reserve) ns.items) }
     ensures value { Gives (λ ns. ns.items) result
-        (reserve periods (value_of (codes "reserve") (member_views members.now))) }
+        (reserve periods (value_under (codes "reserve") (member_views members.now))) }
 {
     let field = PriceField::Reserve;
     match find(members, field.key()) {

@@ -4,7 +4,7 @@ ghost use Rattle.uc_model.specs.Data.{PriceLists};
 ghost use Rattle.uc_model.specs.PlainUnits.{prices_of};
 ghost use Rattle.plain_lists.specs.declared.limits.TheConstants.{MOST_BYTES};
 ghost use Rattle.uc_model.specs.declared.limits.TheConstants.{MOST_PERIODS};
-ghost use Rattle.uc_file.specs.Files.{FileFault};
+ghost use Rattle.uc_text.specs.Files.{FileFault};
 ghost use Rattle.uc_prices.specs.PricesFiles.{IsPricesOf, IfRead};
 ghost use Rattle.uc_prices.specs.declared.fault.PriceFault.{PriceFault as PlainFault};
 
@@ -12,8 +12,8 @@ use crate::fault::PricesFault;
 use crate::laws::one_prices;
 use crate::lists::prices_of_tree;
 use std::alloc::Global;
-use uc_file::stop::Stop;
 use uc_model::units::Prices;
+use uc_text::stop::Stop;
 use uc_text::{TextError, read_tree};
 
 /// The prices of a file over so many periods, in money for a kilowatt and period: each is read in

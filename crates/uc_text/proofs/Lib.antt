@@ -1,5 +1,15 @@
 -- The names from elsewhere that the proofs here cite.
 pub mod Common
+-- file_laws.rt: a file is one value, or has one first fault
+pub mod FileLaws
+-- inside.rt: a key looked for, member by member
+pub mod Finds
+-- what `each` reads, item by item, as a loop does; the readers of cases, plans, prices and mixtures cite it
+pub mod EachLaws
+-- The values behind nodes that were passed.
+pub mod Passed
+-- The items and members that are taken one after the other.
+pub mod Taken
 -- No value's tokens begin another's.
 pub mod Spellings
 -- A fault within a list, and within an object.

@@ -4,7 +4,7 @@ use Rattle.uc_text.proofs.Common.{values, drop, ◌+◌, text, said, TextNode, T
 use Rattle.uc_text.proofs.Common.{Lexed, NextIs, StuckAt, NumberTooLong, TextFault, number_run, IsOne, decimal_in}
 use Rattle.uc_text.proofs.Common.{number_of}
 use Rattle.uc_text.proofs.ValueSteps.{value_stops, stuck_long}
-use Rattle.text_tree.specs.declared.node.Node.TheVariants.{LargeNumber}
+use Rattle.uc_text.specs.declared.node.Node.TheVariants.{LargeNumber}
 
 pub large_number : (bytes run : List ℕ) (offset : ℕ) → run ≡ number_run (drop offset bytes) →
     IsOne bytes (LargeNumber offset) (scalar (number (decimal_in (number_of run))))

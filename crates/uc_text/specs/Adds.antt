@@ -1,9 +1,9 @@
 -- What nodes say that were put behind others.
 use Rattle.std.specs.Prelude.{◌≡◌, ℕ, List, [], ◌∷◌, ◌++◌}
 use Rattle.uc_text.specs.Values.{Value, scalar, text}
-use Rattle.uc_text.specs.Parts.{Pair}
-use Rattle.text_tree.specs.Nodes.{values}
-use Rattle.text_tree.specs.declared.node.Node.{Node}
+use Rattle.uc_text.specs.Pairs.{Pair}
+use Rattle.uc_text.specs.Nodes.{values}
+use Rattle.uc_text.specs.declared.node.Node.{Node}
 
 -- A node that says this value, whatever stands behind.
 abbrev pub IsOne : List ℕ → Node → Value → Type 0

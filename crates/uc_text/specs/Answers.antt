@@ -5,7 +5,7 @@ use Rattle.uc_text.specs.View.{tree_view}
 use Rattle.uc_text.specs.declared.fault.TextFault.{TextFault}
 use Rattle.uc_text.specs.declared.fault.TextError.{TextError}
 use Rattle.uc_text.specs.declared.fault.TextError.TheVariants as errors
-use Rattle.text_tree.specs.declared.tree.Tree.{Tree}
+use Rattle.uc_text.specs.declared.tree.Tree.{Tree}
 
 abbrev pub GivesTree : Result Tree TextError → Value → Type 0
 GivesTree (Ok t) v = tree_view t ≡ v

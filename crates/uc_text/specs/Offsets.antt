@@ -5,7 +5,8 @@ use Rattle.uc_text.specs.Grammar as grammar
 use Rattle.uc_text.specs.Grammar.{spell, spell_items, spell_members}
 use Rattle.uc_text.specs.Faults.{Test, length_of_numbers, levels, double_keys, Passes, ItemsPass}
 use Rattle.uc_text.specs.Faults.{MembersPass}
-use Rattle.uc_text.specs.Parts.{Pair, IsStuck, items_of, members_of, names, passed_items}
+use Rattle.uc_text.specs.Parts.{IsStuck, names, passed_items}
+use Rattle.uc_text.specs.Pairs.{Pair, items_of, members_of}
 use Rattle.text_tokens.specs.Tokens.{Lexed, kinds}
 pub use Rattle.text_tokens.specs.Offsets.{seen, NextIs, Takes}
 use Rattle.uc_text.specs.declared.fault.TextCode.{TextCode}

@@ -1,9 +1,9 @@
 -- What the reader's own functions say of the tokens that they pass: parts of a value.
 use Rattle.std.specs.Prelude.{◌≡◌, ◌≢◌, ◌<◌, ℕ, List, [], ◌∷◌, ◌++◌, length, slice_index_or}
 use Rattle.uc_text.specs.Values.{Value}
+use Rattle.uc_text.specs.Pairs.{Pair}
 use Rattle.uc_text.specs.Grammar.{Token, open_list, open_object, comma, colon, key, spell}
 use Rattle.uc_text.specs.Faults.{Test, grammar, length_of_numbers, levels, double_keys, Passes}
-pub use Rattle.text_tree.specs.Parts.{Pair, items_of, members_of}
 
 -- values that were passed, each with the comma behind it
 abbrev pub passed_items : List Value → List Token

@@ -1,8 +1,32 @@
--- What a tree says, apart from where it lies in memory.
+-- What a part of a tree says, apart from where it lies in memory.
+use Rattle.std.specs.Prelude.{List, map}
+use Rattle.text_tokens.specs.Strings.{said}
 use Rattle.uc_text.specs.Values.{Value}
-use Rattle.text_tree.specs.Nodes.{first, values}
-use Rattle.text_tree.specs.declared.tree.Tree.{Tree}
-pub use Rattle.text_tree.specs.View.{view, views, member_view, member_views}
+use Rattle.uc_text.specs.Pairs.{Pair}
+use Rattle.uc_text.specs.Nodes.{first, firsts, pairs, values}
+use Rattle.uc_text.specs.declared.tree.Tree.{Tree}
+use Rattle.uc_text.specs.declared.branch.Branch.{Branch}
+use Rattle.uc_text.specs.declared.list.ListBranch.{ListBranch}
+use Rattle.uc_text.specs.declared.object.ObjectBranch.{ObjectBranch}
+use Rattle.uc_text.specs.declared.object.Member.{Member}
+
+abbrev pub view : Branch → Value
+view t = first (values t.bytes.now t.nodes.now)
+
+abbrev pub views : List Branch → List Value
+views ts = map view ts
+
+abbrev pub items_in : ListBranch → List Value
+items_in l = firsts l.count (values l.bytes.now l.nodes.now)
+
+abbrev pub member_view : Member → Pair
+member_view m = record { name = said m.name.bytes.now; value = view m.value }
+
+abbrev pub member_views : List Member → List Pair
+member_views ms = map member_view ms
+
+abbrev pub members_in : ObjectBranch → List Pair
+members_in o = pairs o.count (values o.bytes.now o.nodes.now)
 
 -- the value of the whole text
 abbrev pub tree_view : Tree → Value

@@ -1,4 +1,4 @@
-//! Laws over the definitions: each is the contract of a function that does nothing.
+//! Laws of texts: each is the contract of a function that does nothing.
 ghost use Rattle.uc_text.specs.Laws.{TextOrFault, NeverBoth, OneValue, OneFault};
 
 /// Each list of bytes is the text of a value or has a first fault.

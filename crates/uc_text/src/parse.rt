@@ -1,9 +1,11 @@
 //! From tokens to a tree.
-ghost use Rattle.std.specs.Prelude.{◌≡◌, ◌<◌, ◌≤◌, ◌+◌, ◌^◌, ◌∷◌, ◌++◌, [], ℕ, List, length, IfOk, OnOk};
+ghost use Rattle.std.specs.Prelude.{◌≡◌, ◌<◌, ◌≤◌, ◌+◌, ◌^◌, ◌∷◌, ◌++◌, [], ℕ, List, length, IfOk};
+ghost use Rattle.std.specs.Prelude.{OnOk};
 ghost use Rattle.uc_text.specs.Known.{names_said, AreDifferent};
 ghost use Rattle.uc_text.specs.Later.{DoublesStop};
 ghost use Rattle.uc_text.specs.Grammar.{open_list, open_object};
-ghost use Rattle.uc_text.specs.Parts.{Pair, names as names_of};
+ghost use Rattle.uc_text.specs.Parts.{names as names_of};
+ghost use Rattle.uc_text.specs.Pairs.{Pair};
 ghost use Rattle.uc_text.specs.Adds.{Adds, IsOne, in_turn};
 ghost use Rattle.text_tokens.specs.Tokens.{Lexed};
 ghost use Rattle.uc_text.specs.Offsets.{NextIs, seen, Reads, ReadsItems, ReadsMembers, StuckAt};
@@ -22,9 +24,10 @@ ghost use Rattle.plain_lists.specs.declared.limits.TheConstants.{MOST_BYTES};
 use crate::doubles::first_double;
 use crate::fault::{TextCode, TextError, TextFault};
 use crate::names::Name;
+use crate::node::{Node, Parts};
+use crate::tree::Tree;
 use std::alloc::{AllocError, Global};
 use text_tokens::{Lexeme, Reader, Token, Word};
-use text_tree::{Node, Parts, Tree};
 
 /// How many lists and objects may stand within one another.
 const LEVELS: u32 = 32;

@@ -1,5 +1,11 @@
 -- The names from elsewhere that the proofs here cite.
 pub mod Common
+-- unit_answer.rt, case_laws.rt: the unit of a number
+pub mod Units
+-- earn.rt, case_laws.rt: what all units of a case earn at best
+pub mod TopLaws
+-- case_bench.rt: the most cost points of its units
+pub mod MostPoints
 -- what a spell writes, and what stays
 pub mod BackLaws
 -- lists compared from the end, and the order for ties period by period

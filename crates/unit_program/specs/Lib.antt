@@ -1,3 +1,6 @@
+pub mod Tops
+pub mod Answers
+pub mod CaseLaws
 pub mod Benches
 pub mod Backs
 pub mod Builds

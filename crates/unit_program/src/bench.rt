@@ -9,9 +9,9 @@ ghost use Rattle.unit_table.specs.Live.{left_at, AreTrails, HaveRoom};
 ghost use Rattle.unit_rows.specs.Rows.{cost_at, first_at};
 ghost use Rattle.unit_table.specs.Runners.{HaveWays};
 
-use crate::answer::least_end;
 use crate::kept::{Kept, NO_BOUND};
 use crate::last::LastAnswers;
+use crate::least_end::least_end;
 use crate::way::{Ways, write_noted};
 use cost_curve::curves::curve_into;
 use plain_lists::lists::Numbers;

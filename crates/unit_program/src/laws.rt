@@ -1,4 +1,4 @@
-//! Laws over the definitions: each is the contract of a function that does nothing.
+//! Laws of spells and benches: each is the contract of a function that does nothing.
 ghost use Rattle.unit_program.specs.Benches.{BenchesServeLess};
 ghost use Rattle.unit_program.specs.Lists.{SchedulesAreSpells};
 

@@ -1,5 +1,5 @@
 //! The least best response of a thermal unit to prices: a dynamic program over its spells of on
-//! periods.
+//! periods. From it follows what all units of a case answer and earn.
 //!
 //! A schedule is a list of spells with times off between them, and what it costs is the sum of the
 //! spells' net costs and of the costs of starts. So the least cost of all up to a last on period is
@@ -10,14 +10,26 @@
 //! comes before on. So the table is read from its earliest least end; it names for each last period
 //! the latest first period of a spell, and for that one the earliest on period before it. Of the
 //! dispatches of a spell the first by powers and reserves is written.
+//!
+//! All memory is taken once, with a bench. An answer begins with the last answer of the unit, and
+//! leaves its own in place of that.
 #![tactic(auto)]
 
-pub mod answer;
 pub mod bench;
+mod case_bench;
+pub mod case_laws;
+mod choice;
+mod earn;
 mod kept;
 mod last;
 pub mod laws;
+pub mod least_end;
+mod unit_answer;
 pub mod way;
 
 pub use bench::Bench;
+pub use case_bench::{bench_for, most_points};
+pub use choice::least_on_bench;
+pub use earn::earn_all;
 pub use last::LastAnswers;
+pub use unit_answer::answer_at;

@@ -12,7 +12,7 @@ ghost use Rattle.unit_table.specs.Live.{left_at, AreTrails};
 ghost use Rattle.unit_rows.specs.Rows.{cost_at, first_at};
 ghost use Rattle.unit_table.specs.Runners.{HaveWays, since};
 
-use crate::answer::{clear, is_all_off, negated};
+use crate::least_end::{clear, is_all_off, negated};
 use spell_run::{Left, Logged, write_spell};
 use uc_model::laws::start_costs_are_within;
 use uc_model::units::{Answered, Prices, Unit};

@@ -31,7 +31,7 @@ pub use Rattle.unit_table.specs.Tables.{IsEnded, IsLatest}
 pub use Rattle.unit_rows.specs.declared.origins.Origin.{Origin}
 pub use Rattle.unit_table.specs.declared.runner.Runner.{Runner}
 pub use Rattle.unit_rows.specs.declared.table.Ended.{Ended}
-pub use Rattle.shape_law.specs.Table.{Table, value_of}
+pub use Rattle.slope_list.specs.Table.{Table, value_of}
 pub use Rattle.slope_list.specs.Slopes.{shown, count_of, room_of, space_of}
 pub use Rattle.slope_list.specs.declared.slopes.Lowest.{Lowest}
 pub use Rattle.spell_run.specs.Frontier.{IsFrontier}

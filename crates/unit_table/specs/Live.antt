@@ -3,7 +3,7 @@
 use Rattle.std.specs.Prelude.{◌≡◌, ℕ, suc, ◌+◌, ◌-◌, ◌*◌, ◌≤◌, ℤ, pos, ◌+ℤ◌, ◌≤ℤ◌, if◌then◌else◌}
 use Rattle.std.specs.Prelude.{IsTrue, List, [], length, slice_get, Option, Some, None}
 use Rattle.plain_lists.specs.Reserved.{Reserved}
-use Rattle.shape_law.specs.Table.{Table, value_of}
+use Rattle.slope_list.specs.Table.{Table, value_of}
 use Rattle.slope_list.specs.Slopes.{shown, count_of, room_of}
 use Rattle.uc_model.specs.Data.{ThermalUnit, PriceLists}
 use Rattle.spell_run.specs.declared.notes.Logged.{Logged}

@@ -4,7 +4,7 @@
 -- profile).
 use Rattle.std.specs.Prelude.{◌≡◌, ℕ, suc, ◌+◌, ◌-◌, ◌*◌, ◌<◌, ◌≤◌, ℤ, pos, ◌+ℤ◌, ◌≤ℤ◌, ◌⊎◌, IsTrue}
 use Rattle.std.specs.Prelude.{IsFalse, Option, Some, None}
-use Rattle.shape_law.specs.Table.{Table, value_of, IsEmpty}
+use Rattle.slope_list.specs.Table.{Table, value_of, IsEmpty}
 use Rattle.uc_model.specs.declared.units.Mark.TheVariants.{MustOff}
 use Rattle.uc_model.specs.Data.{ThermalUnit, PriceLists, Schedule}
 use Rattle.uc_model.specs.Schedules.{mark_in}

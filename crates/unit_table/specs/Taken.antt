@@ -3,7 +3,7 @@
 use Rattle.std.specs.Prelude.{◌≡◌, ◌≢◌, ℕ, suc, ◌+◌, ◌-◌, ◌*◌, ◌^◌, ◌<◌, ◌≤◌, ◌⊎◌, ℤ, IsTrue, List}
 use Rattle.std.specs.Prelude.{length, slice_get, Option, Some, None}
 use Rattle.plain_lists.specs.Reserved.{Reserved}
-use Rattle.shape_law.specs.Table.{value_of}
+use Rattle.slope_list.specs.Table.{value_of}
 use Rattle.slope_list.specs.Slopes.{count_of, room_of}
 use Rattle.uc_model.specs.Data.{ThermalUnit, PriceLists}
 use Rattle.spell_run.specs.declared.notes.Logged.{Logged}

@@ -5,7 +5,8 @@
 //! as soon, is nowhere above it; and a start isn't made where a running spell is at the least power
 //! for less than it costs. Nor does one go on, or start, that costs more than a limit, since it
 //! can't come within the amount that the limits are for.
-ghost use Rattle.std.specs.Prelude.{◌≡◌, ◌≢◌, ℕ, suc, ◌+◌, ◌*◌, ◌<◌, ◌≤◌, ℤ, Option, None, [], length};
+ghost use Rattle.std.specs.Prelude.{◌≡◌, ◌≢◌, ℕ, suc, ◌+◌, ◌*◌, ◌<◌, ◌≤◌, ℤ, Option, None, []};
+ghost use Rattle.std.specs.Prelude.{length};
 ghost use Rattle.slope_list.specs.Slopes.{space_of};
 ghost use Rattle.uc_model.specs.Data.{PriceLists};
 ghost use Rattle.uc_model.specs.PlainUnits.{thermal_of};

@@ -1,9 +1,10 @@
 //! The spells with one first period, as far as they have gone.
-ghost use Rattle.std.specs.Prelude.{◌≡◌, ◌≢◌, ℕ, suc, ◌+◌, ◌-◌, ◌*◌, ◌^◌, ◌<◌, ◌≤◌, ℤ, pos, ◌+ℤ◌, ◌-ℤ◌};
+ghost use Rattle.std.specs.Prelude.{◌≡◌, ◌≢◌, ℕ, suc, ◌+◌, ◌-◌, ◌*◌, ◌^◌, ◌<◌, ◌≤◌, ℤ, pos, ◌+ℤ◌};
+ghost use Rattle.std.specs.Prelude.{◌-ℤ◌};
 ghost use Rattle.std.specs.Prelude.{◌≤ℤ◌, ◌⊎◌, true, false, IsTrue, IfSome, length, Some};
 ghost use Rattle.std.specs.Prelude.{None, Option, slice_get};
 ghost use Rattle.std.specs.Bool.{OnTrue};
-ghost use Rattle.shape_law.specs.Table.{Table, value_of, IsEmpty};
+ghost use Rattle.slope_list.specs.Table.{Table, value_of, IsEmpty};
 ghost use Rattle.slope_list.specs.Slopes.{shown, count_of, room_of, space_of, MayGrow, IsGrown};
 ghost use Rattle.spell_run.specs.Frontier.{IsFrontier};
 ghost use Rattle.spell_run.specs.Logs.{left_by, IsTrail};

@@ -1,8 +1,8 @@
 //! A board that takes no more calls.
 ghost use Rattle.std.specs.Prelude.{◌≡◌, ◌<◌, ◌≤◌, length, map};
-ghost use Rattle.board_history.specs.Board.{IsLegalHistory};
-ghost use Rattle.board_history.specs.Calls.{own_rows, has_finished};
-ghost use Rattle.board_history.specs.Entries.{entries_of};
+ghost use Rattle.board_store.specs.Board.{IsLegalHistory};
+ghost use Rattle.board_store.specs.Calls.{own_rows, has_finished};
+ghost use Rattle.board_store.specs.Entries.{entries_of};
 ghost use Rattle.uc_model.specs.Data.{unit_count};
 ghost use Rattle.uc_model.specs.PlainCases.{market_of, schedules_of, proposal_of};
 ghost use Rattle.uc_model.specs.PlainUnits.{schedule_of};
@@ -13,7 +13,7 @@ ghost use Rattle.board_core.specs.Stored.{answer_of};
 
 use super::Board;
 use crate::terms::Terms;
-use board_history::entries::Entry;
+use board_store::entries::Entry;
 use price_space::greatest;
 use std::marker::Model;
 use uc_model::cases::{Case, Plan, Row};
@@ -27,7 +27,7 @@ pub struct Closed {
 }
 
 impl Model for Closed {
-    ghost use Rattle.board_history.specs.Board.{Content};
+    ghost use Rattle.board_store.specs.Board.{Content};
 
     ghost Value = { Content };
 

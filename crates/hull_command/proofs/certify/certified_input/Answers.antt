@@ -8,8 +8,11 @@ returns-clause-certified c =
     let mixture = mixture_of c.args.mixture.now in
     let π = prices_of c.args.priced.prices in
     let at = λ (y : Input). mixture_bound (market_of y.case) mixture π c.args.radius in
-    let bound = rw (to_z-of_z w64 c.args.radius (search rules)) at c.bound_of-bound.ensures.bound in
-    rw (to_z-of_z w64 c.args.radius (search rules), to_z-of_z w128 c.bound_of-bound.result (search rules)) (record {
+    let bound = rw (to_z-of_z w64 c.args.radius (search rules)) at c.bound_of_mixture-bound.ensures.bound in
+    rw (
+      to_z-of_z w64 c.args.radius (search rules),
+      to_z-of_z w128 c.bound_of_mixture-bound.result (search rules),
+    ) (record {
       settled = c.in_ok-settled.ensures.settled;
       radius_is = refl;
       bound_is = bound ∙ ap at (sym c.in_ok-settled.ensures.input);
@@ -17,5 +20,5 @@ returns-clause-certified c =
 
 pub returns-clause-told : goal.returns-clause-told
 returns-clause-told c =
-    rw (to_z-of_z w128 c.bound_of-bound.result (search rules))
-    (record { settled = c.in_ok-settled.ensures.told; bound = c.bound_of-bound.ensures.limit })
+    rw (to_z-of_z w128 c.bound_of_mixture-bound.result (search rules))
+    (record { settled = c.in_ok-settled.ensures.told; bound = c.bound_of_mixture-bound.ensures.limit })

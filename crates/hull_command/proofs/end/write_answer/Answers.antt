@@ -1,7 +1,7 @@
 use Rattle.hull_command.proofs.Common.{ℕ, ℤ, List, rules, refl, subst, w64, w128, to_z-of_z, unsigned_abs, length}
 use Rattle.hull_command.proofs.Common.{market_of}
 use Rattle.hull_command.proofs.Common.{told_of, fixed_text, try_text}
-use Rattle.board_history.specs.Calls.{own_rows}
+use Rattle.board_store.specs.Calls.{own_rows}
 use Rattle.hull_report.specs.AuditText.{audit_text}
 use Rattle.hull_report.specs.BoundText.{bound_text}
 use Rattle.hull_report.specs.CertifiedText.{certificate_of}
@@ -9,7 +9,7 @@ use Rattle.hull_report.specs.CheckText.{check_text}
 use Rattle.report_form.specs.CertificateText.{certificate_text}
 use Rattle.hull_report.specs.SettledText.{settlement_of}
 use Rattle.report_form.specs.SettlementText.{settlement_text}
-use Rattle.uplift_settle.specs.Settled.{settled_of}
+use Rattle.plan_check.specs.Settled.{settled_of}
 use Rattle.right_report.specs.RecordReport.{report_of, chosen_of, value_of}
 use Rattle.hull_command.specs.Answers.{IsAnswered}
 use Rattle.hull_command.specs.declared.answer.Answer.TheVariants.{Check, Settle, Certify, Try, Bound, Fixed, Audit}

@@ -1,5 +1,5 @@
 use Rattle.hull_command.proofs.Common.{Ok, List, ℕ, Option, subst, planned_of, check, Rose}
-use Rattle.hull_words.specs.Asked.{check_asked}
+use Rattle.hull_io.specs.Asked.{check_asked}
 use Rattle.hull_input.specs.Files.{AreReads, case_and_schedule}
 use Rattle.hull_report.specs.declared.fault.FileKind.{FileKind}
 use Rattle.hull_command.specs.Rest.{HasPrepared}

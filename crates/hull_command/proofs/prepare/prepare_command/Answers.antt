@@ -1,7 +1,7 @@
 use Rattle.hull_command.proofs.Common.{Ok, refl, rules, w64, to_z-of_z, nothing_read, price, bound, fixed, price_asked}
 use Rattle.hull_command.proofs.Common.{bound_asked}
-use Rattle.hull_words.specs.declared.command.Command.TheVariants.{Check, Price, Try, Bound, Fixed, Audit, Settle}
-use Rattle.hull_words.specs.declared.command.Command.TheVariants.{Certify}
+use Rattle.hull_io.specs.declared.command.Command.TheVariants.{Check, Price, Try, Bound, Fixed, Audit, Settle}
+use Rattle.hull_io.specs.declared.command.Command.TheVariants.{Certify}
 use Rattle.hull_command.proofs.Lemmas.{prepared_as, asked_as, asked_any, never_unread}
 use Rattle.hull_command.proofs.prepare.prepare_command.Goals as goal
 

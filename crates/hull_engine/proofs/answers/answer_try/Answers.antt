@@ -1,5 +1,5 @@
 use Rattle.hull_engine.proofs.Common.{inr, refl, sym, subst, ◌∙◌, try_text, planned_run, IsEnded}
-use Rattle.board_history.specs.Board.{Setup}
+use Rattle.board_store.specs.Board.{Setup}
 use Rattle.hull_engine.proofs.Lemmas.{handed_on, run_texts}
 use Rattle.hull_engine.proofs.Common.{IsCommandAnswer, rest_with, nothing_read, Memory}
 use Rattle.hull_command.specs.declared.ready.Purpose.TheVariants.{Try}

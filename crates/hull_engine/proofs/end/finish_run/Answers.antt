@@ -1,8 +1,8 @@
 use Rattle.hull_engine.proofs.Common.{sym, subst, Gains, FallsShort, HasStatus, report_text}
-use Rattle.board_history.specs.Board.{Content}
+use Rattle.board_store.specs.Board.{Content}
 use Rattle.right_report.specs.RecordReport.{report_of, IsSettledRecord}
 use Rattle.uc_model.specs.PriceRule.{Proposal}
-use Rattle.uplift_settle.specs.declared.settlement.Settlement.{Settlement}
+use Rattle.plan_check.specs.declared.settlement.Settlement.{Settlement}
 use Rattle.hull_engine.proofs.Lemmas.{status_written}
 use Rattle.hull_engine.proofs.end.finish_run.Goals as goal
 

@@ -1,9 +1,9 @@
 use Rattle.law_board.proofs.Common.{Fits}
 use Rattle.law_board.proofs.Halts.{halts_nothing}
 use Rattle.law_board.proofs.Tallies.{events_are_at_most}
-use Rattle.board_history.proofs.RowLaws.{right_rows, fits_is_best}
-use Rattle.board_history.proofs.SameTask.{same_task}
-use Rattle.board_history.proofs.Totals.{totals_run}
+use Rattle.board_store.proofs.RowLaws.{right_rows, fits_is_best}
+use Rattle.board_store.proofs.SameTask.{same_task}
+use Rattle.board_store.proofs.Totals.{totals_run}
 use Rattle.law_board.proofs.laws.histories_keep.Goals as goal
 
 pub returns : goal.returns

@@ -1,5 +1,5 @@
 use Rattle.std.proofs.Common.{refl}
-use Rattle.uc_file.specs.Files.{reading_of}
+use Rattle.uc_text.specs.Files.{reading_of}
 use Rattle.uc_prices.specs.Tables.{prices_in}
 use Rattle.law_files.proofs.laws.prices_or_fault.Goals as goal
 

@@ -9,7 +9,7 @@ use Rattle.report_compare.proofs.RightReports.{right_is, counted, count_zipped}
 use Rattle.report_compare.proofs.Lemmas.{read_item, row_made, row_long, mine_whole, right_whole, compared_as}
 use Rattle.report_compare.proofs.Lemmas.{number_behind, sum_is_worth, all_right, first_wrong, not_right, IsMade}
 use Rattle.report_compare.proofs.report.first_difference.Goals as goal
-use Rattle.uplift_settle.specs.declared.settlement.Settlement.{Settlement}
+use Rattle.plan_check.specs.declared.settlement.Settlement.{Settlement}
 use Rattle.report_compare.proofs.report.first_difference.Goals.{After-index-rows-chosen}
 
 -- the chosen row of the run

@@ -1,6 +1,6 @@
 use Rattle.test_whole.proofs.Common.{◌≡◌, List, [], ◌∷◌, ◌++◌, length, length-append, sym, ap, ◌∙◌, subst, arith}
 use Rattle.test_whole.proofs.Common.{All-push, market_of, AreFor}
-use Rattle.audit_rows.specs.declared.answerer.Answerer.{Answerer}
+use Rattle.audit_check.specs.declared.answerer.Answerer.{Answerer}
 use Rattle.test_whole.proofs.dealt_rows.jobs_for.Goals as goal
 
 pub loop-preserved : goal.loop-preserved

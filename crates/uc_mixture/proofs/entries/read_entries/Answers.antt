@@ -1,6 +1,6 @@
 use Rattle.uc_mixture.proofs.Common.{List, map, sym, subst, arith, err_from_is_err_and, All, All-nil, All-push}
 use Rattle.uc_mixture.proofs.Common.{map_push, counted, WeighedSchedule, entry_of, IsEntryIn}
-use Rattle.mixture_bound.specs.declared.mixtures.Entry.{Entry}
+use Rattle.gap_proof.specs.declared.mixtures.Entry.{Entry}
 use Rattle.uc_mixture.proofs.Loops.{entry_goes_on, entry_ends, entries_done, entries_begin}
 use Rattle.uc_mixture.proofs.entries.read_entries.Goals as goal
 

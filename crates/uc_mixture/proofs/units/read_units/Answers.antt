@@ -1,6 +1,6 @@
 use Rattle.uc_mixture.proofs.Common.{List, map, sym, subst, arith, err_from_is_err_and, All, All-nil, All-push}
 use Rattle.uc_mixture.proofs.Common.{map_push, counted, members_in, WeighedSchedule, entries_of, AreEntries}
-use Rattle.mixture_bound.specs.declared.mixtures.Entry.{Entry}
+use Rattle.gap_proof.specs.declared.mixtures.Entry.{Entry}
 use Rattle.plain_lists.specs.Reserved.{Reserved}
 use Rattle.uc_mixture.proofs.Loops.{unit_goes_on, unit_ends, units_done, units_begin}
 use Rattle.uc_mixture.proofs.units.read_units.Goals as goal

@@ -2,8 +2,8 @@ use Rattle.uc_mixture.proofs.Common.{rules, ◌≡◌, ℕ, ◌<◌, ◌+◌, �
 use Rattle.uc_mixture.proofs.Common.{sym, ◌∙◌, FitsSigned, arith, ints, to_z-of_z, slice_get, slice_get-get_or, w64}
 use Rattle.uc_mixture.proofs.Common.{w128, cast_signed, fits_within, IsFrom, most_whole, WeighedSchedule, entry_of}
 use Rattle.uc_mixture.proofs.Common.{weight_sum}
-use Rattle.mixture_bound.proofs.SumLaws.{total_more}
-use Rattle.mixture_bound.specs.declared.mixtures.Entry.{Entry}
+use Rattle.gap_proof.proofs.MixtureSumLaws.{total_more}
+use Rattle.gap_proof.specs.declared.mixtures.Entry.{Entry}
 use Rattle.plain_lists.proofs.ListLaws.{item_of, map_item}
 use Rattle.uc_mixture.proofs.weights.sum_of.Goals as goal
 

@@ -4,8 +4,8 @@ use Rattle.board_core.proofs.Common.{after_claim, entry_of, Event, Given, ClaimR
 use Rattle.board_core.proofs.Common.{AnyUnit, Schedule, units_of, unit_count, task_unit, IsFeasible, event_of}
 use Rattle.board_core.proofs.Common.{events_of, blank, Lists, IsBoard, task_count, claim_of, ◌≤◌, Setup, NotYet, Halted}
 use Rattle.board_core.proofs.Common.{Finished, GivenTask, Task, LedgerValue}
-use Rattle.board_history.specs.declared.entries.Call.TheVariants as calls
-use Rattle.board_history.specs.declared.entries.Reply.TheVariants as replies
+use Rattle.board_store.specs.declared.entries.Call.TheVariants as calls
+use Rattle.board_store.specs.declared.entries.Reply.TheVariants as replies
 use Rattle.board_core.specs.Tasks.{LeavesTask, IsOwnTask}
 use Rattle.board_core.proofs.Claims.{claim_finished, claim_halted, claim_not_yet, claim_given, price_is, count_within}
 use Rattle.board_core.proofs.Claims.{claimed}

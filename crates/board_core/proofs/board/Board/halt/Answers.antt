@@ -2,8 +2,8 @@ use Rattle.board_core.proofs.Common.{◌≡◌, ◌<◌, ◌++◌, ◌∷◌, []
 use Rattle.board_core.proofs.Common.{true, false, cond, length-append, get_or_default, list_any, Answer, Content}
 use Rattle.board_core.proofs.Common.{after_halt, Event, Stopped, is_halt_of, Entry, unit_count, events_of, Lists}
 use Rattle.board_core.proofs.Common.{IsBoard, Setup, task_count, unset, set, vec_capacity, ◌-◌, ℕ}
-use Rattle.board_history.specs.declared.entries.Call.TheVariants as calls
-use Rattle.board_history.specs.declared.entries.Reply.TheVariants as replies
+use Rattle.board_store.specs.declared.entries.Call.TheVariants as calls
+use Rattle.board_store.specs.declared.entries.Reply.TheVariants as replies
 use Rattle.board_core.proofs.Lemmas.{content, events_more, entries_more, stopped, not_yet, one_less, halted_lists}
 use Rattle.board_core.proofs.Lemmas.{halt_place, halt_room, caller_few}
 use Rattle.plain_lists.specs.declared.limits.TheConstants.{MOST_CALLERS}

@@ -7,7 +7,7 @@ use Rattle.board_core.proofs.Common.{blank, Lists, unset, sums_of, fronts_of, Ar
 use Rattle.board_core.proofs.Common.{posted_of, closed_if, Sums, Fronts, is_full, IsRound, answer_of, answers_kept}
 use Rattle.board_core.proofs.Common.{Posts, PostReply, Setup, IsLegalHistory, Difference, AnyUnit, PriceLists, Proposal}
 use Rattle.board_core.proofs.Common.{int_at, LedgerValue, IsLedger, ◌≤◌, le_trans, MOST_UNITS}
-use Rattle.board_history.specs.declared.entries.Call.TheVariants as calls
+use Rattle.board_store.specs.declared.entries.Call.TheVariants as calls
 use Rattle.board_core.specs.declared.replies.Posted.TheVariants as replies_of
 use Rattle.board_core.proofs.Lemmas.{content, entries_more, is_task, one_less, is_inside, put_kept, place_before}
 use Rattle.board_core.proofs.Lemmas.{refusal_is, refused_says, taken_here, supply_small, reserve_small, units_few}

@@ -1,6 +1,6 @@
 use Rattle.slope_list.proofs.Common.{List, MatchOption, None, take, sym, ap, ◌∙◌, subst, rules, with_items_is, places}
 use Rattle.slope_list.proofs.Common.{IsStepped, IsSmall, IsLeast, Table, IsEmpty, table_of, table_after, IsTurn}
-use Rattle.slope_piece.specs.declared.piece.Piece.{Piece}
+use Rattle.slope_list.specs.declared.piece.Piece.{Piece}
 use Rattle.slope_list.proofs.ShownLaws.{none_at, stepped_nothing, lowest_turned}
 use Rattle.slope_list.proofs.slopes.Slopes.least_beside.Goals as goal
 

@@ -1,0 +1,3 @@
+pub mod Sums
+pub mod Jobs
+pub mod Rows

@@ -1,5 +1,0 @@
-use Rattle.audit_rows.proofs.Common.{sym, take-map, proposal_of}
-use Rattle.audit_rows.proofs.rows.first_rows.Goals as goal
-
-pub returns : goal.returns
-returns c = sym (take-map proposal_of c.args.count c.args.rows.now)

@@ -1,4 +1,0 @@
-pub mod Benches
-pub mod Sums
-pub mod Jobs
-pub mod Rows

@@ -1,5 +1,0 @@
-use Rattle.board_history.proofs.Lemmas.{stays_finished}
-use Rattle.board_history.proofs.laws.finished_stays_finished.Goals as goal
-
-pub returns : goal.returns
-returns c = stays_finished

@@ -1,3 +1,0 @@
-pub mod Tops
-pub mod Answers
-pub mod Laws

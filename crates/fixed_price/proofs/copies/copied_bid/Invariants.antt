@@ -1,8 +1,0 @@
-use Rattle.fixed_price.proofs.Common.{◌≡◌, ◌+◌, ◌≤◌, length, map, take, items_in}
-use Rattle.fixed_price.proofs.copies.copied_bid.Given as goal
-
-abbrev pub invariant-loop-place : goal.invariant-loop-place
-invariant-loop-place l = record {
-  copied : map items_in l.blocks.items ≡ map items_in (take l.place l.bid.blocks.items);
-  room : length l.bid.blocks.items ≤ l.place + l.blocks.spare;
-}

@@ -1,2 +1,0 @@
-pub mod FixedCase
-pub mod Laws

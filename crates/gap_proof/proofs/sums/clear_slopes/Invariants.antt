@@ -1,9 +1,0 @@
-use Rattle.gap_proof.proofs.Common.{◌≡◌, ℕ, ◌<◌, pos, length, int_at}
-use Rattle.gap_proof.proofs.sums.clear_slopes.Given as goal
-
-abbrev pub invariant-loop-place : goal.invariant-loop-place
-invariant-loop-place l = record {
-  same_length : length l.slopes.items ≡ length l.initial.slopes.items;
-  zeros : (j : ℕ) → j < l.place → int_at l.slopes.items j ≡ pos 0;
-  spare : l.slopes.spare ≡ l.initial.slopes.spare;
-}

@@ -1,0 +1,177 @@
+//! What a mixture costs, and what it lacks of demand and of the required reserve.
+ghost use Rattle.std.specs.Prelude.{◌≡◌, ◌<◌, ◌≤◌, suc, pos, ◌+ℤ◌, ◌-ℤ◌, ◌*ℤ◌, length, map};
+ghost use Rattle.std.specs.List.{All};
+ghost use Rattle.uc_model.specs.declared.limits.TheConstants.{MOST_PERIODS};
+ghost use Rattle.uc_model.specs.Data.{Thermal};
+ghost use Rattle.uc_model.specs.Earnings.{cost_of, supply_in};
+ghost use Rattle.plain_lists.specs.Ranges.{IsFrom};
+ghost use Rattle.uc_model.specs.Limits.{IsPower, IsUnitCost};
+ghost use Rattle.uc_model.specs.PlainCases.{market_of};
+ghost use Rattle.uc_model.specs.PlainUnits.{thermal_of, schedule_of};
+ghost use Rattle.uc_model.specs.Schedules.{power_in, reserve_in, IsThermalFeasible};
+ghost use Rattle.gap_proof.specs.Mixtures.{WeighedSchedule, entry_of, mixture_of, IsMixture};
+ghost use Rattle.gap_proof.specs.Mixtures.{HasMixtureShape, most_whole};
+ghost use Rattle.gap_proof.specs.MixtureBound.{weighed, weighed_over, lack, short};
+ghost use Rattle.gap_proof.specs.MixtureBound.{mixture_cost};
+ghost use Rattle.gap_proof.specs.MixtureSizes.{AreUnitWeights, AreBehind, IsGivenByOne, IsGiven};
+ghost use Rattle.gap_proof.specs.MixtureSizes.{IsLack, IsCostOfOne, IsMixtureCost};
+
+use crate::mixtures::{Entry, Mixture};
+use plan_check::costs::{costs_of_starts, power_costs};
+use uc_model::cases::Case;
+use uc_model::units::{Response, Unit};
+
+/// Power and reserve in kilowatts, each as often as weights say.
+#[derive(Clone, Copy)]
+pub struct Weighed {
+    /// The power.
+    pub power: i128,
+    /// The reserve.
+    pub reserve: i128,
+}
+
+// So many times a number.
+fn times(weight: i64, number: i64) -> i128
+    ensures { result ≡ weight *ℤ number }
+{
+    i128::from(weight) * i128::from(number)
+}
+
+// What is given with one more entry.
+fn with_entry(given: Weighed, entry: &Entry, place: usize) -> Weighed
+    requires place { place < length (entry_of entry.now).schedule.on }
+    requires weight { IsFrom (pos 0) most_whole entry.now.weight }
+    requires power { IsGivenByOne given.power }
+    requires reserve { IsGivenByOne given.reserve }
+    ensures power { result.power ≡ given.power
+        +ℤ (entry.now.weight *ℤ power_in (entry_of entry.now).schedule (suc place)) }
+    ensures reserve { result.reserve ≡ given.reserve
+        +ℤ (entry.now.weight *ℤ reserve_in (entry_of entry.now).schedule (suc place)) }
+    ensures power_limit { IsFrom given.power
+        (given.power +ℤ (pos 4294967296 *ℤ entry.now.weight)) result.power }
+    ensures reserve_limit { IsFrom given.reserve
+        (given.reserve +ℤ (pos 4294967296 *ℤ entry.now.weight)) result.reserve }
+{
+    let response = &entry.response;
+    Weighed {
+        power: given.power + times(entry.weight, response.power_at(place)),
+        reserve: given.reserve + times(entry.weight, response.reserve_at(place)),
+    }
+}
+
+// What the entries of one unit give at a place.
+fn given_by(entries: &[Entry], place: usize) -> Weighed
+    requires weights { AreUnitWeights (map entry_of entries.now) }
+    requires place { AreBehind place (map entry_of entries.now) }
+    ensures power { result.power
+        ≡ weighed (λ s. power_in s (suc place)) (map entry_of entries.now) }
+    ensures reserve { result.reserve
+        ≡ weighed (λ s. reserve_in s (suc place)) (map entry_of entries.now) }
+    ensures power_limit { IsFrom (pos 0) (pos 4294967296000000000000) result.power }
+    ensures reserve_limit { IsFrom (pos 0) (pos 4294967296000000000000) result.reserve }
+{
+    let mut given = Weighed {
+        power: 0,
+        reserve: 0,
+    };
+    for entry in entries {
+        given = with_entry(given, entry, place);
+    }
+    given
+}
+
+// What the mixture gives at a place.
+fn given_at(case: &Case, mixture: &Mixture, place: usize) -> Weighed
+    requires shape { HasMixtureShape (market_of case.now) (mixture_of mixture.now) }
+    requires place { place < (market_of case.now).periods }
+    ensures power { result.power ≡ weighed_over (λ u s. supply_in u s (suc place))
+        (market_of case.now) (mixture_of mixture.now) }
+    ensures reserve { result.reserve ≡ weighed_over (λ u s. reserve_in s (suc place))
+        (market_of case.now) (mixture_of mixture.now) }
+    ensures power_limit { IsGiven result.power }
+    ensures reserve_limit { IsGiven result.reserve }
+{
+    let mut given = Weighed {
+        power: 0,
+        reserve: 0,
+    };
+    for unit in 0..case.thermal.len() {
+        let more = given_by(mixture.thermal.get(unit).as_slice(), place);
+        given = Weighed {
+            power: given.power + more.power,
+            reserve: given.reserve + more.reserve,
+        };
+    }
+    given
+}
+
+// What is lacking of a power that is required so many times.
+fn lacking(weight: i64, required: i64, given: i128) -> i128
+    requires weight { IsFrom (pos 0) most_whole weight }
+    requires required { IsPower required }
+    requires given { IsGiven given }
+    ensures value { result ≡ (weight *ℤ required) -ℤ given }
+    ensures limit { IsLack result }
+{
+    times(weight, required) - given
+}
+
+/// What the mixture lacks of demand and of the required reserve at a place, as often as its weight
+/// says: below 0 where it gives more.
+pub fn lacks_at(case: &Case, mixture: &Mixture, place: usize) -> Weighed
+    requires shape { HasMixtureShape (market_of case.now) (mixture_of mixture.now) }
+    requires place { place < (market_of case.now).periods }
+    ensures power { result.power ≡ lack (market_of case.now) (mixture_of mixture.now) place }
+    ensures reserve { result.reserve ≡ short (market_of case.now) (mixture_of mixture.now) place }
+    ensures power_limit { IsLack result.power }
+    ensures reserve_limit { IsLack result.reserve }
+{
+    let given = given_at(case, mixture, place);
+    Weighed {
+        power: lacking(mixture.weight, *case.demand.get(place), given.power),
+        reserve: lacking(mixture.weight, *case.reserves.get(place), given.reserve),
+    }
+}
+
+// What a feasible schedule costs.
+fn cost_of_one(unit: &Unit, response: &Response) -> i64
+    requires horizon { length (schedule_of response.now).on ≤ MOST_PERIODS }
+    requires feasible { IsThermalFeasible (thermal_of unit.now)
+        (length (schedule_of response.now).on) (schedule_of response.now) }
+    ensures value { result ≡ cost_of (Thermal (thermal_of unit.now)) (schedule_of response.now) }
+    ensures limit { IsUnitCost result }
+{
+    power_costs(unit, response) + costs_of_starts(unit, response)
+}
+
+// What the entries of one unit cost.
+fn cost_of_entries(unit: &Unit, entries: &[Entry]) -> i128
+    requires horizon { length (thermal_of unit.now).window ≤ MOST_PERIODS }
+    requires weights { AreUnitWeights (map entry_of entries.now) }
+    requires feasible { All (λ (e : WeighedSchedule). IsThermalFeasible (thermal_of unit.now)
+        (length (thermal_of unit.now).window) e.schedule) (map entry_of entries.now) }
+    ensures value { result
+        ≡ weighed (cost_of (Thermal (thermal_of unit.now))) (map entry_of entries.now) }
+    ensures limit { IsCostOfOne result }
+{
+    let mut sum: i128 = 0;
+    for entry in entries {
+        sum += times(entry.weight, cost_of_one(unit, &entry.response));
+    }
+    sum
+}
+
+/// What the mixture costs, as often as its weight says.
+pub fn cost_of_mixture(case: &Case, mixture: &Mixture) -> i128
+    requires shape { HasMixtureShape (market_of case.now) (mixture_of mixture.now) }
+    requires feasible { IsMixture (market_of case.now) (mixture_of mixture.now) }
+    ensures value { result ≡ mixture_cost (market_of case.now) (mixture_of mixture.now) }
+    ensures limit { IsMixtureCost result }
+{
+    let mut sum: i128 = 0;
+    for place in 0..case.thermal.len() {
+        let unit = &case.thermal.get(place).unit;
+        sum += cost_of_entries(unit, mixture.thermal.get(place).as_slice());
+    }
+    sum
+}

@@ -1,4 +1,0 @@
-pub mod Rounds
-pub mod Rooms
-pub mod Bounded
-pub mod Compared

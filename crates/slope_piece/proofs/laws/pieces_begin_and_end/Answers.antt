@@ -1,8 +1,0 @@
-use Rattle.slope_piece.proofs.Lemmas.{pieces_begin, pieces_end}
-use Rattle.slope_piece.proofs.laws.pieces_begin_and_end.Goals as goal
-
-pub returns-clause-first : goal.returns-clause-first
-returns-clause-first c = pieces_begin
-
-pub returns-clause-last : goal.returns-clause-last
-returns-clause-last c = pieces_end

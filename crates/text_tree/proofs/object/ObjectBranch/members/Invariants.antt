@@ -1,6 +1,0 @@
-use Rattle.text_tree.proofs.Common.{◌≡◌, ◌-◌, ◌++◌, pairs, values, members_in, member_views}
-use Rattle.text_tree.proofs.object.ObjectBranch.members.Given as goal
-
-abbrev pub invariant-loop : goal.invariant-loop
-invariant-loop l = member_views l.members.items ++ pairs (l.self.count - l.counter)
-    (values l.self.bytes.now l.rest) ≡ members_in l.self

@@ -1,6 +1,0 @@
-pub mod Inside
-pub mod Words
-pub mod Magnitudes
-pub mod Files
-pub mod Given
-pub mod Laws

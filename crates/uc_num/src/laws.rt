@@ -1,7 +1,0 @@
-//! Laws over the definitions: each is the contract of a function that does nothing.
-ghost use Rattle.uc_num.specs.Rounding.{RoundsToNearest};
-
-/// The number that `whole` answers is the nearest one, a half rounded up, and no other is.
-pub fn rounds_to_nearest()
-    ensures { RoundsToNearest }
-{}

@@ -1,2 +1,0 @@
-pub mod Earned
-pub mod Settled
