@@ -23,7 +23,9 @@ def main():
     for it in (signal.SIGHUP, signal.SIGQUIT, signal.SIGTERM):
         signal.signal(it, signal.SIG_DFL)
     if subprocess.run(["bash", "-c", "home=$PWD; . tools/made_of.sh; is_current"], cwd=ROOT, check=False).returncode:
-        print(f"{PROGRAM} isn't there, or isn't made of the files that are: .ci/run, or ./hull, builds it\n0 passed, 1 failed")
+        print(
+            f"{PROGRAM} isn't there, or isn't made of the files that are: .ci/run, or ./hull, builds it\n0 passed, 1 failed"
+        )
         return 1
     suite = unittest.TestSuite()
     for folder, files in ((".ci/checks", "test*.py"), (".ci/checks", "hostile_*.py"), ("tools/tests", "test*.py")):

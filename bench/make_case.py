@@ -149,10 +149,7 @@ def renewable(draw, periods):
     for t in range(periods):
         wind = min(1, max(0, wind + draw.uniform(-0.15, 0.15)))
         most.append(
-            int(
-                size
-                * (max(0, math.sin((t % 24 - 6) / 12 * math.pi)) * (0.6 + 0.4 * wind) if is_sun else wind)
-            )
+            int(size * (max(0, math.sin((t % 24 - 6) / 12 * math.pi)) * (0.6 + 0.4 * wind) if is_sun else wind))
         )
     return most
 
@@ -203,9 +200,7 @@ def write(folder, **size):
 
 
 def main():
-    ask = argparse.ArgumentParser(
-        description="Generates a realistic case of any size with a feasible schedule."
-    )
+    ask = argparse.ArgumentParser(description="Generates a realistic case of any size with a feasible schedule.")
     ask.add_argument("folder")
     for word, usual in (("thermal", 73), ("renewable", 81), ("periods", 48), ("reserve", 3), ("seed", 1)):
         ask.add_argument(f"--{word}", type=int, default=usual)

@@ -56,7 +56,11 @@ def check(crate, words):
     ended = {}
     with tempfile.TemporaryDirectory() as folder:
         begun = time.time()
-        asked = {"cwd": f"{run.HOME}/crates/{crate}", "env": {**os.environ, "TMPDIR": folder}, "stdin": subprocess.DEVNULL}
+        asked = {
+            "cwd": f"{run.HOME}/crates/{crate}",
+            "env": {**os.environ, "TMPDIR": folder},
+            "stdin": subprocess.DEVNULL,
+        }
         with subprocess.Popen(words, stdout=subprocess.DEVNULL, stderr=subprocess.DEVNULL, **asked) as work:
             while work.poll() is None:
                 look(folder, ended)
@@ -107,7 +111,10 @@ def print_times(crate, whole, took, least):
             beside[which] += seconds
     sums = {name: sum(parts.values()) for name, parts in functions.items()}
     steps, proofs = (sum(parts[which] for parts in functions.values()) for which in (STEPS, PROOF))
-    print(f"{crate}: {whole:.1f} s: {first:.1f} before the first part, {sum(sums.values()):.1f} in {len(sums)} functions", end="")
+    print(
+        f"{crate}: {whole:.1f} s: {first:.1f} before the first part, {sum(sums.values()):.1f} in {len(sums)} functions",
+        end="",
+    )
     print("".join(f", {seconds:.1f} in {which}" for which, seconds in beside.most_common()))
     print("   whole   steps   proof")
     print(f"{sum(sums.values()):8.1f}{steps:8.1f}{proofs:8.1f}  all functions")

@@ -47,7 +47,7 @@ def write_large_report(name):
     head = "hull-report 1\nperiods 168\nunits 1\nbudget 1\nahead 4\ncost 9920566288596\nproposals %d\n"
     lists = {"energy": 48123, "reserve": 512, "supplied": 9153270, "reserved": 812500}
     row = "".join(f"{word}{f' {number}' * 168}\n" for word, number in lists.items())
-    foot = "chosen 1 value 0\nunit renewable \"W\" earned 0 scheduled 0 payment 0\npower" + " 0" * 168 + "\n"
+    foot = 'chosen 1 value 0\nunit renewable "W" earned 0 scheduled 0 payment 0\npower' + " 0" * 168 + "\n"
     foot += "surplus 0\npayments 0\ngap 0\nend\n"
     count = (LARGEST - len(head) - len(foot) - 10) // (len(row) + len("proposal 99999 value 9527786203035\n"))
     with open(name, "w", encoding="utf-8") as it:

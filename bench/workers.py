@@ -54,7 +54,11 @@ def main():
         sys.exit(f"workers.py: {given.program} isn't there: ./hull builds it on first use")
     only = given.only.split(",")
     print(f"{os.cpu_count()} processors\n")
-    print("| Case | Ahead | " + " | ".join(f"{it} workers" if it > 1 else "1 worker" for it in WORKERS) + " | 4 runs | beside |")
+    print(
+        "| Case | Ahead | "
+        + " | ".join(f"{it} workers" if it > 1 else "1 worker" for it in WORKERS)
+        + " | 4 runs | beside |"
+    )
     print("|---|---|" + "---|" * (len(WORKERS) + 2), flush=True)
     with tempfile.TemporaryDirectory(prefix="hull-workers-") as room:
         for row in run.ROWS:

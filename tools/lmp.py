@@ -4,7 +4,7 @@ import sys
 
 sys.dont_write_bytecode = True  # (the folder is the repository's)
 
-from hulltools.mains.lmp import main  # noqa: E402
+from hulltools.commands.lmp import main  # noqa: E402
 
 if __name__ == "__main__":
     sys.exit(main())

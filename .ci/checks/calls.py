@@ -14,9 +14,7 @@ Function = collections.namedtuple("Function", "crate module owner name words for
 
 LINE = re.compile(r"^(\w+)((?: \w+=\S+)*) *:(.*)$")
 WORD = re.compile(r"\.\.|\.(?=[A-Za-z_])|::|[A-Za-z_]\w*|\S")
-NO_WORDS = re.compile(
-    r"""//[^\n]*|b?"(?:\\.|[^"\\])*"|b?'(?:\\.[^']*|[^'\\])'""", flags=re.S
-)
+NO_WORDS = re.compile(r"""//[^\n]*|b?"(?:\\.|[^"\\])*"|b?'(?:\\.[^']*|[^'\\])'""", flags=re.S)
 CLAUSES = {"requires", "ensures", "ghost", "measure", "decreases", "invariant"}
 
 
@@ -293,6 +291,9 @@ class Program:
         seen = self.reached(crate, name)
         left = []
         for it in self.functions:
-            if (it.crate, it.module, it.owner, it.name, it.foreign) not in seen and it.module.split("_")[-1] not in ("law", "laws"):
+            if (it.crate, it.module, it.owner, it.name, it.foreign) not in seen and it.module.split("_")[-1] not in (
+                "law",
+                "laws",
+            ):
                 left.append("::".join(filter(None, (it.crate, it.module, it.owner, it.name))))
         return sorted(set(left))

@@ -131,7 +131,13 @@ class Runner:
         with open(notes, "wb") as it:
             it.write(bytes(NOTES.size))
         env = {**os.environ, "LD_PRELOAD": self.library, "NOTES": notes, "REFUSED": str(number or 1 << 60)}
-        how = {"cwd": folder, "env": env, "stdin": subprocess.DEVNULL, "stdout": subprocess.PIPE, "stderr": subprocess.STDOUT}
+        how = {
+            "cwd": folder,
+            "env": env,
+            "stdin": subprocess.DEVNULL,
+            "stdout": subprocess.PIPE,
+            "stderr": subprocess.STDOUT,
+        }
         limit = max(self.seconds, TIMES * test.seconds) if number else max(self.seconds, SECONDS_WHOLE)
         began = time.monotonic()
         with subprocess.Popen([test.program, test.name], **how) as run:
@@ -232,13 +238,19 @@ def table_of_kinds(tests):
         for (end, kind), count in test.kinds.items():
             kinds[test.crate, ENDS.index(end), kind] += count
     lines = [row(["of", "ended", "saying", "runs"]), row(["---", "---", "---", "---:"])]
-    return "\n".join([*lines, *(row([crate, ENDS[end], f"`{kind}`", count]) for (crate, end, kind), count in sorted(kinds.items()))])
+    return "\n".join(
+        [*lines, *(row([crate, ENDS[end], f"`{kind}`", count]) for (crate, end, kind), count in sorted(kinds.items()))]
+    )
 
 
 def report(tests, given):
-    print(f"Seed {given.seed}, {given.minutes:g} minutes, {given.jobs} runs at a time. The seed chose those refused of more.\n")
+    print(
+        f"Seed {given.seed}, {given.minutes:g} minutes, {given.jobs} runs at a time. The seed chose those refused of more.\n"
+    )
     crates = list(dict.fromkeys(it.crate for it in tests))
-    print(table_of([*((name, [it for it in tests if it.crate == name]) for name in crates), ("all", tests)]), end="\n\n")
+    print(
+        table_of([*((name, [it for it in tests if it.crate == name]) for name in crates), ("all", tests)]), end="\n\n"
+    )
     print(table_of([(f"{it.crate} {it.name}", [it]) for it in tests]), end="\n\n")
     print(table_of_kinds(tests))
     for test in tests:
@@ -259,7 +271,11 @@ class Growths(unittest.TestCase):
         library = refuser_in(room)
         if library is None:
             self.skipTest("there is no C compiler")
-        refuse(Runner(room, library, os.cpu_count(), SECONDS_BESIDE), tests, argparse.Namespace(minutes=1, seed=1, most=1 << 40))
+        refuse(
+            Runner(room, library, os.cpu_count(), SECONDS_BESIDE),
+            tests,
+            argparse.Namespace(minutes=1, seed=1, most=1 << 40),
+        )
         self.assertEqual([(it.name, number, ended.lines()) for it in tests for number, ended in it.wrong], [])
         self.assertGreater(sum(it.tried for it in tests), 0)
 

@@ -147,8 +147,7 @@ def market(thermals, renewables, bids, periods):
         },
         "demand_bids": {
             f"B{i}": {
-                "blocks": [[{"mw": width / 1000, "price": price // 1000} for width, price in blocks(i)]]
-                * periods
+                "blocks": [[{"mw": width / 1000, "price": price // 1000} for width, price in blocks(i)]] * periods
             }
             for i in range(bids)
         },
@@ -316,11 +315,17 @@ class Crowd:
         mixed = {name: [{"weight": 10**12, **lists}] for name, lists in units.items()}
         with open(f"{self.folder}/mixture", "w", encoding="utf-8") as it:
             json.dump({"weight": 10**12, "thermal": mixed}, it, separators=(",", ":"))
-        ran = self.run("certify", f"--prices={self.folder}/prices", f"--mixture={self.folder}/mixture", output="certificate")
+        ran = self.run(
+            "certify", f"--prices={self.folder}/prices", f"--mixture={self.folder}/mixture", output="certificate"
+        )
         assert ran.status == 0, ran.text()[:200]
         told = dict(line.split() for line in ran.text().split("\n")[1:-2])
         cost, value, bound = (int(told[it]) for it in ("cost", "value", "bound"))
-        assert (cost, int(told["distance"]), int(told["least"])) == (self.cost, bound - value, max(0, cost - bound)) and bound >= value
+        assert (cost, int(told["distance"]), int(told["least"])) == (
+            self.cost,
+            bound - value,
+            max(0, cost - bound),
+        ) and bound >= value
         return ran
 
     def bound(self, proposals, *words):

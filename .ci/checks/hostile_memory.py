@@ -173,9 +173,7 @@ def least_that(holds, low, high, step):
 
 def loaded(program):
     """The least address space in which the program begins: it then says what is wrong with its words."""
-    return least_that(
-        lambda most: limited([], most, program) == (1, b"fault 1 words 1 0\n"), 0, MOST, PAGE
-    )
+    return least_that(lambda most: limited([], most, program) == (1, b"fault 1 words 1 0\n"), 0, MOST, PAGE)
 
 
 class Tally:

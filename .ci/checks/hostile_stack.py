@@ -53,7 +53,10 @@ class Stack(unittest.TestCase):
                 self.assertEqual((name, *with_stack(words, told())), (name, *run(words)[:2]))
 
     def test_refusals_need_no_more(self):
-        shown = [(["price", "--case", "/dev/zero", "--schedule", "none"], (3, b"fault 3 case 32\n")), ([], (1, b"fault 1 words 1 0\n"))]
+        shown = [
+            (["price", "--case", "/dev/zero", "--schedule", "none"], (3, b"fault 3 case 32\n")),
+            ([], (1, b"fault 1 words 1 0\n")),
+        ]
         deep = f"{self.room}/deep.json"
         with open(deep, "w", encoding="utf-8") as it:
             it.write("[" * 10_000)

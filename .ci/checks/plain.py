@@ -129,7 +129,8 @@ class Bid:
     def as_json(self):
         return {
             "blocks": [
-                [{"mw": megawatts(width), "price": megawatts(price)} for width, price in period] for period in self.blocks
+                [{"mw": megawatts(width), "price": megawatts(price)} for width, price in period]
+                for period in self.blocks
             ]
         }
 

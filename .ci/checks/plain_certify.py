@@ -107,7 +107,18 @@ def certificate(case, energy, reserve, mixture, radius):
     _, kept = case.totals([schedule for schedule, _ in case.plan])
     surplus = sum(price * (it - due) for price, it, due in zip(reserve, kept, case.reserves))
     limit = bound(case, energy, reserve, mixture, radius)
-    lines = ["hull-certificate 1", f"periods {case.periods}", f"units {len(case.units)}", f"cost {case.cost}", f"value {value}"]
-    lines += [f"surplus {surplus}", f"payments {case.cost - value - surplus}", f"gap {case.cost - value}", f"radius {radius}"]
+    lines = [
+        "hull-certificate 1",
+        f"periods {case.periods}",
+        f"units {len(case.units)}",
+        f"cost {case.cost}",
+        f"value {value}",
+    ]
+    lines += [
+        f"surplus {surplus}",
+        f"payments {case.cost - value - surplus}",
+        f"gap {case.cost - value}",
+        f"radius {radius}",
+    ]
     lines += [f"bound {limit}", f"distance {limit - value}", f"least {max(0, case.cost - limit)}", "end"]
     return "\n".join(lines) + "\n"

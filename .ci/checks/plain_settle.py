@@ -180,7 +180,13 @@ def settlement(case, energy, reserve):
     best = [plain.least_best(unit, energy, reserve) for unit in case.units]
     supplied, reserved = case.totals(best)
     value = case.dual_value(energy, reserve)
-    lines = ["hull-settlement 1", f"periods {case.periods}", f"units {len(case.units)}", f"cost {case.cost}", f"value {value}"]
+    lines = [
+        "hull-settlement 1",
+        f"periods {case.periods}",
+        f"units {len(case.units)}",
+        f"cost {case.cost}",
+        f"value {value}",
+    ]
     told = lambda word, numbers: " ".join([word, *map(str, numbers)])
     lines += [told("energy", energy), told("reserve", reserve), told("supplied", supplied), told("reserved", reserved)]
     payments = 0
@@ -192,7 +198,11 @@ def settlement(case, energy, reserve):
             earned, scheduled = plain.top(unit, energy, reserve), plain.earnings(unit, schedule, cost, energy, reserve)
             payments += earned - scheduled
             lines.append(f'unit {kind} "{kind}{at}" earned {earned} scheduled {scheduled} payment {earned - scheduled}')
-            lists = {"on": [int(it[0]) for it in best[at]], "power": [it[1] for it in best[at]], "reserve": [it[2] for it in best[at]]}
+            lists = {
+                "on": [int(it[0]) for it in best[at]],
+                "power": [it[1] for it in best[at]],
+                "reserve": [it[2] for it in best[at]],
+            }
             lines += [told(word, numbers) for word, numbers in lists.items() if kind == "thermal" or word == "power"]
     _, kept = case.totals([schedule for schedule, _ in case.plan])
     surplus = sum(price * (it - due) for price, it, due in zip(reserve, kept, case.reserves))

@@ -71,7 +71,9 @@ class PlainCertify(unittest.TestCase):
             reserve = [draw.randint(0, 30) for _ in range(case.periods)]
             best = [[(1, plain.least_best(unit, energy, reserve))] for _, unit in case.names("thermal")]
             with self.subTest(number=number):
-                self.assertEqual(plain_certify.bound(case, energy, reserve, (1, best), 0), case.dual_value(energy, reserve))
+                self.assertEqual(
+                    plain_certify.bound(case, energy, reserve, (1, best), 0), case.dual_value(energy, reserve)
+                )
 
 
 class Certify(unittest.TestCase):
@@ -113,7 +115,9 @@ class Certify(unittest.TestCase):
         for number in range(CASES):
             draw = random.Random(f"certify {number}")
             case = plain.draw_case(draw)
-            prices = [draw.randint(-20, 60) for _ in range(case.periods)], [draw.randint(0, 30) for _ in range(case.periods)]
+            prices = [draw.randint(-20, 60) for _ in range(case.periods)], [
+                draw.randint(0, 30) for _ in range(case.periods)
+            ]
             with tempfile.TemporaryDirectory(prefix="hull-certify-") as folder, self.subTest(number=number):
                 case.write(folder)
                 with open(f"{folder}/prices.json", "w", encoding="utf-8") as it:

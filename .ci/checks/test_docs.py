@@ -22,9 +22,7 @@ class Docs(unittest.TestCase):
         for page in PAGES:
             for name in NAMED.findall(self.read(page)):
                 if "NAME" not in name and "/out/" not in name:
-                    self.assertTrue(
-                        os.path.exists(f"{ROOT}/{name}"), f"{os.path.relpath(page, ROOT)} names {name}"
-                    )
+                    self.assertTrue(os.path.exists(f"{ROOT}/{name}"), f"{os.path.relpath(page, ROOT)} names {name}")
 
     def test_tables_are_whole(self):
         for page in PAGES:
@@ -42,14 +40,8 @@ class Docs(unittest.TestCase):
         printed = set()
         for name in glob.glob(f"{ROOT}/examples/**/*.output", recursive=True):
             printed.update(self.read(name).split("\n"))
-        rows = [
-            it.split(" | ") for it in self.read(f"{ROOT}/docs/REPORT.md").split("\n") if it.startswith("| `")
-        ]
-        lines = [
-            line
-            for row in rows
-            for line in re.findall(r"`([^`]+)`", re.sub(r"\(`examples/[^)]*\)", "", row[1]))
-        ]
+        rows = [it.split(" | ") for it in self.read(f"{ROOT}/docs/REPORT.md").split("\n") if it.startswith("| `")]
+        lines = [line for row in rows for line in re.findall(r"`([^`]+)`", re.sub(r"\(`examples/[^)]*\)", "", row[1]))]
         self.assertGreater(len(lines), 30)
         self.assertEqual([it for it in lines if it not in printed], [])
 

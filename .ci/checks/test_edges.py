@@ -122,7 +122,17 @@ class Edges(unittest.TestCase):
 
     def certified(self, line, mixture, prices="prices.json"):
         """The certificate by such a mixture ends with the line's status and prints the line alone."""
-        words = ["certify", "--case", "case.json", "--schedule", "schedule.json", "--prices", prices, "--mixture", mixture]
+        words = [
+            "certify",
+            "--case",
+            "case.json",
+            "--schedule",
+            "schedule.json",
+            "--prices",
+            prices,
+            "--mixture",
+            mixture,
+        ]
         self.assertEqual(self.hull(*words), (int(line.split()[1]), f"{line}\n".encode(), b""))
 
     def test_mixture_that_cannot_be_read(self):
@@ -137,7 +147,16 @@ class Edges(unittest.TestCase):
     def test_a_case_without_thermal_units_has_an_empty_mixture(self):
         self.write("prices.json", self.prices())
         writer = self.fed(b'{"weight":1000000000000,"thermal":{}}')
-        words = ["certify", "--case", "case.json", "--schedule", "schedule.json", "--prices", "prices.json", "--mixture"]
+        words = [
+            "certify",
+            "--case",
+            "case.json",
+            "--schedule",
+            "schedule.json",
+            "--prices",
+            "prices.json",
+            "--mixture",
+        ]
         status, output, said = self.hull(*words, "pipe")
         writer.join(10)
         self.assertEqual((status, said), (0, b""))
@@ -179,9 +198,7 @@ class Edges(unittest.TestCase):
         shutil.copy(PROGRAM, program)
         os.chmod(f"{self.room}/case.json", 0)
         words = ["check", "--case", "case.json", "--schedule", "schedule.json"]
-        self.assertEqual(
-            run(words, program=program, folder=self.room, **NOBODY), (2, b"fault 2 read case\n", b"")
-        )
+        self.assertEqual(run(words, program=program, folder=self.room, **NOBODY), (2, b"fault 2 read case\n", b""))
 
     def test_fifo_is_read_to_its_end(self):
         writer = self.fed(self.read("case.json"))
@@ -273,9 +290,7 @@ class Edges(unittest.TestCase):
     def test_ten_thousand_words(self):
         self.assertEqual(self.hull("price", *["word"] * 9_999), (1, b"fault 1 words 8 2\n", b""))
         self.assertEqual(self.hull(*["--case"] * 10_000), (1, b"fault 1 words 2 1\n", b""))
-        self.assertEqual(
-            self.hull("try", "7", "--proposals=1", *["8"] * 9_997), (1, b"fault 1 words 8 4\n", b"")
-        )
+        self.assertEqual(self.hull("try", "7", "--proposals=1", *["8"] * 9_997), (1, b"fault 1 words 8 4\n", b""))
 
     def test_one_file_as_case_and_schedule(self):
         self.refused("fault 4 schedule 42 kind case unit 0 item 0", schedule="case.json")

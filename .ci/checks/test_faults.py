@@ -7,7 +7,9 @@ import unittest
 
 from built import EXAMPLES, ROOT, run
 
-CHANGE = re.compile(r"`(\w+)/(case\.json|schedule\.json|price\.output|prices\.json|mixture\.json)`: `(.+)` becomes `(.+)`")
+CHANGE = re.compile(
+    r"`(\w+)/(case\.json|schedule\.json|price\.output|prices\.json|mixture\.json)`: `(.+)` becomes `(.+)`"
+)
 TEXTS, CASES, PLANS, PRICES = range(10, 14), {*range(20, 35), 37} - {32}, range(40, 58), (20, 21, 23, 24, 25)
 SHARES = (*range(40, 44), 62)
 FILES = ["--case", "case.json", "--schedule", "schedule.json"]
@@ -26,7 +28,9 @@ def rows():
 class Faults(unittest.TestCase):
     def test_each_code_has_an_example(self):
         lines = [line.split() for _, line in rows()]
-        told = {(it[1], next(w for w in it[3:] if w.isdigit())) for it in lines if it[1] in ("1", "3", "4", "8", "9", "10")}
+        told = {
+            (it[1], next(w for w in it[3:] if w.isdigit())) for it in lines if it[1] in ("1", "3", "4", "8", "9", "10")
+        }
         due = (
             {("1", str(it)) for it in range(1, 9)}
             | {("3", str(it)) for it in {*TEXTS, *CASES}}

@@ -13,13 +13,16 @@ with open(f"{ROOT}/docs/help.txt", encoding="utf-8") as page:
     HELP = page.read()
 # each command's words, and each option's place and text
 USAGES = dict(re.findall(r"^  hull ((?!help|version)[a-z]+) (.+)$", HELP, re.M))
-OPTIONS = {it[0]: " ".join(it[1].split()) for it in re.findall(r"^  (--[a-z]+|N)(?: [A-Z])? {2,}(.+(?:\n {10,}.+)*)", HELP, re.M)}
+OPTIONS = {
+    it[0]: " ".join(it[1].split())
+    for it in re.findall(r"^  (--[a-z]+|N)(?: [A-Z])? {2,}(.+(?:\n {10,}.+)*)", HELP, re.M)
+}
 
 
 def manual():
     """The manual page's source without its marks."""
     with open(f"{ROOT}/docs/hull.1", encoding="utf-8") as it:
-        lines = [line for line in it.read().split("\n") if not line.startswith(".\\\"")]
+        lines = [line for line in it.read().split("\n") if not line.startswith('.\\"')]
     plain = []
     for line in lines:
         mark = re.match(r"\.([A-Za-z]{1,2}) ?(.*)", line)
@@ -58,9 +61,22 @@ class Help(unittest.TestCase):
                 self.assertIn(due, page.decode().rstrip("\n").split("\n\n"))
 
     def test_other_words_are_the_programs(self):
-        for words in (["help", "nothing"], ["help", "help"], ["nothing", "--help"], ["help", "price", "x"], ["price", "--help", "x"]):
+        for words in (
+            ["help", "nothing"],
+            ["help", "help"],
+            ["nothing", "--help"],
+            ["help", "price", "x"],
+            ["price", "--help", "x"],
+        ):
             self.assertEqual(self.shown(*words), run(words, program=PROGRAM), words)
-        for words in (["--version"], ["-V"], ["version", "x"], ["price", "--case", "--help"], ["help", ".*"], ["help", ""]):
+        for words in (
+            ["--version"],
+            ["-V"],
+            ["version", "x"],
+            ["price", "--case", "--help"],
+            ["help", ".*"],
+            ["help", ""],
+        ):
             self.assertEqual(self.shown(*words), run(words, program=PROGRAM), words)
 
     def test_an_output_that_cannot_be_written(self):
@@ -71,7 +87,9 @@ class Help(unittest.TestCase):
             os.close(reading)
             self.assertEqual(self.shown(*words, stdout=writing)[::2], (6, b""))
             os.close(writing)
-            closed = subprocess.run(["sh", "-c", 'exec "$0" "$@" >&-', LAUNCHER, *words], env=WITHOUT_RT, capture_output=True, timeout=60)
+            closed = subprocess.run(
+                ["sh", "-c", 'exec "$0" "$@" >&-', LAUNCHER, *words], env=WITHOUT_RT, capture_output=True, timeout=60
+            )
             self.assertEqual((closed.returncode, closed.stderr), (6, b""))
 
     def test_no_word_says_where_to_look_at_a_terminal_alone(self):
@@ -91,7 +109,11 @@ class Version(Repository):
         git = ["git", "-c", "user.name=a", "-c", "user.email=a@b"]
         for words in (["init", "-q"], ["add", "."], ["commit", "-qm", "One"]):
             subprocess.run([*git, *words], cwd=self.room, env=self.env, check=True)
-        commit = subprocess.run([*git, "rev-parse", "HEAD"], cwd=self.room, capture_output=True, check=True).stdout.decode().strip()
+        commit = (
+            subprocess.run([*git, "rev-parse", "HEAD"], cwd=self.room, capture_output=True, check=True)
+            .stdout.decode()
+            .strip()
+        )
         self.assertEqual(self.hull("version")[1].decode(), f"hull 1.2.3\nkit {KIT}\ncommit {commit}\n")
         self.write("README.md", "Another.\n")
         self.assertEqual(self.hull("version")[1].decode(), f"hull 1.2.3\nkit unknown\ncommit {commit}, changed\n")
@@ -115,7 +137,9 @@ class Manual(unittest.TestCase):
                 usages.append([text])
             elif inside and mark != "br":
                 usages[-1].append(text)
-        usages = [words_of(re.sub(r"([\[\]])", r" \1 ", " ".join(it)).replace("[ ", "[").replace(" ]", "]")) for it in usages]
+        usages = [
+            words_of(re.sub(r"([\[\]])", r" \1 ", " ".join(it)).replace("[ ", "[").replace(" ]", "]")) for it in usages
+        ]
         due = [f"hull {command} {words}" for command, words in USAGES.items()]
         self.assertEqual([it for it in usages if it.split()[1] in USAGES], due)
 

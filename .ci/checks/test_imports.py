@@ -38,7 +38,11 @@ def unused(text):
             if home:
                 scope = text[home[0] : home[1]]
             else:
-                own = [part for part in inner if name in re.findall(r"[^\s,{}]+", "".join(ANY_IMPORT.findall(text[slice(*part)])))]
+                own = [
+                    part
+                    for part in inner
+                    if name in re.findall(r"[^\s,{}]+", "".join(ANY_IMPORT.findall(text[slice(*part)])))
+                ]
                 scope = text
                 for begin, end in sorted(own, reverse=True):
                     scope = scope[:begin] + scope[end:]

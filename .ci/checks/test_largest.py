@@ -36,9 +36,7 @@ class Largest(unittest.TestCase):
         return status, output.decode()
 
     def unit_of_ten_gigawatts(self, cost):
-        limits = {
-            f"{it}_limit": 1_000_000 for it in ("ramp_up", "ramp_down", "ramp_startup", "ramp_shutdown")
-        }
+        limits = {f"{it}_limit": 1_000_000 for it in ("ramp_up", "ramp_down", "ramp_startup", "ramp_shutdown")}
         before = {
             "time_up_minimum": 1,
             "time_down_minimum": 1,
@@ -134,9 +132,7 @@ class Largest(unittest.TestCase):
                 rows = work_out.rows_of(100_000, cost)
                 text = work_out.report(100_000, cost, power, rows)[3]
                 self.assertEqual(len(rows), 10_000)
-                case, schedule = (
-                    os.path.join(EXAMPLES, "scarf", f"100.{it}.json") for it in ("case", "schedule")
-                )
+                case, schedule = (os.path.join(EXAMPLES, "scarf", f"100.{it}.json") for it in ("case", "schedule"))
                 files = ["--case", case, "--schedule", schedule]
                 ran = run(["price", *files, "--proposals", "10000", "--ahead", str(ahead)])
                 self.assertEqual((ran[0], ran[1] == text.encode()), (0, True))

@@ -220,7 +220,9 @@ class Current(Repository):
         for name in os.listdir(f"{ROOT}/crates"):
             for part in ("src", "specs", "proofs"):
                 if os.path.isdir(f"{ROOT}/crates/{name}/{part}"):
-                    shutil.copytree(f"{ROOT}/crates/{name}/{part}", f"{self.room}/crates/{name}/{part}", dirs_exist_ok=True)
+                    shutil.copytree(
+                        f"{ROOT}/crates/{name}/{part}", f"{self.room}/crates/{name}/{part}", dirs_exist_ok=True
+                    )
         begin = '. tools/made_of.sh; taken=$(what_is_there); note_what_it_is_made_of "$taken"'
         subprocess.run(["bash", "-c", f"home=$PWD; {begin}"], cwd=self.room, env=self.env, check=True)
 
@@ -364,7 +366,9 @@ class Failing(Repository):
         os.remove(f"{tools}/find")
         self.write("../tools/find", "#!/bin/sh\necho another find\n")
         os.chmod(f"{tools}/find", 0o755)
-        self.assertEqual(self.refused("check", PATH=path), "hull: the program isn't built, and the build needs GNU find")
+        self.assertEqual(
+            self.refused("check", PATH=path), "hull: the program isn't built, and the build needs GNU find"
+        )
         self.assertEqual(self.asked(), [])
 
     def test_another_shell_says_that_it_needs_bash(self):
@@ -376,7 +380,10 @@ class Failing(Repository):
         self.assertIn("no program: the disk is full that ", self.refused("check", FAILS="full"))
 
     def test_a_disk_that_is_full(self):
-        self.write("with_little_room", "#!/bin/sh\nmount -t tmpfs -o size=$1 tmpfs crates/hull_cli/out && shift && exec ./hull \"$@\"\n")
+        self.write(
+            "with_little_room",
+            '#!/bin/sh\nmount -t tmpfs -o size=$1 tmpfs crates/hull_cli/out && shift && exec ./hull "$@"\n',
+        )
         os.makedirs(self.out)
         own = ["unshare", "-m", "sh", "with_little_room"]
         try:
@@ -386,7 +393,9 @@ class Failing(Repository):
         if tried.returncode:
             self.skipTest(f"no disk can be mounted here: {tried.stderr[-100:]}")
         for size in range(4, 60, 4):
-            ended = subprocess.run([*own, f"{size}k", "src"], cwd=self.room, env=self.env, capture_output=True, timeout=120)
+            ended = subprocess.run(
+                [*own, f"{size}k", "src"], cwd=self.room, env=self.env, capture_output=True, timeout=120
+            )
             last = ended.stderr.decode().splitlines()[-1]
             if ended.returncode == 0:
                 self.assertEqual(ended.stdout, b"one\n")
@@ -398,7 +407,9 @@ class Failing(Repository):
         """What a call says where no program may run on the disk of what was built, which is copied there."""
         text = "#!/bin/sh\nmkdir -p built\nmount -t tmpfs -o noexec tmpfs crates/hull_cli/out && cp -a built/. crates/hull_cli/out && exec ./hull src\n"
         self.write("with_no_programs", text)
-        ended = subprocess.run(["unshare", "-m", "sh", "with_no_programs"], cwd=self.room, env=self.env, capture_output=True, timeout=120)
+        ended = subprocess.run(
+            ["unshare", "-m", "sh", "with_no_programs"], cwd=self.room, env=self.env, capture_output=True, timeout=120
+        )
         if b"hull: " not in ended.stderr:
             self.skipTest(f"no disk can be mounted here: {ended.stderr[-100:]}")
         self.assertEqual((ended.returncode, ended.stdout), (127, b""))
@@ -412,7 +423,9 @@ class Failing(Repository):
         self.hull("src")
         shutil.rmtree(f"{self.room}/built")
         shutil.copytree(self.out, f"{self.room}/built")
-        self.assertRegex(self.where_none_may_run(), r"\Ahull: .*/hull_cli may not be run by this user, or on this disk\n\Z")
+        self.assertRegex(
+            self.where_none_may_run(), r"\Ahull: .*/hull_cli may not be run by this user, or on this disk\n\Z"
+        )
         self.assertEqual(self.asked(), BUILT)
 
     def test_another_kit_than_the_readmes_is_told(self):
@@ -428,12 +441,15 @@ class Failing(Repository):
     def test_a_folder_that_cannot_be_written(self):
         ended = run(["check"], program=f"{self.room}/hull", env=self.env, **NOBODY)
         self.assertEqual(ended[:2], (127, b""))
-        self.assertRegex(ended[2].decode(), r"\Ahull: cannot write .*, so the program cannot be built: Permission denied\n\Z")
-
+        self.assertRegex(
+            ended[2].decode(), r"\Ahull: cannot write .*, so the program cannot be built: Permission denied\n\Z"
+        )
 
     @unittest.skipIf(os.geteuid() != 0, "only root can be another user")
     def test_a_program_that_was_built_for_another_alone(self):
-        self.assertEqual(run(["check"], program=f"{self.room}/hull", env=self.env, preexec_fn=lambda: os.umask(0o077))[0], 0)
+        self.assertEqual(
+            run(["check"], program=f"{self.room}/hull", env=self.env, preexec_fn=lambda: os.umask(0o077))[0], 0
+        )
         ended = run(["check"], program=f"{self.room}/hull", env=self.env, **NOBODY)
         self.assertEqual(ended[:2], (127, b""))
         self.assertRegex(ended[2].decode(), r"\Ahull: .* may not be read by this user, .*\n\Z")

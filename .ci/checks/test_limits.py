@@ -83,7 +83,9 @@ class Limits(unittest.TestCase):
             reading, writing = os.pipe()
             fcntl.fcntl(writing, SET_PIPE_SIZE, 4096)
             os.set_blocking(writing, False)
-            with subprocess.Popen([PROGRAM, *words], cwd=self.room, stdout=writing, stdin=subprocess.DEVNULL) as started:
+            with subprocess.Popen(
+                [PROGRAM, *words], cwd=self.room, stdout=writing, stdin=subprocess.DEVNULL
+            ) as started:
                 os.close(writing)
                 read = b""
                 while piece := os.read(reading, 997):
@@ -108,7 +110,9 @@ class Limits(unittest.TestCase):
 
     def closed(self, words, which):
         command = f'exec "$0" "$@" {which}'
-        ended = subprocess.run(["bash", "-c", command, PROGRAM, *words], cwd=self.room, capture_output=True, timeout=120)
+        ended = subprocess.run(
+            ["bash", "-c", command, PROGRAM, *words], cwd=self.room, capture_output=True, timeout=120
+        )
         return ended.returncode, ended.stdout
 
     def test_no_standard_input_or_output(self):

@@ -52,7 +52,9 @@ class Many(unittest.TestCase):
     def day(self, name, misfortune=None, example="usual"):
         """A day of the example, whose case has a note."""
         folder = f"{self.room}/days/{name}"
-        shutil.copytree(f"{EXAMPLES}/{example}", folder, ignore=lambda _, names: {*names} - {"case.json", "schedule.json"})
+        shutil.copytree(
+            f"{EXAMPLES}/{example}", folder, ignore=lambda _, names: {*names} - {"case.json", "schedule.json"}
+        )
         if misfortune:
             self.change(name, "case.json", lambda it: it.update(misfortune=misfortune))
         self.days.append(f"days/{name}")
@@ -77,7 +79,9 @@ class Many(unittest.TestCase):
     def begin(self, *words):
         self.own()
         how = {"cwd": self.room, "env": self.env, "stdin": subprocess.DEVNULL, "start_new_session": True}
-        return subprocess.Popen(["bin/many.sh", *words], stdout=subprocess.PIPE, stderr=subprocess.PIPE, **how, **NOBODY)
+        return subprocess.Popen(
+            ["bin/many.sh", *words], stdout=subprocess.PIPE, stderr=subprocess.PIPE, **how, **NOBODY
+        )
 
     def many(self, *words):
         run = self.begin(*words)
@@ -145,7 +149,9 @@ class Many(unittest.TestCase):
         self.assertEqual(self.many(*audit)[:2], (0, {}))
         self.assertEqual(self.many("left", *self.days)[:2], (0, {}))
         for day in self.days:
-            with open(f"{self.room}/{day}/report.txt", "rb") as it, open(f"{EXAMPLES}/usual/price.output", "rb") as right:
+            with open(f"{self.room}/{day}/report.txt", "rb") as it, open(
+                f"{EXAMPLES}/usual/price.output", "rb"
+            ) as right:
                 self.assertEqual(it.read(), right.read())
             self.assertEqual(len(os.listdir(f"{self.room}/{day}")), 6, os.listdir(f"{self.room}/{day}"))
 
@@ -184,7 +190,9 @@ class Many(unittest.TestCase):
         }
         for day in changes:
             self.day(day)
-        self.assertEqual(self.many("price", "-p", f"{self.room}/bin/hull", *self.days, "--", "--proposals", "1")[:2], (0, {}))
+        self.assertEqual(
+            self.many("price", "-p", f"{self.room}/bin/hull", *self.days, "--", "--proposals", "1")[:2], (0, {})
+        )
         self.assertEqual(self.many("audit", "-p", f"{self.room}/bin/hull", *self.days)[:2], (0, {}))
         for day, (name, old, new) in changes.items():
             file = f"{self.room}/days/{day}/{name}"
@@ -195,7 +203,9 @@ class Many(unittest.TestCase):
                 self.write(f"{day}/{name}", text.replace(old, new, 1))
         otherwise = "the audit isn't right, or isn't of these files"
         told = {"report gone": "no report", "cut": "the report isn't whole", "audit gone": "no audit"}
-        self.assertEqual(self.many("left", *self.days), (1, {f"days/{it}": told.get(it, otherwise) for it in changes}, ""))
+        self.assertEqual(
+            self.many("left", *self.days), (1, {f"days/{it}": told.get(it, otherwise) for it in changes}, "")
+        )
         status, left, _ = self.many("audit", "-p", f"{self.room}/bin/hull", *self.days)
         self.assertEqual(left.pop("days/report"), "refused: fault 8 report 61 at 21")
         self.assertEqual((status, left), (1, {f"days/{it}": told[it] for it in ("cut", "report gone")}))
@@ -218,7 +228,14 @@ class Many(unittest.TestCase):
             self.assertEqual(self.many("left", *self.days), (1, {it: "no report" for it in self.days}, ""))
 
     def test_words(self):
-        for words in ((), ("price",), ("nothing", "days"), ("price", "-j", "0", "days"), ("price", "-x", "days"), ("left", "--")):
+        for words in (
+            (),
+            ("price",),
+            ("nothing", "days"),
+            ("price", "-j", "0", "days"),
+            ("price", "-x", "days"),
+            ("left", "--"),
+        ):
             status, output, said = self.many(*words)
             self.assertEqual((status, output), (2, {}), words)
             self.assertIn("tools/many.sh price", said)

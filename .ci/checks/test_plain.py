@@ -29,9 +29,7 @@ class Report:
         self.surplus, self.payments, self.gap = (int(field[it]) for it in ("surplus", "payments", "gap"))
         self.cost = int(field["cost"])
         starts = [at for at, it in enumerate(lines) if it.startswith("proposal ")]
-        self.rows = [
-            (int(lines[at].split()[3]), numbers(lines[at + 1], 1), numbers(lines[at + 2], 1)) for at in starts
-        ]
+        self.rows = [(int(lines[at].split()[3]), numbers(lines[at + 1], 1), numbers(lines[at + 2], 1)) for at in starts]
         at = next(at for at, it in enumerate(lines) if it.startswith("chosen "))
         self.chosen, self.value = int(lines[at].split()[1]), int(lines[at].split()[3])
         self.units = [self.unit(lines, at) for at, it in enumerate(lines) if it.startswith("unit ")]
@@ -127,7 +125,9 @@ class Plain(unittest.TestCase):
         yield low
         yield high
         for _ in range(PRICES):
-            near = [[draw.randint(max(a, c - 30), min(b, c + 30)) for a, b, c in zip(*it)] for it in zip(low, high, centre)]
+            near = [
+                [draw.randint(max(a, c - 30), min(b, c + 30)) for a, b, c in zip(*it)] for it in zip(low, high, centre)
+            ]
             yield draw.choice([near, [[draw.randint(a, b) for a, b in zip(*it)] for it in zip(low, high)]])
         for _, *prices in rows:
             if all(a <= x <= b for three in zip(low, prices, high) for a, x, b in zip(*three)):

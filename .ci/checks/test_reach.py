@@ -23,7 +23,9 @@ class Reach(unittest.TestCase):
     def test_main_reaches_what_the_program_has(self):
         stands_on = {it: on for group in calls.groups().values() for it, on in group.items()}
         left = set(calls.Program(sorted(calls.below("hull_cli", stands_on))).unreached("hull_cli", "main"))
-        self.assertEqual(sorted(left - set(allowed())), [], "main doesn't reach these, and no line of unreached.txt names them")
+        self.assertEqual(
+            sorted(left - set(allowed())), [], "main doesn't reach these, and no line of unreached.txt names them"
+        )
 
     def test_the_list_names_nothing_else(self):
         stands_on = {it: on for group in calls.groups().values() for it, on in group.items()}

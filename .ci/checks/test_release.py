@@ -10,7 +10,11 @@ import unittest
 from built import EXAMPLES, PROGRAM, ROOT, run
 
 BARE = {"PATH": "/usr/bin:/bin", "HOME": "/"}
-ALWAYS = {"GIT_AUTHOR_DATE": "2026-01-01T12:00:00Z", "GIT_COMMITTER_DATE": "2026-01-01T12:00:00Z", "GIT_CONFIG_GLOBAL": "/dev/null"}
+ALWAYS = {
+    "GIT_AUTHOR_DATE": "2026-01-01T12:00:00Z",
+    "GIT_COMMITTER_DATE": "2026-01-01T12:00:00Z",
+    "GIT_CONFIG_GLOBAL": "/dev/null",
+}
 FILES = ("case", "schedule")
 
 
@@ -106,7 +110,9 @@ class Making(unittest.TestCase):
             place_program(ONE)
 
     def test_the_notice_names_each_crate_of_the_kit_in_the_program(self):
-        lines = [it.split("#")[0].split(":") for it in read(f"{ROOT}/crates.txt").splitlines() if ":" in it.split("#")[0]]
+        lines = [
+            it.split("#")[0].split(":") for it in read(f"{ROOT}/crates.txt").splitlines() if ":" in it.split("#")[0]
+        ]
         below = {names.split()[0]: stands_on.split() for names, stands_on in lines}
         found, due = ["hull_cli"], set()
         while found:
@@ -136,7 +142,9 @@ class Using(unittest.TestCase):
         due |= {f"docs/{it}" for it in ("FORMATS.md", "REPORT.md", "FAULTS.md", "MANY.md", "hull.1", "help.txt")}
         due |= {"tools/report.py", "tools/make_schedule.py", "tools/many.sh", "examples/day/case.json"}
         self.assertEqual(due - names, set())
-        self.assertEqual([it for it in names if re.match(r"tools/(build|made_of|release|tests)|crates|bench|\.", it)], [])
+        self.assertEqual(
+            [it for it in names if re.match(r"tools/(build|made_of|release|tests)|crates|bench|\.", it)], []
+        )
         self.assertEqual(call(self.home, "sha256sum", "--check", "--quiet", "--strict", "SHA256SUMS"), (0, "", ""))
         listed = {it.split("  ", 1)[1] for it in read(f"{self.home}/SHA256SUMS").splitlines()}
         self.assertEqual(listed, names - {"SHA256SUMS"})

@@ -14,15 +14,52 @@ from built import PROGRAM, run
 
 CASES = int(os.environ.get("HULL_PLAIN_CASES", "24"))
 SPOILED = 8
-PIECES = [b"0", b"9", b"-", b"+", b".", b"e", b"E", b",", b":", b"[", b"]", b"{", b"}", b'"', b" ", b"\n", b"\t", b"\\", b"\\u0041"]
-PIECES += [b"\\ud800", b"\xff", b"\xc3\xa9", b"\x00", b"null", b"true", b"1e400", b"1e401", b"0" * 31, b"7" * 31, b"[" * 33, b"energy", b"reserve"]
+PIECES = [
+    b"0",
+    b"9",
+    b"-",
+    b"+",
+    b".",
+    b"e",
+    b"E",
+    b",",
+    b":",
+    b"[",
+    b"]",
+    b"{",
+    b"}",
+    b'"',
+    b" ",
+    b"\n",
+    b"\t",
+    b"\\",
+    b"\\u0041",
+]
+PIECES += [
+    b"\\ud800",
+    b"\xff",
+    b"\xc3\xa9",
+    b"\x00",
+    b"null",
+    b"true",
+    b"1e400",
+    b"1e401",
+    b"0" * 31,
+    b"7" * 31,
+    b"[" * 33,
+    b"energy",
+    b"reserve",
+]
 
 
 def draw_number(draw, low, high):
     """A price's text, and now and then an odd one."""
     price = draw.randint(low, high)
     size = draw.choice(["{:.3f}", "{:.4f}", "{:g}", "{:e}"]).format(price / 1000)
-    return draw.choice([size] * 12 + [f"{price}e-3", f"{price}.0E-0003", "-0", "-0.0005", "-0.0006", "10000.0004", "10000.0005", "1e-400"])
+    return draw.choice(
+        [size] * 12
+        + [f"{price}e-3", f"{price}.0E-0003", "-0", "-0.0005", "-0.0006", "10000.0004", "10000.0005", "1e-400"]
+    )
 
 
 def draw_prices(draw, periods):
@@ -33,7 +70,9 @@ def draw_prices(draw, periods):
     if draw.random() < 0.7:
         parts.append(f'"reserve": {numbers(0, count())}')
     if draw.random() < 0.2:
-        parts.append(draw.choice(['"reserve": null', '"energy": 1', '"x": [[{}]]', '"energy": [null]', '"en\\u0065rgy": []']))
+        parts.append(
+            draw.choice(['"reserve": null', '"energy": 1', '"x": [[{}]]', '"energy": [null]', '"en\\u0065rgy": []'])
+        )
     draw.shuffle(parts)
     return ("{" + " ,\n".join(parts) + "}").encode()
 
@@ -63,7 +102,9 @@ class PlainSettle(unittest.TestCase):
             with self.assertRaises(plain_settle.PricesFault) as found:
                 plain_settle.read_prices(data, 1)
             self.assertEqual(str(found.exception), fault)
-        self.assertEqual(plain_settle.read_prices(b'{"energy":[10000.0004],"reserve":[-0.0005]}', 1), ([10_000_000], [0]))
+        self.assertEqual(
+            plain_settle.read_prices(b'{"energy":[10000.0004],"reserve":[-0.0005]}', 1), ([10_000_000], [0])
+        )
 
 
 class Settle(unittest.TestCase):

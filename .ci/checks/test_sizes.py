@@ -77,7 +77,9 @@ def all_sizes():
 
 
 def over(sizes):
-    return {name for name, (parameters, clauses) in sizes.items() if parameters > MOST_PARAMETERS or clauses > MOST_CLAUSES}
+    return {
+        name for name, (parameters, clauses) in sizes.items() if parameters > MOST_PARAMETERS or clauses > MOST_CLAUSES
+    }
 
 
 def allowed():
@@ -99,7 +101,9 @@ class Sizes(unittest.TestCase):
         self.assertEqual(said, [], "these have too many (parameters, clauses), and no line of sizes.txt names them")
 
     def test_the_list_names_nothing_else(self):
-        self.assertEqual(sorted(set(allowed()) - over(all_sizes())), [], "sizes.txt names what isn't over, or isn't there")
+        self.assertEqual(
+            sorted(set(allowed()) - over(all_sizes())), [], "sizes.txt names what isn't over, or isn't there"
+        )
         self.assertTrue(all(len(reason) > 10 for reason in allowed().values()))
 
     def test_parameters_and_clauses_are_counted(self):

@@ -6,20 +6,21 @@
     settled.frames()["units"]       # a data frame of pandas, in the currency and MW
 
 Calls of the program take names of files, and for prices and mixtures the things themselves too. What a file or a text has wrong, or the
-program refuses, is raised as `Wrong` with one line. docs/PYTHON.md is the way in.
+program refuses, is raised as `HullError` with one line. docs/PYTHON.md is the way in.
 """
 from .cases import Case, read_case
+from .errors import HullError
 from .faults import Files, sentence
 from .mixtures import Mixture, read_mixture
 from .outputs import read_output
 from .prices import Prices, prices_near, read_prices
 from .program import Hull
 from .schedules import Schedule, read_schedule
-from .trouble import Wrong
 
 __version__ = "1.0"
+Wrong = HullError  # the name in version 1.0
 __all__ = [
-    "Case", "Files", "Hull", "Mixture", "Prices", "Schedule", "Wrong", "certify", "check", "per_mwh", "price", "read_case",
+    "Case", "Files", "Hull", "HullError", "Mixture", "Prices", "Schedule", "Wrong", "certify", "check", "per_mwh", "price", "read_case",
     "read_mixture", "read_output", "read_prices", "read_schedule", "sentence", "settle",
 ]  # fmt: skip
 
@@ -29,12 +30,12 @@ def per_mwh(energy, reserve=None):
     energy = list(energy)
     reserve = [0] * len(energy) if reserve is None else list(reserve)
     if len(reserve) != len(energy):
-        raise Wrong("there are not as many reserve prices as energy prices")
+        raise HullError("there are not as many reserve prices as energy prices")
     return prices_near([float(it) * 1e3 for it in energy], [float(it) * 1e3 for it in reserve])
 
 
 def check(case, schedule, hull=None):
-    """The cost of a schedule in millionths; `Wrong` with the fault line where it isn't feasible."""
+    """The cost of a schedule in millionths; `HullError` with the fault line where it isn't feasible."""
     return Hull(hull).check(case, schedule)
 
 

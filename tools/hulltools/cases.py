@@ -3,7 +3,7 @@ from dataclasses import dataclass, field
 
 from .json_texts import is_number, read_json
 from .numbers import PRICE_LIMIT, is_whole, kilowatts, millionths, price
-from .trouble import Wrong, one_line
+from .errors import HullError, one_line
 
 POWER, OUTPUT, COST, TIME = 10**9, 10**7, 10**13, 10**6
 MOST_PERIODS, MOST_OF_A_KIND, MOST_ITEMS, MOST_BLOCKS = 168, 4096, 32, 8
@@ -104,7 +104,7 @@ class Fields:
             raise self.wrong("it isn't an object")
 
     def wrong(self, what):
-        return Wrong(f"{self.name}: {one_line(self.where)}: {what}")
+        return HullError(f"{self.name}: {one_line(self.where)}: {what}")
 
     def take(self, key, kind):
         if key not in self.value:
@@ -229,12 +229,8 @@ def case_of(name, value):
     whole = Fields(name, "the case", value)
     periods = whole.number("time_periods", MOST_PERIODS, whole=True, least=1)
     case = Case(periods, whole.powers("demand", periods), whole.powers("reserves", periods))
-    case.thermal = [
-        read_thermal(*it, periods) for it in whole.members("thermal_generators", "thermal unit")
-    ]
-    case.renewable = [
-        read_renewable(*it, periods) for it in whole.members("renewable_generators", "renewable unit")
-    ]
+    case.thermal = [read_thermal(*it, periods) for it in whole.members("thermal_generators", "thermal unit")]
+    case.renewable = [read_renewable(*it, periods) for it in whole.members("renewable_generators", "renewable unit")]
     if "demand_bids" in value:
         case.bids = [read_bid(*it, periods) for it in whole.members("demand_bids", "bid")]
     if not case.thermal and not case.renewable:
@@ -243,5 +239,5 @@ def case_of(name, value):
 
 
 def read_case(name):
-    """The case of a file; Wrong where docs/FORMATS.md refuses it."""
+    """The case of a file; HullError where docs/FORMATS.md refuses it."""
     return case_of(name, read_json(name, "a case"))

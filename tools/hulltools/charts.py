@@ -55,18 +55,14 @@ class Chart:
 
     def steps(self, numbers, style):
         """One level number for each place from `first` on."""
-        self.polyline(
-            [(self.first + i + more, it) for i, it in enumerate(numbers) for more in (0, 1)], style
-        )
+        self.polyline([(self.first + i + more, it) for i, it in enumerate(numbers) for more in (0, 1)], style)
 
     def line(self, numbers, style):
         self.polyline([(self.first + i, it) for i, it in enumerate(numbers)], style)
 
     def level(self, at, style):
         y = self.y(at)
-        self.parts.append(
-            f'<line class="{style}" x1="{LEFT}" x2="{WIDTH - RIGHT}" y1="{y:.1f}" y2="{y:.1f}"/>'
-        )
+        self.parts.append(f'<line class="{style}" x1="{LEFT}" x2="{WIDTH - RIGHT}" y1="{y:.1f}" y2="{y:.1f}"/>')
 
     def dot(self, at, number, style):
         self.parts.append(f'<circle class="{style}" cx="{self.x(at):.1f}" cy="{self.y(number):.1f}" r="4"/>')

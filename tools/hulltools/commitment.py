@@ -97,9 +97,7 @@ class Commitment:
         self.case, self.program = case, Program()
         variable, periods = self.program.variable, range(case.periods)
         self.units = [Unit(self.program, it, case.periods, any(case.reserves)) for it in case.thermal]
-        self.renewable = [
-            [variable(it.least[t] / 1e3, it.most[t] / 1e3) for t in periods] for it in case.renewable
-        ]
+        self.renewable = [[variable(it.least[t] / 1e3, it.most[t] / 1e3) for t in periods] for it in case.renewable]
         self.bids = [
             [[variable(0, width / 1e3, -price / 1e3) for width, price in it.blocks[t]] for t in periods]
             for it in case.bids

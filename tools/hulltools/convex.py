@@ -204,7 +204,9 @@ def convex_prices(case, starts, settle, certify, limits, tell):
         search.ask(*trials(search, state.price, gap < 5 * within))
         before, gap = gap, max(0.0, best[0] - search.best_value / 1e6)
         stale = 0 if gap < 0.999 * before else stale + 1
-        tell(f"round {turn}: within {gap:,.2f} of the best, {search.calls} calls of settle, {len(master.columns.cost)} columns")
+        tell(
+            f"round {turn}: within {gap:,.2f} of the best, {search.calls} calls of settle, {len(master.columns.cost)} columns"
+        )
         ended = limits.over() or ("it comes no nearer" if stale >= STALE or finer > 1e4 else None)
         if best[1] and (ended or gap <= within):
             found = search.found(best, certify, ended)

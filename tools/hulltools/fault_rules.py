@@ -25,7 +25,9 @@ def told_range(name, period, left, right, cells, least):
         return f"{name} is off in period {period} with {left} kW of power or reserve, and 0 is due"
     is_above = None not in (power, reserve) and power + reserve == left
     if power == right and (left == least or not is_above):
-        return f"{name} gives {right} kW in period {period}, and its least power is {left} kW{in_megawatts(right, left)}"
+        return (
+            f"{name} gives {right} kW in period {period}, and its least power is {left} kW{in_megawatts(right, left)}"
+        )
     if is_above:
         both = f" and keeps {int(reserve)} kW in reserve, {left} kW together" if reserve else ""
         return f"{name} gives {int(power)} kW{both}, in period {period}, and its greatest power is {right} kW"
@@ -35,7 +37,9 @@ def told_range(name, period, left, right, cells, least):
 def cells_of(plan, period):
     """What a thermal unit's lists have in a period, as numbers."""
     lists = {it: plan.get(it) for it in ("on", "power", "reserve")} if isinstance(plan, dict) else {}
-    return {key: number_of(it[period - 1]) for key, it in lists.items() if isinstance(it, list) and 1 <= period <= len(it)}
+    return {
+        key: number_of(it[period - 1]) for key, it in lists.items() if isinstance(it, list) and 1 <= period <= len(it)
+    }
 
 
 def least_of(files, kind, number):

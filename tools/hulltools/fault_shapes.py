@@ -53,7 +53,11 @@ def told_unknown(at, item):
     other = next((it for it in GROUPS if name in members_of(at.files, it)), None)
     if other is None:
         return text + nearest_name(at.files, name, at.kind)
-    due = "only thermal units have entries in a mixture" if at.what == "mixture" else f"`{PLAN_GROUPS[other]}` is where it is listed"
+    due = (
+        "only thermal units have entries in a mixture"
+        if at.what == "mixture"
+        else f"`{PLAN_GROUPS[other]}` is where it is listed"
+    )
     return f"{text} It has {KINDS[other]} of that name: {due}."
 
 

@@ -4,7 +4,7 @@ import re
 from .fault_rules import told_rule
 from .fault_shapes import told_shape
 from .named_files import GROUPS, WHOLE_FILES, Files, Known, who, written
-from .trouble import Wrong, one_line
+from .errors import HullError, one_line
 
 __all__ = ["Files", "sentence"]
 
@@ -55,6 +55,8 @@ LIMITS = {
     **{it: "4,096 members" for it in GROUPS.values()},
     **{it: "1,000,000 periods" for it in ("time_up_minimum", "time_down_minimum", "time_up_t0", "time_down_t0")},
 }
+
+
 def told_text(files, what, code, place):
     """A fault of a file's text, with the line and what stands around it."""
     data = files.bytes_of(what)
@@ -112,14 +114,24 @@ def told_field(files, what, code, key, kind, number, item):
         found = found[item - 1]
     unit = files.at(what, GROUPS.get(kind, ""), number) or {}
     range_item = lambda it: written(it[item - 1] if isinstance(it, list) and 1 <= item <= len(it) else it)
-    known = {name: range_item(unit.get(name)) for name in ("power_output_minimum", "power_output_maximum")} if isinstance(unit, dict) else {}
-    known.update(periods=written(files.at("case", "time_periods")), kind_due=kind_due(key, kind), limit=LIMITS.get((key, kind)) or LIMITS.get(key, "1,000,000 MW"))
+    known = (
+        {name: range_item(unit.get(name)) for name in ("power_output_minimum", "power_output_maximum")}
+        if isinstance(unit, dict)
+        else {}
+    )
+    known.update(
+        periods=written(files.at("case", "time_periods")),
+        kind_due=kind_due(key, kind),
+        limit=LIMITS.get((key, kind)) or LIMITS.get(key, "1,000,000 MW"),
+    )
     where = f"{who(files, kind, number)}, " if kind in GROUPS else ""
     place = f", item {item}" if item else ""
     count = f"; it has {len(listed)} items" if code in (25, 33) and isinstance(listed, list) else ""
     value = f" Found: {written(found)}{count}." if code != 20 and found is not None else ""
     hint = hint_of_field(files, what, code, known["limit"], listed)
-    return f"{where}{'the whole' if key == 'whole' else key}{place}: {FIELDS[code].format_map(Known(known))}.{value}{hint}"
+    return (
+        f"{where}{'the whole' if key == 'whole' else key}{place}: {FIELDS[code].format_map(Known(known))}.{value}{hint}"
+    )
 
 
 def hint_of_field(files, what, code, limit, listed):
@@ -129,7 +141,13 @@ def hint_of_field(files, what, code, limit, listed):
         return " Are the files swapped?"
     if code == 24 and limit.endswith(" MW"):
         return " A case is in megawatts: are these kilowatts?"
-    if code == 25 and isinstance(listed, list) and isinstance(periods, str) and periods.isdigit() and len(listed) > int(periods):
+    if (
+        code == 25
+        and isinstance(listed, list)
+        and isinstance(periods, str)
+        and periods.isdigit()
+        and len(listed) > int(periods)
+    ):
         return " A decimal comma makes two items of one."
     return ""
 
@@ -175,11 +193,18 @@ FORMS = [
     ),
     (
         r"fault 5 work (\d+) (\d+) (\d+)",
-        lambda files, *numbers: "too much work: {} proposals times {} units times {} periods are above 50,000,000.".format(*numbers),
+        lambda files, *numbers: "too much work: {} proposals times {} units times {} periods are above 50,000,000.".format(
+            *numbers
+        ),
     ),
     (r"fault 7 memory", lambda files: "the machine gave no memory when it was asked."),
     (r"fault 8 (report) 60 at (\d+)", lambda files, what, at: told_report(files, at, "can't stand there in a report")),
-    (r"fault 8 (report) 61 at (\d+)", lambda files, what, at: told_report(files, at, "is the first that isn't that of the right report", of_others(at))),
+    (
+        r"fault 8 (report) 61 at (\d+)",
+        lambda files, what, at: told_report(
+            files, at, "is the first that isn't that of the right report", of_others(at)
+        ),
+    ),
 ]
 
 
@@ -214,7 +239,13 @@ def told_report(files, at, what, more=""):
 
 
 # The files that a line of each status is told of.
-TOLD_OF = {"3": ("case",), "4": ("case", "schedule"), "8": ("report",), "9": ("case", "prices"), "10": ("case", "mixture")}
+TOLD_OF = {
+    "3": ("case",),
+    "4": ("case", "schedule"),
+    "8": ("report",),
+    "9": ("case", "prices"),
+    "10": ("case", "mixture"),
+}
 
 
 def need_files(line, files):
@@ -225,11 +256,11 @@ def need_files(line, files):
                 with open(files.names[what], "rb") as it:
                     it.read(1)
             except (OSError, ValueError) as error:
-                raise Wrong(f"{files.names[what]}: {getattr(error, 'strerror', None) or error}") from None
+                raise HullError(f"{files.names[what]}: {getattr(error, 'strerror', None) or error}") from None
 
 
 def sentence(line, files):
-    """The fault line in words; Wrong where it is none, or where a file that it is told of can't be read."""
+    """The fault line in words; HullError where it is none, or where a file that it is told of can't be read."""
     for form, told in FORMS:
         found = re.fullmatch(form, line)
         if found:
@@ -238,4 +269,4 @@ def sentence(line, files):
                 return one_line(told(files, *found.groups()))
             except KeyError:
                 break
-    raise Wrong(f"this is no fault line of hull: {one_line(line)[:200]}")
+    raise HullError(f"this is no fault line of hull: {one_line(line)[:200]}")

@@ -3,7 +3,7 @@ import json
 import re
 from decimal import Decimal
 
-from .trouble import Wrong, read_bytes
+from .errors import HullError, read_bytes
 
 MOST_DIGITS, MOST_EXPONENT, MOST_DEPTH = 30, 400, 32
 LONE = re.compile("[\ud800-\udfff]")
@@ -81,7 +81,7 @@ def read_json(name, what):
     try:
         return parse(read_bytes(name, what))
     except Refused as why:
-        raise Wrong(f"{name}: no JSON text as {what} has it: {why}") from None
+        raise HullError(f"{name}: no JSON text as {what} has it: {why}") from None
 
 
 def is_number(value):

@@ -1,7 +1,7 @@
 """Linear programs, with and without whole variables, as they come, solved by SciPy's HiGHS."""
 from dataclasses import dataclass
 
-from .trouble import Wrong
+from .errors import HullError
 
 try:
     import numpy as np
@@ -15,7 +15,7 @@ INFINITY = float("inf")
 
 def need_scipy():
     if milp is None:
-        raise Wrong(
+        raise HullError(
             "this needs SciPy with scipy.optimize.milp (Debian: apt install python3-scipy, and run it by /usr/bin/python3)"
         )
 

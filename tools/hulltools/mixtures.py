@@ -5,7 +5,7 @@ from dataclasses import dataclass
 from .json_texts import is_number, read_json
 from .numbers import PRICE_LIMIT, is_whole
 from .schedules import Plan, thermal_plan
-from .trouble import Wrong, one_line
+from .errors import HullError, one_line
 
 MOST_WEIGHT = 10**12
 
@@ -72,15 +72,15 @@ def read_mixture(name, case):
     """The mixture of a file for a case, in form; whether a unit can run an entry is for `hull certify` to say."""
     value = read_json(name, "a mixture")
     if not isinstance(value, dict) or not isinstance(value.get("thermal"), dict):
-        raise Wrong(f"{name}: no mixture: it isn't an object with `weight` and the object `thermal`")
-    weight = weight_of(value.get("weight"), 1, MOST_WEIGHT, lambda it: Wrong(f"{name}: {it}"))
+        raise HullError(f"{name}: no mixture: it isn't an object with `weight` and the object `thermal`")
+    weight = weight_of(value.get("weight"), 1, MOST_WEIGHT, lambda it: HullError(f"{name}: {it}"))
     names = {it.name for it in case.thermal}
     for it in value["thermal"]:
         if it not in names:
-            raise Wrong(f'{name}: the case has no thermal unit "{one_line(it)}"')
+            raise HullError(f'{name}: the case has no thermal unit "{one_line(it)}"')
     thermal = {}
     for it in case.thermal:
-        told = lambda what, it=it: Wrong(f'{name}: thermal unit "{one_line(it.name)}": {what}')
+        told = lambda what, it=it: HullError(f'{name}: thermal unit "{one_line(it.name)}": {what}')
         rows = value["thermal"].get(it.name)
         if not isinstance(rows, list) or not rows or not all(isinstance(row, dict) for row in rows):
             raise told("has no list of entries")

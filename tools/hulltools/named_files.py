@@ -6,7 +6,13 @@ from decimal import Decimal
 
 GROUPS = {"thermal": "thermal_generators", "renewable": "renewable_generators", "bid": "demand_bids"}
 PLAN_GROUPS = {"thermal": "thermal", "renewable": "renewable", "bid": "bids"}
-WHOLE_FILES = {"case": "the case", "schedule": "the schedule", "report": "the report", "prices": "the prices", "mixture": "the mixture"}
+WHOLE_FILES = {
+    "case": "the case",
+    "schedule": "the schedule",
+    "report": "the report",
+    "prices": "the prices",
+    "mixture": "the mixture",
+}
 
 
 @dataclass

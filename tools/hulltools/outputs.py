@@ -7,7 +7,7 @@ import re
 from dataclasses import dataclass, field
 
 from .prices import Prices
-from .trouble import Wrong, one_line, read_bytes, shown_name
+from .errors import HullError, one_line, read_bytes, shown_name
 
 COUNT = (0, 2**32 - 1)
 MONEY = (-(2**63), 2**63 - 1)
@@ -194,7 +194,7 @@ class Lines:
         *self.whole, self.rest = data.split(b"\n")
 
     def wrong(self, more=""):
-        return Wrong(f"{self.name}, line {self.read + 1}: not a line of {self.what}{more}")
+        return HullError(f"{self.name}, line {self.read + 1}: not a line of {self.what}{more}")
 
     def next(self):
         """The next line as a text, or None where there is no whole one."""
@@ -286,9 +286,9 @@ def read_report(lines):
         rows.append(Row(number, value, *read_lists(lines, periods)))
     chosen, value = lines.take(f"chosen {NUMBER} value {NUMBER}", COUNT, SUM)
     if not 1 <= chosen <= len(rows):
-        raise Wrong(f"{lines.name}, line {lines.read}: there is no proposal {chosen}")
+        raise HullError(f"{lines.name}, line {lines.read}: there is no proposal {chosen}")
     if rows[chosen - 1].value != value:
-        raise Wrong(f"{lines.name}, line {lines.read}: proposal {chosen} has another value")
+        raise HullError(f"{lines.name}, line {lines.read}: proposal {chosen} has another value")
     units = read_units(lines, count, periods)
     return Report(lines.name, periods, cost, rows[chosen - 1], units, *read_sums(lines), budget, ahead, rows)
 
@@ -323,9 +323,7 @@ def read_fixed(lines):
         side.prices = Prices(energy, lines.numbers(f"{word} reserve", periods, 0, PRICE))
     units = []
     while (lines.next() or "").startswith("unit "):
-        kind, name, *sums = lines.take(
-            f"unit ({'|'.join(KINDS)}) ({NAME}) hull {NUMBER} fixed {NUMBER}", MONEY, MONEY
-        )
+        kind, name, *sums = lines.take(f"unit ({'|'.join(KINDS)}) ({NAME}) hull {NUMBER} fixed {NUMBER}", MONEY, MONEY)
         units.append((kind, name_of(name), *sums))
     hull.payments, fixed.payments = lines.take(f"payments hull {NUMBER} fixed {NUMBER}", SUM, SUM)
     hull.surplus, fixed.surplus = lines.take(f"surplus hull {NUMBER} fixed {NUMBER}", SUM, SUM)
@@ -357,11 +355,11 @@ def parse_output(name, data, due=tuple(FORMS)):
     """The text of `hull` that these bytes are, of the forms that are due."""
     first = data.split(b"\n", 1)[0].decode("utf-8", "replace")
     if first.startswith("fault "):
-        raise Wrong(f"{shown_name(name)}: this run was refused: {one_line(first)[:200]}")
+        raise HullError(f"{shown_name(name)}: this run was refused: {one_line(first)[:200]}")
     other = re.fullmatch(r"hull-(bound|fixed|check|try|audit|report|settlement|certificate) 1", first)
     if other and first not in due:
         is_a = FORMS[first][0] if first in FORMS else f"a text of `hull {other[1]}`"
-        raise Wrong(f"{shown_name(name)}: this is {is_a}, where {' or '.join(FORMS[it][0] for it in due)} is due")
+        raise HullError(f"{shown_name(name)}: this is {is_a}, where {' or '.join(FORMS[it][0] for it in due)} is due")
     what, read = FORMS[first if first in due else due[0]]
     return read(Lines(name, data, what))
 

@@ -4,7 +4,7 @@ import json
 
 from .charts import Chart, steps_chart
 from .numbers import decimal_text, money
-from .trouble import Wrong, one_line
+from .errors import HullError, one_line
 
 SHOWN = 25  # how many units the picture of payments names
 MOST_NUMBERS = 600_000  # how many numbers of responses a page holds
@@ -224,7 +224,7 @@ def nearness(priced, certificate):
             "says it, from a mixture such as tools/convex_prices.py finds."
         )
     if (certificate.cost, certificate.value) != (priced.cost, priced.best.value):
-        raise Wrong(f"{certificate.name}: this certificate is of other prices or of another schedule")
+        raise HullError(f"{certificate.name}: this certificate is of other prices or of another schedule")
     within = "" if certificate.radius >= 20_000_000 else f" within {money(certificate.radius * 1000)} per MWh of these"
     return (
         f"No whole prices within the limits{within} need less than {money(certificate.least)} of payments and surplus for this schedule; these need "

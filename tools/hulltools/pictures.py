@@ -3,7 +3,7 @@ import io
 import os
 
 from .pages import largest_payments, short
-from .trouble import Wrong
+from .errors import HullError
 
 
 def plain(name):
@@ -52,7 +52,7 @@ def picture_of(priced, name):
     try:
         import matplotlib
     except ImportError:
-        raise Wrong("plot needs matplotlib (Debian: python3-matplotlib); page draws without it") from None
+        raise HullError("plot needs matplotlib (Debian: python3-matplotlib); page draws without it") from None
     matplotlib.use("Agg")
     import matplotlib.pyplot as plt
 
@@ -64,6 +64,6 @@ def picture_of(priced, name):
     try:
         figure.savefig(into, dpi=110, format=os.path.splitext(name)[1].lstrip(".") or "png")
     except ValueError as error:
-        raise Wrong(f"{name}: {error}") from None
+        raise HullError(f"{name}: {error}") from None
     plt.close(figure)
     return into.getvalue()

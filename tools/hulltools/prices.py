@@ -3,7 +3,7 @@ from dataclasses import dataclass
 
 from .json_texts import is_number, read_json
 from .numbers import PRICE_LIMIT, decimal_text, price
-from .trouble import Wrong, write_whole
+from .errors import HullError, write_whole
 
 
 @dataclass
@@ -16,8 +16,7 @@ class Prices:
     def text(self):
         """The file: prices in currency per MW and period, exact."""
         rows = (
-            f'"{key}": [{", ".join(decimal_text(it, 3) for it in getattr(self, key))}]'
-            for key in ("energy", "reserve")
+            f'"{key}": [{", ".join(decimal_text(it, 3) for it in getattr(self, key))}]' for key in ("energy", "reserve")
         )
         return "{" + ", ".join(rows) + "}\n"
 
@@ -38,17 +37,19 @@ def prices_near(energy, reserve):
 
 def list_of(name, key, value, periods, least):
     if not isinstance(value, list) or periods is not None and len(value) != periods:
-        raise Wrong(f"{name}: {key} isn't a list of a price for each period")
+        raise HullError(f"{name}: {key} isn't a list of a price for each period")
     for t, it in enumerate(value, 1):
         if not is_number(it) or not least <= price(it) <= PRICE_LIMIT:
-            raise Wrong(f"{name}: {key} has in period {t} no price from {least // 1000:,} to {PRICE_LIMIT // 1000:,}")
+            raise HullError(
+                f"{name}: {key} has in period {t} no price from {least // 1000:,} to {PRICE_LIMIT // 1000:,}"
+            )
     return [price(it) for it in value]
 
 
 def prices_of(name, value, periods=None):
     """The prices of a JSON value; where `periods` is None, as many as it has."""
     if not isinstance(value, dict) or "energy" not in value:
-        raise Wrong(f"{name}: no prices: it isn't an object with the list `energy`")
+        raise HullError(f"{name}: no prices: it isn't an object with the list `energy`")
     energy = list_of(name, "energy", value["energy"], periods, -PRICE_LIMIT)
     reserve = value.get("reserve", [0] * len(energy))
     return Prices(energy, list_of(name, "reserve", reserve, len(energy), 0))

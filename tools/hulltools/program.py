@@ -5,7 +5,7 @@ import subprocess
 import tempfile
 
 from .outputs import parse_output
-from .trouble import Wrong, one_line
+from .errors import HullError, one_line
 
 MOST_WORK = 50_000_000  # proposals times units times periods that `hull price` takes
 HOME = os.path.dirname(os.path.dirname(os.path.dirname(os.path.abspath(__file__))))
@@ -21,12 +21,12 @@ def default_program():
         return launcher
     found = shutil.which("hull")
     if not found:
-        raise Wrong("no `hull` is on the path: give its place by --hull, or in the variable HULL")
+        raise HullError("no `hull` is on the path: give its place by --hull, or in the variable HULL")
     return found
 
 
 class Hull:
-    """The program. Each call takes names of files and gives what it prints, read; Wrong where it refuses."""
+    """The program. Each call takes names of files and gives what it prints, read; HullError where it refuses."""
 
     def __init__(self, program=None, tell=None):
         self.program = program or default_program()
@@ -53,7 +53,7 @@ class Hull:
                 [self.program, *words], stdin=subprocess.DEVNULL, stdout=subprocess.PIPE, start_new_session=self.apart
             )
         except (OSError, ValueError) as error:
-            raise Wrong(f"{self.program}: {getattr(error, 'strerror', None) or error}") from None
+            raise HullError(f"{self.program}: {getattr(error, 'strerror', None) or error}") from None
         return ran.returncode, ran.stdout
 
     def text(self, *words):
@@ -61,7 +61,7 @@ class Hull:
         status, output = self.run(*words)
         if status:
             line = one_line(output.decode("utf-8", "replace").strip())[:300]
-            raise Wrong(f"hull {words[0]} ended with status {status}" + (f": {line}" if line else ""))
+            raise HullError(f"hull {words[0]} ended with status {status}" + (f": {line}" if line else ""))
         self.last_text = output
         return output
 
@@ -73,10 +73,10 @@ class Hull:
 
     def need(self, command):
         if not self.has(command):
-            raise Wrong(f"{self.program} has no command `{command}`: a newer program is needed")
+            raise HullError(f"{self.program} has no command `{command}`: a newer program is needed")
 
     def check(self, case, schedule):
-        """The schedule's cost in millionths; Wrong where it isn't feasible."""
+        """The schedule's cost in millionths; HullError where it isn't feasible."""
         output = self.text("check", "--case", case, "--schedule", schedule).decode()
         return int(output.split("\ncost ")[1].split("\n")[0])
 

@@ -1,14 +1,14 @@
 """Prices from linear programs: with the commitments of a schedule held, and with whole variables left free."""
 from .commitment import Commitment
 from .prices import prices_near
-from .trouble import Wrong
+from .errors import HullError
 
 
 def dual_prices(model, what):
     """The duals of balance and reserve as whole prices."""
     solved = model.program.solve_linear("highs-ds")
     if solved is None:
-        raise Wrong(f"the solver finds no solution of {what}")
+        raise HullError(f"the solver finds no solution of {what}")
     energy, reserve = model.prices(solved.duals)
     return prices_near([it * 1e3 for it in energy], [it * 1e3 for it in reserve])
 

@@ -138,9 +138,7 @@ class Rounding:
         if solved is None:
             return None
         number = lambda it: it.at + int(round(solved[it.column])) if it else 0
-        return [
-            [[number(it) for it in row] for row in rows] for rows in (self.powers, self.renewable, self.bids)
-        ]
+        return [[[number(it) for it in row] for row in rows] for rows in (self.powers, self.renewable, self.bids)]
 
 
 def whole_powers(case, flags, found, base, wanted=None):

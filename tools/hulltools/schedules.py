@@ -5,7 +5,7 @@ from dataclasses import dataclass
 from .cases import POWER
 from .json_texts import is_number, read_json
 from .numbers import is_whole
-from .trouble import Wrong, one_line
+from .errors import HullError, one_line
 
 
 @dataclass
@@ -70,13 +70,13 @@ def group_of(name, value, key, units, needed):
     if found is None and key not in value and not needed:
         return {}
     if not isinstance(found, dict):
-        raise Wrong(f"{name}: no schedule: {key} isn't an object of lists by name")
+        raise HullError(f"{name}: no schedule: {key} isn't an object of lists by name")
     for it in found:
         if it not in units:
-            raise Wrong(f'{name}: the case has no unit "{one_line(it)}" under {key}')
+            raise HullError(f'{name}: the case has no unit "{one_line(it)}" under {key}')
     for it in units:
         if it not in found:
-            raise Wrong(f'{name}: the unit "{one_line(it)}" of the case isn\'t under {key}')
+            raise HullError(f'{name}: the unit "{one_line(it)}" of the case isn\'t under {key}')
     return found
 
 
@@ -84,13 +84,17 @@ def read_schedule(name, case):
     """The schedule of a file for a case, as docs/FORMATS.md has it."""
     value = read_json(name, "a schedule")
     if not isinstance(value, dict):
-        raise Wrong(f"{name}: no schedule: it isn't an object")
+        raise HullError(f"{name}: no schedule: it isn't an object")
     plans = {}
-    kinds = (("thermal", "thermal", case.thermal), ("renewable", "renewable", case.renewable), ("bid", "bids", case.bids))
+    kinds = (
+        ("thermal", "thermal", case.thermal),
+        ("renewable", "renewable", case.renewable),
+        ("bid", "bids", case.bids),
+    )
     for kind, key, units in kinds:
         found = group_of(name, value, key, {it.name for it in units}, kind != "bid" or case.bids)
         for it in units:
-            told = lambda what, it=it: Wrong(f'{name}: {kind} "{one_line(it.name)}": {what}')
+            told = lambda what, it=it: HullError(f'{name}: {kind} "{one_line(it.name)}": {what}')
             if kind == "thermal":
                 plans[kind, it.name] = thermal_plan(found[it.name], case.periods, told)
             else:

@@ -3,10 +3,10 @@ from dataclasses import dataclass, replace
 
 from .cases import POWER
 from .commitment import Commitment
-from .following import Followed
+from .external_schedules import Followed
 from .rounding import SLACK, reserves_of, whole_powers
 from .schedules import Plan, Schedule, flat_plan
-from .trouble import Wrong, one_line
+from .errors import HullError, one_line
 
 SECONDS_A_RULE = 20.0  # how long the solver looks for a schedule without a rule
 
@@ -39,7 +39,9 @@ def refuse_contradictions(case):
             on = on or "its initial output is above its stop limit, so it can't stop in period 1"
         on = on or "its window says on"
         off = "its window says off" if unit.marks[t] == 0 else "its minimum time down isn't over"
-        raise Wrong(f'the case can\'t be met: in period {t + 1} unit "{one_line(unit.name)}" can be neither on nor off: {on}, and {off}')
+        raise HullError(
+            f'the case can\'t be met: in period {t + 1} unit "{one_line(unit.name)}" can be neither on nor off: {on}, and {off}'
+        )
 
 
 def why_not(case):
@@ -56,9 +58,13 @@ def why_not(case):
         if most < case.demand[t]:
             return f"{told}give at most {most / 1e3:g} MW, and demand is {case.demand[t] / 1e3:g} MW"
         if least > case.demand[t] + buys:
-            return f"{told}give at least {least / 1e3:g} MW, and demand and bids take {(case.demand[t] + buys) / 1e3:g} MW"
+            return (
+                f"{told}give at least {least / 1e3:g} MW, and demand and bids take {(case.demand[t] + buys) / 1e3:g} MW"
+            )
         if kept < case.reserves[t]:
-            return f"{told}can keep at most {kept / 1e3:g} MW in reserve, and {case.reserves[t] / 1e3:g} MW are required"
+            return (
+                f"{told}can keep at most {kept / 1e3:g} MW in reserve, and {case.reserves[t] / 1e3:g} MW are required"
+            )
     return ""
 
 
@@ -71,7 +77,9 @@ def with_units(case, **changed):
 RULES = {  # a case without each rule that goes over periods or units
     "the required reserve": lambda case: replace(case, reserves=[0] * case.periods),
     "the ramps": lambda case: with_units(case, ramp_up=POWER, ramp_down=POWER),
-    "the start and stop limits": lambda case: with_units(case, start_limit=lambda it: it.most, stop_limit=lambda it: it.most),
+    "the start and stop limits": lambda case: with_units(
+        case, start_limit=lambda it: it.most, stop_limit=lambda it: it.most
+    ),
     "the minimum times": lambda case: with_units(case, min_up=1, min_down=1),
     "the windows": lambda case: with_units(case, marks=[None] * case.periods),
     "must-run": lambda case: with_units(case, must_run=0),
@@ -120,10 +128,10 @@ def dispatch(case, model, flags):
     model.fix(flags)
     solved = model.program.solve_linear()
     if solved is None:
-        raise Wrong("the solver's choice of units can't be met exactly: try another --gap")
+        raise HullError("the solver's choice of units can't be met exactly: try another --gap")
     lists = whole_powers(case, flags, powers_found(model, solved.x), solved.value)
     if lists is None:
-        raise Wrong("no whole kilowatts near the solver's powers balance: try another --gap")
+        raise HullError("no whole kilowatts near the solver's powers balance: try another --gap")
     return schedule_of(case, flags, lists, reserves_of(case, flags, lists[0]))
 
 
@@ -131,13 +139,13 @@ def make_schedule(case, gap, seconds, tell):
     """A schedule of a cost near the least that the solver finds in the time."""
     refuse_contradictions(case)
     if why_not(case):
-        raise Wrong(f"the case can't be met{why_not(case)}")
+        raise HullError(f"the case can't be met{why_not(case)}")
     model = Commitment(case)
     found = model.program.solve(time_limit=float(seconds), mip_rel_gap=gap)
     if found.status == 2:
-        raise Wrong(f"the solver finds that the case can't be met{rules_that_bar(case)}")
+        raise HullError(f"the solver finds that the case can't be met{rules_that_bar(case)}")
     if found.x is None:
-        raise Wrong(f"no schedule was found in {seconds:g} s: give --seconds more")
+        raise HullError(f"no schedule was found in {seconds:g} s: give --seconds more")
     # (with no whole variable there is no bound beside the optimum)
     bound = found.fun if found.mip_dual_bound is None else found.mip_dual_bound
     return Made(dispatch(case, model, model.flags(found.x)), found.fun, bound)
@@ -153,7 +161,10 @@ def wanted_powers(case, followed: Followed):
 def add_distances(model, wanted):
     """Adds variables whose sum is at least the distance from the wanted powers, in megawatts."""
     program, every, added = model.program, range(model.case.periods), []
-    parts = {("thermal", i): lambda t, it=it: [(it.on[t], it.unit.least / 1e3), (it.power[t], 1)] for i, it in enumerate(model.units)}
+    parts = {
+        ("thermal", i): lambda t, it=it: [(it.on[t], it.unit.least / 1e3), (it.power[t], 1)]
+        for i, it in enumerate(model.units)
+    }
     parts.update({("renewable", i): lambda t, row=row: [(row[t], 1)] for i, row in enumerate(model.renewable)})
     parts.update({("bid", i): lambda t, row=row: [(it, 1) for it in row[t]] for i, row in enumerate(model.bids)})
     for key, powers in wanted.items():
@@ -185,10 +196,12 @@ def follow(case, followed, name):
     model.fix(flags)
     solved = nearest(model, wanted)
     if solved is None:
-        raise Wrong(f"{name}: its commitments can't be met in this case: hull check of a schedule with them says by which rule")
+        raise HullError(
+            f"{name}: its commitments can't be met in this case: hull check of a schedule with them says by which rule"
+        )
     lists = whole_powers(case, flags, powers_found(model, solved.x), solved.value, wanted)
     if lists is None:
-        raise Wrong(f"{name}: no whole kilowatts near its powers balance")
+        raise HullError(f"{name}: no whole kilowatts near its powers balance")
     kept = {i: followed.reserve[it.name] for i, it in enumerate(case.thermal) if it.name in followed.reserve}
     return Made(schedule_of(case, flags, lists, reserves_of(case, flags, lists[0], kept)))
 

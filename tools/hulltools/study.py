@@ -8,7 +8,7 @@ from .outputs import Certificate
 from .program import MOST_WORK
 from .relaxation import held_prices, relaxed_prices
 from .tables import Table
-from .trouble import write_whole
+from .errors import write_whole
 
 LISTS = {  # by name: what a list is in words
     "marginal": "marginal prices, the schedule's commitments held",

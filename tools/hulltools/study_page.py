@@ -6,9 +6,16 @@ from .numbers import money
 from .pages import SORT, document, head_row, number_cell, shown
 from .study import LISTS
 
-COLOURS = {"marginal": "var(--soft)", "relaxed": "var(--violet)", "default": "var(--orange)", "patient": "var(--green)", "convex": "var(--blue)"}
+COLOURS = {
+    "marginal": "var(--soft)",
+    "relaxed": "var(--violet)",
+    "default": "var(--orange)",
+    "patient": "var(--green)",
+    "convex": "var(--blue)",
+}
 STYLE = "".join(
-    f"polyline.{name} {{ stroke: {colour}; }} i.{name} {{ border-color: {colour}; }}" for name, colour in COLOURS.items()
+    f"polyline.{name} {{ stroke: {colour}; }} i.{name} {{ border-color: {colour}; }}"
+    for name, colour in COLOURS.items()
 ) + (
     " polyline { stroke-width: 1.6; } .stack { position: relative; display: flex; height: 1.1rem; background: color-mix(in srgb, var(--grid) 45%, transparent); }"
     " .stack b { height: 100%; background: var(--blue); } .stack b.loss { background: var(--orange); } .stack b.surplus, i.box.surplus { background: var(--green); }"
@@ -49,7 +56,9 @@ def uplift_part(study):
     rows = []
     for name, it in study.settlements.items():
         parts = (("loss", it.make_whole), ("lost", it.payments - it.make_whole), ("surplus", it.surplus))
-        bars = "".join(f'<b class="{style}" style="width:{width(number)}"></b>' for style, number in parts if number > 0)
+        bars = "".join(
+            f'<b class="{style}" style="width:{width(number)}"></b>' for style, number in parts if number > 0
+        )
         least = f'<u style="left:{width(study.certificate.least)}"></u>'
         told = f'<span>{html.escape(LISTS[name])}</span><div class="stack">{bars}{least}</div>'
         rows.append(f'<div class="list">{told}<span class="sum">{money(it.gap)}</span></div>')
@@ -58,7 +67,16 @@ def uplift_part(study):
     return f'<h2>Payments and surplus</h2><p>{keys_of(keys)}</p>{"".join(rows)}'
 
 
-COST_HEADS = ("*Prices", "Cost", "Dual value", "Make-whole", "Lost opportunity", "Surplus", "Above the least", "Seconds")
+COST_HEADS = (
+    "*Prices",
+    "Cost",
+    "Dual value",
+    "Make-whole",
+    "Lost opportunity",
+    "Surplus",
+    "Above the least",
+    "Seconds",
+)
 
 
 def cost_part(study):

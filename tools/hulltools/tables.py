@@ -8,7 +8,7 @@ import io
 from decimal import Decimal
 
 from .numbers import decimal_text
-from .trouble import Wrong
+from .errors import HullError
 
 UNITS = {  # how a number is told: the places that the point moves, and the ends of the heads
     "kw": (3, "kw", "mw"),
@@ -130,7 +130,7 @@ def frames_of(tables):
     try:
         import pandas
     except ImportError:
-        raise Wrong("data frames need pandas (Debian: python3-pandas)") from None
+        raise HullError("data frames need pandas (Debian: python3-pandas)") from None
     cell = lambda it: float(it) if isinstance(it, Decimal) else it
     return {
         name: pandas.DataFrame([[cell(one) for one in row] for row in it.rows], columns=it.heads)

@@ -36,7 +36,9 @@ class Explain(unittest.TestCase):
                 it.write(text.replace(old, new, 1))
 
     def sentence(self, line, *more):
-        status, text, said = run("explain.py", f"{self.room}/case.json", f"{self.room}/schedule.json", *more, input=f"{line}\n")
+        status, text, said = run(
+            "explain.py", f"{self.room}/case.json", f"{self.room}/schedule.json", *more, input=f"{line}\n"
+        )
         self.assertEqual((status, said, text.count("\n")), (0, "", 1))
         return text.strip().replace(f"{self.room}/", "")
 
@@ -71,18 +73,33 @@ class Explain(unittest.TestCase):
         self.assertTrue(told.endswith("gives 9000 kW in period 2, and its least power is 10000 kW."), told)
         line = "fault 4 schedule 48 kind thermal unit 1 period 3 left 105000 right 100000"
         told = self.told(line, "schedule.json", "75000,90000", "75000,100000")
-        self.assertTrue(told.endswith("gives 100000 kW and keeps 5000 kW in reserve, 105000 kW together, in period 3, and its greatest power is 100000 kW."), told)
+        self.assertTrue(
+            told.endswith(
+                "gives 100000 kW and keeps 5000 kW in reserve, 105000 kW together, in period 3, and its greatest power is 100000 kW."
+            ),
+            told,
+        )
         line = "fault 4 schedule 48 kind thermal unit 1 period 4 left 100001 right 100000"
         told = self.told(line, "schedule.json", "90000,80000", "90000,100001")
         self.assertTrue(told.endswith("gives 100001 kW, in period 4, and its greatest power is 100000 kW."), told)
         line = "fault 10 mixture 48 kind thermal unit 1 entry 1 period 1 left 20001 right 20000"
         told = self.told_of_mixture(line, '[10000],"reserve":[0]', '[20000],"reserve":[1]')
-        self.assertTrue(told.endswith("gives 20000 kW and keeps 1 kW in reserve, 20001 kW together, in period 1, and its greatest power is 20000 kW."), told)
+        self.assertTrue(
+            told.endswith(
+                "gives 20000 kW and keeps 1 kW in reserve, 20001 kW together, in period 1, and its greatest power is 20000 kW."
+            ),
+            told,
+        )
 
     def test_a_limit_below_the_least_power(self):
         line = "fault 4 schedule 49 kind thermal unit 2 period 2 left 10000 right 9000"
         told = self.told(line, "case.json", '"ramp_startup_limit":30', '"ramp_startup_limit":9')
-        self.assertTrue(told.endswith("its start limit is 9000 kW. Its least power is 10000 kW, so this unit can never start: the case is to be mended."), told)
+        self.assertTrue(
+            told.endswith(
+                "its start limit is 9000 kW. Its least power is 10000 kW, so this unit can never start: the case is to be mended."
+            ),
+            told,
+        )
         line = "fault 4 schedule 50 kind thermal unit 2 period 3 left 30000 right 9000"
         told = self.told(line, "case.json", '"ramp_shutdown_limit":30', '"ramp_shutdown_limit":9')
         self.assertTrue(told.endswith("so this unit can never stop: the case is to be mended."), told)
@@ -100,18 +117,29 @@ class Explain(unittest.TestCase):
             "Weights are whole, and no shares of 1: a share of 0.33 is 33 where the outermost weight is 100.",
         )
         told = self.told_of_mixture(line, '"weight":3', '"weight":11')
-        self.assertTrue(told.endswith("its weight isn't within its range, from 0 to the outermost weight, 10. Found: 11."), told)
+        self.assertTrue(
+            told.endswith("its weight isn't within its range, from 0 to the outermost weight, 10. Found: 11."), told
+        )
         told = self.told_of_mixture(line, '"weight":3', '"weight":"3"')
         self.assertTrue(told.endswith('entry 2: its weight isn\'t a number. Found: "3".'), told)
         told = self.told_of_mixture("fault 10 mixture 62 kind case unit 0 entry 0 item 0", '"weight":10', '"weight":0')
-        self.assertEqual(told, "mixture.json: the outermost weight isn't within its range, from 1 to 1,000,000,000,000. Found: 0.")
+        self.assertEqual(
+            told, "mixture.json: the outermost weight isn't within its range, from 1 to 1,000,000,000,000. Found: 0."
+        )
 
     def test_a_unit_that_is_not_there_or_not_thermal(self):
         line = "fault 4 schedule 41 kind bid unit 1 item 0"
         told = self.told(line, "schedule.json", '"B1":[5000,5000,5000,5000,5000,5000]', "")
-        self.assertEqual(told, 'schedule.json: bid "B1" (number 1) isn\'t in schedule.json: a buyer that buys nothing is listed with zeros.')
-        told = self.told_of_mixture("fault 10 mixture 41 kind thermal unit 1 entry 0 item 0", '"thermal":{"G1"', '"thermal":{},"x":{"G1"')
-        self.assertTrue(told.endswith("isn't in mixture.json: each thermal unit needs an entry, if only one that is off."), told)
+        self.assertEqual(
+            told,
+            'schedule.json: bid "B1" (number 1) isn\'t in schedule.json: a buyer that buys nothing is listed with zeros.',
+        )
+        told = self.told_of_mixture(
+            "fault 10 mixture 41 kind thermal unit 1 entry 0 item 0", '"thermal":{"G1"', '"thermal":{},"x":{"G1"'
+        )
+        self.assertTrue(
+            told.endswith("isn't in mixture.json: each thermal unit needs an entry, if only one that is off."), told
+        )
         told = self.told_of_mixture("fault 10 mixture 40 kind thermal unit 1 entry 0 item 0", '"G1"', '"W1"')
         self.assertEqual(
             told,
@@ -125,19 +153,25 @@ class Explain(unittest.TestCase):
         line = "fault 4 schedule 42 kind case unit 0 item 0"
         told = self.told(line, "schedule.json", '"bids"', '"bid"')
         self.assertEqual(told, "schedule.json: `bids` isn't there, and the case has bids.")
-        told = self.told(line, "schedule.json", '"renewable":{"W1":[10000,20000,15000,5000,5000,5000]}', '"renewable":[]')
+        told = self.told(
+            line, "schedule.json", '"renewable":{"W1":[10000,20000,15000,5000,5000,5000]}', '"renewable":[]'
+        )
         self.assertEqual(told, "schedule.json: `renewable` isn't an object by the names of units.")
         told = self.told_of_mixture("fault 10 mixture 42 kind case unit 0 entry 0 item 0", '"weight":10,', "")
         self.assertEqual(told, "mixture.json: `weight` isn't there.")
         line = "fault 4 schedule 42 kind renewable unit 1 item 0"
-        told = self.told(line, "schedule.json", "[10000,20000,15000,5000,5000,5000]", '{"power":[10000,20000,15000,5000,5000,5000]}')
+        told = self.told(
+            line, "schedule.json", "[10000,20000,15000,5000,5000,5000]", '{"power":[10000,20000,15000,5000,5000,5000]}'
+        )
         self.assertEqual(
             told,
             'schedule.json: renewable unit "W1" (number 1): a plain list with an item for each of the 6 periods is due, and no object. '
             "Found: power with 6 items.",
         )
         line = "fault 4 schedule 42 kind thermal unit 2 item 0"
-        self.assertIn(": `on` isn't there. Found: off with 6 items", self.told(line, "schedule.json", '"G2":{"on"', '"G2":{"off"'))
+        self.assertIn(
+            ": `on` isn't there. Found: off with 6 items", self.told(line, "schedule.json", '"G2":{"on"', '"G2":{"off"')
+        )
 
     def test_a_text_that_is_no_json(self):
         told = self.told("fault 3 case 10 at 0", "case.json", "{", "\ufeff{")
@@ -161,7 +195,9 @@ class Explain(unittest.TestCase):
     def test_megawatts_and_swapped_files(self):
         self.assertIn("megawatts?", self.told("fault 4 schedule 54 kind case unit 0 period 1 left 65 right 65000"))
         line = "fault 4 schedule 48 kind thermal unit 2 period 2 left 10000 right 10"
-        self.assertIn("kilowatts: are these megawatts?", self.told(line, "schedule.json", '"power":[0,10000', '"power":[0,10'))
+        self.assertIn(
+            "kilowatts: are these megawatts?", self.told(line, "schedule.json", '"power":[0,10000', '"power":[0,10')
+        )
         line = "fault 4 schedule 43 kind thermal unit 1 item 3"
         self.assertIn("are these megawatts?", self.told(line, "schedule.json", "90000", "90.5"))
         self.assertNotIn("megawatts", self.told(line, "schedule.json", '"on":[1,1,1', '"on":[1,1,true'))
@@ -189,7 +225,10 @@ class Explain(unittest.TestCase):
             with open(f"{self.room}/report", "w", encoding="utf-8") as it:
                 it.write("\n".join([*report[: line - 1], report[line - 1] + "1", *report[line:]]))
             told = self.sentence(f"fault 8 report 61 at {line}", "--report", f"{self.room}/report")
-            self.assertEqual(told, f"report: line {line} is the first that isn't that of the right report. Found: '{report[line - 1]}1'.{more}")
+            self.assertEqual(
+                told,
+                f"report: line {line} is the first that isn't that of the right report. Found: '{report[line - 1]}1'.{more}",
+            )
 
     def test_an_option_that_is_missing(self):
         told = self.told("fault 1 words 7 3")

@@ -31,9 +31,7 @@ class MakeSchedule(unittest.TestCase):
         )
 
     def cost(self, case, schedule):
-        ran = subprocess.run(
-            [PROGRAM, "check", "--case", case, "--schedule", schedule], capture_output=True, text=True
-        )
+        ran = subprocess.run([PROGRAM, "check", "--case", case, "--schedule", schedule], capture_output=True, text=True)
         self.assertEqual(ran.returncode, 0, ran.stdout)
         return int(ran.stdout.split("\n")[2].split()[1])
 
@@ -123,10 +121,15 @@ class MakeSchedule(unittest.TestCase):
             self.write_csv(followed, {"thermal": schedule["thermal"], "renewable": {}, "bids": {}})
             status, _, said = self.make(case, "--follow", followed)
             self.assertEqual(status, 0, said)
-            self.assertLessEqual(self.cost(case, f"{self.room}/schedule.json"), self.cost(case, f"{EXAMPLES}/{example}/schedule.json"))
+            self.assertLessEqual(
+                self.cost(case, f"{self.room}/schedule.json"), self.cost(case, f"{EXAMPLES}/{example}/schedule.json")
+            )
             with open(f"{self.room}/schedule.json", encoding="utf-8") as it:
                 made = json.load(it)["thermal"]
-            self.assertEqual({name: it["power"] for name, it in made.items()}, {name: it["power"] for name, it in schedule["thermal"].items()})
+            self.assertEqual(
+                {name: it["power"] for name, it in made.items()},
+                {name: it["power"] for name, it in schedule["thermal"].items()},
+            )
 
     @staticmethod
     def write_csv(name, schedule):
@@ -143,8 +146,13 @@ class MakeSchedule(unittest.TestCase):
     @staticmethod
     def write_julia(name, schedule):
         on = {unit: it["on"] for unit, it in schedule["thermal"].items()}
-        power = {unit: [(x + 0.4 * now) / 1e3 for x, now in zip(it["power"], it["on"])] for unit, it in schedule["thermal"].items()}
-        power.update({unit: [x / 1e3 for x in row] for unit, row in {**schedule["renewable"], **schedule["bids"]}.items()})
+        power = {
+            unit: [(x + 0.4 * now) / 1e3 for x, now in zip(it["power"], it["on"])]
+            for unit, it in schedule["thermal"].items()
+        }
+        power.update(
+            {unit: [x / 1e3 for x in row] for unit, row in {**schedule["renewable"], **schedule["bids"]}.items()}
+        )
         with open(name, "w", encoding="utf-8") as it:
             json.dump({"Is on": on, "Production (MW)": power}, it)
 

@@ -22,11 +22,23 @@ SMALL = ("usual", "evening", "windows")
 
 class Numbers(unittest.TestCase):
     def test_readings_worked_by_hand(self):
-        value = parse(b"[65.0004999999999999999999999999, -0.0005, -0.0006, 1e-400, 2.0e0, 12345678901234567890123.0005]")
+        value = parse(
+            b"[65.0004999999999999999999999999, -0.0005, -0.0006, 1e-400, 2.0e0, 12345678901234567890123.0005]"
+        )
         self.assertEqual([kilowatts(it) for it in value], [65000, 0, -1, 0, 2000, 12345678901234567890123001])
 
     def test_texts_that_are_refused(self):
-        texts = [b"\xef\xbb\xbf1", b"[1,]", b"NaN", b'{"a":1,"a":2}', b'"\\ud800"', b'"\t"', b"01", b"1e401", b"[" * 33 + b"]" * 33]
+        texts = [
+            b"\xef\xbb\xbf1",
+            b"[1,]",
+            b"NaN",
+            b'{"a":1,"a":2}',
+            b'"\\ud800"',
+            b'"\t"',
+            b"01",
+            b"1e401",
+            b"[" * 33 + b"]" * 33,
+        ]
         for text in [*texts, b"1" * 31, b"\xff", b"", b"1 2", b"Infinity", b"-", b"[" * 100_000, b"9" * 5000]:
             with self.assertRaises(Refused, msg=text[:40]):
                 parse(text)
@@ -34,14 +46,20 @@ class Numbers(unittest.TestCase):
 
     def test_numbers_are_told_exactly(self):
         self.assertEqual([decimal_text(it, 3) for it in (98000, -5, 0, 1500)], ["98", "-0.005", "0", "1.5"])
-        self.assertEqual([money(it) for it in (850_000_000, -66_000_000, 4_999, -4_999)], ["850.00", "-66.00", "0.00", "0.00"])
+        self.assertEqual(
+            [money(it) for it in (850_000_000, -66_000_000, 4_999, -4_999)], ["850.00", "-66.00", "0.00", "0.00"]
+        )
 
 
 class Parts(unittest.TestCase):
     def test_the_parts_of_a_payment_are_those_of_the_page(self):
         """The table of docs/REPORT.md, 'How a payment is parted'."""
         with open(f"{ROOT}/docs/REPORT.md", encoding="utf-8") as page:
-            rows = [[int(it.replace(",", "")) for it in row.split("|")[1:6]] for row in page if re.fullmatch(r"(\| -?[\d,]+ ){5}\|\n", row)]
+            rows = [
+                [int(it.replace(",", "")) for it in row.split("|")[1:6]]
+                for row in page
+                if re.fullmatch(r"(\| -?[\d,]+ ){5}\|\n", row)
+            ]
         self.assertEqual(len(rows), 5)
         for earned, scheduled, payment, *parts in rows:
             owed = Owed("thermal", "G1", earned, scheduled, payment)
@@ -62,7 +80,9 @@ class Bounds(unittest.TestCase):
 
     def bound(self, weight, entries, costs, radius):
         case = hulltools.read_case(f"{EXAMPLES}/usual/case.json")
-        mixture = Mixture(weight, {"G1": [Entry(it, Plan([int(power > 0)], [power], [reserve])) for it, power, reserve in entries]})
+        mixture = Mixture(
+            weight, {"G1": [Entry(it, Plan([int(power > 0)], [power], [reserve])) for it, power, reserve in entries]}
+        )
         return mixture.bound(case, costs, hulltools.per_mwh([98]), radius)
 
     def test_bounds_worked_by_hand(self):
@@ -90,7 +110,9 @@ class Readers(unittest.TestCase):
             cost = sum(known.of_plan(it, schedule.plan("thermal", it.name)) for it in case.thermal)
             bought = [(it, schedule.plan("bid", it.name).power) for it in case.bids]
             cost -= sum(worth(it.blocks[t], power[t]) for it, power in bought for t in range(case.periods))
-            self.assertEqual(cost, hulltools.check(f"{EXAMPLES}/{example}/case.json", f"{EXAMPLES}/{example}/schedule.json", PROGRAM))
+            self.assertEqual(
+                cost, hulltools.check(f"{EXAMPLES}/{example}/case.json", f"{EXAMPLES}/{example}/schedule.json", PROGRAM)
+            )
 
     def test_what_hull_refuses_of_a_case_is_refused(self):
         """Each change of docs/FAULTS.md to a case of examples/."""
@@ -104,7 +126,7 @@ class Readers(unittest.TestCase):
                     text = it.read()
                 with open(f"{room}/case.json", "w", encoding="utf-8") as it:
                     it.write(text.replace(old, new))
-                with self.assertRaises(hulltools.Wrong, msg=new) as found:
+                with self.assertRaises(hulltools.HullError, msg=new) as found:
                     hulltools.read_case(f"{room}/case.json")
                 self.assertNotIn("\n", str(found.exception))
 
@@ -135,7 +157,11 @@ class Replaced(unittest.TestCase):
 
     def test_prices_and_mixture_are_two_files(self):
         for other in ("new", "./new", f"../{os.path.basename(self.room)}/new"):
-            self.assertTrue(self.refused(f"{self.room}/new", f"{self.room}/{other}").endswith("new: prices and mixture need a file each\n"))
+            self.assertTrue(
+                self.refused(f"{self.room}/new", f"{self.room}/{other}").endswith(
+                    "new: prices and mixture need a file each\n"
+                )
+            )
 
 
 def files(example):
@@ -209,7 +235,10 @@ class WithSciPy(unittest.TestCase):
         if not python:
             self.skipTest("no Python here has SciPy with milp")
         ran = subprocess.run(
-            [python, "-B", "-m", "unittest", "-v", "with_scipy"], cwd=os.path.dirname(__file__), capture_output=True, text=True
+            [python, "-B", "-m", "unittest", "-v", "with_scipy"],
+            cwd=os.path.dirname(__file__),
+            capture_output=True,
+            text=True,
         )
         self.assertEqual(ran.returncode, 0, ran.stderr[-3000:])
         passed_over = re.findall(r"^(\w+) .*skipped (['\"])(.*)\2$", ran.stderr, re.M)

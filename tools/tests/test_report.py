@@ -193,9 +193,24 @@ class Report(unittest.TestCase):
         self.assertEqual(self.table("units.csv")[2][3], name)
 
     def test_what_audit_calls_out_of_form_is_refused_in_one_line(self):
-        changes = [("energy 98000", "energy 098000"), ("reserve 0", "reserve -0"), ("end\n", "end"), ("end\n", "end\nmore\n")]
-        changes += [("\n", "\r\n"), ('"G1"', '"\\x"'), ('"G1"', '"\\ud800"'), ("periods 1", "periods 0"), ("units 2", "units 3")]
-        changes += [("gap 1", f"gap 1{'0' * 5000}"), ("earned 0", f"earned 1{'0' * 30}"), ("energy 98000", "energy 10000001")]
+        changes = [
+            ("energy 98000", "energy 098000"),
+            ("reserve 0", "reserve -0"),
+            ("end\n", "end"),
+            ("end\n", "end\nmore\n"),
+        ]
+        changes += [
+            ("\n", "\r\n"),
+            ('"G1"', '"\\x"'),
+            ('"G1"', '"\\ud800"'),
+            ("periods 1", "periods 0"),
+            ("units 2", "units 3"),
+        ]
+        changes += [
+            ("gap 1", f"gap 1{'0' * 5000}"),
+            ("earned 0", f"earned 1{'0' * 30}"),
+            ("energy 98000", "energy 10000001"),
+        ]
         for old, new in changes:
             status, _, said = self.report("csv", self.write(SETTLED.replace(old, new)), "tables")
             self.assertEqual((status, said.count("\n")), (1, 1), (new, said))
@@ -232,9 +247,7 @@ class Report(unittest.TestCase):
 
     def test_page_needs_nothing_else_and_has_every_unit(self):
         for example, units in (("day", 154), ("windows", 19), ("first", 1)):
-            self.assertEqual(
-                self.report("page", f"{EXAMPLES}/{example}/price.output", "page.html"), (0, "", "")
-            )
+            self.assertEqual(self.report("page", f"{EXAMPLES}/{example}/price.output", "page.html"), (0, "", ""))
             page = self.read("page.html")
             self.assertEqual(page.count("<tr data-unit="), units)
             self.assertEqual(page.count("<svg") - page.count("`<svg"), 2)
@@ -256,9 +269,7 @@ class Report(unittest.TestCase):
         self.assertEqual((status, said.count("\n")), (1, 1))
 
     def test_without_matplotlib_it_says_so(self):
-        status, _, said = self.report(
-            "plot", f"{EXAMPLES}/first/price.output", "picture.png", flags=("-S", "-E")
-        )
+        status, _, said = self.report("plot", f"{EXAMPLES}/first/price.output", "picture.png", flags=("-S", "-E"))
         self.assertEqual(
             (status, said),
             (1, "report.py: plot needs matplotlib (Debian: python3-matplotlib); page draws without it\n"),
@@ -287,7 +298,10 @@ class Report(unittest.TestCase):
             f"report.py: {EXAMPLES}/two_units/bound.output: this is a text of `hull bound`, where a report of `hull price` or a text of "
             "`hull settle` is due\n",
         )
-        self.assertIn("this is a text of `hull check`, where ", self.report("csv", f"{EXAMPLES}/evening/check.output", "tables")[2])
+        self.assertIn(
+            "this is a text of `hull check`, where ",
+            self.report("csv", f"{EXAMPLES}/evening/check.output", "tables")[2],
+        )
         self.assertEqual(self.report("draw", "a", "b")[0], 2)
         os.makedirs(f"{self.room}/folder")
         self.assertEqual(

@@ -35,7 +35,7 @@ def program_has(command):
 
 def run_here(tool, words, text):
     """Runs a tool's main as it is, without a Python of its own; an interrupt is the tests' again behind it."""
-    main = importlib.import_module(f"hulltools.mains.{tool.removesuffix('.py')}").main
+    main = importlib.import_module(f"hulltools.commands.{tool.removesuffix('.py')}").main
     output, said, handler = io.TextIOWrapper(io.BytesIO(), "utf-8"), io.StringIO(), signal.getsignal(signal.SIGINT)
     stdin, sys.stdin = sys.stdin, io.TextIOWrapper(io.BytesIO(text.encode()), "utf-8")
     try:

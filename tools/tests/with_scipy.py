@@ -114,11 +114,21 @@ class Settled(unittest.TestCase):
             bound = mixture.bound(case, rows, found.prices)
             self.assertLessEqual(bound - found.best.value, 1_000_000)
             for _ in range(5):
-                near = [[it + draw.randint(-3000, 3000) for it in row] for row in (found.best.energy, found.best.reserve)]
+                near = [
+                    [it + draw.randint(-3000, 3000) for it in row] for row in (found.best.energy, found.best.reserve)
+                ]
                 self.assertLessEqual(self.settle(example, prices_near(*near)).best.value, bound)
 
     def test_an_interrupt_ends_with_the_best_so_far(self):
-        words = [*files("windows"), f"{self.room}/prices.json", f"{self.room}/mixture.json", "--within", "0", "--hull", PROGRAM]
+        words = [
+            *files("windows"),
+            f"{self.room}/prices.json",
+            f"{self.room}/mixture.json",
+            "--within",
+            "0",
+            "--hull",
+            PROGRAM,
+        ]
         ran = subprocess.Popen(
             [sys.executable, "-B", f"{ROOT}/tools/convex_prices.py", *words], stderr=subprocess.PIPE, text=True
         )
@@ -162,7 +172,9 @@ class Settled(unittest.TestCase):
             it.write("#!/bin/sh\nprintf 'fault 1 words 2 1\\n'\nexit 1\n")
         os.chmod(older, 0o755)
         status, _, said = run("study.py", files("usual")[0], f"{self.room}/study", "--hull", older)
-        self.assertEqual((status, said), (1, f"study.py: {older} has no command `certify`: a newer program is needed\n"))
+        self.assertEqual(
+            (status, said), (1, f"study.py: {older} has no command `certify`: a newer program is needed\n")
+        )
 
     def test_the_certificate_is_what_a_plain_reckoning_finds(self):
         from hulltools.cases import read_case

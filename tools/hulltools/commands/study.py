@@ -19,7 +19,7 @@ from ..cases import read_case
 from ..linear import need_scipy
 from ..program import Hull
 from ..schedules import read_schedule
-from ..trouble import run_tool, write_whole
+from ..errors import run_tool, write_whole
 from .convex_prices import search, told
 from .make_schedule import make
 from .words import asker, positive

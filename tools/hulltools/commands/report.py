@@ -26,7 +26,7 @@ from ..pages import page_of
 from ..pictures import picture_of
 from ..schedules import read_schedule
 from ..tables import tables_of, told_apart_count
-from ..trouble import Wrong, refuse_inputs, run_tool, write_whole
+from ..errors import HullError, refuse_inputs, run_tool, write_whole
 from .words import asker
 
 PRICED = ("hull-report 1", "hull-settlement 1")
@@ -58,9 +58,9 @@ def case_and_schedule(given, texts):
         if hasattr(it, "best") and [(unit.kind, unit.name) for unit in it.units] != [
             (kind, unit.name) for kind, unit in case.units
         ]:
-            raise Wrong(f"{it.name} is not of the case {given.case}: its units are others")
+            raise HullError(f"{it.name} is not of the case {given.case}: its units are others")
         if getattr(it, "periods", case.periods) != case.periods:
-            raise Wrong(f"{it.name} is not of the case {given.case}: it has {it.periods} periods")
+            raise HullError(f"{it.name} is not of the case {given.case}: it has {it.periods} periods")
     return case, read_schedule(given.schedule, case)
 
 

@@ -19,12 +19,12 @@ Three steps: which units are on (a mixed integer program), what each gives (the 
 kilowatts next to that which balance exactly and cost least (a small integer program).
 """
 from ..cases import read_case
-from ..following import read_followed
+from ..external_schedules import read_followed
 from ..linear import need_scipy
 from ..numbers import money
 from ..program import Hull, as_file
 from ..scheduling import farthest, follow, make_schedule
-from ..trouble import Wrong, refuse_inputs, run_tool, write_whole
+from ..errors import HullError, refuse_inputs, run_tool, write_whole
 from .words import asker, positive
 
 
@@ -43,7 +43,7 @@ def checked_case(hull, name):
     """The case of a file that `hull` accepts."""
     why = hull.refusal_of_case(name)
     if why:
-        raise Wrong(f"hull refuses the case: {why} (docs/FAULTS.md)")
+        raise HullError(f"hull refuses the case: {why} (docs/FAULTS.md)")
     return read_case(name)
 
 
@@ -58,7 +58,10 @@ def made(given, case, tell):
     tell(f"{sizes}: searching for at most {given.seconds:g} s")
     found = make_schedule(case, given.gap, given.seconds, tell)
     reached = "within" if found.gap <= given.gap else "the time was over, and it is within"
-    return found.schedule, f"{reached} {found.gap * 100:.4f} % of the solver's bound of straight costs, {found.bound:,.2f}"
+    return (
+        found.schedule,
+        f"{reached} {found.gap * 100:.4f} % of the solver's bound of straight costs, {found.bound:,.2f}",
+    )
 
 
 def make(given, tell):
@@ -69,8 +72,8 @@ def make(given, tell):
     try:
         with as_file(schedule) as name:
             cost = hull.check(given.case, name)
-    except Wrong as why:
-        raise Wrong(f"nothing is written, since what was found is refused: {why}") from None
+    except HullError as why:
+        raise HullError(f"nothing is written, since what was found is refused: {why}") from None
     write_whole(given.schedule, schedule.text(), [given.case])
     return cost, reached
 

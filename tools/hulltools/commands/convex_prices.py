@@ -21,7 +21,7 @@ from ..linear import need_scipy
 from ..numbers import money
 from ..prices import read_prices
 from ..program import MOST_WORK, Hull
-from ..trouble import Wrong, refuse_inputs, run_tool, write_whole
+from ..errors import HullError, refuse_inputs, run_tool, write_whole
 from .words import asker, positive
 
 
@@ -73,7 +73,7 @@ def body(words, tell):
     for it in (given.prices, given.mixture):
         refuse_inputs(it, inputs)
     if os.path.realpath(given.prices) == os.path.realpath(given.mixture):
-        raise Wrong(f"{given.mixture}: prices and mixture need a file each")
+        raise HullError(f"{given.mixture}: prices and mixture need a file each")
     need_scipy()
     from ..convex import Limits
 

@@ -13,7 +13,7 @@ from ..linear import need_scipy
 from ..program import Hull
 from ..relaxation import held_prices
 from ..schedules import read_schedule
-from ..trouble import refuse_inputs, run_tool
+from ..errors import refuse_inputs, run_tool
 from .words import asker
 
 

@@ -4,9 +4,13 @@ import io
 from dataclasses import dataclass, field
 
 from .json_texts import Refused, is_number, parse
-from .trouble import Wrong, one_line, read_bytes
+from .errors import HullError, one_line, read_bytes
 
-JULIA = {"on": ("Is on",), "power": ("Production (MW)", "Thermal production (MW)", "Profiled production (MW)"), "reserve": ("Reserve (MW)",)}
+JULIA = {
+    "on": ("Is on",),
+    "power": ("Production (MW)", "Thermal production (MW)", "Profiled production (MW)"),
+    "reserve": ("Reserve (MW)",),
+}
 EGRET = {"on": ("commitment",), "power": ("pg", "p"), "reserve": ("rg", "headroom")}
 PLAIN = {"on": ("on",), "power": ("power",), "reserve": ("reserve",)}
 
@@ -25,7 +29,7 @@ def number(value, name, where):
         return float(value)
     if is_number(value):
         return float(value)
-    raise Wrong(f"{name}: {one_line(where)}: a number is due")
+    raise HullError(f"{name}: {one_line(where)}: a number is due")
 
 
 def numbers(value, periods, name, where):
@@ -35,7 +39,7 @@ def numbers(value, periods, name, where):
     if isinstance(value, dict):
         value = list(value.values())
     if not isinstance(value, list) or len(value) != periods:
-        raise Wrong(f"{name}: {one_line(where)}: a list of {periods} numbers is due")
+        raise HullError(f"{name}: {one_line(where)}: a list of {periods} numbers is due")
     return [number(it, name, where) for it in value]
 
 
@@ -46,7 +50,7 @@ def units_of(value):
     if any(isinstance(value.get(key), dict) for keys in JULIA.values() for key in keys):
         turned = {}
         for key, by_name in value.items():
-            for unit, row in (by_name.items() if isinstance(by_name, dict) else ()):
+            for unit, row in by_name.items() if isinstance(by_name, dict) else ():
                 turned.setdefault(unit, {})[key] = row
         return turned, JULIA
     found = {}
@@ -60,9 +64,9 @@ def followed_json(data, name, periods):
     try:
         value = parse(data)
     except Refused as why:
-        raise Wrong(f"{name}: no JSON text: {why}") from None
+        raise HullError(f"{name}: no JSON text: {why}") from None
     if not isinstance(value, dict):
-        raise Wrong(f"{name}: an object is due")
+        raise HullError(f"{name}: an object is due")
     units, keys = units_of(value)
     found = Followed()
     for unit, row in units.items():
@@ -77,7 +81,9 @@ def followed_csv(data, name, periods):
     """Rows of unit, period from 1, on, power and reserve; the first row names the columns, in any order."""
     rows = csv.DictReader(io.StringIO(data.decode("utf-8-sig")))
     if not {"unit", "period", "power"} <= set(rows.fieldnames or ()):
-        raise Wrong(f"{name}: the first line has to name the columns unit, period, on, power, reserve, with commas between them")
+        raise HullError(
+            f"{name}: the first line has to name the columns unit, period, on, power, reserve, with commas between them"
+        )
     found = Followed()
     for line, row in enumerate(rows, 2):
         try:
@@ -86,9 +92,9 @@ def followed_csv(data, name, periods):
                 if row.get(what) not in (None, ""):
                     getattr(found, what).setdefault(row["unit"], [0.0] * periods)[period - 1] = float(row[what])
         except (ValueError, IndexError, TypeError):
-            raise Wrong(f"{name}, line {line}: no row of unit, period from 1 to {periods}, and numbers") from None
+            raise HullError(f"{name}, line {line}: no row of unit, period from 1 to {periods}, and numbers") from None
         if not 1 <= period <= periods:
-            raise Wrong(f"{name}, line {line}: period {period} isn't one of 1 to {periods}")
+            raise HullError(f"{name}, line {line}: period {period} isn't one of 1 to {periods}")
     return found
 
 
@@ -99,10 +105,10 @@ def read_followed(name, case):
         is_json = data.decode("utf-8-sig").lstrip().startswith("{")
         found = (followed_json if is_json else followed_csv)(data, name, case.periods)
     except UnicodeDecodeError:
-        raise Wrong(f"{name}: it isn't UTF-8") from None
+        raise HullError(f"{name}: it isn't UTF-8") from None
     for it in case.thermal:
         if it.name not in found.on and it.name in found.power:
             found.on[it.name] = [float(power > 1e-6) for power in found.power[it.name]]
         if it.name not in found.on:
-            raise Wrong(f'{name}: it has no on flags of thermal unit "{one_line(it.name)}"')
+            raise HullError(f'{name}: it has no on flags of thermal unit "{one_line(it.name)}"')
     return found

@@ -9,7 +9,7 @@ says that it couldn't be read.
 import sys
 
 from ..faults import Files, sentence
-from ..trouble import Wrong, one_line, read_bytes, run_tool
+from ..errors import HullError, one_line, read_bytes, run_tool
 from .words import asker
 
 
@@ -23,9 +23,11 @@ def body(words, tell):
     lines = read_bytes("-", "a fault line").decode("utf-8", "replace").split("\n")
     line = next((it.strip("\r") for it in lines if it.startswith("fault ")), None)
     if line is None and not lines[0].startswith("hull-"):
-        raise Wrong("standard input has no fault line")
+        raise HullError("standard input has no fault line")
     files = Files({key: it for key, it in given.items() if it})
-    text = sentence(line, files) if line else f"The run wasn't refused: its text begins with {one_line(lines[0][:40])!r}."
+    text = (
+        sentence(line, files) if line else f"The run wasn't refused: its text begins with {one_line(lines[0][:40])!r}."
+    )
     sys.stdout.buffer.write(f"{text}\n".encode("utf-8", "replace"))
     sys.stdout.buffer.flush()
 

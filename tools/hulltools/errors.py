@@ -6,7 +6,7 @@ import sys
 import tempfile
 
 
-class Wrong(Exception):
+class HullError(Exception):
     """What is to be told to the user, in one line."""
 
 
@@ -37,7 +37,7 @@ def run_tool(tool, body, words):
     tell = teller(tool)
     try:
         return body(words, tell) or 0
-    except Wrong as why:
+    except HullError as why:
         tell(why)
     except BrokenPipeError:
         tell("nobody reads the output")
@@ -55,17 +55,17 @@ def read_bytes(name, what, most=67_108_864):
     try:
         if name == "-":
             if sys.stdin is None:
-                raise Wrong("standard input is closed")
+                raise HullError("standard input is closed")
             data = bytes_of(sys.stdin.buffer, most)
         else:
             with open(name, "rb") as it:
                 data = bytes_of(it, most)
     except OSError as error:
-        raise Wrong(f"{shown_name(name)}: {error.strerror}") from None
+        raise HullError(f"{shown_name(name)}: {error.strerror}") from None
     except ValueError:
-        raise Wrong(f"{shown_name(name)}: this can't be the name of a file") from None
+        raise HullError(f"{shown_name(name)}: this can't be the name of a file") from None
     if len(data) > most:
-        raise Wrong(f"{shown_name(name)}: {what} has at most {most:,} bytes")
+        raise HullError(f"{shown_name(name)}: {what} has at most {most:,} bytes")
     return data
 
 
@@ -90,7 +90,7 @@ def refuse_inputs(to, inputs):
     for it in inputs:
         try:
             if it != "-" and os.path.samefile(to, it):
-                raise Wrong(f"{to}: this is a file to read, and it would be replaced")
+                raise HullError(f"{to}: this is a file to read, and it would be replaced")
         except (OSError, ValueError):
             pass
 
@@ -101,7 +101,7 @@ def write_whole(name, content, inputs=()):
     data = content.encode("utf-8") if isinstance(content, str) else content
     name = os.path.realpath(name)
     if os.path.isdir(name):
-        raise Wrong(f"{name}: Is a directory")
+        raise HullError(f"{name}: Is a directory")
     if os.path.exists(name) and not stat.S_ISREG(os.stat(name).st_mode):
         with open(name, "wb") as it:  # (a device or a pipe: there is nothing to replace)
             it.write(data)
@@ -110,7 +110,7 @@ def write_whole(name, content, inputs=()):
     try:
         handle, part = tempfile.mkstemp(dir=folder, prefix=".part-")
     except OSError as error:
-        raise Wrong(f"{folder}: {error.strerror}") from None
+        raise HullError(f"{folder}: {error.strerror}") from None
     try:
         with os.fdopen(handle, "wb") as it:
             it.write(data)
@@ -119,7 +119,7 @@ def write_whole(name, content, inputs=()):
         os.chmod(part, mode_of(name))
         os.replace(part, name)
     except OSError as error:
-        raise Wrong(f"{name}: {error.strerror}") from None
+        raise HullError(f"{name}: {error.strerror}") from None
     finally:
         if os.path.exists(part):
             os.unlink(part)
