@@ -18,6 +18,12 @@ class Docs(unittest.TestCase):
         with open(name, encoding="utf-8") as it:
             return it.read()
 
+    def text_of(self, crate: str) -> str:
+        """The sources, definitions and proofs of a crate."""
+        parts = ("src/**/*.rt", "specs/**/*.antt", "proofs/**/*.antt")
+        names = [it for part in parts for it in glob.glob(f"{ROOT}/crates/{crate}/{part}", recursive=True)]
+        return "".join(map(self.read, names))
+
     def test_named_files_are_there(self):
         for page in PAGES:
             for name in NAMED.findall(self.read(page)):
@@ -59,11 +65,7 @@ class Docs(unittest.TestCase):
     def test_crates_name_what_they_stand_on(self):
         for group in calls.groups().values():
             for crate, on in group.items():
-                text = "".join(
-                    self.read(name)
-                    for part in ("src/**/*.rt", "specs/**/*.antt", "proofs/**/*.antt")
-                    for name in glob.glob(f"{ROOT}/crates/{crate}/{part}", recursive=True)
-                )
+                text = self.text_of(crate)
                 self.assertEqual([it for it in on if not re.search(rf"\b{it}\b", text)], [], crate)
 
     def test_architecture_says_which_wing_each_crate_is_in(self):
@@ -75,6 +77,25 @@ class Docs(unittest.TestCase):
             if row:
                 told.update({crate: row.group(2) for crate in re.findall(r"\w+", row.group(1))})
         self.assertEqual(told, due)
+
+    def test_architecture_has_a_row_of_two_sentences_for_each_crate(self) -> None:
+        rows = re.findall(
+            r"^\| (`\w+`(?:, `\w+`)*) \| \w+ \| (.+) \|$", self.read(f"{ROOT}/docs/ARCHITECTURE.md"), re.M
+        )
+        self.assertGreater(len(rows), 40)
+        long = [crates for crates, text in rows if ";" in text or len(re.findall(r"[.!?](?: |$)", text)) > 1]
+        self.assertEqual(long, [], "a row has at most two sentences, the second without a full stop")
+
+    def test_architecture_says_which_crate_cites_lemmas_of_which(self) -> None:
+        order = [crate for group in calls.groups().values() for crate in group]
+        due = []
+        for crate in order:
+            text = self.text_of(crate)
+            cited = set(re.findall(r"\b(\w+)(?:\.|::)proofs\b", text)) & set(order) - {crate, "plain_lists"}
+            if cited:
+                due.append(f"| `{crate}` | {', '.join(f'`{it}`' for it in sorted(cited, key=order.index))} |")
+        table = self.read(f"{ROOT}/docs/ARCHITECTURE.md").partition("| Crate | Cites lemmas of |\n|---|---|\n")[2]
+        self.assertEqual(table.partition("\n\n")[0].split("\n"), due)
 
     def test_architecture_says_how_long_the_longest_chain_is(self):
         program = calls.groups()["program"]
