@@ -47,7 +47,7 @@ def read(name: str) -> str:
 
 def prose(text: str) -> list[str]:
     """The paragraphs and list items of a page, without tables, heads and code."""
-    text = re.sub(r"```.*?```", "", text, flags=re.S)
+    text = re.sub(r"```.*?```", "", text, flags=re.S).replace("**", "")
     paragraphs = []
     for block in re.split(r"\n\s*\n", text):
         lines = [line for line in block.split("\n") if not line.startswith(("|", "#", "    ", "!["))]
