@@ -11,14 +11,13 @@ MOST_WORDS_OF_A_SENTENCE = {"README.md": 30}
 MOST_WORDS_ELSEWHERE = 35
 
 GLOSSARY = "docs/WORDS.md"
-# Changes and the licence's notices have no prose to be read through.
 PAGES = sorted(
     {
         "README.md",
         "CONTRIBUTING.md",
         "bench/README.md",
-        "examples/README.md",
         *(os.path.relpath(page, ROOT) for page in glob.glob(f"{ROOT}/docs/*.md")),
+        *(os.path.relpath(page, ROOT) for page in glob.glob(f"{ROOT}/examples/**/README.md", recursive=True)),
     }
 )
 # Pages that don't name the glossary yet. A page may leave this list, and none may join it.
@@ -60,7 +59,7 @@ def prose(text: str) -> list[str]:
 
 
 def sentences(text: str) -> list[str]:
-    return [it for part in prose(text) for it in re.split(r"(?<=[.!?])\s+(?=[A-Z`*'\"(\[])", part)]
+    return [it for part in prose(text) for it in re.split(r"(?<=[.!?])\s+(?=[A-Z`'\"(\[]|\w+/)", part)]
 
 
 def long_sentences(text: str, most: int) -> list[tuple[int, str]]:
