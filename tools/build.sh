@@ -1,9 +1,14 @@
-# shellcheck shell=bash disable=SC2154 # $home, $out and $program are those of made_of.sh
-# Proves the crates that the program is made of, and compiles and links it. Read by hull, which calls build_once.
+# shellcheck shell=bash disable=SC2154 # $home, $out, $built, $lacks and $flaw are those of made_of.sh
+# Has the kit prove and build the program, by the gate's own command, and says how far it is. Read by hull, which calls build_once or prove_once.
+#
+# One build goes on at a time: it holds the lock of $out. It copies the program's crates, without must-fail edits, into a folder $room, has
+# `rt ci` work there, puts the program in its place as $built, and notes what it is made of. All that `rt ci` says stands in $log. What it has
+# proved it keeps beside the kit: for the next build, if this one is ended, and for the gate.
+#
+# Set while it goes on: $lock, the lock's descriptor; $room; $prover, the process that runs `rt ci`; $taken, what the sources were at the
+# start. $failed tells whoever waited for the lock how it ended, where it ended badly.
 
 log=$out/build.log
-logs=$out/logs
-libraries=$out/libraries
 failed=$out/failed
 
 # Says how far the build is. Where nobody can read it, the build goes on.
@@ -13,36 +18,34 @@ say() {
 
 need_tools() {
     local tool
-    for tool in find readlink awk sort xargs sha256sum flock setsid nproc; do
-        command -v "$tool" >/dev/null || fail "the program isn't built, and $tool, which the build needs, isn't on the path"
+    for tool in awk grep sed flock setsid nproc; do
+        command -v "$tool" >/dev/null || fail "$lacks, and $tool, which the build needs, isn't on the path"
     done
-    [[ $(find . --version 2>/dev/null) == *GNU* ]] || fail "the program isn't built, and the build needs GNU find"
-    command -v rt >/dev/null || fail "the program isn't built, and rt, with whose kit it is proved and built, isn't on the path"
-    kit=$(rt doc 2>/dev/null)
-    kit=${kit%/*}
-    { [[ $kit == /* ]] && [ -x "$kit/bin/rattle" ]; } || fail "the program isn't built, and rt is on the path, but the kit isn't there behind it"
+    command -v rt >/dev/null || fail "$lacks, and rt, with whose kit it is proved and built, isn't on the path"
+    [ -n "$(rt version 2>/dev/null)" ] || fail "$lacks, and rt is on the path, but the kit isn't there behind it"
 }
 
 # Refuses a user who may not see or run what there is: it was built for another alone, or lies on a disk on which no program may run.
 look_about() {
-    local it mode
-    for it in "$out" "$program" "$made_of"; do
-        [ ! -e "$it" ] || [ -r "$it" ] || fail "$it may not be read by this user, for whom whoever built the program hasn't opened it"
+    local file mode
+    for file in "$out" "$built" "$made_of"; do
+        [ ! -e "$file" ] || [ -r "$file" ] || fail "$file may not be read by this user, for whom whoever built the program hasn't opened it"
     done
-    mode=$(stat -c %a "$program" 2>/dev/null)
-    [ -x "$program" ] || [ "$((8#${mode:-0} & 8#111))" = 0 ] || fail "$program may not be run by this user, or on this disk"
+    mode=$(stat -c %a "$built" 2>/dev/null)
+    [ -x "$built" ] || [ "$((8#${mode:-0} & 8#111))" = 0 ] || fail "$built may not be run by this user, or on this disk"
 }
 
-# Ends with why there is no program, $1, or that the disk is full, where it is: a write fails now, or the log $2 says that one did.
+# Ends with why there is no program, $1, or that the disk is full, where it is: a write fails now, or the log says that one did.
 # Who waits for this build reads it too.
 end_badly() {
     local why=$1 error
-    error=$({ head -c 65536 /dev/zero >"$out/room"; } 2>&1)
-    rm -f "$out/room" 2>/dev/null
-    if [[ $error =~ 'No space left'|quota ]] || grep -qs 'No space left on device\|quota exceeded' "${2-}"; then
-        why="no program: the disk is full that $out is on"
+    error=$({ head -c 65536 /dev/zero >"$out/filled"; } 2>&1)
+    rm -f "$out/filled" 2>/dev/null
+    if [[ $error =~ 'No space left'|quota ]] || grep -qs 'No space left on device\|quota exceeded' "$log"; then
+        why="no program: the disk is full that $out or ${room:-the folder for temporary files} is on"
     fi
     { printf '%s\n' "$BASHPID $EPOCHREALTIME" "${taken##*$'\n'}" "$why" >"$failed.part" && mv -f "$failed.part" "$failed"; } 2>/dev/null
+    clear_room
     fail "$why"
 }
 
@@ -50,8 +53,7 @@ end_badly() {
 open_lock() {
     local file=$out/lock error digit mode=""
     umask "$(printf '%o' $((8#$(umask) | 8#022)))"
-    error=$({ mkdir -p "$logs" "$libraries" && (umask 077 && : >>"$file"); } 2>&1) ||
-        fail "cannot write $out, so the program cannot be built: ${error##*: }"
+    error=$({ mkdir -p "$out" && (umask 077 && : >>"$file"); } 2>&1) || fail "cannot write $out, so the program cannot be built: ${error##*: }"
     for digit in $(stat -c %a "$out" | grep -o '...$' | grep -o .); do
         mode=$mode$(((digit & 2) * 3))
     done
@@ -85,7 +87,8 @@ try_to_run() {
     rm -f "$file"
 }
 
-# As many processes as there are processors, each with 3 GB of memory to itself.
+# As many processes as there are processors, each with 3 GB of memory to itself. (A proof by several takes up to two and a half times the
+# processor time, so each has one.)
 most_processes() {
     local processors gigabytes limit
     processors=$(OMP_NUM_THREADS='' OMP_THREAD_LIMIT='' nproc)
@@ -98,77 +101,42 @@ most_processes() {
     [ "$processors" -ge 1 ] && echo "$processors" || echo 1
 }
 
-# How many lines of code each of the crates $1 has: a proof takes about as long, however much of it is written out.
-lines_of() {
-    local name
-    for name in $1; do
-        printf '%s:%s ' "$name" "$(find -L "$home/crates/$name/src" -name '*.rt' -exec cat {} + | wc -l)"
+# Makes $room, and takes away those that were left by a hull that was killed.
+make_room() {
+    local folder left
+    folder=${TMPDIR:-/tmp}
+    for left in "$folder"/hull-build-*-*; do
+        { [ -O "$left" ] && [[ $left =~ /hull-build-([0-9]+)-[^/]*$ ]] && [ ! -e "/proc/${BASH_REMATCH[1]}" ]; } && rm -rf -- "$left"
     done
+    room=$(mktemp -d "$folder/hull-build-$BASHPID-XXXXXX" 2>/dev/null) || end_badly "no program: cannot write $folder, where it is built"
 }
 
-# The crates of $1 that can be worked at, all those below them being in $2 and they themselves not in $3, each behind the lines of the
-# longest chain of crates that waits for it, by the lines $4 and some for the start of each: the longest first.
-ready_of() {
-    awk -v wanted="$1" -v done=" $2 " -v begun=" $3 " -v lines="$4" '
-        { sub("#.*", "") }
-        /^[a-z]/ { name = $1; sub(":.*", "", name); below = $0; sub("^[^:]*:", "", below); of[name] = below }
-        END {
-            n = split(lines, list, " ")
-            for (i = 1; i <= n; i++) { split(list[i], one, ":"); chain[one[1]] = one[2] + 100 }
-            n = split(wanted, names, " ")
-            for (i = n; i >= 1; i--) {
-                chain[names[i]] += above[names[i]]
-                m = split(of[names[i]], list, " ")
-                for (j = 1; j <= m; j++) if (above[list[j]] < chain[names[i]]) above[list[j]] = chain[names[i]]
-            }
-            for (i = 1; i <= n; i++) {
-                ready = !index(begun, " " names[i] " ")
-                m = split(of[names[i]], list, " ")
-                for (j = 1; j <= m; j++) if (list[j] in of && !index(done, " " list[j] " ")) ready = 0
-                if (ready) print chain[names[i]], names[i]
-            }
-        }' "$home/crates.txt" | sort -k1,1nr -s
-}
+clear_room() {
+    [ -z "${room-}" ] || rm -rf -- "$room"
+} 2>/dev/null
 
-# What the crate $1 stands on, of the repository and of the kit.
-below() {
-    sed -n "s/#.*//;s/^$1\( [^:]*\)\{0,1\}://p" "$home/crates.txt"
-}
-
-# Sets $words to what the prover is told of the crate $1: its root file, and where the libraries lie that it stands on.
-tell_of() {
-    local name from root=src/lib.rt
-    [ "$1" != hull_cli ] || root=src/main.rt
-    words=(--crate-name "$1" "$root" --links "$1=" --antt-project "$kit/rattle/logic/antt-project.json" --logic-built "$kit/logic_built")
-    words+=(-L "dependency=$kit/rlibs" -L "dependency=$libraries")
-    for name in std $(below "$1"); do
-        from=$kit/rlibs
-        [ ! -d "$home/crates/$name" ] || from=$libraries
-        words+=(--extern "$name=$from/$name.rlib")
+# Copies what `rt ci` wants of the $crates into $room: all but must-fail edits and what was made. ($room is the top of a repository then.)
+copy_crates() {
+    local crate part
+    mkdir "$room/.git" "$room/crates" && printf '%s' "$rows" >"$room/crates.txt" || return
+    [ ! -e "$home/HANDLES" ] || cp -- "$home/HANDLES" "$room/" || return
+    for crate in "${crates[@]}"; do
+        mkdir "$room/crates/$crate" || return
+        for part in "$home/crates/$crate"/*; do
+            case ${part##*/} in
+                out | must-fail) ;;
+                *) cp -RL -- "$part" "$room/crates/$crate/" || return ;;
+            esac
+        done
     done
-}
-
-# What the library of the crate $1 is made of: the kit, how it is called, the crate's files, and the libraries that it stands on.
-library_of() {
-    local parts=() name
-    add_parts_of "$1"
-    rt version
-    declare -f tell_of prove_crate | sha256sum
-    below "$1"
-    contents_of "${parts[@]}"
-    for name in $(below "$1"); do
-        [ ! -d "$home/crates/$name" ] || { echo "$name" && sha256sum <"$libraries/$name.proved"; }
-    done
-}
+} 2>>"$log"
 
 # Ends what run_apart has started in this shell.
 end_apart() {
-    local signal leader
+    local signal
     for signal in TERM KILL; do
-        for leader in $(jobs -p); do
-            kill -"$signal" "$leader"
-            kill -"$signal" -- "-$leader"
-        done
+        kill -"$signal" "$leader"
+        kill -"$signal" -- "-$leader"
         sleep 0.1
     done
     exit 143
@@ -176,158 +144,98 @@ end_apart() {
 
 # Runs the words $@ in a session of their own, so that all that they start can be ended with them, as it is when this shell is told to end.
 run_apart() {
-    local status
+    local status leader
     trap end_apart INT TERM HUP
     setsid -- "$@" &
-    wait "$!"
+    leader=$!
+    wait "$leader"
     status=$?
     trap - INT TERM HUP
     return "$status"
 }
 
-# Proves the crate $1 with $2 processes, as a library for those above, where it isn't proved; what is said goes into its log. What the
-# crates above read are the library's statements: they need its proofs no more than a reader does.
-prove_crate() {
-    local words parts=() library looked
-    add_parts_of "$1"
-    looked=$(looks_of "$home" "${parts[@]}")
-    library=$(library_of "$1") || return 1
-    if [ -e "$libraries/$1.rlib" ] && [ "$(cat "$libraries/$1.proved" 2>/dev/null)" = "$library" ]; then
-        return 0
-    fi
-    rm -f "$libraries/$1.proved"
-    tell_of "$1"
-    {
-        cd "$home/crates/$1" && run_apart "$kit/bin/rattle" build "${words[@]}" --jobs "$2" --statements -o "$libraries/$1.rlib"
-    } >"$logs/$1" 2>&1 {lock}>&- || return
-    # Where its files were changed meanwhile, the library is of no text that is known.
-    [ "$looked" = "$(looks_of "$home" "${parts[@]}")" ] || library="changed $EPOCHREALTIME"
-    echo "$library" >"$libraries/$1.part" && mv -f "$libraries/$1.part" "$libraries/$1.proved"
-} 2>>"$log"
-
-# Proves hull_cli with one process, since it has too few functions for more, compiles and links it. Given no words, the program says so
-# and ends.
-compile() {
-    local words made=$program.made
-    tell_of hull_cli
-    cd "$home/crates/hull_cli" &&
-        run_apart "$kit/bin/rattle" build "${words[@]}" --jobs 1 --backend llvm --toolchain "$kit/toolchain" -o "$made.o" &&
-        run_apart "$kit/bin/rattle-link" --target x86_64-unknown-linux-gnu --toolchain "$kit/toolchain" -o "$made" "$made.o" "$kit"/c/lib{os,libc}_c.a &&
-        [ "$("$made" </dev/null)" = "fault 1 words 1 0" ] && sync "$made" && mv -f "$made" "$program"
-} >>"$log" 2>&1 {lock}>&-
-
 # Ends all that was started, and with the status $1.
 stop_all() {
-    local jobs look
+    local look
     trap '' INT TERM HUP
-    # shellcheck disable=SC2207 # numbers; and a shell in `< <()` would know of no jobs
-    jobs=($(jobs -p))
-    kill -TERM "${jobs[@]}"
-    for ((look = 0; look < 100; look++)); do
-        [ -n "$(jobs -pr)" ] || break
-        sleep 0.05
-    done
-    kill -KILL "${jobs[@]}"
+    if [ -n "${prover-}" ]; then
+        kill -TERM "$prover"
+        for ((look = 0; look < 100; look++)); do
+            kill -0 "$prover" || break
+            sleep 0.05
+        done
+        kill -KILL "$prover"
+    fi
+    clear_room
     exit "$1"
 } 2>/dev/null
 
-# Starts what can be worked at: with one process each, since a proof by several takes up to two and a half times the processor time, and
-# with more only while too few crates can be worked at, that which the longest chain waits for.
-deal() {
-    local ready place crate share free
-    mapfile -t ready < <(ready_of "$wanted" "$proved" "$begun" "$lines")
-    for place in "${!ready[@]}"; do
-        free=$(($1 - busy))
-        [ "$free" -gt 0 ] || break
-        crate=${ready[place]#* }
-        share=$((free - (${#ready[@]} - place - 1)))
-        [ "$share" -ge 1 ] || share=1
-        prove_crate "$crate" "$share" &
-        crate_of[$!]=$crate share_of[$!]=$share
-        begun="$begun $crate" busy=$((busy + share))
+# Says of a line of `rt ci` what it tells of a crate, and counts it.
+report() {
+    [[ $1 =~ ^rt:\ ([a-z0-9_]+)\ (proved$|is kept:|NOT PROVED$) ]] || return 0
+    case ${BASH_REMATCH[2]} in
+        "NOT PROVED")
+            bad=${bad:-${BASH_REMATCH[1]}}
+            return
+            ;;
+        proved) ;;
+        *) kept=$((kept + 1)) ;;
+    esac
+    left=$((left - 1))
+    [ "${BASH_REMATCH[2]}" != proved ] || say "${BASH_REMATCH[1]} is proved, $left of ${#crates[@]} are left"
+}
+
+# Has `rt ci $@` prove the $crates in $room, and build the program.
+prove_crates() {
+    local line left=${#crates[@]} kept=0 bad="" said written
+    # The prover asks for the memory again that it gives back: some hundredths of its time.
+    local -x MIMALLOC_PURGE_DELAY=-1 RT_JOBS=${RT_JOBS:-$(most_processes)}
+    say "proving the $left crates of the program, $RT_JOBS at a time; this is done once"
+    exec {written}>>"$log"
+    exec {said}< <(cd "$room" && run_apart rt ci "$@" 2>&1 {written}>&-)
+    prover=$!
+    while IFS= read -r line <&"$said"; do
+        printf '%s\n' "$line" >&"$written"
+        report "$line"
     done
-}
-
-# Waits for one of the crates at work. One that ends badly, most likely killed for memory, is tried once more at the end.
-await_one() {
-    local ended="" status crate processes=("${!crate_of[@]}")
-    wait -n -p ended "${processes[@]}"
-    status=$?
-    # (where the shell can't say which one has ended, it waits for the first)
-    if [ -z "${ended-}" ]; then
-        ended=${processes[0]}
-        wait "$ended"
-        status=$?
+    exec {written}>&- {said}<&-
+    if ! wait "$prover"; then
+        [ -n "$bad" ] || end_badly "no program: its build failed; $log says why"
+        end_badly "no program: $bad isn't proved; $log says why"
     fi
-    crate=${crate_of[$ended]} busy=$((busy - share_of[$ended]))
-    unset "crate_of[$ended]"
-    if [ "$status" = 0 ]; then
-        proved="$proved $crate" left=$((left - 1))
-        news="$crate is proved, $left of $total are left"
-    else
-        again="${again:+$again }$crate"
-        news="$crate ended badly, and is tried once more at the end"
-    fi
+    prover=""
+    [ "$kept" = 0 ] || say "$kept of the ${#crates[@]} crates were proved before on this machine, and rt kept that"
 }
 
-# Tries once more, with nothing beside it, the first crate that ended badly; $bad is one that ends so again.
-try_again() {
-    local crate=${again%% *}
-    again=${again#"$crate"} again=${again# } bad=$crate
-    [ -n "$crate" ] || return 1
-    say "once more at $crate"
-    prove_crate "$crate" 1 &
-    wait "$!" || return 1
-    proved="$proved $crate" left=$((left - 1))
-    news="$crate is proved, $left of $total are left"
-}
+# Puts the program that `rt ci` has made in its place.
+take_program() {
+    local made=$built.made
+    cp -- "$room/crates/hull_cli/out/hull_cli" "$made" && runs "$made" && sync "$made" && mv -f "$made" "$built"
+} 2>>"$log"
 
-# Proves the crates below hull_cli, dealing them $1 processes.
-prove() {
-    local wanted lines total left proved="" begun="" again="" busy=0 news
-    local -A crate_of=() share_of=()
-    wanted=$(crates_of_program | grep -vx hull_cli | tr '\n' ' ')
-    lines=$(lines_of "$wanted")
-    total=$(wc -w <<<"$wanted") left=$total
-    news="proving the $total crates below hull_cli with $1 processes; this is done once"
-    while [ "$left" -gt 0 ]; do
-        deal "$1"
-        say "$news${crate_of[*]:+. At: ${crate_of[*]}}"
-        if [ "${#crate_of[@]}" = 0 ]; then
-            try_again || return 1
-        else
-            await_one
-        fi
-    done
-    say "$news"
-    return 0
-}
-
+# Proves and builds, with the words $@ for `rt ci`.
 build() {
-    local bad="" line taken
+    local line crates rows
     taken=$(what_is_there)
     line=$(kit_of_readme)
     [ -z "$line" ] || [ "$line" = "$(rt version)" ] ||
         say "README.md names the kit '$line', and rt is of '$(rt version)': proofs may fail with it"
     { : >"$log"; } 2>/dev/null || end_badly "cannot write $log, so the program cannot be built"
     try_to_run
-    # The prover asks for the memory again that it gives back: some hundredths of its time.
-    local -x MIMALLOC_PURGE_DELAY=-1
-    prove "$(most_processes)" || end_badly "no program: ${bad:-the prover} failed; $logs/$bad says why" "$logs/$bad"
-    say "proving hull_cli and compiling the program"
-    compile &
-    if ! wait "$!"; then
-        compile &
-        wait "$!" || end_badly "no program: its build failed; $log says why" "$log"
-    fi
+    make_room
+    read_crates
+    copy_crates || end_badly "no program: the crates can't be copied to $room; $log says why"
+    prove_crates "$@"
+    take_program || end_badly "no program: that which was built doesn't run; $log says why"
     note_what_it_is_made_of "$taken" || say "files changed while the program was built: it is built again at the next call"
+    clear_room
     say "the program is built"
 }
 
-# Builds the program, where no other hull has while this one waited. What the words name is found from where hull was called, and
-# no descriptor of the caller's is touched.
+# Builds the program, with the words $@ for `rt ci`, where no other hull has while this one waited, or in any case where $always is set. What
+# the words name is found from where hull was called, and no descriptor of the caller's is touched.
 build_in_turn() {
-    local kit lock
+    local lock taken="" room="" prover=""
     # (what a full disk is called is looked for)
     local -x LC_ALL=C
     trap '' PIPE
@@ -336,6 +244,7 @@ build_in_turn() {
     trap 'stop_all 129' HUP
     look_about
     need_tools
+    [ -z "$flaw" ] || say "$lacks: it isn't run, and another is built from the sources"
     open_lock
     take_lock
     # (the folder may be another one by now, as the gate moves it aside)
@@ -344,18 +253,29 @@ build_in_turn() {
         open_lock
         take_lock
     done
-    is_current || build
+    { [ -z "$always" ] && is_current; } || build "$@"
     exec {lock}>&-
     trap - PIPE INT TERM HUP
 }
 
-build_once() {
+# Builds where nothing can be read from standard input, nothing is written on standard output, and a closed standard error hurts nobody.
+build_quietly() {
     local mask
     mask=$(umask)
     if { : >&2; } 2>/dev/null; then
-        build_in_turn </dev/null >/dev/null
+        build_in_turn "$@" </dev/null >/dev/null
     else
-        build_in_turn </dev/null >/dev/null 2>&1
+        build_in_turn "$@" </dev/null >/dev/null 2>&1
     fi
     umask "$mask"
+}
+
+build_once() {
+    local always=""
+    build_quietly
+}
+
+prove_once() {
+    local always=yes flaw="" lacks="the program has to be built"
+    build_quietly "$@"
 }

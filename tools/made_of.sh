@@ -1,45 +1,99 @@
-# shellcheck shell=bash disable=SC2154 # $home is the reader's
-# What the program is made of, and whether the one that is there is made of what is there. Read by hull, tools/build.sh,
-# tools/release.sh and .ci/run, which set $home to the top of the repository.
+# shellcheck shell=bash disable=SC2034,SC2154 # $home is the reader's, and what is found is for it
+# What the program is made of, and which of two programs is made of what is there. Read by hull, tools/*.sh and .ci/run, which set $home to
+# the top of the repository. It takes bash and the coreutils, but for what the gate left without a note.
 #
-# Beside the program lies hull_cli.made_of. It says by which kit and of which contents the program was made (`kit`, `sources`, `program`),
-# and how the files looked then (`seen`, `placed`, `rt`): inode, size, and time of the last change of contents or name, which nobody can
-# set back. Where they look so still, nothing is read.
+# One program, $built, was built here. The other, $shipped, came with the repository. A text beside each says by which kit and of which
+# sources it was made, and what the program's sum is (`kit`, `sources`, `program`). Sources are the rows of crates.txt of the crates that
+# the program is made of, and what lies in their src, specs and proofs: the launcher's own files aren't among them.
+#
+# To read all that takes a tenth of a second. So it is noted too how the files looked: inode, size, and time of the last change of contents
+# or name, which nobody can set back (`seen`, `placed`, `rt`). Where they look so still, nothing is read.
 
 out=$home/crates/hull_cli/out
-program=$out/hull_cli
-made_of=$program.made_of
+built=$out/hull_cli
+made_of=$built.made_of
+shipped=$home/dist/linux-x86_64/hull
+ships=$shipped.txt
+looked=$out/shipped.looks
 
-# The crates that the program is made of, by crates.txt, those that stand on nothing else first.
-crates_of_program() {
-    awk '
-        { sub("#.*", "") }
-        /^[a-z]/ { name = $1; sub(":.*", "", name); below = $0; sub("^[^:]*:", "", below); of[name] = below }
-        function visit(name,   list, n, i) {
-            if (!(name in of) || name in seen) return
-            seen[name] = 1
-            n = split(of[name], list, " ")
-            for (i = 1; i <= n; i++) visit(list[i])
-            print name
-        }
-        END { visit("hull_cli") }' "$home/crates.txt"
+# Prints the sum of standard input.
+sum() {
+    local line
+    line=$(sha256sum) && echo "${line%% *}"
 }
 
-# Adds to $parts the folders of the crate $1 that a proof reads, as names from $home.
-add_parts_of() {
-    local part
-    for part in src specs proofs; do
-        [ ! -e "$home/crates/$1/$part" ] || parts+=("crates/$1/$part")
+# Prints the rest of the line of the file $1 that begins with $2.
+noted() {
+    local word rest
+    while read -r word rest; do
+        [ "$word" != "$2" ] || { echo "$rest"; return; }
+    done <"$1"
+} 2>/dev/null
+
+# Adds to $crates the crate $1 behind those that it stands on, and to $rows its row.
+visit() {
+    local row=${row_of[$1]-} below
+    [ -n "$row" ] || return 0
+    unset "row_of[$1]"
+    for below in ${row#*:}; do
+        visit "$below"
+    done
+    crates+=("$1") rows+=$row$'\n'
+}
+
+# Sets $crates to the crates that the program is made of, those that stand on nothing else first, and $rows to their rows of crates.txt.
+read_crates() {
+    local -A row_of=()
+    local line words
+    while read -r line || [ -n "$line" ]; do
+        # (one blank between two words)
+        read -ra words <<<"${line%%#*}"
+        [[ ${words[*]} != *:* ]] || row_of[${words[0]%%:*}]=${words[*]}
+    done <"$home/crates.txt"
+    crates=() rows=""
+    visit hull_cli
+} 2>/dev/null
+
+# Sets $names to the files and folders in which the sources of $crates lie, as names from $home. For a shell of its own, which reads patterns
+# so from then on.
+list_sources() {
+    local crate
+    unset GLOBIGNORE
+    LC_ALL=C
+    set +f
+    shopt -s globstar dotglob nullglob
+    shopt -u failglob nocaseglob
+    cd -- "$home/" || return
+    names=()
+    for crate in "${crates[@]}"; do
+        names+=("crates/$crate"/{src,specs,proofs}/**)
     done
 }
 
-# Sets $parts to the files and folders that the program is made of.
-set_parts() {
-    local name
-    parts=(crates.txt hull tools/build.sh tools/made_of.sh)
-    for name in $(crates_of_program); do
-        add_parts_of "$name"
+# A sum of how the files $@ look.
+looks_of() {
+    stat -L -c '%n %i %s %.9Z' -- "$@" 2>/dev/null | sum
+}
+
+# A sum of how the sources look. (With their folders: an editor may touch one, and then they are read.)
+looks_of_sources() (
+    read_crates && list_sources && looks_of crates.txt "${names[@]}"
+)
+
+# A sum of the names and contents of the sources.
+sum_of_sources() (
+    read_crates && list_sources || exit
+    files=()
+    for name in "${names[@]}"; do
+        [ ! -f "$name" ] || files+=("$name")
     done
+    { printf '%s' "$rows" && sha256sum -- "${files[@]}"; } 2>/dev/null </dev/null | sum
+)
+
+# How the kit's command and its line look, where `rt` is on the path.
+looks_of_kit() {
+    local rt
+    rt=$(readlink -f -- "$(command -v rt)") && [ -n "$rt" ] && looks_of "$rt" "${rt%/*/*}/KIT-ID"
 }
 
 # The kit's line that README.md names.
@@ -48,107 +102,130 @@ kit_of_readme() {
     sed -n 's/.*\(rattle-kit-[^`]*\)`.*/\1/p;T;q' "$home/README.md" 2>/dev/null
 }
 
-# A sum of how the files $2 .. and those below them look, with names from the folder $1. (An editor that opens a file may touch its folder.)
-looks_of() {
-    local sum
-    # shellcheck disable=SC2164 # a folder that isn't there has a sum of its own
-    sum=$(cd -- "$1/" 2>/dev/null && shift && find -L "$@" ! -type d -printf '%p %i %s %C@\n' 2>/dev/null | sha256sum)
-    echo "${sum%% *}"
-}
-
-# A sum of the names and contents of the files $@ and of those below them, as names from $home.
-contents_of() {
-    local sum
-    # shellcheck disable=SC2164
-    sum=$(cd -- "$home/" 2>/dev/null && find -L "$@" -type f -print0 2>/dev/null | LC_ALL=C sort -z | xargs -0 sha256sum 2>/dev/null | sha256sum)
-    echo "${sum%% *}"
-}
-
-# How the kit's command and its line look, where `rt` is on the path.
-looks_of_kit() {
-    local rt
-    rt=$(readlink -f -- "$(command -v rt)") && [ -n "$rt" ] && looks_of / "$rt" "${rt%/*/*}/KIT-ID"
+# The newest version that CHANGELOG.md has a heading for.
+version_of_changelog() {
+    sed -n 's/^## \([0-9][0-9.]*\).*/\1/p;T;q' "$home/CHANGELOG.md" 2>/dev/null
 }
 
 # What a program that is built now is made of, in the first lines of made_of. To be taken before it is built.
 what_is_there() {
-    local parts
-    set_parts
-    echo "seen $(looks_of "$home" "${parts[@]}")"
+    echo "seen $(looks_of_sources)"
     echo "kit $(rt version 2>/dev/null)"
-    echo "sources $(contents_of "${parts[@]}")"
+    echo "sources $(sum_of_sources)"
 }
 
 # Notes beside the program that it was made of $1, which what_is_there said before it was built. Where files have changed since, the
 # program may be made of what they were in between: then it is noted as one that is made of nothing.
 note_what_it_is_made_of() {
-    local text=$1 parts sum status=0
-    set_parts
-    if [ "seen $(looks_of "$home" "${parts[@]}")" != "${text%%$'\n'*}" ]; then
+    local text=$1 status=0
+    if [ "seen $(looks_of_sources)" != "${text%%$'\n'*}" ]; then
         text=${text%%$'\n'sources *}$'\n'"sources changed"
         status=1
     fi
-    sum=$(sha256sum <"$program") &&
-        printf '%s\n' "$text" "program ${sum%% *}" "placed $(looks_of "$out" hull_cli)" "rt $(looks_of_kit || noted rt)" >"$made_of.$$" &&
+    printf '%s\n' "$text" "program $(sum <"$built")" "placed $(looks_of "$built")" "rt $(looks_of_kit || noted "$made_of" rt)" >"$made_of.$$" &&
         mv -f "$made_of.$$" "$made_of" && return "$status"
     rm -f "$made_of.$$"
     return 2
 } 2>/dev/null
 
-# Prints the rest of the line of made_of that begins with $1.
-noted() {
-    local word rest
-    while read -r word rest; do
-        [ "$word" != "$1" ] || { echo "$rest"; return; }
-    done <"$made_of"
-} 2>/dev/null
-
 # Whether the program looks as it did when it was noted what it is made of, and so does all that it is made of, and the kit.
 looks_current() {
-    local parts rt
-    set_parts
-    [ "$(noted seen)" = "$(looks_of "$home" "${parts[@]}")" ] && [ "$(noted placed)" = "$(looks_of "$out" hull_cli)" ] || return 1
+    local rt
+    [ "$(noted "$made_of" seen)" = "$(looks_of_sources)" ] && [ "$(noted "$made_of" placed)" = "$(looks_of "$built")" ] || return 1
     rt=$(looks_of_kit) || return 0
-    [ "$(noted rt)" = "$rt" ]
+    [ "$(noted "$made_of" rt)" = "$rt" ]
 }
 
 # Whether the program is the one that was noted, of the same contents and by the same kit, however they look; notes how they look.
 holds_current() {
-    local text sum
+    local text kit
+    kit=$(noted "$made_of" kit)
     text=$(what_is_there)
-    [ "sources $(noted sources)" = "${text##*$'\n'}" ] || return 1
-    ! command -v rt >/dev/null || [[ $text == *$'\n'"kit $(noted kit)"$'\n'* ]] || return 1
-    sum=$(sha256sum <"$program") && [ "$(noted program)" = "${sum%% *}" ] || return 1
+    [ "sources $(noted "$made_of" sources)" = "${text##*$'\n'}" ] || return 1
+    ! command -v rt >/dev/null || [[ $text == *$'\n'"kit $kit"$'\n'* ]] || return 1
+    [ "$(noted "$made_of" program)" = "$(sum <"$built")" ] || return 1
     # (where rt isn't on the path, the kit that was noted stands)
-    note_what_it_is_made_of "${text%%$'\n'*}"$'\n'"kit $(noted kit)"$'\n'"${text##*$'\n'}" || :
+    note_what_it_is_made_of "${text%%$'\n'*}"$'\n'"kit $kit"$'\n'"${text##*$'\n'}" || :
 }
 
-# Whether the gate, called by itself, has left the program, made of what is there, and given no words it says so. The gate makes the folder of
-# each crate's results anew before it reads the crate: so what was changed while it ran is newer than that folder, and the program, which comes
-# last, is newer too. (A build that fails makes such folders as well.) Notes what it finds.
+# Whether the program $1 runs on this machine: given no words it says so.
+runs() {
+    [ "$("$1" </dev/null 2>/dev/null)" = "fault 1 words 1 0" ]
+}
+
+# Whether the gate, called by itself, has left the program, made of what is there. The gate makes the folder of each crate's results anew
+# before it reads the crate: so what was changed while it ran is newer than that folder, and the program, which comes last, is newer too. (A
+# build that fails makes such folders as well.) Notes what it finds.
 is_of_the_gate() {
-    local text name born parts
+    local text crates rows crate part parts born
     text=$(what_is_there)
-    for name in $(crates_of_program); do
-        parts=(crates.txt)
-        add_parts_of "$name"
+    read_crates
+    for crate in "${crates[@]}"; do
+        parts=("$home/crates.txt")
+        for part in "$home/crates/$crate"/{src,specs,proofs}; do
+            [ ! -e "$part" ] || parts+=("$part")
+        done
         # (0 where the disk doesn't keep it)
-        born=$(stat -c %.9W -- "$home/crates/$name/out" 2>/dev/null) && [ "${born%.*}" -gt 0 ] || return 1
-        # shellcheck disable=SC2164
-        [ -z "$(cd -- "$home/" && find -L "${parts[@]}" -newerct "@$born" -print -quit 2>&1)" ] || return 1
-        [ -n "$(find -L "$program" -newerct "@$born" -print 2>/dev/null)" ] || return 1
+        born=$(stat -c %.9W -- "$home/crates/$crate/out" 2>/dev/null) && [ "${born%.*}" -gt 0 ] || return 1
+        [ -z "$(find -L "${parts[@]}" -newerct "@$born" -print -quit 2>&1)" ] || return 1
+        [ -n "$(find -L "$built" -newerct "@$born" -print 2>/dev/null)" ] || return 1
     done
-    [ "$("$program" </dev/null 2>/dev/null)" = "fault 1 words 1 0" ] || return 1
+    runs "$built" || return 1
     # (without a kit on the path it isn't known which one it was)
     ! command -v rt >/dev/null || note_what_it_is_made_of "$text" || :
 }
 
-# Whether the program is there, whole, and made of what is there.
+# Whether the program that was built here is there, whole, and made of what is there.
 is_current() {
-    { [ -s "$program" ] && [ -x "$program" ]; } || return 1
+    { [ -s "$built" ] && [ -x "$built" ]; } || return 1
     if [ -e "$made_of" ]; then
         looks_current || holds_current
     else
         is_of_the_gate
     fi
+}
+
+# Writes $2 into the file $1 below $out, where the checkout is this user's own: what another may not write is done without.
+jot() (
+    umask "$(printf '%o' $((8#$(umask) | 8#022)))"
+    [ -O "$home/crates" ] && mkdir -p "$out" && printf '%s\n' "$2" >"$1.$BASHPID" && mv -f "$1.$BASHPID" "$1"
+) 2>/dev/null
+
+# Whether the program in dist and its text are whole, and the sources are those that it says. Where not, $lacks says why, and $flaw, where
+# it isn't that the sources have changed.
+holds_shipped() {
+    flaw=yes
+    if [ ! -e "$shipped" ] && [ ! -e "$ships" ]; then
+        flaw="" lacks="the program isn't built"
+    elif [ "$(head -n -1 -- "$ships" | sum)" != "$(noted "$ships" text)" ]; then
+        lacks="$ships was changed, or isn't whole"
+    elif [ "$(sum <"$shipped")" != "$(noted "$ships" program)" ]; then
+        lacks="$shipped isn't the program that was put there"
+    elif [ "$(sum_of_sources)" != "$(noted "$ships" sources)" ]; then
+        flaw="" lacks="the program in dist is of other sources than are there"
+    else
+        flaw="" lacks=""
+    fi
+    [ -z "$lacks" ]
+} 2>/dev/null
+
+# Whether the program in dist can be taken: it holds, and runs here. $lacks and $flaw as before.
+is_shipped() {
+    local looks
+    looks="$(looks_of_sources) $(looks_of "$shipped" "$ships")"
+    if [ "$looks" != "$(cat "$looked" 2>/dev/null)" ]; then
+        holds_shipped || return
+        jot "$looked" "$looks"
+    fi
+    runs "$shipped" && return
+    flaw=yes lacks="$shipped doesn't run here: it needs $(noted "$ships" needs), and a disk on which programs may run"
+    return 1
+}
+
+# Sets $program to one that is made of what is there, if there is one: that which was built here goes first.
+find_program() {
+    program=$built
+    is_current && return
+    program=$shipped
+    is_shipped
 }

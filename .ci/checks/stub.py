@@ -1,5 +1,7 @@
 """A small repository with a stand-in for the kit, which notes what it was asked, proves nothing, and makes a program of a few lines.
 
+As the kit does, it takes what it has proved before as kept.
+
 The program tells, by the word `src`, the text that the library `low` was made of, and by `where` the folder that it runs in.
 """
 import os
@@ -12,74 +14,75 @@ import unittest
 from built import ROOT, run
 
 CRATES = "# a comment\nlow: arrayvec\nfor_tests: low\nhigh may_wait=3: low  # a comment\nhull_cli: high low\n"
-PROVER = """#!/usr/bin/env bash
-while [ "$1" != --crate-name ]; do shift; done
-crate=$2
-case "$*" in *"--jobs "[0-9]*) ;; *) exit 2 ;; esac
-case "$crate $* " in
-    hull_cli*" src/main.rt "*" --backend llvm "*) what=program ;;
-    hull_cli*) exit 2 ;;
-    *" src/lib.rt "*" --statements "*) what=library ;;
-    *) exit 2 ;;
-esac
-echo "$what $crate" >> "$ASKED"
-text=$(cat src/lib.rt)
-if [ "$crate" = "${HOLDS-}" ]; then
-    : > "$ASKED.held"
-    sleep 600 &
-    while [ -e "$ASKED.hold" ]; do sleep 0.02; done
-    kill $!
-fi
-case "$crate ${FAILS-}" in
-    "high high") exit 1 ;;
-    "high killed") [ "$(grep -c 'library high' "$ASKED")" -gt 1 ] || exit 137 ;;
-    "high full") echo "error: No space left on device (os error 28)"; exit 2 ;;
-    "hull_cli compile") exit 1 ;;
-esac
-while [ "$1" != -o ]; do
-    case "$1" in
-        *=*.rlib) [ -e "${1#*=}" ] || { echo "no ${1#*=}"; exit 2; } ;;
+RT = r"""#!/usr/bin/env bash
+kit=$(dirname "$(dirname "$0")")
+
+# Stands for the proof of the crate $1, of whose files and of those below it $sum is a sum.
+prove() {
+    echo "$1" >> "$ASKED"
+    if [ "$1" = "${HOLDS-}" ]; then
+        : > "$ASKED.held"
+        while [ -e "$ASKED.hold" ]; do sleep 0.02; done
+    fi
+    case "$1 ${FAILS-}" in
+        "high high" | "hull_cli compile") return 1 ;;
+        "high full") echo "error: No space left on device (os error 28)"; return 1 ;;
     esac
-    shift
-done
-mkdir -p "$2"
-echo "$text" > "$2/text"
-"""
-LINKER = """#!/usr/bin/env bash
-while [ "$1" != -o ]; do shift; done
-cat > "$2" <<END
+    : > "$kit/kept/$1-$sum"
+}
+
+# Stands for rt ci, which works where it is called.
+ci() {
+    local crate crates sum="" text
+    local -A sum_of
+    [ -e .git ] && [ -e HANDLES ] || { echo "no top of a repository"; exit 2; }
+    mapfile -t crates < <(sed 's/#.*//;s/[ :].*//' crates.txt | grep .)
+    for crate in "${crates[@]}"; do
+        rm -rf "crates/$crate/out"
+        mkdir "crates/$crate/out"
+        sum_of[$crate]=$({ echo "$sum"; cat "$kit/KIT-ID" "crates/$crate"/{src,specs,proofs}/*; } 2>/dev/null | sha256sum | cut -c 1-40)
+        [ "$crate" = for_tests ] || sum=${sum_of[$crate]}
+    done
+    sleep 0.02
+    text=$(cat crates/low/src/lib.rt)
+    eval "${WHILE-}"
+    for crate in "${crates[@]}"; do
+        sum=${sum_of[$crate]}
+        if [ -e "$kit/kept/$crate-$sum" ] && [ "${1-}" != --anew ]; then
+            echo "rt: $crate is kept: an earlier run on this machine proved the same files over the same libraries"
+        elif prove "$crate"; then
+            echo "rt: $crate proved"
+        else
+            echo "rt: $crate NOT PROVED"
+            echo "rt: FAILED: $crate"
+            exit 1
+        fi
+    done
+    cat > crates/hull_cli/out/hull_cli <<END
 #!/bin/sh
-case "\\$*" in
+case "\$*" in
     where) exec pwd ;;
-    src) echo '$(cat "$(dirname "$2")/libraries/low.rlib/text")' ;;
+    src) echo '$text' ;;
     nine) exec cat <&9 ;;
     environment) env | sort ;;
     "") echo fault 1 words 1 0; exit 1 ;;
-    *) echo "given \\$*" ;;
+    *) echo "given \$*" ;;
 esac
+# stands for what a program needs: GLIBC_2.17 GLIBC_2.34
 END
-chmod +x "$2"
-"""
-RT = """#!/usr/bin/env bash
-kit=$(dirname "$(dirname "$0")")
+    chmod +x crates/hull_cli/out/hull_cli
+    echo "3 passed, 0 failed"
+    exit "${CI_STATUS-0}"
+}
+
 case "$1" in
     version) cat "$kit/KIT-ID" ;;
-    doc) echo "$kit/START-HERE.md" ;;
-    ci)
-        rm -rf crates/*/out
-        mkdir crates/{low,for_tests,high,hull_cli}/out
-        mkdir -p crates/hull_cli/out/libraries/low.rlib
-        sleep 0.02
-        cp crates/low/src/lib.rt crates/hull_cli/out/libraries/low.rlib/text
-        eval "${WHILE-}"
-        "$kit/bin/rattle-link" -o crates/hull_cli/out/hull_cli
-        exit "${CI_STATUS-0}"
-        ;;
+    ci) shift && ci "$@" ;;
 esac
 """
-BUILT = ["library low", "library high", "program hull_cli"]
+BUILT = ["low", "high", "hull_cli"]
 KIT = "rattle-kit-13x logic 0123"
-TOOLS = ("hull", "tools/made_of.sh", "tools/build.sh", "docs/help.txt", ".ci/run")
+TOOLS = ("hull", "tools/made_of.sh", "tools/build.sh", "tools/ship.sh", "docs/help.txt", ".ci/run")
 
 
 class Repository(unittest.TestCase):
@@ -94,29 +97,33 @@ class Repository(unittest.TestCase):
         for name in TOOLS:
             os.makedirs(os.path.dirname(f"{self.room}/{name}"), exist_ok=True)
             shutil.copy(f"{ROOT}/{name}", f"{self.room}/{name}")
+        os.mkdir(f"{self.room}/.git")
         self.write("crates.txt", CRATES)
         self.write("HANDLES", "Handles allowed: none.\n")
         self.write("README.md", f"Proved with `{KIT}` (`rt version`).\n")
         self.write("CHANGELOG.md", "# Changes\n\n## 1.2.3 (2026-12-01)\n\n## 1.0.0\n")
         for crate in ("low", "for_tests", "high", "hull_cli"):
             self.write(f"crates/{crate}/src/lib.rt", "one\n")
-        for name, text in (("rt", RT), ("rattle", PROVER), ("rattle-link", LINKER)):
-            self.write(f"../a kit/bin/{name}", text)
-            os.chmod(f"{self.kit}/bin/{name}", 0o755)
-        for name in ("std", "arrayvec"):
-            self.write(f"../a kit/rlibs/{name}.rlib/format", "")
+        self.write("../a kit/bin/rt", RT)
+        os.chmod(f"{self.kit}/bin/rt", 0o755)
+        os.makedirs(f"{self.kit}/kept")
         self.write("../a kit/KIT-ID", f"{KIT}\n")
+        os.mkdir(f"{above}/temporary")
         self.env = {
             "PATH": f"{self.kit}/bin:/usr/bin:/bin",
             "ASKED": f"{above}/asked",
             "HOME": "/",
+            "TMPDIR": f"{above}/temporary",
         }
         self.out = f"{self.room}/crates/hull_cli/out"
         self.program = f"{self.out}/hull_cli"
+        self.shipped = f"{self.room}/dist/linux-x86_64/hull"
         self.addCleanup(self.check_no_process)
 
     def check_no_process(self):
+        """Nothing is left of a build: no process, and no folder."""
         self.assertTrue(self.comes(lambda: not self.processes()), f"left: {self.processes()}")
+        self.assertEqual(os.listdir(self.env["TMPDIR"]), [])
 
     def processes(self):
         """The processes that were started for this repository and live."""
@@ -150,6 +157,16 @@ class Repository(unittest.TestCase):
     def read(self, name):
         with open(f"{self.room}/{name}", encoding="utf-8") as it:
             return it.read()
+
+    def forget(self):
+        """Takes away what was built, and what the kit has kept."""
+        for it in (self.out, f"{self.kit}/kept"):
+            shutil.rmtree(it, ignore_errors=True)
+        os.mkdir(f"{self.kit}/kept")
+
+    def call(self, *words, **env):
+        """Runs one of the repository's own commands, or another program in the repository."""
+        return run(words[1:], program=words[0], folder=self.room, env={**self.env, **env})
 
     def hull(self, *words, **env):
         return run(words, program=f"{self.room}/hull", folder=self.room, env={**self.env, **env})

@@ -1,8 +1,10 @@
-"""The launcher: it takes a program that is made of what is there, and proves and builds one where it must.
+"""The launcher: it takes a program that is made of what is there, built here or shipped, and proves and builds one where it must.
 
 Proving is tried on a small repository with a stand-in for the kit (stub.py).
 """
+import hashlib
 import os
+import pty
 import resource
 import shutil
 import signal
@@ -15,8 +17,8 @@ from stub import BUILT, KIT, Repository
 
 WITHOUT_RT = {"PATH": "/usr/bin:/bin", "HOME": "/"}
 NOBODY = {"user": 65534, "group": 65534, "extra_groups": []}
-NEEDED = ("find", "readlink", "awk", "sort", "xargs", "sha256sum", "flock", "setsid", "nproc")
-DONE = ["hull: proving hull_cli and compiling the program", "hull: the program is built"]
+NEEDED = ("awk", "grep", "sed", "flock", "setsid", "nproc")
+COREUTILS = "cat chmod env head id ls mkdir mv printf readlink rm sha256sum stat tail".split()
 
 
 class FirstUse(Repository):
@@ -24,12 +26,15 @@ class FirstUse(Repository):
         status, output, said = self.hull("price", "--case", "a b")
         self.assertEqual((status, output), (0, b"given price --case a b\n"))
         lines = said.decode().splitlines()
-        self.assertRegex(
-            lines[0], r"^hull: proving the 2 crates below hull_cli with \d+ processes; this is done once\. At: low$"
-        )
+        self.assertRegex(lines[0], r"^hull: proving the 3 crates of the program, \d+ at a time; this is done once$")
         self.assertEqual(
             lines[1:],
-            ["hull: low is proved, 1 of 2 are left. At: high", "hull: high is proved, 0 of 2 are left", *DONE],
+            [
+                "hull: low is proved, 2 of 3 are left",
+                "hull: high is proved, 1 of 3 are left",
+                "hull: hull_cli is proved, 0 of 3 are left",
+                "hull: the program is built",
+            ],
         )
         self.assertEqual(self.asked(), BUILT)
 
@@ -44,17 +49,17 @@ class FirstUse(Repository):
     def test_the_callers_descriptors_are_the_programs(self):
         self.write("nine", "of the caller\n")
         for _ in range(2):
-            ended = subprocess.run(
-                ["bash", "-c", "exec ./hull nine 9<nine"], cwd=self.room, env=self.env, capture_output=True, timeout=120
-            )
-            self.assertEqual((ended.returncode, ended.stdout), (0, b"of the caller\n"))
+            self.assertEqual(self.call("bash", "-c", "exec ./hull nine 9<nine")[:2], (0, b"of the caller\n"))
 
-    def test_crates_that_do_not_stand_on_each_other_are_proved_side_by_side(self):
-        self.write("crates.txt", "low:\nbeside:\nhigh: low beside\nhull_cli: high\n")
-        self.write("crates/beside/src/lib.rt", "")
-        self.hull("check")
-        asked = self.asked()
-        self.assertEqual((sorted(asked[:2]), asked[2:]), (["library beside", "library low"], BUILT[1:]))
+    def test_the_kit_gets_the_programs_crates_without_edits_and_what_was_made(self):
+        self.write("crates/low/must-fail/a.edit", "")
+        self.write("crates/low/out/old", "")
+        self.write("crates/hull_cli/data/case.json", "")
+        seen = f"{os.path.dirname(self.room)}/seen"
+        self.assertEqual(self.hull("src", WHILE=f"find . -type f ! -path '*/out/*' | sort > '{seen}'")[0], 0)
+        crates = [f"./crates/{it}/src/lib.rt" for it in ("high", "hull_cli", "low")]
+        due = sorted(["./HANDLES", "./crates.txt", "./crates/hull_cli/data/case.json", *crates])
+        self.assertEqual(self.read("../seen").split(), due)
 
     def test_of_the_repositorys_crates_those_of_the_program_are_proved_each_after_those_below_it(self):
         with open(f"{ROOT}/crates.txt", encoding="utf-8") as it:
@@ -70,43 +75,32 @@ class FirstUse(Repository):
         self.write("crates.txt", text)
         for name in below:
             self.write(f"crates/{name}/src/lib.rt", "")
-        for name in {it for _, stands_on in lines for it in stands_on.split()} - set(below) | {"low"}:
-            self.write(f"../a kit/rlibs/{name}.rlib/text", "")
-        self.write("crates/hull_cli/out/libraries/low.rlib/text", "")
         self.assertEqual(self.hull("check")[0], 0)
-        proved = set()
-        for what, name in (it.split() for it in self.asked()):
-            self.assertIn(name, due)
-            self.assertLessEqual(set(below[name]), proved)
-            if what == "library":
-                proved.add(name)
-        self.assertEqual(proved, due - {"hull_cli"})
+        proved = []
+        for name in self.asked():
+            self.assertLessEqual(set(below[name]), set(proved))
+            proved.append(name)
+        self.assertEqual(sorted(proved), sorted(due))
         self.assertFalse({it for it in below if it.startswith("test_")} & due)
-
-    def test_it_goes_on_where_the_shell_cannot_say_which_prover_has_ended(self):
-        self.write("crates.txt", "low:\nbeside:\nhigh: low beside\nhull_cli: high\n")
-        self.write("crates/beside/src/lib.rt", "")
-        wait = {"BASH_FUNC_wait%%": '() { [ "${1-}" != -n ] || return 127; builtin wait "$@"; }'}
-        self.assertEqual(self.hull("src", **wait)[:2], (0, b"one\n"))
-        self.assertEqual(sorted(self.asked()), sorted(["library beside", *BUILT]))
-        self.write("crates/low/src/lib.rt", "two\n")
-        status, output, said = self.hull("src", FAILS="high", **wait)
-        self.assertEqual((status, output), (127, b""))
-        self.assertIn(b"no program: high failed", said)
 
     def test_it_goes_on_where_nobody_reads_what_it_says(self):
         for way in ("2>&-", "2>/dev/full", "2> >(exec 0<&-)"):
             with self.subTest(way):
-                shutil.rmtree(self.out, ignore_errors=True)
-                command = ["bash", "-c", f"exec ./hull src {way}"]
-                ended = subprocess.run(command, cwd=self.room, env=self.env, stdout=subprocess.PIPE, timeout=120)
-                self.assertEqual((ended.returncode, ended.stdout), (0, b"one\n"))
+                self.forget()
+                self.assertEqual(self.call("bash", "-c", f"exec ./hull src {way}")[:2], (0, b"one\n"))
                 self.assertEqual(self.asked(), BUILT)
 
     def test_others_may_not_write_what_it_makes(self):
         run(["check"], program=f"{self.room}/hull", env=self.env, preexec_fn=lambda: os.umask(0))
-        modes = [stat.S_IMODE(os.stat(it).st_mode) for it in (self.program, self.out, f"{self.out}/libraries")]
+        modes = [stat.S_IMODE(os.stat(it).st_mode) for it in (self.program, self.out, f"{self.program}.made_of")]
         self.assertEqual([it & 0o022 for it in modes], [0, 0, 0])
+
+    def test_what_a_killed_one_left_among_the_temporary_files_is_taken_away(self):
+        self.write("../temporary/hull-build-4194304-abcdef/crates.txt", "")
+        self.write(f"../temporary/hull-build-{os.getpid()}-abcdef/crates.txt", "")
+        self.assertEqual(self.hull("src")[0], 0)
+        self.assertEqual(os.listdir(self.env["TMPDIR"]), [f"hull-build-{os.getpid()}-abcdef"])
+        shutil.rmtree(f"{self.env['TMPDIR']}/hull-build-{os.getpid()}-abcdef")
 
 
 class Current(Repository):
@@ -147,11 +141,13 @@ class Current(Repository):
         self.built_anew("two")
 
     def test_a_file_that_was_added_or_removed(self):
-        self.write("crates/high/specs/Lib.antt", "")
+        self.write("crates/high/specs/Lib.antt", "definition")
         self.long_ago("crates/high/specs/Lib.antt")
         self.built_anew("one", BUILT[1:])
+        # (what was proved before is kept)
         os.remove(f"{self.room}/crates/high/specs/Lib.antt")
-        self.built_anew("one", BUILT[1:])
+        self.assertIn(b"the program is built", self.hull("src")[2])
+        self.taken()
 
     def test_a_file_behind_a_link(self):
         os.remove(f"{self.room}/crates/low/src/lib.rt")
@@ -187,10 +183,17 @@ class Current(Repository):
         os.remove(f"{self.kit}/bin/rt")
         self.taken()
 
-    def test_the_launcher_and_the_list_of_crates(self):
-        for name in ("hull", "tools/build.sh", "crates.txt"):
+    def test_the_launcher_and_rows_of_other_crates_and_comments_build_nothing(self):
+        for name in ("hull", "tools/build.sh", "tools/made_of.sh", "crates.txt"):
             self.write(name, self.read(name) + "# changed\n")
-            self.built_anew("one", BUILT[2:])
+            self.taken()
+        self.write("crates.txt", self.read("crates.txt").replace("for_tests: low", "for_tests: low high # again"))
+        self.taken()
+
+    def test_a_row_of_the_programs_crates(self):
+        self.write("crates.txt", self.read("crates.txt").replace("may_wait=3", "may_wait=4"))
+        self.assertIn(b"the program is built", self.hull("src")[2])
+        self.taken()
 
     def test_a_program_that_is_empty_or_damaged_or_was_replaced(self):
         with open(self.program, "rb") as it:
@@ -198,22 +201,22 @@ class Current(Repository):
         for damaged in (b"", whole[:-1], whole.replace(b"words", b"Words"), b"#!/bin/sh\necho otherwise\n"):
             with open(self.program, "wb") as it:
                 it.write(damaged)
-            self.built_anew("one", BUILT[2:])
+            self.built_anew("one", [])
         os.chmod(self.program, 0o644)
-        self.built_anew("one", BUILT[2:])
+        self.built_anew("one", [])
 
     def test_an_edit_while_it_is_built(self):
-        for text in ("three\n", "two\n"):
-            # (the second edit puts back what the prover began with)
-            self.write("crates/low/src/lib.rt", "two\n")
+        # (the second edit puts back what the prover began with)
+        for begun_with, edits in (("two", ["three"]), ("four", ["five", "four"])):
+            self.write("crates/low/src/lib.rt", f"{begun_with}\n")
             begun = self.hold("low", "src")
-            self.write("crates/low/src/lib.rt", "three\n")
-            self.write("crates/low/src/lib.rt", text)
+            for text in edits:
+                self.write("crates/low/src/lib.rt", f"{text}\n")
             self.go_on()
-            self.assertEqual(self.ended(begun)[:2], (0, b"two\n"))
+            self.assertEqual(self.ended(begun)[:2], (0, f"{begun_with}\n".encode()))
             self.assertEqual(self.asked(), BUILT)
             os.remove(f"{self.env['ASKED']}.held")
-            self.built_anew(text.strip())
+            self.built_anew(edits[-1], BUILT if edits[-1] != begun_with else [])
 
     def test_a_look_costs_little(self):
         shutil.copy(f"{ROOT}/crates.txt", self.room)
@@ -236,38 +239,282 @@ class Current(Repository):
         self.assertLess(min(seconds() for _ in range(5)), 0.3)
 
 
+class Shipped(Repository):
+    """The program in dist: when it is taken, and when it is told why not."""
+
+    def setUp(self):
+        super().setUp()
+        self.write(".ci/checks.py", "")
+        self.call(".ci/run")
+        self.assertEqual(self.call("tools/ship.sh"), (0, b"", b""))
+        self.forget()
+        self.asked()
+        self.bare = f"{os.path.dirname(self.room)}/bare"
+        os.mkdir(self.bare)
+        for name in ("bash", *COREUTILS):
+            os.symlink(shutil.which(name), f"{self.bare}/{name}")
+
+    def taken(self, due="one", **env):
+        """The program in dist, or one that was built here, is run, by bash and the coreutils; nothing is said and nothing is built."""
+        for path in (self.bare, self.env["PATH"]):
+            self.assertEqual(self.hull("src", PATH=path, **env), (0, f"{due}\n".encode(), b""))
+        self.assertEqual(self.asked(), [])
+
+    def refused(self, why, is_told=True, due="one"):
+        """Without a kit one line says why; with one that is told, where it is to be, and another program is built."""
+        status, output, said = self.hull("src", PATH=WITHOUT_RT["PATH"])
+        self.assertEqual((status, output), (127, b""))
+        line = rf"hull: {why}, and rt, with whose kit it is proved and built, isn't on the path\n"
+        self.assertRegex(said.decode(), rf"\A{line}\Z")
+        status, output, said = self.hull("src")
+        self.assertEqual((status, output), (0, f"{due}\n".encode()))
+        lines = said.decode().splitlines()
+        if is_told:
+            self.assertRegex(lines.pop(0), f"^hull: {why}: it isn't run, and another is built from the sources$")
+        self.assertRegex(lines[0], "^hull: proving the 3 crates")
+        self.assertEqual(self.asked(), BUILT)
+        self.taken(due)
+        self.forget()
+
+    def put(self, text):
+        """Another program in dist, with a text that is right for it."""
+        self.write("dist/linux-x86_64/hull", text)
+        lines = self.read("dist/linux-x86_64/hull.txt").splitlines()
+        lines[3] = f"program {hashlib.sha256(text.encode()).hexdigest()}"
+        above = "".join(f"{it}\n" for it in lines[:-1])
+        self.write("dist/linux-x86_64/hull.txt", f"{above}text {hashlib.sha256(above.encode()).hexdigest()}\n")
+
+    def test_it_is_taken_by_bash_and_coreutils_alone(self):
+        self.taken()
+        shutil.rmtree(self.out)
+        self.taken()
+
+    def test_times_and_copies_and_the_launcher_change_nothing(self):
+        self.taken()
+        for at, folders, files in os.walk(self.room):
+            for it in (*folders, *files):
+                os.utime(f"{at}/{it}", (2**31, 2**31))
+        self.taken()
+        for name in ("hull", "tools/build.sh", "tools/made_of.sh", "tools/ship.sh", "crates.txt"):
+            self.write(name, self.read(name) + "# changed\n")
+        self.write("crates/for_tests/src/lib.rt", "two\n")
+        self.taken()
+        subprocess.run(["cp", "-r", self.room, f"{self.room}/../copy"], check=True)
+        self.room = f"{os.path.dirname(self.room)}/copy"
+        self.taken()
+
+    @unittest.skipIf(os.geteuid() != 0, "only root can be another user")
+    def test_another_user_in_a_folder_that_nobody_may_write(self):
+        subprocess.run(["chmod", "-R", "a-w,a+rX", self.room], check=True)
+        before = subprocess.run(["find", self.room, "-ls"], capture_output=True, check=True).stdout
+        for path in (self.bare, self.env["PATH"]):
+            env = {"PATH": path}
+            ended = run(["src"], program=f"{self.room}/hull", folder="/", env=env, **NOBODY)
+            self.assertEqual(ended, (0, b"one\n", b""))
+        self.assertEqual(subprocess.run(["find", self.room, "-ls"], capture_output=True, check=True).stdout, before)
+
+    def test_a_changed_source(self):
+        why = "the program in dist is of other sources than are there"
+        for name, text, due in (
+            ("crates/low/src/lib.rt", "two\n", "two"),
+            ("crates/high/proofs/Lib.antt", "", "one"),
+            ("crates.txt", self.read("crates.txt").replace("may_wait=3", "may_wait=4"), "one"),
+        ):
+            self.taken()
+            was = self.read(name) if os.path.exists(f"{self.room}/{name}") else None
+            stamp = os.stat(f"{self.room}/crates/low/src/lib.rt")
+            self.write(name, text)
+            os.utime(f"{self.room}/{name}", ns=(stamp.st_atime_ns, stamp.st_mtime_ns))
+            self.refused(why, is_told=False, due=due)
+            if was is None:
+                os.remove(f"{self.room}/{name}")
+            else:
+                self.write(name, was)
+        # (what was built of other sources doesn't stand in its way)
+        self.write("crates/low/src/lib.rt", "two\n")
+        self.assertEqual(self.hull("src")[:2], (0, b"two\n"))
+        self.asked()
+        self.write("crates/low/src/lib.rt", "one\n")
+        self.taken()
+
+    def test_a_program_that_was_changed(self):
+        self.taken()
+        with open(self.shipped, "rb") as it:
+            whole = it.read()
+        for other in (b"", whole[:-1], whole.replace(b"one", b"two"), b"#!/bin/sh\necho otherwise\n"):
+            with open(self.shipped, "wb") as it:
+                it.write(other)
+            self.refused(r"/.*/dist/linux-x86_64/hull isn't the program that was put there")
+        os.remove(self.shipped)
+        self.refused(r"/.*/dist/linux-x86_64/hull isn't the program that was put there")
+
+    def test_a_text_that_was_changed(self):
+        self.taken()
+        text = self.read("dist/linux-x86_64/hull.txt")
+        lines = text.splitlines(True)
+        others = ["", "\n", text[:-2], text + "more\n", *(text.replace(it, "") for it in lines)]
+        others += [text.replace(it, it.replace(it[-2], "0" if it[-2] != "0" else "1")) for it in lines]
+        for other in others:
+            self.write("dist/linux-x86_64/hull.txt", other)
+            self.refused(r"/.*/dist/linux-x86_64/hull\.txt was changed, or isn't whole")
+        os.remove(f"{self.shipped}.txt")
+        self.refused(r"/.*/dist/linux-x86_64/hull\.txt was changed, or isn't whole")
+
+    def test_another_machine_or_an_older_c_library(self):
+        why = r"/.*/dist/linux-x86_64/hull doesn't run here: it needs Linux on x86-64-v2 with glibc 2\.34 or later, and .*"
+        missing = (
+            "#!/bin/sh\necho \"$0: /lib/libc.so.6: version 'GLIBC_2.99' not found (required by $0)\" >&2\nexit 1\n"
+        )
+        for other in ("\x7fELF another machine's", missing, "#!/bin/sh\nkill -ILL $$\n"):
+            self.put(other)
+            os.chmod(self.shipped, 0o755)
+            self.refused(why)
+        self.put("#!/bin/sh\necho fault 1 words 1 0\n")
+        os.chmod(self.shipped, 0o644)
+        self.refused(why)
+
+    def test_a_program_that_was_built_here_goes_first(self):
+        self.assertEqual(self.hull("prove")[:2], (0, b"the same program\n"))
+        self.asked()
+        self.write("dist/linux-x86_64/hull", "other")
+        self.taken()
+
+    def said_at_a_terminal(self, **how):
+        """What a call says on standard error, which is a terminal."""
+        ours, theirs = pty.openpty()
+        try:
+            ended = run(["src"], program=f"{self.room}/hull", env={"PATH": self.bare}, stderr=theirs, **how)
+            self.assertEqual(ended[:2], (0, b"one\n"))
+            os.set_blocking(ours, False)
+            try:
+                return os.read(ours, 1000).decode()
+            except BlockingIOError:
+                return ""
+        finally:
+            os.close(ours)
+            os.close(theirs)
+
+    def test_at_a_terminal_it_says_once_which_program_it_runs(self):
+        self.taken()
+        if os.geteuid() == 0:
+            self.assertEqual(self.said_at_a_terminal(**NOBODY), "")
+        self.assertEqual(
+            self.said_at_a_terminal(),
+            "hull: this is dist/linux-x86_64/hull, whose sources are those here; ./hull prove proves and builds it from them\r\n",
+        )
+        self.assertEqual(self.said_at_a_terminal(), "")
+
+    def test_prove_says_whether_it_is_the_same_program(self):
+        status, output, said = self.hull("prove")
+        self.assertEqual((status, output), (0, b"the same program\n"))
+        self.assertEqual((self.asked(), said.decode().splitlines()[-1]), (BUILT, "hull: the program is built"))
+        # (what was proved is kept, but for who asks)
+        for words, due in (([], []), (["--anew"], BUILT)):
+            self.assertEqual(self.hull("prove", *words)[:2], (0, b"the same program\n"))
+            self.assertEqual(self.asked(), due)
+        for text in ("another program", self.read("dist/linux-x86_64/hull").replace("one", "two")):
+            self.put(text)
+            self.assertEqual(self.hull("prove")[:2], (1, b"another one\n"))
+        self.write("crates/low/src/lib.rt", "two\n")
+        self.assertEqual(self.hull("prove")[:2], (0, b"the same program\n"))
+
+    def test_prove_where_it_cannot_tell(self):
+        for words in (["x"], ["--anew", "x"]):
+            self.assertEqual(self.hull("prove", *words), (127, b"", b"hull: the words are: ./hull prove [--anew]\n"))
+        why = b"hull: the program has to be built, and rt, with whose kit it is proved and built, isn't on the path\n"
+        self.assertEqual(self.hull("prove", PATH=WITHOUT_RT["PATH"]), (127, b"", why))
+        status, output, said = self.hull("prove", FAILS="high")
+        self.assertEqual((status, output), (127, b""))
+        self.assertIn(b"no program: high isn't proved", said)
+        shutil.rmtree(f"{self.room}/dist")
+        self.assertEqual(self.hull("prove")[:2], (127, b""))
+
+
 class Gate(Repository):
-    """`.ci/run` notes what the gate's program was made of."""
+    """`.ci/run` notes what the gate's program was made of, and holds dist to it."""
+
+    def setUp(self):
+        super().setUp()
+        self.write(".ci/checks.py", "print('the checks')\n")
 
     def gate(self, **env):
-        self.write(".ci/checks.py", "print('the checks')\n")
-        return run([], program=f"{self.room}/.ci/run", folder=self.room, env={**self.env, **env})
+        """Status and standard output of `.ci/run`, and what it says of dist."""
+        status, output, said = self.call(".ci/run", **env)
+        return status, output.decode().splitlines()[-1:], said.decode()
+
+    def gate_and_ship(self):
+        self.gate()
+        self.assertEqual(self.call("tools/ship.sh"), (0, b"", b""))
+        self.assertEqual(self.gate(), (0, ["the checks"], ""))
+        self.asked()
 
     def test_its_program_is_taken(self):
-        status, output, _ = self.gate()
-        self.assertEqual((status, output), (0, b"the checks\n"))
-        self.assertEqual(self.hull("src"), (0, b"one\n", b""))
+        self.gate_and_ship()
+        for it in (f"{self.room}/dist", self.out):
+            self.assertEqual(self.hull("src"), (0, b"one\n", b""))
+            shutil.rmtree(it)
         self.assertEqual(self.asked(), [])
+
+    def test_dist_has_to_hold_it_and_one_command_puts_it_there(self):
+        said = "ship.sh: dist doesn't hold the program of these sources: run tools/ship.sh, and commit dist\n"
+        refused = (1, ["0 passed, 1 failed"], said)
+        self.assertEqual(self.gate(), refused)
+        self.gate_and_ship()
+        for name, other in (("hull", "other"), ("hull.txt", "other"), ("hull", None), ("hull.txt", None)):
+            if other is None:
+                os.remove(f"{self.room}/dist/linux-x86_64/{name}")
+            else:
+                self.write(f"dist/linux-x86_64/{name}", other)
+            self.assertEqual(self.gate(), refused)
+            self.gate_and_ship()
+        self.write("crates/low/src/lib.rt", "two\n")
+        self.assertEqual(self.gate(), refused)
+        self.gate_and_ship()
+        # (a source may change where the program doesn't: its text does)
+        self.write("crates/high/proofs/Lib.antt", "")
+        self.assertEqual(self.gate(), refused)
+        self.gate_and_ship()
+        self.write("CHANGELOG.md", "## 1.2.4\n")
+        self.assertEqual(self.gate(), refused)
+
+    def test_ship_takes_a_program_of_what_is_there_alone(self):
+        said = self.call("tools/ship.sh")
+        self.assertEqual(said[:2], (1, b""))
+        self.assertRegex(said[2].decode(), r"\Aship\.sh: .* isn't made of the files that are: \.ci/run builds it\n\Z")
+        self.gate()
+        self.write("crates/low/src/lib.rt", "two\n")
+        self.assertEqual(self.call("tools/ship.sh"), said)
+        self.write("crates/low/src/lib.rt", "one\n")
+        self.assertEqual(self.call("tools/ship.sh", "x"), (1, b"", b"ship.sh: usage: tools/ship.sh [--check]\n"))
+        self.write("README.md", "Proved with `rattle-kit-14` (`rt version`).\n")
+        self.assertIn(b"names another kit than the program's", self.call("tools/ship.sh")[2])
+        self.assertFalse(os.path.exists(f"{self.room}/dist"))
 
     def test_what_was_edited_meanwhile_is_newer(self):
         edit = "echo {} > crates/low/src/lib.rt; touch -d 2020-01-01 crates/low/src/lib.rt"
         for change, due in (
-            (edit.format("two"), b"two\n"),
-            (f"{edit.format('three')}; {edit.format('two')}", b"two\n"),
-            ("rm crates/high/src/lib.rt; echo one > crates/high/src/lib.rt", b"two\n"),
+            (edit.format("two"), "two"),
+            (f"{edit.format('three')}; {edit.format('two')}", "two"),
+            ("rm crates/high/src/lib.rt; echo one > crates/high/src/lib.rt", "two"),
         ):
-            self.assertEqual(self.gate(WHILE=change)[0], 0)
-            self.assertEqual(self.hull("src")[:2], (0, due))
-            self.assertEqual(self.asked(), BUILT)
+            status, last, said = self.gate(WHILE=change)
+            self.assertEqual((status, last), (1, ["0 passed, 1 failed"]))
+            self.assertIn("files changed while the gate ran", said)
+            self.built_anew(due)
 
     def test_a_gate_that_refuses_ends_with_its_status(self):
-        status, output, _ = self.gate(CI_STATUS="3")
-        self.assertEqual((status, output), (3, b""))
+        self.assertEqual(self.gate(CI_STATUS="3")[:2], (3, ["3 passed, 0 failed"]))
 
     def gate_alone(self, **env):
-        subprocess.run(["rt", "ci"], cwd=self.room, env={**self.env, **env}, check=True)
+        self.assertEqual(self.call("rt", "ci", **env)[0], 0)
         if subprocess.run(["stat", "-c", "%W", self.out], capture_output=True, check=True).stdout == b"0\n":
             self.skipTest("the disk doesn't keep when a file was made")
+        self.asked()
+
+    def built_anew(self, due):
+        status, output, said = self.hull("src")
+        self.assertEqual((status, output), (0, f"{due}\n".encode()))
+        self.assertIn(b"the program is built", said)
 
     def test_a_program_that_the_gate_alone_has_built_is_taken_until_something_changes(self):
         without_kit = {**self.env, "PATH": WITHOUT_RT["PATH"]}
@@ -282,10 +529,10 @@ class Gate(Repository):
     def test_what_was_edited_while_the_gate_alone_ran_is_newer(self):
         edit = "echo two > crates/low/src/lib.rt"
         for change in (edit, f"{edit}; touch -d 2020-01-01 crates/low/src/lib.rt", f"rm crates/low/src/lib.rt; {edit}"):
+            self.forget()
             self.write("crates/low/src/lib.rt", "one\n")
             self.gate_alone(WHILE=change)
-            self.assertEqual(self.hull("src")[:2], (0, b"two\n"))
-            self.assertEqual(self.asked(), BUILT)
+            self.built_anew("two")
 
     def test_a_program_that_is_older_than_the_folders_of_results(self):
         self.gate_alone()
@@ -293,16 +540,14 @@ class Gate(Repository):
         for name in ("low", "high"):
             shutil.rmtree(f"{self.room}/crates/{name}/out")
             os.makedirs(f"{self.room}/crates/{name}/out")
-        self.assertEqual(self.hull("src")[:2], (0, b"one\n"))
-        self.assertEqual(self.asked(), BUILT)
+        self.built_anew("one")
 
     def test_a_program_of_the_gate_alone_that_is_damaged(self):
         for damaged in (b"", b"\x7fELF\0", b"#!/bin/sh\necho otherwise\n"):
             self.gate_alone()
             with open(self.program, "wb") as it:
                 it.write(damaged)
-            self.assertEqual(self.hull("src")[:2], (0, b"one\n"))
-            self.assertEqual(self.asked(), BUILT)
+            self.built_anew("one")
 
 
 class Failing(Repository):
@@ -314,33 +559,30 @@ class Failing(Repository):
 
     def test_what_was_proved_with_another_kit_is_proved_again(self):
         self.hull("check", FAILS="compile")
-        self.assertEqual(self.asked(), [*BUILT, BUILT[-1]])
+        self.assertEqual(self.asked(), BUILT)
         self.write("../a kit/KIT-ID", "another kit\n")
         self.hull("check")
         self.assertEqual(self.asked(), BUILT)
 
     def test_what_was_proved_before_a_run_was_ended_is_not_proved_again(self):
         self.hull("check", FAILS="high")
-        self.hull("check")
-        self.assertEqual(self.asked(), [*BUILT[:2], *BUILT[1:2], *BUILT[1:]])
+        self.assertEqual(self.asked(), BUILT[:2])
+        self.assertIn(b"1 of the 3 crates were proved before on this machine, and rt kept that", self.hull("check")[2])
+        self.assertEqual(self.asked(), BUILT[1:])
 
     def test_a_crate_that_fails_is_named_in_one_clear_line(self):
-        status, output, said = self.hull("check", FAILS="high")
-        self.assertEqual((status, output), (127, b""))
-        lines = said.decode().splitlines()
-        self.assertEqual(lines[2], "hull: high ended badly, and is tried once more at the end")
-        self.assertRegex(lines[-1], r"^hull: no program: high failed; .*/crates/hull_cli/out/logs/high says why$")
-        self.assertEqual(self.asked(), ["library low", "library high", "library high"])
+        self.assertRegex(
+            self.refused("check", FAILS="high"),
+            r"^hull: no program: high isn't proved; .*/crates/hull_cli/out/build\.log says why$",
+        )
+        self.assertIn("rt: high NOT PROVED\n", self.read("crates/hull_cli/out/build.log"))
 
-    def test_a_crate_that_was_killed_is_tried_again_with_nothing_beside_it(self):
-        status, output, said = self.hull("check", FAILS="killed")
-        self.assertEqual((status, output), (0, b"given check\n"))
-        self.assertEqual(self.asked(), [*BUILT[:1], "library high", *BUILT[1:]])
-        self.assertIn("hull: high is proved, 0 of 2 are left", said.decode())
-
-    def test_a_build_that_fails_says_where_to_look(self):
-        self.assertTrue(self.refused("check", FAILS="compile").endswith("crates/hull_cli/out/build.log says why"))
-        self.assertEqual(self.asked(), [*BUILT, BUILT[-1]])
+    def test_a_program_that_does_not_pass_or_run_is_not_taken(self):
+        said = self.refused("check", CI_STATUS="1")
+        self.assertTrue(said.endswith("crates/hull_cli/out/build.log says why"))
+        said = self.refused("check", WHILE="text=\\'")
+        self.assertRegex(said, "that which was built doesn't run; .*/build.log says why$")
+        self.assertFalse(os.path.exists(self.program))
 
     def test_without_rt_or_with_a_broken_one_it_says_so(self):
         status, output, said = run(["check"], program=f"{self.room}/hull", env=WITHOUT_RT)
@@ -358,17 +600,9 @@ class Failing(Repository):
                     os.symlink(f"{folder}/{name}", f"{tools}/{name}")
         path = f"{self.kit}/bin:{tools}"
         for name in NEEDED:
-            if name == "readlink":
-                continue
             os.rename(f"{tools}/{name}", f"{tools}/gone")
             self.assertIn(f"{name}, which the build needs, isn't on the path", self.refused("check", PATH=path))
             os.rename(f"{tools}/gone", f"{tools}/{name}")
-        os.remove(f"{tools}/find")
-        self.write("../tools/find", "#!/bin/sh\necho another find\n")
-        os.chmod(f"{tools}/find", 0o755)
-        self.assertEqual(
-            self.refused("check", PATH=path), "hull: the program isn't built, and the build needs GNU find"
-        )
         self.assertEqual(self.asked(), [])
 
     def test_another_shell_says_that_it_needs_bash(self):
@@ -463,7 +697,7 @@ class Home(Repository):
             make(f"{self.room}/hull", f"{elsewhere}/hull")
             status, output, said = run(["check"], program=f"{elsewhere}/hull", env=self.env)
             self.assertEqual((status, output, said.count(b"\n")), (127, b"", 1))
-            self.assertIn(b"has no crates.txt", said)
+            self.assertIn(b"has neither crates.txt nor VERSION", said)
             self.assertEqual(os.listdir(elsewhere), ["hull"])
             os.remove(f"{elsewhere}/hull")
         self.assertEqual(self.asked(), [])
@@ -503,8 +737,8 @@ class AtOnce(Repository):
         ends = [self.ended(it) for it in (first, *others)]
         self.assertEqual([it[:2] for it in ends], [(127, b"")] * 4)
         last = {it[2].splitlines()[-1] for it in ends}
-        self.assertRegex(last.pop(), "^hull: no program: high failed; ")
-        self.assertEqual((last, self.asked()), (set(), [*BUILT[:2], BUILT[1]]))
+        self.assertRegex(last.pop(), "^hull: no program: high isn't proved; ")
+        self.assertEqual((last, self.asked()), (set(), BUILT[:2]))
         # (who comes later tries anew)
         self.assertEqual(self.hull("check")[0], 0)
 
@@ -544,7 +778,7 @@ class AtOnce(Repository):
         for crate in ("low", "hull_cli"):
             for number, due in ((signal.SIGTERM, 143), (signal.SIGINT, 130), (signal.SIGHUP, 129)):
                 for whom in (os.kill, os.killpg):
-                    shutil.rmtree(self.out, ignore_errors=True)
+                    self.forget()
                     begun = self.hold(crate, "check")
                     whom(begun.pid, number)
                     self.assertEqual(self.ended(begun)[:2], (due, b""))
