@@ -1,10 +1,10 @@
 #!/usr/bin/env python3
-"""Runs the repository's own checks over the built program: the launcher, the examples, the edges, and the tools.
+"""Runs the repository's own checks over the program: the launcher, the examples, the edges, and the tools.
 
-`.ci/run` calls this after the gate, which leaves the program in crates/hull_cli/out. By itself it takes some minutes:
-it proves nothing, and where the program isn't made of the files that are there it checks nothing, since the first
-check to call ./hull would build it. The last line is 'N passed, M failed'; a check that needs what this machine hasn't is named, and
-counts for neither.
+The program is the one that the launcher runs: that which was built here, where `.ci/run` calls this after the gate, or else that in dist. So
+it takes no kit, and by itself some minutes: it proves nothing, and where no program is made of the files that are there it checks nothing,
+since the first check to call ./hull would build it. The last line is 'N passed, M failed'; a check that needs what this machine hasn't is
+named, and counts for neither.
 """
 import os
 import signal
@@ -13,7 +13,6 @@ import sys
 import unittest
 
 ROOT = os.path.dirname(os.path.dirname(os.path.abspath(__file__)))
-PROGRAM = os.path.join(ROOT, "crates", "hull_cli", "out", "hull_cli")
 
 
 def main():
@@ -22,10 +21,8 @@ def main():
     signal.signal(signal.SIGINT, signal.default_int_handler)
     for it in (signal.SIGHUP, signal.SIGQUIT, signal.SIGTERM):
         signal.signal(it, signal.SIG_DFL)
-    if subprocess.run(["bash", "-c", "home=$PWD; . tools/made_of.sh; is_current"], cwd=ROOT, check=False).returncode:
-        print(
-            f"{PROGRAM} isn't there, or isn't made of the files that are: .ci/run, or ./hull, builds it\n0 passed, 1 failed"
-        )
+    if subprocess.run([f"{ROOT}/tools/program.sh"], stdout=subprocess.DEVNULL, check=False).returncode:
+        print("there is no program that is made of these files: .ci/run, or ./hull, builds it\n0 passed, 1 failed")
         return 1
     suite = unittest.TestSuite()
     for folder, files in ((".ci/checks", "test*.py"), (".ci/checks", "hostile_*.py"), ("tools/tests", "test*.py")):

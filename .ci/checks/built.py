@@ -1,11 +1,22 @@
-"""Where the built program and its launcher are, and how the checks run them."""
+"""Where the program and its launcher are, and how the checks run them.
+
+The program is the one that the launcher runs: that which was built here, as the gate builds it, or else that in dist.
+"""
 import os
 import subprocess
 
 ROOT = os.path.dirname(os.path.dirname(os.path.dirname(os.path.abspath(__file__))))
-PROGRAM = os.path.join(ROOT, "crates", "hull_cli", "out", "hull_cli")
 LAUNCHER = os.path.join(ROOT, "hull")
 EXAMPLES = os.path.join(ROOT, "examples")
+
+
+def program_here() -> str:
+    """The program that is made of what is there; where there is none, a name that doesn't exist, so that what runs it fails."""
+    found = subprocess.run([f"{ROOT}/tools/program.sh"], stdout=subprocess.PIPE, check=False, text=True)
+    return found.stdout.rstrip("\n") or f"{ROOT}/tools/program.sh finds no program"
+
+
+PROGRAM = program_here()
 
 
 def run(words, program=PROGRAM, folder=ROOT, **how):

@@ -38,9 +38,10 @@ class Hull:
 
     def say_if_unbuilt(self):
         """A launcher whose program isn't there builds it, and says on standard error how far it is."""
-        built = os.path.join(os.path.dirname(os.path.realpath(self.program)), "crates", "hull_cli", "out", "hull_cli")
-        is_launcher = os.path.isdir(os.path.dirname(os.path.dirname(built)))
-        if is_launcher and not self.told and not os.access(built, os.X_OK):
+        home = os.path.dirname(os.path.realpath(self.program))
+        programs = ("crates/hull_cli/out/hull_cli", "dist/linux-x86_64/hull")
+        is_launcher = os.path.isdir(os.path.join(home, "crates", "hull_cli"))
+        if is_launcher and not self.told and not any(os.access(os.path.join(home, it), os.X_OK) for it in programs):
             self.tell("the program isn't built yet: ./hull proves and builds it first, and says how far it is")
         self.told = True
 

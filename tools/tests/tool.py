@@ -10,7 +10,9 @@ import sys
 
 ROOT = os.path.dirname(os.path.dirname(os.path.dirname(os.path.abspath(__file__))))
 EXAMPLES = f"{ROOT}/examples"
-PROGRAM = f"{ROOT}/crates/hull_cli/out/hull_cli"
+PROGRAM = subprocess.run([f"{ROOT}/tools/program.sh"], stdout=subprocess.PIPE, check=True, text=True).stdout.rstrip(
+    "\n"
+)
 sys.path.insert(0, f"{ROOT}/tools")
 
 
