@@ -4,8 +4,8 @@
 #
 #   tools/release.sh VERSION [FOLDER]
 #
-# VERSION has a heading in CHANGELOG.md. The file is written to FOLDER, or here. Nothing is built: the program has to be made of this commit
-# and of nothing else, as .ci/run leaves it. Made twice of one commit and one program, on one machine, the file is the same to the byte.
+# VERSION is the newest that CHANGELOG.md has a heading for. The file is written to FOLDER, or here. Nothing is built: the program is the
+# one in dist, which has to be made of this commit's sources. Made twice of one commit, on one machine, the file is the same to the byte.
 set -u
 export LC_ALL=C
 unset CDPATH
@@ -13,10 +13,8 @@ home=$(cd -- "$(dirname -- "$(readlink -f -- "${BASH_SOURCE[0]}")")/.." && pwd)
 # shellcheck source=tools/made_of.sh
 . "$home/tools/made_of.sh"
 
-# What the compiler is told of the processor (docs: 'x86-64-v2' has SSE4.2 and POPCNT, as every one since 2009 or so).
-processor=x86-64-v2
 # Of tools/ what works on the repository alone.
-own='tools/(build|made_of|release|random_units)\.sh|tools/tests/.*'
+own='tools/(build|made_of|program|release|ship|random_units)\.sh|tools/tests/.*'
 
 fail() {
     echo "release.sh: $1" >&2
@@ -29,23 +27,22 @@ look() {
     grep -q "^## $version\b" "$home/CHANGELOG.md" || fail "CHANGELOG.md has no heading '## $version'"
     commit=$(git -C "$home" rev-parse HEAD) || fail "$home is no git repository"
     [ -z "$(git -C "$home" status --porcelain)" ] || fail "the files aren't those of a commit"
-    { [ -s "$program" ] && [ -e "$made_of" ] && is_current; } || fail "the program isn't made of these files: .ci/run builds it"
-    kit=$(noted kit)
-    [ "$kit" = "$(kit_of_readme)" ] || fail "README.md names another kit than the program's, '$kit'"
+    is_shipped || fail "$lacks: .ci/run builds it, and tools/ship.sh puts it into dist"
+    [ "$(noted "$ships" hull)" = "$version" ] || fail "dist has the program of '$(noted "$ships" hull)': tools/ship.sh puts this one there"
+    [ "$(noted "$ships" kit)" = "$(kit_of_readme)" ] || fail "README.md names another kit than the program's, '$(noted "$ships" kit)'"
 }
 
 # Puts all that belongs to the release into the folder $1.
 gather() {
-    local names glibc
+    local names
     mapfile -d '' -t names < <(git -C "$home" ls-files -z README.md CHANGELOG.md LICENSE NOTICE hull docs examples tools | grep -zvxE "$own")
     git -C "$home" archive HEAD -- "${names[@]}" | tar -xm -C "$1" -f - || fail "the files can't be copied"
-    { mkdir "$1/bin" && cp -- "$program" "$1/bin/hull"; } || fail "the program can't be copied"
-    glibc=$(grep -ao 'GLIBC_[0-9][0-9.]*' "$program" | sort -Vu | tail -n 1)
+    { mkdir "$1/bin" && cp -- "$shipped" "$1/bin/hull"; } || fail "the program can't be copied"
     cat >"$1/VERSION" <<END
 hull $version
-kit $kit
+kit $(noted "$ships" kit)
 commit $commit
-needs Linux on $processor with glibc ${glibc#GLIBC_} or later
+needs $(noted "$ships" needs)
 END
     # shellcheck disable=SC2094 # the list itself isn't found
     (cd "$1" && find . -type f ! -name SHA256SUMS -print0 | sort -z | sed -z 's|^\./||' | xargs -0 sha256sum >SHA256SUMS) ||
@@ -53,7 +50,7 @@ END
 }
 
 main() {
-    local version=${1-} folder=${2-.} commit kit name room
+    local version=${1-} folder=${2-.} commit name room
     look
     name=hull-$version-linux-x86_64
     room=$(mktemp -d) || fail "no folder can be made"

@@ -36,12 +36,19 @@ def call(folder, *words, **how):
     return done.returncode, done.stdout.decode(), done.stderr.decode()
 
 
-def place_program(folder):
-    """Puts the program into the repository, and notes that it was made of what is there."""
+def ship_program(folder):
+    """Puts the program into the repository's dist, as one that was made of what is there."""
     os.makedirs(f"{folder}/crates/hull_cli/out", exist_ok=True)
-    shutil.copy(PROGRAM, f"{folder}/crates/hull_cli/out")
+    shutil.copy(PROGRAM, f"{folder}/crates/hull_cli/out/hull_cli")
     note = 'home=$PWD; . tools/made_of.sh; taken=$(what_is_there); note_what_it_is_made_of "$taken"'
     assert call(folder, "bash", "-c", note)[0] == 0
+    assert call(folder, "tools/ship.sh") == (0, "", "")
+    shutil.rmtree(f"{folder}/crates/hull_cli/out")
+
+
+def commit(folder, text):
+    for words in (["add", "-A"], ["-c", "user.name=a", "-c", "user.email=a@b", "commit", "-qm", text]):
+        assert call(folder, "git", *words)[0] == 0
 
 
 def release(folder, *words):
@@ -49,7 +56,7 @@ def release(folder, *words):
 
 
 def setUpModule():
-    """A repository `one` of the files of this one in a commit of its own, with its program and a stand-in for the kit's command."""
+    """A repository `one` of the files of this one in a commit of its own, with its program in dist and a stand-in for the kit's command."""
     os.mkdir(ROOM)
     unittest.addModuleCleanup(shutil.rmtree, ROOM)
     os.mkdir(f"{ROOM}/bin")
@@ -57,9 +64,9 @@ def setUpModule():
         it.write(f"#!/bin/sh\necho '{KIT}'\n")
     os.chmod(f"{ROOM}/bin/rt", 0o755)
     shutil.copytree(ROOT, ONE, ignore=shutil.ignore_patterns("out", ".git", "__pycache__", "*.pyc"))
-    for words in (["init", "-q"], ["add", "-A"], ["-c", "user.name=a", "-c", "user.email=a@b", "commit", "-qm", "One"]):
-        assert call(ONE, "git", *words)[0] == 0
-    place_program(ONE)
+    ship_program(ONE)
+    assert call(ONE, "git", "init", "-q")[0] == 0
+    commit(ONE, "One")
 
 
 class Making(unittest.TestCase):
@@ -68,7 +75,6 @@ class Making(unittest.TestCase):
         before = os.umask(0o077)
         try:
             self.assertEqual(call(ROOM, "git", "clone", "-q", "one", other)[0], 0)
-            place_program(other)
             made = [release(folder, VERSION, ROOM) for folder in (ONE, other)]
         finally:
             os.umask(before)
@@ -86,28 +92,27 @@ class Making(unittest.TestCase):
         refused("usage")
         refused("usage", "new", ROOM)
         refused("has no heading", "0.0.77", ROOM)
-        program = f"{ONE}/crates/hull_cli/out/hull_cli"
-        with open(program, "ab") as it:
-            it.write(b"\0")
-        refused("isn't made of these files", VERSION, ROOM)
-        place_program(ONE)
-        os.remove(f"{program}.made_of")
-        refused("isn't made of these files", VERSION, ROOM)
-        place_program(ONE)
-        with open(f"{ONE}/README.md", "a", encoding="utf-8") as it:
-            it.write("\n")
-        refused("aren't those of a commit", VERSION, ROOM)
-        call(ONE, "git", "checkout", "-q", "README.md")
         refused("can't be written", VERSION, f"{ROOM}/none")
-        made_of = read(f"{program}.made_of")
-        with open(f"{program}.made_of", "w", encoding="utf-8") as it:
-            it.write(re.sub("^kit .*", "kit another", made_of, flags=re.M))
-        os.rename(f"{ROOM}/bin/rt", f"{ROOM}/rt")
-        try:
-            refused("names another kit", VERSION, ROOM)
-        finally:
-            os.rename(f"{ROOM}/rt", f"{ROOM}/bin/rt")
-            place_program(ONE)
+        for name, change, version, why in (
+            ("dist/linux-x86_64/hull", lambda text: text + "\0", VERSION, "isn't the program that was put there"),
+            ("dist/linux-x86_64/hull.txt", lambda text: text + "\n", VERSION, "was changed, or isn't whole"),
+            ("crates/hull_cli/src/main.rt", lambda text: text + "\n", VERSION, "is of other sources than are there"),
+            (
+                "CHANGELOG.md",
+                lambda text: text.replace(f"## {VERSION}", f"## 99.9\n\n## {VERSION}"),
+                "99.9",
+                "has the program of",
+            ),
+            ("README.md", lambda text: text.replace(KIT, "rattle-kit-0"), VERSION, "names another kit"),
+        ):
+            with open(f"{ONE}/{name}", encoding="latin-1", newline="") as file:
+                text = file.read()
+            with open(f"{ONE}/{name}", "w", encoding="latin-1", newline="") as file:
+                file.write(change(text))
+            refused("aren't those of a commit", version, ROOM)
+            commit(ONE, "Another")
+            refused(why, version, ROOM)
+            self.assertEqual(call(ONE, "git", "reset", "-q", "--hard", "HEAD~")[0], 0)
 
     def test_the_notice_names_each_crate_of_the_kit_in_the_program(self):
         lines = [
@@ -143,7 +148,12 @@ class Using(unittest.TestCase):
         due |= {"tools/report.py", "tools/make_schedule.py", "tools/many.sh", "examples/day/case.json"}
         self.assertEqual(due - names, set())
         self.assertEqual(
-            [it for it in names if re.match(r"tools/(build|made_of|release|tests)|crates|bench|\.", it)], []
+            [
+                it
+                for it in names
+                if re.match(r"tools/(build|made_of|program|release|ship|tests)|crates|bench|dist|\.", it)
+            ],
+            [],
         )
         self.assertEqual(call(self.home, "sha256sum", "--check", "--quiet", "--strict", "SHA256SUMS"), (0, "", ""))
         listed = {it.split("  ", 1)[1] for it in read(f"{self.home}/SHA256SUMS").splitlines()}
@@ -171,7 +181,23 @@ class Using(unittest.TestCase):
             pass
         status, output, said = self.hull("check")
         self.assertEqual((status, output), (127, b""))
-        self.assertRegex(said.decode(), r"\Ahull: .*/bin/hull can't be run: it is empty, .*\n\Z")
+        self.assertRegex(said.decode(), r"\Ahull: .*/bin/hull can't be run: it isn't there, or is empty\n\Z")
+
+    def test_a_program_that_is_damaged_or_another(self):
+        with open(f"{self.home}/bin/hull", "rb") as file:
+            whole = file.read()
+        for other in (b"garbage\n", whole[:100_000], whole + b"\0"):
+            with open(f"{self.home}/bin/hull", "wb") as file:
+                file.write(other)
+            status, output, said = self.hull("check")
+            self.assertEqual((status, output), (127, b""))
+            self.assertRegex(
+                said.decode(), r"\Ahull: .*/bin/hull can't be run: it isn't the program that SHA256SUMS names\n\Z"
+            )
+        os.remove(f"{self.home}/bin/hull")
+        self.assertRegex(
+            self.hull("check")[2].decode(), r"\Ahull: .*/bin/hull can't be run: it isn't there, or is empty\n\Z"
+        )
 
     def test_the_program_in_a_root_with_the_c_library_alone(self):
         if os.geteuid() != 0:
