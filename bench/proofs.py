@@ -3,7 +3,7 @@
 
 usage: proofs.py [--least SECONDS] CRATE..
 
-The crates below are read as a first start has left them in crates/hull_cli/out/libraries, so nothing below may have changed since. One
+The crates below are read as .ci/run has left them in their folders crates/NAME/out, so nothing below may have changed since. One
 process checks the crate, part by part, and writes a file as it ends with each part: that file's time less the one before is what the part
 took. What is before the first is what every crate costs: reading what is below, and loading it. Part of the library is loaded later, by
 the first part that needs it, and is counted there. A function has some twenty parts; two have columns: the one that goes over the steps of
@@ -21,7 +21,6 @@ import time
 
 import run
 
-LIBRARIES = f"{run.HOME}/crates/hull_cli/out/libraries"
 PART = re.compile(r"Rattle-\w+-(specs|proofs)\.(.+)\.oantt")
 # The parts of a function, of which each has the function's path before its own name.
 PARTS = "Answers Code Given Goals Invariants Kinds Layout Lts Met Named Proof Reads Statement Symbol TheLaws TheLink TheReach TheSendSync Tie".split()
@@ -38,16 +37,32 @@ def below(crate):
     sys.exit(f"proofs.py: crates.txt doesn't list {crate}")
 
 
-def words_of(crate, kit):
+def library_of(name: str, kit: str) -> str:
+    """The folder that a crate's library lies in, of the repository or of the kit."""
+    return f"{run.HOME}/crates/{name}/out/rlib" if os.path.isdir(f"{run.HOME}/crates/{name}") else f"{kit}/rlibs"
+
+
+def all_below(crate: str) -> list[str]:
+    """The crates of the repository that a crate stands on, and those that they stand on."""
+    found: list[str] = []
+    for name in below(crate):
+        if os.path.isdir(f"{run.HOME}/crates/{name}"):
+            found += [it for it in [*all_below(name), name] if it not in found]
+    return found
+
+
+def words_of(crate: str, kit: str) -> list[str]:
     root = "src/main.rt" if crate == "hull_cli" else "src/lib.rt"
     words = [f"{kit}/bin/rattle", "check", "--crate-name", crate, root, "--links", f"{crate}=", "--jobs", "1"]
     words += ["--antt-project", f"{kit}/rattle/logic/antt-project.json", "--logic-built", f"{kit}/logic_built"]
-    words += ["-L", f"dependency={kit}/rlibs", "-L", f"dependency={LIBRARIES}"]
+    words += ["-L", f"dependency={kit}/rlibs"]
+    for name in all_below(crate):
+        words += ["-L", f"dependency={library_of(name, kit)}"]
     for name in ["std", *below(crate)]:
-        home = LIBRARIES if os.path.isdir(f"{run.HOME}/crates/{name}") else f"{kit}/rlibs"
-        if not os.path.isdir(f"{home}/{name}.rlib"):
-            sys.exit(f"proofs.py: {home}/{name}.rlib isn't there: ./hull makes those of the program on first use")
-        words += ["--extern", f"{name}={home}/{name}.rlib"]
+        library = f"{library_of(name, kit)}/{name}.rlib"
+        if not os.path.isdir(library):
+            sys.exit(f"proofs.py: {library} isn't there: .ci/run makes it")
+        words += ["--extern", f"{name}={library}"]
     return words
 
 

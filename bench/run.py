@@ -42,6 +42,14 @@ ROWS = [
 ]
 
 
+def program_here() -> str:
+    """The program that the launcher runs: that which was built here, or else that in dist."""
+    found = subprocess.run([f"{HOME}/tools/program.sh"], stdout=subprocess.PIPE, text=True, check=False).stdout.rstrip(
+        "\n"
+    )
+    return found or sys.exit("there is no program that is made of these files: ./hull builds it")
+
+
 def write_large_report(name):
     """A report of 168 periods, in form, of just so many proposals that it isn't too large."""
     head = "hull-report 1\nperiods 168\nunits 1\nbudget 1\nahead 4\ncost 9920566288596\nproposals %d\n"
@@ -116,10 +124,9 @@ def main():
     ask.add_argument("--runs", type=int, default=3)
     ask.add_argument("--only", default="")
     ask.add_argument("--workers", default="1")
-    ask.add_argument("--program", default=f"{HOME}/crates/hull_cli/out/hull_cli")
+    ask.add_argument("--program")
     given = ask.parse_args()
-    if not os.access(given.program, os.X_OK):
-        sys.exit(f"run.py: {given.program} isn't there: ./hull builds it on first use")
+    given.program = given.program or program_here()
     only = set(filter(None, given.only.split(",")))
     if only - {it[0] for it in ROWS}:
         sys.exit(f"run.py: --only takes {', '.join(it[0] for it in ROWS)}")

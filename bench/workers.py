@@ -48,10 +48,9 @@ def main():
     ask = argparse.ArgumentParser(description="Measures how much sooner several workers are done.")
     ask.add_argument("--runs", type=int, default=15)
     ask.add_argument("--only", default="day,c610,c168,c610-100,c168-100,day-audit,c610-audit,c168-audit")
-    ask.add_argument("--program", default=f"{run.HOME}/crates/hull_cli/out/hull_cli")
+    ask.add_argument("--program")
     given = ask.parse_args()
-    if not os.access(given.program, os.X_OK):
-        sys.exit(f"workers.py: {given.program} isn't there: ./hull builds it on first use")
+    given.program = given.program or run.program_here()
     only = given.only.split(",")
     print(f"{os.cpu_count()} processors\n")
     print(
