@@ -12,7 +12,7 @@ WITHOUT_RT = {"PATH": "/usr/bin:/bin", "HOME": "/"}
 with open(f"{ROOT}/docs/help.txt", encoding="utf-8") as page:
     HELP = page.read()
 # each command's words, and each option's place and text
-USAGES = dict(re.findall(r"^  hull ((?!help|version)[a-z]+) (.+)$", HELP, re.M))
+USAGES = dict(re.findall(r"^  hull ((?!help|version|prove)[a-z]+) (.+)$", HELP, re.M))
 OPTIONS = {
     it[0]: " ".join(it[1].split())
     for it in re.findall(r"^  (--[a-z]+|N)(?: [A-Z])? {2,}(.+(?:\n {10,}.+)*)", HELP, re.M)
@@ -155,7 +155,7 @@ class Manual(unittest.TestCase):
             elif at is not None and mark != "TP":
                 told[at] += f" {text}"
             at = "" if mark == "TP" else at
-        self.assertLessEqual({*USAGES, "help", "version"}, set(told))
+        self.assertLessEqual({*USAGES, "help", "version", "prove"}, set(told))
         for option, text in OPTIONS.items():
             if option != "N":
                 numbers = [it for it in re.findall(r"\b\d+\b", text)]
