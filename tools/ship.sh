@@ -35,7 +35,7 @@ needs Linux on $processor with glibc ${glibc#GLIBC_} or later"
 
 main() {
     local text
-    { [ -e "$made_of" ] && is_current; } || fail "$built isn't there, or isn't made of the files that are: .ci/run builds it"
+    { is_current && [ -e "$made_of" ]; } || fail "$built isn't there, or isn't made of the files that are: .ci/run builds it"
     [ "$(noted "$made_of" kit)" = "$(kit_of_readme)" ] || fail "README.md names another kit than the program's, '$(noted "$made_of" kit)'"
     text=$(text_of_program)
     case "$*" in
