@@ -82,7 +82,7 @@ esac
 """
 BUILT = ["low", "high", "hull_cli"]
 KIT = "rattle-kit-13x logic 0123"
-TOOLS = ("hull", "tools/made_of.sh", "tools/build.sh", "tools/ship.sh", "docs/help.txt", ".ci/run")
+TOOLS = ("hull", "tools/made_of.sh", "tools/build.sh", "tools/program.sh", "tools/ship.sh", "docs/help.txt", ".ci/run")
 
 
 class Repository(unittest.TestCase):

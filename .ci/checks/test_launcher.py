@@ -381,6 +381,16 @@ class Shipped(Repository):
         self.write("dist/linux-x86_64/hull", "other")
         self.taken()
 
+    def test_the_program_that_the_checks_take(self):
+        self.assertEqual(self.call("tools/program.sh"), (0, f"{self.shipped}\n".encode(), b""))
+        self.assertEqual(self.hull("prove")[0], 0)
+        self.asked()
+        self.assertEqual(self.call("tools/program.sh"), (0, f"{self.program}\n".encode(), b""))
+        self.write("crates/low/src/lib.rt", "two\n")
+        said = b"program.sh: the program in dist is of other sources than are there\n"
+        self.assertEqual(self.call("tools/program.sh"), (1, b"", said))
+        self.assertEqual(self.asked(), [])
+
     def said_at_a_terminal(self, **how):
         """What a call says on standard error, which is a terminal."""
         ours, theirs = pty.openpty()
