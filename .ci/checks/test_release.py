@@ -1,4 +1,5 @@
 """A release: made twice it is the same to the byte, and unpacked elsewhere it needs neither the repository nor the kit."""
+import glob
 import os
 import re
 import shutil
@@ -242,3 +243,50 @@ class Using(unittest.TestCase):
         if shown[0] or "has been minimized" in shown[1] or not shown[1]:
             self.skipTest(f"man can't show pages here: {shown[2].strip()[:100]}")
         self.assertIn("hull price --case F --schedule F", " ".join(shown[1].split()))
+
+
+@unittest.skipIf(os.geteuid() != 0, "only root can be another user")
+class AsMade(unittest.TestCase):
+    """The release, for a user who may write nothing in it and has no environment."""
+
+    @classmethod
+    def setUpClass(cls):
+        cls.above = tempfile.mkdtemp(prefix="hull-as-made-")
+        cls.addClassCleanup(shutil.rmtree, cls.above)
+        assert release(ONE, VERSION, cls.above)[0] == 0
+        assert call(cls.above, "tar", "-xzf", f"{NAME}.tar.gz")[0] == 0
+        cls.home = f"{cls.above}/{NAME}"
+        shutil.copytree(f"{ROOT}/tools/tests", f"{cls.above}/tests", ignore=shutil.ignore_patterns("__pycache__"))
+        assert call(cls.above, "chmod", "-R", "a-w,a+rX", ".")[0] == 0
+
+    def call(self, folder, *words, **env):
+        """Status, standard output and standard error."""
+        how = {"user": 65534, "group": 65534, "extra_groups": [], "stdin": subprocess.DEVNULL}
+        env = {"PATH": "/usr/bin:/bin", **env}
+        done = subprocess.run(words, cwd=folder, env=env, capture_output=True, timeout=600, **how)
+        return done.returncode, done.stdout.decode(), done.stderr.decode()
+
+    def listed(self):
+        return call(self.above, "find", ".", "-printf", "%p %i %s %m %C@\n")
+
+    def test_sums_and_each_example(self):
+        before = self.listed()
+        self.assertEqual(self.call(self.home, "sha256sum", "--check", "--quiet", "--strict", "SHA256SUMS"), (0, "", ""))
+        runs = sorted(glob.glob(f"{self.home}/examples/**/*.words", recursive=True))
+        self.assertGreater(len(runs), 30)
+        for words in runs:
+            due = read(words.removesuffix(".words") + ".output")
+            status = int(due.split()[1]) if due.startswith("fault ") else 0
+            told = self.call(os.path.dirname(words), f"{self.home}/hull", *read(words).split())
+            self.assertEqual(told, (status, due, ""), words)
+        self.assertEqual(self.listed(), before)
+
+    def test_the_tools_by_their_own_tests(self):
+        python = "/usr/bin/python3"
+        if not os.access(python, os.X_OK):
+            self.skipTest(f"there is no {python}")
+        before = self.listed()
+        command = [python, "-B", "-m", "unittest", "discover", "-p", "test*.py"]
+        status, _, said = self.call(f"{self.above}/tests", *command, HULL_TESTED=self.home)
+        self.assertEqual(status, 0, said[-3000:])
+        self.assertEqual(self.listed(), before)

@@ -21,13 +21,13 @@ class Explain(unittest.TestCase):
 
     def told_of_mixture(self, line, old, new):
         """The sentence for a line, with a change of the mixture of examples/certified."""
-        shutil.copy(f"{EXAMPLES}/certified/mixture.json", self.room)
+        shutil.copyfile(f"{EXAMPLES}/certified/mixture.json", f"{self.room}/mixture.json")
         self.change(f"{EXAMPLES}/usual", "mixture.json", old, new)
         return self.sentence(line, "--mixture", f"{self.room}/mixture.json")
 
     def change(self, folder, name, old, new):
         for it in ("case.json", "schedule.json"):
-            shutil.copy(f"{folder}/{it}", self.room)
+            shutil.copyfile(f"{folder}/{it}", f"{self.room}/{it}")
         if name:
             with open(f"{self.room}/{name}", encoding="utf-8") as it:
                 text = it.read()

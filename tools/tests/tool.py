@@ -1,4 +1,7 @@
-"""How the tests run the tools: within the tests' own Python, or by a Python that has what a tool needs."""
+"""How the tests run the tools: within the tests' own Python, or by a Python that has what a tool needs.
+
+The tools are those of this repository, or of the release whose folder HULL_TESTED names.
+"""
 import contextlib
 import functools
 import importlib
@@ -8,11 +11,21 @@ import signal
 import subprocess
 import sys
 
-ROOT = os.path.dirname(os.path.dirname(os.path.dirname(os.path.abspath(__file__))))
+HERE = os.path.dirname(os.path.dirname(os.path.dirname(os.path.abspath(__file__))))
+ROOT = os.environ.get("HULL_TESTED", HERE)
 EXAMPLES = f"{ROOT}/examples"
-PROGRAM = subprocess.run([f"{ROOT}/tools/program.sh"], stdout=subprocess.PIPE, check=True, text=True).stdout.rstrip(
-    "\n"
-)
+
+
+def program_here() -> str:
+    """The program by itself: a release's, or the one that the launcher of this repository runs."""
+    if ROOT != HERE:
+        return f"{ROOT}/bin/hull"
+    return subprocess.run([f"{ROOT}/tools/program.sh"], stdout=subprocess.PIPE, check=True, text=True).stdout.rstrip(
+        "\n"
+    )
+
+
+PROGRAM = program_here()
 sys.path.insert(0, f"{ROOT}/tools")
 
 
