@@ -10,6 +10,7 @@ import shutil
 import signal
 import stat
 import subprocess
+import tempfile
 import unittest
 
 from built import EXAMPLES, LAUNCHER, ROOT, run
@@ -810,6 +811,112 @@ class AtOnce(Repository):
         self.assertEqual(self.asked(), BUILT)
         begun.stdout.close()
         begun.stderr.close()
+
+
+class Explaining(unittest.TestCase):
+    """A fault in words on standard error; standard output and the status are the program's."""
+
+    def setUp(self):
+        self.room = tempfile.mkdtemp(prefix="hull-explaining-")
+        self.addCleanup(shutil.rmtree, self.room)
+        with open(f"{EXAMPLES}/first/case.json", encoding="utf-8") as file:
+            text = file.read()
+        with open(f"{self.room}/case.json", "w", encoding="utf-8") as file:
+            file.write(text.replace('"time_periods"', '"time_period"'))
+        first = (f"{EXAMPLES}/first/{it}.json" for it in ("case", "schedule"))
+        self.right = ["check", *(word for pair in zip(("--case", "--schedule"), first) for word in pair)]
+        self.refused = ["check", "--case", "case.json", f"--schedule={EXAMPLES}/first/schedule.json"]
+        self.said = b"case.json: time_periods: it isn't there, and it has to be."
+
+    def called(self, words, is_terminal=False, **env):
+        """What a call says on standard error; the rest has to be as the program has it."""
+        ours, theirs = pty.openpty()
+        how = {"folder": self.room, "env": {**WITHOUT_RT, **env}}
+        try:
+            told = run(words, program=LAUNCHER, **how, **({"stderr": theirs} if is_terminal else {}))
+            self.assertEqual(told[:2], run(words, folder=self.room)[:2])
+            os.set_blocking(ours, False)
+            return os.read(ours, 10000) if is_terminal else told[2]
+        except BlockingIOError:
+            return b""
+        finally:
+            os.close(ours)
+            os.close(theirs)
+
+    def test_it_is_said_at_a_terminal_or_where_it_is_wanted(self):
+        self.called(self.refused, is_terminal=True)
+        self.assertEqual(self.called(self.refused, is_terminal=True), self.said + b"\r\n")
+        self.assertEqual(self.called(self.refused, HULL_EXPLAIN="1"), self.said + b"\n")
+        self.assertEqual(self.called(self.refused), b"")
+        for how in ({"is_terminal": True}, {}):
+            self.assertEqual(self.called(self.refused, HULL_EXPLAIN="0", **how), b"")
+            self.assertEqual(self.called(self.right, **how), b"")
+        self.assertEqual(self.called(self.right, HULL_EXPLAIN="1"), b"")
+
+    def test_faults_of_each_status(self):
+        report = f"{EXAMPLES}/first/price.output"
+        for words, due in (
+            (["prise"], rb"the first word is no command: .* There stands 'prise'\.\n"),
+            (
+                self.refused[:2] + ["none.json"] + self.refused[3:],
+                rb"none\.json can't be read: No such file or directory\.\n",
+            ),
+            (["check", "--case", self.right[2], "--schedule", self.right[2]], rb".*case\.json: .*\n"),
+            (["audit", *self.right[1:], "--report", self.right[2]], rb".*line 1 .*\n"),
+            (["audit", *self.right[1:], "--report", report, "--workers", "0"], rb".*There stands '--workers 0'\.\n"),
+            (["settle", *self.right[1:], "--prices", self.right[2]], rb".*case\.json: .*\n"),
+        ):
+            self.assertRegex(self.called(words, HULL_EXPLAIN="1"), rb"\A(" + due + rb")\Z")
+
+    def test_what_cannot_be_read_twice_is_not_explained(self):
+        os.mkfifo(f"{self.room}/pipe")
+        for words in (["check", "--case", "pipe", *self.refused[3:]], ["check", "--case=pipe", *self.refused[3:]]):
+            command = f"cat case.json > pipe & exec '{LAUNCHER}' {' '.join(words)}"
+            env = {**WITHOUT_RT, "HULL_EXPLAIN": "1"}
+            told = run(["-c", command], program="bash", folder=self.room, env=env)
+            self.assertEqual(told, (*run(self.refused, folder=self.room)[:2], b""))
+
+    def test_without_python_nothing_is_said(self):
+        os.mkdir(f"{self.room}/bin")
+        for name in ("bash", *COREUTILS):
+            os.symlink(shutil.which(name), f"{self.room}/bin/{name}")
+        self.assertEqual(self.called(self.refused, HULL_EXPLAIN="1", PATH=f"{self.room}/bin"), b"")
+
+    def test_no_word_and_a_closed_or_full_standard_error(self):
+        self.assertEqual(self.called([], HULL_EXPLAIN="1"), b"")
+        due = run(self.refused, folder=self.room)[:2]
+        for way in ("2>&-", "2>/dev/full"):
+            env = {**WITHOUT_RT, "HULL_EXPLAIN": "1"}
+            command = ["-c", f"exec '{LAUNCHER}' {' '.join(self.refused)} {way}"]
+            self.assertEqual(run(command, program="bash", folder=self.room, env=env)[:2], due)
+
+
+class ExplainingAnEnd(Repository):
+    def test_a_program_that_ends_by_a_signal_or_cannot_be_run(self):
+        self.write("tools/explain.py", "")
+        for text, due in (("kill -SEGV $$", -signal.SIGSEGV), ("kill -TERM $$", -signal.SIGTERM), ("exit 9", 9)):
+            self.write("VERSION", "hull 1.2.3\n")
+            self.write("bin/hull", f"#!/bin/sh\necho begun\n{text}\n")
+            os.chmod(f"{self.room}/bin/hull", 0o755)
+            self.sums()
+            for explain in ("0", "1"):
+                status, output, _ = self.hull("check", HULL_EXPLAIN=explain)
+                self.assertEqual((status, output), (due, b"begun\n"))
+        self.write("bin/hull", "\x7fELF of another machine")
+        self.sums()
+        for explain in ("0", "1"):
+            status, output, said = self.hull("check", HULL_EXPLAIN=explain)
+            self.assertEqual((status, output), (127, b""))
+            self.assertRegex(
+                said.decode().splitlines()[-1],
+                r"^hull: .*/bin/hull can't be run: it is damaged, or of another machine$",
+            )
+
+    def sums(self):
+        if os.path.exists(f"{self.room}/crates.txt"):
+            os.remove(f"{self.room}/crates.txt")
+        with open(f"{self.room}/bin/hull", "rb") as file:
+            self.write("SHA256SUMS", f"{hashlib.sha256(file.read()).hexdigest()}  bin/hull\n")
 
 
 class BuiltProgram(unittest.TestCase):

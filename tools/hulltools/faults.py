@@ -249,14 +249,15 @@ TOLD_OF = {
 
 
 def need_files(line, files):
-    """Refuses to tell a line of a file that can't be read."""
+    """Refuses to tell a line of a file that isn't given or can't be read."""
     for what in TOLD_OF.get(line.split(" ")[1], ()):
-        if what in files.names:
-            try:
-                with open(files.names[what], "rb") as it:
-                    it.read(1)
-            except (OSError, ValueError) as error:
-                raise HullError(f"{files.names[what]}: {getattr(error, 'strerror', None) or error}") from None
+        if what not in files.names:
+            raise HullError(f"this line is told of {WHOLE_FILES[what]}, whose file has to be given")
+        try:
+            with open(files.names[what], "rb") as it:
+                it.read(1)
+        except (OSError, ValueError) as error:
+            raise HullError(f"{files.names[what]}: {getattr(error, 'strerror', None) or error}") from None
 
 
 def sentence(line, files):

@@ -49,9 +49,13 @@ class Hull:
         """Status and standard output."""
         self.say_if_unbuilt()
         try:
-            # (in a session of its own: an interrupt is for the tool, which may want what the program says)
+            # (in a session of its own: an interrupt is for the tool, which may want what the program says, and has words of its own for it)
             ran = subprocess.run(
-                [self.program, *words], stdin=subprocess.DEVNULL, stdout=subprocess.PIPE, start_new_session=self.apart
+                [self.program, *words],
+                stdin=subprocess.DEVNULL,
+                stdout=subprocess.PIPE,
+                start_new_session=self.apart,
+                env={"HULL_EXPLAIN": "0", **os.environ},
             )
         except (OSError, ValueError) as error:
             raise HullError(f"{self.program}: {getattr(error, 'strerror', None) or error}") from None

@@ -253,6 +253,28 @@ class Explain(unittest.TestCase):
         self.assertEqual(told, (0, f"{none} can't be read: No such file or directory.\n", ""))
         self.assertEqual(run("explain.py", case, none, input="fault 1 words 1 0\n")[0], 0)
 
+    def test_the_files_are_those_that_the_words_of_the_run_name(self):
+        line = "fault 4 schedule 49 kind thermal unit 2 period 2 left 31000 right 30000\n"
+        case, schedule = f"{EVENING}/case.json", f"{EVENING}/schedule.json"
+        due = run("explain.py", case, schedule, input=line)
+        self.assertEqual((due[0], due[2]), (0, ""))
+        for words in (
+            ["--case", case, "--schedule", schedule],
+            [f"--case={case}", f"--schedule={schedule}", "--workers", "2"],
+        ):
+            self.assertEqual(run("explain.py", "--run", "price", *words, input=line), due)
+        told = run("explain.py", "--run", "price", "--case", case, "--ahead", "99", input="fault 1 words 6 4\n")
+        self.assertRegex(told[1], r"\Aword 4 is .*\. There stands '--ahead 99'\.\n\Z")
+        told = run("explain.py", "--run", "prise", input="fault 1 words 2 1\n")
+        self.assertEqual(told[1], "the first word is no command: `hull help` lists them. There stands 'prise'.\n")
+
+    def test_a_line_that_needs_no_file_or_one_that_is_not_given(self):
+        self.assertEqual(
+            run("explain.py", input="fault 7 memory\n"), (0, "the machine gave no memory when it was asked.\n", "")
+        )
+        told = run("explain.py", input="fault 3 case 10 at 3\n")
+        self.assertEqual(told, (1, "", "explain.py: this line is told of the case, whose file has to be given\n"))
+
     def test_a_run_that_was_not_refused(self):
         with open(f"{EVENING}/check.output", encoding="utf-8") as it:
             self.assertEqual(self.told(it.read()), "The run wasn't refused: its text begins with 'hull-check 1'.")
