@@ -5,7 +5,7 @@
 # `rt ci` work there, puts the program in its place as $built, and notes what it is made of. All that `rt ci` says stands in $log. What it has
 # proved it keeps beside the kit: for the next build, if this one is ended, and for the gate.
 #
-# Set while it goes on: $lock, the lock's descriptor; $room; $prover, the process that runs `rt ci`; $taken, what the sources were at the
+# Set while it goes on: $lock and $held, the descriptors of the locks; $room; $prover, the process that runs `rt ci`; $taken, what the sources were at the
 # start. $failed tells whoever waited for the lock how it ended, where it ended badly.
 
 log=$out/build.log
@@ -101,14 +101,14 @@ most_processes() {
     [ "$processors" -ge 1 ] && echo "$processors" || echo 1
 }
 
-# Makes $room, and takes away those that were left by a hull that was killed.
+# Makes $room, in which $held is locked as long as anything works there; and takes away those that were left by a hull that was killed.
 make_room() {
-    local folder left
-    folder=${TMPDIR:-/tmp}
-    for left in "$folder"/hull-build-*-*; do
-        { [ -O "$left" ] && [[ $left =~ /hull-build-([0-9]+)-[^/]*$ ]] && [ ! -e "/proc/${BASH_REMATCH[1]}" ]; } && rm -rf -- "$left"
+    local folder=${TMPDIR:-/tmp} left
+    for left in "$folder"/hull-build-*; do
+        [ ! -O "$left" ] || [ ! -e "$left/held" ] || flock -n "$left/held" rm -rf -- "$left"
     done
-    room=$(mktemp -d "$folder/hull-build-$BASHPID-XXXXXX" 2>/dev/null) || end_badly "no program: cannot write $folder, where it is built"
+    { room=$(mktemp -d "$folder/hull-build-XXXXXX") && exec {held}>"$room/held" && flock "$held"; } 2>/dev/null ||
+        end_badly "no program: cannot write $folder, where it is built"
 }
 
 clear_room() {
@@ -229,13 +229,14 @@ build() {
     take_program || end_badly "no program: that which was built doesn't run; $log says why"
     note_what_it_is_made_of "$taken" || say "files changed while the program was built: it is built again at the next call"
     clear_room
+    exec {held}>&-
     say "the program is built"
 }
 
 # Builds the program, with the words $@ for `rt ci`, where no other hull has while this one waited, or in any case where $always is set. What
 # the words name is found from where hull was called, and no descriptor of the caller's is touched.
 build_in_turn() {
-    local lock taken="" room="" prover=""
+    local lock held="" taken="" room="" prover=""
     # (what a full disk is called is looked for)
     local -x LC_ALL=C
     trap '' PIPE

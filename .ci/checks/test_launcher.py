@@ -2,6 +2,7 @@
 
 Proving is tried on a small repository with a stand-in for the kit (stub.py).
 """
+import fcntl
 import hashlib
 import os
 import pty
@@ -59,7 +60,7 @@ class FirstUse(Repository):
         seen = f"{os.path.dirname(self.room)}/seen"
         self.assertEqual(self.hull("src", WHILE=f"find . -type f ! -path '*/out/*' | sort > '{seen}'")[0], 0)
         crates = [f"./crates/{it}/src/lib.rt" for it in ("high", "hull_cli", "low")]
-        due = sorted(["./HANDLES", "./crates.txt", "./crates/hull_cli/data/case.json", *crates])
+        due = sorted(["./HANDLES", "./crates.txt", "./held", "./crates/hull_cli/data/case.json", *crates])
         self.assertEqual(self.read("../seen").split(), due)
 
     def test_of_the_repositorys_crates_those_of_the_program_are_proved_each_after_those_below_it(self):
@@ -97,11 +98,17 @@ class FirstUse(Repository):
         self.assertEqual([it & 0o022 for it in modes], [0, 0, 0])
 
     def test_what_a_killed_one_left_among_the_temporary_files_is_taken_away(self):
-        self.write("../temporary/hull-build-4194304-abcdef/crates.txt", "")
-        self.write(f"../temporary/hull-build-{os.getpid()}-abcdef/crates.txt", "")
-        self.assertEqual(self.hull("src")[0], 0)
-        self.assertEqual(os.listdir(self.env["TMPDIR"]), [f"hull-build-{os.getpid()}-abcdef"])
-        shutil.rmtree(f"{self.env['TMPDIR']}/hull-build-{os.getpid()}-abcdef")
+        folders = [f"{self.env['TMPDIR']}/hull-build-{it}" for it in ("dead", "alive", "other")]
+        for it in folders:
+            os.makedirs(f"{it}/crates")
+        for it in folders[:2]:
+            self.write(f"{os.path.relpath(it, self.room)}/held", "")
+        with open(f"{folders[1]}/held", encoding="utf-8") as held:
+            fcntl.flock(held, fcntl.LOCK_EX)
+            self.assertEqual(self.hull("src")[0], 0)
+        self.assertEqual([os.path.exists(it) for it in folders], [False, True, True])
+        for it in folders[1:]:
+            shutil.rmtree(it)
 
 
 class Current(Repository):

@@ -84,6 +84,11 @@ class Making(unittest.TestCase):
         self.assertEqual(made[0], made[1])
         self.assertEqual(call(ROOM, "sha256sum", f"{NAME}.tar.gz")[1], made[0][1])
 
+    def test_the_program_is_no_text_to_git(self):
+        asked = ["check-attr", "binary", "dist/linux-x86_64/hull", "dist/linux-x86_64/hull.txt"]
+        due = "".join(f"{name}: binary: {it}\n" for name, it in zip(asked[2:], ("set", "unspecified")))
+        self.assertEqual(call(ONE, "git", *asked)[1], due)
+
     def test_what_cannot_be_released(self):
         def refused(why, *words):
             status, output, said = release(ONE, *words)
