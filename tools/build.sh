@@ -187,10 +187,11 @@ report() {
 
 # Has `rt ci $@` prove the $crates in $room, and build the program.
 prove_crates() {
-    local line left=${#crates[@]} kept=0 bad="" said written
+    local line left=${#crates[@]} kept=0 bad="" said written once="; this is done once"
     # The prover asks for the memory again that it gives back: some hundredths of its time.
     local -x MIMALLOC_PURGE_DELAY=-1 RT_JOBS=${RT_JOBS:-$(most_processes)}
-    say "proving the $left crates of the program, $RT_JOBS at a time; this is done once"
+    [ -z "$always" ] || once=""
+    say "proving the $left crates of the program, $RT_JOBS at a time$once"
     exec {written}>>"$log"
     exec {said}< <(cd "$room" && run_apart rt ci "$@" 2>&1 {written}>&-)
     prover=$!
