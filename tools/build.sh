@@ -5,8 +5,8 @@
 # `rt ci` work there, puts the program in its place as $built, and notes what it is made of. All that `rt ci` says stands in $log. What it has
 # proved it keeps beside the kit: for the next build, if this one is ended, and for the gate.
 #
-# Set while it goes on: $lock and $held, the descriptors of the locks; $room; $prover, the process that runs `rt ci`; $taken, what the sources were at the
-# start. $failed tells whoever waited for the lock how it ended, where it ended badly.
+# Set while it goes on: $lock and $held, the descriptors of the locks; $room; $prover, the process that is `rt ci`; $taken, what the sources
+# were at the start. $failed tells whoever waited for the lock how it ended, where it ended badly.
 
 log=$out/build.log
 failed=$out/failed
@@ -18,7 +18,7 @@ say() {
 
 need_tools() {
     local tool
-    for tool in awk grep sed flock setsid nproc; do
+    for tool in awk grep sed flock nproc; do
         command -v "$tool" >/dev/null || fail "$lacks, and $tool, which the build needs, isn't on the path"
     done
     command -v rt >/dev/null || fail "$lacks, and rt, with whose kit it is proved and built, isn't on the path"
@@ -131,30 +131,7 @@ copy_crates() {
     done
 } 2>>"$log"
 
-# Ends what run_apart has started in this shell.
-end_apart() {
-    local signal
-    for signal in TERM KILL; do
-        kill -"$signal" "$leader"
-        kill -"$signal" -- "-$leader"
-        sleep 0.1
-    done
-    exit 143
-} 2>/dev/null
-
-# Runs the words $@ in a session of their own, so that all that they start can be ended with them, as it is when this shell is told to end.
-run_apart() {
-    local status leader
-    trap end_apart INT TERM HUP
-    setsid -- "$@" &
-    leader=$!
-    wait "$leader"
-    status=$?
-    trap - INT TERM HUP
-    return "$status"
-}
-
-# Ends all that was started, and with the status $1.
+# Ends with the status $1, and `rt` with all that it has started: they end with it, however it ends.
 stop_all() {
     local look
     trap '' INT TERM HUP
@@ -193,7 +170,7 @@ prove_crates() {
     [ -z "$always" ] || once=""
     say "proving the $left crates of the program, $RT_JOBS at a time$once"
     exec {written}>>"$log"
-    exec {said}< <(cd "$room" && run_apart rt ci "$@" 2>&1 {written}>&-)
+    exec {said}< <(cd "$room" && exec rt ci "$@" 2>&1 {written}>&-)
     prover=$!
     while IFS= read -r line <&"$said"; do
         printf '%s\n' "$line" >&"$written"

@@ -19,7 +19,7 @@ from stub import BUILT, KIT, Repository
 
 WITHOUT_RT = {"PATH": "/usr/bin:/bin", "HOME": "/"}
 NOBODY = {"user": 65534, "group": 65534, "extra_groups": []}
-NEEDED = ("awk", "grep", "sed", "flock", "setsid", "nproc")
+NEEDED = ("awk", "grep", "sed", "flock", "nproc")
 COREUTILS = "cat chmod env head id ls mkdir mv printf readlink rm sha256sum stat tail".split()
 
 
