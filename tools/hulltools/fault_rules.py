@@ -1,4 +1,5 @@
 """A rule of a feasible schedule that is broken, in words."""
+from .fault_hints import hint_of_rule
 from .named_files import GROUPS, Known, number_of, plan_of, who, written
 from .numbers import kilowatts
 
@@ -18,16 +19,14 @@ RULES = {
 }
 
 
-def told_range(name, period, left, right, cells, least):
+def told_range(name, period, left, right, cells, least, most):
     """Rule 48, which is three rules: off, not below the least power, not above the greatest with reserve."""
     on, power, reserve = (cells.get(it) for it in ("on", "power", "reserve"))
     if on == 0:
         return f"{name} is off in period {period} with {left} kW of power or reserve, and 0 is due"
     is_above = None not in (power, reserve) and power + reserve == left
     if power == right and (left == least or not is_above):
-        return (
-            f"{name} gives {right} kW in period {period}, and its least power is {left} kW{in_megawatts(right, left)}"
-        )
+        return f"{name} gives {right} kW in period {period}, and its least power is {left} kW{in_megawatts(right, left, most)}"
     if is_above:
         both = f" and keeps {int(reserve)} kW in reserve, {left} kW together" if reserve else ""
         return f"{name} gives {int(power)} kW{both}, in period {period}, and its greatest power is {right} kW"
@@ -42,15 +41,16 @@ def cells_of(plan, period):
     }
 
 
-def least_of(files, kind, number):
-    """The least power of a unit in kilowatts, or None where the case doesn't tell it."""
-    found = number_of(files.at("case", GROUPS.get(kind, ""), number, "power_output_minimum"))
+def limit_of(files, kind, number, key):
+    """The least or greatest power of a unit in kilowatts, or None where the case doesn't tell it."""
+    found = number_of(files.at("case", GROUPS.get(kind, ""), number, key))
     return None if found is None else kilowatts(found)
 
 
-def in_megawatts(given, due):
-    """A question, where what is given is about a thousandth of what is due."""
-    return " (schedules are in kilowatts: are these megawatts?)" if 0 < given <= due // 500 else ""
+def in_megawatts(given, due, most=None):
+    """A question, where what is given is about a thousandth of what is due: at most that of `most`, where it is known."""
+    limit = due // 500 if most is None else max(due // 500, most // 1000)
+    return " (schedules are in kilowatts: are these megawatts?)" if 0 < given <= limit else ""
 
 
 def told_rule(files, what, code, kind, number, period, left, right, entry=None):
@@ -58,9 +58,9 @@ def told_rule(files, what, code, kind, number, period, left, right, entry=None):
     name = who(files, kind, number) if kind in GROUPS else ""
     name += f", entry {entry} of the mixture," if entry else ""
     rows = plan_of(files, what, kind, number, entry)
-    least = least_of(files, kind, number)
+    least, most = (limit_of(files, kind, number, f"power_output_{it}") for it in ("minimum", "maximum"))
     if code == 48:
-        return told_range(name, period, left, right, cells_of(rows, period), least) + "."
+        return told_range(name, period, left, right, cells_of(rows, period), least, most) + "."
     if code == 53:
         given = rows[period - 1] if isinstance(rows, list) and period <= len(rows) else None
         if given is not None and written(given) == str(right):
@@ -70,8 +70,9 @@ def told_rule(files, what, code, kind, number, period, left, right, entry=None):
     known = dict(who=name, period=period, left=left, right=right, difference=abs(right - left))
     known.update(left_is=state.get(left, left), right_is=state.get(right, right))
     known.update(lacking="are lacking" if left < right else "too much")
-    known["megawatts"] = in_megawatts(left, right)
-    return RULES[code].format_map(Known(known)) + "." + barred(code, right, least)
+    hint = hint_of_rule(files, code, kind, number, period)
+    known["megawatts"] = "" if hint else in_megawatts(left, right)
+    return RULES[code].format_map(Known(known)) + "." + barred(code, right, least) + hint
 
 
 def barred(code, limit, least):

@@ -1,6 +1,7 @@
 """A fault line of `hull` as a sentence: which file and unit, what was found there, and what is due."""
 import re
 
+from .fault_hints import hint_of_items, place_in_words, remedy
 from .fault_rules import told_rule
 from .fault_shapes import told_shape
 from .named_files import GROUPS, WHOLE_FILES, Files, Known, who, written
@@ -23,7 +24,7 @@ TEXTS = {
     10: "this isn't JSON, or can't stand there",
     11: "this number has more than 30 digits or an exponent above 400",
     12: "this opens level 33 of objects and lists, and 32 is the most",
-    13: "this key stands twice in one object",
+    13: "this key stands twice in one object: rename or drop one of the two",
 }
 FIELDS = {
     20: "it isn't there, and it has to be",
@@ -63,8 +64,9 @@ def told_text(files, what, code, place):
     before = data[:place]
     line, column = before.count(b"\n") + 1, place - (before.rfind(b"\n") + 1) + 1
     near = before[-30:].decode("utf-8", "replace"), data[place : place + 30].decode("utf-8", "replace")
+    at = place_in_words(files, what, place)
     return (
-        f"byte {place}, line {line}, column {column}: {TEXTS[code]}{known_mistake(files, what, place)}; "
+        f"byte {place}, line {line}, column {column}{', in ' if at else ''}{at}: {TEXTS[code]}{known_mistake(files, what, place)}; "
         f"there stands {near[0]!r} and then {near[1]!r}"
     )
 
@@ -87,6 +89,8 @@ def known_mistake(files, what, place):
         told = "the file ends there"
     elif re.search(rb"\d,\s*\Z", data[:place]) and data[place : place + 1].isdigit():
         told = "a decimal comma? Numbers have a point"
+    elif re.match(rb"[-+]?(nan|inf)", data[place:], re.I):
+        told = "no number of JSON: give the value, or 0 where there is none"
     return f" ({told})" if told else ""
 
 
@@ -128,7 +132,7 @@ def told_field(files, what, code, key, kind, number, item):
     place = f", item {item}" if item else ""
     count = f"; it has {len(listed)} items" if code in (25, 33) and isinstance(listed, list) else ""
     value = f" Found: {written(found)}{count}." if code != 20 and found is not None else ""
-    hint = hint_of_field(files, what, code, known["limit"], listed)
+    hint = hint_of_field(files, what, code, known["limit"], listed) or remedy(code, key, kind, found)
     return (
         f"{where}{'the whole' if key == 'whole' else key}{place}: {FIELDS[code].format_map(Known(known))}.{value}{hint}"
     )
@@ -136,19 +140,12 @@ def told_field(files, what, code, key, kind, number, item):
 
 def hint_of_field(files, what, code, limit, listed):
     """What mistake a field's fault may come from."""
-    periods = files.at("case", "time_periods")
     if code == 20 and any(files.at(what, it) is not None for it in OF_OTHERS[what]):
         return " Are the files swapped?"
     if code == 24 and limit.endswith(" MW"):
         return " A case is in megawatts: are these kilowatts?"
-    if (
-        code == 25
-        and isinstance(listed, list)
-        and isinstance(periods, str)
-        and periods.isdigit()
-        and len(listed) > int(periods)
-    ):
-        return " A decimal comma makes two items of one."
+    if code == 25 and isinstance(listed, list):
+        return hint_of_items(files, listed)
     return ""
 
 

@@ -57,7 +57,7 @@ class Explain(unittest.TestCase):
                 '"ramp_up_limit":20',
                 '"ramp_up_limit":-20.50',
             ),
-            'case.json: thermal unit "G1" (number 1), ramp_up_limit: it is below 0. Found: -20.50.',
+            'case.json: thermal unit "G1" (number 1), ramp_up_limit: it is below 0. Found: -20.50. Give it as a positive number.',
         )
 
     def test_a_name_that_the_case_has_not(self):
@@ -206,7 +206,10 @@ class Explain(unittest.TestCase):
         self.assertIn("above the limit, 10,000 MW. Found: 100000. A case is in megawatts: are these kilowatts?", told)
         line = "fault 3 case 25 field demand kind case unit 0 item 0"
         told = self.told(line, "case.json", "[65,100,130,80,70,70]", "[65,100,130,5,80,70,70]")
-        self.assertIn("it has 7 items. A decimal comma makes two items of one.", told)
+        self.assertIn(
+            "it has 7 items. A decimal comma makes two items of one: items 3 and 4, 130 and 5, are most likely 130.5.",
+            told,
+        )
         shutil.copy(f"{EVENING}/case.json", f"{self.room}/both.json")
         ran = run(
             "explain.py",
@@ -215,6 +218,76 @@ class Explain(unittest.TestCase):
             input="fault 4 schedule 42 kind case unit 0 item 0\n",
         )
         self.assertIn("Are the files swapped?", ran[1])
+
+    def test_a_whole_number_in_megawatts(self):
+        line = "fault 4 schedule 48 kind thermal unit 2 period 2 left 10000 right 45"
+        told = self.told(line, "schedule.json", '"power":[0,10000', '"power":[0,45')
+        self.assertTrue(
+            told.endswith("its least power is 10000 kW (schedules are in kilowatts: are these megawatts?)."), told
+        )
+        line = "fault 4 schedule 48 kind thermal unit 2 period 2 left 10000 right 51"
+        self.assertNotIn("megawatts", self.told(line, "schedule.json", '"power":[0,10000', '"power":[0,51'))
+
+    def test_where_decimal_commas_are(self):
+        line = "fault 9 prices 25 field energy item 0"
+        for energy, due in (
+            ("[20,5,20,60,20,20,20]", "items 1 and 2, 20 and 5, are most likely 20.5. Numbers have a point."),
+            ("[20,25,60,5,20,20,20.5]", "items 3 and 4, 60 and 5, are most likely 60.5. Numbers have a point."),
+            ("[20,1,20,1,60,1,20,1,20,1,20,1]", "are most likely 20.1, and so with 4 more. Numbers have a point."),
+        ):
+            with open(f"{self.room}/prices.json", "w", encoding="utf-8") as it:
+                it.write(f'{{"energy": {energy}}}')
+            self.change(EVENING, None, "", "")
+            told = self.sentence(line, "--prices", f"{self.room}/prices.json")
+            self.assertTrue(told.endswith(due), told)
+            self.assertIn("A decimal comma makes two items of one: ", told)
+        with open(f"{self.room}/prices.json", "w", encoding="utf-8") as it:
+            it.write('{"energy": [20.5,20.5,60,20,20,20.5,20]}')
+        told = self.sentence(line, "--prices", f"{self.room}/prices.json")
+        self.assertTrue(told.endswith("it has 7 items."), told)
+
+    def test_what_is_due_at_a_field(self):
+        for line, name, old, new, due in (
+            (
+                "fault 3 case 20 field unit_on_t0 kind thermal unit 2 item 0",
+                *("case.json", '"unit_on_t0":0,', ""),
+                "it isn't there, and it has to be. Due: 1 where it is on before period 1, otherwise 0.",
+            ),
+            (
+                "fault 3 case 21 field ramp_up_limit kind thermal unit 1 item 0",
+                *("case.json", '"ramp_up_limit":20', '"ramp_up_limit":"1,020"'),
+                'Found: "1,020". Numbers stand without quotes, with a point, and without separators of thousands.',
+            ),
+            (
+                "fault 3 case 27 field piecewise_production kind thermal unit 2 item 0",
+                *("case.json", '{"mw":50,"cost":1800}', '{"mw":45,"cost":1800}'),
+                "Add the point at the least or at the greatest power.",
+            ),
+        ):
+            told = self.told(line, name, old, new)
+            self.assertTrue(told.endswith(due), told)
+
+    def test_the_state_before_period_1_is_told(self):
+        line = "fault 4 schedule 51 kind thermal unit 1 period 1 left 60000 right 20000"
+        told = self.told(line, "case.json", '"power_output_t0":60', '"power_output_t0":0')
+        self.assertTrue(
+            told.endswith(
+                "In the case it is on before period 1 (unit_on_t0 1) with power_output_t0 0 MW, below its least power of 40 MW. Its "
+                "upward ramp of 20 MW doesn't take it there in period 1, so it can't stay on: give the power that it had, or unit_on_t0 0."
+            ),
+            told,
+        )
+        line = "fault 4 schedule 51 kind thermal unit 1 period 2 left 21000 right 20000"
+        self.assertNotIn("In the case", self.told(line, "case.json", '"power_output_t0":60', '"power_output_t0":0'))
+
+    def test_where_a_text_is_no_json(self):
+        line = "fault 3 case 10 at 1043"
+        self.change(EVENING, "case.json", '"power_output_maximum":[10,20', '"power_output_maximum":[10,NaN')
+        with open(f"{self.room}/case.json", "rb") as it:
+            place = it.read().index(b"NaN")
+        told = self.sentence(line.replace("1043", str(place)))
+        self.assertIn('in renewable unit "W1", power_output_maximum, item 2: this isn\'t JSON', told)
+        self.assertIn("(no number of JSON: give the value, or 0 where there is none)", told)
 
     def test_a_report_of_other_files(self):
         with open(f"{EXAMPLES}/two_units/price.output", encoding="utf-8") as it:
