@@ -1,0 +1,47 @@
+"""Looks at the files of a run before it costs a day: all that `hull` will refuse, and what is odd though it is taken.
+
+usage: lint.py CASE [SCHEDULE] [--prices F] [--mixture F] [--highest-cost C] [--hours H] [--all] [--json]
+
+  CASE             a case as `hull` reads it (docs/FORMATS.md)
+  SCHEDULE         a schedule of it, and with --prices and --mixture such files too
+  --highest-cost C a marginal cost above this is odd, in the currency per MWh; 1000 if left out
+  --hours H        how long a period is; 1 if left out
+  --all            each finding in words; of one rule five are told if left out
+  --json           the findings as JSON: level, rule, file, line, kind, unit, periods, text and, of an error, the fault line of hull
+
+An error is what `hull` refuses; a warning is what it takes without a word though it is odd. Status 0 says that nothing is odd, 1 that
+there are warnings, 2 that there are errors. It needs neither the program nor SciPy.
+"""
+import json
+import sys
+from typing import Callable, Optional, Sequence
+
+from ..errors import run_tool
+from ..lint import Limits, look
+from .words import asker, positive
+
+
+def body(words: Sequence[str], tell: Callable[[str], None]) -> int:
+    ask = asker("lint.py", __doc__)
+    ask.add_argument("case")
+    ask.add_argument("schedule", nargs="?")
+    for it in ("prices", "mixture"):
+        ask.add_argument(f"--{it}")
+    ask.add_argument("--highest-cost", type=positive, default=1000.0)
+    ask.add_argument("--hours", type=positive, default=1.0)
+    for it in ("all", "json"):
+        ask.add_argument(f"--{it}", action="store_true")
+    given = ask.parse_args(words)
+    names = {it: getattr(given, it) for it in ("case", "schedule", "prices", "mixture") if getattr(given, it)}
+    review = look(names, Limits(given.highest_cost, given.hours))
+    if given.json:
+        text = json.dumps(review.as_json(), ensure_ascii=False, indent=1)
+    else:
+        text = "\n".join([*review.lines(given.all), review.summary])
+    sys.stdout.buffer.write(f"{text}\n".encode("utf-8", "replace"))
+    sys.stdout.buffer.flush()
+    return review.status
+
+
+def main(words: Optional[Sequence[str]] = None) -> int:
+    return int(run_tool("lint.py", body, words))

@@ -1,0 +1,129 @@
+"""What is odd in the cost points of thermal units: falling slopes, costs below 0 or very high, and costs per MWh in place of totals."""
+from __future__ import annotations
+
+from dataclasses import dataclass
+from fractions import Fraction
+from typing import Iterator, List, Optional, Tuple
+
+from .cases import Thermal
+from .costs import envelope
+from .curve_costs import CurveCosts, falls, slopes
+from .lint_findings import megawatts, per_mwh
+from .lint_units import Oddity
+from .numbers import money
+
+FLAT = 0.35  # slopes of less than this share of the average cost are those of costs per MWh, which hardly rise
+CHEAP = 0.1  # so is an average cost of less than this share of the other units'
+KEY = "piecewise_production"
+
+
+def average(unit: Thermal) -> Optional[Fraction]:
+    """Millionths per kilowatt at the last point; None at no power."""
+    at, cost = unit.points[-1]
+    return Fraction(cost, at) if at else None
+
+
+def middle(numbers: List[Fraction]) -> Optional[Fraction]:
+    return sorted(numbers)[len(numbers) // 2] if numbers else None
+
+
+@dataclass
+class CostCheck:
+    """What costs are held against: the highest marginal cost in the currency per MWh, and the middle of the units' average costs."""
+
+    highest: float
+    usual: Optional[Fraction]
+
+    @staticmethod
+    def of(units: List[Thermal], highest: float) -> CostCheck:
+        return CostCheck(highest, middle([it for it in map(average, units) if it is not None and it > 0]))
+
+    def oddities(self, unit: Thermal) -> Iterator[Oddity]:
+        found = self.per_mwh_shape(unit)
+        if found:
+            yield found
+            return
+        yield from self.out_of_range(unit)
+
+    def per_mwh_shape(self, unit: Thermal) -> Optional[Oddity]:
+        """Costs that look like costs per MWh: all within what a MWh may cost, and far too little for that power."""
+        costs, mean = [cost for _, cost in unit.points], average(unit)
+        (at, cost), last = unit.points[0], unit.points[-1]
+        if mean is None or not all(0 < it <= self.highest * 1e6 for it in costs) or last[0] <= 1000:
+            return None
+        is_flat = at < last[0] and Fraction(last[1] - cost, last[0] - at) < mean * Fraction(FLAT)
+        is_cheap = self.usual is not None and mean < self.usual * Fraction(CHEAP)
+        if not is_cheap and not (is_flat and mean < 5000):
+            return None
+        per = money(last[1])
+        return Oddity(
+            "cost-per-mwh",
+            KEY,
+            f"its cost at {megawatts(last[0])} is {per}, {per_mwh(float(mean))} per MWh: are its costs per MWh? `cost` is what a whole "
+            f"period at that power costs: {megawatts(last[0])} at {per} per MWh cost {money(last[1] * last[0] // 1000)} an hour",
+        )
+
+    def out_of_range(self, unit: Thermal) -> Iterator[Oddity]:
+        found = slopes(unit.points)
+        low = min(found, key=lambda row: row[2], default=None)
+        high = max(found, key=lambda row: row[2], default=None)
+        if low and low[2] < 0:
+            yield Oddity(
+                "negative-cost",
+                KEY,
+                f"from {megawatts(low[0])} to {megawatts(low[1])} a further MWh costs {per_mwh(float(low[2]))}, below 0. "
+                "`cost` is what a whole period at that power costs, and rises with power",
+            )
+        mean, bound = average(unit), self.highest * 1e3
+        is_high = bool(high and high[2] > bound)
+        if is_high or not found and mean is not None and mean > bound:
+            where = f"from {megawatts(high[0])} to {megawatts(high[1])} a further MWh" if high and is_high else "a MWh"
+            slope = high[2] if high and is_high else mean
+            yield Oddity(
+                "high-cost",
+                KEY,
+                f"{where} costs {per_mwh(float(slope or 0))}, above {self.highest:,g} (--highest-cost). Are its costs in cents, or its powers in "
+                "gigawatts? Costs are in the currency, powers in megawatts",
+            )
+
+
+def steepest_fall(unit: Thermal) -> Tuple[int, Fraction, Fraction]:
+    """The power where the slope falls most, and the slopes before and behind it."""
+    found = slopes(unit.points)
+    pairs = [(before[1], before[2], after[2]) for before, after in zip(found, found[1:])]
+    return max(pairs, key=lambda row: row[1] - row[2])
+
+
+def farthest_point(unit: Thermal) -> Tuple[int, int, int]:
+    """The point whose cost is farthest above the envelope: its power, its cost, and that of the envelope."""
+    rows = [(at, cost, int(envelope(unit.points, at))) for at, cost in unit.points]
+    return max(rows, key=lambda row: int(row[1] - row[2]))
+
+
+def falling(unit: Thermal, cost: Optional[CurveCosts]) -> Optional[Oddity]:
+    """Slopes that fall, and what the envelope takes off in a schedule where its cost is given."""
+    if not falls(unit):
+        return None
+    at, before, after = steepest_fall(unit)
+    power, given, taken = farthest_point(unit)
+    scheduled = ""
+    if cost is not None:
+        convex, rest = cost.straight - cost.convex, cost.convex - cost.whole
+        scheduled = f". In this schedule it costs {money(round(convex))} less by the convex envelope, and {money(round(rest))} less still by whole prices"
+    return Oddity(
+        "falling-slopes",
+        KEY,
+        f"at {megawatts(at)} the cost of a further MWh falls from {per_mwh(float(before))} to {per_mwh(float(after))}. hull takes the "
+        f"envelope of the points: {money(taken)} at {megawatts(power)} in place of {money(given)}{scheduled}. Give points whose slopes rise, "
+        "or take the envelope",
+    )
+
+
+def falling_in_sum(count: int, cost: CurveCosts) -> str:
+    """What falling slopes change in the cost of a whole schedule."""
+    convex, rest = cost.straight - cost.convex, cost.convex - cost.whole
+    return (
+        f"in sum: {count} unit{' has' if count == 1 else 's have'} falling slopes. The units' cost in this schedule is {money(round(cost.straight))} by straight lines between the "
+        f"points, {money(round(cost.convex))} by lower convex envelopes ({money(round(convex))} less), and {money(cost.whole)} as hull has it, by "
+        f"envelopes in whole prices ({money(round(rest))} less still)"
+    )

@@ -1,0 +1,426 @@
+"""tools/lint.py: all that hull refuses, by its own lines, and what is odd though it is taken, in words that say how to mend it."""
+from __future__ import annotations
+
+import json
+import os
+import random
+import re
+import shutil
+import subprocess
+import tempfile
+import unittest
+from typing import Any, Callable, Dict, Iterator, List, Optional, Tuple
+
+import market
+from tool import EXAMPLES, PROGRAM, ROOT, run
+
+from hulltools.lint import look
+from hulltools.lint_findings import Level, ranges
+
+Change = Callable[[Dict[str, Any]], None]
+FILES = ("case", "schedule", "prices")
+ROW = re.compile(r"\| `(\w+)/(case|schedule|prices|mixture)\.json`: `(.+)` becomes `(.+)` \| `(fault [^`]+)` \|")
+
+
+def in_megawatts(plan: Dict[str, Any], more: float = 0) -> None:
+    """Turns a schedule into megawatts, with this much more in each thermal on period."""
+    for unit in plan["thermal"].values():
+        unit["power"] = [power / 1000 + more if power and more else power // 1000 for power in unit["power"]]
+        unit["reserve"] = [it // 1000 for it in unit["reserve"]]
+    for group in ("renewable", "bids"):
+        plan[group] = {name: [it // 1000 for it in row] for name, row in plan[group].items()}
+
+
+def unit_change(name: str, **fields: Any) -> Change:
+    return lambda files: files["case"]["thermal_generators"][name].update(fields)
+
+
+def points(*pairs: Tuple[float, float]) -> List[Dict[str, float]]:
+    return [{"mw": mw, "cost": cost} for mw, cost in pairs]
+
+
+def scaled(what: str, key: str, factor: float) -> Change:
+    def change(files: Dict[str, Any]) -> None:
+        files[what][key] = [it * factor for it in files[what][key]]
+
+    return change
+
+
+def swap(files: Dict[str, Any]) -> None:
+    files["case"], files["schedule"] = files["schedule"], files["case"]
+
+
+def replaced(what: str, old: str, new: str) -> Change:
+    """A change of the file's text."""
+
+    def change(files: Dict[str, Any]) -> None:
+        text = files[what] if isinstance(files[what], str) else market.text(files[what])
+        assert old in text, old
+        files[what] = text.replace(old, new, 1)
+
+    return change
+
+
+def dropped(files: Dict[str, Any]) -> None:
+    del files["case"]["thermal_generators"]["CCGT4"]["power_output_t0"]
+
+
+# Mistakes that people make: what is changed, the words of lint.py, and those of explain.py where hull refuses the run.
+MISTAKES: Dict[str, Tuple[Change, str, Optional[str]]] = {
+    "a capacity in kilowatts": (
+        unit_change("COAL1", power_output_maximum=400000),
+        'line 5: thermal unit "COAL1" (number 1), power_output_maximum: it is above the limit, 10,000 MW. Found: 400000. '
+        "A case is in megawatts: are these kilowatts?",
+        "are these kilowatts?",
+    ),
+    "demand in kilowatts": (
+        scaled("case", "demand", 1000),
+        "Demand is 880,000 MW in period 20, the worst of periods 1 to 24; all units that may run give at most 1,550 MW then. Is demand in "
+        "kilowatts, or are the units in gigawatts?",
+        "all units together give 1540.5 MW: is demand in kilowatts?",
+    ),
+    "a field that isn't there": (
+        dropped,
+        'thermal unit "CCGT4" (number 4), power_output_t0: it isn\'t there, and it has to be. Due: its power in the period before period 1, in '
+        "MW; 0 where it is off.",
+        "0 where it is off",
+    ),
+    "demand of 23 values": (
+        lambda files: files["case"]["demand"].pop(),
+        "23 periods are a day of 23 hours, on which clocks go forward, and the case has 24",
+        "on which clocks go forward",
+    ),
+    "files that are swapped": (swap, "Are the files swapped?", "Are the files swapped?"),
+    "a decimal comma in prices": (
+        replaced("prices", "25.5", "25,5"),
+        "items 1 and 2, 25 and 5, are most likely 25.5. Numbers have a point.",
+        "items 1 and 2, 25 and 5, are most likely 25.5",
+    ),
+    "NaN in a forecast": (
+        replaced("case", "56.5", "NaN"),
+        "in renewable unit \"WIND1\", power_output_maximum, item 5: this isn't JSON, or can't stand there (no number of JSON: give the value, "
+        "or 0 where there is none)",
+        'in renewable unit "WIND1", power_output_maximum, item 5',
+    ),
+    "two units of one name": (
+        replaced("case", '"GT6"', '"GT5"'),
+        "in thermal_generators: this key stands twice in one object: rename or drop one of the two",
+        "rename or drop one of the two",
+    ),
+    "a start limit below the least power": (
+        unit_change("CCGT3", ramp_startup_limit=60),
+        'thermal unit "CCGT3": it can never start: its ramp_startup_limit of 60 MW is below its least power of 120 MW.',
+        "this unit can never start: the case is to be mended",
+    ),
+    "a schedule in megawatts": (
+        lambda files: in_megawatts(files["schedule"], 0.5),
+        "this schedule is in megawatts. Whole kilowatts are due, 340000 for 340 MW: tools/make_schedule.py --follow makes them of it",
+        "are these megawatts?",
+    ),
+    "a schedule in whole megawatts": (
+        lambda files: in_megawatts(files["schedule"]),
+        "this schedule is in megawatts. Whole kilowatts are due",
+        "its least power is 150000 kW (schedules are in kilowatts: are these megawatts?)",
+    ),
+    "a name with a dash": (
+        replaced("schedule", '"GT5"', '"GT-5"'),
+        'thermal unit "GT-5" (number 5): the case has no unit of that name and kind. Is "GT5" meant?',
+        'Is "GT5" meant?',
+    ),
+    "prices of a day of 25 hours": (
+        lambda files: files["prices"]["energy"].append(30),
+        "25 periods are a day of 25 hours, on which clocks go back, and the case has 24",
+        "on which clocks go back",
+    ),
+    "prices per kWh": (
+        scaled("prices", "energy", 0.001),
+        "The highest energy price is 0.095, and a MWh of the median unit costs 39.96 at full load: are these prices per kWh? Prices are per MWh, so "
+        "0.095 per kWh is 95.",
+        None,
+    ),
+    "on before period 1 without power": (
+        unit_change("COAL1", power_output_t0=0),
+        "it is on before period 1 (unit_on_t0 1) with power_output_t0 0 MW, below its least power of 150 MW. Its upward ramp of 90 MW doesn't take "
+        "it there in period 1, so it can't stay on: give the power that it had, or unit_on_t0 0.",
+        "give the power that it had, or unit_on_t0 0",
+    ),
+    "costs per MWh": (
+        unit_change("GT5", piecewise_production=points((20, 95), (80, 88))),
+        'thermal unit "GT5": its cost at 80 MW is 88.00, 1.10 per MWh: are its costs per MWh? `cost` is what a whole period at that power costs: '
+        "80 MW at 88.00 per MWh cost 7,040.00 an hour.",
+        None,
+    ),
+    "falling slopes": (
+        unit_change("GT5", piecewise_production=points((20, 2000), (50, 5000), (80, 7000))),
+        "at 50 MW the cost of a further MWh falls from 100.00 to 66.67. hull takes the envelope of the points: 4,499.99 at 50 MW in place of "
+        "5,000.00. In this schedule it costs 1,000.00 less by the convex envelope, and 0.02 less still by whole prices.",
+        None,
+    ),
+    "times that contradict": (
+        unit_change("CCGT3", unit_on_t0=1, power_output_t0=120, time_up_t0=0, time_down_t0=5),
+        "it is on before period 1 (unit_on_t0 1), but time_up_t0 is 0 and time_down_t0 is 5, as if it were off: mend unit_on_t0 or the two times.",
+        "as if it were off: mend unit_on_t0 or the two times",
+    ),
+    "a misspelt key": (
+        unit_change("CCGT3", commitement=[0] * 24),
+        'the key "commitement" is skipped: hull doesn\'t read it there. Is "commitment" meant?',
+        None,
+    ),
+    "ramps in MW per minute": (
+        unit_change("COAL1", ramp_up_limit=1.5),
+        "its ramp_up_limit of 1.5 MW a period is 0.4 % of its greatest power an hour. Is it in MW per minute? 1.5 MW a minute are 90 MW a period.",
+        "1.5 MW a minute are 90 MW a period",
+    ),
+    "costs in cents": (
+        unit_change("GT6", piecewise_production=points((20, 184000), (80, 736000))),
+        "from 20 MW to 80 MW a further MWh costs 9,200.00, above 1,000 (--highest-cost). Are its costs in cents",
+        None,
+    ),
+    "costs that fall": (
+        unit_change("CCGT3", piecewise_production=points((120, 5000), (300, 4000))),
+        "from 120 MW to 300 MW a further MWh costs -5.56, below 0.",
+        None,
+    ),
+    "power of a unit that is off": (
+        unit_change("GT5", power_output_t0=40),
+        "it is off before period 1 (unit_on_t0 0), so its power_output_t0 of 40 MW is skipped: give unit_on_t0 1 if it was on, or a power of 0.",
+        None,
+    ),
+    "a power before period 1 above the greatest": (
+        unit_change("COAL2", power_output_t0=500),
+        "power_output_t0 500 MW, above its greatest power of 350 MW. Its downward ramp of 90 MW doesn't bring it down in period 1",
+        "doesn't bring it down in period 1",
+    ),
+    "rules that leave no flag": (
+        unit_change("COAL1", must_run=1, commitment=[None, 0] + [None] * 22),
+        "in period 2 it can be neither on nor off: it is must-run, and its window says off.",
+        "its window says off",
+    ),
+    "reserve as a share": (
+        lambda files: files["case"].update(reserves=[0.05] * 24),
+        "The highest required reserve is 0.05 MW, at a demand of up to 880 MW: are these shares of demand?",
+        None,
+    ),
+    "reserve that can't be kept": (
+        lambda files: files["case"].update(reserves=[1000] * 24),
+        "of reserve are required in period 18, the worst of periods 1 to 24; the units can keep at most",
+        "are lacking",
+    ),
+    "no reserve prices": (
+        lambda files: files["prices"].pop("reserve"),
+        "The case requires reserve, and there is no list `reserve`: all reserve prices are 0 then.",
+        None,
+    ),
+}
+
+
+class WithFiles(unittest.TestCase):
+    def setUp(self) -> None:
+        self.room = tempfile.mkdtemp(prefix="hull-lint-")
+        self.addCleanup(shutil.rmtree, self.room)
+        self.files: Dict[str, Any] = {"case": market.case(), "schedule": market.schedule(), "prices": market.prices()}
+
+    def write(self) -> None:
+        for what, value in self.files.items():
+            with open(f"{self.room}/{what}.json", "w", encoding="utf-8") as it:
+                it.write(value if isinstance(value, str) else market.text(value))
+
+    def words(self, *more: str) -> List[str]:
+        case, schedule, prices = (f"{self.room}/{it}.json" for it in FILES)
+        return [case, schedule, "--prices", prices, *more]
+
+    def lint(self, *more: str) -> Tuple[int, str]:
+        self.write()
+        status, text, said = run("lint.py", *self.words(*more))
+        self.assertEqual(said, "")
+        return status, text.replace(f"{self.room}/", "")
+
+    def refusal(self, command: str = "settle", *more: str) -> str:
+        """What hull prints first."""
+        case, schedule, prices = (f"{self.room}/{it}.json" for it in FILES)
+        words = [command, "--case", case, "--schedule", schedule, "--prices", prices, *more]
+        return subprocess.run([PROGRAM, *words], capture_output=True, text=True).stdout.split("\n")[0]
+
+
+class Mistakes(WithFiles):
+    def test_a_market_without_mistakes_is_clean(self) -> None:
+        self.assertEqual(self.lint(), (0, "nothing is odd\n"))
+        self.assertEqual(self.refusal(), "hull-settlement 1")
+
+    def told(self, mistake: str) -> None:
+        change, lint, explained = MISTAKES[mistake]
+        change(self.files)
+        status, text = self.lint()
+        self.assertIn(lint, text)
+        line = self.refusal()
+        self.assertEqual(status, 2 if line.startswith("fault") else 1, line)
+        if explained is None:
+            self.assertEqual(line, "hull-settlement 1")
+        else:
+            self.assertIn(explained, run("explain.py", *self.words(), input=f"{line}\n")[1])
+
+
+def told_test(mistake: str) -> Callable[[Mistakes], None]:
+    return lambda self: self.told(mistake)
+
+
+for mistake in MISTAKES:
+    setattr(Mistakes, f"test_{mistake.replace(' ', '_')}", told_test(mistake))
+
+
+class Lines(WithFiles):
+    """The first error has the line that hull prints."""
+
+    def first_error(self, mixture: bool = False) -> str:
+        names = {it: f"{self.room}/{it}.json" for it in (*FILES, *(("mixture",) if mixture else ()))}
+        errors = look(names).of(Level.ERROR)
+        return str(errors[0].fault) if errors else "none"
+
+    def rows(self) -> Iterator[Tuple[str, ...]]:
+        with open(f"{ROOT}/docs/FAULTS.md", encoding="utf-8") as page:
+            for line in page:
+                found = ROW.search(line)
+                if found:
+                    yield found.groups()
+
+    def test_each_line_of_the_page(self) -> None:
+        count = 0
+        for folder, what, old, new, line in self.rows():
+            beside = {"prices": "evening", "mixture": "usual"}.get(what, folder)
+            for it in ("case", "schedule"):
+                shutil.copy(f"{EXAMPLES}/{beside}/{it}.json", self.room)
+            prices = "posted" if beside == "evening" else "certified"
+            shutil.copy(f"{EXAMPLES}/{prices}/prices.json", self.room)
+            if what == "mixture":
+                shutil.copy(f"{EXAMPLES}/certified/mixture.json", self.room)
+            with open(f"{self.room}/{what}.json", encoding="utf-8") as it:
+                text = it.read()
+            with open(f"{self.room}/{what}.json", "w", encoding="utf-8") as it:
+                it.write(text.replace(old, new))
+            self.assertEqual(self.first_error(what == "mixture"), line)
+            count += 1
+        self.assertGreater(count, 50)
+
+    def test_random_changes(self) -> None:
+        draw, tokens = random.Random(59), re.compile(r'"[^"]*"|-?[0-9.]+|[\[\]{},:]|null')
+        values = [
+            "-1",
+            "0",
+            "2",
+            "1.5",
+            "1e9",
+            "1e401",
+            "0.0004",
+            '"x"',
+            "null",
+            "true",
+            "[]",
+            "{}",
+            "NaN",
+            "12,5",
+            "9" * 31,
+            "01",
+            "",
+        ]
+        for number in range(100):
+            self.files = {"case": market.case(), "schedule": market.schedule(), "prices": market.prices()}
+            what = draw.choice(FILES)
+            text = market.text(self.files[what])
+            place = draw.choice(list(tokens.finditer(text)))
+            self.files[what] = text[: place.start()] + draw.choice(values) + text[place.end() :]
+            self.write()
+            line = self.refusal()
+            found = self.first_error()
+            self.assertEqual(found if found != "none" else "hull-settlement 1", line, (number, what, place))
+
+
+class Told(WithFiles):
+    def test_all_errors_are_told_at_once(self) -> None:
+        for name, power in (("COAL1", 400000), ("GT5", -1)):
+            self.files["case"]["thermal_generators"][name]["power_output_maximum"] = power
+        self.files["case"]["reserves"][3:6] = ["5"] * 3
+        self.files["schedule"]["thermal"]["GT-6"] = self.files["schedule"]["thermal"].pop("GT6")
+        self.files["prices"]["reserve"][0] = -1
+        status, text = self.lint()
+        self.assertEqual(status, 2)
+        for words in (
+            'case.json, line 3: reserves, item 4: it is of the wrong kind: a list of numbers is due. Found: "5".',
+            "So in 2 more items: 5, 6.",
+            'line 5: thermal unit "COAL1"',
+            'line 9: thermal unit "GT5"',
+            'Is "GT6" meant?',
+            "prices.json, line 2: reserve, item 1: it is below 0. Found: -1.",
+            "6 errors, 0 warnings",
+        ):
+            self.assertIn(words, text)
+
+    def test_a_day_on_which_clocks_change_is_named(self) -> None:
+        for hours, told in (
+            (25, "25 periods are a day of 25 hours, on which clocks go back: is that meant?"),
+            (30, "30 periods are no whole day"),
+        ):
+            case = {"time_periods": hours, "demand": [5] * hours, "reserves": [0] * hours, "thermal_generators": {}}
+            wind = {"power_output_minimum": [0] * hours, "power_output_maximum": [9] * hours}
+            self.files["case"] = {**case, "renewable_generators": {"W": wind}}
+            self.write()
+            status, text, _ = run("lint.py", f"{self.room}/case.json")
+            self.assertEqual(status, 1)
+            self.assertIn(told, text)
+
+    def test_few_of_many_are_told(self) -> None:
+        for it in self.files["case"]["thermal_generators"].values():
+            it["owner"] = "me"
+        text = self.lint()[1]
+        self.assertEqual(text.count('the key "owner" is skipped'), 5)
+        self.assertIn("warning: 1 more like that: GT6 (--all tells them)", text)
+        self.assertEqual(self.lint("--all")[1].count('the key "owner" is skipped'), 6)
+
+    def test_json(self) -> None:
+        self.files["case"]["thermal_generators"]["GT5"]["ramp_up_limt"] = self.files["case"]["thermal_generators"][
+            "GT5"
+        ].pop("ramp_up_limit")
+        status, text = self.lint("--json")
+        found = json.loads(text)
+        self.assertEqual((status, found["status"], len(found["findings"])), (2, 2, 2))
+        error, warning = found["findings"]
+        self.assertEqual((error["level"], error["unit"], error["line"]), ("error", "GT5", 9))
+        self.assertEqual(error["fault"], "fault 3 case 20 field ramp_up_limit kind thermal unit 5 item 0")
+        self.assertEqual((warning["rule"], warning["kind"]), ("unknown-key", "thermal"))
+        self.assertIn('Is "ramp_up_limit" meant?', warning["text"])
+
+    def test_files_that_can_not_be_read(self) -> None:
+        status, text, _ = run("lint.py", f"{self.room}/none.json")
+        self.assertEqual(
+            (status, text), (2, f"error: {self.room}/none.json: No such file or directory\n1 error, 0 warnings\n")
+        )
+        for data in (
+            b"",
+            b"\xef\xbb\xbf{}",
+            b"\x1f\x8b\x08\x00",
+            b"[" * 40,
+            b'{"a":"\xff"}',
+            b"5",
+            b'{"time_periods":',
+        ):
+            with open(f"{self.room}/odd.json", "wb") as it:
+                it.write(data)
+            self.assertEqual(run("lint.py", f"{self.room}/odd.json")[0], 2, data)
+
+    def test_falling_slopes_of_the_day(self) -> None:
+        """The numbers were worked out by a program that shares nothing with this one."""
+        review = look({it: f"{EXAMPLES}/day/{it}.json" for it in ("case", "schedule")})
+        names = [it.unit for it in review.findings if it.rule == "falling-slopes"]
+        self.assertEqual(names, [f"GEN0{it}" for it in ("09", "13", "15", "17", "20", "35", "51", "62", "68", "70")])
+        assert review.costs is not None
+        self.assertEqual(
+            [f"{float(it) / 1e6:.6f}" for it in (review.costs.straight, review.costs.convex, review.costs.whole)],
+            ["9920660.501577", "9920569.756691", "9920566.288596"],
+        )
+        self.assertEqual({it.level for it in review.findings}, {Level.WARNING})
+
+    def test_ranges(self) -> None:
+        self.assertEqual(ranges([9, 1, 2, 5, 6, 7]), "1, 2, 5 to 7, 9")
+
+
+if __name__ == "__main__":
+    unittest.main()
