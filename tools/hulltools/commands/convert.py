@@ -1,0 +1,80 @@
+"""Makes a case of hull of a folder of CSV files or of another program's instance, and a folder of CSV files of a case.
+
+usage: convert.py FROM TO [--from FORM] [--left-out FILE]
+
+  FROM             a case of hull; a folder of CSV files (docs/CSV.md); an instance of UnitCommitment.jl, plain or .json.gz; ModelData of
+                   EGRET as JSON; or a folder that PyPSA's export_to_csv_folder wrote
+  TO               a file that ends in .json gets a case of hull; any other name is a folder that gets CSV files
+  --from FORM      hull, csv, unit-commitment-jl, egret or pypsa; told by what FROM holds if left out
+  --left-out FILE  gets as JSON what was left out, assumed or changed; standard output has it in words in any case
+
+Nothing is left out without a line. Nothing is written where hull would refuse the case: all of its faults are told. docs/CSV.md says what is read
+of each form. It needs neither the program nor SciPy.
+"""
+import json
+import os
+import sys
+import tempfile
+from typing import Callable, List, Optional, Sequence
+
+from ..converters import FORMS, Notes, form_of, read_form
+from ..converters.case_texts import case_text
+from ..converters.csv_folder import write_csv
+from ..errors import HullError, refuse_inputs, run_tool, write_whole
+from ..lint import Review, look
+from ..lint_findings import Level
+from .words import asker
+
+
+def review_of(text: str) -> Review:
+    """What lint.py finds in the case."""
+    with tempfile.TemporaryDirectory(prefix="hull-convert-") as folder:
+        name = os.path.join(folder, "case.json")
+        with open(name, "w", encoding="utf-8") as it:
+            it.write(text)
+        return look({"case": name})
+
+
+def refuse_faults(review: Review, name: str) -> None:
+    """Refuses a case that hull would refuse, with all its faults."""
+    errors = review.of(Level.ERROR)
+    if errors:
+        told = [it.text.rstrip(".") for it in errors]
+        more = f"; and {len(told) - 20} more" if len(told) > 20 else ""
+        raise HullError(f"{name}: hull would refuse this case: {'; '.join(told[:20])}{more}")
+
+
+def inputs_of(name: str) -> List[str]:
+    """The files that FROM is, so that none of them is replaced."""
+    return [os.path.join(name, it) for it in os.listdir(name)] if os.path.isdir(name) else [name]
+
+
+def body(words: Sequence[str], tell: Callable[[str], None]) -> int:
+    ask = asker("convert.py", __doc__)
+    for it in ("from_name", "to"):
+        ask.add_argument(it)
+    ask.add_argument("--from", dest="form", choices=FORMS)
+    ask.add_argument("--left-out")
+    given = ask.parse_args(words)
+    notes = Notes()
+    case = read_form(given.from_name, notes, given.form or form_of(given.from_name))
+    text, inputs = case_text(case), inputs_of(given.from_name)
+    review = review_of(text)
+    refuse_faults(review, given.from_name)
+    for it in (given.to, given.left_out):
+        refuse_inputs(it, inputs) if it else None
+    if given.left_out:
+        write_whole(given.left_out, json.dumps(notes.as_json(), ensure_ascii=False, indent=1) + "\n", inputs)
+    if given.to.endswith(".json"):
+        write_whole(given.to, text, inputs)
+    else:
+        write_csv(given.to, case, inputs)
+    sys.stdout.buffer.write("".join(f"{it}\n" for it in notes.lines()).encode("utf-8", "replace"))
+    sys.stdout.buffer.flush()
+    if review.status:
+        tell(f"{review.summary} in what was made: tools/lint.py tells them")
+    return 0
+
+
+def main(words: Optional[Sequence[str]] = None) -> int:
+    return int(run_tool("convert.py", body, words))

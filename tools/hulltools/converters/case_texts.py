@@ -1,0 +1,91 @@
+"""The text of a case: numbers as they were written, a line for each unit, fields in the order of docs/FORMATS.md."""
+from __future__ import annotations
+
+import json
+from decimal import Decimal
+from typing import Any, List
+
+from ..errors import HullError, read_bytes
+from ..json_texts import Refused, parse
+from ..lint_keys import THERMAL
+from ..named_files import Written
+from .notes import Notes, Object, Taken
+
+LIMITS = [it for it in THERMAL if it not in ("startup", "piecewise_production", "commitment", "name")]
+
+
+def number_text(value: Any) -> str:
+    """A number as a file has it: as it was written, or without an exponent and zeros at the end."""
+    if isinstance(value, (Written, int)):
+        return str(int(value)) if isinstance(value, bool) else str(value)
+    text = format(Decimal(value), "f")
+    return text.rstrip("0").rstrip(".") if "." in text else text
+
+
+def value_text(value: Any) -> str:
+    """A value in one line."""
+    if isinstance(value, dict):
+        return "{" + ", ".join(f"{name_text(key)}: {value_text(it)}" for key, it in value.items()) + "}"
+    if isinstance(value, list):
+        return "[" + ", ".join(value_text(it) for it in value) + "]"
+    if value is None:
+        return "null"
+    return number_text(value)
+
+
+def name_text(name: str) -> str:
+    return json.dumps(name, ensure_ascii=False)
+
+
+def case_text(case: Object) -> str:
+    """The file: a line for each of the case's keys, and one for each unit."""
+    rows: List[str] = []
+    for key, it in case.items():
+        if isinstance(it, dict) and it:
+            units = ",\n".join(f"{name_text(name)}: {value_text(unit)}" for name, unit in it.items())
+            rows.append(f"{name_text(key)}: {{\n{units}\n}}")
+        else:
+            rows.append(f"{name_text(key)}: {value_text(it)}")
+    return "{" + ",\n".join(rows) + "}\n"
+
+
+def written_json(data: bytes, name: str) -> Any:
+    """The value of a JSON text in the profile of docs/FORMATS.md, with its numbers as they are written."""
+    try:
+        parse(data)
+    except Refused as why:
+        raise HullError(f"{name}: no JSON text: {why}") from None
+    return json.loads(data, parse_float=Written, parse_int=Written)
+
+
+def read_hull(name: str, notes: Notes) -> Object:
+    """A case of `hull`, with its fields in order; keys that `hull` skips are noted."""
+    value = written_json(read_bytes(name, "a case"), name)
+    if not isinstance(value, dict):
+        raise HullError(f"{name}: no case: it isn't an object")
+    top = Taken(value, "the case", None, notes)
+    case: Object = {key: top.take(key, {} if key.endswith("generators") else None) for key in CASE_KEYS}
+    case = {key: it for key, it in case.items() if it is not None}
+    case["thermal_generators"] = members(top, "thermal_generators", THERMAL, notes)
+    case["renewable_generators"] = members(top, "renewable_generators", RENEWABLE, notes)
+    bids = members(top, "demand_bids", ["blocks"], notes)
+    if "demand_bids" in value:
+        case["demand_bids"] = bids
+    top.rest()
+    return case
+
+
+CASE_KEYS = ("time_periods", "demand", "reserves", "thermal_generators", "renewable_generators")
+RENEWABLE = ["power_output_minimum", "power_output_maximum"]
+
+
+def members(top: Taken, key: str, fields: List[str], notes: Notes) -> Object:
+    """The units of a kind, each with these fields in this order."""
+    found: Object = {}
+    for name, it in top.object(key).items():
+        unit = Taken(it if isinstance(it, dict) else {}, key, name, notes)
+        found[name] = {field: unit.take(field) for field in fields if field in unit.value and field != "name"}
+        if unit.take("name") not in (None, name):
+            notes.left_out(f"{key}: the field `name`, which isn't the unit's", name)
+        unit.rest()
+    return found

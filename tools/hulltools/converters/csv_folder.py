@@ -1,0 +1,218 @@
+"""A case as a folder of CSV files, which people fill in a spreadsheet: docs/CSV.md has the form."""
+from __future__ import annotations
+
+import csv
+import io
+import os
+import re
+from typing import Dict, Iterable, Iterator, List, Optional, Tuple
+
+from ..errors import HullError, one_line, read_bytes, write_whole
+from ..named_files import Written
+from .case_texts import LIMITS, number_text
+from .notes import Notes, Object
+
+COLUMNS: Dict[str, List[str]] = {
+    "units.csv": ["unit", *LIMITS],
+    "offers.csv": ["unit", "mw", "cost"],
+    "starts.csv": ["unit", "lag", "cost"],
+    "hours.csv": ["period", "demand", "reserves"],
+    "renewables.csv": ["unit", "period", "power_output_minimum", "power_output_maximum"],
+    "bids.csv": ["bid", "period", "mw", "price"],
+    "windows.csv": ["unit", "period", "commitment"],
+}
+NEEDED = ("units.csv", "offers.csv", "hours.csv")
+NUMBER = re.compile(r"-?(0|[1-9][0-9]*)(\.[0-9]+)?([eE][-+]?[0-9]+)?")
+
+
+class Row(Dict[str, str]):
+    """The cells of a row by column, with its place in the file."""
+
+    place: str = ""
+
+    def wrong(self, what: str) -> HullError:
+        return HullError(f"{self.place}: {one_line(what)}")
+
+    def number(self, column: str) -> Written:
+        text = self[column]
+        if not NUMBER.fullmatch(text):
+            what = (
+                "is empty"
+                if not text
+                else f"is {text!r}, and a number is due, with a point and without separators of thousands"
+            )
+            raise self.wrong(f"{column} {what}")
+        return Written(text)
+
+    def period(self, periods: int) -> int:
+        """The period, from 1; a whole number that a spreadsheet has as 3.0 is taken too."""
+        text = re.sub(r"\.0*$", "", self["period"])
+        if not text.isdecimal() or not 1 <= int(text) <= periods:
+            raise self.wrong(f"period is {self['period']!r}, and 1 to {periods} is due: hours.csv has {periods} rows")
+        return int(text)
+
+
+def rows_of(folder: str, file: str, notes: Notes) -> List[Row]:
+    """The rows of a file, or none where it isn't there; columns that aren't read are noted."""
+    name = os.path.join(folder, file)
+    if not os.path.exists(name) and file not in NEEDED:
+        return []
+    try:
+        text = read_bytes(name, "a table").decode("utf-8-sig")
+    except UnicodeDecodeError:
+        raise HullError(f"{name}: it isn't UTF-8: save it as CSV UTF-8") from None
+    head = text.split("\n", 1)[0]
+    semicolons = ";" in head and "," not in head
+    reader = csv.reader(io.StringIO(text, newline=""), delimiter=";" if semicolons else ",")
+    found, columns = [], [it.strip() for it in next(reader, [])]
+    check_columns(name, columns, COLUMNS[file], notes)
+    for cells in reader:
+        if any(it.strip() for it in cells):
+            found.append(row_of(name, reader.line_num, columns, cells, semicolons))
+    return found
+
+
+def row_of(name: str, line: int, columns: List[str], cells: List[str], semicolons: bool) -> Row:
+    """A row; where semicolons part its cells, numbers may have a decimal comma."""
+    row = Row()
+    row.place = f"{name}, line {line}"
+    if len(cells) > len(columns):
+        raise row.wrong(
+            f"it has {len(cells)} cells, and the first line names {len(columns)} columns. Is a decimal comma in it?"
+        )
+    for column, cell in zip(columns, [*cells, *[""] * (len(columns) - len(cells))]):
+        is_name = column in ("unit", "bid")
+        row[column] = cell if is_name else cell.strip().replace(",", ".") if semicolons else cell.strip()
+    return row
+
+
+def check_columns(name: str, columns: List[str], due: List[str], notes: Notes) -> None:
+    lacking = [it for it in due if it not in columns]
+    if lacking:
+        raise HullError(f"{name}: the first line has no column {', '.join(lacking)}. Due: {', '.join(due)}")
+    if len(set(columns)) < len(columns):
+        raise HullError(f"{name}: the first line names a column twice")
+    for it in columns:
+        if it and it not in due:
+            notes.left_out(f"{os.path.basename(name)}: the column {it}")
+
+
+def by_name(rows: Iterable[Row], column: str, known: Optional[Iterable[str]] = None) -> Iterator[Tuple[str, Row]]:
+    """The rows with their names, which have to be known where a list of those is given."""
+    names = None if known is None else set(known)
+    for row in rows:
+        if not row[column]:
+            raise row.wrong(f"{column} is empty")
+        if names is not None and row[column] not in names:
+            raise row.wrong(f'units.csv has no unit "{row[column]}"')
+        yield row[column], row
+
+
+def read_csv(folder: str, notes: Notes) -> Object:
+    """The case of a folder."""
+    tables = {file: rows_of(folder, file, notes) for file in COLUMNS}
+    hours = tables["hours.csv"]
+    periods = len(hours)
+    for t, row in enumerate(hours, 1):
+        if row.period(periods) != t:
+            raise row.wrong(f"period is {row['period']}, and {t} is due: rows stand in the order of time")
+    case: Object = {"time_periods": periods}
+    for key in ("demand", "reserves"):
+        case[key] = [row.number(key) for row in hours]
+    case["thermal_generators"] = thermal_units(tables, periods)
+    case["renewable_generators"] = renewable_units(tables["renewables.csv"], periods)
+    if tables["bids.csv"] or os.path.exists(os.path.join(folder, "bids.csv")):
+        case["demand_bids"] = bids_of(tables["bids.csv"], periods)
+    return case
+
+
+def thermal_units(tables: Dict[str, List[Row]], periods: int) -> Object:
+    units: Object = {}
+    for name, row in by_name(tables["units.csv"], "unit"):
+        if name in units:
+            raise row.wrong(f'the unit "{name}" stands twice')
+        units[name] = {key: row.number(key) for key in LIMITS}
+        units[name].update(startup=[], piecewise_production=[])
+    for name, row in by_name(tables["starts.csv"], "unit", units):
+        units[name]["startup"].append({key: row.number(key) for key in ("lag", "cost")})
+    for name, row in by_name(tables["offers.csv"], "unit", units):
+        units[name]["piecewise_production"].append({key: row.number(key) for key in ("mw", "cost")})
+    for name, row in by_name(tables["windows.csv"], "unit", units):
+        window = units[name].setdefault("commitment", [None] * periods)
+        window[row.period(periods) - 1] = row.number("commitment") if row["commitment"] else None
+    return units
+
+
+def renewable_units(rows: List[Row], periods: int) -> Object:
+    units: Object = {}
+    keys = ("power_output_minimum", "power_output_maximum")
+    for name, row in by_name(rows, "unit"):
+        unit = units.setdefault(name, {key: [None] * periods for key in keys})
+        t = row.period(periods) - 1
+        if unit[keys[0]][t] is not None:
+            raise row.wrong(f'the unit "{name}" has period {t + 1} twice')
+        for key in keys:
+            unit[key][t] = row.number(key)
+    for name, unit in units.items():
+        lacking = [t + 1 for t, it in enumerate(unit[keys[0]]) if it is None]
+        if lacking:
+            raise HullError(f'renewables.csv: the unit "{one_line(name)}" has no row of period {lacking[0]}')
+    return units
+
+
+def bids_of(rows: List[Row], periods: int) -> Object:
+    bids: Object = {}
+    for name, row in by_name(rows, "bid"):
+        blocks = bids.setdefault(name, {"blocks": [[] for _ in range(periods)]})["blocks"]
+        period = blocks[row.period(periods) - 1]
+        if row["mw"] or row["price"]:
+            period.append({key: row.number(key) for key in ("mw", "price")})
+    return bids
+
+
+def rows_to_write(case: Object) -> Iterator[Tuple[str, List[str]]]:
+    """Each row that a case has, with its file."""
+    for name, unit in case["thermal_generators"].items():
+        yield "units.csv", [name, *(number_text(unit[key]) for key in LIMITS)]
+        for it in unit["piecewise_production"]:
+            yield "offers.csv", [name, number_text(it["mw"]), number_text(it["cost"])]
+        for it in unit["startup"]:
+            yield "starts.csv", [name, number_text(it["lag"]), number_text(it["cost"])]
+        for t, mark in enumerate(unit.get("commitment", []), 1):
+            yield "windows.csv", [name, str(t), "" if mark is None else number_text(mark)]
+    for t, pair in enumerate(zip(case["demand"], case["reserves"]), 1):
+        yield "hours.csv", [str(t), *map(number_text, pair)]
+    for name, unit in case["renewable_generators"].items():
+        for t, pair in enumerate(zip(unit["power_output_minimum"], unit["power_output_maximum"]), 1):
+            yield "renewables.csv", [name, str(t), *map(number_text, pair)]
+    for name, bid in case.get("demand_bids", {}).items():
+        if not any(bid["blocks"]):
+            yield "bids.csv", [name, "1", "", ""]
+        for t, blocks in enumerate(bid["blocks"], 1):
+            yield from (("bids.csv", [name, str(t), number_text(it["mw"]), number_text(it["price"])]) for it in blocks)
+
+
+def csv_texts(case: Object) -> Dict[str, str]:
+    """The files of a case by name; those that needn't be there only where they have rows."""
+    tables: Dict[str, List[List[str]]] = {file: [] for file in COLUMNS if file in NEEDED or file == "renewables.csv"}
+    if "demand_bids" in case:
+        tables["bids.csv"] = []
+    for file, row in rows_to_write(case):
+        tables.setdefault(file, []).append(row)
+    texts = {}
+    for file, rows in tables.items():
+        into = io.StringIO()
+        csv.writer(into, lineterminator="\n").writerows([COLUMNS[file], *rows])
+        texts[file] = into.getvalue()
+    return texts
+
+
+def write_csv(folder: str, case: Object, inputs: List[str]) -> None:
+    texts = csv_texts(case)
+    for file in COLUMNS:
+        name = os.path.join(folder, file)
+        if file not in texts and os.path.exists(name):
+            raise HullError(f"{name}: it is there, and this case has no such file: use another folder")
+    os.makedirs(folder, exist_ok=True)
+    for file, text in texts.items():
+        write_whole(os.path.join(folder, file), text, inputs)

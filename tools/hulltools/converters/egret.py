@@ -1,0 +1,220 @@
+"""ModelData of EGRET as JSON: `elements` by kind and name, and `system`."""
+from __future__ import annotations
+
+from decimal import Decimal
+from fractions import Fraction
+from typing import Any, Callable, List, Optional, Tuple
+
+from ..errors import HullError
+from ..json_texts import is_number
+from .notes import Notes, Object, Taken
+from .series import (
+    constant,
+    decimal,
+    first,
+    in_periods,
+    limit,
+    lists_out_negative,
+    points_of,
+    scaled,
+    series,
+    state_before,
+    sum_of,
+)
+
+PIECES = 10  # how many lines a polynomial is cut into
+RESERVES = ("spinning_reserve_requirement", "reserve_requirement")
+SAID = ("time_keys", "time_period_length_minutes", "name", "baseMVA", "reference_bus", "reference_bus_angle", "model_name", "load_mismatch_cost", "reserve_shortfall_cost")  # fmt: skip
+OF_GENERATORS = ("bus", "generator_type", "fuel", "in_service", "name", "area", "zone", "unit_type", "owner")
+NETWORK = "the network: all units and loads stand at one place"
+
+
+def is_mine(value: Object) -> bool:
+    return isinstance(value.get("elements"), dict) and isinstance(value.get("system"), dict)
+
+
+def values(found: Any) -> Any:
+    """A number, or the list of a time series."""
+    return found["values"] if isinstance(found, dict) and found.get("data_type") == "time_series" else found
+
+
+class Model:
+    """One ModelData while it is read."""
+
+    def __init__(self, value: Object, notes: Notes):
+        self.notes, self.top = notes, Taken(value, "the file", None, notes)
+        self.elements = Taken(self.top.object("elements"), "elements", None, notes)
+        self.system = Taken(self.top.object("system"), "system", None, notes)
+        keys, minutes = self.system.take("time_keys"), self.system.take("time_period_length_minutes", 60)
+        if not isinstance(keys, list) or not keys:
+            raise HullError("system: there are no `time_keys`: one period alone has no commitment")
+        self.periods, self.per_hour = len(keys), 60 / Fraction(decimal(minutes, "time_period_length_minutes"))
+        if self.per_hour != 1:
+            notes.changed(
+                f"periods of {float(60 / self.per_hour):g} minutes: ramps and costs, which the file has per hour, are scaled to a period"
+            )
+
+    def case(self) -> Object:
+        case: Object = {"time_periods": self.periods, "demand": self.demand(), "reserves": self.reserves()}
+        thermal, renewable = self.generators()
+        case.update(thermal_generators=thermal, renewable_generators=renewable)
+        for key in self.elements.value:
+            if key not in self.elements.seen:
+                what = f"{key}: {NETWORK}" if key in ("branch", "dc_branch", "interface", "shunt") else key
+                for name in self.elements.object(key):
+                    self.notes.left_out(what, name)
+        for key in SAID[2:]:
+            self.system.take(key)
+        if any(self.system.value.get(key) is not None for key in SAID[-2:]):
+            self.notes.left_out("penalties for what isn't met: demand and reserve have to be met")
+        self.system.rest()
+        self.top.rest()
+        return case
+
+    def demand(self) -> List[Decimal]:
+        rows = []
+        for name, it in self.elements.object("load").items():
+            load = Taken(it, "load", name, self.notes)
+            for key in ("bus", "area", "zone", "q_load", "name"):
+                load.take(key)
+            if load.take("in_service", True):
+                rows.append(series(values(load.take("p_load", 0)), self.periods, f'load "{name}", p_load'))
+            else:
+                self.notes.left_out("loads that aren't in service", name)
+            load.rest()
+        if len(self.elements.object("bus")) > 1:
+            self.notes.left_out(NETWORK)
+        found = sum_of(rows, self.periods)
+        lists_out_negative(found, "load")
+        return found
+
+    def reserves(self) -> List[Decimal]:
+        key = next((it for it in RESERVES if self.system.value.get(it) is not None), None)
+        if key is None:
+            return [Decimal(0)] * self.periods
+        return series(values(self.system.take(key)), self.periods, key)
+
+    def generators(self) -> Tuple[Object, Object]:
+        found: Tuple[Object, Object] = ({}, {})
+        for name, it in self.elements.object("generator").items():
+            unit = Taken(it, "generator", name, self.notes)
+            for key in OF_GENERATORS:
+                unit.take(key)
+            if unit.take("in_service", True) is False:
+                self.notes.left_out("generators that aren't in service", name)
+                continue
+            if unit.value.get("generator_type") == "thermal":
+                found[0][name] = self.thermal(unit, name)
+            else:
+                found[1][name] = self.renewable(unit, name)
+            unit.rest()
+        return found
+
+    def renewable(self, unit: Taken, name: str) -> Object:
+        cost = unit.take("p_cost")
+        if cost not in (None, 0):
+            self.notes.left_out("costs of renewable generators: a renewable unit has none", name)
+        unit.drop("fixed commitment of renewable generators", "fixed_commitment")
+        read = lambda key: series(values(unit.take(key, 0)), self.periods, f'generator "{name}", {key}')
+        return {f"power_output_{it}imum": read(f"p_{it}") for it in ("min", "max")}
+
+    def number(self, unit: Taken, name: str, key: str, pick: Callable[..., Decimal] = first) -> Optional[Decimal]:
+        found = values(unit.take(key))
+        return None if found is None else constant(found, pick, key, self.notes, name)
+
+    def thermal(self, unit: Taken, name: str) -> Object:
+        least, most = self.number(unit, name, "p_min", max) or Decimal(0), self.number(unit, name, "p_max", max)
+        if most is None:
+            raise HullError(f'generator "{name}": there is no p_max')
+
+        def ramp(key: str, factor: Fraction) -> Decimal:
+            found = self.number(unit, name, key, min)
+            return limit(None if found is None else scaled(found, factor), most or Decimal(0))
+
+        time = lambda key: in_periods(unit.take(key, 0), self.per_hour, key, self.notes, name)
+        down, lags, status = time("min_down_time"), self.starts(unit, name), unit.take("initial_status")
+        periods_before = None if status is None else self.status(status, name)
+        before = state_before(periods_before, max([down, *(lag["lag"] for lag in lags)]), self.notes, name)
+        power = self.number(unit, name, "initial_p_output")
+        if power is None and before["unit_on_t0"]:
+            self.notes.assumed("no initial output of a unit that is on: its least power", name)
+        found: Object = {
+            "must_run": 0,
+            "power_output_minimum": least,
+            "power_output_maximum": most,
+            "ramp_up_limit": ramp("ramp_up_60min", 1 / self.per_hour),
+            "ramp_down_limit": ramp("ramp_down_60min", 1 / self.per_hour),
+            "ramp_startup_limit": ramp("startup_capacity", Fraction(1)),
+            "ramp_shutdown_limit": ramp("shutdown_capacity", Fraction(1)),
+            "time_up_minimum": time("min_up_time"),
+            "time_down_minimum": down,
+            "power_output_t0": power if power is not None and before["unit_on_t0"] else least * before["unit_on_t0"],
+            **before,
+            "startup": lags,
+            "piecewise_production": self.curve(unit, name, least, most),
+        }
+        self.commitment(unit, found, name)
+        unit.drop("shutdown costs", "shutdown_cost")
+        return found
+
+    def status(self, hours: Any, name: str) -> int:
+        number = decimal(hours, f"{name}, initial_status")
+        periods = in_periods(abs(number), self.per_hour, "initial_status", self.notes, name)
+        return periods if number > 0 else -periods
+
+    def starts(self, unit: Taken, name: str) -> List[Object]:
+        """Lags with costs, one cost for all, or lags with fuel."""
+        rows, fuel = unit.take("startup_cost"), unit.take("startup_fuel")
+        more, price = unit.take("non_fuel_startup_cost", 0), unit.value.get("fuel_cost", 0)
+        if rows is None and fuel is not None:
+            other = decimal(more, f"{name}, non_fuel_startup_cost")
+            rows = [[lag, decimal(burnt, name) * decimal(price, f"{name}, fuel_cost") + other] for lag, burnt in fuel]
+        if rows is None or is_number(rows):
+            cost = decimal(rows or more, f"{name}, startup_cost")
+            rows = [[unit.value.get("min_down_time") or 1, cost]] if cost else []
+        lag_of = lambda lag: in_periods(lag, self.per_hour, "startup_cost", self.notes, name)
+        return [{"lag": lag_of(lag), "cost": decimal(cost, f"{name}, startup_cost")} for lag, cost in rows]
+
+    def curve(self, unit: Taken, name: str, least: Decimal, most: Decimal) -> List[Object]:
+        """Points of the cost of a period."""
+        cost, fuel, price = unit.take("p_cost"), unit.take("p_fuel"), unit.take("fuel_cost")
+        factor = Decimal(1)
+        if cost is None and fuel is not None:
+            cost, factor = fuel, decimal(price, f"{name}, fuel_cost")
+        if cost is None or is_number(cost):
+            slope = decimal(cost or 0, f"{name}, p_cost")
+            powers = [least, most]
+            costs = [slope * it for it in powers]
+        elif str(cost.get("cost_curve_type") or cost.get("fuel_curve_type") or "piecewise") == "polynomial":
+            powers, costs = self.polynomial(cost["values"], name, least, most)
+        else:
+            powers, costs = ([decimal(row[i], f"{name}, p_cost") for row in cost["values"]] for i in (0, 1))
+        fixed = decimal(unit.take("no_load_cost", 0), f"{name}, no_load_cost")
+        return points_of(
+            powers, [scaled(factor * it + fixed, 1 / self.per_hour) for it in costs], f'generator "{name}", p_cost'
+        )
+
+    def polynomial(
+        self, factors: Object, name: str, least: Decimal, most: Decimal
+    ) -> Tuple[List[Decimal], List[Decimal]]:
+        terms = [(int(power), decimal(factor, f"{name}, p_cost")) for power, factor in factors.items()]
+        pieces = PIECES if any(power > 1 and factor for power, factor in terms) and most > least else 1
+        if pieces > 1:
+            self.notes.changed(f"polynomial costs are cut into {PIECES} straight pieces", name)
+        powers = [least + (most - least) * i / pieces for i in range(pieces + 1)]
+        return powers, [sum((factor * at**power for power, factor in terms), Decimal(0)) for at in powers]
+
+    def commitment(self, unit: Taken, found: Object, name: str) -> None:
+        fixed = values(unit.take("fixed_commitment"))
+        if isinstance(fixed, list):
+            found["commitment"] = [None if it is None else int(it) for it in fixed]
+        elif fixed is not None:
+            mark = int(decimal(fixed, f"{name}, fixed_commitment"))
+            if mark:
+                found["must_run"] = 1
+            else:
+                found["commitment"] = [0] * self.periods
+
+
+def case_of(value: Object, notes: Notes) -> Object:
+    return Model(value, notes).case()

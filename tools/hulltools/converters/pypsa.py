@@ -1,0 +1,267 @@
+"""A network of PyPSA as `export_to_csv_folder` writes it: a table for each component, and one for each attribute that varies."""
+from __future__ import annotations
+
+import csv
+import io
+import os
+from decimal import Decimal, InvalidOperation
+from fractions import Fraction
+from typing import Dict, List, Optional, Tuple
+
+from ..errors import HullError, one_line, read_bytes
+from .notes import Notes, Object
+from .series import lists_out_negative, points_of, scaled
+
+PIECES = 10  # how many lines a quadratic cost is cut into
+Table = Dict[str, Dict[str, str]]
+NETWORK = "the network: all units and loads stand at one place"
+# Columns of generators.csv that are read, and those that say nothing of operation.
+READ = (
+    "p_nom p_min_pu p_max_pu marginal_cost marginal_cost_quadratic committable start_up_cost stand_by_cost min_up_time min_down_time "
+    "up_time_before down_time_before ramp_limit_up ramp_limit_down ramp_limit_start_up ramp_limit_shut_down active"
+).split()
+SAID = "name bus carrier control type build_year lifetime capital_cost p_nom_min p_nom_max p_nom_mod p_nom_set efficiency weight".split()
+VARYING = ("p_max_pu", "p_min_pu", "marginal_cost")
+KNOWN_FILES = (
+    "generators.csv",
+    "snapshots.csv",
+    "loads.csv",
+    "buses.csv",
+    "network.csv",
+    "carriers.csv",
+    "meta.json",
+    "crs.json",
+)
+COMPONENTS = ("lines", "transformers", "links", "storage_units", "stores", "global_constraints", "shunt_impedances")
+RESULTS = (
+    "p",
+    "q",
+    "status",
+    "mu_upper",
+    "mu_lower",
+    "start_up",
+    "shut_down",
+    "mu_p_set",
+    "mu_ramp_limit_up",
+    "mu_ramp_limit_down",
+)
+
+
+def is_mine(folder: str) -> bool:
+    return all(os.path.exists(os.path.join(folder, it)) for it in ("generators.csv", "snapshots.csv"))
+
+
+def table(folder: str, file: str) -> Table:
+    """The rows of a table by its first column, each by column; an empty one where there is no file."""
+    name = os.path.join(folder, file)
+    if not os.path.exists(name):
+        return {}
+    try:
+        rows = list(csv.reader(io.StringIO(read_bytes(name, "a table").decode("utf-8-sig"), newline="")))
+    except UnicodeDecodeError:
+        raise HullError(f"{name}: it isn't UTF-8") from None
+    if not rows or not rows[0]:
+        raise HullError(f"{name}: it has no first line with columns")
+    return {row[0]: dict(zip(rows[0][1:], row[1:])) for row in rows[1:] if row}
+
+
+def number(text: str, what: str) -> Optional[Decimal]:
+    """A cell's number; None where it is empty, nan or infinite."""
+    if text.strip().lower() in ("", "nan", "inf", "-inf", "none"):
+        return None
+    try:
+        return Decimal(text.strip())
+    except InvalidOperation:
+        raise HullError(f"{one_line(what)}: a number is due, and {text!r} is found") from None
+
+
+def is_true(text: str) -> bool:
+    return text.strip().lower() in ("true", "1", "1.0")
+
+
+class Network:
+    """One network while it is read."""
+
+    def __init__(self, folder: str, notes: Notes):
+        self.folder, self.notes = folder, notes
+        self.snapshots = table(folder, "snapshots.csv")
+        self.periods = len(self.snapshots)
+        self.generators = table(folder, "generators.csv")
+        self.varying = {it: self.columns(f"generators-{it}.csv") for it in VARYING}
+        self.hours = self.weight()
+
+    def columns(self, file: str) -> Dict[str, List[str]]:
+        """The columns of a table over the snapshots, by name."""
+        found = table(self.folder, file)
+        if found and len(found) != self.periods:
+            raise HullError(
+                f"{os.path.join(self.folder, file)}: {len(found)} rows, and snapshots.csv has {self.periods}"
+            )
+        names: Dict[str, str] = next(iter(found.values()), {})
+        return {name: [row[name] for row in found.values()] for name in names}
+
+    def weight(self) -> Fraction:
+        """How many hours a snapshot counts for in the costs."""
+        found = [
+            number(it.get("objective") or it.get("weightings") or "1", "snapshots.csv") or Decimal(1)
+            for it in self.snapshots.values()
+        ]
+        if len(set(found)) > 1:
+            self.notes.left_out("snapshot weightings that differ: the first is taken for all")
+        if found and found[0] != 1:
+            self.notes.changed(f"costs are those of a snapshot, of weight {found[0]}")
+        return Fraction(found[0]) if found else Fraction(1)
+
+    def case(self) -> Object:
+        case: Object = {"time_periods": self.periods, "demand": self.demand(), "reserves": [Decimal(0)] * self.periods}
+        case.update(thermal_generators={}, renewable_generators={})
+        for name in self.generators:
+            self.add_unit(case, name)
+        self.drop_files()
+        return case
+
+    def demand(self) -> List[Decimal]:
+        loads, varying, total = (
+            table(self.folder, "loads.csv"),
+            self.columns("loads-p_set.csv"),
+            [Decimal(0)] * self.periods,
+        )
+        for name, row in loads.items():
+            texts = varying.get(name, [row.get("p_set", "0")] * self.periods)
+            sign = number(row.get("sign", "-1"), f'load "{name}", sign')
+            for t, text in enumerate(texts):
+                total[t] += (number(text, f'load "{name}", p_set') or Decimal(0)) * (
+                    1 if sign is None or sign < 0 else -1
+                )
+        lists_out_negative(total, "loads")
+        return total
+
+    def series(self, name: str, key: str, default: str) -> List[Decimal]:
+        row = self.generators[name].get(key, "") or default
+        texts = self.varying.get(key, {}).get(name, [row] * self.periods)
+        return [number(it, f'generator "{name}", {key}') or Decimal(0) for it in texts]
+
+    def value(self, name: str, key: str) -> Optional[Decimal]:
+        return number(self.generators[name].get(key, ""), f'generator "{name}", {key}')
+
+    def whole(self, name: str, key: str, default: int) -> int:
+        found = self.value(name, key)
+        return default if found is None else int(found)
+
+    def add_unit(self, case: Object, name: str) -> None:
+        """Committable units are thermal; so are others with a cost, or whose power may rise only; the rest is renewable."""
+        row = self.generators[name]
+        self.drop_columns(name)
+        if row.get("active", "") and not is_true(row["active"]):
+            self.notes.left_out("generators that aren't active", name)
+            return
+        if is_true(row.get("p_nom_extendable", "")):
+            self.notes.left_out("that a capacity may be extended: p_nom is taken", name)
+        most, least, cost = (
+            self.series(name, key, default)
+            for key, default in (("p_max_pu", "1"), ("p_min_pu", "0"), ("marginal_cost", "0"))
+        )
+        varies = len(set(most)) > 1 or len(set(least)) > 1
+        if not is_true(row.get("committable", "")) and (varies or not any(cost)):
+            size = self.value(name, "p_nom") or Decimal(0)
+            if any(cost):
+                self.notes.left_out(
+                    "costs of generators whose p_max_pu changes over time: a renewable unit has none", name
+                )
+            case["renewable_generators"][name] = {
+                "power_output_minimum": [size * it for it in least],
+                "power_output_maximum": [size * it for it in most],
+            }
+            return
+        if varies:
+            self.notes.left_out(
+                "p_min_pu and p_max_pu of committable units that change over time: the greatest are taken", name
+            )
+        if len(set(cost)) > 1:
+            self.notes.left_out("marginal costs that change over time: the first is taken", name)
+        case["thermal_generators"][name] = self.thermal(name, max(least), max(most), cost[0])
+
+    def thermal(self, name: str, least_pu: Decimal, most_pu: Decimal, cost: Decimal) -> Object:
+        row, size = self.generators[name], self.value(name, "p_nom") or Decimal(0)
+        least, most = size * least_pu, size * most_pu
+        ramp = lambda key: most if self.value(name, key) is None else min(most, size * (self.value(name, key) or 0))
+        committable = is_true(row.get("committable", ""))
+        on = self.whole(name, "up_time_before", 1) if committable else 1
+        off = self.whole(name, "down_time_before", 0)
+        if not committable:
+            self.notes.changed(
+                "generators that aren't committable and have a cost run in all periods, from p_min_pu on", name
+            )
+        power = Decimal(0)
+        if on:
+            power = (least + most) / 2
+            self.notes.assumed(
+                "PyPSA has no power before the first snapshot: of a unit that is on it is halfway from the least to the greatest",
+                name,
+            )
+        start = scaled(self.value(name, "start_up_cost") or Decimal(0), Fraction(1))
+        return {
+            "must_run": 0 if committable else 1,
+            "power_output_minimum": least,
+            "power_output_maximum": most,
+            "ramp_up_limit": ramp("ramp_limit_up"),
+            "ramp_down_limit": ramp("ramp_limit_down"),
+            "ramp_startup_limit": ramp("ramp_limit_start_up"),
+            "ramp_shutdown_limit": ramp("ramp_limit_shut_down"),
+            "time_up_minimum": self.whole(name, "min_up_time", 0),
+            "time_down_minimum": self.whole(name, "min_down_time", 0),
+            "power_output_t0": power,
+            "unit_on_t0": int(on > 0),
+            "time_up_t0": on,
+            "time_down_t0": 0 if on else max(1, off),
+            "startup": [{"lag": max(1, self.whole(name, "min_down_time", 0)), "cost": start}] if start else [],
+            "piecewise_production": self.curve(name, least, most, cost),
+        }
+
+    def curve(self, name: str, least: Decimal, most: Decimal, cost: Decimal) -> List[Object]:
+        fixed, square = (self.value(name, it) or Decimal(0) for it in ("stand_by_cost", "marginal_cost_quadratic"))
+        pieces = PIECES if square and most > least else 1
+        if pieces > 1:
+            self.notes.changed(f"quadratic costs are cut into {PIECES} straight pieces", name)
+        powers = [least + (most - least) * i / pieces for i in range(pieces + 1)]
+        costs = [scaled(fixed + cost * at + square * at * at, self.hours) for at in powers]
+        return points_of(powers, costs, f'generator "{name}"')
+
+    def drop_columns(self, name: str) -> None:
+        """Notes what stands in columns that aren't read, where it isn't empty or 0."""
+        if number(self.generators[name].get("shut_down_cost", ""), f'generator "{name}", shut_down_cost'):
+            self.notes.left_out("shut-down costs", name)
+        for key, text in self.generators[name].items():
+            said = key in READ or key in SAID or key in ("shut_down_cost", "p_nom_extendable", "p_nom_opt")
+            nothing = ("", "nan", "0", "0.0", "false", "inf", *(("1", "1.0") if key == "sign" else ()))
+            if not said and text.strip().lower() not in nothing:
+                self.notes.left_out(f"generators.csv: the column {key}", name)
+
+    def drop_files(self) -> None:
+        """Notes what stands in files that aren't read; results of a solved network are none of the case's."""
+        for it in COMPONENTS:
+            what = f"{it}: {NETWORK}" if it in ("lines", "transformers", "links") else it.replace("_", " ")
+            for name in table(self.folder, f"{it}.csv"):
+                self.notes.left_out(what, name)
+        if len(table(self.folder, "buses.csv")) > 1:
+            self.notes.left_out(NETWORK)
+        read = {f"generators-{it}.csv" for it in VARYING} | {
+            "loads-p_set.csv",
+            *KNOWN_FILES,
+            *(f"{it}.csv" for it in COMPONENTS),
+        }
+        for file in sorted(os.listdir(self.folder)):
+            component, _, attribute = file[: -len(".csv")].partition("-")
+            is_result = attribute in RESULTS or component == "buses"
+            if file.endswith(".csv") and file not in read and not is_result and component not in COMPONENTS:
+                self.notes.left_out(f"the file {file}")
+
+
+def read_pypsa(folder: str, notes: Notes) -> Object:
+    return Network(folder, notes).case()
+
+
+def solution(folder: str) -> Tuple[Dict[str, List[str]], Dict[str, List[str]]]:
+    """Powers and states of a solved network by the generators' names."""
+    network = Network(folder, Notes())
+    return network.columns("generators-p.csv"), network.columns("generators-status.csv")

@@ -1,0 +1,96 @@
+"""Numbers of other programs' files: decimals, lists over time, times in periods, and the parts that all converters share."""
+from __future__ import annotations
+
+from decimal import ROUND_CEILING, Decimal
+from fractions import Fraction
+from typing import Any, Callable, List, Optional, Sequence
+
+from ..errors import HullError, one_line
+from ..json_texts import is_number
+from .notes import Notes, Object
+
+NO_LIMIT = Decimal(10) ** 6  # what other programs write where there is no limit, or more
+
+
+def decimal(value: Any, what: str) -> Decimal:
+    """A number of a file."""
+    if isinstance(value, bool) or not is_number(value):
+        raise HullError(f"{one_line(what)}: a number is due, and {value!r} is found")
+    return Decimal(value)
+
+
+def series(value: Any, periods: int, what: str) -> List[Decimal]:
+    """A number for each period: a list of them, or one for all."""
+    if isinstance(value, list):
+        if len(value) != periods:
+            raise HullError(f"{one_line(what)}: {periods} numbers are due, and {len(value)} are found")
+        return [decimal(it, what) for it in value]
+    return [decimal(value, what)] * periods
+
+
+def constant(value: Any, pick: Callable[[Sequence[Decimal]], Decimal], what: str, notes: Notes, name: str) -> Decimal:
+    """One number for all periods; of a list that varies the one that is picked, which is noted."""
+    if not isinstance(value, list):
+        return decimal(value, f"{name}, {what}")
+    found = [decimal(it, f"{name}, {what}") for it in value]
+    if not found:
+        raise HullError(f"{one_line(name)}, {what}: an empty list")
+    if len(set(found)) > 1:
+        notes.left_out(
+            f"{what} that changes over time: its {'least' if pick is min else 'greatest' if pick is max else 'first'} is taken",
+            name,
+        )
+    return pick(found)
+
+
+def first(found: Sequence[Decimal]) -> Decimal:
+    return found[0]
+
+
+def in_periods(hours: Any, per_hour: Fraction, what: str, notes: Notes, name: str) -> int:
+    """A time in hours as periods, rounded up where it is no whole number of them, which is noted."""
+    time = Fraction(decimal(hours, f"{name}, {what}")) * per_hour
+    whole = -(-time.numerator // time.denominator)
+    if whole != time:
+        notes.changed(f"{what} that is no whole number of periods is rounded up", name)
+    return max(0, whole)
+
+
+def scaled(number: Decimal, factor: Fraction) -> Decimal:
+    """The number times a factor, exactly where that has few digits."""
+    return number * factor.numerator / factor.denominator
+
+
+def up(number: Decimal) -> int:
+    return int(number.to_integral_value(ROUND_CEILING))
+
+
+def limit(value: Optional[Decimal], most: Decimal) -> Decimal:
+    """A limit on power or ramps; the greatest power where there is none."""
+    return most if value is None or value >= NO_LIMIT else value
+
+
+def sum_of(rows: List[List[Decimal]], periods: int) -> List[Decimal]:
+    """The sum of lists in each period."""
+    return [sum((row[t] for row in rows), Decimal(0)) for t in range(periods)]
+
+
+def lists_out_negative(demand: List[Decimal], what: str) -> None:
+    t = next((t for t, it in enumerate(demand) if it < 0), None)
+    if t is not None:
+        raise HullError(f"{what}: demand sums to {demand[t]} MW in period {t + 1}, and hull has none below 0")
+
+
+def state_before(status: Optional[int], free: int, notes: Notes, name: str) -> Object:
+    """The fields of the state before period 1 of a signed number of periods: on for so many, or off; None where the file doesn't say."""
+    if status is None:
+        notes.assumed("no initial status: the unit is off before period 1, for long enough to be free", name)
+        status = -max(1, free)
+    on = int(status > 0)
+    return {"unit_on_t0": on, "time_up_t0": status if on else 0, "time_down_t0": 0 if on else max(1, -status)}
+
+
+def points_of(powers: List[Decimal], costs: List[Decimal], what: str) -> List[Object]:
+    if not powers or len(powers) != len(costs):
+        raise HullError(f"{one_line(what)}: {len(powers)} powers and {len(costs)} costs")
+    return [{"mw": mw, "cost": cost} for mw, cost in zip(powers, costs)]

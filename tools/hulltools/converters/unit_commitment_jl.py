@@ -1,0 +1,236 @@
+"""Instances of UnitCommitment.jl, format 0.4 and before: one JSON object, plain or compressed by gzip."""
+from __future__ import annotations
+
+from decimal import Decimal
+from fractions import Fraction
+from typing import Any, List, Optional, Tuple
+
+from ..errors import HullError
+from ..json_texts import is_number
+from .notes import Notes, Object, Taken
+from .series import (
+    constant,
+    decimal,
+    first,
+    in_periods,
+    limit,
+    lists_out_negative,
+    points_of,
+    series,
+    state_before,
+    sum_of,
+)
+
+NETWORK = "the network: all units and loads stand at one place"
+
+
+def is_mine(value: Object) -> bool:
+    return "Parameters" in value and ("Generators" in value or "Buses" in value)
+
+
+class Instance:
+    """One instance while it is read."""
+
+    def __init__(self, value: Object, notes: Notes):
+        self.notes, self.top = notes, Taken(value, "the file", None, notes)
+        self.parameters = Taken(self.top.object("Parameters"), "Parameters", None, notes)
+        self.periods, self.per_hour = self.horizon()
+        self.reserve_name: Optional[str] = None
+
+    def horizon(self) -> Tuple[int, Fraction]:
+        """The number of periods, and how many there are in an hour."""
+        take = self.parameters.first
+        minutes = Fraction(decimal(take("Time step (min)") or 60, "Time step (min)"))
+        hours, whole = take("Time horizon (h)", "Time (h)"), take("Time horizon (min)")
+        if hours is None and whole is None:
+            raise HullError("Parameters: there is no `Time horizon (h)`")
+        length = (
+            Fraction(decimal(hours, "Time horizon (h)")) * 60
+            if whole is None
+            else Fraction(decimal(whole, "Time horizon (min)"))
+        )
+        if minutes <= 0 or (length / minutes).denominator != 1:
+            raise HullError("Parameters: the time horizon isn't a whole number of time steps")
+        if minutes != 60:
+            self.notes.assumed(
+                f"time steps of {float(minutes):g} minutes: ramps and costs are taken per time step, as they stand"
+            )
+        return int(length / minutes), 60 / minutes
+
+    def case(self) -> Object:
+        """The case of the instance."""
+        self.drop_parameters()
+        case: Object = {"time_periods": self.periods, "demand": self.demand(), "reserves": self.reserves()}
+        case["thermal_generators"], case["renewable_generators"] = self.generators()
+        bids = self.bids()
+        if bids:
+            case["demand_bids"] = bids
+        self.drop_others()
+        return case
+
+    def drop_parameters(self) -> None:
+        taken = self.parameters
+        taken.first("Version", "Scenario name")
+        penalty = "penalties for what isn't met: demand and reserve have to be met"
+        taken.drop(penalty, "Power balance penalty ($/MW)")
+        weight = taken.take("Scenario weight")
+        if weight is not None and decimal(weight, "Scenario weight") != 1:
+            self.notes.left_out("the scenario's weight: this is one scenario by itself")
+        taken.rest()
+
+    def demand(self) -> List[Decimal]:
+        rows = []
+        for name, it in self.top.object("Buses").items():
+            bus = Taken(it, "Buses", name, self.notes)
+            rows.append(series(bus.take("Load (MW)", 0), self.periods, f'bus "{name}", Load (MW)'))
+            bus.rest()
+        found = sum_of(rows, self.periods)
+        lists_out_negative(found, "Buses")
+        return found
+
+    def reserves(self) -> List[Decimal]:
+        """The first spinning reserve; format 0.2 has `Spinning (MW)` in place of named ones."""
+        found: Optional[List[Decimal]] = None
+        for name, it in self.top.object("Reserves").items():
+            if not isinstance(it, dict):
+                if name == "Spinning (MW)" and found is None:
+                    found = series(it, self.periods, name)
+                else:
+                    self.notes.left_out("further reserve products", name)
+                continue
+            reserve = Taken(it, "Reserves", name, self.notes)
+            kind, amount = str(reserve.take("Type", "spinning")).lower(), reserve.take("Amount (MW)", 0)
+            reserve.drop("penalties for what isn't met: demand and reserve have to be met", "Shortfall penalty ($/MW)")
+            reserve.rest()
+            if kind == "spinning" and found is None:
+                self.reserve_name, found = name, series(amount, self.periods, f'reserve "{name}"')
+            else:
+                self.notes.left_out(f"further reserve products: {kind}", name)
+        return found if found is not None else [Decimal(0)] * self.periods
+
+    def generators(self) -> Tuple[Object, Object]:
+        thermal: Object = {}
+        renewable: Object = {}
+        for name, it in self.top.object("Generators").items():
+            unit = Taken(it, "Generators", name, self.notes)
+            unit.take("Bus")
+            if str(unit.take("Type", "Thermal")).lower() == "profiled":
+                renewable[name] = self.profiled(unit, name)
+            else:
+                thermal[name] = self.thermal(unit, name)
+            unit.rest()
+        return thermal, renewable
+
+    def profiled(self, unit: Taken, name: str) -> Object:
+        cost = unit.take("Cost ($/MW)", 0)
+        if any(series(cost, self.periods, f"{name}, Cost ($/MW)")):
+            self.notes.left_out("costs of profiled generators: a renewable unit has none", name)
+        read = lambda key, default: series(unit.take(key, default), self.periods, f"{name}, {key}")
+        return {
+            "power_output_minimum": read("Minimum power (MW)", 0),
+            "power_output_maximum": read("Maximum power (MW)", None),
+        }
+
+    def thermal(self, unit: Taken, name: str) -> Object:
+        notes = self.notes
+        powers = self.curve(unit, name, "Production cost curve (MW)")
+        costs = self.curve(unit, name, "Production cost curve ($)")
+        most = powers[-1]
+
+        def ramp(key: str) -> Decimal:
+            value = unit.take(key)
+            return limit(None if value is None else constant(value, min, key, notes, name), most)
+
+        time = lambda key: in_periods(unit.take(key, 1), self.per_hour, key, notes, name)
+        down = time("Minimum downtime (h)")
+        lags = self.starts(unit, name)
+        status, power = unit.take("Initial status (h)"), unit.take("Initial power (MW)")
+        periods_before = None if status is None else self.status(status, name)
+        before = state_before(periods_before, max([down, *(lag["lag"] for lag in lags)]), notes, name)
+        if power is None and before["unit_on_t0"]:
+            notes.assumed("no initial power of a unit that is on: its least power", name)
+        found: Object = {
+            "must_run": 0,
+            "power_output_minimum": powers[0],
+            "power_output_maximum": most,
+            "ramp_up_limit": ramp("Ramp up limit (MW)"),
+            "ramp_down_limit": ramp("Ramp down limit (MW)"),
+            "ramp_startup_limit": ramp("Startup limit (MW)"),
+            "ramp_shutdown_limit": ramp("Shutdown limit (MW)"),
+            "time_up_minimum": time("Minimum uptime (h)"),
+            "time_down_minimum": down,
+            "power_output_t0": decimal(power, f"{name}, Initial power (MW)")
+            if power is not None
+            else powers[0] * before["unit_on_t0"],
+            **before,
+            "startup": lags,
+            "piecewise_production": points_of(powers, costs, f'generator "{name}", production cost curve'),
+        }
+        self.commitment(unit, found, name)
+        self.eligibility(unit, name)
+        return found
+
+    def status(self, hours: Any, name: str) -> int:
+        number = decimal(hours, f"{name}, Initial status (h)")
+        periods = in_periods(abs(number), self.per_hour, "Initial status (h)", self.notes, name)
+        return periods if number > 0 else -periods
+
+    def curve(self, unit: Taken, name: str, key: str) -> List[Decimal]:
+        rows = unit.take(key)
+        if not isinstance(rows, list) or not rows:
+            raise HullError(f'generator "{name}": {key} isn\'t a list of numbers')
+        return [constant(it, first, key, self.notes, name) for it in rows]
+
+    def starts(self, unit: Taken, name: str) -> List[Object]:
+        costs = unit.take("Startup costs ($)", [0])
+        delays = unit.take("Startup delays (h)", [1])
+        if len(costs) != len(delays):
+            raise HullError(f'generator "{name}": {len(costs)} startup costs and {len(delays)} delays')
+        lags = [in_periods(it, self.per_hour, "Startup delays (h)", self.notes, name) for it in delays]
+        rows = [{"lag": lag, "cost": decimal(cost, f"{name}, Startup costs ($)")} for lag, cost in zip(lags, costs)]
+        return rows if any(it["cost"] for it in rows) else []
+
+    def commitment(self, unit: Taken, found: Object, name: str) -> None:
+        """Must-run, and a commitment that is given period by period."""
+        must, given = unit.take("Must run?", False), unit.take("Commitment status")
+        if isinstance(must, list):
+            given = [1 if now else it for now, it in zip(must, given or [None] * len(must))]
+        elif is_number(must) and must or must is True:
+            found["must_run"] = 1
+        if given is not None:
+            if not isinstance(given, list) or len(given) != self.periods:
+                raise HullError(f'generator "{name}": Commitment status isn\'t a list of {self.periods} items')
+            found["commitment"] = [None if it is None else int(bool(it)) for it in given]
+
+    def eligibility(self, unit: Taken, name: str) -> None:
+        """In `hull` each thermal unit may keep reserve."""
+        spins, listed = unit.take("Provides spinning reserves?"), unit.take("Reserve eligibility")
+        is_barred = spins is False or self.reserve_name is not None and self.reserve_name not in (listed or [])
+        if is_barred:
+            self.notes.left_out("that a thermal unit isn't eligible for reserve: in hull each may keep reserve", name)
+
+    def bids(self) -> Object:
+        found: Object = {}
+        for name, it in self.top.object("Price-sensitive loads").items():
+            load = Taken(it, "Price-sensitive loads", name, self.notes)
+            load.take("Bus")
+            read = lambda key, load=load, name=name: series(load.take(key), self.periods, f'load "{name}", {key}')
+            rows = zip(read("Demand (MW)"), read("Revenue ($/MW)"))
+            found[name] = {"blocks": [[{"mw": mw, "price": price}] for mw, price in rows]}
+            load.rest()
+        return found
+
+    def drop_others(self) -> None:
+        for key in ("Transmission lines", "Interfaces"):
+            for name in self.top.object(key):
+                self.notes.left_out(f"{key.lower()}: {NETWORK}", name)
+        for key in ("Storage units", "Contingencies"):
+            for name in self.top.object(key):
+                self.notes.left_out(key.lower(), name)
+        if len(self.top.object("Buses")) > 1:
+            self.notes.left_out(NETWORK)
+        self.top.rest()
+
+
+def case_of(value: Object, notes: Notes) -> Object:
+    return Instance(value, notes).case()

@@ -1,0 +1,386 @@
+"""tools/convert.py: CSV folders in and out, and other programs' instances in, whose files here were made by hand."""
+from __future__ import annotations
+
+import csv
+import json
+import os
+import shutil
+import subprocess
+import tempfile
+import unittest
+from typing import Any, Dict, List, Tuple
+
+import market
+import other_forms
+from tool import EXAMPLES, PROGRAM, run
+
+from hulltools.cases import read_case
+
+
+class WithRoom(unittest.TestCase):
+    def setUp(self) -> None:
+        self.room = tempfile.mkdtemp(prefix="hull-convert-")
+        self.addCleanup(shutil.rmtree, self.room)
+
+    def convert(self, source: str, to: str, *words: str, status: int = 0) -> Tuple[str, str]:
+        """What is left out, and what is told."""
+        ended, text, said = run("convert.py", source, to, *words)
+        self.assertEqual(ended, status, said)
+        return text, said.replace(f"{self.room}/", "")
+
+    def write(self, name: str, text: str) -> str:
+        with open(f"{self.room}/{name}", "w", encoding="utf-8", newline="") as it:
+            it.write(text)
+        return f"{self.room}/{name}"
+
+    def read(self, name: str) -> str:
+        with open(name, encoding="utf-8", newline="") as it:
+            return it.read()
+
+    def cost(self, case: str, schedule: str) -> str:
+        ran = subprocess.run([PROGRAM, "check", "--case", case, "--schedule", schedule], capture_output=True, text=True)
+        return ran.stdout.split("\n")[-3 if ran.returncode == 0 else 0]
+
+
+class Csv(WithRoom):
+    def folder(self, name: str = "csv") -> str:
+        """The market as a folder."""
+        self.write("case.json", market.text(market.case()))
+        self.convert(f"{self.room}/case.json", f"{self.room}/{name}")
+        return f"{self.room}/{name}"
+
+    def test_there_and_back_are_the_same_bytes(self) -> None:
+        for example in ("usual", "evening", "windows", "day", "two_units"):
+            names = [f"{self.room}/{example}.{it}" for it in ("csv", "json", "again", "again.json")]
+            case = f"{EXAMPLES}/{example}/case.json"
+            self.assertEqual(self.convert(case, names[0])[0], "")
+            for source, to in zip(names, names[1:]):
+                self.assertEqual(self.convert(source, to)[0], "")
+            self.assertEqual(sorted(os.listdir(names[0])), sorted(os.listdir(names[2])))
+            for file in os.listdir(names[0]):
+                self.assertEqual(self.read(f"{names[0]}/{file}"), self.read(f"{names[2]}/{file}"))
+            self.assertEqual(self.read(names[1]), self.read(names[3]))
+            schedule = f"{EXAMPLES}/{example}/schedule.json"
+            self.assertEqual(self.cost(case, schedule), self.cost(names[1], schedule))
+            self.assertEqual(read_case(case), read_case(names[1]))
+
+    def test_the_example_folder_is_the_evening(self) -> None:
+        self.convert(f"{EXAMPLES}/csv", f"{self.room}/case.json")
+        self.assertEqual(read_case(f"{self.room}/case.json"), read_case(f"{EXAMPLES}/evening/case.json"))
+        self.convert(f"{EXAMPLES}/evening/case.json", f"{self.room}/csv")
+        for file in os.listdir(f"{self.room}/csv"):
+            self.assertEqual(self.read(f"{self.room}/csv/{file}"), self.read(f"{EXAMPLES}/csv/{file}"))
+
+    def test_names_and_numbers_stay_as_they_are(self) -> None:
+        case = market.case()
+        case["thermal_generators"]['a, "b" ü'] = case["thermal_generators"].pop("GT6")
+        text = market.text(case).replace('"demand": [560.5', '"demand": [560.50')
+        self.write("odd.json", text)
+        self.convert(f"{self.room}/odd.json", f"{self.room}/odd")
+        self.convert(f"{self.room}/odd", f"{self.room}/back.json")
+        back = self.read(f"{self.room}/back.json")
+        self.assertIn('"demand": [560.50, ', back)
+        self.assertIn('"a, \\"b\\" ü": {', back)
+        self.assertEqual(read_case(f"{self.room}/odd.json"), read_case(f"{self.room}/back.json"))
+
+    def test_what_a_spreadsheet_writes_is_read(self) -> None:
+        """A byte order mark, carriage returns, empty rows and columns; semicolons with decimal commas."""
+        folder = self.folder()
+        for file in os.listdir(folder):
+            text = self.read(f"{folder}/{file}").replace(",", ";").replace(".", ",").replace("\n", ";\r\n") + ";;;\r\n"
+            with open(f"{folder}/{file}", "w", encoding="utf-8-sig", newline="") as it:
+                it.write(text)
+        self.convert(folder, f"{self.room}/back.json")
+        self.assertEqual(read_case(f"{self.room}/back.json"), read_case(f"{self.room}/case.json"))
+
+    def refused(self, file: str, old: str, new: str) -> str:
+        folder = self.folder("of_" + str(len(os.listdir(self.room))))
+        text = self.read(f"{folder}/{file}")
+        self.assertIn(old, text)
+        self.write(f"{os.path.basename(folder)}/{file}", text.replace(old, new, 1))
+        told = self.convert(folder, f"{self.room}/none.json", status=1)[1]
+        self.assertFalse(os.path.exists(f"{self.room}/none.json"))
+        return told.split(": ", 1)[1].split("/", 1)[-1]
+
+    def test_mistakes_are_told_with_their_place(self) -> None:
+        for file, old, new, told in (
+            ("units.csv", "GT5,0,20", "GT5,0,", "units.csv, line 6: power_output_minimum is empty"),
+            ("units.csv", "GT6,", "GT5,", 'units.csv, line 7: the unit "GT5" stands twice'),
+            ("offers.csv", "GT5,20,", "GT-5,20,", 'offers.csv, line 14: units.csv has no unit "GT-5"'),
+            (
+                "offers.csv",
+                "unit,mw,cost",
+                "unit,mw,price",
+                "offers.csv: the first line has no column cost. Due: unit, mw, cost",
+            ),
+            ("offers.csv", "2112.0", '"2,112"', "offers.csv, line 14: cost is '2,112', and a number is due"),
+            (
+                "offers.csv",
+                "2112.0",
+                "2112,0",
+                "offers.csv, line 14: it has 4 cells, and the first line names 3 columns. Is a decimal comma in it?",
+            ),
+            ("hours.csv", "\n3,", "\n4,", "hours.csv, line 4: period is 4, and 3 is due"),
+            ("renewables.csv", "WIND1,5,0,56.5\n", "", 'the unit "WIND1" has no row of period 5'),
+            ("bids.csv", "STEEL,24,20", "STEEL,25,20", "bids.csv, line 73: period is '25', and 1 to 24 is due"),
+            (
+                "units.csv",
+                "GT5,0,20,80",
+                "GT5,0,20,10",
+                'thermal unit "GT5" (number 5), power_output_minimum: it is above the greatest power',
+            ),
+        ):
+            self.assertIn(told, self.refused(file, old, new))
+
+    def test_what_is_not_read_is_told(self) -> None:
+        folder = self.folder()
+        text = self.read(f"{folder}/hours.csv").replace("period,demand", "period,hour,demand").split("\n")
+        self.write("csv/hours.csv", "\n".join([text[0], *(it.replace(",", ",x,", 1) for it in text[1:])]))
+        self.assertEqual(self.convert(folder, f"{self.room}/back.json")[0], "left out: hours.csv: the column hour\n")
+        case = market.case()
+        case["thermal_generators"]["GT5"]["owner"] = "me"
+        case["note"] = "of the year"
+        self.write("noted.json", market.text(case))
+        told = self.convert(f"{self.room}/noted.json", f"{self.room}/noted")[0]
+        self.assertEqual(
+            told, "left out: thermal_generators: the field `owner` (1: GT5)\nleft out: the case: the field `note`\n"
+        )
+
+    def test_no_file_that_is_read_is_replaced(self) -> None:
+        folder = self.folder()
+        before = self.read(f"{folder}/units.csv")
+        self.assertIn("would be replaced", self.convert(folder, folder, status=1)[1])
+        self.assertEqual(self.read(f"{folder}/units.csv"), before)
+
+
+class Others(WithRoom):
+    """Each instance is the tests' market; its schedule keeps its cost where the form has all that the case has."""
+
+    def same(self, found: str, but: Dict[str, Any]) -> None:
+        """That the case is the market's, but for some members."""
+        case = json.loads(json.dumps(market.case()))
+        case.update(but)
+        with open(found, encoding="utf-8") as it:
+            made = json.load(it)
+        for unit in made["thermal_generators"]:
+            self.assertEqual(made["thermal_generators"][unit], case["thermal_generators"][unit], unit)
+        self.assertEqual(
+            {key: it for key, it in made.items() if it != {}}, {key: it for key, it in case.items() if it is not None}
+        )
+
+    def left_out(self) -> List[Dict[str, Any]]:
+        with open(f"{self.room}/left.json", encoding="utf-8") as it:
+            return list(json.load(it))
+
+    def test_unit_commitment_jl(self) -> None:
+        blocks = {
+            f"STEEL{i}": {"blocks": [[{"mw": mw, "price": price}]] * 24}
+            for i, (mw, price) in enumerate(((40, 120), (30, 55), (20, 30)), 1)
+        }
+        for name in ("instance.json", "instance.json.gz"):
+            other_forms.write_json(f"{self.room}/{name}", other_forms.unit_commitment_jl())
+            told, _ = self.convert(
+                f"{self.room}/{name}", f"{self.room}/case.json", "--left-out", f"{self.room}/left.json"
+            )
+            self.same(f"{self.room}/case.json", {"demand_bids": blocks})
+        self.assertEqual(
+            told.split("\n"),
+            [
+                "left out: penalties for what isn't met: demand and reserve have to be met (1: r1)",
+                "left out: further reserve products: flexiramp (1: r2)",
+                "left out: transmission lines: the network: all units and loads stand at one place (1: l1)",
+                "left out: storage units (1: su1)",
+                "left out: contingencies (1: c1)",
+                "left out: the network: all units and loads stand at one place",
+                "",
+            ],
+        )
+        self.assertIn({"kind": "left out", "what": "storage units", "names": ["su1"]}, self.left_out())
+
+    def changed_instance(self, change: Any) -> Tuple[Dict[str, Any], str]:
+        value = other_forms.unit_commitment_jl()
+        change(value)
+        other_forms.write_json(f"{self.room}/instance.json", value)
+        told, _ = self.convert(f"{self.room}/instance.json", f"{self.room}/case.json")
+        with open(f"{self.room}/case.json", encoding="utf-8") as it:
+            return dict(json.load(it)), told
+
+    def test_parts_of_unit_commitment_jl(self) -> None:
+        def change(value: Dict[str, Any]) -> None:
+            coal, gas, peak = (value["Generators"][it] for it in ("COAL1", "CCGT3", "GT5"))
+            coal["Must run?"] = True
+            gas["Commitment status"] = [None] * 23 + [False]
+            gas["Ramp up limit (MW)"] = [120] * 12 + [110] * 12
+            gas["Emissions"] = 5
+            for key in (
+                "Initial status (h)",
+                "Initial power (MW)",
+                "Ramp down limit (MW)",
+                "Minimum uptime (h)",
+                "Startup costs ($)",
+                "Startup delays (h)",
+            ):
+                del peak[key]
+            peak["Reserve eligibility"] = []
+            value["Generators"]["WIND1"]["Cost ($/MW)"] = 2
+
+        case, told = self.changed_instance(change)
+        units = case["thermal_generators"]
+        self.assertEqual((units["COAL1"]["must_run"], units["CCGT3"]["commitment"]), (1, [None] * 23 + [0]))
+        self.assertEqual(units["CCGT3"]["ramp_up_limit"], 110)
+        peak = [
+            units["GT5"][key]
+            for key in (
+                "unit_on_t0",
+                "time_down_t0",
+                "power_output_t0",
+                "ramp_down_limit",
+                "time_up_minimum",
+                "startup",
+            )
+        ]
+        self.assertEqual(peak, [0, 1, 0, 80, 1, []])
+        for line in (
+            "left out: Ramp up limit (MW) that changes over time: its least is taken (1: CCGT3)",
+            "left out: Generators: the field `Emissions` (1: CCGT3)",
+            "left out: that a thermal unit isn't eligible for reserve: in hull each may keep reserve (1: GT5)",
+            "left out: costs of profiled generators: a renewable unit has none (1: WIND1)",
+            "assumed: no initial status: the unit is off before period 1, for long enough to be free (1: GT5)",
+        ):
+            self.assertIn(line, told)
+
+    def test_half_hours_of_unit_commitment_jl(self) -> None:
+        def change(value: Dict[str, Any]) -> None:
+            value["Parameters"].update({"Time horizon (h)": 12, "Time step (min)": 30})
+
+        case, told = self.changed_instance(change)
+        unit = case["thermal_generators"]["CCGT3"]
+        self.assertEqual(
+            (case["time_periods"], unit["time_up_minimum"], unit["time_down_t0"], unit["startup"][1]["lag"]),
+            (24, 8, 48, 24),
+        )
+        self.assertIn("assumed: time steps of 30 minutes: ramps and costs are taken per time step, as they stand", told)
+
+    def test_the_second_format_of_unit_commitment_jl(self) -> None:
+        def change(value: Dict[str, Any]) -> None:
+            value["Reserves"] = {"Spinning (MW)": 20}
+            value["Parameters"] = {"Version": "0.2", "Time (h)": 24}
+            for it in value["Generators"].values():
+                if it.pop("Reserve eligibility", None):
+                    it["Provides spinning reserves?"] = True
+
+        case, told = self.changed_instance(change)
+        self.assertEqual(case["reserves"], [20] * 24)
+        self.assertNotIn("reserve", told)
+
+    def test_egret(self) -> None:
+        other_forms.write_json(f"{self.room}/model.json", other_forms.egret())
+        told, _ = self.convert(
+            f"{self.room}/model.json", f"{self.room}/case.json", "--left-out", f"{self.room}/left.json"
+        )
+        self.same(
+            f"{self.room}/case.json", {"demand": [it + 70 for it in market.case()["demand"]], "demand_bids": None}
+        )
+        for line in (
+            "left out: branch: the network: all units and loads stand at one place (1: l1)",
+            "left out: storage (1: s1)",
+            "left out: system: the field `regulation_up_requirement`",
+            "left out: penalties for what isn't met: demand and reserve have to be met",
+        ):
+            self.assertIn(f"{line}\n", told)
+
+    def test_parts_of_egret(self) -> None:
+        value = other_forms.egret()
+        units = value["elements"]["generator"]
+        units["COAL1"]["fixed_commitment"] = 1
+        units["COAL2"]["fixed_commitment"] = other_forms.over_time([1] * 12 + [None] * 12)
+        units["CCGT3"].update(
+            p_cost={
+                "data_type": "cost_curve",
+                "cost_curve_type": "polynomial",
+                "values": {"0": 100, "1": 30, "2": 0.01},
+            }
+        )
+        units["CCGT4"].update(
+            p_cost=None, p_fuel={"data_type": "fuel_curve", "values": [[100, 800], [250, 1900]]}, fuel_cost=4
+        )
+        units["GT5"].update(startup_cost=500, shutdown_cost=20)
+        units["GT6"]["in_service"] = False
+        value["system"]["time_period_length_minutes"] = 30
+        other_forms.write_json(f"{self.room}/model.json", value)
+        told, _ = self.convert(f"{self.room}/model.json", f"{self.room}/case.json")
+        with open(f"{self.room}/case.json", encoding="utf-8") as it:
+            made = json.load(it)["thermal_generators"]
+        self.assertEqual((made["COAL1"]["must_run"], made["COAL2"]["commitment"]), (1, [1] * 12 + [None] * 12))
+        points = made["CCGT3"]["piecewise_production"]
+        self.assertEqual(
+            (len(points), points[0], points[-1]), (11, {"mw": 120, "cost": 1922}, {"mw": 300, "cost": 5000})
+        )
+        self.assertEqual(made["CCGT4"]["piecewise_production"], [{"mw": 100, "cost": 1600}, {"mw": 250, "cost": 3800}])
+        self.assertEqual(made["GT5"]["startup"], [{"lag": 2, "cost": 500}])
+        self.assertNotIn("GT6", made)
+        self.assertEqual(
+            (made["COAL1"]["ramp_up_limit"], made["COAL1"]["time_up_minimum"], made["COAL1"]["time_up_t0"]),
+            (45, 16, 48),
+        )
+        for line in (
+            "changed: periods of 30 minutes: ramps and costs, which the file has per hour, are scaled to a period",
+            "changed: polynomial costs are cut into 10 straight pieces (1: CCGT3)",
+            "left out: shutdown costs (1: GT5)",
+            "left out: generators that aren't in service (1: GT6)",
+        ):
+            self.assertIn(f"{line}\n", told)
+
+    def test_pypsa(self) -> None:
+        other_forms.pypsa(f"{self.room}/network")
+        told, _ = self.convert(f"{self.room}/network", f"{self.room}/case.json", "--left-out", f"{self.room}/left.json")
+        made, due = read_case(f"{self.room}/case.json"), market.case()
+        self.assertEqual(made.demand, [round(1000 * it) + 70_000 for it in due["demand"]])
+        self.assertEqual([it.name for it in made.renewable], list(market.WIND))
+        self.assertEqual(made.renewable[1].most, [round(1000 * it) for it in market.WIND["WIND2"]])
+        for unit in made.thermal:
+            row = due["thermal_generators"][unit.name]
+            self.assertEqual(
+                (unit.least, unit.most), (1000 * row["power_output_minimum"], 1000 * row["power_output_maximum"])
+            )
+            self.assertEqual((unit.ramp_up, unit.ramp_down), (1000 * row["ramp_up_limit"], unit.most))
+            self.assertEqual((unit.start_limit, unit.stop_limit), (1000 * row["ramp_startup_limit"], unit.most))
+            self.assertEqual(
+                (unit.on0, unit.up0 > 0, unit.min_up),
+                (row["unit_on_t0"], row["unit_on_t0"] == 1, row["time_up_minimum"]),
+            )
+            for (at, cost), point in zip((unit.points[0], unit.points[-1]), row["piecewise_production"][::2]):
+                self.assertEqual(at, 1000 * point["mw"])
+                self.assertAlmostEqual(cost / 1e6, point["cost"], places=5)
+        for line in (
+            "assumed: PyPSA has no power before the first snapshot: of a unit that is on it is halfway from the least to the greatest (2: COAL1, COAL2)",
+            "left out: generators.csv: the column p_set (1: GT5)",
+            "left out: lines: the network: all units and loads stand at one place (1: l1)",
+            "left out: storage units (1: battery)",
+        ):
+            self.assertIn(f"{line}\n", told)
+
+    def test_what_is_no_instance(self) -> None:
+        for data in (
+            "{}",
+            "[]",
+            '{"Parameters": {}, "Generators": {}}',
+            '{"elements": {}, "system": {}}',
+            "{",
+            '{"Buses": 5, "Parameters": 5}',
+        ):
+            name = self.write("odd.json", data)
+            for form in ((), ("--from", "egret"), ("--from", "unit-commitment-jl"), ("--from", "hull")):
+                said = self.convert(name, f"{self.room}/none.json", *form, status=1)[1]
+                self.assertEqual(said.count("\n"), 1, said)
+        os.mkdir(f"{self.room}/empty")
+        self.convert(f"{self.room}/empty", f"{self.room}/none.json", status=1)
+        with open(f"{self.room}/cut.json.gz", "wb") as it:
+            it.write(b"\x1f\x8b\x08\x00")
+        self.assertIn(
+            "no whole file of gzip", self.convert(f"{self.room}/cut.json.gz", f"{self.room}/none.json", status=1)[1]
+        )
+
+
+if __name__ == "__main__":
+    unittest.main()
