@@ -1,10 +1,14 @@
 """Schedules in megawatts from elsewhere: what each unit is to do, by its name."""
 import csv
 import io
+import os
 from dataclasses import dataclass, field
+from decimal import Decimal
 
+from .converters import unpacked
+from .converters.pypsa import solution
 from .json_texts import Refused, is_number, parse
-from .errors import HullError, one_line, read_bytes
+from .errors import HullError, one_line
 
 JULIA = {
     "on": ("Is on",),
@@ -48,7 +52,9 @@ def units_of(value):
     if isinstance(value.get("elements"), dict):
         return value["elements"].get("generator", {}), EGRET
     if any(isinstance(value.get(key), dict) for keys in JULIA.values() for key in keys):
-        turned = {}
+        turned, products = {}, value.get("Spinning reserve (MW)")
+        if isinstance(products, dict) and "Reserve (MW)" not in value:
+            value = {**value, "Reserve (MW)": next(iter(products.values()), {})}
         for key, by_name in value.items():
             for unit, row in by_name.items() if isinstance(by_name, dict) else ():
                 turned.setdefault(unit, {})[key] = row
@@ -98,17 +104,35 @@ def followed_csv(data, name, periods):
     return found
 
 
-def read_followed(name, case):
-    """What a schedule from elsewhere says: JSON or csv. Units that the case hasn't are skipped."""
-    data = read_bytes(name, "a schedule")
+def followed_network(folder, periods):
+    """The powers and states of a solved network of PyPSA, in its folder of tables."""
+    powers, states = solution(folder)
+    what = lambda unit, row: [number(Decimal(it or 0), folder, unit) for it in row]
+    found = Followed({unit: what(unit, row) for unit, row in states.items()}, {})
+    found.power = {unit: what(unit, row) for unit, row in powers.items()}
+    if not powers or any(len(row) != periods for row in powers.values()):
+        raise HullError(
+            f"{folder}: generators-p.csv hasn't a row for each of the {periods} periods: was the network solved?"
+        )
+    return found
+
+
+def followed_file(name, periods):
+    """What a file says, JSON or csv, which may be compressed by gzip."""
+    data = unpacked(name)
     try:
         is_json = data.decode("utf-8-sig").lstrip().startswith("{")
-        found = (followed_json if is_json else followed_csv)(data, name, case.periods)
+        return (followed_json if is_json else followed_csv)(data, name, periods)
     except UnicodeDecodeError:
         raise HullError(f"{name}: it isn't UTF-8") from None
+
+
+def read_followed(name, case):
+    """What a schedule from elsewhere says. Units that the case hasn't are skipped."""
+    found = (followed_network if os.path.isdir(name) else followed_file)(name, case.periods)
     for it in case.thermal:
         if it.name not in found.on and it.name in found.power:
-            found.on[it.name] = [float(power > 1e-6) for power in found.power[it.name]]
+            found.on[it.name] = [float(power > 1e-6 or it.must_run) for power in found.power[it.name]]
         if it.name not in found.on:
             raise HullError(f'{name}: it has no on flags of thermal unit "{one_line(it.name)}"')
     return found

@@ -204,14 +204,3 @@ def follow(case, followed, name):
         raise HullError(f"{name}: no whole kilowatts near its powers balance")
     kept = {i: followed.reserve[it.name] for i, it in enumerate(case.thermal) if it.name in followed.reserve}
     return Made(schedule_of(case, flags, lists, reserves_of(case, flags, lists[0], kept)))
-
-
-def farthest(case, schedule, followed):
-    """How far in kilowatts the schedule's powers are from those that were to be followed: the most, and of which unit and period."""
-    rows = (
-        (abs(plan.power[t] - followed.power[name][t] * 1e3), name, t + 1)
-        for (_, name), plan in schedule.plans.items()
-        if name in followed.power
-        for t in range(case.periods)
-    )
-    return max(rows, default=(0.0, None, 0))

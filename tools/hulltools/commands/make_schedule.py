@@ -1,6 +1,6 @@
 """Makes a feasible schedule in whole kilowatts for a case.
 
-usage: make_schedule.py CASE SCHEDULE [--gap G] [--seconds S] [--follow FILE] [--hull PROGRAM]
+usage: make_schedule.py CASE SCHEDULE [--gap G] [--seconds S] [--follow FILE [--tolerance MW] [--deviations TABLE]] [--hull PROGRAM]
 
   CASE            a case as `hull` reads it (docs/FORMATS.md)
   SCHEDULE        where the schedule is written, once `hull check` has accepted it
@@ -8,7 +8,10 @@ usage: make_schedule.py CASE SCHEDULE [--gap G] [--seconds S] [--follow FILE] [-
   --seconds S     stop the search after so many seconds, and take what it has; 240 if left out
   --follow FILE   no search: the commitments of a schedule in megawatts from elsewhere, and whole kilowatts as near to its powers as
                   can be; of these the cheapest, and powers that FILE hasn't are free. JSON as egret and UnitCommitment.jl write
-                  it, or as a schedule of hull in megawatts, or a csv with the columns unit, period, on, power and reserve
+                  it, plain or .json.gz, or as a schedule of hull in megawatts, the folder of a solved PyPSA network, or a csv with the columns
+                  unit, period, on, power and reserve
+  --tolerance MW  with --follow: write nothing where a power is farther than this from FILE's
+  --deviations TABLE  with --follow: a csv of the powers and reserves that aren't FILE's, the farthest first
   --hull PROGRAM  the program that checks; the launcher of this repository if left out
 
 Needs SciPy with its solver HiGHS (Debian: python3-scipy, with /usr/bin/python3). Nothing of this tool is proved, and nothing has to
@@ -19,11 +22,12 @@ Three steps: which units are on (a mixed integer program), what each gives (the 
 kilowatts next to that which balance exactly and cost least (a small integer program).
 """
 from ..cases import read_case
+from ..deviations import deviations, farthest, in_words, table_text
 from ..external_schedules import read_followed
 from ..linear import need_scipy
 from ..numbers import money
 from ..program import Hull, as_file
-from ..scheduling import farthest, follow, make_schedule
+from ..scheduling import follow, make_schedule
 from ..errors import HullError, refuse_inputs, run_tool, write_whole
 from .words import asker, positive
 
@@ -35,6 +39,8 @@ def arguments(words):
     ask.add_argument("--gap", type=positive, default=0.0001)
     ask.add_argument("--seconds", type=positive, default=240.0)
     ask.add_argument("--follow")
+    ask.add_argument("--tolerance", type=positive)
+    ask.add_argument("--deviations")
     ask.add_argument("--hull")
     return ask.parse_args(words)
 
@@ -47,13 +53,22 @@ def checked_case(hull, name):
     return read_case(name)
 
 
+def followed_schedule(given, case):
+    """The schedule that follows one from elsewhere, and how far it is from that."""
+    followed = read_followed(given.follow, case)
+    schedule = follow(case, followed, given.follow).schedule
+    found = deviations(schedule, followed)
+    if given.deviations:
+        write_whole(given.deviations, table_text(found), [given.case, given.follow])
+    told = in_words(found, given.follow)
+    if given.tolerance is not None and farthest(found, "power") > 1e3 * given.tolerance:
+        raise HullError(f"nothing is written, since {told}; --tolerance {given.tolerance:g} MW was asked for")
+    return schedule, told
+
+
 def made(given, case, tell):
     if given.follow:
-        followed = read_followed(given.follow, case)
-        found = follow(case, followed, given.follow)
-        off, unit, period = farthest(case, found.schedule, followed)
-        near = f", in period {period} of {unit}" if unit is not None else ""
-        return found.schedule, f"its powers are within {off:.3f} kW of those of {given.follow}{near}"
+        return followed_schedule(given, case)
     sizes = f"{len(case.thermal)} thermal and {len(case.renewable)} renewable units, {len(case.bids)} bids, {case.periods} periods"
     tell(f"{sizes}: searching for at most {given.seconds:g} s")
     found = make_schedule(case, given.gap, given.seconds, tell)
@@ -80,6 +95,8 @@ def make(given, tell):
 
 def body(words, tell):
     given = arguments(words)
+    if not given.follow and (given.tolerance is not None or given.deviations):
+        raise HullError("--tolerance and --deviations go with --follow")
     need_scipy()
     refuse_inputs(given.schedule, [it for it in (given.case, given.follow) if it])
     cost, reached = make(given, tell)

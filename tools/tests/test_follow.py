@@ -1,0 +1,143 @@
+"""tools/make_schedule.py --follow: solutions of other programs, and how far a schedule is from them."""
+from __future__ import annotations
+
+import copy
+import csv
+import json
+import os
+import shutil
+import subprocess
+import tempfile
+import unittest
+from typing import Any, Callable, Dict, List, Tuple
+
+import market
+import other_forms
+from tool import PROGRAM, python_with, run
+
+
+class Follow(unittest.TestCase):
+    def setUp(self) -> None:
+        self.python = python_with("scipy.optimize._milp")
+        if not self.python:
+            self.skipTest("no Python here has SciPy with milp")
+        self.room = tempfile.mkdtemp(prefix="hull-follow-")
+        self.addCleanup(shutil.rmtree, self.room)
+        with open(f"{self.room}/case.json", "w", encoding="utf-8") as it:
+            it.write(market.text(market.case()))
+        self.plan = market.schedule()
+
+    def megawatts(self, change: Callable[[Dict[str, Any]], None] = lambda it: None) -> Dict[str, Any]:
+        """The schedule in megawatts, changed."""
+        plan = copy.deepcopy(self.plan)
+        for unit in plan["thermal"].values():
+            unit.update({key: [it / 1000 for it in unit[key]] for key in ("power", "reserve")})
+        for group in ("renewable", "bids"):
+            plan[group] = {name: [it / 1000 for it in row] for name, row in plan[group].items()}
+        change(plan)
+        return plan
+
+    def follow(self, name: str, *words: str, case: str = "case.json") -> Tuple[int, str]:
+        files = [f"{self.room}/{it}" for it in (case, "made.json")]
+        status, _, said = run(
+            "make_schedule.py", *files, "--hull", PROGRAM, "--follow", f"{self.room}/{name}", *words, python=self.python
+        )
+        return status, said.replace(f"{self.room}/", "")
+
+    def made(self) -> Dict[str, Any]:
+        with open(f"{self.room}/made.json", encoding="utf-8") as it:
+            return dict(json.load(it))
+
+    def test_the_same_powers_are_told_so(self) -> None:
+        other_forms.write_json(f"{self.room}/plan.json", self.megawatts())
+        status, said = self.follow("plan.json", "--deviations", f"{self.room}/table.csv", "--tolerance", "0")
+        self.assertEqual((status, said.split("; ")[1:]), (0, ["its powers are those of plan.json\n"]), said)
+        self.assertEqual(self.made(), self.plan)
+        self.assertEqual(self.table(), [])
+
+    def table(self) -> List[Dict[str, str]]:
+        with open(f"{self.room}/table.csv", encoding="utf-8") as it:
+            return list(csv.DictReader(it))
+
+    @staticmethod
+    def thirty_off(plan: Dict[str, Any]) -> None:
+        """A power that is 30 MW too low, so that the plan doesn't balance."""
+        plan["thermal"]["COAL1"]["power"][3] -= 30
+
+    def test_deviations_are_told_and_listed(self) -> None:
+        other_forms.write_json(f"{self.room}/plan.json.gz", self.megawatts(self.thirty_off))
+        status, said = self.follow("plan.json.gz", "--deviations", f"{self.room}/table.csv")
+        self.assertEqual(status, 0, said)
+        self.assertIn("of its powers differ", said)
+        rows = self.table()
+        off = [abs(float(row["difference_mw"])) for row in rows if row["what"] == "power"]
+        self.assertAlmostEqual(sum(off), 30)
+        self.assertEqual(off, sorted(off, reverse=True))
+        self.assertEqual({row["period"] for row in rows}, {"4"})
+
+    def test_a_tolerance_is_kept(self) -> None:
+        other_forms.write_json(f"{self.room}/plan.json", self.megawatts(self.thirty_off))
+        status, said = self.follow("plan.json", "--tolerance", "1", "--deviations", f"{self.room}/table.csv")
+        self.assertEqual((status, said.count("\n")), (1, 1), said)
+        self.assertTrue(said.startswith("make_schedule.py: nothing is written, since "), said)
+        self.assertTrue(said.endswith("--tolerance 1 MW was asked for\n"), said)
+        self.assertFalse(os.path.exists(f"{self.room}/made.json"))
+        self.assertTrue(self.table())
+        self.assertEqual(self.follow("plan.json", "--tolerance", "30")[0], 0)
+
+    def test_both_words_go_with_follow(self) -> None:
+        for words in (["--tolerance", "1"], ["--deviations", f"{self.room}/table.csv"]):
+            status, _, said = run(
+                "make_schedule.py", f"{self.room}/case.json", f"{self.room}/made.json", *words, python=self.python
+            )
+            self.assertEqual((status, said), (1, "make_schedule.py: --tolerance and --deviations go with --follow\n"))
+
+    def test_a_solution_of_unit_commitment_jl(self) -> None:
+        """Of the converted instance, whose buyer is three loads; the spinning reserve stands under its product."""
+        other_forms.write_json(f"{self.room}/instance.json", other_forms.unit_commitment_jl())
+        self.assertEqual(run("convert.py", f"{self.room}/instance.json", f"{self.room}/julia.json")[0], 0)
+        plan = self.megawatts()
+        solution = {
+            "Is on": {name: [float(now) for now in it["on"]] for name, it in plan["thermal"].items()},
+            "Thermal production (MW)": {name: it["power"] for name, it in plan["thermal"].items()},
+            "Profiled production (MW)": plan["renewable"],
+            "Spinning reserve (MW)": {"r1": {name: it["reserve"] for name, it in plan["thermal"].items()}},
+        }
+        other_forms.write_json(f"{self.room}/solution.json.gz", solution)
+        status, said = self.follow("solution.json.gz", case="julia.json")
+        self.assertEqual(status, 0, said)
+        self.assertTrue(said.endswith("its powers are those of solution.json.gz\n"), said)
+        made = self.made()
+        self.assertEqual((made["thermal"], made["renewable"]), (self.plan["thermal"], self.plan["renewable"]))
+        self.assertEqual([made["bids"][f"STEEL{i}"][0] for i in (1, 2, 3)], [40000, 30000, 0])
+
+    def test_a_solved_network_of_pypsa(self) -> None:
+        folder, plan = f"{self.room}/network", self.megawatts()
+        other_forms.pypsa(folder)
+        self.assertEqual(run("convert.py", folder, f"{self.room}/pypsa.json")[0], 0)
+        powers = {**{name: it["power"] for name, it in plan["thermal"].items()}, **plan["renewable"]}
+        hours = [str(it) for it in range(24)]
+        rows = [[hour, *(row[t] for row in powers.values())] for t, hour in enumerate(hours)]
+        other_forms.write_table(f"{folder}/generators-p.csv", [["snapshot", *powers], *rows])
+        states = {name: it["on"] for name, it in plan["thermal"].items()}
+        rows = [[hour, *(float(row[t]) for row in states.values())] for t, hour in enumerate(hours)]
+        other_forms.write_table(f"{folder}/generators-status.csv", [["snapshot", *states], *rows])
+        status, said = self.follow("network", case="pypsa.json")
+        self.assertEqual(status, 0, said)
+        self.assertTrue(said.endswith("its powers are those of network\n"), said)
+        self.assertEqual({name: it["on"] for name, it in self.made()["thermal"].items()}, states)
+        ran = subprocess.run(
+            [PROGRAM, "check", "--case", f"{self.room}/pypsa.json", "--schedule", f"{self.room}/made.json"],
+            capture_output=True,
+        )
+        self.assertEqual(ran.returncode, 0, ran.stdout)
+
+    def test_an_unsolved_network(self) -> None:
+        other_forms.pypsa(f"{self.room}/network")
+        status, said = self.follow("network")
+        self.assertEqual(status, 1)
+        self.assertIn("was the network solved?", said)
+
+
+if __name__ == "__main__":
+    unittest.main()
