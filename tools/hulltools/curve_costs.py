@@ -29,8 +29,8 @@ def line_cost(points: Points, power: int) -> Fraction:
     at_power = [cost for at, cost in points if at == power]
     if at_power:
         return Fraction(min(at_power))
-    before = max(it for it in points if it[0] < power)
-    after = min(it for it in points if it[0] > power)
+    before = [it for it in points if it[0] < power][-1]
+    after = next(it for it in points if it[0] > power)
     return before[1] + Fraction(after[1] - before[1], after[0] - before[0]) * (power - before[0])
 
 
