@@ -94,7 +94,8 @@ price_day() {
     is_priced && return
     rm -f report.txt report.of report.*part* refused.txt trouble.txt trouble.part* audit.* || return
     { echo "# ${words[*]}"; sums_of case.json schedule.json; } >report.of.part
-    try_run is_whole report.txt "case.json schedule.json" price --case case.json --schedule schedule.json --workers 1 "${words[@]}" || return
+    try_run is_whole report.txt "case.json schedule.json" price --case case.json --schedule schedule.json --workers 1 "${words[@]}" ||
+        { rm -f report.of.part; return 1; }
     sums_of report.txt >>report.of.part && mv -f report.of.part report.of
 }
 
@@ -104,7 +105,7 @@ audit_day() {
     rm -f audit.* refused.txt trouble.txt trouble.part* || return
     { echo "# audit"; sums_of case.json schedule.json report.txt; } >audit.of.part
     try_run is_a_right_audit audit.txt "case.json schedule.json report.txt" \
-        audit --case case.json --schedule schedule.json --report report.txt --workers 1 || return
+        audit --case case.json --schedule schedule.json --report report.txt --workers 1 || { rm -f audit.of.part; return 1; }
     mv -f audit.of.part audit.of
 }
 

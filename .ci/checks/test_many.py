@@ -139,7 +139,9 @@ class Many(unittest.TestCase):
         status, left, said = self.many(*price)
         self.assertEqual((status, self.cut_to(due, left)), (1, due))
         self.assertIn("many.sh: days/closed: cannot be written", said)
-        self.assertFalse(os.path.exists(f"{self.room}/days/refused/report.txt"))
+        self.assertEqual(
+            sorted(os.listdir(f"{self.room}/days/refused")), ["case.json", "refused.txt", "schedule.json"]
+        )
         status, left, _ = self.many(*audit)
         self.assertEqual((status, self.cut_to(due, left)), (1, due))
         self.mend()
@@ -208,6 +210,7 @@ class Many(unittest.TestCase):
         )
         status, left, _ = self.many("audit", "-p", f"{self.room}/bin/hull", *self.days)
         self.assertEqual(left.pop("days/report"), "refused: fault 8 report 61 at 21")
+        self.assertFalse(os.path.exists(f"{self.room}/days/report/audit.of.part"))
         self.assertEqual((status, left), (1, {f"days/{it}": told[it] for it in ("cut", "report gone")}))
         # (other words, other reports)
         self.assertEqual(self.many("price", "-p", f"{self.room}/bin/hull", *self.days)[:2], (0, {}))

@@ -22,6 +22,10 @@ IDLE = 4  # after how many rounds far from use a column is dropped
 CLOSER = 20  # how much nearer to its optimum than the prices are to theirs each master problem is solved
 BEGIN = 0.03  # how far from its optimum each begins, as a share of the value: nearer than that it starts out crooked
 STALE = 20  # after how many rounds that bring it no nearer the search ends
+BARREN = 3  # and after how many of these, ever more accurate, in which each best response was seen before
+WHOLE = (
+    "it comes no nearer: no unit responds anew, and what is left is most likely the rounding of prices to 0.001 per MWh"
+)
 STEPS = (1.0, 0.5, 0.25, 0.1)  # which shares of the way from the best prices to the master's are tried
 OPENING = (500, 24)  # how many proposals of `hull price` are made for a start, and how many of them are settled
 
@@ -47,6 +51,7 @@ class Search:
     def __init__(self, case, settle):
         self.case, self.settle, self.calls = case, settle, 0
         self.columns, self.seen = [], set()
+        self.ever, self.fresh = set(), 0  # (responses that were ever seen, and how many of the last round are new)
         self.chance = np.random.default_rng(1)  # (the same in every run)
         self.best, self.best_value, self.payments = None, None, None
         periods = case.periods
@@ -56,9 +61,11 @@ class Search:
 
     def ask(self, *lists):
         """Settles at each of the prices, side by side, and keeps what is new of it."""
+        before = len(self.ever)
         with ThreadPoolExecutor(min(4, len(lists))) as pool:
             for prices, found in zip(lists, pool.map(self.settle, lists)):
                 self.keep(prices, found)
+        self.fresh = len(self.ever) - before
 
     def keep(self, prices, found):
         self.calls += 1
@@ -68,6 +75,7 @@ class Search:
         for unit, it in enumerate(thermal):
             plan = Plan(it.on, it.power, it.reserve)
             key = key_of(unit, plan)
+            self.ever.add(hash(key))
             if key not in self.seen:
                 self.seen.add(key)
                 paid = sum(a * b for a, b in zip(prices.energy + prices.reserve, it.power + it.reserve))
@@ -192,11 +200,11 @@ def convex_prices(case, starts, settle, certify, limits, tell):
     if not case.thermal:
         return without_thermal(case, search, certify)
     search.ask(*starts)
-    gap, finer, best, stale = float("inf"), 1.0, (float("inf"), None, None), 0
+    gap, finer, best, stale, barren = float("inf"), 1.0, (float("inf"), None, None), 0, 0
     for turn in itertools.count(1):
         within = limits.within(search.payments)
         master = search.master()
-        accuracy = max(within / 10, min(gap, 1e6) / CLOSER) / finer
+        accuracy = max(within / 10, min(gap, 1e6) / CLOSER) / (finer * 10**barren)
         wide = max(10 * min(gap, 1e6), BEGIN * abs(search.best_value) / 1e6)
         state = master.solve(search.centre, accuracy, wide)
         if master.bound(state) < best[0]:
@@ -204,10 +212,13 @@ def convex_prices(case, starts, settle, certify, limits, tell):
         search.ask(*trials(search, state.price, gap < 5 * within))
         before, gap = gap, max(0.0, best[0] - search.best_value / 1e6)
         stale = 0 if gap < 0.999 * before else stale + 1
+        # (where no new response comes, what is left is the master's inaccuracy, or what prices lose by being whole)
+        barren = barren + 1 if stale and not search.fresh and gap > within else 0
         tell(
             f"round {turn}: within {gap:,.2f} of the best, {search.calls} calls of settle, {len(master.columns.cost)} columns"
         )
-        ended = limits.over() or ("it comes no nearer" if stale >= STALE or finer > 1e4 else None)
+        ended = limits.over() or (WHOLE if barren >= BARREN else None)
+        ended = ended or ("it comes no nearer" if stale >= STALE or finer > 1e4 else None)
         if best[1] and (ended or gap <= within):
             found = search.found(best, certify, ended)
             if ended or found.distance / 1e6 <= within:
