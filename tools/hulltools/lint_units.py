@@ -2,7 +2,7 @@
 from __future__ import annotations
 
 from dataclasses import dataclass
-from typing import Iterator, Optional
+from typing import Iterator, Optional, Tuple
 
 from .cases import Thermal
 from .lint_findings import megawatts
@@ -117,8 +117,8 @@ def ramp_oddities(unit: Thermal, hours: float) -> Iterator[Oddity]:
             )
 
 
-def contradiction(unit: Thermal) -> Optional[Oddity]:
-    """Which two rules leave the unit no flag in a period; None where there are none such."""
+def clash(unit: Thermal) -> Optional[Tuple[int, str, str]]:
+    """The first period in which two rules leave the unit no flag, the rules in words, and the field of the first."""
     low, high = unit.on_bounds()
     t = next((t for t in range(len(low)) if low[t] > high[t]), None)
     if t is None:
@@ -128,7 +128,13 @@ def contradiction(unit: Thermal) -> Optional[Oddity]:
         on, key = "its minimum time up isn't over", "time_up_t0"
     elif unit.on0 and t == 0 and unit.power0 > unit.stop_cap:
         on, key = on or "its initial output is above its stop limit, so it can't stop in period 1", "power_output_t0"
-    on = on or "its window says on"
     off = "its window says off" if unit.marks[t] == 0 else "its minimum time down isn't over"
-    text = f"in period {t + 1} it can be neither on nor off: {on}, and {off}"
-    return Oddity("neither-on-nor-off", key or "commitment", text, t + 1)
+    return t + 1, f"{on or 'its window says on'}, and {off}", key or "commitment"
+
+
+def contradiction(unit: Thermal) -> Optional[Oddity]:
+    found = clash(unit)
+    if found is None:
+        return None
+    period, why, key = found
+    return Oddity("neither-on-nor-off", key, f"in period {period} it can be neither on nor off: {why}", period)

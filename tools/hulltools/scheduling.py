@@ -4,6 +4,8 @@ from dataclasses import dataclass, replace
 from .cases import POWER
 from .commitment import Commitment
 from .external_schedules import Followed
+from .impossible import units_that_bar, why_flags
+from .lint_units import clash
 from .rounding import SLACK, reserves_of, whole_powers
 from .schedules import Plan, Schedule, flat_plan
 from .errors import HullError, one_line
@@ -28,20 +30,12 @@ class Made:
 def refuse_contradictions(case):
     """Says which two rules of a unit leave it no flag in a period."""
     for unit in case.thermal:
-        low, high = unit.on_bounds()
-        t = next((t for t in range(case.periods) if low[t] > high[t]), None)
-        if t is None:
-            continue
-        on = "it is must-run" if unit.must_run else ""
-        if unit.on0 and t < unit.min_up - unit.up0:
-            on = "its minimum time up isn't over"
-        elif unit.on0 and t == 0 and unit.power0 > unit.stop_cap:
-            on = on or "its initial output is above its stop limit, so it can't stop in period 1"
-        on = on or "its window says on"
-        off = "its window says off" if unit.marks[t] == 0 else "its minimum time down isn't over"
-        raise HullError(
-            f'the case can\'t be met: in period {t + 1} unit "{one_line(unit.name)}" can be neither on nor off: {on}, and {off}'
-        )
+        found = clash(unit)
+        if found:
+            period, why, _ = found
+            raise HullError(
+                f'the case can\'t be met: in period {period} unit "{one_line(unit.name)}" can be neither on nor off: {why}'
+            )
 
 
 def why_not(case):
@@ -143,7 +137,7 @@ def make_schedule(case, gap, seconds, tell):
     model = Commitment(case)
     found = model.program.solve(time_limit=float(seconds), mip_rel_gap=gap)
     if found.status == 2:
-        raise HullError(f"the solver finds that the case can't be met{rules_that_bar(case)}")
+        raise HullError(f"the solver finds that the case can't be met{rules_that_bar(case)}{units_that_bar(case)}")
     if found.x is None:
         raise HullError(f"no schedule was found in {seconds:g} s: give --seconds more")
     # (with no whole variable there is no bound beside the optimum)
@@ -196,9 +190,7 @@ def follow(case, followed, name):
     model.fix(flags)
     solved = nearest(model, wanted)
     if solved is None:
-        raise HullError(
-            f"{name}: its commitments can't be met in this case: hull check of a schedule with them says by which rule"
-        )
+        raise HullError(f"{name}: its commitments can't be met in this case: {why_flags(case, flags)}")
     lists = whole_powers(case, flags, powers_found(model, solved.x), solved.value, wanted)
     if lists is None:
         raise HullError(f"{name}: no whole kilowatts near its powers balance")

@@ -132,6 +132,33 @@ class Follow(unittest.TestCase):
         )
         self.assertEqual(ran.returncode, 0, ran.stdout)
 
+    def test_commitments_that_no_unit_can_keep(self) -> None:
+        """The rule and the unit are named, whatever the powers are."""
+
+        def short(plan: Dict[str, Any]) -> None:
+            plan["thermal"]["CCGT3"]["on"] = [int(hour in (7, 8)) for hour in range(24)]
+
+        other_forms.write_json(f"{self.room}/plan.json", self.megawatts(short))
+        status, said = self.follow("plan.json")
+        told = 'plan.json: its commitments can\'t be met in this case: thermal unit "CCGT3" stops in period 10 after 2 periods on, and 4 are due'
+        self.assertEqual((status, said), (1, f"make_schedule.py: {told}\n"))
+
+    def test_an_impossible_case_names_the_unit(self) -> None:
+        """CCGT3 is needed in the evening, and its start limit bars it."""
+        case = market.case()
+        case["thermal_generators"]["CCGT3"]["ramp_startup_limit"] = 60
+        case["demand"] = [it * 1.45 for it in case["demand"]]
+        with open(f"{self.room}/case.json", "w", encoding="utf-8") as it:
+            it.write(market.text(case))
+        files = [f"{self.room}/{it}.json" for it in ("case", "made")]
+        status, _, said = run("make_schedule.py", *files, "--hull", PROGRAM, python=self.python)
+        self.assertEqual(status, 1)
+        self.assertIn("there would be a schedule without the start and stop limits", said)
+        self.assertIn(
+            'Look at thermal unit "CCGT3": it can never start: its ramp_startup_limit of 60 MW is below its least power of 120 MW.',
+            said,
+        )
+
     def test_an_unsolved_network(self) -> None:
         other_forms.pypsa(f"{self.room}/network")
         status, said = self.follow("network")
