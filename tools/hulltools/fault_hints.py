@@ -44,6 +44,7 @@ DUE: Dict[object, str] = {
     "energy": "a list of prices per MWh, one for each period",
     "reserve": "a list of prices per MW and hour, one for each period; without it they are 0",
 }
+LISTS_OF_NUMBERS = ("demand", "reserves", "power_output_minimum", "power_output_maximum", "energy", "reserve")
 REMEDIES = {
     23: "Give it as a positive number.",
     26: "Sort the points by power.",
@@ -57,11 +58,22 @@ REMEDIES = {
 }
 
 
-def remedy(code: int, key: str, kind: str, found: object) -> str:
+def is_quoted_number(found: object) -> bool:
+    """Whether a value, or a member of it, is a number between quotes."""
+    if isinstance(found, dict):
+        return any(map(is_quoted_number, found.values()))
+    return (
+        isinstance(found, str) and not isinstance(found, Written) and bool(re.fullmatch(r"\s*-?\d[\d.,' ]*\s*", found))
+    )
+
+
+def remedy(code: int, key: str, kind: str, item: int, found: object) -> str:
     """What to do about a field's fault, as a sentence with a space before it; an empty text where the sentence says it all."""
     due = DUE.get((key, kind)) or DUE.get(key)
-    if isinstance(found, str) and not isinstance(found, Written) and re.fullmatch(r"\s*-?[\d.,' ]+\s*", found):
+    if is_quoted_number(found):
         return " Numbers stand without quotes, with a point, and without separators of thousands."
+    if code == 21 and item:
+        return " Give a number for each period." if key in LISTS_OF_NUMBERS else ""
     if code in (20, 21) and due:
         return f" Due: {due}."
     return f" {REMEDIES[code]}" if code in REMEDIES else ""
@@ -109,7 +121,15 @@ def hint_of_items(files: Files, items: Sequence[object]) -> str:
     periods = int(found)
     commas = decimal_commas(items, periods) if len(items) > periods else ""
     changed = hint_of_length(len(items), periods)
-    return commas or (f" {changed[:1].upper()}{changed[1:]}." if changed else "")
+    hint = commas or (f" {changed[:1].upper()}{changed[1:]}." if changed else "")
+    return hint + ("" if commas else same_lengths(files, len(items)))
+
+
+def same_lengths(files: Files, found: int) -> str:
+    """A question, where demand and reserves both have so many items."""
+    lists = [files.at("case", it) for it in ("demand", "reserves")]
+    both = all(isinstance(it, list) and len(it) == found for it in lists)
+    return f" Demand and reserves have {found} items each: is time_periods to be mended?" if both else ""
 
 
 def place_in_words(files: Files, what: str, place: int) -> str:

@@ -91,11 +91,17 @@ def known_mistake(files, what, place):
         told = "a decimal comma? Numbers have a point"
     elif re.match(rb"[-+]?(nan|inf)", data[place:], re.I):
         told = "no number of JSON: give the value, or 0 where there is none"
+    elif re.search(rb",\s*\Z", data[:place]) and data[place : place + 1] in (b",", b"]", b"}"):
+        told = "a comma too many"
+    elif not place and told is None:
+        told = "a JSON text begins with {"
     return f" ({told})" if told else ""
 
 
-def kind_due(key, kind):
-    """What kind of value is due at a field."""
+def kind_due(key, kind, item):
+    """What kind of value is due at a field, or at an item of its list."""
+    if item:
+        return "an object with numbers" if key in ("startup", "piecewise_production", "blocks") else "a number"
     if key in ("startup", "piecewise_production", "blocks"):
         return "a list of objects with numbers"
     if key in LISTS or kind == "renewable":
@@ -125,14 +131,15 @@ def told_field(files, what, code, key, kind, number, item):
     )
     known.update(
         periods=written(files.at("case", "time_periods")),
-        kind_due=kind_due(key, kind),
+        kind_due=kind_due(key, kind, item),
         limit=LIMITS.get((key, kind)) or LIMITS.get(key, "1,000,000 MW"),
     )
     where = f"{who(files, kind, number)}, " if kind in GROUPS else ""
     place = f", item {item}" if item else ""
     count = f"; it has {len(listed)} items" if code in (25, 33) and isinstance(listed, list) else ""
-    value = f" Found: {written(found)}{count}." if code != 20 and found is not None else ""
-    hint = hint_of_field(files, what, code, known["limit"], listed) or remedy(code, key, kind, found)
+    is_known = found is not None or code == 21 and files.value(what) is not None
+    value = f" Found: {written(found)}{count}." if code != 20 and is_known else ""
+    hint = hint_of_field(files, what, code, known["limit"], listed) or remedy(code, key, kind, item, found)
     return (
         f"{where}{'the whole' if key == 'whole' else key}{place}: {FIELDS[code].format_map(Known(known))}.{value}{hint}"
     )

@@ -111,6 +111,8 @@ class Reader:
         """The value of the text, or None where it can't be read to its end."""
         try:
             found = self.value(1, self.token())
+            if isinstance(found.value, Odd):
+                return None
             _, _, at = self.token()
             if at < len(self.text):
                 raise self.stop(10, at)

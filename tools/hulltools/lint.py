@@ -6,14 +6,14 @@ from dataclasses import dataclass, field, replace
 from typing import Callable, Dict, Iterable, Iterator, List, Optional, SupportsFloat, Tuple, Union
 
 from .cases import Case, Fields, Thermal, case_of, read_thermal
-from .curve_costs import CurveCosts, costs_by_unit, falls
+from .curve_costs import CurveCosts, costs_by_unit
 from .errors import HullError, read_bytes
 from .faults import Files, sentence
 from .json_places import TOKEN, Located, Node, Path, located, path_in_words, plain
 from .lint_cases import Fault, case_faults, prices_faults
-from .lint_costs import CostCheck, falling, falling_in_sum
+from .lint_costs import CostCheck, falling_in_sum, falls_of
 from .lint_findings import Finding, Level, called, names_of, ranges
-from .lint_keys import unknown_keys
+from .lint_keys import KEYS, unknown_keys
 from .lint_schedules import Plans, Shape, mixture_faults, schedule_rules, schedule_shape, shape_of
 from .lint_system import SystemOddity, capacity_oddities, in_megawatts, period_oddities, price_oddities
 from .lint_units import Oddity, oddities
@@ -246,20 +246,14 @@ class Look:
             costs = dict(rows)
             if rows:
                 self.review.costs = sum((cost for _, cost in rows[1:]), rows[0][1])
-        count = 0
-        for unit in case.thermal:
-            odd = falling(unit, costs.get(unit.name))
-            if odd:
-                count += 1
-                node = root.members["thermal_generators"].members[unit.name]
-                self.warn("case", odd, node.members[odd.field], ("thermal", unit.name))
-        if count and self.review.costs is not None:
-            text = falling_in_sum(count, self.review.costs)
-            self.warn(
-                "case",
-                SystemOddity("falling-slopes-in-sum", "thermal_generators", text),
-                root.members["thermal_generators"],
-            )
+        group = root.members["thermal_generators"]
+        found = falls_of(case.thermal, costs)
+        for it in found:
+            odd = it.oddity
+            self.warn("case", odd, group.members[it.unit.name].members[odd.field], ("thermal", it.unit.name))
+        if found:
+            text = falling_in_sum(len(found), self.review.costs)
+            self.warn("case", SystemOddity("falling-slopes-in-sum", "thermal_generators", text), group)
 
     def has_errors(self) -> bool:
         return any(it.level is Level.ERROR for it in self.review.findings)
@@ -285,7 +279,9 @@ class Look:
 
     def look_at_keys(self, what: str) -> None:
         root = self.root(what)
-        for path, key, node, near in unknown_keys(what, root) if root is not None else ():
+        if root is None or not set(KEYS[what][()]) & set(root.members):  # (it is another file)
+            return
+        for path, key, node, near in unknown_keys(what, root):
             place = path_in_words(path)
             meant = f' Is "{near}" meant?' if near else ""
             text = f"{place}: t" if place else "T"

@@ -3,7 +3,7 @@ from __future__ import annotations
 
 from dataclasses import dataclass
 from fractions import Fraction
-from typing import Iterator, List, Optional, Tuple
+from typing import Dict, Iterator, List, Optional, Tuple
 
 from .cases import Thermal
 from .costs import envelope
@@ -100,30 +100,55 @@ def farthest_point(unit: Thermal) -> Tuple[int, int, int]:
     return max(rows, key=lambda row: int(row[1] - row[2]))
 
 
-def falling(unit: Thermal, cost: Optional[CurveCosts]) -> Optional[Oddity]:
-    """Slopes that fall, and what the envelope takes off in a schedule where its cost is given."""
-    if not falls(unit):
-        return None
-    at, before, after = steepest_fall(unit)
-    power, given, taken = farthest_point(unit)
-    scheduled = ""
-    if cost is not None:
-        convex, rest = cost.straight - cost.convex, cost.convex - cost.whole
-        scheduled = f". In this schedule it costs {money(round(convex))} less by the convex envelope, and {money(round(rest))} less still by whole prices"
-    return Oddity(
-        "falling-slopes",
-        KEY,
-        f"at {megawatts(at)} the cost of a further MWh falls from {per_mwh(float(before))} to {per_mwh(float(after))}. hull takes the "
-        f"envelope of the points: {money(taken)} at {megawatts(power)} in place of {money(given)}{scheduled}. Give points whose slopes rise, "
-        "or take the envelope",
-    )
+@dataclass(frozen=True)
+class Fall:
+    """A unit whose slopes fall, and its costs in a schedule where that is given."""
+
+    unit: Thermal
+    cost: Optional[CurveCosts]
+
+    @property
+    def effect(self) -> float:
+        """By how much the envelope is below the points: in the schedule, or else where it is farthest."""
+        if self.cost is not None:
+            return float(self.cost.straight - self.cost.whole)
+        _, given, taken = farthest_point(self.unit)
+        return float(given - taken)
+
+    @property
+    def oddity(self) -> Oddity:
+        at, before, after = steepest_fall(self.unit)
+        power, given, taken = farthest_point(self.unit)
+        scheduled = ""
+        if self.cost is not None:
+            convex, rest = (money(round(it)) for it in steps(self.cost))
+            scheduled = f". In this schedule it costs {convex} less by the convex envelope, and {rest} less still by whole prices"
+        return Oddity(
+            "falling-slopes",
+            KEY,
+            f"at {megawatts(at)} the cost of a further MWh falls from {per_mwh(float(before))} to {per_mwh(float(after))}. hull takes the "
+            f"envelope of the points: {money(taken)} at {megawatts(power)} in place of {money(given)}{scheduled}",
+        )
 
 
-def falling_in_sum(count: int, cost: CurveCosts) -> str:
+def steps(cost: CurveCosts) -> Tuple[Fraction, Fraction]:
+    """What the convex envelope takes off the straight lines, and what whole prices take off that."""
+    return cost.straight - cost.convex, cost.convex - cost.whole
+
+
+def falls_of(units: List[Thermal], costs: Dict[str, CurveCosts]) -> List[Fall]:
+    """The units whose slopes fall, those on which the envelope takes off most first."""
+    return sorted((Fall(it, costs.get(it.name)) for it in units if falls(it)), key=lambda it: -it.effect)
+
+
+def falling_in_sum(count: int, cost: Optional[CurveCosts]) -> str:
     """What falling slopes change in the cost of a whole schedule."""
-    convex, rest = cost.straight - cost.convex, cost.convex - cost.whole
+    text = f"{count} unit{' has' if count == 1 else 's have'} falling slopes: give points whose slopes rise, or take the envelope"
+    if cost is None:
+        return text
+    convex, rest = (money(round(it)) for it in steps(cost))
     return (
-        f"in sum: {count} unit{' has' if count == 1 else 's have'} falling slopes. The units' cost in this schedule is {money(round(cost.straight))} by straight lines between the "
-        f"points, {money(round(cost.convex))} by lower convex envelopes ({money(round(convex))} less), and {money(cost.whole)} as hull has it, by "
-        f"envelopes in whole prices ({money(round(rest))} less still)"
+        f"{text}. The units' cost in this schedule is {money(round(cost.straight))} by straight lines between the points, "
+        f"{money(round(cost.convex))} by lower convex envelopes ({convex} less), and {money(cost.whole)} as hull has it, by envelopes in whole "
+        f"prices ({rest} less still)"
     )

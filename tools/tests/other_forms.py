@@ -180,5 +180,5 @@ def pypsa(folder: str) -> None:
 
 def write_json(name: str, value: Json) -> None:
     data = json.dumps(value).encode()
-    with (gzip.open if name.endswith(".gz") else open)(name, "wb") as it:
-        it.write(data)
+    with open(name, "wb") as it:
+        it.write(gzip.compress(data) if name.endswith(".gz") else data)

@@ -186,6 +186,8 @@ class Explain(unittest.TestCase):
             (b"\x1f\x8b\x08", "fault 3 case 10 at 0", "a compressed file: unpack it first"),
             (b'{"time_per', "fault 3 case 10 at 1", "the file ends there"),
             (b'{"time_periods":', "fault 3 case 10 at 16", "the file ends there"),
+            (b'{"demand":[1,2,]}', "fault 3 case 10 at 15", "a comma too many"),
+            (b"hour,price\n", "fault 3 case 10 at 0", "a JSON text begins with {"),
         ):
             with open(f"{self.room}/odd.json", "wb") as it:
                 it.write(data)
@@ -262,6 +264,21 @@ class Explain(unittest.TestCase):
                 "fault 3 case 27 field piecewise_production kind thermal unit 2 item 0",
                 *("case.json", '{"mw":50,"cost":1800}', '{"mw":45,"cost":1800}'),
                 "Add the point at the least or at the greatest power.",
+            ),
+            (
+                "fault 3 case 21 field demand kind case unit 0 item 2",
+                *("case.json", "[65,100,", "[65,null,"),
+                "demand, item 2: it is of the wrong kind: a number is due. Found: null. Give a number for each period.",
+            ),
+            (
+                "fault 3 case 21 field piecewise_production kind thermal unit 2 item 1",
+                *("case.json", '"cost":400}', '"cost":"400.00"}'),
+                "Numbers stand without quotes, with a point, and without separators of thousands.",
+            ),
+            (
+                "fault 3 case 25 field demand kind case unit 0 item 0",
+                *("case.json", '"time_periods":6', '"time_periods":8'),
+                "it has 6 items. Demand and reserves have 6 items each: is time_periods to be mended?",
             ),
         ):
             told = self.told(line, name, old, new)

@@ -17,7 +17,7 @@ from tool import EXAMPLES, PROGRAM, ROOT, run
 from hulltools.lint import look
 from hulltools.lint_findings import Level, ranges
 
-Change = Callable[[Dict[str, Any]], None]
+Change = Callable[[Dict[str, Any]], Any]
 FILES = ("case", "schedule", "prices")
 ROW = re.compile(r"\| `(\w+)/(case|schedule|prices|mixture)\.json`: `(.+)` becomes `(.+)` \| `(fault [^`]+)` \|")
 
@@ -293,10 +293,10 @@ class Lines(WithFiles):
             shutil.copy(f"{EXAMPLES}/{prices}/prices.json", self.room)
             if what == "mixture":
                 shutil.copy(f"{EXAMPLES}/certified/mixture.json", self.room)
-            with open(f"{self.room}/{what}.json", encoding="utf-8") as it:
-                text = it.read()
-            with open(f"{self.room}/{what}.json", "w", encoding="utf-8") as it:
-                it.write(text.replace(old, new))
+            with open(f"{self.room}/{what}.json", encoding="utf-8") as file:
+                text = file.read()
+            with open(f"{self.room}/{what}.json", "w", encoding="utf-8") as file:
+                file.write(text.replace(old, new))
             self.assertEqual(self.first_error(what == "mixture"), line)
             count += 1
         self.assertGreater(count, 50)
@@ -344,7 +344,7 @@ class Told(WithFiles):
         status, text = self.lint()
         self.assertEqual(status, 2)
         for words in (
-            'case.json, line 3: reserves, item 4: it is of the wrong kind: a list of numbers is due. Found: "5".',
+            'case.json, line 3: reserves, item 4: it is of the wrong kind: a number is due. Found: "5". Numbers stand without quotes',
             "So in 2 more items: 5, 6.",
             'line 5: thermal unit "COAL1"',
             'line 9: thermal unit "GT5"',
@@ -409,11 +409,15 @@ class Told(WithFiles):
     def test_falling_slopes_of_the_day(self) -> None:
         """The numbers were worked out by a program that shares nothing with this one."""
         review = look({it: f"{EXAMPLES}/day/{it}.json" for it in ("case", "schedule")})
-        names = [it.unit for it in review.findings if it.rule == "falling-slopes"]
-        self.assertEqual(names, [f"GEN0{it}" for it in ("09", "13", "15", "17", "20", "35", "51", "62", "68", "70")])
-        assert review.costs is not None
+        names = [str(it.unit) for it in review.findings if it.rule == "falling-slopes"]
+        self.assertEqual(names[:4], ["GEN070", "GEN051", "GEN009", "GEN062"])
         self.assertEqual(
-            [f"{float(it) / 1e6:.6f}" for it in (review.costs.straight, review.costs.convex, review.costs.whole)],
+            sorted(names), [f"GEN0{it}" for it in ("09", "13", "15", "17", "20", "35", "51", "62", "68", "70")]
+        )
+        costs = review.costs
+        assert costs is not None
+        self.assertEqual(
+            [f"{it / 10**6:.6f}" for it in map(float, (costs.straight, costs.convex, costs.whole))],
             ["9920660.501577", "9920569.756691", "9920566.288596"],
         )
         self.assertEqual({it.level for it in review.findings}, {Level.WARNING})

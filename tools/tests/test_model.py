@@ -4,7 +4,8 @@ from __future__ import annotations
 import random
 import re
 import unittest
-from typing import List
+from dataclasses import fields
+from typing import Any, List
 
 from tool import ROOT
 
@@ -39,6 +40,11 @@ def keeps(unit: Thermal, plan: Plan) -> bool:
     return all(rules)
 
 
+def thermal(*members: Any) -> Thermal:
+    """A thermal unit of these members, in their order."""
+    return Thermal(**dict(zip((it.name for it in fields(Thermal)), ("G", *members))))
+
+
 def random_unit(draw: random.Random, periods: int) -> Thermal:
     least = draw.randint(0, 3)
     most, on = least + draw.randint(0, 4), draw.randint(0, 1)
@@ -47,7 +53,8 @@ def random_unit(draw: random.Random, periods: int) -> Thermal:
     spent = draw.randint(1, 3)
     before = [draw.randint(least, most + 1) * on, on, spent * on, spent * (1 - on)]
     marks = [draw.choice([None, None, None, 0, 1]) for _ in range(periods)]
-    return Thermal("G", int(draw.random() < 0.1), least, most, *limits, *times, *before, [], [(0, 0), (9, 9)], marks)
+    numbers: Any = (int(draw.random() < 0.1), least, most, *limits, *times, *before, [], [(0, 0), (9, 9)], marks)
+    return thermal(*numbers)
 
 
 def random_plan(draw: random.Random, unit: Thermal, periods: int) -> Plan:
@@ -90,7 +97,7 @@ class Model(unittest.TestCase):
         lags = [
             int(it) for it in re.findall(r"With lags (\d+), (\d+) and (\d+), a start after 8 periods", self.page())[0]
         ]
-        unit = Thermal("G", *[0] * 13, [(lag, i) for i, lag in enumerate(lags, 1)], [(0, 0)], [None])
+        unit = thermal(*[0] * 13, [(lag, i) for i, lag in enumerate(lags, 1)], [(0, 0)], [None])
         self.assertEqual(start_cost(unit, 8), 2)
 
 
