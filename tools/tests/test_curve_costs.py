@@ -15,7 +15,7 @@ from hulltools.curve_costs import CurveCosts, cost_of_schedule, falls, line_cost
 from hulltools.schedules import read_schedule
 
 # How a row of the page's table begins, by the reading of the points.
-ROWS = {"straight": "straight lines", "convex": "lower convex envelope", "whole": "envelope in whole prices"}
+ROWS = {"straight": "straight lines", "convex": "lower convex envelope", "whole": "`hull`"}
 DAY = {"straight": "9920660.501577", "convex": "9920569.756691", "whole": "9920566.288596"}
 FALLING = 10
 
@@ -42,7 +42,7 @@ class Day(unittest.TestCase):
         self.assertIn(f"\ncost {self.costs().whole}\n", ran.stdout)
 
     def test_the_page_has_them(self) -> None:
-        """The rows of a table of docs/REPORT.md, where it stands there, and each such number of its text."""
+        """The rows of a table of docs/REPORT.md, and each such number of its text."""
         with open(f"{ROOT}/docs/REPORT.md", encoding="utf-8") as page:
             text = page.read()
         due = {key: f"{Decimal(it):,}" for key, it in DAY.items()}
@@ -51,7 +51,7 @@ class Day(unittest.TestCase):
             row = re.search(rf"^\| {begin}[^|]*\| `?([\d,]+\.\d+)`? *\|", text, re.M)
             if row:
                 found[key] = row.group(1)
-        self.assertIn(found, ({}, due), "the rows of 'The cost of a power'")
+        self.assertEqual(found, due, "the rows of 'The cost of a power'")
         numbers = set(re.findall(r"9,920,\d{3}\.\d{6}", text))
         self.assertEqual(numbers - set(due.values()), set())
 

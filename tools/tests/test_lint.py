@@ -417,7 +417,7 @@ class Told(WithFiles):
         costs = review.costs
         assert costs is not None
         self.assertEqual(
-            [f"{it / 10**6:.6f}" for it in map(float, (costs.straight, costs.convex, costs.whole))],
+            [f"{float(getattr(costs, it)) / 1e6:.6f}" for it in ("straight", "convex", "whole")],
             ["9920660.501577", "9920569.756691", "9920566.288596"],
         )
         self.assertEqual({it.level for it in review.findings}, {Level.WARNING})
