@@ -4,6 +4,7 @@ from __future__ import annotations
 import csv
 import json
 import os
+import random
 import shutil
 import subprocess
 import tempfile
@@ -360,6 +361,57 @@ class Others(WithRoom):
         ):
             self.assertIn(f"{line}\n", told)
 
+    def network(self, file: str, *changes: Tuple[str, str], status: int = 0) -> Tuple[str, str]:
+        """The network with changes of one file: what is left out, and what is told."""
+        folder = tempfile.mkdtemp(dir=self.room)
+        other_forms.pypsa(f"{folder}/net")
+        text = self.read(f"{folder}/net/{file}")
+        for old, new in changes:
+            self.assertIn(old, text)
+            text = text.replace(old, new, 1)
+        self.write(f"{os.path.basename(folder)}/net/{file}", text)
+        return self.convert(f"{folder}/net", f"{self.room}/case.json", status=status)
+
+    def test_parts_of_pypsa(self) -> None:
+        told, _ = self.network("generators.csv", ("p_set", "p_init"), ("0.4,\r\nCOAL2", "0.4,310\r\nCOAL2"))
+        self.assertIn("(1: COAL2)", told)
+        self.assertEqual(read_case(f"{self.room}/case.json").thermal[0].power0, 310_000)
+        told, _ = self.network(
+            "loads.csv", ("p_set", "p_set,active"), ("L1,b1,0", "L1,b1,0,True"), ("b2,70", "b2,70,False")
+        )
+        self.assertIn("left out: loads that aren't active (1: L2)\n", told)
+        self.assertEqual(read_case(f"{self.room}/case.json").demand[0], round(1000 * market.case()["demand"][0]))
+        for file, old, new, due in (
+            ("snapshots.csv", "snapshot,", "period,", "a network of several investment periods isn't read"),
+            ("generators.csv", "COAL2,", "COAL1,", "a name of the first column stands twice"),
+            (
+                "generators.csv",
+                "CCGT3,b1,300",
+                "CCGT3,b1,much",
+                "generator \"CCGT3\", p_nom: a number is due, and 'much' is found",
+            ),
+            ("generators-p_max_pu.csv", "30 05:", "30 04:", "a name of the first column stands twice"),
+            (
+                "loads-p_set.csv",
+                "2026-11-30 23:",
+                "x,2026-11-30 23:",
+                "a row has more cells than the first line has columns",
+            ),
+        ):
+            self.assertIn(due, self.network(file, (old, new), status=1)[1])
+
+    def test_random_changes_end_in_a_case_or_in_one_line(self) -> None:
+        draw, values = random.Random(3), [None, -1, 0, "x", [], {}, [1], True, 1e30, 0.5, [[1, 2]]]
+        for _ in range(120):
+            value = draw.choice([other_forms.unit_commitment_jl, other_forms.egret])()
+            at: Any = value
+            while draw.random() < 0.85 and isinstance(at, dict) and any(isinstance(it, dict) for it in at.values()):
+                at = draw.choice([it for it in at.values() if isinstance(it, dict)] or [at])
+            at[draw.choice(list(at) or ["x"])] = draw.choice(values)
+            other_forms.write_json(f"{self.room}/odd.json", value)
+            status, _, said = run("convert.py", f"{self.room}/odd.json", f"{self.room}/case.json")
+            self.assertIn((status, said.count("\n")), ((0, 0), (0, 1), (1, 1)), said)
+
     def test_what_is_no_instance(self) -> None:
         for data in (
             "{}",
@@ -373,6 +425,11 @@ class Others(WithRoom):
             for form in ((), ("--from", "egret"), ("--from", "unit-commitment-jl"), ("--from", "hull")):
                 said = self.convert(name, f"{self.room}/none.json", *form, status=1)[1]
                 self.assertEqual(said.count("\n"), 1, said)
+        for name, data, told in (
+            ("book.xlsx", "PK\3\4", "save each of its sheets as CSV"),
+            ("units.csv", "unit", "name the folder"),
+        ):
+            self.assertIn(told, self.convert(self.write(name, data), f"{self.room}/none.json", status=1)[1])
         os.mkdir(f"{self.room}/empty")
         self.convert(f"{self.room}/empty", f"{self.room}/none.json", status=1)
         with open(f"{self.room}/cut.json.gz", "wb") as it:

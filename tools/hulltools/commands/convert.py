@@ -71,8 +71,11 @@ def body(words: Sequence[str], tell: Callable[[str], None]) -> int:
         write_csv(given.to, case, inputs)
     sys.stdout.buffer.write("".join(f"{it}\n" for it in notes.lines()).encode("utf-8", "replace"))
     sys.stdout.buffer.flush()
-    if review.status:
-        tell(f"{review.summary} in what was made: tools/lint.py tells them")
+    count = len(review.of(Level.WARNING))
+    if count and given.to.endswith(".json"):
+        tell(
+            f"{count} {'thing is' if count == 1 else 'things are'} odd in this case: tools/lint.py {given.to} says what"
+        )
     return 0
 
 

@@ -35,8 +35,15 @@ def unpacked(name: str) -> bytes:
 
 
 def json_of(name: str) -> Object:
+    data = unpacked(name)
+    if data.startswith(b"PK"):
+        raise HullError(
+            f"{name}: this is a spreadsheet or an archive: save each of its sheets as CSV, as docs/CSV.md has them"
+        )
+    if name.endswith(".csv"):
+        raise HullError(f"{name}: name the folder of the CSV files, and not one of them")
     try:
-        value = parse(unpacked(name))
+        value = parse(data)
     except Refused as why:
         raise HullError(f"{name}: no JSON text: {why}") from None
     if not isinstance(value, dict):

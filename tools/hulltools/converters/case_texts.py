@@ -17,7 +17,7 @@ LIMITS = [it for it in THERMAL if it not in ("startup", "piecewise_production", 
 def number_text(value: Any) -> str:
     """A number as a file has it: as it was written, or without an exponent and zeros at the end."""
     if isinstance(value, (Written, int)):
-        return str(int(value)) if isinstance(value, bool) else str(value)
+        return str(value)
     text = format(Decimal(value), "f")
     return text.rstrip("0").rstrip(".") if "." in text else text
 
@@ -28,9 +28,12 @@ def value_text(value: Any) -> str:
         return "{" + ", ".join(f"{name_text(key)}: {value_text(it)}" for key, it in value.items()) + "}"
     if isinstance(value, list):
         return "[" + ", ".join(value_text(it) for it in value) + "]"
-    if value is None:
-        return "null"
-    return number_text(value)
+    is_text = isinstance(value, str) and not isinstance(value, Written)
+    return (
+        json.dumps(value, ensure_ascii=False)
+        if is_text or isinstance(value, (bool, type(None)))
+        else number_text(value)
+    )
 
 
 def name_text(name: str) -> str:

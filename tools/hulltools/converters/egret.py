@@ -15,6 +15,7 @@ from .series import (
     in_periods,
     limit,
     lists_out_negative,
+    pairs,
     points_of,
     scaled,
     series,
@@ -35,7 +36,7 @@ def is_mine(value: Object) -> bool:
 
 def values(found: Any) -> Any:
     """A number, or the list of a time series."""
-    return found["values"] if isinstance(found, dict) and found.get("data_type") == "time_series" else found
+    return found.get("values") if isinstance(found, dict) and found.get("data_type") == "time_series" else found
 
 
 class Model:
@@ -48,7 +49,10 @@ class Model:
         keys, minutes = self.system.take("time_keys"), self.system.take("time_period_length_minutes", 60)
         if not isinstance(keys, list) or not keys:
             raise HullError("system: there are no `time_keys`: one period alone has no commitment")
-        self.periods, self.per_hour = len(keys), 60 / Fraction(decimal(minutes, "time_period_length_minutes"))
+        length = Fraction(decimal(minutes, "time_period_length_minutes"))
+        if length <= 0:
+            raise HullError("system: `time_period_length_minutes` is to be above 0")
+        self.periods, self.per_hour = len(keys), 60 / length
         if self.per_hour != 1:
             notes.changed(
                 f"periods of {float(60 / self.per_hour):g} minutes: ramps and costs, which the file has per hour, are scaled to a period"
@@ -103,10 +107,15 @@ class Model:
             if unit.take("in_service", True) is False:
                 self.notes.left_out("generators that aren't in service", name)
                 continue
-            if unit.value.get("generator_type") == "thermal":
+            kind = unit.value.get("generator_type")
+            if kind == "thermal":
                 found[0][name] = self.thermal(unit, name)
             else:
                 found[1][name] = self.renewable(unit, name)
+            if kind not in ("thermal", "renewable"):
+                self.notes.changed(
+                    "generators that are neither thermal nor renewable are taken as renewable units", name
+                )
             unit.rest()
         return found
 
@@ -164,39 +173,46 @@ class Model:
 
     def starts(self, unit: Taken, name: str) -> List[Object]:
         """Lags with costs, one cost for all, or lags with fuel."""
-        rows, fuel = unit.take("startup_cost"), unit.take("startup_fuel")
-        more, price = unit.take("non_fuel_startup_cost", 0), unit.value.get("fuel_cost", 0)
-        if rows is None and fuel is not None:
-            other = decimal(more, f"{name}, non_fuel_startup_cost")
-            rows = [[lag, decimal(burnt, name) * decimal(price, f"{name}, fuel_cost") + other] for lag, burnt in fuel]
+        what, rows = f"{name}, startup_cost", unit.take("startup_cost")
+        if rows is None and unit.value.get("startup_fuel") is not None:
+            price = decimal(unit.value.get("fuel_cost"), f"{name}, fuel_cost")
+            other = decimal(unit.take("non_fuel_startup_cost", 0), f"{name}, non_fuel_startup_cost")
+            fuel = pairs(unit.take("startup_fuel"), f"{name}, startup_fuel")
+            rows = [[lag, decimal(burnt, f"{name}, startup_fuel") * price + other] for lag, burnt in fuel]
         if rows is None or is_number(rows):
-            cost = decimal(rows or more, f"{name}, startup_cost")
+            cost = decimal(rows if rows is not None else unit.take("non_fuel_startup_cost", 0), what)
             rows = [[unit.value.get("min_down_time") or 1, cost]] if cost else []
         lag_of = lambda lag: in_periods(lag, self.per_hour, "startup_cost", self.notes, name)
-        return [{"lag": lag_of(lag), "cost": decimal(cost, f"{name}, startup_cost")} for lag, cost in rows]
+        return [{"lag": lag_of(lag), "cost": decimal(cost, what)} for lag, cost in pairs(rows, what)]
 
     def curve(self, unit: Taken, name: str, least: Decimal, most: Decimal) -> List[Object]:
         """Points of the cost of a period."""
-        cost, fuel, price = unit.take("p_cost"), unit.take("p_fuel"), unit.take("fuel_cost")
-        factor = Decimal(1)
-        if cost is None and fuel is not None:
-            cost, factor = fuel, decimal(price, f"{name}, fuel_cost")
-        if cost is None or is_number(cost):
-            slope = decimal(cost or 0, f"{name}, p_cost")
-            powers = [least, most]
-            costs = [slope * it for it in powers]
-        elif str(cost.get("cost_curve_type") or cost.get("fuel_curve_type") or "piecewise") == "polynomial":
-            powers, costs = self.polynomial(cost["values"], name, least, most)
-        else:
-            powers, costs = ([decimal(row[i], f"{name}, p_cost") for row in cost["values"]] for i in (0, 1))
+        cost, price, factor = unit.take("p_cost"), unit.take("fuel_cost"), Decimal(1)
+        if cost is None and unit.value.get("p_fuel") is not None:
+            cost, factor = unit.take("p_fuel"), decimal(price, f"{name}, fuel_cost")
+        powers, costs = self.points(cost or 0, name, least, most)
         fixed = decimal(unit.take("no_load_cost", 0), f"{name}, no_load_cost")
         return points_of(
             powers, [scaled(factor * it + fixed, 1 / self.per_hour) for it in costs], f'generator "{name}", p_cost'
         )
 
+    def points(self, cost: Any, name: str, least: Decimal, most: Decimal) -> Tuple[List[Decimal], List[Decimal]]:
+        """Powers and costs of a number, of a list of pairs, or of a polynomial."""
+        what = f"{name}, p_cost"
+        if is_number(cost):
+            return [least, most], [decimal(cost, what) * it for it in (least, most)]
+        if not isinstance(cost, dict) or "values" not in cost:
+            raise HullError(f"{what}: a number or a cost curve is due")
+        if "polynomial" in (cost.get("cost_curve_type"), cost.get("fuel_curve_type")):
+            return self.polynomial(cost["values"], name, least, most)
+        rows = [[decimal(it, what) for it in pair] for pair in pairs(cost["values"], what)]
+        return [row[0] for row in rows], [row[1] for row in rows]
+
     def polynomial(
         self, factors: Object, name: str, least: Decimal, most: Decimal
     ) -> Tuple[List[Decimal], List[Decimal]]:
+        if not isinstance(factors, dict) or not all(it.isdecimal() and int(it) <= 9 for it in factors):
+            raise HullError(f"{name}, p_cost: a polynomial has an object of factors by their powers, 0 to 9")
         terms = [(int(power), decimal(factor, f"{name}, p_cost")) for power, factor in factors.items()]
         pieces = PIECES if any(power > 1 and factor for power, factor in terms) and most > least else 1
         if pieces > 1:
@@ -207,7 +223,8 @@ class Model:
     def commitment(self, unit: Taken, found: Object, name: str) -> None:
         fixed = values(unit.take("fixed_commitment"))
         if isinstance(fixed, list):
-            found["commitment"] = [None if it is None else int(it) for it in fixed]
+            what = f"{name}, fixed_commitment"
+            found["commitment"] = [None if it is None else int(decimal(it, what)) for it in fixed]
         elif fixed is not None:
             mark = int(decimal(fixed, f"{name}, fixed_commitment"))
             if mark:

@@ -5,7 +5,7 @@ from dataclasses import dataclass, field
 from enum import Enum
 from typing import Any, Dict, List, Optional, Tuple
 
-from ..errors import one_line
+from ..errors import HullError, one_line
 from ..lint_findings import names_of
 
 Object = Dict[str, Any]
@@ -53,6 +53,8 @@ class Taken:
     """An object of a file whose members are taken one by one; `rest` notes those that nobody took."""
 
     def __init__(self, value: Object, group: str, name: Optional[str], notes: Notes):
+        if not isinstance(value, dict):
+            raise HullError(f"{group}{'' if name is None else f', {one_line(name)}'}: an object is due")
         self.value, self.group, self.name, self.notes = value, group, name, notes
         self.seen: set[str] = set()
 
@@ -68,7 +70,15 @@ class Taken:
 
     def object(self, key: str) -> Object:
         found = self.take(key, {})
-        return found if isinstance(found, dict) else {}
+        if not isinstance(found, dict):
+            raise HullError(f"{self.group}: `{one_line(key)}` is no object")
+        return found
+
+    def list(self, key: str, default: List[Any]) -> List[Any]:
+        found = self.take(key, default)
+        if not isinstance(found, list):
+            raise HullError(f"{self.group}, {one_line(self.name or '')}: `{one_line(key)}` is no list")
+        return found
 
     def drop(self, text: str, *keys: str) -> None:
         """Notes the members that are there as left out, under one text."""

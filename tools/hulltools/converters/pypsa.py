@@ -18,7 +18,7 @@ NETWORK = "the network: all units and loads stand at one place"
 # Columns of generators.csv that are read, and those that say nothing of operation.
 READ = (
     "p_nom p_min_pu p_max_pu marginal_cost marginal_cost_quadratic committable start_up_cost stand_by_cost min_up_time min_down_time "
-    "up_time_before down_time_before ramp_limit_up ramp_limit_down ramp_limit_start_up ramp_limit_shut_down active"
+    "up_time_before down_time_before ramp_limit_up ramp_limit_down ramp_limit_start_up ramp_limit_shut_down active p_init"
 ).split()
 SAID = "name bus carrier control type build_year lifetime capital_cost p_nom_min p_nom_max p_nom_mod p_nom_set efficiency weight".split()
 VARYING = ("p_max_pu", "p_min_pu", "marginal_cost")
@@ -62,7 +62,15 @@ def table(folder: str, file: str) -> Table:
         raise HullError(f"{name}: it isn't UTF-8") from None
     if not rows or not rows[0]:
         raise HullError(f"{name}: it has no first line with columns")
-    return {row[0]: dict(zip(rows[0][1:], row[1:])) for row in rows[1:] if row}
+    if rows[0][0] == "period":
+        raise HullError(f"{name}: a network of several investment periods isn't read: write one of them")
+    columns = rows[0][1:]
+    if any(len(row) > len(rows[0]) for row in rows):
+        raise HullError(f"{name}: a row has more cells than the first line has columns")
+    found = {row[0]: {**dict.fromkeys(columns, ""), **dict(zip(columns, row[1:]))} for row in rows[1:] if row}
+    if len(found) < sum(map(bool, rows[1:])):
+        raise HullError(f"{name}: a name of the first column stands twice")
+    return found
 
 
 def number(text: str, what: str) -> Optional[Decimal]:
@@ -127,6 +135,9 @@ class Network:
             [Decimal(0)] * self.periods,
         )
         for name, row in loads.items():
+            if row.get("active", "") and not is_true(row["active"]):
+                self.notes.left_out("loads that aren't active", name)
+                continue
             texts = varying.get(name, [row.get("p_set", "0")] * self.periods)
             sign = number(row.get("sign", "-1"), f'load "{name}", sign')
             for t, text in enumerate(texts):
@@ -192,8 +203,8 @@ class Network:
             self.notes.changed(
                 "generators that aren't committable and have a cost run in all periods, from p_min_pu on", name
             )
-        power = Decimal(0)
-        if on:
+        power = (self.value(name, "p_init") or Decimal(0)) if on else Decimal(0)
+        if on and self.value(name, "p_init") is None:
             power = (least + most) / 2
             self.notes.assumed(
                 "PyPSA has no power before the first snapshot: of a unit that is on it is halfway from the least to the greatest",

@@ -3,7 +3,7 @@ from __future__ import annotations
 
 from decimal import ROUND_CEILING, Decimal
 from fractions import Fraction
-from typing import Any, Callable, List, Optional, Sequence
+from typing import Any, Callable, List, Optional, Sequence, Tuple
 
 from ..errors import HullError, one_line
 from ..json_texts import is_number
@@ -41,6 +41,13 @@ def constant(value: Any, pick: Callable[[Sequence[Decimal]], Decimal], what: str
             name,
         )
     return pick(found)
+
+
+def pairs(value: Any, what: str) -> List[Tuple[Any, Any]]:
+    """A list of pairs."""
+    if not isinstance(value, list) or not all(isinstance(it, list) and len(it) == 2 for it in value):
+        raise HullError(f"{one_line(what)}: a list of pairs is due")
+    return [(one, other) for one, other in value]
 
 
 def first(found: Sequence[Decimal]) -> Decimal:

@@ -182,8 +182,8 @@ class Instance:
         return [constant(it, first, key, self.notes, name) for it in rows]
 
     def starts(self, unit: Taken, name: str) -> List[Object]:
-        costs = unit.take("Startup costs ($)", [0])
-        delays = unit.take("Startup delays (h)", [1])
+        costs = unit.list("Startup costs ($)", [0])
+        delays = unit.list("Startup delays (h)", [1])
         if len(costs) != len(delays):
             raise HullError(f'generator "{name}": {len(costs)} startup costs and {len(delays)} delays')
         lags = [in_periods(it, self.per_hour, "Startup delays (h)", self.notes, name) for it in delays]
@@ -204,8 +204,8 @@ class Instance:
 
     def eligibility(self, unit: Taken, name: str) -> None:
         """In `hull` each thermal unit may keep reserve."""
-        spins, listed = unit.take("Provides spinning reserves?"), unit.take("Reserve eligibility")
-        is_barred = spins is False or self.reserve_name is not None and self.reserve_name not in (listed or [])
+        spins, listed = unit.take("Provides spinning reserves?"), unit.list("Reserve eligibility", [])
+        is_barred = spins is False or self.reserve_name is not None and self.reserve_name not in listed
         if is_barred:
             self.notes.left_out("that a thermal unit isn't eligible for reserve: in hull each may keep reserve", name)
 
