@@ -61,6 +61,19 @@ def state_oddities(unit: Thermal) -> Iterator[Oddity]:
             f"it is on before period 1 with {key} {power}, above its greatest power of {megawatts(unit.most)}"
             f"{barred if low > unit.most else ''}: mend {key}",
         )
+    elif unit.up0 and unit.power0 > highest_before(unit):
+        yield Oddity(
+            "on-above-ramps",
+            key,
+            f"it is on for {unit.up0} {'period' if unit.up0 == 1 else 'periods'} before period 1 (time_up_t0) with {key} {power}. With a "
+            f"start limit of {megawatts(unit.start_limit)} and an upward ramp of {megawatts(unit.ramp_up)} it has reached at most "
+            f"{megawatts(highest_before(unit))} by then: mend {key} or time_up_t0",
+        )
+
+
+def highest_before(unit: Thermal) -> int:
+    """The most that a unit can give in period 0, when it started as its limits have it."""
+    return max(unit.start_limit, unit.least) + (unit.up0 - 1) * unit.ramp_up
 
 
 def time_oddities(unit: Thermal) -> Iterator[Oddity]:

@@ -401,7 +401,8 @@ class Others(WithRoom):
             self.assertIn(due, self.network(file, (old, new), status=1)[1])
 
     def test_random_changes_end_in_a_case_or_in_one_line(self) -> None:
-        draw, values = random.Random(3), [None, -1, 0, "x", [], {}, [1], True, 1e30, 0.5, [[1, 2]]]
+        draw = random.Random(3)
+        values: List[Any] = [None, -1, 0, "x", [], {}, [1], True, 1e30, 0.5, [[1, 2]]]
         for _ in range(120):
             value = draw.choice([other_forms.unit_commitment_jl, other_forms.egret])()
             at: Any = value

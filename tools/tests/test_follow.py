@@ -111,6 +111,22 @@ class Follow(unittest.TestCase):
         self.assertEqual((made["thermal"], made["renewable"]), (self.plan["thermal"], self.plan["renewable"]))
         self.assertEqual([made["bids"][f"STEEL{i}"][0] for i in (1, 2, 3)], [40000, 30000, 0])
 
+    def test_a_solution_of_egret(self) -> None:
+        """Of the converted model, where the buyer's power is a load."""
+        model, plan = other_forms.egret(), self.megawatts()
+        other_forms.write_json(f"{self.room}/model.json", model)
+        self.assertEqual(run("convert.py", f"{self.room}/model.json", f"{self.room}/egret.json")[0], 0)
+        over_time, units = other_forms.over_time, model["elements"]["generator"]
+        for name, it in plan["thermal"].items():
+            units[name].update(commitment=over_time(it["on"]), pg=over_time(it["power"]), rg=over_time(it["reserve"]))
+        for name, row in plan["renewable"].items():
+            units[name].update(pg=over_time(row))
+        other_forms.write_json(f"{self.room}/solved.json", model)
+        status, said = self.follow("solved.json", "--tolerance", "0", case="egret.json")
+        self.assertEqual(status, 0, said)
+        made = self.made()
+        self.assertEqual((made["thermal"], made["renewable"]), (self.plan["thermal"], self.plan["renewable"]))
+
     def test_a_solved_network_of_pypsa(self) -> None:
         folder, plan = f"{self.room}/network", self.megawatts()
         other_forms.pypsa(folder)

@@ -191,6 +191,12 @@ MISTAKES: Dict[str, Tuple[Change, str, Optional[str]]] = {
         "power_output_t0 500 MW, above its greatest power of 350 MW. Its downward ramp of 90 MW doesn't bring it down in period 1",
         "doesn't bring it down in period 1",
     ),
+    "a power before period 1 above what ramps allow": (
+        unit_change("COAL2", time_up_t0=2, time_up_minimum=1, ramp_up_limit=40),
+        "it is on for 2 periods before period 1 (time_up_t0) with power_output_t0 250 MW. With a start limit of 165 MW and an upward ramp of "
+        "40 MW it has reached at most 205 MW by then: mend power_output_t0 or time_up_t0.",
+        None,
+    ),
     "rules that leave no flag": (
         unit_change("COAL1", must_run=1, commitment=[None, 0] + [None] * 22),
         "in period 2 it can be neither on nor off: it is must-run, and its window says off.",
