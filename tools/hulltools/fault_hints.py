@@ -14,7 +14,7 @@ from .lint_units import Oddity, ramp_oddities, state_oddities, time_oddities
 from .named_files import Files, Written, number_of, written
 from .numbers import is_whole, kilowatts
 
-MOST_BYTES = 1 << 24  # of a larger file it isn't looked up where a fault of the text stands
+MOST_BYTES = 1 << 22  # of a larger file it isn't looked up where a fault of the text stands
 STANDS_OUT = math.log(3)  # how far a part behind a decimal comma has to be from its neighbours
 # What is due at a field that isn't there, or is of another kind; some fields differ by the kind of the unit.
 DUE: Dict[object, str] = {

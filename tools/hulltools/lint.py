@@ -2,6 +2,7 @@
 from __future__ import annotations
 
 import json
+import os
 from dataclasses import dataclass, field, replace
 from typing import Callable, Dict, Iterable, Iterator, List, Optional, SupportsFloat, Tuple, Union
 
@@ -129,6 +130,8 @@ class Look:
             self.read[what] = found = located(self.names[what], read_bytes(self.names[what], HOW[what]))
         except HullError as why:
             text = str(why).replace(f"{self.names[what]}: ", "", 1)
+            if os.path.isdir(self.names[what]):
+                text = "this is a folder: tools/convert.py makes a case of a folder of CSV files"
             self.add(Finding(Level.ERROR, "unreadable", self.names[what], text))
             return
         if found.faults and found.root is not None:
@@ -331,3 +334,16 @@ def readable_units(root: Node) -> List[Thermal]:
 def look(names: Dict[str, str], limits: Limits = Limits()) -> Review:
     """All that is odd in the files of these names: `case`, and `schedule`, `prices` and `mixture` where they are given."""
     return Look(names, limits).make()
+
+
+def first_look(names: Dict[str, str], tell: Callable[[str], None]) -> List[str]:
+    """The warnings of a tool's files in words, which are told too; HullError with all errors where `hull` would refuse them."""
+    review = look(names)
+    errors = [it.sentence for it in review.of(Level.ERROR)]
+    if errors:
+        more = f" And {len(errors) - SHOWN} more: tools/lint.py tells them." if len(errors) > SHOWN else ""
+        raise HullError(" ".join(errors[:SHOWN]) + more)
+    found = review.lines()
+    for it in found:
+        tell(it)
+    return found

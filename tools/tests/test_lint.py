@@ -14,7 +14,8 @@ from typing import Any, Callable, Dict, Iterator, List, Optional, Tuple
 import market
 from tool import EXAMPLES, PROGRAM, ROOT, run
 
-from hulltools.lint import look
+from hulltools.errors import HullError
+from hulltools.lint import first_look, look
 from hulltools.lint_findings import Level, ranges
 
 Change = Callable[[Dict[str, Any]], Any]
@@ -427,6 +428,19 @@ class Told(WithFiles):
             ["9920660.501577", "9920569.756691", "9920566.288596"],
         )
         self.assertEqual({it.level for it in review.findings}, {Level.WARNING})
+
+    def test_a_first_look_of_another_tool(self) -> None:
+        """It tells warnings, and refuses files with errors."""
+        self.files["case"]["thermal_generators"]["GT5"]["owner"] = "me"
+        self.write()
+        told: List[str] = []
+        names = {it: f"{self.room}/{it}.json" for it in ("case", "schedule")}
+        self.assertEqual(first_look(names, told.append), told)
+        self.assertEqual(len(told), 1)
+        self.files["case"]["reserves"][0] = -1
+        self.write()
+        with self.assertRaisesRegex(HullError, r"case\.json, line 3: reserves, item 1: it is below 0"):
+            first_look(names, told.append)
 
     def test_ranges(self) -> None:
         self.assertEqual(ranges([9, 1, 2, 5, 6, 7]), "1, 2, 5 to 7, 9")
