@@ -400,6 +400,8 @@ class Told(WithFiles):
         self.assertEqual(
             (status, text), (2, f"error: {self.room}/none.json: No such file or directory\n1 error, 0 warnings\n")
         )
+        _, text, _ = run("lint.py", self.room)
+        self.assertIn("this is a folder: tools/convert.py makes a case of a folder of CSV files", text)
         for data in (
             b"",
             b"\xef\xbb\xbf{}",
