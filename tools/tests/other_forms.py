@@ -12,49 +12,43 @@ import market
 Json = Dict[str, Any]
 
 
+def julia_thermal(unit: Json, number: int) -> Json:
+    """A thermal generator of UnitCommitment.jl."""
+    curve, starts = unit["piecewise_production"], unit["startup"]
+    return {
+        "Bus": f"b{1 + number % 2}",
+        "Type": "Thermal",
+        "Production cost curve (MW)": [row["mw"] for row in curve],
+        "Production cost curve ($)": [row["cost"] for row in curve],
+        "Startup costs ($)": [row["cost"] for row in starts],
+        "Startup delays (h)": [row["lag"] for row in starts],
+        "Ramp up limit (MW)": unit["ramp_up_limit"],
+        "Ramp down limit (MW)": unit["ramp_down_limit"],
+        "Startup limit (MW)": unit["ramp_startup_limit"],
+        "Shutdown limit (MW)": unit["ramp_shutdown_limit"],
+        "Minimum uptime (h)": unit["time_up_minimum"],
+        "Minimum downtime (h)": unit["time_down_minimum"],
+        "Initial status (h)": unit["time_up_t0"] if unit["unit_on_t0"] else -unit["time_down_t0"],
+        "Initial power (MW)": unit["power_output_t0"],
+        "Must run?": False,
+        "Reserve eligibility": ["r1"],
+    }
+
+
 def unit_commitment_jl() -> Json:
     """An instance of UnitCommitment.jl, format 0.4, with a network, storage and a second reserve beside the market."""
     case = market.case()
     half = [it / 2 for it in case["demand"]]
-    generators: Json = {}
-    for number, (name, it) in enumerate(case["thermal_generators"].items(), 1):
-        generators[name] = {
-            "Bus": f"b{1 + number % 2}",
-            "Type": "Thermal",
-            "Production cost curve (MW)": [row["mw"] for row in it["piecewise_production"]],
-            "Production cost curve ($)": [row["cost"] for row in it["piecewise_production"]],
-            "Startup costs ($)": [row["cost"] for row in it["startup"]],
-            "Startup delays (h)": [row["lag"] for row in it["startup"]],
-            "Ramp up limit (MW)": it["ramp_up_limit"],
-            "Ramp down limit (MW)": it["ramp_down_limit"],
-            "Startup limit (MW)": it["ramp_startup_limit"],
-            "Shutdown limit (MW)": it["ramp_shutdown_limit"],
-            "Minimum uptime (h)": it["time_up_minimum"],
-            "Minimum downtime (h)": it["time_down_minimum"],
-            "Initial status (h)": it["time_up_t0"] if it["unit_on_t0"] else -it["time_down_t0"],
-            "Initial power (MW)": it["power_output_t0"],
-            "Must run?": False,
-            "Reserve eligibility": ["r1"],
-        }
+    units = case["thermal_generators"].items()
+    generators = {name: julia_thermal(it, number) for number, (name, it) in enumerate(units, 1)}
     for name, row in market.WIND.items():
-        generators[name] = {
-            "Bus": "b1",
-            "Type": "Profiled",
-            "Minimum power (MW)": 0,
-            "Maximum power (MW)": row,
-            "Cost ($/MW)": 0.0,
-        }
-    loads = {
-        f"STEEL{i}": {"Bus": "b2", "Revenue ($/MW)": price, "Demand (MW)": mw}
-        for i, (mw, price) in enumerate(((40, 120), (30, 55), (20, 30)), 1)
-    }
+        power = {"Minimum power (MW)": 0, "Maximum power (MW)": row}
+        generators[name] = {"Bus": "b1", "Type": "Profiled", **power, "Cost ($/MW)": 0.0}
+    blocks = enumerate(((40, 120), (30, 55), (20, 30)), 1)
+    loads = {f"STEEL{i}": {"Bus": "b2", "Revenue ($/MW)": price, "Demand (MW)": mw} for i, (mw, price) in blocks}
+    horizon = {"Version": "0.4", "Time horizon (h)": 24, "Time step (min)": 60}
     return {
-        "Parameters": {
-            "Version": "0.4",
-            "Time horizon (h)": 24,
-            "Time step (min)": 60,
-            "Power balance penalty ($/MW)": 1000.0,
-        },
+        "Parameters": {**horizon, "Power balance penalty ($/MW)": 1000.0},
         "Buses": {"b1": {"Load (MW)": half}, "b2": {"Load (MW)": half}},
         "Generators": generators,
         "Price-sensitive loads": loads,
@@ -72,43 +66,38 @@ def over_time(values: List[Any]) -> Json:
     return {"data_type": "time_series", "values": values}
 
 
+def egret_thermal(unit: Json) -> Json:
+    """A thermal generator of EGRET."""
+    curve = [[row["mw"], row["cost"]] for row in unit["piecewise_production"]]
+    return {
+        "generator_type": "thermal",
+        "bus": "b1",
+        "in_service": True,
+        "fuel": "G",
+        "fast_start": False,
+        "p_min": unit["power_output_minimum"],
+        "p_max": unit["power_output_maximum"],
+        "p_cost": {"data_type": "cost_curve", "cost_curve_type": "piecewise", "values": curve},
+        "startup_cost": [[row["lag"], row["cost"]] for row in unit["startup"]],
+        "startup_capacity": unit["ramp_startup_limit"],
+        "shutdown_capacity": unit["ramp_shutdown_limit"],
+        "ramp_up_60min": unit["ramp_up_limit"],
+        "ramp_down_60min": unit["ramp_down_limit"],
+        "min_up_time": unit["time_up_minimum"],
+        "min_down_time": unit["time_down_minimum"],
+        "initial_status": unit["time_up_t0"] if unit["unit_on_t0"] else -unit["time_down_t0"],
+        "initial_p_output": unit["power_output_t0"],
+        "fixed_commitment": None,
+    }
+
+
 def egret() -> Json:
     """ModelData of EGRET, as its reader of pglib-uc makes it, with a branch and a storage beside the market."""
     case = market.case()
-    generators: Json = {}
-    for name, it in case["thermal_generators"].items():
-        generators[name] = {
-            "generator_type": "thermal",
-            "bus": "b1",
-            "in_service": True,
-            "fuel": "G",
-            "fast_start": False,
-            "p_min": it["power_output_minimum"],
-            "p_max": it["power_output_maximum"],
-            "p_cost": {
-                "data_type": "cost_curve",
-                "cost_curve_type": "piecewise",
-                "values": [[row["mw"], row["cost"]] for row in it["piecewise_production"]],
-            },
-            "startup_cost": [[row["lag"], row["cost"]] for row in it["startup"]],
-            "startup_capacity": it["ramp_startup_limit"],
-            "shutdown_capacity": it["ramp_shutdown_limit"],
-            "ramp_up_60min": it["ramp_up_limit"],
-            "ramp_down_60min": it["ramp_down_limit"],
-            "min_up_time": it["time_up_minimum"],
-            "min_down_time": it["time_down_minimum"],
-            "initial_status": it["time_up_t0"] if it["unit_on_t0"] else -it["time_down_t0"],
-            "initial_p_output": it["power_output_t0"],
-            "fixed_commitment": None,
-        }
+    generators = {name: egret_thermal(it) for name, it in case["thermal_generators"].items()}
     for name, row in market.WIND.items():
-        generators[name] = {
-            "generator_type": "renewable",
-            "bus": "b2",
-            "p_min": over_time([0] * 24),
-            "p_max": over_time(row),
-            "p_cost": 0,
-        }
+        power = {"p_min": over_time([0] * 24), "p_max": over_time(row)}
+        generators[name] = {"generator_type": "renewable", "bus": "b2", **power, "p_cost": 0}
     load = [it + 70 for it in case["demand"]]  # (EGRET has no bids: the buyer's power is a load there)
     return {
         "elements": {
@@ -133,35 +122,31 @@ def write_table(name: str, rows: List[List[Any]]) -> None:
         csv.writer(it).writerows(rows)
 
 
+GENERATOR = (
+    "name bus p_nom committable p_min_pu marginal_cost stand_by_cost start_up_cost min_up_time min_down_time up_time_before "
+    "ramp_limit_up ramp_limit_start_up efficiency p_set"
+).split()
+
+
+def pypsa_generators() -> List[List[Any]]:
+    """The rows of generators.csv: committable units, whose cost is a line, and wind."""
+    rows: List[List[Any]] = [GENERATOR]
+    for name, it in market.case()["thermal_generators"].items():
+        most, (first, *_, last) = it["power_output_maximum"], it["piecewise_production"]
+        slope = (last["cost"] - first["cost"]) / (last["mw"] - first["mw"])
+        costs = [slope, first["cost"] - slope * first["mw"], 900]
+        times = [it["time_up_minimum"], it["time_down_minimum"], it["time_up_t0"]]
+        ramps = [it["ramp_up_limit"] / most, it["ramp_startup_limit"] / most]
+        least = it["power_output_minimum"] / most
+        rows.append([name, "b1", most, True, least, *costs, *times, *ramps, 0.4, 1 if name == "GT5" else ""])
+    return rows + [[name, "b2", 100, False, 0, 0, 0, 0, 0, 0, 1, "", "", 1, ""] for name in market.WIND]
+
+
 def pypsa(folder: str) -> None:
     """A network of PyPSA as a folder: committable units, wind, loads at two buses, a line, and a storage unit."""
     os.makedirs(folder)
     case, hours = market.case(), [f"2026-11-30 {it:02}:00:00" for it in range(24)]
-    names = "name bus p_nom committable p_min_pu marginal_cost stand_by_cost start_up_cost min_up_time min_down_time up_time_before ramp_limit_up ramp_limit_start_up efficiency p_set"  # fmt: skip
-    rows: List[List[Any]] = [names.split()]
-    for name, it in case["thermal_generators"].items():
-        most, (first, *_, last) = it["power_output_maximum"], it["piecewise_production"]
-        slope = (last["cost"] - first["cost"]) / (last["mw"] - first["mw"])
-        rows.append(
-            [
-                name,
-                "b1",
-                most,
-                True,
-                it["power_output_minimum"] / most,
-                slope,
-                first["cost"] - slope * first["mw"],
-                900,
-                *[it["time_up_minimum"]] * 2,
-                it["time_up_t0"],
-                it["ramp_up_limit"] / most,
-                it["ramp_startup_limit"] / most,
-                0.4,
-                1 if name == "GT5" else "",
-            ]
-        )
-    rows += [[name, "b2", 100, False, 0, 0, 0, 0, 0, 0, 1, "", "", 1, ""] for name in market.WIND]
-    write_table(f"{folder}/generators.csv", rows)
+    write_table(f"{folder}/generators.csv", pypsa_generators())
     write_table(
         f"{folder}/snapshots.csv",
         [["snapshot", "objective", "stores", "generators"], *([it, 1.0, 1.0, 1.0] for it in hours)],

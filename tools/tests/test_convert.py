@@ -154,6 +154,28 @@ class Csv(WithRoom):
         self.assertEqual(self.read(f"{folder}/units.csv"), before)
 
 
+MAY_BE_LEFT_OUT = (
+    *("Initial status (h)", "Initial power (MW)", "Ramp down limit (MW)"),
+    *("Minimum uptime (h)", "Startup costs ($)", "Startup delays (h)"),
+)
+
+
+def changed_model() -> Dict[str, Any]:
+    """The market as EGRET has it, in half hours, with other ways to say costs and commitments."""
+    value = other_forms.egret()
+    units = value["elements"]["generator"]
+    units["COAL1"]["fixed_commitment"] = 1
+    units["COAL2"]["fixed_commitment"] = other_forms.over_time([1] * 12 + [None] * 12)
+    square = {"data_type": "cost_curve", "cost_curve_type": "polynomial", "values": {"0": 100, "1": 30, "2": 0.01}}
+    units["CCGT3"]["p_cost"] = square
+    fuel = {"data_type": "fuel_curve", "values": [[100, 800], [250, 1900]]}
+    units["CCGT4"].update(p_cost=None, p_fuel=fuel, fuel_cost=4)
+    units["GT5"].update(startup_cost=500, shutdown_cost=20)
+    units["GT6"]["in_service"] = False
+    value["system"]["time_period_length_minutes"] = 30
+    return value
+
+
 class Others(WithRoom):
     """Each instance is the tests' market; its schedule keeps its cost where the form has all that the case has."""
 
@@ -213,14 +235,7 @@ class Others(WithRoom):
             gas["Commitment status"] = [None] * 23 + [False]
             gas["Ramp up limit (MW)"] = [120] * 12 + [110] * 12
             gas["Emissions"] = 5
-            for key in (
-                "Initial status (h)",
-                "Initial power (MW)",
-                "Ramp down limit (MW)",
-                "Minimum uptime (h)",
-                "Startup costs ($)",
-                "Startup delays (h)",
-            ):
+            for key in MAY_BE_LEFT_OUT:
                 del peak[key]
             peak["Reserve eligibility"] = []
             value["Generators"]["WIND1"]["Cost ($/MW)"] = 2
@@ -229,18 +244,8 @@ class Others(WithRoom):
         units = case["thermal_generators"]
         self.assertEqual((units["COAL1"]["must_run"], units["CCGT3"]["commitment"]), (1, [None] * 23 + [0]))
         self.assertEqual(units["CCGT3"]["ramp_up_limit"], 110)
-        peak = [
-            units["GT5"][key]
-            for key in (
-                "unit_on_t0",
-                "time_down_t0",
-                "power_output_t0",
-                "ramp_down_limit",
-                "time_up_minimum",
-                "startup",
-            )
-        ]
-        self.assertEqual(peak, [0, 1, 0, 80, 1, []])
+        due = dict(unit_on_t0=0, time_down_t0=1, power_output_t0=0, ramp_down_limit=80, time_up_minimum=1, startup=[])
+        self.assertEqual({key: units["GT5"][key] for key in due}, due)
         for line in (
             "left out: Ramp up limit (MW) that changes over time: its least is taken (1: CCGT3)",
             "left out: Generators: the field `Emissions` (1: CCGT3)",
@@ -291,24 +296,7 @@ class Others(WithRoom):
             self.assertIn(f"{line}\n", told)
 
     def test_parts_of_egret(self) -> None:
-        value = other_forms.egret()
-        units = value["elements"]["generator"]
-        units["COAL1"]["fixed_commitment"] = 1
-        units["COAL2"]["fixed_commitment"] = other_forms.over_time([1] * 12 + [None] * 12)
-        units["CCGT3"].update(
-            p_cost={
-                "data_type": "cost_curve",
-                "cost_curve_type": "polynomial",
-                "values": {"0": 100, "1": 30, "2": 0.01},
-            }
-        )
-        units["CCGT4"].update(
-            p_cost=None, p_fuel={"data_type": "fuel_curve", "values": [[100, 800], [250, 1900]]}, fuel_cost=4
-        )
-        units["GT5"].update(startup_cost=500, shutdown_cost=20)
-        units["GT6"]["in_service"] = False
-        value["system"]["time_period_length_minutes"] = 30
-        other_forms.write_json(f"{self.room}/model.json", value)
+        other_forms.write_json(f"{self.room}/model.json", changed_model())
         told, _ = self.convert(f"{self.room}/model.json", f"{self.room}/case.json")
         with open(f"{self.room}/case.json", encoding="utf-8") as it:
             made = json.load(it)["thermal_generators"]
@@ -429,6 +417,7 @@ class Others(WithRoom):
         for name, data, told in (
             ("book.xlsx", "PK\3\4", "save each of its sheets as CSV"),
             ("units.csv", "unit", "name the folder"),
+            ("network.nc", "CDF\1", "export_to_csv_folder"),
         ):
             self.assertIn(told, self.convert(self.write(name, data), f"{self.room}/none.json", status=1)[1])
         os.mkdir(f"{self.room}/empty")

@@ -40,6 +40,10 @@ def json_of(name: str) -> Object:
         raise HullError(
             f"{name}: this is a spreadsheet or an archive: save each of its sheets as CSV, as docs/CSV.md has them"
         )
+    if data.startswith((b"CDF", b"\x89HDF")):
+        raise HullError(
+            f"{name}: this is netCDF or HDF5: write the network by PyPSA's export_to_csv_folder, and name the folder"
+        )
     if name.endswith(".csv"):
         raise HullError(f"{name}: name the folder of the CSV files, and not one of them")
     try:

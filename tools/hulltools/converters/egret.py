@@ -79,7 +79,7 @@ class Model:
         rows = []
         for name, it in self.elements.object("load").items():
             load = Taken(it, "load", name, self.notes)
-            for key in ("bus", "area", "zone", "q_load", "name"):
+            for key in ("bus", "area", "zone", "name"):
                 load.take(key)
             if load.take("in_service", True):
                 rows.append(series(values(load.take("p_load", 0)), self.periods, f'load "{name}", p_load'))
