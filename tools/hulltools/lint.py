@@ -25,6 +25,7 @@ from .schedules import Schedule
 STATUS = {"case": 3, "schedule": 4, "prices": 9, "mixture": 10}
 HOW = {"case": "a case", "schedule": "a schedule", "prices": "prices", "mixture": "a mixture"}
 SHOWN = 5  # how many findings of one rule are told in full
+IN_THE_CASE = " In the case "  # (how a sentence goes on that tells what a warning tells too)
 POWER_RULES = {43, 48, 49, 50, 51, 52, 53, 54, 55, 57}  # what a schedule in megawatts breaks
 
 
@@ -145,7 +146,8 @@ class Look:
         self, what: str, line: str, rule: str, at: int, rest: str = "", unit: Optional[Tuple[str, str]] = None
     ) -> Finding:
         """The finding of a fault line, in the words of explain.py."""
-        text = sentence(line, self.files)
+        text, _, hint = sentence(line, self.files).partition(IN_THE_CASE)
+        text += " The warnings say what in the case is odd." if hint else ""
         text = text[len(self.names[what]) + 2 :] if text.startswith(f"{self.names[what]}: ") else text
         kind, name = unit or (None, None)
         return Finding(

@@ -25,7 +25,10 @@ def oddities(unit: Thermal, hours: float) -> Iterator[Oddity]:
     yield from state_oddities(unit)
     yield from time_oddities(unit)
     yield from limit_oddities(unit)
-    yield from ramp_oddities(unit, hours)
+    slow = list(ramp_oddities(unit, hours))
+    yield from slow
+    if not slow:  # (a wrong ramp would make a right power odd)
+        yield from start_oddities(unit)
     found = contradiction(unit)
     if found:
         yield found
@@ -61,7 +64,12 @@ def state_oddities(unit: Thermal) -> Iterator[Oddity]:
             f"it is on before period 1 with {key} {power}, above its greatest power of {megawatts(unit.most)}"
             f"{barred if low > unit.most else ''}: mend {key}",
         )
-    elif unit.up0 and unit.power0 > highest_before(unit):
+
+
+def start_oddities(unit: Thermal) -> Iterator[Oddity]:
+    """A power before period 1 that no start so many periods before could have reached."""
+    key, power = "power_output_t0", megawatts(unit.power0)
+    if unit.on0 and unit.up0 and highest_before(unit) < unit.power0 <= unit.most:
         yield Oddity(
             "on-above-ramps",
             key,
