@@ -3,7 +3,7 @@ from __future__ import annotations
 
 import math
 import re
-from typing import Dict, List, Optional, Sequence
+from typing import Any, Dict, List, Optional, Sequence
 
 from .cases import Fields, Thermal, read_thermal
 from .day_lengths import hint_of_length
@@ -15,6 +15,7 @@ from .named_files import Files, Written, number_of, written
 from .numbers import is_whole, kilowatts
 
 MOST_BYTES = 1 << 22  # of a larger file it isn't looked up where a fault of the text stands
+EXACT = "the case with exact numbers"  # under which it is kept among the values of the files
 STANDS_OUT = math.log(3)  # how far a part behind a decimal comma has to be from its neighbours
 # What is due at a field that isn't there, or is of another kind; some fields differ by the kind of the unit.
 DUE: Dict[object, str] = {
@@ -138,14 +139,24 @@ def place_in_words(files: Files, what: str, place: int) -> str:
     return path_in_words(path_of(data, place)) if len(data) <= MOST_BYTES else ""
 
 
+def exact_case(files: Files) -> Any:
+    """The value of the case's file with exact numbers, read once; None where it is no JSON."""
+    if EXACT not in files.values:
+        try:
+            files.values[EXACT] = parse(files.bytes_of("case"))
+        except Refused:
+            files.values[EXACT] = None
+    return files.values[EXACT]
+
+
 def thermal_of(files: Files, number: int) -> Optional[Thermal]:
     """A thermal unit of the case, as it is read."""
     try:
-        value = parse(files.bytes_of("case"))
+        value = exact_case(files)
         name, unit = list(value["thermal_generators"].items())[number - 1]
         found: Thermal = read_thermal(name, Fields("", name, unit), int(value["time_periods"]))
         return found
-    except (HullError, Refused, KeyError, IndexError, TypeError, ValueError, AttributeError):
+    except (HullError, KeyError, IndexError, TypeError, ValueError, AttributeError):
         return None
 
 

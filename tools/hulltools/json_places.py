@@ -18,6 +18,9 @@ TOKEN = re.compile(
     r'(?P<mark>[{}\[\],:])|(?P<text>"(?:[^"\\\x00-\x1f]|\\(?:["\\/bfnrt]|u[0-9a-fA-F]{4}))*")'
     r"|(?P<number>-?(?:0|[1-9][0-9]*)(?:\.[0-9]+)?(?:[eE][-+]?[0-9]+)?(?![-+.eE0-9]))|(?P<word>(?:true|false|null)(?![a-z]))"
 )
+SHORT = r"-?(?:0|[1-9][0-9]{0,14})(?:\.[0-9]{1,14})?"
+SHORT_NUMBER = re.compile(SHORT)
+NUMBERS = re.compile(rf"[ \t\n\r]*{SHORT}(?:[ \t\n\r]*,[ \t\n\r]*{SHORT})*[ \t\n\r]*\]")
 ODD = re.compile(r"[-+.\w]+")
 WORDS = {"true": True, "false": False, "null": None}
 GROUP_WORDS = {
@@ -41,6 +44,7 @@ class Odd:
 class Node:
     """A value of a file, and the place of its first character."""
 
+    __slots__ = ("value", "at")
     value: Value
     at: int
 
@@ -74,6 +78,11 @@ class TextFault:
     code: int
     at: int
     path: Path
+
+
+def exact(text: str) -> Union[int, Decimal]:
+    """The value of a number's text."""
+    return Decimal(text) if "." in text or "e" in text or "E" in text else int(text)
 
 
 class Ended(Exception):
@@ -150,9 +159,13 @@ class Reader:
         except Refused:
             self.fault(11, at)
             return Odd(text)
-        return int(text) if re.fullmatch("-?[0-9]+", text) else Decimal(text)
+        return exact(text)
 
     def list_from(self, depth: int) -> List[Node]:
+        plainly = NUMBERS.match(self.text, self.at)
+        if plainly:  # (most of a large file is such lists)
+            begin, self.at = self.at, plainly.end()
+            return [Node(exact(it.group()), it.start()) for it in SHORT_NUMBER.finditer(self.text, begin, self.at)]
         found: List[Node] = []
         token = self.token()
         if token[1] == "]" and token[0] == "mark":

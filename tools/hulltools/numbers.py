@@ -6,6 +6,8 @@ PRICE_LIMIT = 10_000_000  # millionths per kilowatt and period: 10,000 of the cu
 
 def rounded(number, places):
     """floor(number * 10^places + 1/2) of a whole number or a Decimal, whatever its digits."""
+    if isinstance(number, int):
+        return number * 10**places
     sign, digits, exponent = Decimal(number).as_tuple()
     value = int("".join(map(str, digits)) or "0") * (-1 if sign else 1)
     shift = exponent + places
