@@ -89,8 +89,10 @@ def rules_that_bar(case):
         if program.solve(time_limit=SECONDS_A_RULE).x is not None:
             found.append(name)
     if not found:
-        return ": each period can be met by itself, but no rule that is left out alone makes a schedule possible"
-    return f": each period can be met by itself; there would be a schedule without {', or without '.join(found)}"
+        alone = ": each period can be met by itself, but no rule that is left out alone makes a schedule possible"
+        return f"{alone}{units_that_bar(case)}"
+    bars = f"there would be a schedule without {', or without '.join(found)}"
+    return f": each period can be met by itself; {bars}{units_that_bar(case)}"
 
 
 def powers_found(model, x):
@@ -137,7 +139,7 @@ def make_schedule(case, gap, seconds, tell):
     model = Commitment(case)
     found = model.program.solve(time_limit=float(seconds), mip_rel_gap=gap)
     if found.status == 2:
-        raise HullError(f"the solver finds that the case can't be met{rules_that_bar(case)}{units_that_bar(case)}")
+        raise HullError(f"the solver finds that the case can't be met{rules_that_bar(case)}")
     if found.x is None:
         raise HullError(f"no schedule was found in {seconds:g} s: give --seconds more")
     # (with no whole variable there is no bound beside the optimum)
