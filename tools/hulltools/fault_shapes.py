@@ -3,6 +3,7 @@ import difflib
 import json
 from dataclasses import dataclass
 
+from .day_lengths import hint_of_length
 from .named_files import GROUPS, PLAN_GROUPS, Files, number_of, plan_of, who, written
 
 KINDS = {"thermal": "a thermal unit", "renewable": "a renewable unit", "bid": "a bid"}
@@ -89,10 +90,12 @@ def told_form(at, item):
     if at.kind != "thermal" and isinstance(plan, dict):
         return f"{at.name}: a plain list with an item for each of the {at.periods} is due, and no object.{found_text(plan)}"
     if at.kind != "thermal":
-        return f"{at.name} hasn't a list with an item for each of the {at.periods}.{found_text(plan)}"
+        return (
+            f"{at.name} hasn't a list with an item for each of the {at.periods}.{found_text(plan)}{day_text(at, plan)}"
+        )
     if plan is not None and not isinstance(plan, dict):
         return f"{at.name}: an object with the lists `on`, `power` and `reserve` is due.{found_text(plan)}"
-    return f"{at.name} hasn't the lists that are due, with an item for each of the {at.periods}{lacking_of(at, plan)}.{found_text(plan)}"
+    return f"{at.name} hasn't the lists that are due, with an item for each of the {at.periods}{lacking_of(at, plan)}.{found_text(plan)}{day_text(at, plan)}"
 
 
 def lacking_of(at, plan):
@@ -109,6 +112,15 @@ def found_text(plan):
     if isinstance(plan, list):
         return f" Found: a list with {len(plan)} items."
     return "" if plan is None else f" Found: {written(plan)}."
+
+
+def day_text(at: Place, plan: object) -> str:
+    """Which day a plan's lists may be of, where clocks change."""
+    lists = list(plan.values()) if isinstance(plan, dict) else [plan]
+    lengths = {len(it) for it in lists if isinstance(it, list)}
+    periods = number_of(at.files.at("case", "time_periods"))
+    told = hint_of_length(lengths.pop(), int(periods)) if len(lengths) == 1 and periods is not None else None
+    return f" {told[:1].upper()}{told[1:]}." if told else ""
 
 
 def told_whole(at):

@@ -62,6 +62,14 @@ def replaced(what: str, old: str, new: str) -> Change:
     return change
 
 
+def longer_schedule(files: Dict[str, Any]) -> None:
+    """Gives each list of the schedule an hour more."""
+    plan = files["schedule"]
+    groups = [*plan["thermal"].values(), plan["renewable"], plan["bids"]]
+    for row in (it for group in groups for it in group.values()):
+        row.append(row[-1])
+
+
 def dropped(files: Dict[str, Any]) -> None:
     del files["case"]["thermal_generators"]["CCGT4"]["power_output_t0"]
 
@@ -132,6 +140,12 @@ MISTAKES: Dict[str, Tuple[Change, str, Optional[str]]] = {
         lambda files: files["prices"]["energy"].append(30),
         "25 periods are a day of 25 hours, on which clocks go back, and the case has 24",
         "on which clocks go back",
+    ),
+    "a schedule of a day of 25 hours": (
+        longer_schedule,
+        'thermal unit "COAL1" (number 1) hasn\'t the lists that are due, with an item for each of the 24 periods. Found: on with 25 items, power '
+        "with 25 items, reserve with 25 items. 25 periods are a day of 25 hours, on which clocks go back, and the case has 24",
+        "25 periods are a day of 25 hours, on which clocks go back",
     ),
     "prices per kWh": (
         scaled("prices", "energy", 0.001),
