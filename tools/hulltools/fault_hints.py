@@ -180,7 +180,7 @@ def hint_of_rule(files: Files, code: int, kind: str, number: int, period: int) -
 
 
 def demand_hint(files: Files, period: int) -> str:
-    """A question, where demand is far above all that the units can give."""
+    """A question, where demand is far above or below all that the units can give."""
     number = lambda *path: kilowatts(number_of(files.at("case", *path)) or 0)
     count = lambda group: len(files.at("case", group) or ())
     most = sum(
@@ -189,6 +189,7 @@ def demand_hint(files: Files, period: int) -> str:
     for i in range(1, count("renewable_generators") + 1):
         most += number("renewable_generators", i, "power_output_maximum", period)
     demand = number("demand", period)
-    if not most or demand < 300 * most:
+    if not most or not demand or most / 300 < demand < 300 * most:
         return ""
-    return f" In the case demand is {written(files.at('case', 'demand', period))} MW, and all units together give {most / 1e3:g} MW: is demand in kilowatts? A case is in megawatts."
+    unit = "kilowatts" if demand > most else "gigawatts"
+    return f" In the case demand is {written(files.at('case', 'demand', period))} MW, and all units together give {most / 1e3:g} MW: is demand in {unit}? A case is in megawatts."

@@ -85,7 +85,7 @@ def capacity_oddities(case: Case) -> Iterator[SystemOddity]:
         yield SystemOddity(
             "demand-too-low",
             "demand",
-            f"demand is {megawatts(case.demand[t])} {where(high)}; units that must run give at least {megawatts(least[t])} then, and "
+            f"demand is {megawatts(case.demand[t])} {where(high)}; units that have to be on give at least {megawatts(least[t])} then, and "
             f"bids buy at most {megawatts(bounds.buys[t])}. No schedule can meet it",
             numbered(high),
         )

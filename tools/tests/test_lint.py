@@ -70,6 +70,13 @@ def longer_schedule(files: Dict[str, Any]) -> None:
         row.append(row[-1])
 
 
+def too_much(files: Dict[str, Any]) -> None:
+    """Must-run units that give more than demand and bids take."""
+    for name in ("COAL1", "COAL2"):
+        files["case"]["thermal_generators"][name]["must_run"] = 1
+    files["case"]["demand"] = [100] * 24
+
+
 def dropped(files: Dict[str, Any]) -> None:
     del files["case"]["thermal_generators"]["CCGT4"]["power_output_t0"]
 
@@ -210,6 +217,37 @@ MISTAKES: Dict[str, Tuple[Change, str, Optional[str]]] = {
         unit_change("COAL2", time_up_t0=2, time_up_minimum=1, ramp_up_limit=40),
         "it is on for 2 periods before period 1 (time_up_t0) with power_output_t0 250 MW. With a start limit of 165 MW and an upward ramp of "
         "40 MW it has reached at most 205 MW by then: mend power_output_t0 or time_up_t0.",
+        None,
+    ),
+    "demand in gigawatts": (
+        scaled("case", "demand", 0.001),
+        "The highest demand is 0.88 MW, and the units give up to 1,552 MW: is demand in gigawatts, or are units in kilowatts?",
+        "is demand in gigawatts? A case is in megawatts.",
+    ),
+    "units that must give too much": (
+        too_much,
+        "Demand is 100 MW in period 1, the worst of periods 1 to 24; units that have to be on give at least 270 MW then, and bids buy at most 90 MW. "
+        "No schedule can meet it.",
+        "too much",
+    ),
+    "a stop limit below the least power": (
+        unit_change("CCGT3", ramp_shutdown_limit=60),
+        'thermal unit "CCGT3": it can never stop: its ramp_shutdown_limit of 60 MW is below its least power of 120 MW.',
+        "this unit can never stop: the case is to be mended",
+    ),
+    "a time that is missing": (
+        unit_change("GT5", time_down_t0=0),
+        "it is off before period 1 (unit_on_t0 0), but time_down_t0 is 0: give for how many periods it has been off, at least 1.",
+        None,
+    ),
+    "a time of the other state": (
+        unit_change("GT5", time_up_t0=3),
+        "it is off before period 1 (unit_on_t0 0) for 24 periods (time_down_t0), but time_up_t0 is 3: a unit that is off has time_up_t0 0.",
+        None,
+    ),
+    "prices in thousandths": (
+        scaled("prices", "energy", 100),
+        "Half of the energy prices are at least 3,600, and a MWh of the median unit costs 39.96 at full load: are these in cents or thousandths?",
         None,
     ),
     "rules that leave no flag": (
