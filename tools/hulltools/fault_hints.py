@@ -14,7 +14,9 @@ from .lint_units import Oddity, ramp_oddities, state_oddities, time_oddities
 from .named_files import Files, Written, number_of, written
 from .numbers import is_whole, kilowatts
 
-MOST_BYTES = 1 << 22  # of a larger file it isn't looked up where a fault of the text stands
+MOST_BYTES = (
+    1 << 22
+)  # of a larger file neither the place of a fault of the text nor what a unit is like is looked up, which takes long
 EXACT = "the case with exact numbers"  # under which it is kept among the values of the files
 STANDS_OUT = math.log(3)  # how far a part behind a decimal comma has to be from its neighbours
 # What is due at a field that isn't there, or is of another kind; some fields differ by the kind of the unit.
@@ -140,10 +142,11 @@ def place_in_words(files: Files, what: str, place: int) -> str:
 
 
 def exact_case(files: Files) -> Any:
-    """The value of the case's file with exact numbers, read once; None where it is no JSON."""
+    """The value of the case's file with exact numbers, read once; None where it is no JSON, or very large."""
     if EXACT not in files.values:
         try:
-            files.values[EXACT] = parse(files.bytes_of("case"))
+            data = files.bytes_of("case")
+            files.values[EXACT] = parse(data) if len(data) <= MOST_BYTES else None
         except Refused:
             files.values[EXACT] = None
     return files.values[EXACT]
