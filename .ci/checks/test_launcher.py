@@ -833,7 +833,7 @@ class Explaining(unittest.TestCase):
         first = (f"{EXAMPLES}/first/{it}.json" for it in ("case", "schedule"))
         self.right = ["check", *(word for pair in zip(("--case", "--schedule"), first) for word in pair)]
         self.refused = ["check", "--case", "case.json", f"--schedule={EXAMPLES}/first/schedule.json"]
-        self.said = b"case.json: time_periods: it isn't there, and it has to be."
+        self.said = b"case.json: time_periods: it isn't there, and it has to be. Due: the number of periods, 1 to 168."
 
     def called(self, words, is_terminal=False, **env):
         """What a call says on standard error; the rest has to be as the program has it."""

@@ -347,11 +347,11 @@ class Lines(WithFiles):
         for folder, what, old, new, line in self.rows():
             beside = {"prices": "evening", "mixture": "usual"}.get(what, folder)
             for it in ("case", "schedule"):
-                shutil.copy(f"{EXAMPLES}/{beside}/{it}.json", self.room)
+                shutil.copyfile(f"{EXAMPLES}/{beside}/{it}.json", f"{self.room}/{it}.json")
             prices = "posted" if beside == "evening" else "certified"
-            shutil.copy(f"{EXAMPLES}/{prices}/prices.json", self.room)
+            shutil.copyfile(f"{EXAMPLES}/{prices}/prices.json", f"{self.room}/prices.json")
             if what == "mixture":
-                shutil.copy(f"{EXAMPLES}/certified/mixture.json", self.room)
+                shutil.copyfile(f"{EXAMPLES}/certified/mixture.json", f"{self.room}/mixture.json")
             with open(f"{self.room}/{what}.json", encoding="utf-8") as file:
                 text = file.read()
             with open(f"{self.room}/{what}.json", "w", encoding="utf-8") as file:
