@@ -139,9 +139,7 @@ class Many(unittest.TestCase):
         status, left, said = self.many(*price)
         self.assertEqual((status, self.cut_to(due, left)), (1, due))
         self.assertIn("many.sh: days/closed: cannot be written", said)
-        self.assertEqual(
-            sorted(os.listdir(f"{self.room}/days/refused")), ["case.json", "refused.txt", "schedule.json"]
-        )
+        self.assertEqual(sorted(os.listdir(f"{self.room}/days/refused")), ["case.json", "refused.txt", "schedule.json"])
         status, left, _ = self.many(*audit)
         self.assertEqual((status, self.cut_to(due, left)), (1, due))
         self.mend()

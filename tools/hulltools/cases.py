@@ -3,7 +3,7 @@ from dataclasses import dataclass, field
 
 from .json_texts import is_number, read_json
 from .numbers import PRICE_LIMIT, is_whole, kilowatts, millionths, price
-from .errors import HullError, one_line
+from .errors import HullError, one_line, write_whole
 
 POWER, OUTPUT, COST, TIME = 10**9, 10**7, 10**13, 10**6
 MOST_PERIODS, MOST_OF_A_KIND, MOST_ITEMS, MOST_BLOCKS = 168, 4096, 32, 8
@@ -93,6 +93,27 @@ class Case:
         """Kind and unit, in the order of a report."""
         kinds = (("thermal", self.thermal), ("renewable", self.renewable), ("bid", self.bids))
         return [(kind, it) for kind, units in kinds for it in units]
+
+    def text(self):
+        """The case as its file."""
+        from .case_files import text_of
+
+        return text_of(self)
+
+    def write(self, name, inputs=()):
+        write_whole(name, self.text(), inputs)
+
+    def scaled(self, demand=1, renewable=1, offers=None):
+        """The case with its demand and renewable power times these, and the cost curves of units times those of `offers`, by name."""
+        from .case_files import scaled
+
+        return scaled(self, demand, renewable, offers or {})
+
+    def without(self, *names):
+        """The case without these units and bids."""
+        from .case_files import without
+
+        return without(self, names)
 
 
 class Fields:

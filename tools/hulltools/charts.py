@@ -71,13 +71,14 @@ class Chart:
         return "".join([*self.parts, "</svg>"])
 
 
-def steps_chart(title, series, periods, name_x="period"):
-    """Level numbers by period; `series` are (style, numbers)."""
+def steps_chart(title, series, periods, name_x="period", labels=None):
+    """Level numbers by period; `series` are (style, numbers). The periods are numbered where they have no labels."""
     numbers = [it for _, row in series for it in row]
     chart = Chart(title, min(0, *numbers, 0), max(0, *numbers), 1, periods + 1)
     for style, row in series:
         chart.steps(row, style)
-    for t in range(1, periods + 1, max(1, periods // 12)):
-        chart.label_x(t, t + 0.5)
+    # (times are longer than numbers, and have to fit on a narrow page too)
+    for t in range(1, periods + 1, max(1, periods // (6 if labels and labels[0] != "1" else 12))):
+        chart.label_x(html.escape(labels[t - 1]) if labels else t, t + 0.5)
     chart.name_x(name_x)
     return chart.svg()

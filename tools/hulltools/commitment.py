@@ -120,15 +120,19 @@ class Commitment:
         """The on flags that the solver found."""
         return [[round(found[column]) for column in it.on] for it in self.units]
 
-    def fix(self, flags):
-        """Holds each unit on or off by these flags."""
-        for it, on in zip(self.units, flags):
-            before = it.unit.on0
-            for t, now in enumerate(on):
-                ones = ((it.on[t], now), (it.start[t], now > before), (it.stop[t], now < before))
-                for column, is_one in ones:
-                    self.program.low[column] = self.program.high[column] = int(is_one)
-                before = now
+    def fix(self, flags, held=None):
+        """Holds units on or off by these flags: each, or those for which `held` says so."""
+        for unit, on, is_held in zip(self.units, flags, held or [True] * len(flags)):
+            if is_held:
+                self.fix_unit(unit, on)
+
+    def fix_unit(self, unit, on):
+        before = unit.unit.on0
+        for t, now in enumerate(on):
+            ones = ((unit.on[t], now), (unit.start[t], now > before), (unit.stop[t], now < before))
+            for column, is_one in ones:
+                self.program.low[column] = self.program.high[column] = int(is_one)
+            before = now
 
     def prices(self, duals):
         """Energy and reserve prices, in currency per MW and period, that the duals of the rows are."""

@@ -160,20 +160,22 @@ class Found:
 
 
 class Limits:
-    """When to end: a distance that is asked for, a time, and an interrupt."""
+    """When to end: a distance that is asked for, a number of rounds, a time, and an interrupt."""
 
-    def __init__(self, within=None, seconds=None, is_stopped=lambda: False):
-        self.asked, self.is_stopped = within, is_stopped
+    def __init__(self, within=None, seconds=None, is_stopped=lambda: False, rounds=None):
+        self.asked, self.is_stopped, self.rounds = within, is_stopped, rounds
         self.end = None if seconds is None else time.monotonic() + seconds
 
     def within(self, payments):
         """In the currency: 0.02 % of the payments or 1.00, whichever is more, where nothing is asked for."""
         return self.asked if self.asked is not None else max(1.0, payments / 1e6 * 0.0002)
 
-    def over(self):
-        """Why it has to end now, or None."""
+    def over(self, turn):
+        """Why it has to end after so many rounds, or None."""
         if self.is_stopped():
             return "interrupted"
+        if self.rounds is not None and turn >= self.rounds:
+            return "the rounds are made"
         return "the time is over" if self.end is not None and time.monotonic() > self.end else None
 
 
@@ -217,7 +219,7 @@ def convex_prices(case, starts, settle, certify, limits, tell):
         tell(
             f"round {turn}: within {gap:,.2f} of the best, {search.calls} calls of settle, {len(master.columns.cost)} columns"
         )
-        ended = limits.over() or (WHOLE if barren >= BARREN else None)
+        ended = limits.over(turn) or (WHOLE if barren >= BARREN else None)
         ended = ended or ("it comes no nearer" if stale >= STALE or finer > 1e4 else None)
         if best[1] and (ended or gap <= within):
             found = search.found(best, certify, ended)

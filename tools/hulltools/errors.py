@@ -7,7 +7,15 @@ import tempfile
 
 
 class HullError(Exception):
-    """What is to be told to the user, in one line."""
+    """What is to be told to the user, in one line.
+
+    Where the program refused something there are its exit status, and of the fault line the code, the unit's name, the period, and the line
+    as a sentence; each is None where it isn't there.
+    """
+
+    def __init__(self, text, status=None, code=None, unit=None, period=None, sentence=None):
+        super().__init__(text)
+        self.status, self.code, self.unit, self.period, self.sentence = status, code, unit, period, sentence
 
 
 def one_line(text):

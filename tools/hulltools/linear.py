@@ -20,6 +20,11 @@ def need_scipy():
         )
 
 
+def was_cut_by_the_clock(found) -> bool:
+    """Whether the solver's answer depends on how fast it was."""
+    return found.status == 1 and found.message.startswith("Time limit")
+
+
 @dataclass
 class Solved:
     """A solution of a linear program: its value, its variables, and what a unit more at each row would cost."""
@@ -70,7 +75,8 @@ class Program:
             return found
         # (HiGHS has called programs of a few kilowatts infeasible that weren't, in its first simplifications)
         seconds = min(60.0, options.get("time_limit", 60.0))
-        return milp(self.cost, **given, options={**options, "presolve": False, "time_limit": seconds})
+        again = milp(self.cost, **given, options={**options, "presolve": False, "time_limit": seconds})
+        return found if was_cut_by_the_clock(again) else again
 
     def solve_linear(self, method="highs", seconds=None):
         """The solution without whole variables, with the duals of the rows; None where there is none."""

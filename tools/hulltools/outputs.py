@@ -64,11 +64,11 @@ class Text:
 
         return tables_of([self], case, schedule, currency)
 
-    def frames(self, case=None, schedule=None, currency=True):
-        """The same as data frames of pandas."""
+    def frames(self, case=None, schedule=None, currency=True, start=None, hours_per_period=1):
+        """The same as data frames of pandas; with a start, tables by period are indexed by time."""
         from .tables import frames_of
 
-        return frames_of(self.tables(case, schedule, currency))
+        return frames_of(self.tables(case, schedule, currency), start, hours_per_period)
 
 
 @dataclass

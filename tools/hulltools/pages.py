@@ -52,17 +52,17 @@ for (const table of document.querySelectorAll("table")) {
 }
 """
 
-UNIT_PICTURE = """
+DRAWING = """
 const lists = JSON.parse(document.querySelector("#lists").textContent), shown = document.querySelector("#unit");
 const steps = (numbers, x, y) => numbers.map((it, i) => `${x(i)},${y(it)} ${x(i + 1)},${y(it)}`).join(" ");
-function show(row) {
-  const unit = lists[row.dataset.unit];
+function draw(row, unit) {
   document.querySelectorAll("tr.clicked").forEach(it => it.classList.remove("clicked"));
   row.classList.add("clicked");
   if (!unit) { shown.innerHTML = "<p>The page holds the lists of the units with the largest payments alone.</p>"; return; }
   const all = Object.values(unit).flat(), most = Math.max(1, ...all), last = unit.power.length;
   const x = i => 70 + i / last * 636, y = it => 190 - it / most * 176;
-  const lines = Object.entries(unit).map(([key, numbers]) => {
+  const kept = Object.entries(unit).filter(([key, numbers]) => !key.endsWith("eserve") || numbers.some(it => it > 0));
+  const lines = kept.map(([key, numbers]) => {
     const style = (key.endsWith("eserve") ? "reserve" : "energy") + (key.startsWith("scheduled") ? " first" : "");
     return `<polyline class="${style}" points="${steps(numbers, x, y)}"/>`;
   });
@@ -74,10 +74,17 @@ function show(row) {
   shown.replaceChildren(title);
   shown.insertAdjacentHTML("beforeend", `<svg viewBox="0 0 720 226" role="img">${[...levels, ...places, ...lines].join("")}</svg>`);
 }
-for (const row of document.querySelectorAll("tr[data-unit]")) {
-  row.addEventListener("click", () => show(row));
-  row.addEventListener("keydown", event => { if (event.key === "Enter") show(row); });
+function watchRows(show) {
+  for (const row of document.querySelectorAll("tr[data-unit]")) {
+    row.addEventListener("click", () => show(row));
+    row.addEventListener("keydown", event => { if (event.key === "Enter") show(row); });
+  }
 }
+"""
+
+UNIT_PICTURE = """
+const show = row => draw(row, lists[row.dataset.unit]);
+watchRows(show);
 const payment = row => BigInt(row.cells[4].dataset.is);
 const first = [...document.querySelectorAll("tr[data-unit]")].reduce((a, b) => (a && payment(a) >= payment(b) ? a : b), null);
 if (first) show(first);
@@ -276,4 +283,4 @@ def page_of(priced, schedule=None, certificate=None):
 </tbody></table></div>
 <h2>Prices</h2><p>Currency per MW and period: period, energy, reserve.</p>
 <button class="copy" type="button">Copy</button><textarea readonly aria-label="Prices">{table}</textarea>"""
-    return document(title, body, [SORT, UNIT_PICTURE], {"lists": lists_of(priced, schedule)})
+    return document(title, body, [SORT, DRAWING, UNIT_PICTURE], {"lists": lists_of(priced, schedule)})

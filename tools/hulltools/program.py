@@ -1,11 +1,15 @@
 """Calls of `hull`: the program is found, run, and its text read."""
+import contextlib
+import hashlib
+import json
 import os
 import shutil
 import subprocess
 import tempfile
 
-from .outputs import parse_output
 from .errors import HullError, one_line
+from .outputs import parse_output
+from .refusals import refusal
 
 MOST_WORK = 50_000_000  # proposals times units times periods that `hull price` takes
 HOME = os.path.dirname(os.path.dirname(os.path.dirname(os.path.abspath(__file__))))
@@ -26,7 +30,10 @@ def default_program():
 
 
 class Hull:
-    """The program. Each call takes names of files and gives what it prints, read; HullError where it refuses."""
+    """The program. Each call gives what it prints, read; HullError where it refuses.
+
+    A case, a schedule, prices and a mixture are names of files, objects of this package, or dicts as the files have them.
+    """
 
     def __init__(self, program=None, tell=None):
         self.program = program or default_program()
@@ -65,8 +72,7 @@ class Hull:
         """What the program prints with status 0."""
         status, output = self.run(*words)
         if status:
-            line = one_line(output.decode("utf-8", "replace").strip())[:300]
-            raise HullError(f"hull {words[0]} ended with status {status}" + (f": {line}" if line else ""))
+            raise refusal(words, status, output)
         self.last_text = output
         return output
 
@@ -80,9 +86,19 @@ class Hull:
         if not self.has(command):
             raise HullError(f"{self.program} has no command `{command}`: a newer program is needed")
 
+    def version(self):
+        """What `hull version` says, in one line; a program without its launcher is told by its contents."""
+        status, output = self.run("version")
+        if status == 0 and output.startswith(b"hull "):
+            return one_line(", ".join(output.decode("utf-8", "replace").strip().split("\n"))).removeprefix("hull ")
+        place = shutil.which(self.program) or self.program
+        with open(place, "rb") as file:
+            return f"program of sha256 {hashlib.sha256(file.read()).hexdigest()}"
+
     def check(self, case, schedule):
         """The schedule's cost in millionths; HullError where it isn't feasible."""
-        output = self.text("check", "--case", case, "--schedule", schedule).decode()
+        with as_file(case) as case_name, as_file(schedule) as schedule_name:
+            output = self.text("check", "--case", case_name, "--schedule", schedule_name).decode()
         return int(output.split("\ncost ")[1].split("\n")[0])
 
     def refusal_of_case(self, case):
@@ -94,39 +110,41 @@ class Hull:
         return line or f"hull check ended with status {status}"
 
     def price(self, case, schedule, *more):
-        output = self.text("price", "--case", case, "--schedule", schedule, *more)
+        with as_file(case) as case_name, as_file(schedule) as schedule_name:
+            output = self.text("price", "--case", case_name, "--schedule", schedule_name, *more)
         return parse_output("hull price", output, ("hull-report 1",))
 
     def settle(self, case, schedule, prices):
         """The settlement at a prices file, or at `Prices`."""
         self.need("settle")
-        with as_file(prices) as name:
-            output = self.text("settle", "--case", case, "--schedule", schedule, "--prices", name)
+        with as_file(case) as case_name, as_file(schedule) as schedule_name, as_file(prices) as name:
+            output = self.text("settle", "--case", case_name, "--schedule", schedule_name, "--prices", name)
         return parse_output("hull settle", output, ("hull-settlement 1",))
 
     def certify(self, case, schedule, prices, mixture, *more):
-        """The certificate of prices and a mixture, each a file or the thing itself."""
+        """The certificate of prices and a mixture."""
         self.need("certify")
-        with as_file(prices) as names, as_file(mixture) as mixed:
-            output = self.text(
-                "certify", "--case", case, "--schedule", schedule, "--prices", names, "--mixture", mixed, *more
-            )
+        given = {"case": case, "schedule": schedule, "prices": prices, "mixture": mixture}
+        with contextlib.ExitStack() as files:
+            names = [(f"--{key}", files.enter_context(as_file(it))) for key, it in given.items()]
+            output = self.text("certify", *(word for pair in names for word in pair), *more)
         return parse_output("hull certify", output, ("hull-certificate 1",))
 
 
 class as_file:
-    """The name of a file that holds what is given, for as long as it is needed; a name stays itself."""
+    """The name of a file that holds what is given, an object or a dict, for as long as it is needed; a name stays itself."""
 
     def __init__(self, given):
         self.given, self.folder = given, None
 
     def __enter__(self):
-        if not hasattr(self.given, "text"):
+        is_dict = isinstance(self.given, dict)
+        if not is_dict and not hasattr(self.given, "text"):
             return os.fspath(self.given)
         self.folder = tempfile.TemporaryDirectory(prefix="hull-tools-")
         name = os.path.join(self.folder.name, "file.json")
         with open(name, "w", encoding="utf-8") as it:
-            it.write(self.given.text())
+            it.write(json.dumps(self.given) if is_dict else self.given.text())
         return name
 
     def __exit__(self, *_):

@@ -2,9 +2,11 @@
 from dataclasses import dataclass
 
 from .commitment import cost_blocks
-from .linear import INFINITY, Program
+from .errors import HullError
+from .linear import INFINITY, Program, was_cut_by_the_clock
 
 NEAR = (3, 30, 3000)  # how many kilowatts the whole numbers may be from the solver's: tried in this order
+NODES, SECONDS = 1000, 600.0  # after how many nodes what was found is taken, and after which time nothing is
 
 SLACK = 1e-3  # by how many kilowatts, in sum, a nearest solution may be farther than the nearest: what the solver doesn't tell apart
 
@@ -119,11 +121,18 @@ class Rounding:
             self.program.at_most([(reserve, 1), *rise], unit.ramp_up - above + was)
             self.spare[t].append((reserve, 1))
 
+    def solved(self):
+        """The solver's answer, which doesn't depend on the clock, or else is refused."""
+        found = self.program.solve(node_limit=NODES, time_limit=SECONDS, mip_rel_gap=1e-8)
+        if was_cut_by_the_clock(found):
+            raise HullError(f"no whole kilowatts were found in {SECONDS:g} s")
+        return found
+
     def hold_near(self):
         """Bars what isn't nearest to the wanted powers; a nearest solution, or None where none was found."""
         cost, near = self.program.cost, set(self.distances)
         self.program.cost = [float(it in near) for it in range(len(cost))]
-        found = self.program.solve(time_limit=30.0, mip_rel_gap=1e-8)
+        found = self.solved()
         self.program.cost = cost
         if found.x is not None:
             self.program.at_most([(it, 1) for it in near], found.fun + SLACK)
@@ -133,7 +142,7 @@ class Rounding:
         """The powers of thermal units, renewable units and bids, or None where none were found. `base` is what all costs by itself."""
         self.program.variable(1, 1, max(abs(base), 1.0))  # (so that a gap is a share of the whole cost)
         nearest = self.hold_near() if self.distances else None
-        solved = self.program.solve(time_limit=30.0, mip_rel_gap=1e-8).x
+        solved = self.solved().x
         solved = nearest if solved is None else solved
         if solved is None:
             return None

@@ -5,7 +5,7 @@ from dataclasses import dataclass
 from .cases import POWER
 from .json_texts import is_number, read_json
 from .numbers import is_whole
-from .errors import HullError, one_line
+from .errors import HullError, one_line, write_whole
 
 
 @dataclass
@@ -42,6 +42,9 @@ class Schedule:
 
     def text(self):
         return json.dumps(self.as_json(), ensure_ascii=False) + "\n"
+
+    def write(self, name, inputs=()):
+        write_whole(name, self.text(), inputs)
 
 
 def whole_numbers(value, periods, most, told):
@@ -80,9 +83,8 @@ def group_of(name, value, key, units, needed):
     return found
 
 
-def read_schedule(name, case):
-    """The schedule of a file for a case, as docs/FORMATS.md has it."""
-    value = read_json(name, "a schedule")
+def schedule_of(name, value, case):
+    """The schedule of a JSON value for a case."""
     if not isinstance(value, dict):
         raise HullError(f"{name}: no schedule: it isn't an object")
     plans = {}
@@ -100,3 +102,8 @@ def read_schedule(name, case):
             else:
                 plans[kind, it.name] = flat_plan(whole_numbers(found[it.name], case.periods, POWER, told))
     return Schedule(plans)
+
+
+def read_schedule(name, case):
+    """The schedule of a file for a case, as docs/FORMATS.md has it."""
+    return schedule_of(name, read_json(name, "a schedule"), case)

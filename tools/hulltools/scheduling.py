@@ -1,30 +1,50 @@
 """Feasible schedules in whole kilowatts: found by solving the unit commitment problem, or near one from elsewhere."""
 from dataclasses import dataclass, replace
+from typing import Optional
 
 from .cases import POWER
 from .commitment import Commitment
 from .external_schedules import Followed
 from .impossible import units_that_bar, why_flags
 from .lint_units import clash
+from .linear import was_cut_by_the_clock
 from .rounding import SLACK, reserves_of, whole_powers
 from .schedules import Plan, Schedule, flat_plan
+from .search_limits import SearchLimits
 from .errors import HullError, one_line
 
 SECONDS_A_RULE = 20.0  # how long the solver looks for a schedule without a rule
 
 
+def relative_gap(cost: float, bound: float) -> float:
+    """By what share of the cost it is above the bound."""
+    return max(0.0, cost - bound) / max(abs(cost), 1e-9)
+
+
 @dataclass
 class Made:
-    """A schedule, and the solver's own cost and bound of it, in the currency; None where no search was made."""
+    """A schedule, and of a search the solver's own cost and bound, in the currency, its nodes, and the gap that was to be reached."""
 
     schedule: Schedule
-    cost: float = None
-    bound: float = None
+    cost: Optional[float] = None
+    bound: Optional[float] = None
+    nodes: int = 0
+    wanted_gap: float = 0.0
 
     @property
-    def gap(self):
-        """By what share of its cost the solver's choice is above its bound."""
-        return max(0.0, self.cost - self.bound) / max(abs(self.cost), 1e-9)
+    def gap(self) -> float:
+        return 0.0 if self.cost is None or self.bound is None else relative_gap(self.cost, self.bound)
+
+    @property
+    def is_near(self) -> bool:
+        """Whether the gap is reached."""
+        return self.gap <= self.wanted_gap
+
+    def told(self) -> str:
+        """What the search reached."""
+        near = "within" if self.is_near else f"the gap of {self.wanted_gap * 100:g} % is missed:"
+        nodes = f"{self.nodes} node{'s' * (self.nodes != 1)}"
+        return f"{near} {self.gap * 100:.4f} % of the solver's bound, {self.bound:,.2f}, after {nodes}"
 
 
 def refuse_contradictions(case):
@@ -131,20 +151,35 @@ def dispatch(case, model, flags):
     return schedule_of(case, flags, lists, reserves_of(case, flags, lists[0]))
 
 
-def make_schedule(case, gap, seconds, tell):
-    """A schedule of a cost near the least that the solver finds in the time."""
+def searched(model: Commitment, limits: SearchLimits):
+    """The solver's answer, which depends on the program and the solver's version alone, or else is refused."""
+    found = model.program.solve(time_limit=float(limits.seconds), mip_rel_gap=limits.gap, node_limit=limits.nodes)
+    if found.status == 2:
+        raise HullError(f"the solver finds that the case can't be met{rules_that_bar(model.case)}")
+    if was_cut_by_the_clock(found):
+        reached = "no schedule was found"
+        if found.x is not None:
+            reached = f"the gap is {relative_gap(found.fun, found.mip_dual_bound) * 100:.4f} %"
+        raise HullError(
+            f"the outer limit of {limits.seconds:g} s is over: {reached}, and {limits.gap * 100:g} % are to be reached. "
+            "A schedule that the clock chose isn't taken: give --seconds or --gap more"
+        )
+    if found.x is None:
+        raise HullError(f"no schedule was found with {limits.nodes} nodes: give --nodes more")
+    return found
+
+
+def make_schedule(case, limits: SearchLimits) -> Made:
+    """A schedule whose cost is near the least: the same one wherever the solver is of the same version."""
     refuse_contradictions(case)
     if why_not(case):
         raise HullError(f"the case can't be met{why_not(case)}")
     model = Commitment(case)
-    found = model.program.solve(time_limit=float(seconds), mip_rel_gap=gap)
-    if found.status == 2:
-        raise HullError(f"the solver finds that the case can't be met{rules_that_bar(case)}")
-    if found.x is None:
-        raise HullError(f"no schedule was found in {seconds:g} s: give --seconds more")
+    found = searched(model, limits)
     # (with no whole variable there is no bound beside the optimum)
     bound = found.fun if found.mip_dual_bound is None else found.mip_dual_bound
-    return Made(dispatch(case, model, model.flags(found.x)), found.fun, bound)
+    schedule = dispatch(case, model, model.flags(found.x))
+    return Made(schedule, found.fun, bound, int(found.mip_node_count or 0), limits.gap)
 
 
 def wanted_powers(case, followed: Followed):

@@ -1,125 +1,350 @@
 """One HTML page of a study, which needs nothing else."""
+import base64
 import html
+from typing import Dict, Iterable, List, Tuple
 
+from .cash_flows import KINDS, total, uplift_by_period
 from .charts import steps_chart
 from .numbers import money
-from .pages import SORT, document, head_row, number_cell, shown
-from .study import LISTS
+from .pages import DRAWING, MOST_NUMBERS, SORT, document, head_row, number_cell, shown
+from .settlement_rules import RULES, bill, forced_losses, paid, paid_by_kind
+from .studies import Settled, Study
+from .study_style import COLOURS, STYLE, UNIT_LISTS
 
-COLOURS = {
-    "marginal": "var(--soft)",
-    "relaxed": "var(--violet)",
-    "default": "var(--orange)",
-    "patient": "var(--green)",
-    "convex": "var(--blue)",
-}
-STYLE = "".join(
-    f"polyline.{name} {{ stroke: {colour}; }} i.{name} {{ border-color: {colour}; }}"
-    for name, colour in COLOURS.items()
-) + (
-    " polyline { stroke-width: 1.6; } .stack { position: relative; display: flex; height: 1.1rem; background: color-mix(in srgb, var(--grid) 45%, transparent); }"
-    " .stack b { height: 100%; background: var(--blue); } .stack b.loss { background: var(--orange); } .stack b.surplus, i.box.surplus { background: var(--green); }"
-    " .stack u { position: absolute; top: -.25rem; bottom: -.25rem; border-left: 3px solid var(--red); }"
-    " .list { display: grid; grid-template: 'name bar sum' / minmax(7rem, 16rem) 1fr 7rem; gap: .1rem .8rem; align-items: center; margin: .6rem 0; font-size: .9rem; overflow-wrap: normal; }"
-    " .list span { grid-area: name; } .list .stack { grid-area: bar; } .list span.sum { grid-area: sum; text-align: right; font-variant-numeric: tabular-nums; }"
-    " @media (max-width: 40rem) { .list { grid-template: 'name sum' 'bar bar' / 1fr auto; } }"
-    " .key { display: inline-block; margin-right: .8rem; } i.least { border: 0; border-left: 3px solid var(--red); width: 0; height: .9rem; margin-bottom: 0; }"
+KIND_COLOURS = {"thermal": "blue", "renewable": "green", "bid": "violet"}
+KIND_NAMES = {"thermal": "thermal", "renewable": "renewable", "bid": "buyer"}
+UNIT_KEYS = (
+    '<i class="energy"></i>best response',
+    '<i class="reserve"></i>its reserve',
+    '<i class="energy first"></i>schedule',
+    '<i class="reserve first"></i>its reserve',
 )
+Row = Tuple[str, List[Tuple[str, int]], str]
 
 
-def sentence(study):
-    """The certificate in one sentence."""
-    it = study.certificate
-    return (
-        f"For this schedule no whole prices within the limits need less than {money(it.least)} of payments and surplus; the convex hull "
-        f"prices need {money(it.gap)}, so none are better than these by more than {money(it.distance)}: hull certify works that out "
-        "exactly from the mixture."
-    )
-
-
-def keys_of(keys):
+def keys_of(keys: Iterable[str]) -> str:
     """Keys of a picture, none of them parted from its mark by the end of a line."""
     return " ".join(f'<span class="key">{it}</span>' for it in keys)
 
 
-def price_part(study, key, title):
-    rows = [(name, [at / 1e3 for at in getattr(it.best, key)]) for name, it in study.settlements.items()]
-    periods = next(iter(study.settlements.values())).periods
-    keys = keys_of(f'<i class="{name}"></i>{html.escape(LISTS[name])}' for name, _ in rows)
-    return f"<h2>{title}</h2><p>{keys}</p>{steps_chart(title, rows, periods)}"
-
-
-def uplift_part(study):
-    """Payments and surplus of each list as stacked bars, with the certified least."""
-    most = max([1, *(it.gap for it in study.settlements.values())])
-    width = lambda number: f"{max(0, number) / most * 100:.3f}%"
-    rows = []
-    for name, it in study.settlements.items():
-        parts = (("loss", it.make_whole), ("lost", it.payments - it.make_whole), ("surplus", it.surplus))
-        bars = "".join(
-            f'<b class="{style}" style="width:{width(number)}"></b>' for style, number in parts if number > 0
+def bars(rows: List[Row], keys: List[Tuple[str, str]]) -> str:
+    """Stacked bars: each row has a name, its parts as (colour, number), and what stands at its end."""
+    most = max([1, *(sum(number for _, number in parts) for _, parts, _ in rows)])
+    told = [f'<i class="box {colour}"></i>{name}' for colour, name in keys]
+    found = [f"<p>{keys_of(told)}</p>"]
+    for name, parts, end in rows:
+        blocks = "".join(
+            f'<b class="{colour}" style="width:{number / most * 100:.3f}%"></b>'
+            for colour, number in parts
+            if number > 0
         )
-        least = f'<u style="left:{width(study.certificate.least)}"></u>'
-        told = f'<span>{html.escape(LISTS[name])}</span><div class="stack">{bars}{least}</div>'
-        rows.append(f'<div class="list">{told}<span class="sum">{money(it.gap)}</span></div>')
-    keys = ['<i class="box loss"></i>make-whole', '<i class="box"></i>lost opportunity']
-    keys += ['<i class="box surplus"></i>surplus reserve\'s value', '<i class="least"></i>certified least']
-    return f'<h2>Payments and surplus</h2><p>{keys_of(keys)}</p>{"".join(rows)}'
+        found.append(
+            f'<div class="list"><span>{html.escape(name)}</span><div class="stack">{blocks}</div><span class="sum">{end}</span></div>'
+        )
+    return "".join(found)
 
 
-COST_HEADS = (
-    "*Prices",
-    "Cost",
-    "Dual value",
-    "Make-whole",
-    "Lost opportunity",
-    "Surplus",
-    "Above the least",
-    "Seconds",
-)
-
-
-def cost_part(study):
-    """The cost of the schedule parted for each list: value, payments and surplus sum to it."""
-    rows = []
-    for name, it in study.settlements.items():
-        sums = (it.cost, it.best.value, it.make_whole, it.payments - it.make_whole, it.surplus, study.above_least(name))
-        cells = "".join(number_cell(number, money(number)) for number in sums)
-        cells += number_cell(int(study.seconds[name] * 1e3), f"{study.seconds[name]:.1f}")
-        rows.append(f'<tr><td class="text">{name.capitalize()}</td>{cells}</tr>')
+def table(heads: Iterable[str], rows: Iterable[str]) -> str:
+    """A table that sorts; the column of names stays in sight where the table is wider than the page."""
+    head = head_row(heads).replace("class=text", 'class="text name"', 1)
     return (
-        "<h2>The schedule's cost, parted</h2><p>Cost is dual value, payments (make-whole and lost opportunity) and surplus together. "
-        "Seconds are those of making and settling the prices, on the machine that made this page.</p>"
-        f'<div class="wide"><table><thead><tr>{head_row(COST_HEADS)}</tr></thead><tbody>{"".join(rows)}</tbody></table></div>'
+        f'<div class="wide"><table><thead><tr>{head}</tr></thead><tbody>\n{chr(10).join(rows)}\n</tbody></table></div>'
     )
 
 
-def unit_part(study):
-    """Payments of each unit under each list."""
-    lists = list(study.settlements.values())
-    order = sorted(range(len(lists[0].units)), key=lambda i: -max(it.units[i].payment for it in lists))
+def row_of(name: str, numbers: Iterable[int], more: str = "", attributes: str = "") -> str:
+    cells = "".join(number_cell(number, money(number)) for number in numbers)
+    return f'<tr{attributes}><td class="text name">{name}</td>{more}{cells}</tr>'
+
+
+def headline(study: Study) -> str:
+    """The gap's parts at convex hull prices, and what the certificate says."""
+    parts, it = study.parts("convex_hull"), study.certificate
+    return (
+        f'<p class="said">{html.escape(parts.sentence("At convex hull prices"))}</p>'
+        f"<p>hull certify proves that no prices have a dual value above {money(it.bound)}. The convex hull prices come within {money(it.distance)} of it.</p>"
+    )
+
+
+def notes_of(study: Study) -> str:
+    found = list(study.notes)
+    parts = study.parts("convex_hull")
+    if parts.schedule:
+        found.insert(
+            0,
+            f"A schedule is known that costs {money(parts.schedule)} less than this one. Each payment below is for this schedule.",
+        )
+    for it in (study.provenance.schedule, study.provenance.best_schedule):
+        if it and not it.is_near:
+            found.insert(0, f"A search for a schedule missed its gap: {it.made}.")
+    return "".join(f'<p class="note">{html.escape(it)}</p>' for it in found)
+
+
+def gap_part(study: Study) -> str:
+    """What of the gap each list has at the best schedule known, and the three parts as a table."""
+    known, rows, lines = study.best_cost is not None, [], []
+    for it in study.in_order():
+        parts = study.parts(it.list.key)
+        left = [("blue", parts.duality), ("orange", parts.prices)]
+        rows.append((it.list.name, left, money(parts.without_schedule)))
+        sums = [*([parts.schedule or 0] if known else []), parts.duality, parts.prices, parts.gap]
+        lines.append(row_of(html.escape(it.list.name), sums))
+    rest = "duality gap" if known else "schedule and duality gap"
+    keys = [("blue", rest), ("orange", "prices, at most")]
+    heads = ["*Prices", *(["Schedule"] if known else []), rest.capitalize(), "Prices, at most", "Gap"]
+    title = "Gap at the best schedule known" if known else "Gap by price list"
+    return (
+        f"<h2>{title}</h2><p>The gap is the schedule's cost less the dual value: uplift in full, payments and surplus reserve. A better schedule saves the "
+        "first part, no prices save the second, and better prices save the third.</p>"
+        f"{bars(rows, keys)}{table(heads, lines)}"
+    )
+
+
+def rule_part(study: Study, rule: str) -> str:
+    """What units and buyers are paid under a rule, with subtotals by kind."""
+    has = [kind for kind in KINDS if any(kind == it for it, _ in study.case.units)]
+    rows, lines = [], []
+    for it in study.paid():
+        sums = paid_by_kind(it.units, rule)
+        whole = sum(sums.values())
+        rows.append((it.list.name, [(KIND_COLOURS[kind], sums[kind]) for kind in has], money(whole)))
+        lines.append(row_of(html.escape(it.list.name), [whole, *(sums[kind] for kind in has)]))
+    keys = [(KIND_COLOURS[kind], KINDS[kind].lower()) for kind in has]
+    heads = ["*Prices", "All", *(KINDS[kind] for kind in has)]
+    return f"<h2>Payments: {RULES[rule]}</h2>{of_the_schedule(study, rule)}{bars(rows, keys)}{table(heads, lines)}"
+
+
+def of_the_schedule(study: Study, rule: str) -> str:
+    """How much of the payments in full comes from a dear schedule."""
+    part = study.parts("convex_hull").schedule
+    if rule != "full" or not part:
+        return ""
+    return f"<p>Of payments and surplus reserve under each list {money(part)} is the schedule's part.</p>"
+
+
+def consumers_part(study: Study) -> str:
+    """What consumers pay in all under each rule and list."""
+    heads = ["*Prices", "Consumers pay", "Energy", "Reserve", "Payments", "Surplus reserve", "Left over"]
+    found = []
+    for rule in study.wanted.rules:
+        rows = []
+        for it in study.in_order():
+            due = bill(study.case, it.settlement, it.flows, rule)
+            numbers = (due.total, due.energy, due.reserve, due.payments, due.surplus, due.left)
+            rows.append(row_of(html.escape(it.list.name), numbers))
+        found.append(f"<h3>{RULES[rule].capitalize()}</h3>{table(heads, rows)}")
+    return (
+        "<h2>What consumers pay</h2><p>Demand at the energy prices, required reserve at the reserve prices, and uplift: payments to units and buyers, "
+        "and the worth of surplus reserve. Buyers with bids pay for their own energy.</p>" + "".join(found)
+    )
+
+
+def forced_part(study: Study) -> str:
+    """Losses that a unit's own rules force, which are no part of a payment."""
+    lists = study.paid()
+    forced: Dict[str, List[int]] = {}
+    reasons: Dict[str, str] = {}
+    for place, it in enumerate(lists):
+        for loss in forced_losses(study.case, it.units):
+            reasons[loss.name] = loss.reason
+            forced.setdefault(loss.name, [0] * len(lists))[place] = loss.forced
+    if not forced:
+        return ""
+    rows = [row_of(shown(name), sums, f'<td class="text">{reasons[name]}</td>') for name, sums in forced.items()]
+    heads = ("*Name", "*Forced by", *(html.escape(it.list.name) for it in lists))
+    return (
+        "<h2>Forced losses</h2><p>These units lose at the prices whatever they do within their rules. No payment above covers the forced loss. Many markets make a "
+        "unit whole for it where a reliability commitment is the reason, and not where it schedules itself.</p>"
+        + table(heads, rows)
+    )
+
+
+def style_of(place: int) -> str:
+    return f"l{place % len(COLOURS)}" + " dashed" * (place >= len(COLOURS))
+
+
+def price_chart(study: Study, title: str, series: List[Tuple[str, List[int]]], places: List[int]) -> str:
+    """A chart of price lists by period; `places` say which colour each has."""
+    clock, periods = study.clock, study.case.periods
+    rows = [
+        (style_of(place), [float(clock.price(number)) for number in numbers])
+        for place, (_, numbers) in zip(places, series)
+    ]
+    keys = keys_of(f'<i class="{style}"></i>{html.escape(name)}' for (style, _), (name, _) in zip(rows, series))
+    told = f"{title}, {study.wanted.currency or 'currency'} {clock.price_unit}"
+    return f"<h2>{html.escape(told)}</h2><p>{keys}</p>{steps_chart(told, rows, periods, clock.axis, clock.labels(periods))}"
+
+
+def price_parts(study: Study) -> str:
+    """Energy and reserve prices of all lists, and what the energy prices are above LMP."""
+    lists = study.in_order()
+    every = list(range(len(lists)))
+    found = [price_chart(study, "Energy prices", [(it.list.name, it.settlement.best.energy) for it in lists], every)]
+    lmp = study.lists["lmp"].settlement.best.energy
+    others = [place for place in every if lists[place].list.key != "lmp"]
+    above = [(lists[i].list.name, [a - b for a, b in zip(lists[i].settlement.best.energy, lmp)]) for i in others]
+    found.append(price_chart(study, "Energy prices less LMP", above, others))
+    if any(any(it.settlement.best.reserve) for it in lists):
+        found.append(
+            price_chart(study, "Reserve prices", [(it.list.name, it.settlement.best.reserve) for it in lists], every)
+        )
+    return "".join(found)
+
+
+def folded(name: str, body: str, is_open: bool = False) -> str:
+    return f"<details{' open' * is_open}><summary>{html.escape(name)}</summary>{body}</details>"
+
+
+def hours_of(study: Study, it: Settled) -> str:
+    """The table of one list by period."""
+    case, row, clock = study.case, it.settlement.best, study.clock
+    uplift = uplift_by_period(case, study.schedule, it.settlement, it.flows)
+    powers = lambda *numbers: "".join(number_cell(number, f"{number / 1000:,.3f}") for number in numbers)
+    rows = []
+    for t, name in enumerate(clock.rows(case.periods)):
+        prices = "".join(number_cell(price, clock.price_text(price)) for price in (row.energy[t], row.reserve[t]))
+        more = prices + powers(case.demand[t], row.supplied[t], case.reserves[t])
+        rows.append(
+            f'<tr><td class="name" data-is="{t}">{name}</td>{more}{number_cell(uplift[t], money(uplift[t]))}</tr>'
+        )
+    heads = ("Period", "Energy price", "Reserve price", "Demand, MW", "Response, MW", "Required reserve, MW", "Uplift")
+    return table(heads, rows)
+
+
+def hours_part(study: Study) -> str:
+    parts = [folded(it.list.name, hours_of(study, it)) for it in study.in_order()]
+    return (
+        f"<h2>By period</h2><p>Prices are {study.clock.price_unit}. Response is what units would supply at the prices if each did its best, less what buyers would take. Uplift of a "
+        "period is the profit of the responses less that of the schedule, and surplus reserve's worth; the sum over the periods is the gap.</p>"
+        + "".join(parts)
+    )
+
+
+def units_part(study: Study) -> str:
+    """What each unit is paid under each rule and list, with a picture of the unit that is clicked."""
+    lists, rules = study.paid(), study.wanted.rules
+    units = lists[0].units
+    order = sorted(range(len(units)), key=lambda i: -max(it.units[i].payment for it in lists))
     rows = []
     for i in order:
-        unit = lists[0].units[i]
-        cells = "".join(number_cell(it.units[i].payment, money(it.units[i].payment)) for it in lists)
-        rows.append(f'<tr><td class="text">{unit.kind}</td><td class="text">{shown(unit.name)}</td>{cells}</tr>')
-    heads = ("*Kind", "*Name", *(name.capitalize() for name in study.settlements))
+        numbers = [paid(it.units[i], rule) for it in lists for rule in rules]
+        kind = f'<td class="text">{KIND_NAMES[units[i].kind]}</td>'
+        cells = "".join(number_cell(number, money(number)) for number in numbers)
+        rows.append(
+            f'<tr data-unit="{i}" tabindex="0">{kind}<td class="text name">{shown(units[i].name)}</td>{cells}</tr>'
+        )
+    names = [f"{html.escape(it.list.name)}<br>{rule}" for it in lists for rule in rules]
+    head = head_row(["*Kind", "*Name", *names]).replace(
+        'class=text><button type="button">Name', 'class="text name"><button type="button">Name'
+    )
+    options = "".join(f'<option value="{it.list.key}">{html.escape(it.list.name)}</option>' for it in lists)
     return (
-        "<h2>Payments by unit</h2><p>What each is owed for following the schedule; a click on a head sorts by it.</p>"
-        f'<div class="wide"><table><thead><tr>{head_row(heads)}</tr></thead><tbody>\n{chr(10).join(rows)}\n</tbody></table></div>'
+        "<h2>Payments by unit</h2><p>What each unit and buyer is paid beside energy and reserve. A click on a head sorts, a click on a row shows that unit's best response "
+        f'at the prices of <select id="chosen" aria-label="Prices">{options}</select></p>'
+        f'<p>{keys_of(UNIT_KEYS)}</p><div id="unit"></div>'
+        f'<div class="wide"><table><thead><tr>{head}</tr></thead><tbody>\n{chr(10).join(rows)}\n</tbody></table></div>'
     )
 
 
-def study_page(study):
-    title = "Five price lists, one schedule"
-    first = next(iter(study.settlements.values()))
-    reserves = any(any(it.best.reserve) for it in study.settlements.values())
-    body = f"""<style>{STYLE}</style><h1>{title}</h1>
-<p>{shown(study.case_name)}: {len(first.units)} units over {first.periods} periods, a schedule of cost {money(first.cost)}. Money is in the case's currency, prices are per MW and period: per MWh where a period is an hour. Each list is settled by hull settle.</p>
-<p class="said">{html.escape(sentence(study))}</p>
-{uplift_part(study)}
-{price_part(study, "energy", "Energy prices by period")}
-{price_part(study, "reserve", "Reserve prices by period") if reserves else ""}
-{cost_part(study)}
-{unit_part(study)}"""
-    return document(title, body, [SORT])
+def revenue_part(study: Study) -> str:
+    """Revenue and cost of each unit in the schedule, a table for each list."""
+    heads = (
+        "*Name",
+        "*Kind",
+        "Energy revenue",
+        "Reserve revenue",
+        "Production cost",
+        "Start cost",
+        "Profit",
+        "Best profit",
+        "Make-whole",
+        "Lost opportunity",
+        "Payment",
+    )
+    found = []
+    for it in study.paid():
+        rows = []
+        for unit in it.flows:
+            flow, owed = total(unit.scheduled), unit.owed
+            sums = (
+                flow.energy,
+                flow.reserve,
+                flow.production,
+                flow.start,
+                flow.profit,
+                owed.earned,
+                owed.make_whole,
+                owed.lost_opportunity,
+                owed.payment,
+            )
+            rows.append(row_of(shown(owed.name), sums, f'<td class="text">{KIND_NAMES[owed.kind]}</td>'))
+        found.append(folded(it.list.name, table(heads, rows)))
+    return (
+        "<h2>Revenue and cost by unit</h2><p>Profit is revenue less cost in the schedule; best profit is that of the best response. A buyer's revenue is what it pays, below 0, "
+        "and its cost is the worth of what it takes, below 0.</p>" + "".join(found)
+    )
+
+
+def unit_lists(study: Study) -> Dict[int, dict]:
+    """For each unit by its place the schedule and the responses, as far as the page holds them."""
+    lists, found, room = study.paid(), {}, MOST_NUMBERS
+    for i, (kind, unit) in enumerate(study.case.units):
+        plan, is_thermal = study.schedule.plan(kind, unit.name), kind == "thermal"
+        schedule = {"scheduled": plan.power, **({"scheduledReserve": plan.reserve} if is_thermal else {})}
+        responses = {}
+        for it in lists:
+            owed = it.units[i]
+            responses[it.list.key] = {"power": owed.power, **({"reserve": owed.reserve} if is_thermal else {})}
+        room -= (1 + len(lists)) * len(schedule) * study.case.periods
+        if room < 0:
+            break
+        found[i] = {"schedule": schedule, "responses": responses}
+    return found
+
+
+def files_part(files: Dict[str, str]) -> str:
+    """Links that hold the files themselves."""
+    links = []
+    for name, text in files.items():
+        form = "text/csv" if name.endswith(".csv") else "application/json" if name.endswith(".json") else "text/plain"
+        data = base64.b64encode(text.encode()).decode()
+        links.append(f'<a download="{html.escape(name)}" href="data:{form};base64,{data}">{html.escape(name)}</a>')
+    return f'<h2>Files</h2><p class="files">{"".join(links)}</p>'
+
+
+def origin_part(study: Study) -> str:
+    rows = "".join(
+        f"<dt>{html.escape(name)}</dt><dd>{html.escape(text)}</dd>" for name, text in study.provenance.lines()
+    )
+    return f'<h2>How this page was made</h2><dl class="origin">{rows}</dl>'
+
+
+def study_page(study: Study, files: Dict[str, str]) -> str:
+    """The page; `files` are texts that it offers for download, by name."""
+    title = study.wanted.title or "Price lists, one schedule"
+    money_told = (
+        f"Money is in {html.escape(study.wanted.currency)}."
+        if study.wanted.currency
+        else "Money is in the case's currency."
+    )
+    parts = [
+        gap_part(study),
+        *(rule_part(study, rule) for rule in study.wanted.rules),
+        consumers_part(study),
+        forced_part(study),
+    ]
+    parts += [
+        price_parts(study),
+        units_part(study),
+        hours_part(study),
+        revenue_part(study),
+        files_part(files),
+        origin_part(study),
+    ]
+    about = "".join(f"<dt>{html.escape(it.list.name)}</dt><dd>{html.escape(it.list.about)}</dd>" for it in study.paid())
+    body = f"""<style>{STYLE}</style><h1>{html.escape(title)}</h1>
+<p>{shown(study.provenance.case_name)}: {len(study.case.units)} units and buyers over {study.case.periods} period{"s" * (study.case.periods > 1)}, a schedule of cost {money(study.cost)}. {money_told}
+Prices are {study.clock.price_unit}. Each settlement is by hull settle, the bound on the dual value by hull certify.</p>
+{headline(study)}{notes_of(study)}{chr(10).join(parts)}
+<h2>The lists</h2><dl class="origin">{about}</dl>"""
+    return document(title, body, [SORT, DRAWING, UNIT_LISTS], {"lists": unit_lists(study)})

@@ -19,13 +19,17 @@ FORMULA = tuple("=+-@\t\r'")  # what a spreadsheet may take a cell for, and the 
 
 
 class Table:
-    """A table that is filled row by row. `heads` are names, with the unit behind a colon where there is one."""
+    """A table that is filled row by row. `heads` are names, with the unit behind a colon where there is one.
 
-    def __init__(self, heads, currency):
+    `money_name` stands in the heads for the currency.
+    """
+
+    def __init__(self, heads, currency, money_name="currency"):
         self.units = [it.partition(":")[2] for it in heads]
         place = 2 if currency else 1
         named = (it.partition(":") for it in heads)
-        self.heads = [f"{name}_{UNITS[unit][place]}" if unit else name for name, _, unit in named]
+        told = {unit: names[place].replace("currency", money_name) for unit, names in UNITS.items()}
+        self.heads = [f"{name}_{told[unit]}" if unit else name for name, _, unit in named]
         self.currency, self.rows = currency, []
 
     def add(self, *cells):
@@ -125,14 +129,18 @@ def add_fixed(tables, it, case, schedule):
             tables["units"].add(it.name, name, kind, unit, None, None, payment, None, None)
 
 
-def frames_of(tables):
-    """The tables as data frames of pandas; numbers in the currency and MW are floating there."""
+def frames_of(tables, start=None, hours_per_period=1):
+    """The tables as data frames of pandas; numbers in the currency and MW are floating there. With a start, rows of periods are indexed by time."""
     try:
         import pandas
     except ImportError:
         raise HullError("data frames need pandas (Debian: python3-pandas)") from None
-    cell = lambda it: float(it) if isinstance(it, Decimal) else it
-    return {
-        name: pandas.DataFrame([[cell(one) for one in row] for row in it.rows], columns=it.heads)
-        for name, it in tables.items()
-    }
+    found = {}
+    for name, table in tables.items():
+        rows = [[float(it) if isinstance(it, Decimal) else it for it in row] for row in table.rows]
+        frame = pandas.DataFrame(rows, columns=table.heads)
+        if start is not None and "period" in frame:
+            length = pandas.Timedelta(hours=float(hours_per_period))
+            frame.index = pandas.DatetimeIndex(pandas.Timestamp(start) + (frame["period"] - 1) * length, name="time")
+        found[name] = frame
+    return found

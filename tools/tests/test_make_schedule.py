@@ -93,8 +93,25 @@ class MakeSchedule(unittest.TestCase):
             self.assertTrue(it.read().startswith('{"time_periods"'))
 
     def test_numbers_that_are_none_are_refused(self):
-        for words in (["--gap", "nan"], ["--gap", "-1"], ["--seconds", "nan"], ["--seconds", "-1"]):
+        for words in (["--gap", "nan"], ["--gap", "-1"], ["--seconds", "nan"], ["--seconds", "-1"], ["--nodes", "0"]):
             self.assertEqual(self.make(f"{EXAMPLES}/evening/case.json", *words)[0], 2)
+
+    def test_the_clock_chooses_no_schedule(self):
+        status, _, said = self.make(f"{EXAMPLES}/evening/case.json", "--seconds", "0")
+        self.assertEqual((status, os.listdir(self.room)), (1, []))
+        self.assertIn("the outer limit of 0 s is over: no schedule was found, and 0.05 % are to be reached", said)
+
+    def test_the_same_schedule_is_made_twice(self):
+        texts = []
+        for _ in range(2):
+            status, _, said = self.make(f"{EXAMPLES}/windows/case.json")
+            self.assertEqual(status, 0, said)
+            self.assertRegex(
+                said, r"cost [0-9,.]+; within 0\.0[0-4][0-9]* % of the solver's bound, [0-9,.]+, after \d+ node"
+            )
+            with open(f"{self.room}/schedule.json", "rb") as file:
+                texts.append(file.read())
+        self.assertEqual(*texts)
 
     def test_a_schedule_in_megawatts_is_followed(self):
         case, followed = f"{EXAMPLES}/evening/case.json", f"{self.room}/followed"
@@ -199,7 +216,15 @@ class WithoutSciPy(unittest.TestCase):
         self.assertTrue(said.startswith("make_schedule.py: this needs SciPy"), said)
 
     def test_each_tool_tells_its_words_all_the_same(self):
-        for tool in ("make_schedule.py", "convex_prices.py", "lmp.py", "study.py"):
+        for tool in (
+            "make_schedule.py",
+            "convex_prices.py",
+            "lmp.py",
+            "elmp.py",
+            "study.py",
+            "sweep.py",
+            "settle_zones.py",
+        ):
             status, text, said = run(tool, "--help", flags=("-S", "-E"))
             self.assertEqual((status, said), (0, ""))
             self.assertTrue(text.startswith(f"usage: {tool} CASE"), text)

@@ -1,13 +1,18 @@
 """What of the package needs SciPy; test_package.py runs these in a Python that has it. Cases are those of examples/."""
+import base64
 import csv
+import hashlib
+import html
 import json
 import os
 import random
+import re
 import signal
 import subprocess
 import sys
 import tempfile
 import unittest
+from unittest import mock
 from decimal import Decimal
 
 from tool import EXAMPLES, PROGRAM, ROOT, run
@@ -69,6 +74,23 @@ class Rounding(unittest.TestCase):
         self.assertLessEqual(of(made), of(given))
 
 
+class MissedGap(unittest.TestCase):
+    def test_a_schedule_that_misses_the_gap_is_told_by_status_and_line(self):
+        """A schedule of cost 8,900.00, worked by hand, with a bound of 8,811.00 that the solver is made to have: 1 % below."""
+        from hulltools.scheduling import Made
+
+        case, schedule = files("evening")
+        made = Made(hulltools.read_schedule(schedule, hulltools.read_case(case)), 8900.0, 8811.0, 1000, 0.0005)
+        with tempfile.TemporaryDirectory() as room, mock.patch(
+            "hulltools.commands.make_schedule.make_schedule", return_value=made
+        ):
+            status, _, said = run("make_schedule.py", case, f"{room}/schedule.json", "--hull", PROGRAM)
+            self.assertEqual(status, 3, said)
+            hulltools.check(case, f"{room}/schedule.json", PROGRAM)
+        due = "cost 8,900.00; the gap of 0.05 % is missed: 1.0000 % of the solver's bound, 8,811.00, after 1000 nodes"
+        self.assertIn(due, said)
+
+
 class Settled(unittest.TestCase):
     """What is settled and certified by the program."""
 
@@ -87,6 +109,36 @@ class Settled(unittest.TestCase):
         with open(f"{self.room}/prices.json", encoding="utf-8") as it:
             self.assertEqual(json.load(it), {"energy": [0], "reserve": [0]})
         self.assertEqual(self.settle("usual", f"{self.room}/prices.json").payments, 850_000_000)
+
+    def test_marginal_prices_are_what_more_or_less_demand_costs(self):
+        """By a linear program of the tests' own, which shares nothing with the package."""
+        from plain_dispatch import brackets
+
+        for example in ("evening", "windows"):
+            status, _, said = run("lmp.py", *files(example), f"{self.room}/prices.json", "--hull", PROGRAM)
+            self.assertEqual((status, said), (0, ""))
+            with open(f"{self.room}/prices.json", encoding="utf-8") as it:
+                prices = json.load(it)
+            for key, rows in brackets(*files(example)).items():
+                for t, (price, (saved, cost)) in enumerate(zip(prices[key], rows), 1):
+                    # (a requirement of 0 can't be less)
+                    low = min(saved, 0) if key == "reserve" else saved
+                    self.assertTrue(low - 0.01 <= price <= cost + 0.01, (example, key, t, saved, price, cost))
+
+    def test_extended_lmps_spread_the_start_of_a_fast_unit(self):
+        """Examples/dear_schedule: PEAKER's 50.00 and 200.00 for a start over 40 MW (worked by hand there)."""
+        words = [*files("dear_schedule"), f"{self.room}/prices.json", "--hull", PROGRAM]
+        status, _, said = run("elmp.py", *words)
+        self.assertEqual((status, said), (0, "elmp.py: fast-start: COAL, PEAKER, NUCLEAR\n"))
+        with open(f"{self.room}/prices.json", encoding="utf-8") as it:
+            self.assertEqual(json.load(it), {"energy": [55], "reserve": [0]})
+        status, _, said = run("elmp.py", *words, "--fast-start", "PEAKER,BLOCK")
+        self.assertEqual((status, said), (0, "elmp.py: fast-start: BLOCK, PEAKER\n"))
+        status, _, said = run(
+            "elmp.py", *files("usual"), f"{self.room}/other.json", "--fast-start-cost", "0", "--hull", PROGRAM
+        )
+        self.assertEqual(status, 1)
+        self.assertIn("no unit is fast-start by the rule given", said)
 
     def test_convex_hull_prices_of_the_usual_unit(self):
         """Of all prices 100.50 for energy and 0.50 for reserve have the greatest dual value, 704.50 (worked by hand)."""
@@ -119,6 +171,30 @@ class Settled(unittest.TestCase):
                 ]
                 self.assertLessEqual(self.settle(example, prices_near(*near)).best.value, bound)
 
+    def test_the_last_line_has_the_gap_in_its_parts(self):
+        """Of examples/dear_schedule, whose README works the parts by hand."""
+        folder = f"{EXAMPLES}/dear_schedule"
+        words = [*files("dear_schedule"), f"{self.room}/prices.json", f"{self.room}/mixture.json", "--hull", PROGRAM]
+        for more, due in (
+            (
+                (),
+                "no prices save 650.00, the schedule's part and the duality gap together, and at most 0.00 is the prices'",
+            ),
+            (
+                ("--best-schedule", f"{folder}/best.schedule.json"),
+                "400.00 is the schedule's part, 250.00 is the duality gap",
+            ),
+        ):
+            status, _, said = run("convex_prices.py", *words, *more)
+            self.assertEqual(status, 0, said)
+            self.assertIn(f"at these prices the gap is 650.00: {due}", said.splitlines()[-1])
+
+    def test_rounds_end_the_search(self):
+        words = [*files("windows"), f"{self.room}/prices.json", f"{self.room}/mixture.json", "--hull", PROGRAM]
+        status, _, said = run("convex_prices.py", *words, "--within", "0", "--rounds", "2")
+        self.assertEqual((status, said.count(": round ")), (0, 2), said)
+        self.assertIn("the rounds are made: hull certify says", said)
+
     def test_an_interrupt_ends_with_the_best_so_far(self):
         words = [
             *files("windows"),
@@ -141,31 +217,6 @@ class Settled(unittest.TestCase):
         self.assertIn("interrupted: ", said)
         self.settle("windows", f"{self.room}/prices.json")
 
-    def test_a_study_of_a_small_case(self):
-        folder = f"{self.room}/study"
-        words = [files("windows")[0], folder, "--schedule", files("windows")[1], "--hull", PROGRAM]
-        status, _, said = run("study.py", *words)
-        self.assertEqual(status, 0, said)
-        lists = ["marginal", "relaxed", "default", "patient", "convex"]
-        with open(f"{folder}/table.csv", encoding="utf-8") as it:
-            rows = list(csv.DictReader(it))
-        self.assertEqual([row["list"] for row in rows], lists)
-        told = hulltools.read_output(f"{folder}/certificate.txt")
-        for row in rows:
-            self.assertEqual(Decimal(row["above_certified_least"]), Decimal(row["gap"]) - Decimal(told.least) / 10**6)
-        for name in lists:
-            self.assertTrue(os.path.exists(f"{folder}/{name}.settlement.txt"))
-            self.settle("windows", f"{folder}/{name}.prices.json")
-        with open(f"{folder}/study.html", encoding="utf-8") as it:
-            page = it.read()
-        self.assertEqual(page.count('<tr><td class="text">'), len(lists) + 19)
-        self.assertNotIn("http", page)
-        self.assertIn(f"none are better than these by more than {money(told.distance)}: hull certify", page)
-        words = [f"{folder}/convex.settlement.txt", f"{folder}/page.html", "--certificate", f"{folder}/certificate.txt"]
-        self.assertEqual(run("report.py", "page", *words), (0, "", ""))
-        with open(f"{folder}/page.html", encoding="utf-8") as it:
-            self.assertIn(f"is within {money(told.distance)} of the greatest", it.read())
-
     def test_a_program_without_certify_is_refused(self):
         older = f"{self.room}/older"
         with open(older, "w", encoding="utf-8") as it:
@@ -186,6 +237,332 @@ class Settled(unittest.TestCase):
             rows = [costs.of_plan(it, entry.plan) for it in case.thermal for entry in mixture.thermal[it.name]]
             told = hulltools.certify(*files(example), found.prices, mixture, hull=PROGRAM)
             self.assertEqual(told.bound, mixture.bound(case, rows, found.prices))
+
+
+class Study(unittest.TestCase):
+    """Studies of examples/dear_schedule, whose numbers its README works by hand."""
+
+    FOLDER = f"{EXAMPLES}/dear_schedule"
+    LISTS = ("Convex hull (certified)", "LMP", "ELMP", "Integer relaxation")
+
+    def setUp(self):
+        folder = tempfile.TemporaryDirectory(prefix="hull-study-")
+        self.addCleanup(folder.cleanup)
+        self.room = folder.name
+
+    def study(self, *words, case=None, status=0):
+        """Runs the study of the dear schedule; what it said."""
+        given = [case or f"{self.FOLDER}/case.json", self.room, "--schedule", f"{self.FOLDER}/schedule.json"]
+        ended, _, said = run("study.py", *given, "--hull", PROGRAM, "--within", "0.01", *words)
+        self.assertEqual(ended, status, said)
+        return said
+
+    def read(self, name):
+        with open(f"{self.room}/{name}", encoding="utf-8", newline="") as file:
+            return file.read()
+
+    def rows(self, name):
+        return list(csv.DictReader(self.read(name).splitlines()))
+
+    def assert_column(self, name, due):
+        """The column of table.csv, by list, to the cent: a list's prices may be a thousandth off the best."""
+        rows = {row["list"]: row for row in self.rows("table.csv")}
+        for key, number in zip(self.LISTS, due):
+            self.assertAlmostEqual(float(rows[key][f"{name}_currency"]), number, delta=0.01, msg=f"{name} of {key}")
+
+    def test_the_gap_in_three_parts(self):
+        said = self.study("--best-schedule", f"{self.FOLDER}/best.schedule.json")
+        self.assertEqual([row["list"] for row in self.rows("table.csv")], list(self.LISTS))
+        self.assert_column("gap", (650, 1200, 1375, 650))
+        self.assert_column("gap_schedule", (400, 400, 400, 400))
+        self.assert_column("gap_duality", (250, 250, 250, 250))
+        self.assert_column("gap_prices", (0, 550, 725, 0))
+        due = "onvex hull prices the gap is 650.00: 400.00 is the schedule's part, 250.00 is the duality gap, which no prices save, and at most 0.00 is the prices' part."
+        self.assertIn(due, said)
+        self.assertIn(html.escape(due), self.read("study.html"))
+        self.assertIn("A schedule is known that costs 400.00 less than this one.", self.read("study.html"))
+
+    def test_the_best_schedule_is_made_where_none_is_given(self):
+        self.study()
+        self.assert_column("gap_schedule", (400, 400, 400, 400))
+        self.assertEqual(
+            hulltools.check(f"{self.FOLDER}/case.json", f"{self.room}/best.schedule.json", PROGRAM), 3_150_000_000
+        )
+
+    def test_without_a_second_schedule_the_parts_are_not_told_apart(self):
+        said = self.study("--no-schedule")
+        self.assertEqual({row["gap_schedule_currency"] for row in self.rows("table.csv")}, {""})
+        self.assert_column("gap_duality", (650, 650, 650, 650))
+        self.assertIn("no prices save 650.00, the schedule's part and the duality gap together", said)
+        self.assertFalse(os.path.exists(f"{self.room}/best.schedule.json"))
+
+    def test_payments_and_consumers_by_rule(self):
+        self.study("--no-schedule")
+        self.assert_column("make_whole", (500, 200, 125, 500))
+        self.assert_column("make_whole_thermal", (500, 200, 125, 500))
+        self.assert_column("full_thermal", (500, 1200, 1375, 500))
+        self.assert_column("full_bid", (150, 0, 0, 150))
+        self.assert_column("forced_loss", (300, 100, 50, 300))
+        self.assert_column("consumers_energy", (3750, 6250, 6875, 3750))
+        self.assert_column("consumers_pay_make_whole", (4250, 6450, 7000, 4250))
+        self.assert_column("consumers_pay_full", (4400, 7450, 8250, 4400))
+        self.assert_column("left_over", (0, 0, 0, 0))
+        page = self.read("study.html")
+        for due in (
+            "Payments: make-whole alone",
+            "Payments: make-whole and lost opportunity",
+            "Forced losses",
+            "must_run",
+        ):
+            self.assertIn(due, page)
+        self.study("--no-schedule", "--rule", "make-whole")
+        self.assertNotIn("Payments: make-whole and lost opportunity", self.read("study.html"))
+
+    def test_units_and_hours(self):
+        self.study("--no-schedule", "--start", "2026-07-01T00:00", "--hours-per-period", "0.25", "--currency", "EUR")
+        rows = {(row["list"], row["unit"]): row for row in self.rows("units.csv")}
+        row = rows["LMP", "PEAKER"]
+        due = {
+            "energy_revenue": 750,
+            "production_cost": 750,
+            "start_cost": 200,
+            "profit": -200,
+            "payment": 200,
+            "make_whole": 200,
+        }
+        self.assertEqual({key: float(row[f"{key}_eur"]) for key in due}, due)
+        hours = {row["list"]: row for row in self.rows("hours.csv")}
+        row = hours["LMP"]
+        self.assertEqual(
+            (row["begins"], row["energy_price_eur_per_mwh"], row["demand_mw"]), ("2026-07-01T00:00", "200", "125")
+        )
+        self.assertEqual((row["response_supply_mw"], row["uplift_eur"]), ("160", "1200"))
+        self.assertIn("EUR per MWh", self.read("study.html"))
+
+    def test_fast_start_units_by_name_and_by_rule(self):
+        """With BLOCK and PEAKER both relaxed the price is 30.00; with neither ELMP is LMP, 50.00."""
+        for words, price in (
+            (("--fast-start", "BLOCK,PEAKER"), 30),
+            (("--fast-start-up", "4"), 30),
+            (("--fast-start-cost", "199"), 50),
+            (("--fast-start", "PEAKER", "--online-only"), 55),
+        ):
+            self.study("--no-schedule", *words)
+            self.assertEqual(json.loads(self.read("elmp.prices.json")), {"energy": [price], "reserve": [0]}, words)
+        self.assertIn('no thermal unit "NONE"', self.study("--no-schedule", "--fast-start", "NONE", status=1))
+
+    def test_lists_of_files_and_of_the_search(self):
+        posted = f"{self.room}/posted.json"
+        with open(posted, "w", encoding="utf-8") as file:
+            file.write('{"energy": [40]}')
+        self.study("--no-schedule", "--prices", f"The market's={posted}", "--search")
+        names = [row["list"] for row in self.rows("table.csv")]
+        self.assertEqual(names, [*self.LISTS, "Subgradient 100", "Subgradient 1,000", "The market's"])
+        rows = {row["list"]: row for row in self.rows("table.csv")}
+        # (COAL 2,000, BLOCK 500, NUCLEAR -200 and STEEL 50 of 5,000)
+        self.assertEqual(rows["The market's"]["value_currency"], "2650")
+        self.assertTrue(os.path.exists(f"{self.room}/The_market_s.settlement.txt"))
+        self.assertIn("can't be the name of a list", self.study("--no-schedule", "--prices", f"lmp={posted}", status=1))
+
+    def test_zonal_prices_stand_beside_the_lists(self):
+        zones = f"{self.room}/zones.json"
+        with open(zones, "w", encoding="utf-8") as file:
+            file.write(
+                '{"zones": {"N": {"energy": [50]}, "S": {"energy": [30]}}, "units": {"BLOCK": "S"}, "default": "N"}'
+            )
+        self.study("--no-schedule", "--zones", zones)
+        due = {"COAL": 0, "BLOCK": 0, "PEAKER": 200, "NUCLEAR": 0, "STEEL": 0}
+        rows = [row for row in self.rows("units.csv") if row["list"] == "Zonal prices"]
+        self.assertEqual({row["unit"]: float(row["payment_currency"]) for row in rows}, due)
+        self.assertEqual([row["list"] for row in self.rows("table.csv")], list(self.LISTS))
+        self.assertIn("Zonal prices have payments by unit alone.", self.read("study.html"))
+
+    def test_where_it_came_from(self):
+        with mock.patch.dict(os.environ, SOURCE_DATE_EPOCH="1782864000"):
+            self.study("--best-schedule", f"{self.FOLDER}/best.schedule.json", "--title", "Title <1>")
+        row, page = self.rows("table.csv")[0], self.read("study.html")
+        with open(f"{self.FOLDER}/case.json", "rb") as file:
+            self.assertEqual(row["case_sha256"], hashlib.sha256(file.read()).hexdigest())
+        self.assertEqual((row["schedule_made"], row["date"]), ("given", "2026-07-01T00:00:00Z"))
+        self.assertEqual(row["python"], sys.version.split()[0])
+        for key in ("hull", "scipy", "highs", "command", "schedule_sha256", "best_schedule_sha256"):
+            self.assertIn(html.escape(row[key]), page)
+            self.assertTrue(row[key])
+        self.assertIn("<h1>Title &lt;1&gt;</h1>", page)
+        self.assertNotIn("http", page)
+
+    def test_files_in_the_page_are_those_beside_it(self):
+        self.study("--no-schedule")
+        held = re.findall(r'download="([^"]+)" href="data:[a-z/]+;base64,([^"]*)"', self.read("study.html"))
+        self.assertEqual(len(held), 7)
+        for name, data in held:
+            self.assertEqual(base64.b64decode(data).decode(), self.read(name))
+
+    def test_a_schedule_that_misses_the_gap_is_told(self):
+        from hulltools.scheduling import Made
+
+        case = hulltools.read_case(f"{self.FOLDER}/case.json")
+        made = Made(hulltools.read_schedule(f"{self.FOLDER}/best.schedule.json", case), 3150.0, 3087.0, 1000, 0.0005)
+        with mock.patch("hulltools.commands.make_schedule.make_schedule", return_value=made):
+            self.study(status=3)
+        due = (
+            "A search for a schedule missed its gap: made by make_schedule.py, the gap of 0.05 % is missed: 2.0000 % of"
+        )
+        self.assertIn(due, self.read("study.html"))
+
+    def test_a_best_schedule_that_takes_too_long_is_told(self):
+        said = self.study("--seconds", "0", status=3)
+        due = "No schedule was made beside this one: the outer limit of 0 s is over: no schedule was found"
+        self.assertIn(due, said)
+        self.assertIn(due, self.read("study.html"))
+        self.assertEqual({row["gap_schedule_currency"] for row in self.rows("table.csv")}, {""})
+
+    def test_a_larger_case(self):
+        files = f"{EXAMPLES}/windows/case.json", f"{EXAMPLES}/windows/schedule.json"
+        status, _, said = run(
+            "study.py", files[0], self.room, "--schedule", files[1], "--no-schedule", "--hull", PROGRAM
+        )
+        self.assertEqual(status, 0, said)
+        told = hulltools.read_output(f"{self.room}/certificate.txt")
+        for row in self.rows("table.csv"):
+            above = Decimal(row["gap_currency"]) - Decimal(told.least) / 10**6
+            self.assertEqual(Decimal(row["gap_prices_currency"]), above)
+        by_list = {}
+        for row in self.rows("hours.csv"):
+            by_list[row["list"]] = by_list.get(row["list"], 0) + Decimal(row["uplift_currency"])
+        self.assertEqual(by_list, {row["list"]: Decimal(row["gap_currency"]) for row in self.rows("table.csv")})
+        words = [
+            f"{self.room}/convex_hull.settlement.txt",
+            f"{self.room}/page.html",
+            "--certificate",
+            f"{self.room}/certificate.txt",
+        ]
+        self.assertEqual(run("report.py", "page", *words), (0, "", ""))
+        self.assertIn(f"is within {money(told.distance)} of the greatest", self.read("page.html"))
+
+
+class Calls(unittest.TestCase):
+    """The tools as calls, over examples/dear_schedule and its numbers."""
+
+    FOLDER = f"{EXAMPLES}/dear_schedule"
+
+    def setUp(self):
+        self.case = hulltools.read_case(f"{self.FOLDER}/case.json")
+        with open(f"{self.FOLDER}/schedule.json", encoding="utf-8") as file:
+            self.schedule = json.load(file)
+
+    def test_prices_from_objects_and_dicts(self):
+        given = (self.case, self.schedule)
+        self.assertEqual(hulltools.lmp(*given, hull=PROGRAM).energy, [50_000])
+        self.assertEqual(hulltools.elmp(*given, hull=PROGRAM).energy, [55_000])
+        self.assertEqual(hulltools.elmp(*given, fast_start=["BLOCK", "PEAKER"], hull=PROGRAM).energy, [30_000])
+        self.assertEqual(hulltools.integer_relaxation(self.case).energy, [30_000])
+        found = hulltools.convex_prices(*given, within=0.01, hull=PROGRAM)
+        self.assertLessEqual(found.distance, 10_000)
+        told = hulltools.certify(*given, found.prices, found.mixture, hull=PROGRAM)
+        self.assertEqual((told.value, told.bound), (found.value, found.bound))
+
+    def test_a_schedule_of_a_changed_case(self):
+        """At 2 % more demand COAL gives 77.5 MW: 1,550 + 1,500 + 600 - 450."""
+        case = self.case.scaled(demand=1.02)
+        made = hulltools.make_schedule(case, hull=PROGRAM)
+        self.assertEqual((hulltools.check(case, made.schedule, PROGRAM), made.is_near), (3_200_000_000, True))
+
+    def test_a_settlement_with_a_name_and_times(self):
+        settled = hulltools.settle(self.case, self.schedule, {"energy": [50]}, PROGRAM, name="LMP")
+        self.assertEqual((settled.name, settled.payments), ("LMP", 1_200_000_000))
+        frames = settled.frames(self.case, start="2026-07-01T06:00", hours_per_period=0.25)
+        self.assertEqual(set(frames["units"]["report"]), {"LMP"})
+        self.assertEqual(str(frames["prices"].index[0]), "2026-07-01 06:00:00")
+
+    def test_zones(self):
+        zones = {"zones": {"N": {"energy": [50]}, "S": {"energy": [30]}}, "units": {"BLOCK": "S"}, "default": "N"}
+        found = hulltools.settle_zones(self.case, self.schedule, zones, PROGRAM)
+        self.assertEqual([unit.payment for unit in found.units], [0, 0, 200_000_000, 0, 0])
+        self.assertEqual(list(found.frame()["zone"]), ["N", "S", "N", "N", "N"])
+
+    def test_a_study(self):
+        best = hulltools.read_schedule(f"{self.FOLDER}/best.schedule.json", self.case)
+        words = dict(
+            best_schedule=best, start="2026-07-01T00:00", currency="EUR", prices={"Posted": {"energy": [40.5]}}
+        )
+        found = hulltools.study(self.case, self.schedule, hull=PROGRAM, **words)
+        frames = found.frames()
+        lists = frames["lists"].set_index("list")
+        self.assertEqual(list(lists["gap_schedule_eur"]), [400.0] * 5)
+        self.assertEqual(lists.loc["LMP", "consumers_pay_full_eur"], 7450)
+        self.assertEqual(str(frames["hours"].index[0]), "2026-07-01 00:00:00")
+        self.assertIn("Posted", set(frames["units"]["list"]))
+        with self.assertRaisesRegex(hulltools.HullError, "no such options"), mock.patch("sys.stderr"):
+            hulltools.study(self.case, self.schedule, hull=PROGRAM, colour="red")
+
+    def test_refusals_carry_their_parts(self):
+        self.schedule["thermal"]["PEAKER"]["power"] = [41_000]
+        with self.assertRaises(hulltools.HullError) as caught:
+            hulltools.check(self.case, self.schedule, PROGRAM)
+        error = caught.exception
+        self.assertEqual((error.status, error.unit, error.period), (4, "PEAKER", 1))
+        self.assertIn('thermal unit "PEAKER"', error.sentence)
+        with self.assertRaisesRegex(hulltools.HullError, "the energy price of period 2 is None: a number is due"):
+            hulltools.per_mwh([1, None])
+        with self.assertRaisesRegex(hulltools.HullError, "the reserve price of period 1 is nan: a number is due"):
+            hulltools.per_mwh([1], [float("nan")])
+
+
+class Sweep(unittest.TestCase):
+    """Examples/dear_schedule under changes, by hand: at 30.00 each MWh more costs 20.00 in the schedule and 30.00 in the dual value."""
+
+    def setUp(self):
+        folder = tempfile.TemporaryDirectory(prefix="hull-sweep-")
+        self.addCleanup(folder.cleanup)
+        self.room = f"{folder.name}/sweep"
+
+    def sweep(self, *words):
+        status, _, said = run("sweep.py", *files("dear_schedule")[:1], self.room, "--hull", PROGRAM, *words)
+        return status, said
+
+    def gaps(self):
+        with open(f"{self.room}/sweep.csv", encoding="utf-8") as file:
+            rows = list(csv.DictReader(file))
+        return {
+            row["scenario"]: round(float(row["gap_currency"]), 1) for row in rows if row["list"].startswith("Convex")
+        }
+
+    def test_each_change_by_itself(self):
+        words = ["--demand=-2%,+2%", "--offer", "COAL=+10%", "--outage", "BLOCK", "--", "--within", "0.01"]
+        status, said = self.sweep(*words)
+        self.assertEqual(status, 0, said)
+        due = {"base": 250, "demand -2%": 275, "demand +2%": 225, "offer COAL +10%": 200, "outage BLOCK": 125}
+        self.assertEqual(self.gaps(), due)
+        with open(f"{self.room}/sweep.svg", encoding="utf-8") as file:
+            picture = file.read()
+        self.assertEqual(picture.count("<title>LMP: "), len(due))
+
+    def test_it_goes_on_with_what_is_left(self):
+        self.assertEqual(self.sweep("--demand=+2%")[0], 0)
+        with open(f"{self.room}/base/table.csv", "rb") as file:
+            before = file.read()
+        os.unlink(f"{self.room}/demand_+2/done.json")
+        status, said = self.sweep("--demand=+2%")
+        self.assertEqual((status, said.count("it is done")), (0, 1), said)
+        with open(f"{self.room}/base/table.csv", "rb") as file:
+            self.assertEqual(file.read(), before)
+        self.assertNotIn("it is done", self.sweep("--demand=+2%", "--", "--within", "0.5")[1])
+
+    def test_a_case_that_cannot_be_met_is_left_out(self):
+        status, said = self.sweep("--outage", "COAL")
+        self.assertEqual((status, list(self.gaps())), (1, ["base"]))
+        self.assertIn("outage COAL is left out: the case can't be met: in period 1 the units give at most 100 MW", said)
+
+    def test_changes_that_are_none(self):
+        for words, due in (
+            (["--demand=much"], "'much' is no change in per cent"),
+            (["--offer", "COAL"], "'COAL' is no change of an offer"),
+            (["--outage", "GAS"], 'the case has no unit "GAS"'),
+        ):
+            status, said = self.sweep(*words)
+            self.assertEqual(status, 1)
+            self.assertIn(due, said)
 
 
 if __name__ == "__main__":

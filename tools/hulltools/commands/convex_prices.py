@@ -1,13 +1,17 @@
 """Finds prices whose dual value is near the greatest, and a mixture by which `hull certify` says how near.
 
-usage: convex_prices.py CASE SCHEDULE PRICES MIXTURE [--within MONEY] [--seconds S] [--start FILE] [--hull PROGRAM]
+usage: convex_prices.py CASE SCHEDULE PRICES MIXTURE [--within MONEY] [--rounds N] [--seconds S] [--start FILE]
+                        [--best-schedule S2] [--hull PROGRAM]
 
   PRICES, MIXTURE  two files that are written: the prices and the mixture. What is there is replaced, but for a file that is read
   --within MONEY   end once the distance is at most that, in the currency; 0.02 % of the payments or 1.00, whichever is more, if left out
+  --rounds N       end after so many rounds with the best so far; no limit if left out
   --seconds S      end after so many seconds with the best so far; no limit if left out
   --start FILE     a prices file to begin with; the first proposals of `hull price` if left out
+  --best-schedule S2  the best schedule known: the last line then tells the schedule's part of the gap from the duality gap
   --hull PROGRAM   the program that settles and certifies; the launcher of this repository if left out
 
+The last line has the gap in its parts: what the schedule costs above the best one known, what no prices save, and what better prices might.
 An interrupt (Ctrl-C) ends the search with the best so far; a second one ends it at once. Progress is told on standard error, and in the
 end which of these it was. Nothing of this tool has to be trusted: `hull certify` says how near the prices are, whatever they are.
 One mixture serves for any prices of the case: `hull certify` with prices of your own and MIXTURE says how near those are.
@@ -17,12 +21,13 @@ import os
 import signal
 
 from ..cases import read_case
+from ..gap_parts import gap_parts
 from ..linear import need_scipy
 from ..numbers import money
 from ..prices import read_prices
 from ..program import MOST_WORK, Hull
 from ..errors import HullError, refuse_inputs, run_tool, write_whole
-from .words import asker, positive
+from .words import asker, count, positive
 
 
 def arguments(words):
@@ -30,8 +35,9 @@ def arguments(words):
     for it in ("case", "schedule", "prices", "mixture"):
         ask.add_argument(it)
     ask.add_argument("--within", type=positive)
+    ask.add_argument("--rounds", type=count)
     ask.add_argument("--seconds", type=positive)
-    for it in ("--start", "--hull"):
+    for it in ("--start", "--best-schedule", "--hull"):
         ask.add_argument(it)
     return ask.parse_args(words)
 
@@ -69,7 +75,7 @@ def told(found):
 
 def body(words, tell):
     given = arguments(words)
-    inputs = [it for it in (given.case, given.schedule, given.start) if it]
+    inputs = [it for it in (given.case, given.schedule, given.start, given.best_schedule) if it]
     for it in (given.prices, given.mixture):
         refuse_inputs(it, inputs)
     if os.path.realpath(given.prices) == os.path.realpath(given.mixture):
@@ -79,16 +85,18 @@ def body(words, tell):
 
     hull = Hull(given.hull, tell)
     hull.need("certify")
-    hull.check(given.case, given.schedule)
+    cost = hull.check(given.case, given.schedule)
+    best_cost = hull.check(given.case, given.best_schedule) if given.best_schedule else None
     case = read_case(given.case)
     starts = [read_prices(given.start, case.periods)] if given.start else None
     interrupts, hull.apart = Interrupts(), True
-    limits = Limits(given.within, given.seconds, lambda: interrupts.noted)
+    limits = Limits(given.within, given.seconds, lambda: interrupts.noted, given.rounds)
     found = search(hull, case, (given.case, given.schedule), limits, tell, starts)
     signal.signal(signal.SIGINT, signal.SIG_DFL)
     found.prices.write(given.prices, inputs)
     write_whole(given.mixture, found.mixture.text(), inputs)
     tell(told(found))
+    tell(gap_parts(cost, found.value, found.bound, best_cost).sentence("at these prices"))
 
 
 def main(words=None):

@@ -1,11 +1,12 @@
 """Makes a feasible schedule in whole kilowatts for a case.
 
-usage: make_schedule.py CASE SCHEDULE [--gap G] [--seconds S] [--follow FILE [--tolerance MW] [--deviations TABLE]] [--hull PROGRAM]
+usage: make_schedule.py CASE SCHEDULE [--gap G] [--nodes N] [--seconds S] [--follow FILE [--tolerance MW] [--deviations TABLE]] [--hull PROGRAM]
 
   CASE            a case as `hull` reads it (docs/FORMATS.md)
   SCHEDULE        where the schedule is written, once `hull check` has accepted it
-  --gap G         stop at a cost within this share of the solver's bound; 0.0001 if left out
-  --seconds S     stop the search after so many seconds, and take what it has; 240 if left out
+  --gap G         end at a cost within this share of the solver's bound; 0.0005 if left out
+  --nodes N       end after so many nodes of the solver's tree, and take what it has, with status 3; 200 if left out
+  --seconds S     an outer limit: after so many seconds the search is refused, and nothing is written; 1800 if left out
   --follow FILE   no search: the commitments of a schedule in megawatts from elsewhere, and whole kilowatts as near to its powers as
                   can be; of these the cheapest, and powers that FILE hasn't are free. JSON as egret and UnitCommitment.jl write
                   it, plain or .json.gz, or as a schedule of hull in megawatts, the folder of a solved PyPSA network, or a csv with the columns
@@ -13,6 +14,9 @@ usage: make_schedule.py CASE SCHEDULE [--gap G] [--seconds S] [--follow FILE [--
   --tolerance MW  with --follow: write nothing where a power is farther than this from FILE's
   --deviations TABLE  with --follow: a csv of the powers and reserves that aren't FILE's, the farthest first
   --hull PROGRAM  the program that checks; the launcher of this repository if left out
+
+Gap and nodes don't depend on the clock: the same version of SciPy makes the same schedule of a case. The last line says the gap that was
+reached. Status 3 means that SCHEDULE is written and feasible, and that it misses the gap.
 
 Needs SciPy with its solver HiGHS (Debian: python3-scipy, with /usr/bin/python3). Nothing of this tool is proved, and nothing has to
 be: `hull check`, which is, holds the schedule against every rule. That no schedule costs less than the bound is the solver's word
@@ -28,16 +32,16 @@ from ..linear import need_scipy
 from ..numbers import money
 from ..program import Hull, as_file
 from ..scheduling import follow, make_schedule
+from ..search_limits import SearchLimits
 from ..errors import HullError, refuse_inputs, run_tool, write_whole
-from .words import asker, positive
+from .words import MISSED_GAP, add_search_limits, asker, positive, search_limits
 
 
 def arguments(words):
     ask = asker("make_schedule.py", __doc__)
     ask.add_argument("case")
     ask.add_argument("schedule")
-    ask.add_argument("--gap", type=positive, default=0.0001)
-    ask.add_argument("--seconds", type=positive, default=240.0)
+    add_search_limits(ask)
     ask.add_argument("--follow")
     ask.add_argument("--tolerance", type=positive)
     ask.add_argument("--deviations")
@@ -54,43 +58,40 @@ def checked_case(hull, name):
 
 
 def followed_schedule(given, case):
-    """The schedule that follows one from elsewhere, and how far it is from that."""
+    """What follows a schedule from elsewhere, and how far it is from that."""
     followed = read_followed(given.follow, case)
-    schedule = follow(case, followed, given.follow).schedule
-    found = deviations(schedule, followed)
+    made = follow(case, followed, given.follow)
+    found = deviations(made.schedule, followed)
     if given.deviations:
         write_whole(given.deviations, table_text(found), [given.case, given.follow])
     told = in_words(found, given.follow)
     if given.tolerance is not None and farthest(found, "power") > 1e3 * given.tolerance:
         raise HullError(f"nothing is written, since {told}; --tolerance {given.tolerance:g} MW was asked for")
-    return schedule, told
+    return made, told
 
 
-def made(given, case, tell):
+def made(given, limits: SearchLimits, case, tell):
+    """What was made, and what is to be said of it."""
     if given.follow:
         return followed_schedule(given, case)
     sizes = f"{len(case.thermal)} thermal and {len(case.renewable)} renewable units, {len(case.bids)} bids, {case.periods} periods"
-    tell(f"{sizes}: searching for at most {given.seconds:g} s")
-    found = make_schedule(case, given.gap, given.seconds, tell)
-    reached = "within" if found.gap <= given.gap else "the time was over, and it is within"
-    return (
-        found.schedule,
-        f"{reached} {found.gap * 100:.4f} % of the solver's bound of straight costs, {found.bound:,.2f}",
-    )
+    tell(f"{sizes}: searching for at most {limits.nodes} nodes and {limits.seconds:g} s")
+    found = make_schedule(case, limits)
+    return found, found.told()
 
 
-def make(given, tell):
-    """Makes the schedule, has it checked, writes it; its cost in millionths and what was reached."""
+def make(given, limits: SearchLimits, tell):
+    """Makes the schedule, has it checked, writes it; what was made, its cost in millionths and what is to be said of it."""
     hull = Hull(given.hull, tell)
     case = checked_case(hull, given.case)
-    schedule, reached = made(given, case, tell)
+    found, reached = made(given, limits, case, tell)
     try:
-        with as_file(schedule) as name:
+        with as_file(found.schedule) as name:
             cost = hull.check(given.case, name)
     except HullError as why:
         raise HullError(f"nothing is written, since what was found is refused: {why}") from None
-    write_whole(given.schedule, schedule.text(), [given.case])
-    return cost, reached
+    write_whole(given.schedule, found.schedule.text(), [given.case])
+    return found, cost, reached
 
 
 def body(words, tell):
@@ -99,8 +100,9 @@ def body(words, tell):
         raise HullError("--tolerance and --deviations go with --follow")
     need_scipy()
     refuse_inputs(given.schedule, [it for it in (given.case, given.follow) if it])
-    cost, reached = make(given, tell)
+    found, cost, reached = make(given, search_limits(given), tell)
     tell(f"hull check accepts {given.schedule}: cost {money(cost)}; {reached}")
+    return 0 if found.is_near else MISSED_GAP
 
 
 def main(words=None):

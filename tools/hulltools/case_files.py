@@ -1,0 +1,114 @@
+"""A case as its file, exact to the kilowatt and the millionth, and cases that are changed in one respect."""
+import json
+from dataclasses import replace
+from fractions import Fraction
+from typing import Any, Dict, List, Sequence
+
+from .cases import Bid, Case, Renewable, Thermal
+from .errors import HullError, one_line
+from .numbers import decimal_text
+
+
+class Exact:
+    """A number that stands in the file as it is written."""
+
+    def __init__(self, number: int, places: int):
+        self.text = decimal_text(number, places)
+
+
+def megawatts(number: int) -> Exact:
+    return Exact(number, 3)
+
+
+def currency(number: int) -> Exact:
+    return Exact(number, 6)
+
+
+def thermal_fields(unit: Thermal) -> dict:
+    powers = {"power_output_minimum": unit.least, "power_output_maximum": unit.most, "power_output_t0": unit.power0}
+    limits = (unit.ramp_up, unit.ramp_down, unit.start_limit, unit.stop_limit)
+    powers.update(zip((f"ramp_{it}_limit" for it in ("up", "down", "startup", "shutdown")), limits))
+    found: Dict[str, Any] = {"must_run": unit.must_run, **{key: megawatts(number) for key, number in powers.items()}}
+    found.update(time_up_minimum=unit.min_up, time_down_minimum=unit.min_down, unit_on_t0=unit.on0)
+    found.update(time_up_t0=unit.up0, time_down_t0=unit.down0)
+    found["startup"] = [{"lag": lag, "cost": currency(cost)} for lag, cost in unit.lags]
+    found["piecewise_production"] = [{"mw": megawatts(power), "cost": currency(cost)} for power, cost in unit.points]
+    if any(mark is not None for mark in unit.marks):
+        found["commitment"] = unit.marks
+    return found
+
+
+def renewable_fields(unit: Renewable) -> dict:
+    rows = (("minimum", unit.least), ("maximum", unit.most))
+    return {f"power_output_{it}": [megawatts(number) for number in numbers] for it, numbers in rows}
+
+
+def bid_fields(bid: Bid) -> dict:
+    block = lambda width, price: {"mw": megawatts(width), "price": megawatts(price)}
+    return {"blocks": [[block(*it) for it in period] for period in bid.blocks]}
+
+
+def written(value) -> str:
+    """JSON whose exact numbers are as they are."""
+    if isinstance(value, Exact):
+        return value.text
+    if isinstance(value, dict):
+        return (
+            "{" + ", ".join(f"{json.dumps(key, ensure_ascii=False)}: {written(it)}" for key, it in value.items()) + "}"
+        )
+    if isinstance(value, list):
+        return "[" + ", ".join(map(written, value)) + "]"
+    return json.dumps(value)
+
+
+def text_of(case: Case) -> str:
+    """The file of a case, which reads as the same case."""
+    found: Dict[str, Any] = {"time_periods": case.periods}
+    found.update(demand=[megawatts(it) for it in case.demand], reserves=[megawatts(it) for it in case.reserves])
+    found["thermal_generators"] = {unit.name: thermal_fields(unit) for unit in case.thermal}
+    found["renewable_generators"] = {unit.name: renewable_fields(unit) for unit in case.renewable}
+    if case.bids:
+        found["demand_bids"] = {bid.name: bid_fields(bid) for bid in case.bids}
+    return written(found) + "\n"
+
+
+def times(numbers: List[int], factor: Fraction) -> List[int]:
+    """Each number times the factor, to the nearest whole number."""
+    return [
+        int(it * factor + Fraction(1, 2)) if it * factor >= 0 else -int(-it * factor + Fraction(1, 2)) for it in numbers
+    ]
+
+
+def factor_of(number) -> Fraction:
+    """A factor as it is written: 1.01 is 101/100."""
+    found = Fraction(str(number))
+    if found < 0:
+        raise HullError(f"{number} can't be a factor: it is below 0")
+    return found
+
+
+def known(case: Case, names: Sequence[str]) -> None:
+    units = {unit.name for _, unit in case.units}
+    wrong = next((name for name in names if name not in units), None)
+    if wrong is not None:
+        raise HullError(f'the case has no unit "{one_line(wrong)}"')
+
+
+def scaled_offer(unit: Thermal, factor: Fraction) -> Thermal:
+    costs = times([cost for _, cost in unit.points], factor)
+    return replace(unit, points=[(power, cost) for (power, _), cost in zip(unit.points, costs)])
+
+
+def scaled(case: Case, demand, renewable, offers: Dict[str, object]) -> Case:
+    """The case with its demand, renewable powers and cost curves times these; start costs stay."""
+    known(case, list(offers))
+    sun = factor_of(renewable)
+    units = [scaled_offer(unit, factor_of(offers.get(unit.name, 1))) for unit in case.thermal]
+    winds = [Renewable(it.name, times(it.least, sun), times(it.most, sun)) for it in case.renewable]
+    return replace(case, demand=times(case.demand, factor_of(demand)), thermal=units, renewable=winds)
+
+
+def without(case: Case, names: Sequence[str]) -> Case:
+    known(case, names)
+    kept = lambda units: [unit for unit in units if unit.name not in names]
+    return replace(case, thermal=kept(case.thermal), renewable=kept(case.renewable), bids=kept(case.bids))

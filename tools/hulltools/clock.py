@@ -1,0 +1,57 @@
+"""Periods as people name them, and prices per MWh where the length of a period is known."""
+from dataclasses import dataclass
+from datetime import datetime, timedelta
+from decimal import Decimal
+from fractions import Fraction
+from typing import List, Optional
+
+THOUSANDTHS = 1000
+
+
+@dataclass(frozen=True)
+class Clock:
+    """The length of a period in hours and the start of the first one, as far as they are known."""
+
+    hours: Optional[Fraction] = None
+    start: Optional[datetime] = None
+
+    @property
+    def price_unit(self) -> str:
+        return "per MWh" if self.hours else "per MW and period"
+
+    @property
+    def price_suffix(self) -> str:
+        """The end of a head of prices in a table."""
+        return "per_mwh" if self.hours else "per_mw"
+
+    def price(self, millionths: int) -> Fraction:
+        """A price in millionths per kilowatt and period as the currency per MWh, or per MW and period."""
+        return Fraction(millionths, THOUSANDTHS) / (self.hours or 1)
+
+    def price_text(self, millionths: int) -> str:
+        """The price for people."""
+        return f"{float(self.price(millionths)):,.3f}"
+
+    def price_number(self, millionths: int) -> Decimal:
+        """The price for a table: exact, or to a billionth where the length of a period is no decimal fraction of an hour."""
+        exact = self.price(millionths)
+        return (Decimal(exact.numerator) / exact.denominator).quantize(Decimal("1e-9")).normalize() + Decimal(0)
+
+    def times(self, periods: int) -> List[str]:
+        """The beginning of each period; an empty text where it isn't known."""
+        if self.start is None:
+            return [""] * periods
+        length = timedelta(seconds=float((self.hours or 1) * 3600))
+        return [(self.start + t * length).isoformat(timespec="minutes") for t in range(periods)]
+
+    def labels(self, periods: int) -> List[str]:
+        """What stands below a period in a picture: its time of day, or its number."""
+        return [it.split("T")[1][:5] if it else str(t) for t, it in enumerate(self.times(periods), 1)]
+
+    def rows(self, periods: int) -> List[str]:
+        """What stands beside a period in a table for people."""
+        return [it.replace("T", " ") or str(t) for t, it in enumerate(self.times(periods), 1)]
+
+    @property
+    def axis(self) -> str:
+        return "period" if self.start is None else "beginning of the period"

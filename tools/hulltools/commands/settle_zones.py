@@ -1,0 +1,60 @@
+"""Settles each unit at the prices of its zone, or at prices of its own.
+
+usage: settle_zones.py CASE SCHEDULE ZONES [--to FOLDER] [--currency C] [--hull PROGRAM]
+
+  ZONES            a JSON file: {"zones": {"NORTH": {"energy": [..], "reserve": [..]}, ..}, "units": {"GT5": "NORTH", ..}, "default": "SOUTH"}.
+                   A zone's prices are as in a prices file; a unit that isn't under `units` is of the default zone
+  --to FOLDER      units.csv and the settlement of each zone are written there; if left out, the table is printed
+  --currency C     what money is in, for the heads of the table
+  --hull PROGRAM   the program that settles; the launcher of this repository if left out
+
+`hull settle` works out a settlement for each zone's prices, and each unit's line is taken from that of its zone. What a unit earns, its payment,
+make-whole and lost opportunity depend on the unit and its own prices alone, so they hold. A dual value and a gap there isn't: both are of one
+price for all. Nodal prices are settled so, with a zone for each node.
+"""
+import os
+import sys
+
+from ..cases import read_case
+from ..errors import run_tool, write_whole
+from ..program import Hull
+from ..schedules import read_schedule
+from ..study_tables import zonal_table
+from ..zones import read_zones, settle_zones
+from .words import asker
+
+
+def file_of(zone: str) -> str:
+    return "".join(it if it.isalnum() or it in "-_" else "_" for it in zone)
+
+
+def body(words, tell):
+    ask = asker("settle_zones.py", __doc__)
+    for it in ("case", "schedule", "zones", "--to", "--hull"):
+        ask.add_argument(it)
+    ask.add_argument("--currency", default="")
+    given = ask.parse_args(words)
+    hull, inputs = Hull(given.hull, tell), [given.case, given.schedule, given.zones]
+    hull.check(given.case, given.schedule)
+    case = read_case(given.case)
+    texts = []
+
+    def settle(prices):
+        settlement = hull.settle(given.case, given.schedule, prices)
+        texts.append(hull.last_text)
+        return settlement
+
+    zonal = settle_zones(settle, case, read_schedule(given.schedule, case), read_zones(given.zones, case))
+    table = zonal_table(zonal, given.currency).text()
+    if not given.to:
+        sys.stdout.write(table)
+        sys.stdout.flush()
+        return
+    os.makedirs(given.to, exist_ok=True)
+    write_whole(os.path.join(given.to, "units.csv"), table, inputs)
+    for place, (zone, text) in enumerate(zip(zonal.settlements, texts), 1):
+        write_whole(os.path.join(given.to, f"{place}.{file_of(zone)}.settlement.txt"), text, inputs)
+
+
+def main(words=None):
+    return run_tool("settle_zones.py", body, words)

@@ -1,0 +1,105 @@
+"""What a result was made from and by: contents of the files, versions, the search for the schedule, the command line and the date."""
+import hashlib
+import os
+import platform
+import re
+import shlex
+import subprocess
+import sys
+from dataclasses import dataclass
+from datetime import datetime, timezone
+from typing import Dict, List, Optional
+
+from .errors import read_bytes
+from .program import Hull
+
+SMALLEST = "from scipy.optimize import linprog; linprog([1], bounds=[(0, 1)], method='highs', options={'disp': True})"
+
+
+def sha256_of(name: str) -> str:
+    return hashlib.sha256(read_bytes(name, "a file", most=2**31)).hexdigest()
+
+
+def scipy_version() -> str:
+    try:
+        import scipy
+    except ImportError:
+        return "none"
+    return scipy.__version__
+
+
+def highs_version() -> str:
+    """The version of the solver in SciPy, which says it where it solves something."""
+    ran = subprocess.run([sys.executable, "-c", SMALLEST], capture_output=True, text=True, stdin=subprocess.DEVNULL)
+    found = re.search(r"HiGHS (?:version )?(\d+\.\d+\.\d+)", ran.stdout)
+    return found.group(1) if found else "unknown"
+
+
+def date_of_run() -> str:
+    """The time in UTC, or that of SOURCE_DATE_EPOCH where a build sets it."""
+    given = os.environ.get("SOURCE_DATE_EPOCH")
+    at = datetime.fromtimestamp(int(given), timezone.utc) if given else datetime.now(timezone.utc)
+    return at.strftime("%Y-%m-%dT%H:%M:%SZ")
+
+
+@dataclass(frozen=True)
+class Source:
+    """A schedule's file, how it was made, and the solver's relative gap where a search made it."""
+
+    name: str
+    sha256: str
+    made: str
+    gap: Optional[float] = None
+    is_near: bool = True
+
+
+@dataclass(frozen=True)
+class Provenance:
+    """All of that for one study."""
+
+    case_name: str
+    case_sha256: str
+    schedule: Source
+    best_schedule: Optional[Source]
+    versions: Dict[str, str]
+    command: str
+    date: str
+
+    def columns(self) -> Dict[str, Optional[str]]:
+        """The cells that stand in each row of a table."""
+        best = self.best_schedule
+        gap = self.schedule.gap
+        return {
+            "case": self.case_name,
+            "case_sha256": self.case_sha256,
+            "schedule_sha256": self.schedule.sha256,
+            "schedule_made": self.schedule.made,
+            "schedule_solver_gap": None if gap is None else f"{gap:.6f}",
+            "best_schedule_sha256": best.sha256 if best else None,
+            "best_schedule_made": best.made if best else None,
+            **self.versions,
+            "command": self.command,
+            "date": self.date,
+        }
+
+    def lines(self) -> List[tuple]:
+        """What a page shows: a name and a text each."""
+        found = [("Case", f"{self.case_name}, sha256 {self.case_sha256}")]
+        for told, it in (("Schedule", self.schedule), ("Best schedule known", self.best_schedule)):
+            if it:
+                found.append((told, f"{os.path.basename(it.name)}, sha256 {it.sha256}; {it.made}"))
+        found.append(("Versions", ", ".join(f"{name} {it}" for name, it in self.versions.items())))
+        return [*found, ("Command", self.command), ("Date", self.date)]
+
+
+def versions(hull: Hull) -> Dict[str, str]:
+    return {
+        "hull": hull.version(),
+        "python": platform.python_version(),
+        "scipy": scipy_version(),
+        "highs": highs_version(),
+    }
+
+
+def command_line(tool: str, words: List[str]) -> str:
+    return shlex.join([tool, *words])

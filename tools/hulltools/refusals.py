@@ -1,0 +1,45 @@
+"""What the program refuses, as an error that carries the parts of its fault line."""
+import re
+from typing import Sequence
+
+from .errors import HullError, one_line
+from .faults import sentence
+from .named_files import GROUPS, PLAN_GROUPS, Files
+
+FILES = ("case", "schedule", "prices", "mixture", "report")
+OF_ANOTHER_FILE = {"schedule": 40, "mixture": 40}  # codes whose unit is numbered within that file
+
+
+def files_of(words: Sequence[str]) -> Files:
+    """The files that the words of a command name."""
+    pairs = zip(words, words[1:])
+    return Files({option[2:]: name for option, name in pairs if option[2:] in FILES and option.startswith("--")})
+
+
+def number_behind(word: str, line: str):
+    found = re.search(rf"\b{word} (\d+)\b", line)
+    return int(found.group(1)) if found else None
+
+
+def unit_of(line: str, files: Files):
+    """The name of the unit that a fault line is told of, or None."""
+    found = re.search(r"^fault \d+ (\w+) (\d+) .*\bkind (\w+) unit (\d+)", line)
+    if not found or found.group(3) not in GROUPS:
+        return None
+    what, code, kind, number = found.groups()
+    if OF_ANOTHER_FILE.get(what) == int(code):
+        return files.name_of(what, PLAN_GROUPS[kind], int(number))
+    return files.name_of("case", GROUPS[kind], int(number))
+
+
+def refusal(words: Sequence[str], status: int, output: bytes) -> HullError:
+    """The error of a run that ended with a status other than 0."""
+    line = one_line(output.decode("utf-8", "replace").strip())[:300]
+    told = f"hull {words[0]} ended with status {status}" + (f": {line}" if line else "")
+    files, code = files_of(words), re.match(r"fault \d+ \w+ (\d+)", line)
+    try:
+        said = sentence(line, files)
+    except HullError:
+        said = None
+    number = int(code.group(1)) if code else None
+    return HullError(told, status, number, unit_of(line, files), number_behind("period", line), said)

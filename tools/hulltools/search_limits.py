@@ -1,0 +1,11 @@
+"""When a search for a schedule ends."""
+from dataclasses import dataclass
+
+
+@dataclass
+class SearchLimits:
+    """When the solver ends: at a relative gap, or after so many nodes. The time is an outer limit, after which nothing is taken."""
+
+    gap: float = 0.0005
+    nodes: int = 200
+    seconds: float = 1800.0

@@ -1,0 +1,93 @@
+"""What a market pays of what each unit is owed, what consumers pay for it, and which losses nobody makes good."""
+from dataclasses import dataclass
+from typing import Dict, List
+
+from .cases import Case
+from .cash_flows import KINDS, UnitFlows, by_kind, total
+from .outputs import Owed, Settlement
+
+RULES = {  # by name: what units are paid beside energy and reserve
+    "make-whole": "make-whole alone",
+    "full": "make-whole and lost opportunity",
+}
+
+
+def paid(owed: Owed, rule: str) -> int:
+    """What a unit is paid under a rule."""
+    return owed.make_whole if rule == "make-whole" else owed.payment
+
+
+def paid_by_kind(units: List[Owed], rule: str) -> Dict[str, int]:
+    return by_kind(units, lambda unit: paid(unit, rule))
+
+
+@dataclass(frozen=True)
+class Bill:
+    """What consumers pay: demand at the energy prices, the required reserve, and uplift, which is payments and surplus.
+
+    `received` is what units get, less what buyers pay for their energy. What is left over is 0: with surplus reserve charged as uplift,
+    the money that comes in is the money that goes out.
+    """
+
+    energy: int
+    reserve: int
+    payments: int
+    surplus: int
+    received: int
+
+    @property
+    def uplift(self) -> int:
+        return self.payments + self.surplus
+
+    @property
+    def total(self) -> int:
+        return self.energy + self.reserve + self.uplift
+
+    @property
+    def left(self) -> int:
+        return self.total - self.received
+
+
+def bill(case: Case, settlement: Settlement, flows: List[UnitFlows], rule: str) -> Bill:
+    """The consumers' bill for the schedule at a list's prices."""
+    row, payments = settlement.best, sum(paid(unit, rule) for unit in settlement.units)
+    revenue = total([flow for unit in flows for flow in unit.scheduled])
+    return Bill(
+        sum(price * demand for price, demand in zip(row.energy, case.demand)),
+        sum(price * due for price, due in zip(row.reserve, case.reserves)),
+        payments,
+        settlement.surplus,
+        revenue.energy + revenue.reserve + payments,
+    )
+
+
+def forced_loss(owed: Owed) -> int:
+    """The loss that a unit can't avoid at the prices, whatever it does within its rules. It is no part of the payment."""
+    return max(0, -owed.earned)
+
+
+def reason_of_loss(kind: str, unit) -> str:
+    """Which rule leaves the unit no choice but the loss."""
+    if kind != "thermal":
+        return "least power"
+    reasons = ["must_run"] * bool(unit.must_run) + ["commitment"] * any(mark == 1 for mark in unit.marks)
+    return " and ".join(reasons) or "state before period 1"
+
+
+@dataclass(frozen=True)
+class ForcedLoss:
+    """A unit's loss in the schedule: the forced part, and the part that its make-whole payment makes good."""
+
+    kind: str
+    name: str
+    reason: str
+    forced: int
+    made_whole: int
+
+
+def forced_losses(case: Case, units: List[Owed]) -> List[ForcedLoss]:
+    return [
+        ForcedLoss(kind, unit.name, reason_of_loss(kind, unit), forced_loss(owed), owed.make_whole)
+        for owed, (kind, unit) in zip(units, case.units)
+        if forced_loss(owed)
+    ]

@@ -1,0 +1,81 @@
+"""Prices by zone: a file of price lists and of each unit's zone, and what each unit is owed at the prices of its own."""
+from dataclasses import dataclass
+from typing import Dict, List, Optional
+
+from .cases import Case
+from .cash_flows import UnitFlows, unit_flows
+from .costs import Costs
+from .errors import HullError, one_line
+from .json_texts import read_json
+from .outputs import Owed, Settlement
+from .prices import Prices, prices_of
+from .schedules import Schedule
+
+
+@dataclass
+class Zones:
+    """Price lists by zone, and the zone of each unit; `default` is the zone of those that have none."""
+
+    prices: Dict[str, Prices]
+    units: Dict[str, str]
+    default: Optional[str] = None
+
+    def zone_of(self, unit: str) -> str:
+        return self.units.get(unit, self.default or "")
+
+
+def zones_of(name: str, value, case: Case) -> Zones:
+    """The zones of a JSON value, which has a zone for each unit of the case."""
+    if not isinstance(value, dict) or not isinstance(value.get("zones"), dict) or not value["zones"]:
+        raise HullError(f"{name}: no zones: it isn't an object with the object `zones`, of prices by zone")
+    units, default = value.get("units", {}), value.get("default")
+    if not isinstance(units, dict):
+        raise HullError(f"{name}: `units` isn't an object of zones by unit")
+    prices = {
+        zone: prices_of(f"{name}, zone {one_line(zone)}", it, case.periods) for zone, it in value["zones"].items()
+    }
+    known = [unit.name for _, unit in case.units]
+    for unit, zone in units.items():
+        if unit not in known:
+            raise HullError(f'{name}: the case has no unit "{one_line(unit)}"')
+        if not isinstance(zone, str) or zone not in prices:
+            raise HullError(f'{name}: the zone of unit "{one_line(unit)}" has no prices')
+    if default is not None and default not in prices:
+        raise HullError(f"{name}: the default zone has no prices")
+    without = next((unit for unit in known if unit not in units), None)
+    if without is not None and default is None:
+        raise HullError(f'{name}: unit "{one_line(without)}" has no zone, and there is no default')
+    return Zones(prices, dict(units), default)
+
+
+def read_zones(name: str, case: Case) -> Zones:
+    return zones_of(name, read_json(name, "zones"), case)
+
+
+@dataclass
+class Zonal:
+    """What each unit is owed at its zone's prices. There is no dual value of them all, and no gap: these are of one price list."""
+
+    zones: Zones
+    settlements: Dict[str, Settlement]
+    flows: List[UnitFlows]
+
+    @property
+    def units(self) -> List[Owed]:
+        return [unit.owed for unit in self.flows]
+
+    def frame(self):
+        """A row for each unit, as a data frame of pandas."""
+        from .study_tables import zonal_table
+        from .tables import frames_of
+
+        return frames_of({"units": zonal_table(self)})["units"]
+
+
+def settle_zones(settle, case: Case, schedule: Schedule, zones: Zones) -> Zonal:
+    """Settles once at each zone's prices, by `settle`, and takes each unit's line from its zone's settlement."""
+    used = {zones.zone_of(unit.name) for _, unit in case.units}
+    settlements = {zone: settle(prices) for zone, prices in zones.prices.items() if zone in used}
+    costs = Costs()
+    flows = {zone: unit_flows(case, schedule, it, costs) for zone, it in settlements.items()}
+    return Zonal(zones, settlements, [flows[zones.zone_of(unit.name)][i] for i, (_, unit) in enumerate(case.units)])

@@ -1,0 +1,244 @@
+"""What a study works out of a settlement, by the numbers that examples/dear_schedule works by hand; none of it needs SciPy."""
+import csv
+import json
+import os
+import tempfile
+import unittest
+from datetime import datetime
+from decimal import Decimal
+from fractions import Fraction
+
+from tool import EXAMPLES, PROGRAM, run
+
+import hulltools
+from hulltools.cash_flows import total, unit_flows, uplift_by_period
+from hulltools.clock import Clock
+from hulltools.costs import Costs
+from hulltools.gap_parts import gap_parts
+from hulltools.settlement_rules import bill, forced_losses, paid_by_kind
+
+FOLDER = f"{EXAMPLES}/dear_schedule"
+MILLION = 10**6
+
+
+def money_of(*amounts):
+    return tuple(amount * MILLION for amount in amounts)
+
+
+class Parts(unittest.TestCase):
+    def of(self, *numbers):
+        found = gap_parts(*numbers)
+        return found.schedule, found.duality, found.prices
+
+    def test_parts_worked_by_hand(self):
+        self.assertEqual(self.of(3550, 2350, 2900, 3150), (400, 250, 550))
+        self.assertEqual(gap_parts(3550, 2350, 2900, 3150).without_schedule, 800)
+
+    def test_the_best_schedule_is_the_cheaper_of_the_two(self):
+        self.assertEqual(self.of(3150, 2900, 2900, 3550), (0, 250, 0))
+
+    def test_the_cost_of_the_best_schedule_is_a_bound_too(self):
+        self.assertEqual(self.of(100, 90, 99, 95), (5, 0, 5))
+
+    def test_without_a_second_schedule_two_parts_are_one(self):
+        found = gap_parts(*money_of(3550, 2350, 2900), None)
+        self.assertEqual((found.schedule, found.duality, found.prices, found.gap), (None, *money_of(650, 550, 1200)))
+        self.assertIn("no prices save 650.00, the schedule's part and the duality gap together", found.sentence("Here"))
+
+    def test_the_sentence_has_all_three(self):
+        due = "At LMP the gap is 1,200.00: 400.00 is the schedule's part, 250.00 is the duality gap, which no prices save, and at most 550.00 is the prices' part."
+        self.assertEqual(gap_parts(*money_of(3550, 2350, 2900, 3150)).sentence("At LMP"), due)
+
+
+class Clocks(unittest.TestCase):
+    def test_a_quarter_of_an_hour(self):
+        """7.50 per MW and quarter of an hour are 30.00 per MWh."""
+        clock = Clock(Fraction("0.25"), datetime(2026, 7, 1, 23, 30))
+        self.assertEqual((clock.price_text(7500), clock.price_number(7500)), ("30.000", Decimal(30)))
+        self.assertEqual(clock.times(3), ["2026-07-01T23:30", "2026-07-01T23:45", "2026-07-02T00:00"])
+        self.assertEqual(clock.labels(3), ["23:30", "23:45", "00:00"])
+
+    def test_nothing_is_known(self):
+        clock = Clock()
+        self.assertEqual((clock.price_text(7500), clock.price_unit), ("7.500", "per MW and period"))
+        self.assertEqual((clock.times(2), clock.labels(2)), (["", ""], ["1", "2"]))
+
+
+class Money(unittest.TestCase):
+    def setUp(self):
+        self.case = hulltools.read_case(f"{FOLDER}/case.json")
+        self.schedule = hulltools.read_schedule(f"{FOLDER}/schedule.json", self.case)
+        self.settled = hulltools.read_output(f"{FOLDER}/settle.output")
+        self.flows = unit_flows(self.case, self.schedule, self.settled, Costs())
+
+    def test_revenue_and_cost_by_unit(self):
+        rows = {}
+        for unit in self.flows:
+            it = total(unit.scheduled)
+            rows[unit.owed.name] = (it.energy, it.reserve, it.production, it.start, it.profit)
+        self.assertEqual(rows["COAL"], money_of(3000, 0, 2000, 0, 1000))
+        self.assertEqual(rows["PEAKER"], money_of(450, 0, 750, 200, -500))
+        self.assertEqual(rows["NUCLEAR"], money_of(300, 0, 600, 0, -300))
+        self.assertEqual(total(self.flows[-1].response).energy, -300 * MILLION)
+        self.assertEqual(total(self.flows[-1].response).production, -450 * MILLION)
+
+    def test_uplift_by_period_sums_to_the_gap(self):
+        self.assertEqual(uplift_by_period(self.case, self.schedule, self.settled, self.flows), [650 * MILLION])
+
+    def test_a_settlement_of_another_schedule_is_refused(self):
+        best = hulltools.read_schedule(f"{FOLDER}/best.schedule.json", self.case)
+        with self.assertRaisesRegex(hulltools.HullError, 'unit "COAL" earns something else'):
+            unit_flows(self.case, best, self.settled, Costs())
+
+    def test_payments_by_kind_under_each_rule(self):
+        due = {"thermal": 500 * MILLION, "renewable": 0, "bid": 0}
+        self.assertEqual(paid_by_kind(self.settled.units, "make-whole"), due)
+        self.assertEqual(paid_by_kind(self.settled.units, "full"), {**due, "bid": 150 * MILLION})
+
+    def test_what_consumers_pay(self):
+        for rule, payments in (("make-whole", 500), ("full", 650)):
+            found = bill(self.case, self.settled, self.flows, rule)
+            self.assertEqual((found.energy, found.reserve, found.uplift), money_of(3750, 0, payments))
+            self.assertEqual((found.total, found.left), money_of(3750 + payments, 0))
+
+    def test_a_forced_loss_stands_by_itself(self):
+        (found,) = forced_losses(self.case, self.settled.units)
+        self.assertEqual(
+            (found.name, found.reason, found.forced, found.made_whole), ("NUCLEAR", "must_run", *money_of(300, 0))
+        )
+
+
+class Reserve(unittest.TestCase):
+    def test_consumers_pay_for_surplus_reserve_as_uplift(self):
+        """At the prices of examples/posted, which has reserve prices, the money that comes in goes out."""
+        case = hulltools.read_case(f"{EXAMPLES}/evening/case.json")
+        schedule = hulltools.read_schedule(f"{EXAMPLES}/evening/schedule.json", case)
+        settled = hulltools.read_output(f"{EXAMPLES}/posted/settle.output")
+        flows = unit_flows(case, schedule, settled, Costs())
+        for rule in ("make-whole", "full"):
+            self.assertEqual(bill(case, settled, flows, rule).left, 0)
+        self.assertEqual(sum(uplift_by_period(case, schedule, settled, flows)), settled.gap)
+
+
+class SettleZones(unittest.TestCase):
+    """Examples/dear_schedule with COAL and NUCLEAR at 50.00 and the others at 30.00: the rows of the README's table."""
+
+    ZONES = {
+        "zones": {"NORTH, up": {"energy": [50]}, "SOUTH": {"energy": [30], "reserve": [0]}},
+        "units": {"COAL": "NORTH, up", "NUCLEAR": "NORTH, up"},
+        "default": "SOUTH",
+    }
+
+    def setUp(self):
+        folder = tempfile.TemporaryDirectory(prefix="hull-zones-")
+        self.addCleanup(folder.cleanup)
+        self.room = folder.name
+
+    def settle(self, zones, *words):
+        with open(f"{self.room}/zones.json", "w", encoding="utf-8") as file:
+            json.dump(zones, file)
+        names = [f"{FOLDER}/case.json", f"{FOLDER}/schedule.json", f"{self.room}/zones.json"]
+        return run("settle_zones.py", *names, "--hull", PROGRAM, *words)
+
+    def test_each_unit_has_the_line_of_its_zone(self):
+        status, text, said = self.settle(self.ZONES, "--currency", "EUR")
+        self.assertEqual((status, said), (0, ""))
+        rows = {row["unit"]: row for row in csv.DictReader(text.splitlines())}
+        told = {name: (row["profit_eur"], row["payment_eur"], row["make_whole_eur"]) for name, row in rows.items()}
+        due = {"COAL": ("3000", "0", "0"), "BLOCK": ("0", "0", "0"), "PEAKER": ("-500", "500", "500")}
+        self.assertEqual(told, {**due, "NUCLEAR": ("-100", "0", "0"), "STEEL": ("0", "150", "0")})
+        self.assertEqual((rows["COAL"]["zone"], rows["NUCLEAR"]["forced_loss_eur"]), ("NORTH, up", "100"))
+
+    def test_files_are_written(self):
+        self.assertEqual(self.settle(self.ZONES, "--to", f"{self.room}/to"), (0, "", ""))
+        names = ["1.NORTH__up.settlement.txt", "2.SOUTH.settlement.txt", "units.csv"]
+        self.assertEqual(sorted(os.listdir(f"{self.room}/to")), names)
+        with open(f"{self.room}/to/{names[1]}", "rb") as file, open(f"{FOLDER}/settle.output", "rb") as due:
+            self.assertEqual(file.read(), due.read())
+
+    def test_zones_that_are_wrong_are_told_in_one_line(self):
+        for change, due in (
+            ({"default": None}, 'unit "BLOCK" has no zone, and there is no default'),
+            ({"default": "EAST"}, "the default zone has no prices"),
+            ({"units": {"COAL": "EAST"}}, 'the zone of unit "COAL" has no prices'),
+            ({"units": {"GAS": "SOUTH"}}, 'the case has no unit "GAS"'),
+            ({"zones": {}}, "no zones"),
+            ({"zones": {"SOUTH": {"energy": [30, 30]}}}, "zone SOUTH: energy isn't a list"),
+        ):
+            status, text, said = self.settle({**self.ZONES, **change})
+            self.assertEqual((status, text, said.count("\n")), (1, "", 1))
+            self.assertIn(due, said)
+
+
+class Compare(unittest.TestCase):
+    """Statements beside examples/dear_schedule/settle.output: PEAKER 500.00 make-whole, STEEL 150.00 lost opportunity."""
+
+    def compare(self, text, *words):
+        with tempfile.TemporaryDirectory() as room:
+            with open(f"{room}/statement.csv", "w", encoding="utf-8") as file:
+                file.write(text)
+            return run("compare.py", f"{FOLDER}/settle.output", f"{room}/statement.csv", *words)
+
+    def test_equal_amounts(self):
+        status, text, said = self.compare("unit,amount\nPEAKER,500.004\nSTEEL,150\n")
+        self.assertEqual((status, said), (0, "compare.py: 0 of 5 units differ, by 0.00 in sum\n"))
+        self.assertEqual(
+            text.splitlines()[:2],
+            ["unit,statement_currency,settlement_currency,difference_currency", "PEAKER,500.004,500,0.004"],
+        )
+
+    def test_differences_are_sorted(self):
+        status, text, said = self.compare(
+            'name,paid\nPEAKER,"1,000"\nPEAKER,-400\nGAS,20\n', "--unit", "name", "--amount", "paid"
+        )
+        self.assertEqual(text.splitlines()[1:4], ["STEEL,,150,-150", "PEAKER,600,500,100", "GAS,20,,20"])
+        self.assertEqual(status, 3)
+        due = ["the statement hasn't STEEL", "the settlement hasn't GAS", "3 of 6 units differ, by -30.00 in sum"]
+        self.assertEqual(said.splitlines(), [f"compare.py: {it}" for it in due])
+
+    def test_make_whole_alone(self):
+        status, _, said = self.compare("unit,amount\nPEAKER,500\n", "--rule", "make-whole")
+        self.assertEqual((status, said), (0, "compare.py: 0 of 5 units differ, by 0.00 in sum\n"))
+
+    def test_statements_that_are_none(self):
+        for text, due in (
+            ("unit,sum\n", "there is no column 'amount'"),
+            ("unit,amount\nPEAKER,five\n", "row 2: 'five' is no amount"),
+            ("unit,amount\nPEAKER,nan\n", "row 2: 'nan' is no amount"),
+        ):
+            status, table, said = self.compare(text)
+            self.assertEqual((status, table, said.count("\n")), (1, "", 1))
+            self.assertIn(due, said)
+
+
+class ChangedCases(unittest.TestCase):
+    def test_a_written_case_reads_as_the_same(self):
+        for example in ("usual", "evening", "windows", "day", "dear_schedule"):
+            case = hulltools.read_case(f"{EXAMPLES}/{example}/case.json")
+            with tempfile.TemporaryDirectory() as room:
+                case.write(f"{room}/case.json")
+                self.assertEqual(hulltools.read_case(f"{room}/case.json"), case)
+                schedule = f"{EXAMPLES}/{example}/schedule.json"
+                cost = hulltools.check(f"{EXAMPLES}/{example}/case.json", schedule, PROGRAM)
+                self.assertEqual(hulltools.check(f"{room}/case.json", schedule, PROGRAM), cost)
+
+    def test_scaled_by_hand(self):
+        case = hulltools.read_case(f"{FOLDER}/case.json").scaled(demand=1.01, offers={"COAL": "0.9"})
+        self.assertEqual(case.demand, [126250])
+        self.assertEqual(
+            [unit.points for unit in case.thermal][:2], [[(0, 0), (100000, 1800 * MILLION)], [(50000, 1500 * MILLION)]]
+        )
+        evening = hulltools.read_case(f"{EXAMPLES}/evening/case.json")
+        winds = [[power * 9 / 10 for power in unit.most] for unit in evening.renewable]
+        self.assertEqual([unit.most for unit in evening.scaled(renewable=0.9).renewable], winds)
+
+    def test_a_unit_is_left_out(self):
+        case = hulltools.read_case(f"{FOLDER}/case.json")
+        self.assertEqual([unit.name for _, unit in case.without("BLOCK", "STEEL").units], ["COAL", "PEAKER", "NUCLEAR"])
+        for change in (lambda: case.without("GAS"), lambda: case.scaled(offers={"GAS": 2})):
+            with self.assertRaisesRegex(hulltools.HullError, 'the case has no unit "GAS"'):
+                change()
+
+
+if __name__ == "__main__":
+    unittest.main()
