@@ -45,6 +45,7 @@ from ..cases import Case, read_case
 from ..clock import Clock
 from ..errors import HullError, run_tool, write_whole
 from ..linear import need_scipy
+from ..lint import first_look
 from ..numbers import money
 from ..prices import read_prices
 from ..program import Hull
@@ -200,7 +201,10 @@ def body(words, tell):
     hull = Hull(given.hull, tell)
     hull.need("certify")
     os.makedirs(given.folder, exist_ok=True)
+    names = {"case": given.case, "schedule": given.schedule}
+    warnings = first_look({what: name for what, name in names.items() if name}, tell)
     study = study_of(given, words, hull, tell)
+    study.notes += warnings
     inputs = [
         it
         for it in (given.case, given.schedule, given.best_schedule, given.zones, *(file for _, file in given.prices))
