@@ -31,7 +31,8 @@ pub use Rattle.hull_io.specs.declared.word_fault.WordCode.TheVariants.{UnknownCo
 pub use Rattle.hull_io.specs.declared.word_fault.WordFault.{WordFault}
 pub use Rattle.hull_io.specs.declared.kinds.CommandKind.{CommandKind}
 pub use Rattle.hull_io.specs.declared.kinds.CommandKind.TheVariants.{Try, Price, Check, Bound, Fixed, Audit, Settle}
-pub use Rattle.hull_io.specs.declared.kinds.CommandKind.TheVariants.{Certify}
+pub use Rattle.hull_io.specs.declared.kinds.CommandKind.TheVariants.{Certify, Convex}
 pub use Rattle.hull_io.specs.declared.kinds.OptionKind.{OptionKind}
 pub use Rattle.hull_io.specs.declared.kinds.OptionKind.TheVariants.{Case, Schedule, Report, Prices, Mixture}
-pub use Rattle.hull_io.specs.declared.kinds.OptionKind.TheVariants.{Proposals, Workers, Ahead, Radius}
+pub use Rattle.hull_io.specs.declared.kinds.OptionKind.TheVariants.{Proposals, Workers, Ahead, Radius, Within}
+pub use Rattle.hull_io.specs.declared.kinds.OptionKind.TheVariants.{Rounds}

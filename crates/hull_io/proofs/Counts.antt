@@ -1,7 +1,8 @@
 -- How many values are set, and what one step of the reader adds.
 use Rattle.hull_io.proofs.Common.{◌≡◌, ℕ, ◌+◌, ◌≤◌, Bool, true, false, cond, List, Option, Some, None, Result, Ok}
 use Rattle.hull_io.proofs.Common.{Err, refl, ap, subst, arith, is_some, CommandKind, Try, OptionKind, Case, Schedule}
-use Rattle.hull_io.proofs.Common.{Report, Prices, Mixture, Proposals, Workers, Ahead, Radius, WordCode}
+use Rattle.hull_io.proofs.Common.{Report, Prices, Mixture, Proposals, Workers, Ahead, Radius, Within, Rounds}
+use Rattle.hull_io.proofs.Common.{WordCode}
 use Rattle.hull_io.proofs.Common.{RepeatedOption, NoValue, StrayWord, is_option, option_name, can_be_value, Found}
 use Rattle.hull_io.proofs.Common.{option_in, value_at, setting, try_number, flag, set_count, is_set, with_number}
 use Rattle.hull_io.proofs.Common.{set_to, value_step, option_step, plain_step, word_step}
@@ -10,7 +11,7 @@ pub flag_bound : (b : Bool) → flag b ≤ 1
 flag_bound true = omega arith
 flag_bound false = omega arith
 
-pub set_count_bound : (f : Found) → set_count f ≤ 10
+pub set_count_bound : (f : Found) → set_count f ≤ 12
 set_count_bound f = omega (
   arith,
   flag_bound (is_some f.case_name),
@@ -22,6 +23,8 @@ set_count_bound f = omega (
   flag_bound (is_some f.workers),
   flag_bound (is_some f.ahead),
   flag_bound (is_some f.radius),
+  flag_bound (is_some f.within),
+  flag_bound (is_some f.rounds),
   flag_bound (is_some f.number),
 )
 
@@ -59,6 +62,12 @@ set_to-count Ahead text before after unset e =
     subst (OneMore before) p.2 (omega (arith, ap flag unset))
 set_to-count Radius text before after unset e =
     let p = number_ok (setting Radius text) (λ n. record before { radius = Some n }) after e in
+    subst (OneMore before) p.2 (omega (arith, ap flag unset))
+set_to-count Within text before after unset e =
+    let p = number_ok (setting Within text) (λ n. record before { within = Some n }) after e in
+    subst (OneMore before) p.2 (omega (arith, ap flag unset))
+set_to-count Rounds text before after unset e =
+    let p = number_ok (setting Rounds text) (λ n. record before { rounds = Some n }) after e in
     subst (OneMore before) p.2 (omega (arith, ap flag unset))
 
 value-count : (b : Bool) (o : OptionKind) (text : List ℕ) (before after : Found) → is_set o before ≡ false →

@@ -1,7 +1,7 @@
 -- What was put for an option is its value, where it is set then.
 use Rattle.hull_io.proofs.Common.{◌≡◌, ℕ, Bool, cond, List, Option, Some, None, Ok, Err, refl, is_some}
 use Rattle.hull_io.proofs.Common.{OptionKind, Case, Schedule, Report, Prices, Mixture, Proposals, Workers, Ahead}
-use Rattle.hull_io.proofs.Common.{Radius, BadNumber, Found, setting, is_set, with_number, put, set_to}
+use Rattle.hull_io.proofs.Common.{Radius, Within, Rounds, BadNumber, Found, setting, is_set, with_number, put, set_to}
 
 number_is : (n : Option ℕ) (fill : Option ℕ → Found) →
     cond (is_some n) (Ok (fill n)) (Err BadNumber) ≡ with_number n (λ m. fill (Some m))
@@ -19,6 +19,8 @@ put_is Proposals text found = number_is (setting Proposals text) (λ n. record f
 put_is Workers text found = number_is (setting Workers text) (λ n. record found { workers = n })
 put_is Ahead text found = number_is (setting Ahead text) (λ n. record found { ahead = n })
 put_is Radius text found = number_is (setting Radius text) (λ n. record found { radius = n })
+put_is Within text found = number_is (setting Within text) (λ n. record found { within = n })
+put_is Rounds text found = number_is (setting Rounds text) (λ n. record found { rounds = n })
 
 pub set_is : (b : Bool) (o : OptionKind) (text : List ℕ) (found after : Found) → after ≡ put o text found →
     is_set o after ≡ b → cond b (Ok after) (Err BadNumber) ≡ set_to o text found

@@ -1,8 +1,10 @@
 -- One step of the reader is the rules of that word.
 use Rattle.hull_io.proofs.Common.{◌≡◌, ℕ, Bool, true, false, ◌||◌, cond, List, [], ◌∷◌, Option, Some, None, is_some}
 use Rattle.hull_io.proofs.Common.{Result, Ok, Err, refl, sym, ap, subst, ◌∙◌, find, bytes_eq-Decides, same_Some}
-use Rattle.hull_io.proofs.Common.{CommandKind, Price, Check, Try, Bound, Fixed, Audit, Settle, Certify, OptionKind}
-use Rattle.hull_io.proofs.Common.{Case, Schedule, Report, Prices, Mixture, Proposals, Workers, Ahead, Radius}
+use Rattle.hull_io.proofs.Common.{CommandKind, Price, Check, Try, Bound, Fixed, Audit, Settle, Certify, Convex}
+use Rattle.hull_io.proofs.Common.{OptionKind}
+use Rattle.hull_io.proofs.Common.{Case, Schedule, Report, Prices, Mixture, Proposals, Workers, Ahead, Radius, Within}
+use Rattle.hull_io.proofs.Common.{Rounds}
 use Rattle.hull_io.proofs.Common.{WordCode, RepeatedOption, NoValue, BadNumber, options, spelling, is_option}
 use Rattle.hull_io.proofs.Common.{option_name, own_value, takes_next, can_be_value, Found, option_in, is_named}
 use Rattle.hull_io.proofs.Common.{is_given, or_else, value_at, setting, fits, option_fault, is_value_after}
@@ -118,6 +120,16 @@ radius_marks : (o : OptionKind) (n : ℕ) (found : Found) →
 radius_marks Radius n found = refl
 radius_marks _ n found = refl
 
+within_marks : (o : OptionKind) (n : ℕ) (found : Found) →
+    is_set o (record found { within = Some n }) ≡ (same o Within || is_set o found)
+within_marks Within n found = refl
+within_marks _ n found = refl
+
+rounds_marks : (o : OptionKind) (n : ℕ) (found : Found) →
+    is_set o (record found { rounds = Some n }) ≡ (same o Rounds || is_set o found)
+rounds_marks Rounds n found = refl
+rounds_marks _ n found = refl
+
 number_marks : (o : OptionKind) (n : ℕ) (found : Found) → is_set o (record found { number = Some n }) ≡ is_set o found
 number_marks Case n found = refl
 number_marks _ n found = refl
@@ -149,6 +161,8 @@ proposals_values n text earlier grown found a g e =
       g.value Workers,
       g.value Ahead,
       g.value Radius,
+      g.value Within,
+      g.value Rounds,
       g.plain,
       e,
     ) refl
@@ -169,6 +183,8 @@ workers_values n text earlier grown found a g e =
       g.value Workers,
       g.value Ahead,
       g.value Radius,
+      g.value Within,
+      g.value Rounds,
       g.plain,
       e,
     ) refl
@@ -188,6 +204,8 @@ ahead_values n text earlier grown found a g e =
       g.value Workers,
       g.value Ahead,
       g.value Radius,
+      g.value Within,
+      g.value Rounds,
       g.plain,
       e,
     ) refl
@@ -207,6 +225,50 @@ radius_values n text earlier grown found a g e =
       g.value Workers,
       g.value Ahead,
       g.value Radius,
+      g.value Within,
+      g.value Rounds,
+      g.plain,
+      e,
+    ) refl
+
+within_values : (n : ℕ) (text : List ℕ) (earlier grown : List (List ℕ)) (found : Found) → Agrees earlier found →
+    Grows Within text earlier grown → setting Within text ≡ Some n → record found { within = Some n } ≡ found_in grown
+unfolding found_in
+within_values n text earlier grown found a g e =
+    rw (
+      a.values,
+      g.value Case,
+      g.value Schedule,
+      g.value Report,
+      g.value Prices,
+      g.value Mixture,
+      g.value Proposals,
+      g.value Workers,
+      g.value Ahead,
+      g.value Radius,
+      g.value Within,
+      g.value Rounds,
+      g.plain,
+      e,
+    ) refl
+
+rounds_values : (n : ℕ) (text : List ℕ) (earlier grown : List (List ℕ)) (found : Found) → Agrees earlier found →
+    Grows Rounds text earlier grown → setting Rounds text ≡ Some n → record found { rounds = Some n } ≡ found_in grown
+unfolding found_in
+rounds_values n text earlier grown found a g e =
+    rw (
+      a.values,
+      g.value Case,
+      g.value Schedule,
+      g.value Report,
+      g.value Prices,
+      g.value Mixture,
+      g.value Proposals,
+      g.value Workers,
+      g.value Ahead,
+      g.value Radius,
+      g.value Within,
+      g.value Rounds,
       g.plain,
       e,
     ) refl
@@ -228,6 +290,8 @@ agrees-set Case text earlier grown found after a g e =
       g.value Workers,
       g.value Ahead,
       g.value Radius,
+      g.value Within,
+      g.value Rounds,
       g.plain,
     ) refl))
 agrees-set Schedule text earlier grown found after a g e =
@@ -244,6 +308,8 @@ agrees-set Schedule text earlier grown found after a g e =
       g.value Workers,
       g.value Ahead,
       g.value Radius,
+      g.value Within,
+      g.value Rounds,
       g.plain,
     ) refl))
 agrees-set Report text earlier grown found after a g e =
@@ -260,6 +326,8 @@ agrees-set Report text earlier grown found after a g e =
       g.value Workers,
       g.value Ahead,
       g.value Radius,
+      g.value Within,
+      g.value Rounds,
       g.plain,
     ) refl))
 agrees-set Prices text earlier grown found after a g e =
@@ -276,6 +344,8 @@ agrees-set Prices text earlier grown found after a g e =
       g.value Workers,
       g.value Ahead,
       g.value Radius,
+      g.value Within,
+      g.value Rounds,
       g.plain,
     ) refl))
 agrees-set Mixture text earlier grown found after a g e =
@@ -292,6 +362,8 @@ agrees-set Mixture text earlier grown found after a g e =
       g.value Workers,
       g.value Ahead,
       g.value Radius,
+      g.value Within,
+      g.value Rounds,
       g.plain,
     ) refl))
 agrees-set Proposals text earlier grown found after a g e =
@@ -310,6 +382,14 @@ agrees-set Radius text earlier grown found after a g e =
     let p = number_ok (setting Radius text) (λ n. record found { radius = Some n }) after e in
     subst (Agrees grown) p.2 (agrees_more Radius text earlier grown found _ a g (λ o. radius_marks o p.0 found) refl
     (radius_values p.0 text earlier grown found a g p.1))
+agrees-set Within text earlier grown found after a g e =
+    let p = number_ok (setting Within text) (λ n. record found { within = Some n }) after e in
+    subst (Agrees grown) p.2 (agrees_more Within text earlier grown found _ a g (λ o. within_marks o p.0 found) refl
+    (within_values p.0 text earlier grown found a g p.1))
+agrees-set Rounds text earlier grown found after a g e =
+    let p = number_ok (setting Rounds text) (λ n. record found { rounds = Some n }) after e in
+    subst (Agrees grown) p.2 (agrees_more Rounds text earlier grown found _ a g (λ o. rounds_marks o p.0 found) refl
+    (rounds_values p.0 text earlier grown found a g p.1))
 
 -- ---- one step
 
@@ -363,6 +443,10 @@ set_follows Ahead text found =
     number_follows Ahead text (setting Ahead text) (λ n. record found { ahead = Some n }) refl
 set_follows Radius text found =
     number_follows Radius text (setting Radius text) (λ n. record found { radius = Some n }) refl
+set_follows Within text found =
+    number_follows Within text (setting Within text) (λ n. record found { within = Some n }) refl
+set_follows Rounds text found =
+    number_follows Rounds text (setting Rounds text) (λ n. record found { rounds = Some n }) refl
 
 -- the word at hand is an option, and the nearest word before takes no next one
 pub record AtOption (command : CommandKind) (earlier : List (List ℕ)) (word : List ℕ) (found : Found) : Type 0 where
@@ -479,6 +563,8 @@ agrees-number n earlier word found a plain apart number = record {
     plain_value word earlier Workers plain apart,
     plain_value word earlier Ahead plain apart,
     plain_value word earlier Radius plain apart,
+    plain_value word earlier Within plain apart,
+    plain_value word earlier Rounds plain apart,
     plain,
     apart,
     number,
@@ -533,6 +619,8 @@ plain_follows Settle earlier word later found a option apart =
     fault_at-plain Settle earlier word (first_of later) (plain_words earlier) apart option refl
 plain_follows Certify earlier word later found a option apart =
     fault_at-plain Certify earlier word (first_of later) (plain_words earlier) apart option refl
+plain_follows Convex earlier word later found a option apart =
+    fault_at-plain Convex earlier word (first_of later) (plain_words earlier) apart option refl
 
 either_follows : (b : Bool) (command : CommandKind) (earlier : List (List ℕ)) (word : List ℕ) (later : List (List ℕ))
     (found : Found) → Agrees earlier found → is_option word ≡ b → is_value_after earlier ≡ false

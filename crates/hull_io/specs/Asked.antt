@@ -2,14 +2,16 @@
 use Rattle.std.specs.Prelude.{ℕ, ℤ, pos, List, Option, Some, None, option_map, unwrap_or}
 use Rattle.hull_io.specs.declared.defaults.TheConstants.{DEFAULT_PROPOSALS, DEFAULT_WORKERS}
 use Rattle.hull_io.specs.declared.defaults.TheConstants.{DEFAULT_AHEAD, DEFAULT_RADIUS}
+use Rattle.hull_io.specs.declared.defaults.TheConstants.{DEFAULT_WITHIN}
 use Rattle.hull_io.specs.declared.command.PriceWords.{PriceWords}
 use Rattle.hull_io.specs.declared.command.CheckWords.{CheckWords}
 use Rattle.hull_io.specs.declared.command.SettleWords.{SettleWords}
+use Rattle.hull_io.specs.declared.command.ConvexWords.{ConvexWords}
 use Rattle.hull_io.specs.declared.command.Command.{Command}
 use Rattle.hull_io.specs.declared.command.Command.TheVariants as commands
 use Rattle.hull_io.specs.declared.kinds.CommandKind.{CommandKind}
 use Rattle.hull_io.specs.declared.kinds.CommandKind.TheVariants.{Price, Check, Try, Bound, Fixed}
-use Rattle.hull_io.specs.declared.kinds.CommandKind.TheVariants.{Audit, Settle, Certify}
+use Rattle.hull_io.specs.declared.kinds.CommandKind.TheVariants.{Audit, Settle, Certify, Convex}
 
 pub record PriceAsked : Type 0 where
   pub case_name : List ℕ
@@ -48,6 +50,12 @@ pub record CertifyAsked : Type 0 where
   pub mixture_name : List ℕ
   pub radius : ℤ
 
+pub record ConvexAsked : Type 0 where
+  pub case_name : List ℕ
+  pub schedule_name : List ℕ
+  pub within : ℕ
+  pub rounds : Option ℕ
+
 pub data Asked : Type 0 where
   price : PriceAsked → Asked
   check : CheckAsked → Asked
@@ -57,6 +65,7 @@ pub data Asked : Type 0 where
   audit : AuditAsked → Asked
   settle : SettleAsked → Asked
   certify : CertifyAsked → Asked
+  convex : ConvexAsked → Asked
 
 -- what a contract sees of a command
 abbrev pub price_asked : PriceWords → PriceAsked
@@ -81,6 +90,15 @@ settle_asked w =
       case_name = w.case_name.items;
       schedule_name = w.schedule_name.items;
       prices_name = w.prices_name.items;
+    }
+
+abbrev pub convex_asked : ConvexWords → ConvexAsked
+convex_asked w =
+    record {
+      case_name = w.case_name.items;
+      schedule_name = w.schedule_name.items;
+      within = w.within;
+      rounds = w.rounds;
     }
 
 abbrev pub asked : Command → Asked
@@ -109,6 +127,7 @@ asked (commands.Certify w) =
       mixture_name = w.mixture_name.items;
       radius = w.radius;
     })
+asked (commands.Convex w) = convex (convex_asked w)
 
 -- the values that words give, each where it is given
 pub record Found : Type 0 where
@@ -121,6 +140,8 @@ pub record Found : Type 0 where
   pub workers : Option ℕ
   pub ahead : Option ℕ
   pub radius : Option ℕ
+  pub within : Option ℕ
+  pub rounds : Option ℕ
   pub number : Option ℕ
 
 -- both values, where both are there
@@ -179,3 +200,9 @@ asked_from Certify found =
       mixture_name = mixture_name;
       radius = pos (unwrap_or found.radius DEFAULT_RADIUS);
     }))
+asked_from Convex found = option_map (λ names. convex (record {
+  case_name = names.case_name;
+  schedule_name = names.schedule_name;
+  within = unwrap_or found.within DEFAULT_WITHIN;
+  rounds = found.rounds;
+})) (names_from found)

@@ -8,6 +8,7 @@ use Rattle.hull_io.specs.declared.kinds.OptionKind.{OptionKind}
 use Rattle.hull_io.specs.declared.kinds.OptionKind.TheVariants.{Case, Schedule, Report}
 use Rattle.hull_io.specs.declared.kinds.OptionKind.TheVariants.{Proposals, Workers, Ahead}
 use Rattle.hull_io.specs.declared.kinds.OptionKind.TheVariants.{Radius, Prices, Mixture}
+use Rattle.hull_io.specs.declared.kinds.OptionKind.TheVariants.{Within, Rounds}
 use Rattle.hull_io.specs.declared.word_fault.WordCode.{WordCode}
 use Rattle.hull_io.specs.declared.word_fault.WordCode.TheVariants.{UnknownOption, RepeatedOption}
 use Rattle.hull_io.specs.declared.word_fault.WordCode.TheVariants.{NoValue, BadNumber, StrayWord}
@@ -29,6 +30,8 @@ found_so_far given = record {
   workers = given.workers;
   ahead = given.ahead;
   radius = given.radius;
+  within = given.within;
+  rounds = given.rounds;
   number = given.number;
 }
 
@@ -44,6 +47,8 @@ nothing =
       workers = None;
       ahead = None;
       radius = None;
+      within = None;
+      rounds = None;
       number = None;
     }
 
@@ -57,6 +62,8 @@ is_set Proposals found = is_some found.proposals
 is_set Workers found = is_some found.workers
 is_set Ahead found = is_some found.ahead
 is_set Radius found = is_some found.radius
+is_set Within found = is_some found.within
+is_set Rounds found = is_some found.rounds
 
 -- how many values are set
 abbrev pub flag : Bool → ℕ
@@ -68,7 +75,7 @@ set_count f =
     flag (is_some f.case_name) + flag (is_some f.schedule_name) + flag (is_some f.report_name)
     + flag (is_some f.prices_name) + flag (is_some f.mixture_name)
     + flag (is_some f.proposals) + flag (is_some f.workers) + flag (is_some f.ahead) + flag (is_some f.radius)
-    + flag (is_some f.number)
+    + flag (is_some f.within) + flag (is_some f.rounds) + flag (is_some f.number)
 
 -- a step on a number that is there, and otherwise a bad one
 abbrev pub with_number : Option ℕ → (ℕ → Found) → Result Found WordCode
@@ -87,6 +94,8 @@ set_to Workers text found =
     with_number (setting Workers text) (λ n. record found { workers = Some n })
 set_to Ahead text found = with_number (setting Ahead text) (λ n. record found { ahead = Some n })
 set_to Radius text found = with_number (setting Radius text) (λ n. record found { radius = Some n })
+set_to Within text found = with_number (setting Within text) (λ n. record found { within = Some n })
+set_to Rounds text found = with_number (setting Rounds text) (λ n. record found { rounds = Some n })
 
 -- what a text says for an option, none where it is no number within the range
 abbrev pub put : OptionKind → List ℕ → Found → Found
@@ -99,6 +108,8 @@ put Proposals text found = record found { proposals = setting Proposals text }
 put Workers text found = record found { workers = setting Workers text }
 put Ahead text found = record found { ahead = setting Ahead text }
 put Radius text found = record found { radius = setting Radius text }
+put Within text found = record found { within = setting Within text }
+put Rounds text found = record found { rounds = setting Rounds text }
 
 -- an option with its value
 abbrev pub value_step : OptionKind → Option (List ℕ) → Found → Result Found WordCode

@@ -15,6 +15,7 @@ use Rattle.hull_io.specs.declared.kinds.OptionKind.{OptionKind}
 use Rattle.hull_io.specs.declared.kinds.OptionKind.TheVariants.{Case, Schedule, Report}
 use Rattle.hull_io.specs.declared.kinds.OptionKind.TheVariants.{Proposals, Workers, Ahead}
 use Rattle.hull_io.specs.declared.kinds.OptionKind.TheVariants.{Radius, Prices, Mixture}
+use Rattle.hull_io.specs.declared.kinds.OptionKind.TheVariants.{Within, Rounds}
 use Rattle.hull_io.specs.declared.word_fault.WordCode.{WordCode}
 use Rattle.hull_io.specs.declared.word_fault.WordCode.TheVariants.{NoCommand, UnknownCommand}
 use Rattle.hull_io.specs.declared.word_fault.WordCode.TheVariants.{UnknownOption, RepeatedOption}
@@ -29,6 +30,7 @@ use Rattle.hull_io.specs.WordTexts.{number_in}
 use Rattle.hull_io.specs.Asked.{Asked, Found, asked_from}
 use Rattle.plain_lists.specs.declared.limits.TheConstants.{MOST_PROPOSALS, MOST_WORKERS}
 use Rattle.plain_lists.specs.declared.limits.TheConstants.{MOST_AHEAD, MOST_RADIUS}
+use Rattle.hull_io.specs.declared.limits.TheConstants.{MOST_WITHIN, MOST_ROUNDS}
 
 -- ---- one option
 
@@ -57,6 +59,8 @@ setting Proposals text = number_in 1 MOST_PROPOSALS text
 setting Workers text = number_in 1 MOST_WORKERS text
 setting Ahead text = number_in 1 MOST_AHEAD text
 setting Radius text = number_in 0 MOST_RADIUS text
+setting Within text = number_in 0 MOST_WITHIN text
+setting Rounds text = number_in 1 MOST_ROUNDS text
 setting _ text = None
 
 abbrev pub fits : OptionKind → List ℕ → Bool
@@ -154,6 +158,8 @@ found_in words = record {
   workers = option_and_then (setting Workers) (value_of (spelling Workers) None words);
   ahead = option_and_then (setting Ahead) (value_of (spelling Ahead) None words);
   radius = option_and_then (setting Radius) (value_of (spelling Radius) None words);
+  within = option_and_then (setting Within) (value_of (spelling Within) None words);
+  rounds = option_and_then (setting Rounds) (value_of (spelling Rounds) None words);
   number = option_and_then try_number (first_of (plain_words words));
 }
 

@@ -130,6 +130,31 @@ impl Drop for CertifyWords {
     }
 }
 
+/// The words of `hull convex`.
+pub struct ConvexWords {
+    /// The name of the file with the case.
+    pub case_name: Name,
+    /// The name of the file with the schedule.
+    pub schedule_name: Name,
+    /// The search ends where the distance is at most this, in money, 0 to 1,000,000,000,000;
+    /// [`DEFAULT_WITHIN`] where the words don't say.
+    pub within: u64,
+    /// The most rounds of the search, 1 to 1,000, where the words say.
+    pub rounds: Option<u32>,
+}
+
+// Written out, so that a drop of it is a call, and not one for each name.
+impl Drop for ConvexWords {
+    fn drop(self) {
+        let ConvexWords {
+            case_name: _,
+            schedule_name: _,
+            within: _,
+            rounds: _,
+        } = self;
+    }
+}
+
 /// A command with its words.
 pub enum Command {
     /// Runs the price rule and reports.
@@ -148,6 +173,8 @@ pub enum Command {
     Settle(SettleWords),
     /// Certifies given prices by a mixture of schedules.
     Certify(CertifyWords),
+    /// Searches for convex hull prices, and certifies those that it found.
+    Convex(ConvexWords),
 }
 
 // Written out, so that a drop of it is a call, and not one for each name of each command.
@@ -162,6 +189,7 @@ impl Drop for Command {
             Command::Audit(_words) => {}
             Command::Settle(_words) => {}
             Command::Certify(_words) => {}
+            Command::Convex(_words) => {}
         }
     }
 }

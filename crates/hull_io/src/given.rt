@@ -4,6 +4,7 @@ ghost use Rattle.hull_io.specs.WordTexts.{number_in};
 ghost use Rattle.hull_io.specs.WordPass.{found_so_far, nothing, is_set, put, set_to, seen};
 
 use crate::kinds::OptionKind;
+use crate::limits::{MOST_ROUNDS, MOST_WITHIN};
 use crate::word_fault::WordCode;
 use crate::word_text::number;
 use plain_lists::limits::{MOST_AHEAD, MOST_PROPOSALS, MOST_RADIUS, MOST_WORKERS};
@@ -29,6 +30,10 @@ pub struct Given<'a> {
     pub ahead: Option<u32>,
     /// How far from the chosen prices a bound reaches, in money for a kilowatt and period.
     pub radius: Option<u32>,
+    /// At which distance a search ends, in money.
+    pub within: Option<u64>,
+    /// The most rounds of a search.
+    pub rounds: Option<u32>,
     /// Which case is generated.
     pub number: Option<u64>,
 }
@@ -58,6 +63,8 @@ impl<'a> Given<'a> {
             workers: None,
             ahead: None,
             radius: None,
+            within: None,
+            rounds: None,
             number: None,
         }
     }
@@ -77,6 +84,8 @@ impl<'a> Given<'a> {
             OptionKind::Workers => given.workers = small_number(text, 1, MOST_WORKERS),
             OptionKind::Ahead => given.ahead = small_number(text, 1, MOST_AHEAD),
             OptionKind::Radius => given.radius = small_number(text, 0, MOST_RADIUS),
+            OptionKind::Within => given.within = number(text, 0, MOST_WITHIN),
+            OptionKind::Rounds => given.rounds = small_number(text, 1, MOST_ROUNDS),
         }
         given
     }
@@ -95,6 +104,8 @@ impl<'a> Given<'a> {
             OptionKind::Workers => self.workers.is_some(),
             OptionKind::Ahead => self.ahead.is_some(),
             OptionKind::Radius => self.radius.is_some(),
+            OptionKind::Within => self.within.is_some(),
+            OptionKind::Rounds => self.rounds.is_some(),
         }
     }
 

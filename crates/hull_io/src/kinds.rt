@@ -15,6 +15,7 @@ pub enum CommandKind {
     Audit,
     Settle,
     Certify,
+    Convex,
 }
 
 /// An option without its value.
@@ -29,6 +30,8 @@ pub enum OptionKind {
     Workers,
     Ahead,
     Radius,
+    Within,
+    Rounds,
 }
 
 impl CommandKind {
@@ -45,6 +48,7 @@ impl CommandKind {
             "audit" => Some(CommandKind::Audit),
             "settle" => Some(CommandKind::Settle),
             "certify" => Some(CommandKind::Certify),
+            "convex" => Some(CommandKind::Convex),
             _ => None,
         }
     }
@@ -89,6 +93,12 @@ impl CommandKind {
                 OptionKind::Mixture,
                 OptionKind::Radius,
             ],
+            CommandKind::Convex => &[
+                OptionKind::Case,
+                OptionKind::Schedule,
+                OptionKind::Within,
+                OptionKind::Rounds,
+            ],
         }
     }
 
@@ -118,6 +128,8 @@ impl OptionKind {
             OptionKind::Workers => "workers",
             OptionKind::Ahead => "ahead",
             OptionKind::Radius => "radius",
+            OptionKind::Within => "within",
+            OptionKind::Rounds => "rounds",
         }
     }
 }

@@ -3,10 +3,11 @@
 #![tactic(auto)]
 
 mod command;
-mod defaults;
+pub mod defaults;
 mod file;
 mod given;
 mod kinds;
+pub mod limits;
 mod real;
 mod word_fault;
 mod word_pass;
@@ -17,7 +18,7 @@ ghost use Rattle.std.specs.Prelude.{IfSome, OnErr};
 ghost use Rattle.hull_io.specs.Edge.{Rose, ReadsAt, grown, Writes};
 
 pub use command::{
-    AuditWords, CertifyWords, CheckWords, Command, PriceWords, SettleWords, TryWords,
+    AuditWords, CertifyWords, CheckWords, Command, ConvexWords, PriceWords, SettleWords, TryWords,
 };
 pub use file::{ReadFault, read_whole};
 pub use real::{FileShelf, StdSink, called_words};

@@ -14,9 +14,12 @@ ghost use Rattle.hull_io.specs.declared.word_fault.WordCode.TheVariants.{Missing
 ghost use Rattle.hull_io.specs.declared.word_fault.WordError.TheVariants.{Fault};
 
 use crate::command::{
-    AuditWords, BoundWords, CertifyWords, CheckWords, Command, PriceWords, SettleWords, TryWords,
+    AuditWords, BoundWords, CertifyWords, CheckWords, Command, ConvexWords, PriceWords,
+    SettleWords, TryWords,
 };
-use crate::defaults::{DEFAULT_AHEAD, DEFAULT_PROPOSALS, DEFAULT_RADIUS, DEFAULT_WORKERS};
+use crate::defaults::{
+    DEFAULT_AHEAD, DEFAULT_PROPOSALS, DEFAULT_RADIUS, DEFAULT_WITHIN, DEFAULT_WORKERS,
+};
 use crate::given::Given;
 use crate::kinds::CommandKind;
 use crate::word_fault::{WordCode, WordError, WordFault};
@@ -113,7 +116,7 @@ fn pass_word<'a>(
     given: Given<'a>,
 ) -> Result<(Given<'a>, bool), WordFault>
     requires within { index < length words.now }
-    // Each word that is no value sets one of ten values.
+    // Each word that is no value sets one of twelve values.
     requires few { index + flag is_value ≤ 2 * set_count (found_so_far given) }
     ensures ok { IfOk result (λ x. read_from command (index + 2) is_value
         (drop index (texts words.now)) (found_so_far given.entry)
@@ -139,7 +142,7 @@ fn pass_word<'a>(
 /// The values that the words after the command give.
 fn read_later<'a>(command: CommandKind, words: &'a [String]) -> Result<Given<'a>, WordFault>
     ensures read { seen found_so_far result ≡ read_from command 2 false (texts words.now) nothing }
-    ensures few { OnOk result (length words.now ≤ 20) }
+    ensures few { OnOk result (length words.now ≤ 24) }
 {
     let mut given = Given::nothing();
     let mut is_value = false;
@@ -273,6 +276,22 @@ fn certify_command(alloc: Global, given: &Given, count: u32) -> Result<Command, 
     }))
 }
 
+fn convex_command(alloc: Global, given: &Given, count: u32) -> Result<Command, WordError>
+    ensures { Gives asked result
+        (or_missing (asked_from CommandKind.Convex (found_so_far given.now)) count) }
+{
+    let CheckWords {
+        case_name,
+        schedule_name,
+    } = check_words(alloc, given, count)?;
+    Ok(Command::Convex(ConvexWords {
+        case_name,
+        schedule_name,
+        within: given.within.unwrap_or(DEFAULT_WITHIN),
+        rounds: given.rounds,
+    }))
+}
+
 /// The command with its values, by default where absent.
 fn command_of(
     alloc: Global,
@@ -291,13 +310,14 @@ fn command_of(
         CommandKind::Audit => audit_command(alloc, given, count),
         CommandKind::Settle => Ok(Command::Settle(settle_words(alloc, given, count)?)),
         CommandKind::Certify => certify_command(alloc, given, count),
+        CommandKind::Convex => convex_command(alloc, given, count),
     }
 }
 
 /// The command that the words after the program's name give, or their first fault: the words are
-/// `price`, `check`, `try`, `bound`, `fixed`, `audit`, `settle` or `certify`, and then its options
-/// and, for `try`, its number. It takes memory for the names alone; a name of 4 GiB or more is
-/// answered as want of memory.
+/// `price`, `check`, `try`, `bound`, `fixed`, `audit`, `settle`, `certify` or `convex`, and then its
+/// options and, for `try`, its number. It takes memory for the names alone; a name of 4 GiB or more
+/// is answered as want of memory.
 pub fn read_words(alloc: Global, words: &[String]) -> Result<Command, WordError>
     ensures { Gives asked result (words_of (texts words.now)) }
 {

@@ -14,7 +14,9 @@ invariant-loop-index l =
       workers = l.given.1.1.1.1.1.1.0;
       ahead = l.given.1.1.1.1.1.1.1.0;
       radius = l.given.1.1.1.1.1.1.1.1.0;
-      number = l.given.1.1.1.1.1.1.1.1.1.0;
+      within = l.given.1.1.1.1.1.1.1.1.1.0;
+      rounds = l.given.1.1.1.1.1.1.1.1.1.1.0;
+      number = l.given.1.1.1.1.1.1.1.1.1.1.1.0;
     }) in
     record {
       rest : read_from l.command (l.index + 2) l.is_value (drop l.index (texts l.words)) found ≡ read_from l.command 2
