@@ -8,3 +8,4 @@ pub mod AuditText
 pub mod RecordText
 pub mod SettledText
 pub mod CertifiedText
+pub mod ConvexText

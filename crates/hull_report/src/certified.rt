@@ -24,7 +24,7 @@ pub struct BoundWithin {
 }
 
 // What payments and surplus sum to at least, at a cost and a bound on the dual value.
-fn least(cost: i128, bound: i128) -> i128
+pub(crate) fn least(cost: i128, bound: i128) -> i128
     requires cost { IsSum cost }
     requires bound { IsTold bound }
     ensures { result ≡ least_paid cost bound }

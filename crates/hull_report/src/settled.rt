@@ -47,7 +47,7 @@ fn line_at(settled: &Settled, number: usize) -> Line<'_>
 }
 
 // Writes the lines of all units and bids, in the order of their numbers.
-fn write_all_settled<S: Sink>(
+pub(crate) fn write_all_settled<S: Sink>(
     case: &Case,
     settled: &Settled,
     out: &mut S,

@@ -6,3 +6,4 @@ pub mod Pending
 pub mod Laws
 pub mod SettlementText
 pub mod CertificateText
+pub mod ConvexText

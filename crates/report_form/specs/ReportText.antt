@@ -98,10 +98,14 @@ unit_text (Thermal g) u = thermal_text u
 unit_text (Flat r) u = renewable_text u
 unit_text (Bid b) u = bid_text u
 
-unfoldable pub foot_text : ℤ → ℤ → ℤ → List ℕ
-foot_text surplus payments gap = concat (
+-- surplus, payments and gap, and what comes behind the last of them
+abbrev pub sum_lines : (surplus payments gap : ℤ) (rest : List (List ℕ)) → List (List ℕ)
+sum_lines surplus payments gap rest =
     codes "surplus " ∷ signed_numeral surplus ∷ codes "\npayments " ∷ signed_numeral payments
-    ∷ codes "\ngap " ∷ signed_numeral gap ∷ codes "\nend\n" ∷ [])
+    ∷ codes "\ngap " ∷ signed_numeral gap ∷ rest
+
+unfoldable pub foot_text : ℤ → ℤ → ℤ → List ℕ
+foot_text surplus payments gap = concat (sum_lines surplus payments gap (codes "\nend\n" ∷ []))
 
 -- the whole text
 unfoldable pub report_text : Report → List ℕ

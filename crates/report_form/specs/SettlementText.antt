@@ -22,14 +22,22 @@ pub record SettlementReport : Type 0 where
   pub payments : ℤ
   pub gap : ℤ
 
+-- the prices, with their dual value and the totals of the responses to them
+unfoldable pub levels_text : Proposal → List ℕ
+levels_text row = concat (
+    codes "value " ∷ signed_numeral row.value ∷ codes "\nenergy" ∷ spaced row.prices.energy
+    ∷ codes "\nreserve" ∷ spaced row.prices.reserve ∷ codes "\nsupplied" ∷ spaced row.supply
+    ∷ codes "\nreserved" ∷ spaced row.reserve ∷ codes "\n" ∷ [])
+
+-- the first four lines
+unfoldable pub opening_text : (periods units : ℕ) (cost : ℤ) → List ℕ
+opening_text periods units cost = concat (
+    codes "hull-settlement 1\nperiods " ∷ numeral periods ∷ codes "\nunits " ∷ numeral units
+    ∷ codes "\ncost " ∷ signed_numeral cost ∷ codes "\n" ∷ [])
+
 -- the first nine lines
 unfoldable pub priced_text : (periods units : ℕ) (cost : ℤ) (row : Proposal) → List ℕ
-priced_text periods units cost row = concat (
-    codes "hull-settlement 1\nperiods " ∷ numeral periods ∷ codes "\nunits " ∷ numeral units
-    ∷ codes "\ncost " ∷ signed_numeral cost ∷ codes "\nvalue " ∷ signed_numeral row.value
-    ∷ codes "\nenergy" ∷ spaced row.prices.energy ∷ codes "\nreserve" ∷ spaced row.prices.reserve
-    ∷ codes "\nsupplied" ∷ spaced row.supply ∷ codes "\nreserved" ∷ spaced row.reserve ∷ codes "\n"
-    ∷ [])
+priced_text periods units cost row = opening_text periods units cost ++ levels_text row
 
 -- the whole text: the lines of the units, and the last four, are those of a report
 unfoldable pub settlement_text : SettlementReport → List ℕ

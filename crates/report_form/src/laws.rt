@@ -2,6 +2,7 @@
 ghost use Rattle.report_form.specs.Laws.{GainsAddUp, TextDeterminesReport};
 ghost use Rattle.report_form.specs.SettlementText.{TextDeterminesSettlement};
 ghost use Rattle.report_form.specs.CertificateText.{TextDeterminesCertificate};
+ghost use Rattle.report_form.specs.ConvexText.{TextDeterminesConvex};
 
 use hull_io::Sink;
 
@@ -25,4 +26,10 @@ pub fn text_determines_the_settlement()
 /// Two certificates with equal texts are equal.
 pub fn text_determines_the_certificate()
     ensures { TextDeterminesCertificate }
+{}
+
+/// Two searches for convex hull prices with equal texts are equal: prices, settlement, mixture and
+/// bound. Of renewable units and bids only the power is told, as in a settlement.
+pub fn text_determines_the_search()
+    ensures { TextDeterminesConvex }
 {}

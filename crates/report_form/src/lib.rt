@@ -2,6 +2,7 @@
 #![tactic(auto)]
 
 pub mod certificate;
+pub mod convex;
 pub mod form;
 pub mod laws;
 pub mod parts;
