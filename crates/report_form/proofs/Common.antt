@@ -21,7 +21,17 @@ pub use Rattle.report_form.specs.ReportText.{UnitLine, rows_text, renewable_text
 pub use Rattle.report_form.specs.SettlementText.{SettlementReport, TextDeterminesSettlement}
 pub use Rattle.report_form.specs.CertificateText.{Certificate, TextDeterminesCertificate}
 unfoldable pub use Rattle.report_form.specs.CertificateText.{certificate_text}
-unfoldable pub use Rattle.report_form.specs.SettlementText.{priced_text, settlement_text}
+unfoldable pub use Rattle.report_form.specs.SettlementText.{opening_text, levels_text, priced_text, settlement_text}
+pub use Rattle.report_form.specs.ConvexText.{ShareLine, MixtureLine, ConvexReport, mixture_text, TextDeterminesConvex}
+unfoldable pub use Rattle.report_form.specs.ConvexText.{
+  search_text,
+  searched_text,
+  weighed_text,
+  share_text,
+  mixed_text,
+  bounded_text,
+  convex_text,
+}
 unfoldable pub use Rattle.report_form.specs.ReportText.{
   head_text,
   row_text,

@@ -22,5 +22,7 @@ mod ReadReport
 mod ReadSettlement
 -- laws.rt: a certificate, read back line by line
 mod ReadCertificate
+-- laws.rt: a search for convex hull prices, read back block by block
+mod ReadConvex
 -- The lemmas that answers cite.
 pub mod Lemmas

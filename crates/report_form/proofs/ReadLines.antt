@@ -1,5 +1,6 @@
 -- The blocks of a report, read back from its text.
-use Rattle.report_form.proofs.Common.{◌≡◌, ℕ, suc, ℤ, true, List, [], ◌∷◌, ◌++◌, length, replicate, get_or, drop, codes}
+use Rattle.report_form.proofs.Common.{◌≡◌, ◌==◌, ℕ, suc, ℤ, true, false, List, [], ◌∷◌, ◌++◌, length, replicate, drop}
+use Rattle.report_form.proofs.Common.{codes, levels_text}
 use Rattle.report_form.proofs.Common.{refl, sym, ap, ◌∙◌, arith, append_assoc, All, flat_map, append_cancel_left}
 use Rattle.report_form.proofs.Common.{Proposal, UnitLine, head_text, row_text, rows_text, chosen_text, thermal_text}
 use Rattle.report_form.proofs.Common.{flat_text, renewable_text, bid_text, foot_text, IsFlatLine}
@@ -74,21 +75,40 @@ read_chosen m n y z u v same =
     let value = after_amount (codes " value ") y z _ _ number.1 refl refl in
     (number.0, value.0, append_cancel_left (codes "\n") u v value.1)
 
+pub read_levels : (r s : Proposal) (u v : List ℕ) → levels_text r ++ u ≡ levels_text s ++ v → (r ≡ s) × (u ≡ v)
+unfolding levels_text
+read_levels r s u v same =
+    let text = simp append_assoc at same in
+    let value = after_amount (codes "value ") r.value s.value _ _ text refl refl in
+    let energy = after_amounts (codes "\nenergy") r.prices.energy s.prices.energy _ _ value.1 in
+    let reserve = after_amounts (codes "reserve") r.prices.reserve s.prices.reserve _ _ energy.1 in
+    let supplied = after_amounts (codes "supplied") r.supply s.supply _ _ reserve.1 in
+    let reserved = after_amounts (codes "reserved") r.reserve s.reserve u v supplied.1 in (
+      λ i. record {
+        prices = record { energy = energy.0 i; reserve = reserve.0 i };
+        value = value.0 i;
+        supply =
+            supplied.0 i;
+        reserve = reserved.0 i;
+      },
+      reserved.1,
+    )
+
 -- ---- units
 
 -- each line of a kind begins so
-abbrev pub Begins : List ℕ → (UnitLine → List ℕ) → Type 0
-Begins p f = (l : UnitLine) (u : List ℕ) → (rest : List ℕ) × (f l ++ u ≡ p ++ rest)
+abbrev pub Begins : {A : Type 0} → List ℕ → (A → List ℕ) → Type 0
+Begins {A} p f = (l : A) (u : List ℕ) → (rest : List ℕ) × (f l ++ u ≡ p ++ rest)
 
 -- no line of that kind comes next
 abbrev pub BeginsOther : List ℕ → List ℕ → Type 0
 BeginsOther p u = (rest : List ℕ) → u ≡ p ++ rest → ⊥
 
-abbrev pub ReadsLine : (UnitLine → Type 0) → (UnitLine → List ℕ) → Type 0
-ReadsLine P f = (l m : UnitLine) (u v : List ℕ) → P l → P m → f l ++ u ≡ f m ++ v → (l ≡ m) × (u ≡ v)
+abbrev pub ReadsLine : {A : Type 0} → (A → Type 0) → (A → List ℕ) → Type 0
+ReadsLine {A} P f = (l m : A) (u v : List ℕ) → P l → P m → f l ++ u ≡ f m ++ v → (l ≡ m) × (u ≡ v)
 
-pub read_lines : (P : UnitLine → Type 0) (f : UnitLine → List ℕ) (p : List ℕ) → ReadsLine P f → Begins p f
-    → (ls ms : List UnitLine) (u v : List ℕ) → All P ls → All P ms → BeginsOther p u → BeginsOther p v →
+pub read_lines : {A : Type 0} (P : A → Type 0) (f : A → List ℕ) (p : List ℕ) → ReadsLine P f → Begins p f
+    → (ls ms : List A) (u v : List ℕ) → All P ls → All P ms → BeginsOther p u → BeginsOther p v →
     flat_map f ls ++ u ≡ flat_map f ms ++ v → (ls ≡ ms) × (u ≡ v)
 read_lines P f p reads begins [] [] u v i j a b e = (refl, e)
 read_lines P f p reads begins [] (m ∷ ms) u v i j a b e =
@@ -103,7 +123,7 @@ read_lines P f p reads begins (l ∷ ls) (m ∷ ms) u v i j a b e =
     let rest = read_lines P f p reads begins ls ms u v (All-tail P l ls i) (All-tail P m ms j) a b first.1 in
     (ap (λ z. z ∷ ls) first.0 ∙ ap (λ zs. m ∷ zs) rest.0, rest.1)
 
-pub read_thermal : ReadsLine (λ l. Unit {0}) thermal_text
+pub read_thermal : ReadsLine (λ (l : UnitLine). Unit {0}) thermal_text
 unfolding thermal_text
 read_thermal l m u v i j same =
     let text = simp append_assoc at same in
@@ -170,30 +190,50 @@ bid_begins l u = (drop 9 (bid_text l ++ u), refl)
 
 -- ---- which line comes next
 
-foot_is_no_unit : (x y z : ℤ) (p : List ℕ) → get_or p 0 0 ≡ 117 → (rest : List ℕ) → foot_text x y z ≡ p ++ rest → ⊥
+abbrev pub BeginsWith : ℕ → List ℕ → Type 0
+BeginsWith byte u = (rest : List ℕ) × (u ≡ byte ∷ rest)
+
+pub other_byte : (b c : ℕ) (p u : List ℕ) → (b == c) ≡ false → BeginsWith b u → BeginsOther (c ∷ p) u
+other_byte b c p u apart begins rest e = bytes_apart b c begins.0 (p ++ rest) apart (sym begins.1 ∙ e)
+
+pub foot_begins : (x y z : ℤ) → BeginsWith 115 (foot_text x y z)
 unfolding foot_text
-foot_is_no_unit x y z [] begins rest e = absurd (omega arith)
-foot_is_no_unit x y z (c ∷ p) begins rest e = let first : 115 ≡ c = cc in omega arith
+foot_begins x y z = (drop 1 (foot_text x y z), refl)
 
-pub foot_behind_bids : (x y z : ℤ) → BeginsOther (codes "unit bid ") (foot_text x y z)
-foot_behind_bids x y z = foot_is_no_unit x y z (codes "unit bid ") refl
+foot_behind_bids : (foot : List ℕ) → BeginsWith 115 foot → BeginsOther (codes "unit bid ") foot
+foot_behind_bids foot begins = other_byte 115 117 (codes "nit bid ") foot refl begins
 
-pub bids_behind_renewables : (bids : List UnitLine) (x y z : ℤ) →
-    BeginsOther (codes "unit renewable ") (flat_map bid_text bids ++ foot_text x y z)
+bids_behind_renewables : (bids : List UnitLine) (foot : List ℕ) → BeginsWith 115 foot →
+    BeginsOther (codes "unit renewable ") (flat_map bid_text bids ++ foot)
 unfolding flat_text
-bids_behind_renewables [] x y z = foot_is_no_unit x y z (codes "unit renewable ") refl
-bids_behind_renewables (b ∷ bids) x y z =
+bids_behind_renewables [] foot begins = other_byte 115 117 (codes "nit renewable ") foot refl begins
+bids_behind_renewables (b ∷ bids) foot begins =
     λ rest e. bytes_apart 98 114 _ _ refl (append_cancel_left (codes "unit ") _ _ e)
 
-pub flat_behind_thermal : (renewables bids : List UnitLine) (x y z : ℤ) →
-    BeginsOther (codes "unit thermal ")
-    (flat_map renewable_text renewables ++ (flat_map bid_text bids ++ foot_text x y z))
+flat_behind_thermal : (renewables bids : List UnitLine) (foot : List ℕ) → BeginsWith 115 foot →
+    BeginsOther (codes "unit thermal ") (flat_map renewable_text renewables ++ (flat_map bid_text bids ++ foot))
 unfolding flat_text
-flat_behind_thermal [] [] x y z = foot_is_no_unit x y z (codes "unit thermal ") refl
-flat_behind_thermal [] (b ∷ bids) x y z =
+flat_behind_thermal [] [] foot begins = other_byte 115 117 (codes "nit thermal ") foot refl begins
+flat_behind_thermal [] (b ∷ bids) foot begins =
     λ rest e. bytes_apart 98 116 _ _ refl (append_cancel_left (codes "unit ") _ _ e)
-flat_behind_thermal (r ∷ renewables) bids x y z =
+flat_behind_thermal (r ∷ renewables) bids foot begins =
     λ rest e. bytes_apart 114 116 _ _ refl (append_cancel_left (codes "unit ") _ _ e)
+
+-- the lines of all units, and then a text that begins as the last lines do
+pub read_units : (t x r y b z : List UnitLine) (u v : List ℕ) → All IsFlatLine r → All IsFlatLine y
+    → All IsFlatLine b → All IsFlatLine z → BeginsWith 115 u → BeginsWith 115 v →
+    flat_map thermal_text t ++ (flat_map renewable_text r ++ (flat_map bid_text b ++ u))
+    ≡ flat_map thermal_text x ++ (flat_map renewable_text y ++ (flat_map bid_text z ++ v)) →
+    (t ≡ x) × (r ≡ y) × (b ≡ z) × (u ≡ v)
+read_units t x r y b z u v flat_r flat_y flat_b flat_z m n same =
+    let thermal = read_lines (λ (l : UnitLine). Unit {0}) thermal_text (codes "unit thermal ") read_thermal
+    thermal_begins t x _ _ (λ k d lt. tt) (λ k d lt. tt)
+    (flat_behind_thermal r b u m) (flat_behind_thermal y z v n) same in
+    let renewable = read_lines IsFlatLine renewable_text (codes "unit renewable ") read_renewable renewable_begins
+    r y _ _ flat_r flat_y (bids_behind_renewables b u m) (bids_behind_renewables z v n) thermal.1 in
+    let bids = read_lines IsFlatLine bid_text (codes "unit bid ") read_bid bid_begins b z _ _ flat_b flat_z
+    (foot_behind_bids u m) (foot_behind_bids v n) renewable.1 in
+    (thermal.0, renewable.0, bids.0, bids.1)
 
 -- ---- the last lines
 
