@@ -1,6 +1,6 @@
 -- The mixtures that a search keeps: for each thermal unit as many entries, of which most have no
 -- weight (this project's profile).
-use Rattle.std.specs.Prelude.{◌≡◌, ℕ, ℤ, pos, List, map, length}
+use Rattle.std.specs.Prelude.{◌≡◌, ℕ, List, length}
 use Rattle.std.specs.List.{All, AllZip}
 use Rattle.uc_model.specs.Data.{ThermalUnit, NamedThermalUnit, Schedule, Market}
 use Rattle.gap_proof.specs.Mixtures.{WeighedSchedule, MixtureLists, AreShares, AreMixed, most_whole}
@@ -13,9 +13,9 @@ pub record AreOfOne (places : ℕ) (s : Schedule) (entries : List WeighedSchedul
 
 -- so many entries of a unit, whose weights sum to the greatest whole
 pub record AreKept (periods places : ℕ) (g : ThermalUnit) (entries : List WeighedSchedule) : Type 0
-    where
-  pub count : length entries ≡ places
-  pub mixed : AreMixed periods most_whole g entries
+  where
+    pub count : length entries ≡ places
+    pub mixed : AreMixed periods most_whole g entries
 
 -- so many for each thermal unit
 pub record IsKept (m : Market) (places : ℕ) (x : MixtureLists) : Type 0 where

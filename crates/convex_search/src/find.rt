@@ -23,12 +23,7 @@ const EVERYWHERE: i64 = 20_000_000;
 /// # Errors
 ///
 /// `AllocError` for want of memory.
-pub fn find_convex(
-    alloc: Global,
-    case: &Case,
-    plan: &Plan,
-    goal: Goal,
-) -> Result<Found, AllocError>
+pub fn find_convex(alloc: Global, case: &Case, plan: &Plan, goal: Goal) -> Result<Found, AllocError>
     requires feasible { IsFeasiblePlan (market_of case.now) (schedules_of plan.now) }
     requires goal { IsGoal goal }
     ensures { IfOk result (λ found. IsFound (market_of case.now) (schedules_of plan.now) goal
