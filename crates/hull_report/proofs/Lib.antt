@@ -8,5 +8,7 @@ mod RecordTexts
 mod UnitTexts
 -- record.rt: the text of a record's report, part by part
 mod WholeReports
+-- convex.rt: the text of a search, part by part
+mod ConvexTexts
 -- The lemmas that answers cite.
 pub mod Lemmas

@@ -1,4 +1,4 @@
--- Texts that are written one after another: lines of a list, and three texts.
+-- Texts that are written one after another: lines of a list, and two or three texts.
 use Rattle.hull_report.proofs.Common.{◌≡◌, ℕ, ◌+◌, ◌<◌, ◌≤◌, List, ◌++◌, length, take, drop, get_or, Option, Result, Ok}
 use Rattle.hull_report.proofs.Common.{Err, IsErr, sym, ap, subst, ◌∙◌, take_all, flat_map, Gains, FallsShort, Writes}
 use Rattle.hull_report.proofs.Common.{flat_map_at, flat_map_up_to, GainsAddUp}
@@ -42,6 +42,18 @@ module _ {S : Type 0} {held : S → Option (List ℕ)} {faults : S → ℕ} {las
       writes_exit _ r e (subst (FallsShort held faults last old new)
       (ap (λ y. flat_map f (take i xs) ++ f y ++ rest) at ∙ sym (flat_map_at f xs i x h))
       (law.short_more _ rest (law.short_then _ _ q p)))
+
+  -- ---- two texts, one after another: the exit of a `?`, and the last writer
+
+  pub first_of_two : {E : Type 0} {old new : S} (a b : List ℕ) (r : Result (Unit {0}) E) → IsErr r
+      → FallsShort held faults last old new a → Writes held faults last old new r (a ++ b)
+  first_of_two a b r e h = writes_exit (a ++ b) r e (law.short_more a b h)
+
+  pub last_of_two : {E : Type 0} {old mid new : S} (a b : List ℕ) (r : Result (Unit {0}) E)
+      → Writes held faults last mid new r b → Gains held faults old mid a →
+      Writes held faults last old new r (a ++ b)
+  last_of_two a b (Ok u) w p = record { ok = law.gains_then a b w.ok p; err = tt }
+  last_of_two a b (Err e) w p = record { ok = tt; err = law.short_then a b w.err p }
 
   -- ---- three texts, one after another: the exits of two `?`, and the last writer
 
