@@ -14,8 +14,10 @@ use Rattle.report_read.specs.declared.report.Report.{Report}
 use Rattle.hull_input.specs.declared.input.MixedInput.{MixedInput}
 use Rattle.hull_input.specs.declared.input.PricedInput.{PricedInput}
 use Rattle.hull_input.specs.declared.input.ReportedRun.{ReportedRun}
+use Rattle.hull_input.specs.declared.input.SearchInput.{SearchInput}
 use Rattle.hull_input.specs.Files.{Reads, IsReadOf, AreReads}
 use Rattle.hull_input.specs.Planned.{PlannedCase, planned_of, planned_run, IsPlanned}
+use Rattle.hull_input.specs.Sizes.{IsRounds}
 use Rattle.hull_input.specs.Steps.{Then, IsInput, IsWithinWork, IsReportFile, IsReported}
 use Rattle.hull_input.specs.Steps.{IsPricesFile, IsPriced, IsMixtureFile, IsCertifiable}
 
@@ -97,3 +99,10 @@ IsReportedAnswer reads (Ok x) =
     × IsReportFile (reads ReportFile) (Ok (report_of x.report))
     × IsWithinWork (report_of x.report).budget c (Ok (planned_run x.terms))
 IsReportedAnswer reads (Err f) = IsFaultOf (Then (IsInput reads) (IsReported reads)) f
+
+-- ---- a search
+
+-- a feasible schedule of its case, and rounds that a search may have
+pub record IsFitSearch (search : SearchInput) : Type 0 where
+  pub planned : IsPlanned search.input
+  pub rounds : IsRounds search.rounds

@@ -7,6 +7,7 @@ use Rattle.uc_model.specs.Data.{Market, Schedule}
 use Rattle.uc_model.specs.PlainCases.{market_of, schedules_of}
 use Rattle.uc_model.specs.Systems.{IsFeasiblePlan, plan_cost}
 use Rattle.hull_input.specs.declared.input.Input.{Input}
+use Rattle.hull_input.specs.declared.input.SearchInput.{SearchInput}
 
 -- a case, a schedule of all its units, and what that costs
 pub record PlannedCase : Type 0 where
@@ -26,6 +27,10 @@ planned_in b = record { market = b.market; plan = b.plan; cost = b.cost }
 -- what a run works on
 abbrev pub planned_run : Terms → PlannedCase
 planned_run terms = planned_in (setup_of terms)
+
+-- what a search works on
+abbrev pub planned_search : SearchInput → PlannedCase
+planned_search search = planned_of search.input
 
 -- the schedule is feasible, and this is its cost
 pub record IsPlanned (input : Input) : Type 0 where

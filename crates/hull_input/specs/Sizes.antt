@@ -1,7 +1,8 @@
 -- How large a run may be, and the numbers that words ask of it (this project's profile).
-use Rattle.std.specs.Prelude.{◌≡◌, ℕ, ◌≤◌}
+use Rattle.std.specs.Prelude.{◌≡◌, ℕ, ◌≤◌, Option, IfSome}
 use Rattle.plain_lists.specs.declared.limits.TheConstants.{MOST_PROPOSALS, MOST_WORKERS, MOST_AHEAD}
 use Rattle.hull_io.specs.declared.command.PriceWords.{PriceWords}
+use Rattle.hull_io.specs.declared.limits.TheConstants.{MOST_WITHIN, MOST_ROUNDS}
 use Rattle.board_core.specs.declared.terms.Terms.{Terms}
 
 -- the number is from low to high
@@ -18,6 +19,9 @@ IsWorkers n = IsWithin 1 MOST_WORKERS n
 abbrev pub IsAhead : ℕ → Type 0
 IsAhead n = IsWithin 1 MOST_AHEAD n
 
+abbrev pub IsRounds : ℕ → Type 0
+IsRounds n = IsWithin 1 MOST_ROUNDS n
+
 -- the numbers of a run
 pub record IsRunSize (budget workers ahead : ℕ) : Type 0 where
   pub budget_in : IsBudget budget
@@ -29,3 +33,8 @@ pub record HasNumbers (w : PriceWords) (terms : Terms) : Type 0 where
   pub budget : terms.budget ≡ w.proposals
   pub ahead : terms.ahead ≡ w.ahead
   pub callers : terms.callers ≡ w.workers
+
+-- the numbers of a search: the distance at which it ends, and its rounds, where words say
+pub record IsSearchSize (within : ℕ) (rounds : Option ℕ) : Type 0 where
+  pub within_in : IsWithin 0 MOST_WITHIN within
+  pub rounds_in : IfSome rounds IsRounds

@@ -3,12 +3,13 @@
 -- uc_prices, uc_mixture and report_read, and the rules of a schedule in uc_model. The steps of `try`
 -- and `audit` that read no file are in hull_command's FurtherSteps.
 use Rattle.std.specs.Prelude.{◌≡◌, ℕ, ◌*◌, nat_lt, List, [], length, Option, None, Some, Result}
-use Rattle.std.specs.Prelude.{Ok, Err, slice_get, if◌then◌else◌}
+use Rattle.std.specs.Prelude.{Ok, Err, slice_get, if◌then◌else◌, ◌/◌, min, max}
 use Rattle.std.specs.Result.{result_map_both}
 use Rattle.uc_model.specs.Data.{Market, PriceLists, Schedule, unit_count}
 use Rattle.uc_model.specs.Systems.{IsFeasiblePlan, plan_cost}
 use Rattle.uc_model.specs.Refusals.{refusals}
 use Rattle.plain_lists.specs.declared.limits.TheConstants.{MOST_BYTES, MOST_WORK}
+use Rattle.hull_io.specs.declared.defaults.TheConstants.{DEFAULT_ROUNDS}
 use Rattle.uc_text.specs.Files.{FileFault, text, value}
 use Rattle.uc_case.specs.CaseFiles.{IsCaseOf}
 use Rattle.uc_field.specs.declared.fault.FieldFault.{FieldFault}
@@ -113,15 +114,34 @@ IsInput reads =
 
 -- ---- a run
 
--- a run has at most 50,000,000 proposals, units and periods multiplied; a bid counts as a unit
+-- proposals, units and periods multiplied; a bid counts as a unit
+abbrev pub work_for : ℕ → Market → ℕ
+work_for proposals m = proposals * unit_count m * m.periods
+
+-- the fault of too many
+abbrev pub above_work : ℕ → Market → TopFault
+above_work proposals m = Work proposals (unit_count m) m.periods
+
+-- a run has at most 50,000,000
 abbrev pub within_work : ℕ → PlannedCase → Result PlannedCase TopFault
 within_work proposals c =
-    if nat_lt MOST_WORK (proposals * unit_count c.market * c.market.periods)
-    then Err (Work proposals (unit_count c.market) c.market.periods)
+    if nat_lt MOST_WORK (work_for proposals c.market) then Err (above_work proposals c.market)
     else Ok c
 
 abbrev pub IsWithinWork : ℕ → PlannedCase → Result PlannedCase TopFault → Type 0
 IsWithinWork proposals c due = due ≡ within_work proposals c
+
+-- ---- a search
+
+-- The most rounds of a search over a case: as many as words say, or else as many as that limit
+-- allows, 150 at most and 1 at least.
+abbrev pub rounds_for : Option ℕ → Market → ℕ
+rounds_for (Some rounds) m = rounds
+rounds_for None m = max (min (MOST_WORK / max (work_for 1 m) 1) DEFAULT_ROUNDS) 1
+
+-- a search is a run of so many proposals as it has rounds
+abbrev pub IsWithinRounds : Option ℕ → PlannedCase → Result PlannedCase TopFault → Type 0
+IsWithinRounds rounds c = IsWithinWork (rounds_for rounds c.market) c
 
 -- ---- a report
 

@@ -1,21 +1,23 @@
 //! What the words of a command name, read one file after another.
-ghost use Rattle.std.specs.Prelude.{◌≡◌, IfOk};
+ghost use Rattle.std.specs.Prelude.{◌≡◌, IfOk, IfSome};
+ghost use Rattle.uc_model.specs.PlainCases.{market_of};
 ghost use Rattle.hull_io.specs.Edge.{Rose};
 ghost use Rattle.hull_io.specs.Asked.{settle_asked};
 ghost use Rattle.board_core.specs.Setups.{IsSetup, setup_of};
 ghost use Rattle.hull_input.specs.Answers.{IsAnswer, IsLaterShelf, HasReads};
 ghost use Rattle.hull_input.specs.Answers.{IsFitPriced, IsPricedAnswer, IsFitMixed, IsMixedAnswer};
-ghost use Rattle.hull_input.specs.Answers.{IsFitReported, IsReportedAnswer};
+ghost use Rattle.hull_input.specs.Answers.{IsFitReported, IsReportedAnswer, IsFitSearch};
 ghost use Rattle.hull_input.specs.Files.{case_and_schedule, with_report, with_prices, with_mixture};
-ghost use Rattle.hull_input.specs.Planned.{planned_run};
-ghost use Rattle.hull_input.specs.Sizes.{IsRunSize, IsWorkers, HasNumbers};
-ghost use Rattle.hull_input.specs.Steps.{Then, IsInput, IsWithinWork};
+ghost use Rattle.hull_input.specs.Planned.{planned_run, planned_search};
+ghost use Rattle.hull_input.specs.Sizes.{IsRunSize, IsWorkers, HasNumbers, IsRounds};
+ghost use Rattle.hull_input.specs.Steps.{Then, IsInput, IsWithinWork, IsWithinRounds};
+ghost use Rattle.hull_input.specs.Steps.{rounds_for};
 
 use crate::files::{read_input, read_prices_file, read_report_file};
-use crate::input::{MixedInput, PricedInput, ReportedRun, within_work};
+use crate::input::{MixedInput, PricedInput, ReportedRun, SearchInput, within_rounds, within_work};
 use crate::mixture::read_mixture_file;
 use board_core::Terms;
-use hull_io::{AuditWords, CertifyWords, PriceWords, SettleWords, Shelf};
+use hull_io::{AuditWords, CertifyWords, ConvexWords, PriceWords, SettleWords, Shelf};
 use hull_report::TopFault;
 use std::alloc::Global;
 
@@ -109,4 +111,28 @@ pub fn read_mixed<F: Shelf>(
     let mixture_name = words.mixture_name.as_str();
     let mixture = read_mixture_file(alloc, shelf, mixture_name, &priced.input.case)?;
     Ok(MixedInput { priced, mixture })
+}
+
+/// The case and the schedule of the files of these names, with the most rounds of the search that
+/// words ask for; or the first fault of a file, or `Work` where the search is above the limit.
+pub fn read_search<F: Shelf>(
+    alloc: Global,
+    shelf: &mut F,
+    words: &ConvexWords,
+) -> Result<SearchInput, TopFault>
+    requires { IfSome words.now.rounds IsRounds }
+    ensures answers { HasReads (F.told shelf.old)
+        (λ name. Rose F.last (F.faults shelf.old name) (F.faults shelf.new name))
+        (case_and_schedule words.now.case_name.items words.now.schedule_name.items)
+        (λ reads. IsAnswer (Then (IsInput reads) (IsWithinRounds words.now.rounds))
+        planned_search result) }
+    ensures fit { IfOk result IsFitSearch }
+    ensures rounds { IfOk result (λ search. search.rounds
+        ≡ rounds_for words.now.rounds (market_of search.input.case)) }
+    ensures shelf { IsLaterShelf F.told F.faults shelf.old shelf.new }
+{
+    let case_name = words.case_name.as_str();
+    let schedule_name = words.schedule_name.as_str();
+    let input = read_input(alloc, shelf, case_name, schedule_name)?;
+    within_rounds(input, words.rounds)
 }

@@ -1,15 +1,18 @@
 //! What a command works on, and the run of it within the limit of work.
-ghost use Rattle.std.specs.Prelude.{◌≡◌, ◌≤◌, ◌*◌, IfOk};
-ghost use Rattle.plain_lists.specs.declared.limits.TheConstants.{MOST_UNITS};
+ghost use Rattle.std.specs.Prelude.{◌≡◌, ◌<◌, ◌≤◌, ◌*◌, IfOk, IfSome, MatchResult};
+ghost use Rattle.plain_lists.specs.declared.limits.TheConstants.{MOST_UNITS, MOST_WORK};
 ghost use Rattle.uc_model.specs.declared.limits.TheConstants.{MOST_PERIODS};
+ghost use Rattle.uc_model.specs.PlainCases.{market_of};
 ghost use Rattle.board_core.specs.Setups.{IsSetup, setup_of};
-ghost use Rattle.hull_input.specs.Planned.{planned_of, planned_run, IsPlanned};
-ghost use Rattle.hull_input.specs.Sizes.{IsRunSize};
-ghost use Rattle.hull_input.specs.Steps.{IsWithinWork};
-ghost use Rattle.hull_input.specs.Answers.{IsAnswer};
+ghost use Rattle.hull_input.specs.Planned.{planned_of, planned_run, planned_search, IsPlanned};
+ghost use Rattle.hull_input.specs.Sizes.{IsRunSize, IsRounds};
+ghost use Rattle.hull_input.specs.Steps.{IsWithinWork, IsWithinRounds, rounds_for};
+ghost use Rattle.hull_input.specs.Steps.{work_for, above_work};
+ghost use Rattle.hull_input.specs.Answers.{IsAnswer, IsFitSearch};
 
 use board_core::Terms;
 use gap_proof::Mixture;
+use hull_io::defaults::DEFAULT_ROUNDS;
 use hull_report::TopFault;
 use plain_lists::limits::MOST_WORK;
 use report_read::Report;
@@ -54,6 +57,15 @@ pub struct ReportedRun {
     pub report: Report,
 }
 
+/// A case with its schedule, and the most rounds of a search for prices of it.
+#[derive(Drop)]
+pub struct SearchInput {
+    /// The case with its schedule.
+    pub input: Input,
+    /// The most rounds.
+    pub rounds: u32,
+}
+
 /// So many proposals, units and periods multiplied.
 fn work_of(proposals: u32, units: u32, periods: u32) -> u64
     requires units { units ≤ MOST_UNITS }
@@ -61,6 +73,24 @@ fn work_of(proposals: u32, units: u32, periods: u32) -> u64
     ensures { result ≡ proposals * units * periods }
 {
     u64::from(proposals) * u64::from(units) * u64::from(periods)
+}
+
+/// `TopFault::Work` where so many proposals of the case are above the limit of work.
+fn check_work(proposals: u32, case: &Case) -> Result<(), TopFault>
+    ensures { MatchResult result (λ _. work_for proposals (market_of case.now) ≤ MOST_WORK)
+        (λ fault. MOST_WORK < work_for proposals (market_of case.now)
+        × (fault ≡ above_work proposals (market_of case.now))) }
+{
+    let units = case.unit_count();
+    let periods = case.periods;
+    if work_of(proposals, units, periods) > MOST_WORK {
+        return Err(TopFault::Work {
+            proposals,
+            units,
+            periods,
+        });
+    }
+    Ok(())
 }
 
 /// The terms of an input's run with so many proposals, so many of them ahead, and so many callers;
@@ -75,16 +105,8 @@ pub fn within_work(input: Input, budget: u32, ahead: u32, callers: u32) -> Resul
     ensures ahead { IfOk result (λ terms. terms.ahead ≡ ahead) }
     ensures callers { IfOk result (λ terms. terms.callers ≡ callers) }
 {
+    check_work(budget, &input.case)?;
     let Input { case, plan, cost } = input;
-    let units = case.unit_count();
-    let periods = case.periods;
-    if work_of(budget, units, periods) > MOST_WORK {
-        return Err(TopFault::Work {
-            proposals: budget,
-            units,
-            periods,
-        });
-    }
     Ok(Terms {
         case,
         plan,
@@ -93,4 +115,34 @@ pub fn within_work(input: Input, budget: u32, ahead: u32, callers: u32) -> Resul
         ahead,
         callers,
     })
+}
+
+/// The most rounds of a search over a case: as many as words say, or else as many as the limit of
+/// work allows, at most `DEFAULT_ROUNDS` and at least 1.
+fn rounds_for(rounds: Option<u32>, case: &Case) -> u32
+    ensures { result ≡ rounds_for rounds (market_of case.now) }
+{
+    match rounds {
+        Some(rounds) => rounds,
+        None => {
+            let one_round = work_of(1, case.unit_count(), case.periods);
+            let allowed = MOST_WORK / one_round.max(1);
+            allowed.min(u64::from(DEFAULT_ROUNDS)).max(1) as u32
+        }
+    }
+}
+
+/// An input with the most rounds of a search over it, which words ask for; or `TopFault::Work` where
+/// rounds, units and periods multiplied are above `MOST_WORK`, a bid counted as a unit.
+pub fn within_rounds(input: Input, rounds: Option<u32>) -> Result<SearchInput, TopFault>
+    requires planned { IsPlanned input }
+    requires rounds { IfSome rounds IsRounds }
+    ensures answers { IsAnswer (IsWithinRounds rounds (planned_of input)) planned_search result }
+    ensures fit { IfOk result IsFitSearch }
+    ensures rounds { IfOk result (λ search. search.rounds
+        ≡ rounds_for rounds (market_of search.input.case)) }
+{
+    let rounds = rounds_for(rounds, &input.case);
+    check_work(rounds, &input.case)?;
+    Ok(SearchInput { input, rounds })
 }

@@ -9,6 +9,6 @@ mod input;
 pub mod laws;
 mod mixture;
 
-pub use commands::{read_mixed, read_priced, read_reported, read_run};
+pub use commands::{read_mixed, read_priced, read_reported, read_run, read_search};
 pub use files::read_input;
-pub use input::{Input, MixedInput, PricedInput, ReportedRun, within_work};
+pub use input::{Input, MixedInput, PricedInput, ReportedRun, SearchInput, within_work};
