@@ -29,8 +29,8 @@ pub use Rattle.hull_report.specs.declared.fault.FileKind.TheVariants.{ReportFile
 pub use Rattle.hull_report.specs.declared.fault.TopFault.{TopFault}
 pub use Rattle.hull_report.specs.declared.fault.TopFault.TheVariants.{Words}
 pub use Rattle.hull_io.specs.Asked.{Asked, Found, CheckAsked, PriceAsked, SettleAsked, price, check, try, bound}
-pub use Rattle.hull_io.specs.Asked.{fixed, audit, settle, certify, with_both, names_from, settle_from, asked_from}
-pub use Rattle.hull_io.specs.Asked.{asked, price_asked, settle_asked}
+pub use Rattle.hull_io.specs.Asked.{fixed, audit, settle, certify, convex, with_both, names_from, settle_from}
+pub use Rattle.hull_io.specs.Asked.{asked_from, asked, price_asked, settle_asked, convex_asked}
 pub use Rattle.hull_io.specs.Words.{first_fault, backwards, or_fault, or_missing, asked_of, later_words, texts}
 unfoldable pub use Rattle.hull_io.specs.Words.{found_in, words_of}
 pub use Rattle.hull_io.specs.declared.word_fault.WordFault.{WordFault}

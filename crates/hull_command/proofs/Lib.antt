@@ -8,6 +8,8 @@ pub mod AuditLaws
 pub mod SettleLaws
 -- prepare.rt: a certificate of given prices
 pub mod CertifyLaws
+-- prepare.rt: what a search found
+pub mod ConvexLaws
 -- prepare.rt: a run that is ready completes its command
 pub mod RestLaws
 -- end.rt: what is written of a run that has ended is the text of a right report

@@ -2,7 +2,9 @@
 use Rattle.hull_command.proofs.Common.{◌≡◌, ℕ, ℤ, pos, ◌+◌, Bool, true, false, ◌&&◌, cond, leb, List, [], ◌∷◌, length}
 use Rattle.hull_command.proofs.Common.{Option, Some, None, Ok, refl, subst, option_map, unwrap_or, arith}
 use Rattle.hull_command.proofs.Common.{option_and_then, leb-true, ints, WordFault, Asked, Found, CheckAsked, PriceAsked}
-use Rattle.hull_command.proofs.Common.{SettleAsked, price, check, try, bound, fixed, audit, settle, certify, with_both}
+use Rattle.hull_command.proofs.Common.{SettleAsked, price, check, try, bound, fixed, audit, settle, certify, convex}
+use Rattle.hull_command.proofs.Common.{with_both}
+use Rattle.std.specs.Prelude.{IfSome}
 use Rattle.hull_command.proofs.Common.{names_from, settle_from, asked_from, first_fault, backwards, found_in, or_fault}
 use Rattle.hull_command.proofs.Common.{or_missing, asked_of, later_words, words_of}
 use Rattle.std.proofs.lemmas.Option.{same_Some}
@@ -12,7 +14,7 @@ use Rattle.hull_io.specs.declared.kinds.CommandKind.{CommandKind}
 use Rattle.hull_io.specs.declared.kinds.CommandKind.TheVariants as kinds
 use Rattle.hull_io.specs.Spelling.{command_named}
 use Rattle.hull_io.specs.WordTexts.{is_numeral, number_in}
-use Rattle.hull_input.specs.Sizes.{IsWithin, IsWorkers, IsRunSize}
+use Rattle.hull_input.specs.Sizes.{IsWithin, IsWorkers, IsRunSize, IsSearchSize}
 use Rattle.hull_command.specs.Sizes.{HasSizes}
 
 -- ---- one number
@@ -41,6 +43,17 @@ given_within least most default None h = h
 given_within least most default (Some text) h =
     or_default least most default (number_in least most text) h (number_within least most text)
 
+where_given : (least most : ℕ) (number : Option ℕ) → ((n : ℕ) → number ≡ Some n → IsWithin least most n) →
+    IfSome number (IsWithin least most)
+where_given least most None read = tt
+where_given least most (Some n) read = read n refl
+
+said_within : (least most : ℕ) (text : Option (List ℕ)) →
+    IfSome (option_and_then (number_in least most) text) (IsWithin least most)
+said_within least most None = tt
+said_within least most (Some text) =
+    where_given least most (number_in least most text) (number_within least most text)
+
 -- ---- the numbers of all words
 
 radius_within : (n : ℕ) → IsWithin 0 20000000 n → IsRadius (pos n)
@@ -61,6 +74,14 @@ sizes_of words = record {
   ahead_in = given_within 1 16 4 _ (record { at_least = omega arith; at_most = omega arith });
 }
 
+search_of : (words : List (List ℕ)) →
+    IsSearchSize (unwrap_or (found_in words).within 1_000_000) (found_in words).rounds
+unfolding found_in
+search_of words = record {
+  within_in = given_within 0 1000000000000 1000000 _ (record { at_least = omega arith; at_most = omega arith });
+  rounds_in = said_within 1 1000 _;
+}
+
 abbrev Gives : Option Asked → ℕ → Asked → Type 0
 Gives o count a = or_missing o count ≡ Ok a
 
@@ -71,6 +92,7 @@ same a b count e = cc
 record Sizes (found : Found) : Type 0 where
   run : IsRunSize (unwrap_or found.proposals 100) (unwrap_or found.workers 4) (unwrap_or found.ahead 4)
   radius : IsRadius (pos (unwrap_or found.radius 20_000_000))
+  search : IsSearchSize (unwrap_or found.within 1_000_000) found.rounds
 
 by_price : (names : Option CheckAsked) (budget workers ahead count : ℕ) (a : Asked) → IsRunSize budget workers ahead
     → Gives (option_map price
@@ -146,6 +168,14 @@ by_mixture None mixture radius count a wide e = absurd cc
 by_mixture (Some n) None radius count a wide e = absurd cc
 by_mixture (Some n) (Some x) radius count a wide e = subst HasSizes (same _ a count e) wide
 
+by_search : (names : Option CheckAsked) (within : ℕ) (rounds : Option ℕ) (count : ℕ) (a : Asked) →
+    IsSearchSize within rounds
+    → Gives (option_map (λ (n : CheckAsked). convex
+    (record { case_name = n.case_name; schedule_name = n.schedule_name; within = within; rounds = rounds }))
+    names) count a → HasSizes a
+by_search None within rounds count a size e = absurd cc
+by_search (Some names) within rounds count a size e = subst HasSizes (same _ a count e) size
+
 by_kind : (command : CommandKind) (found : Found) (count : ℕ) (a : Asked) → Sizes found →
     Gives (asked_from command found) count a → HasSizes a
 by_kind kinds.Price found count a size e = by_price (names_from found) _ _ _ count a size.run e
@@ -157,6 +187,7 @@ by_kind kinds.Audit found count a size e =
     by_report (names_from found) found.report_name _ count a size.run.workers_in e
 by_kind kinds.Settle found count a size e = by_settle (settle_from found) count a e
 by_kind kinds.Certify found count a size e = by_mixture (settle_from found) found.mixture_name _ count a size.radius e
+by_kind kinds.Convex found count a size e = by_search (names_from found) _ found.rounds count a size.search e
 
 by_values : (faulty : Option WordFault) (command : CommandKind) (found : Found) (count : ℕ) (a : Asked) → Sizes found →
     asked_of command count (or_fault faulty found) ≡ Ok a → HasSizes a
@@ -167,7 +198,11 @@ by_later : (command : Option CommandKind) (later : List (List ℕ)) (a : Asked) 
     HasSizes a
 by_later None later a e = absurd cc
 by_later (Some command) later a e = by_values (first_fault command [] later) command (found_in (backwards [] later))
-    (length later + 1) a (record { run = sizes_of (backwards [] later); radius = radius_of (backwards [] later) }) e
+    (length later + 1) a (record {
+      run = sizes_of (backwards [] later);
+      radius = radius_of (backwards [] later);
+      search = search_of (backwards [] later);
+    }) e
 
 pub words_have_sizes : (words : List (List ℕ)) (a : Asked) → words_of words ≡ Ok a → HasSizes a
 unfolding words_of

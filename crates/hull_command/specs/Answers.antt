@@ -3,7 +3,7 @@ use Rattle.std.specs.Prelude.{◌≡◌, ◌⊎◌, ⊤, ℕ, ℤ, List, unsigne
 use Rattle.uc_model.specs.Data.{PriceLists}
 use Rattle.uc_model.specs.Limits.{IsSum, IsWorth}
 use Rattle.uc_model.specs.PlainCases.{market_of, schedules_of}
-use Rattle.gap_proof.specs.Mixtures.{MixtureLists}
+use Rattle.gap_proof.specs.Mixtures.{MixtureLists, mixture_of, HasMixtureShape}
 use Rattle.gap_proof.specs.MixtureBound.{mixture_bound}
 use Rattle.right_report.specs.Told.{IsTold}
 use Rattle.board_store.specs.Board.{Setup}
@@ -13,7 +13,10 @@ use Rattle.hull_report.specs.CheckText.{check_text}
 use Rattle.hull_report.specs.FaultLines.{fault_line}
 use Rattle.right_report.specs.RightSide.{told_of}
 use Rattle.hull_report.specs.FixedText.{fixed_text}
+use Rattle.convex_search.specs.FoundPrices.{IsFound, found_of}
+use Rattle.hull_report.specs.ConvexText.{convex_of}
 use Rattle.report_form.specs.CertificateText.{certificate_text}
+use Rattle.report_form.specs.ConvexText.{convex_text}
 use Rattle.report_form.specs.ReportText.{Report}
 use Rattle.hull_report.specs.SettledText.{settlement_of}
 use Rattle.report_form.specs.SettlementText.{settlement_text}
@@ -21,8 +24,9 @@ use Rattle.hull_report.specs.TryText.{try_text}
 use Rattle.hull_report.specs.declared.fault.TopFault.{TopFault}
 use Rattle.hull_command.specs.declared.answer.Answer.{Answer}
 use Rattle.hull_command.specs.declared.answer.Answer.TheVariants.{Check, Settle, Try, Bound, Fixed}
-use Rattle.hull_command.specs.declared.answer.Answer.TheVariants.{Audit, Certify}
+use Rattle.hull_command.specs.declared.answer.Answer.TheVariants.{Audit, Certify, Convex}
 use Rattle.hull_command.specs.declared.answer.CertifiedInput.{CertifiedInput}
+use Rattle.hull_command.specs.declared.answer.FoundInput.{FoundInput}
 use Rattle.hull_command.specs.declared.answer.SettledInput.{SettledInput}
 use Rattle.hull_command.specs.declared.end.End.{End}
 use Rattle.hull_command.specs.declared.end.End.TheVariants.{Done, Cut, Refused}
@@ -42,6 +46,12 @@ use Rattle.plan_check.specs.Settled.{settled_of, IsSettledAt}
 abbrev pub IsRunText : (Report → List ℕ) → Setup → List ℕ → Type 0
 IsRunText text_of b = IsReportText text_of b.budget b.ahead (planned_in b)
 
+-- the text that tells what a search found
+abbrev pub found_text : FoundInput → List ℕ
+found_text x =
+    convex_text (convex_of (market_of x.input.case) x.input.cost (settled_of x.found.settled)
+    (mixture_of x.found.mixture) x.goal.within x.goal.rounds x.found.made x.found.bound)
+
 -- the texts that may be printed of an answer
 abbrev pub IsTextOf : Answer → List ℕ → Type 0
 IsTextOf (Check input) text = text ≡ check_text (market_of input.case) input.cost
@@ -52,6 +62,7 @@ IsTextOf (Certify x) text =
     text ≡ certificate_text
     (certificate_of (market_of x.settled.input.case) x.settled.input.cost
     (settled_of x.settled.settled) (unsigned_abs x.within.radius) x.within.bound)
+IsTextOf (Convex x) text = text ≡ found_text x
 IsTextOf (Try number done) text = IsRunText (try_text number) done.closed.setup text
 IsTextOf (Bound b) text =
     IsBoundText b.done.closed.setup.budget b.done.closed.setup.ahead b.radius
@@ -71,6 +82,19 @@ pub record HasCertified (x : CertifiedInput) : Type 0 where
   pub settled : HasSettled x.settled
   pub bound : IsTold x.within.bound
 
+-- so it is of what a search found, and its mixture has entries for each thermal unit
+pub record HasFound (x : FoundInput) : Type 0 where
+  pub cost : IsSum x.input.cost
+  pub value : IsWorth x.found.settled.row.value
+  pub each : HasEachUnit (market_of x.input.case) (settled_of x.found.settled)
+  pub shape : HasMixtureShape (market_of x.input.case) (mixture_of x.found.mixture)
+  pub bound : IsTold x.found.bound
+
+-- what a search finds for the schedule
+abbrev pub IsFoundIn : FoundInput → Type 0
+IsFoundIn x =
+    IsFound (market_of x.input.case) (schedules_of x.input.plan) x.goal (found_of x.found)
+
 -- the schedule's settlement at these prices, and the bound round them by this mixture
 pub record IsCertifiedAt (π : PriceLists) (mixture : MixtureLists) (radius : ℤ)
     (x : CertifiedInput) : Type 0 where
@@ -84,6 +108,7 @@ abbrev pub IsAnswered : Answer → Type 0
 IsAnswered (Check input) = ⊤
 IsAnswered (Settle s) = HasSettled s
 IsAnswered (Certify x) = HasCertified x
+IsAnswered (Convex x) = HasFound x
 IsAnswered (Try number done) = IsEnded done.closed.setup done
 IsAnswered (Bound b) = IsBounded b.done.closed.setup b.radius b
 IsAnswered (Fixed s) = ArePaid s

@@ -18,30 +18,34 @@
 -- over files stand in hull_input's Steps, and a case with its schedule in hull_input's Planned.
 -- FurtherSteps has the case that `try` makes, and the judgement of `audit`. What makes a report and
 -- a side of `fixed` right is in right_report's RightReport and RightSide. The texts of a report, a
--- settlement and a certificate are in report_form's ReportText, SettlementText and CertificateText.
--- The others are in hull_report: CheckText, TryText, BoundText, FixedText, AuditText, FaultLines,
--- and what `settle` and `certify` tell in SettledText and CertifiedText. A case with its schedule's
--- commitments held is in price_settle's FixedCase. Which reports are read, and the first line in
--- fault, is in report_read's Bounds and Faults, and the first line at which a report differs from
--- the right one in report_compare's Right. The bound round a row is in gap_proof's Candidates, the
--- bound by a mixture in its MixtureBound, and a settlement at any prices in plan_check's Settled.
-use Rattle.std.specs.Prelude.{◌≡◌, ◌⊎◌, ℕ, ℤ, List, length, unsigned_abs, Option, None, Some}
+-- settlement, a certificate and a search are in report_form's ReportText, SettlementText,
+-- CertificateText and ConvexText. The others are in hull_report: CheckText, TryText, BoundText,
+-- FixedText, AuditText, FaultLines, and what `settle`, `certify` and `convex` tell in SettledText,
+-- CertifiedText and ConvexText. A case with its schedule's commitments held is in price_settle's
+-- FixedCase. Which reports are read, and the first line in fault, is in report_read's Bounds and
+-- Faults, and the first line at which a report differs from the right one in report_compare's Right.
+-- The bound round a row is in gap_proof's Candidates, the bound by a mixture in its MixtureBound, a
+-- settlement at any prices in plan_check's Settled, and what a search finds in convex_search's
+-- FoundPrices.
+use Rattle.std.specs.Prelude.{◌≡◌, ◌⊎◌, ℕ, ℤ, pos, List, length, unsigned_abs, Option, None, Some}
 use Rattle.std.specs.Prelude.{Result, Ok, Err}
-use Rattle.uc_model.specs.Data.{PriceLists}
+use Rattle.uc_model.specs.Data.{PriceLists, Market}
 use Rattle.price_settle.specs.FixedCase.{fixed_market}
 use Rattle.gap_proof.specs.Candidates.{RowRange, IsFirstLeast}
 use Rattle.hull_io.specs.Asked.{Asked, check, price, try, bound, fixed, audit, settle}
-use Rattle.hull_io.specs.Asked.{certify}
+use Rattle.hull_io.specs.Asked.{certify, convex, ConvexAsked}
 use Rattle.hull_io.specs.Words.{words_of}
 use Rattle.hull_io.specs.declared.word_fault.WordFault.{WordFault}
 use Rattle.hull_report.specs.AuditText.{audit_text}
 use Rattle.hull_report.specs.BoundText.{bound_text}
 use Rattle.hull_report.specs.CertifiedText.{certificate_of}
 use Rattle.hull_report.specs.CheckText.{check_text}
+use Rattle.hull_report.specs.ConvexText.{convex_of}
 use Rattle.hull_report.specs.FaultLines.{status_of, fault_line}
 use Rattle.right_report.specs.RightSide.{ToldSide}
 use Rattle.hull_report.specs.FixedText.{fixed_text}
 use Rattle.report_form.specs.CertificateText.{certificate_text}
+use Rattle.report_form.specs.ConvexText.{convex_text}
 use Rattle.report_form.specs.ReportText.{Report, report_text}
 use Rattle.right_report.specs.RightReport.{IsRightReport}
 use Rattle.right_report.specs.RightSide.{IsRightSide}
@@ -56,13 +60,15 @@ use Rattle.hull_input.specs.Files.{Reads, AreReads, case_and_schedule, with_repo
 use Rattle.hull_input.specs.Files.{with_mixture}
 use Rattle.hull_input.specs.Planned.{PlannedCase}
 use Rattle.hull_input.specs.Steps.{Then, IsInput, IsWithinWork, IsPricesFile, IsPriced}
-use Rattle.hull_input.specs.Steps.{IsMixtureFile, IsCertifiable}
+use Rattle.hull_input.specs.Steps.{IsMixtureFile, IsCertifiable, rounds_for, IsWithinRounds}
 use Rattle.hull_command.specs.declared.end.End.{End}
 use Rattle.hull_command.specs.declared.end.End.TheVariants.{Done, Cut, Refused}
 use Rattle.hull_command.specs.FurtherSteps.{IsMade, IsAudit}
 use Rattle.plan_check.specs.Settled.{Settled, IsSettledAt}
 use Rattle.gap_proof.specs.Mixtures.{MixtureLists}
 use Rattle.gap_proof.specs.MixtureBound.{mixture_bound}
+use Rattle.convex_search.specs.FoundPrices.{FoundPrices, IsFound}
+use Rattle.convex_search.specs.declared.goals.Goal.{Goal}
 
 -- ---- the commands
 
@@ -127,6 +133,18 @@ IsCertificateText prices mixture radius c text =
     × (text ≡ certificate_text (certificate_of c.market c.cost s (unsigned_abs radius)
     (mixture_bound c.market x π radius)))
 
+-- what words and a case tell a search: the distance within which it ends, and its most rounds
+abbrev pub goal_for : ConvexAsked → Market → Goal
+goal_for a m = record { within = pos a.within; rounds = rounds_for a.rounds m }
+
+-- the text of some prices, a mixture and its bound that such a search may find: which ones it finds
+-- isn't said
+abbrev pub IsConvexText : ConvexAsked → PlannedCase → List ℕ → Type 0
+IsConvexText a c text =
+    (f : FoundPrices) × IsFound c.market c.plan (goal_for a c.market) f
+    × (text ≡ convex_text (convex_of c.market c.cost f.settled f.mixture (pos a.within)
+    (rounds_for a.rounds c.market) f.made f.bound))
+
 -- words that are refused at once
 abbrev pub refused : WordFault → Command
 refused f = record {
@@ -186,6 +204,12 @@ command_for (Ok (certify a)) = record {
   name_of = with_mixture a.names a.mixture_name;
   IsDue = λ reads. Then (IsInput reads) (IsCertifiable reads);
   IsText = λ reads. IsCertificateText (reads PricesFile) (reads MixtureFile) a.radius;
+}
+-- prices that a search finds, and how near to the best they are, by a mixture that it finds too
+command_for (Ok (convex a)) = record {
+  name_of = case_and_schedule a.case_name a.schedule_name;
+  IsDue = λ reads. Then (IsInput reads) (IsWithinRounds a.rounds);
+  IsText = λ reads. IsConvexText a;
 }
 command_for (Err f) = refused f
 

@@ -3,7 +3,7 @@ use Rattle.std.specs.Prelude.{◌≡◌, ⊤, ℕ, List, Option, None, Some, Res
 use Rattle.gap_proof.specs.PlaneSums.{IsRadius}
 use Rattle.hull_io.specs.Edge.{Rose}
 use Rattle.hull_io.specs.Asked.{Asked, check, price, try, bound, fixed, audit, settle}
-use Rattle.hull_io.specs.Asked.{certify}
+use Rattle.hull_io.specs.Asked.{certify, convex}
 use Rattle.hull_io.specs.Words.{words_of}
 use Rattle.hull_io.specs.declared.command.PriceWords.{PriceWords}
 use Rattle.hull_io.specs.declared.word_fault.WordFault.{WordFault}
@@ -105,6 +105,7 @@ abbrev pub AskForRun : Result Asked WordFault → Type 0
 AskForRun (Ok (check a)) = ⊥
 AskForRun (Ok (settle a)) = ⊥
 AskForRun (Ok (certify a)) = ⊥
+AskForRun (Ok (convex a)) = ⊥
 AskForRun (Ok (price a)) = ⊤
 AskForRun (Ok (try a)) = ⊤
 AskForRun (Ok (bound a)) = ⊤

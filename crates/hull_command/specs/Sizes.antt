@@ -2,8 +2,8 @@
 use Rattle.std.specs.Prelude.{⊤}
 use Rattle.gap_proof.specs.PlaneSums.{IsRadius}
 use Rattle.hull_io.specs.Asked.{Asked, price, check, try, bound, fixed, audit, settle}
-use Rattle.hull_io.specs.Asked.{certify}
-use Rattle.hull_input.specs.Sizes.{IsWorkers, IsRunSize}
+use Rattle.hull_io.specs.Asked.{certify, convex}
+use Rattle.hull_input.specs.Sizes.{IsWorkers, IsRunSize, IsSearchSize}
 
 abbrev pub HasSizes : Asked → Type 0
 HasSizes (price a) = IsRunSize a.proposals a.workers a.ahead
@@ -14,3 +14,4 @@ HasSizes (check a) = ⊤
 HasSizes (audit a) = IsWorkers a.workers
 HasSizes (settle a) = ⊤
 HasSizes (certify a) = IsRadius a.radius
+HasSizes (convex a) = IsSearchSize a.within a.rounds

@@ -1,5 +1,6 @@
 //! What is to be printed.
 
+use convex_search::{Found, Goal};
 use hull_input::Input;
 use hull_report::BoundWithin;
 use plan_check::Settled;
@@ -39,6 +40,27 @@ impl Drop for CertifiedInput {
     }
 }
 
+/// A case with its schedule, and what a search for prices of it found.
+pub struct FoundInput {
+    /// The case with its schedule.
+    pub input: Input,
+    /// What the search was told.
+    pub goal: Goal,
+    /// What it found.
+    pub found: Found,
+}
+
+// Written out, so that a drop of it is a call, and not one for each list.
+impl Drop for FoundInput {
+    fn drop(self) {
+        let FoundInput {
+            input: _,
+            goal: _,
+            found: _,
+        } = self;
+    }
+}
+
 /// What a command is to print, but for the report of a run.
 pub enum Answer {
     /// That a schedule is feasible, and what it costs.
@@ -47,6 +69,8 @@ pub enum Answer {
     Settle(SettledInput),
     /// The same, with a bound on the dual value of all prices round them.
     Certify(CertifiedInput),
+    /// What a search found: prices, what the schedule is settled at there, and a mixture with its bound.
+    Convex(FoundInput),
     /// The sums of a run on the case that a number stands for.
     Try(u64, Done),
     /// The best bound round the prices that a run chose.
@@ -64,6 +88,7 @@ impl Drop for Answer {
             Answer::Check(_input) => {}
             Answer::Settle(_settled) => {}
             Answer::Certify(_certified) => {}
+            Answer::Convex(_found) => {}
             Answer::Try(_number, _done) => {}
             Answer::Bound(_bounded) => {}
             Answer::Fixed(_sides) => {}

@@ -7,16 +7,17 @@ ghost use Rattle.right_report.specs.RecordReport.{report_of};
 ghost use Rattle.price_settle.specs.Ended.{IsEnded};
 ghost use Rattle.hull_input.specs.Planned.{PlannedCase};
 ghost use Rattle.hull_command.specs.Answers.{IsTextOf, IsAnswered, IsCommandAnswer, IsEndOf};
+ghost use Rattle.hull_command.specs.Answers.{HasFound, found_text};
 ghost use Rattle.hull_command.specs.Outcome.{Ends, status_at};
 ghost use Rattle.hull_command.specs.Rest.{rest_with, nothing_read, IsFit, IsBeforeOf, IsUntouched};
 ghost use Rattle.hull_command.specs.declared.ready.Purpose.{Purpose};
 
-use crate::answer::{Answer, SettledInput};
+use crate::answer::{Answer, FoundInput, SettledInput};
 use crate::ready::{Before, Prepared};
 use hull_io::{Sink, WriteFailed};
 use hull_report::{
-    TopFault, write_audit, write_bound, write_certificate, write_check, write_fault, write_fixed,
-    write_report, write_settlement, write_try,
+    SearchNumbers, TopFault, write_audit, write_bound, write_certificate, write_check,
+    write_convex, write_fault, write_fixed, write_report, write_settlement, write_try,
 };
 use price_settle::Done;
 use right_report::laws::{record_report_is_right, settlements_are_of_all_units};
@@ -60,6 +61,29 @@ pub fn write_done<S: Sink>(done: &mut Done, out: &mut S) -> Result<(), WriteFail
     write_report(&done.closed, &done.settlement, &mut done.buffer, out)
 }
 
+/// Writes the text of what a search found.
+fn write_found<S: Sink>(searched: &FoundInput, out: &mut S) -> Result<(), WriteFailed>
+    requires { HasFound searched.now }
+    ensures { Writes S.held S.faults S.last out.old out.new result
+        (found_text searched.now) }
+{
+    let FoundInput { input, goal, found } = searched;
+    let numbers = SearchNumbers {
+        within: goal.within,
+        rounds: goal.rounds,
+        made: found.made,
+        bound: found.bound,
+    };
+    write_convex(
+        &input.case,
+        input.cost,
+        &found.settled,
+        &found.mixture,
+        numbers,
+        out,
+    )
+}
+
 /// Writes the text of the answer.
 fn write_answer<S: Sink>(answer: &Answer, out: &mut S) -> Result<(), WriteFailed>
     requires { IsAnswered answer.now }
@@ -77,6 +101,7 @@ fn write_answer<S: Sink>(answer: &Answer, out: &mut S) -> Result<(), WriteFailed
             let SettledInput { input, settled } = &certified.settled;
             write_certificate(&input.case, input.cost, settled, certified.within, out)
         }
+        Answer::Convex(found) => write_found(found, out),
         Answer::Try(number, done) => write_try(*number, &done.closed, &done.settlement, out),
         Answer::Bound(bounded) => {
             write_bound(

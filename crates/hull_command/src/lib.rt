@@ -1,5 +1,6 @@
 //! A command but for its runs: its words, its files and each refusal up to the opening of a run, and
-//! what is written of its answer. Of `hull check`, `hull settle` and `hull certify` that is all.
+//! what is written of its answer. Of `hull check`, `hull settle`, `hull certify` and `hull convex`
+//! that is all.
 //!
 //! No thread is started here, and nothing is waited for.
 #![tactic(auto)]
@@ -14,6 +15,7 @@ ghost use Rattle.hull_command.specs.Rest.{IsBefore, IsUntouched};
 
 mod answer;
 mod certify;
+mod convex;
 mod end;
 pub mod laws;
 mod prepare;
@@ -29,10 +31,10 @@ pub use ready::{Before, Purpose, Ready};
 use std::alloc::Global;
 
 /// Does all of a command that comes before a run: its words, its files and each refusal up to the
-/// opening of the run; of `hull check`, `hull settle` and `hull certify` that is all. It answers the
-/// status with which the command has ended, or else what is left to be run, with nothing written
-/// yet. It starts no thread and waits for none, so it is proved to return where each read of the
-/// shelf and each write of the sink does.
+/// opening of the run; of `hull check`, `hull settle`, `hull certify` and `hull convex` that is all.
+/// It answers the status with which the command has ended, or else what is left to be run, with
+/// nothing written yet. It starts no thread and waits for none, so it is proved to return where each
+/// read of the shelf and each write of the sink does.
 pub fn hull_before_run<F: Shelf, S: Sink>(
     alloc: Global,
     words: &[String],

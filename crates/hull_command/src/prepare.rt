@@ -3,14 +3,14 @@
 ghost use Rattle.std.specs.Prelude.{◌≡◌, Ok, Err, None, IfOk, IfErr};
 ghost use Rattle.gap_proof.specs.PlaneSums.{IsRadius};
 ghost use Rattle.hull_io.specs.Edge.{Rose};
-ghost use Rattle.hull_io.specs.Asked.{asked, check, try, audit, settle, certify};
-ghost use Rattle.hull_io.specs.Asked.{check_asked, settle_asked};
+ghost use Rattle.hull_io.specs.Asked.{asked, check, try, audit, settle, certify, convex};
+ghost use Rattle.hull_io.specs.Asked.{check_asked, settle_asked, convex_asked};
 ghost use Rattle.hull_io.specs.Words.{texts, words_of};
 ghost use Rattle.hull_report.specs.declared.fault.FileKind.{FileKind};
 ghost use Rattle.hull_input.specs.Answers.{IsFaultOf, IsLaterShelf, HasReads};
 ghost use Rattle.hull_input.specs.Files.{Reads};
 ghost use Rattle.hull_input.specs.Planned.{planned_of, IsPlanned};
-ghost use Rattle.hull_input.specs.Sizes.{IsWorkers, IsRunSize};
+ghost use Rattle.hull_input.specs.Sizes.{IsWorkers, IsRunSize, IsSearchSize};
 ghost use Rattle.hull_command.specs.FurtherSteps.{made_case};
 ghost use Rattle.hull_command.specs.Inputs.{try_asked, audit_asked, certify_asked};
 ghost use Rattle.hull_command.specs.Outcome.{command_for};
@@ -20,17 +20,18 @@ ghost use Rattle.hull_command.specs.Sizes.{HasSizes};
 
 use crate::answer::Answer;
 use crate::certify::certified_input;
+use crate::convex::found_input;
 use crate::ready::{Prepared, Purpose, Ready};
 use crate::settle::settled_input;
 use case_make::make_case;
 use hull_input::laws::{report_bytes_are_its_text, something_may_be_read};
 use hull_input::{
     Input, MixedInput, ReportedRun, read_input, read_mixed, read_priced, read_reported, read_run,
-    within_work,
+    read_search, within_work,
 };
 use hull_io::{
-    AuditWords, CertifyWords, CheckWords, Command, PriceWords, SettleWords, Shelf, TryWords,
-    WordError, read_words,
+    AuditWords, CertifyWords, CheckWords, Command, ConvexWords, PriceWords, SettleWords, Shelf,
+    TryWords, WordError, read_words,
 };
 use hull_report::TopFault;
 use plan_check::costs::cost_of_plan;
@@ -176,6 +177,24 @@ fn prepare_certify<F: Shelf>(
     Ok(Prepared::Answered(Answer::Certify(certified)))
 }
 
+/// What `hull convex` answers.
+fn prepare_convex<F: Shelf>(
+    alloc: Global,
+    shelf: &mut F,
+    words: &ConvexWords,
+) -> Result<Prepared, TopFault>
+    requires { IsSearchSize words.now.within words.now.rounds }
+    ensures prepared { HasPrepared F.told F.faults F.last shelf.old shelf.new
+        (Ok (convex (convex_asked words.now))) result }
+    ensures asked { IsAsked (Ok (convex (convex_asked words.now))) result }
+    ensures fit { IfOk result IsFit }
+    ensures shelf { IsLaterShelf F.told F.faults shelf.old shelf.new }
+{
+    let search = read_search(alloc, shelf, words)?;
+    let found = found_input(alloc, search, words.within)?;
+    Ok(Prepared::Answered(Answer::Convex(found)))
+}
+
 /// What a command comes to before any run, or its first refusal.
 fn prepare_command<F: Shelf>(
     alloc: Global,
@@ -203,6 +222,7 @@ fn prepare_command<F: Shelf>(
         Command::Audit(words) => prepare_audit(alloc, shelf, words),
         Command::Settle(words) => prepare_settle(alloc, shelf, words),
         Command::Certify(words) => prepare_certify(alloc, shelf, words),
+        Command::Convex(words) => prepare_convex(alloc, shelf, words),
     }
 }
 

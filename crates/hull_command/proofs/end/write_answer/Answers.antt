@@ -11,8 +11,9 @@ use Rattle.hull_report.specs.SettledText.{settlement_of}
 use Rattle.report_form.specs.SettlementText.{settlement_text}
 use Rattle.plan_check.specs.Settled.{settled_of}
 use Rattle.right_report.specs.RecordReport.{report_of, chosen_of, value_of}
-use Rattle.hull_command.specs.Answers.{IsAnswered}
-use Rattle.hull_command.specs.declared.answer.Answer.TheVariants.{Check, Settle, Certify, Try, Bound, Fixed, Audit}
+use Rattle.hull_command.specs.Answers.{IsAnswered, found_text}
+use Rattle.hull_command.specs.declared.answer.Answer.TheVariants.{Check, Settle, Certify, Convex, Try, Bound, Fixed}
+use Rattle.hull_command.specs.declared.answer.Answer.TheVariants.{Audit}
 use Rattle.hull_command.proofs.Lemmas.{run_text, written_bound, bound_written, written_as, at_number}
 use Rattle.hull_command.proofs.end.write_answer.Goals as goal
 
@@ -41,6 +42,11 @@ returns-in-Certify g c =
     (settled_of x.settled.settled) (unsigned_abs x.within.radius) x.within.bound) in
     written_as c.args.answer.now (Certify x) c.in-Certify.is (text x.settled.input.cost) refl
     (at_number text _ _ (to_z-of_z w128 x.settled.input.cost (search rules)) c.write_certificate.ensures)
+
+pub returns-in-Convex : goal.returns-in-Convex
+returns-in-Convex g c =
+    written_as c.args.answer.now (Convex c.in-Convex.found) c.in-Convex.is (found_text c.in-Convex.found) refl
+    c.write_found.ensures
 
 pub returns-in-Try : goal.returns-in-Try
 returns-in-Try g c =

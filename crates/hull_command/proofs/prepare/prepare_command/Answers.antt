@@ -1,7 +1,7 @@
 use Rattle.hull_command.proofs.Common.{Ok, refl, rules, w64, to_z-of_z, nothing_read, price, bound, fixed, price_asked}
 use Rattle.hull_command.proofs.Common.{bound_asked}
 use Rattle.hull_io.specs.declared.command.Command.TheVariants.{Check, Price, Try, Bound, Fixed, Audit, Settle}
-use Rattle.hull_io.specs.declared.command.Command.TheVariants.{Certify}
+use Rattle.hull_io.specs.declared.command.Command.TheVariants.{Certify, Convex}
 use Rattle.hull_command.proofs.Lemmas.{prepared_as, asked_as, asked_any, never_unread}
 use Rattle.hull_command.proofs.prepare.prepare_command.Goals as goal
 
@@ -107,6 +107,21 @@ returns-in-Certify-clause-asked g c =
 pub returns-in-Certify-clause-unread : goal.returns-in-Certify-clause-unread
 returns-in-Certify-clause-unread g c =
     λ none. absurd (never_unread c.args.command.now (Certify c.in-Certify.words) c.in-Certify.is _ refl none)
+
+pub returns-in-Convex-clause-prepared : goal.returns-in-Convex-clause-prepared
+returns-in-Convex-clause-prepared g c =
+    prepared_as c.args.command.now (Convex c.in-Convex.words) c.in-Convex.is g.F.Shelf.told g.F.Shelf.faults
+    g.F.Shelf.last
+    c.args.shelf.now c.prepare_convex.new.shelf c.prepare_convex.result c.prepare_convex.ensures.prepared
+
+pub returns-in-Convex-clause-asked : goal.returns-in-Convex-clause-asked
+returns-in-Convex-clause-asked g c =
+    asked_as c.args.command.now (Convex c.in-Convex.words) c.in-Convex.is c.prepare_convex.result
+    c.prepare_convex.ensures.asked
+
+pub returns-in-Convex-clause-unread : goal.returns-in-Convex-clause-unread
+returns-in-Convex-clause-unread g c =
+    λ none. absurd (never_unread c.args.command.now (Convex c.in-Convex.words) c.in-Convex.is _ refl none)
 
 pub returns-in-Try-clause-prepared : goal.returns-in-Try-clause-prepared
 returns-in-Try-clause-prepared g c =
