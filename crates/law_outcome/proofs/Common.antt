@@ -16,7 +16,8 @@ pub use Rattle.hull_input.specs.Laws.{BytesAreThoseRead, ReportBytesAreItsText}
 pub use Rattle.hull_input.specs.Steps.{bytes_of, IsInput, IsWithinWork, IsReportFile, Goes, Then, IsBytes, case_fault}
 pub use Rattle.hull_input.specs.Steps.{plan_fault, IsCase, IsCaseFile, IsPlan, IsPlanFile, IsChecked, IsReportIn}
 pub use Rattle.hull_input.specs.Steps.{IsPrices, IsPricesFile, IsPriced, prices_fault, IsShares, IsSharesFile, IsMixed}
-pub use Rattle.hull_input.specs.Steps.{IsMixtureFile, HasMixture, IsCertifiable, mixture_fault}
+pub use Rattle.hull_input.specs.Steps.{IsMixtureFile, HasMixture, IsCertifiable, mixture_fault, rounds_for}
+pub use Rattle.hull_input.specs.Steps.{IsWithinRounds}
 pub use Rattle.hull_command.specs.FurtherSteps.{IsMade, IsJudged, IsAudit}
 pub use Rattle.hull_command.specs.Laws.{WordsHaveSizes}
 pub use Rattle.hull_command.specs.Outcome.{command_for, HasText, Ends, status_at, IsBoundText, IsFixedText}
@@ -39,7 +40,7 @@ pub use Rattle.hull_report.specs.declared.fault.TopFault.TheVariants.{CaseText, 
 pub use Rattle.hull_report.specs.declared.fault.TopFault.TheVariants.{Memory, PricesText, PricesValue, MixtureText}
 pub use Rattle.hull_report.specs.declared.fault.TopFault.TheVariants.{MixtureShare, MixtureRule, Report as report_fault}
 pub use Rattle.hull_io.specs.Asked.{Asked, AuditAsked, audit, BoundAsked, bound, PriceAsked, fixed, price, check}
-pub use Rattle.hull_io.specs.Asked.{try, settle, certify, CheckAsked, SettleAsked, CertifyAsked}
+pub use Rattle.hull_io.specs.Asked.{try, settle, certify, convex, CheckAsked, SettleAsked, CertifyAsked, ConvexAsked}
 pub use Rattle.hull_io.specs.Words.{words_of}
 pub use Rattle.hull_io.specs.declared.word_fault.WordFault.{WordFault}
 pub use Rattle.report_form.specs.Laws.{IsFlatLine, HasForm, TextDeterminesReport}
@@ -48,7 +49,7 @@ pub use Rattle.law_outcome.specs.Laws.{OverReads, IsAuditPromised, IsWrongAt, Is
 pub use Rattle.law_outcome.specs.Laws.{IsFixedPromised, is_refusal, IsWritten, IsUnread, HasCause, IsQuiet, IsDecided}
 pub use Rattle.law_outcome.specs.Laws.{word_fault, FollowsFromWords, IsPromised, IsSettlePromised, HasNoPrices}
 pub use Rattle.law_outcome.specs.Laws.{IsCertifyPromised, HasNoMixture, AskForPrices, AreAlike, with_workers}
-pub use Rattle.law_outcome.specs.Laws.{TellTheSame}
+pub use Rattle.law_outcome.specs.Laws.{TellTheSame, TextFollows, IsConvexPromised}
 pub use Rattle.uc_model.specs.Data.{Market, PriceLists, Schedule, unit_count}
 pub use Rattle.price_settle.specs.Laws.{OneSettlement, SettlementsAddUp}
 pub use Rattle.plan_check.specs.Settled.{Settled, IsSettledAt}

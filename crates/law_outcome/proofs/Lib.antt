@@ -16,8 +16,12 @@ pub mod AuditPromise
 pub mod SettlePromise
 -- what is promised of a certificate
 pub mod CertifyPromise
+-- what is promised of a search
+pub mod ConvexPromise
 -- the text of a settlement tells the settlement
 pub mod SettledTexts
+-- the text of a search tells what was found
+pub mod SearchTexts
 -- two runs of the same words print the same
 pub mod SameOutput
 -- The lemmas that answers cite.

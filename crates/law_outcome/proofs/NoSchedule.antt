@@ -3,7 +3,8 @@ use Rattle.law_outcome.proofs.Common.{◌≡◌, ℕ, ◌≤◌, ◌⊎◌, inl,
 use Rattle.law_outcome.proofs.Common.{Ok, Err, refl, sym, ap, ◌∙◌, subst, arith, length, nat_lt, if◌then◌else◌}
 use Rattle.law_outcome.proofs.Common.{ltb-true, Market, Schedule, IsFeasiblePlan, plan_cost, MOST_BYTES, CaseFile}
 use Rattle.law_outcome.proofs.Common.{ScheduleFile, TopFault, TooBig, CaseText, CaseField, Words, Read, Asked, check}
-use Rattle.law_outcome.proofs.Common.{price, try, bound, fixed, audit, settle, certify, words_of, WordFault, End}
+use Rattle.law_outcome.proofs.Common.{price, try, bound, fixed, audit, settle, certify, convex, words_of, WordFault}
+use Rattle.law_outcome.proofs.Common.{End, rounds_for}
 use Rattle.law_outcome.proofs.Common.{done_whole, Cut, Refused, Reads, PlannedCase, bytes_of, Then, IsBytes, IsCaseFile}
 use Rattle.law_outcome.proofs.Common.{IsPlanFile, IsChecked, IsInput, status_of, fault_line, command_for, AreReads}
 use Rattle.law_outcome.proofs.Common.{Ends, status_at, OverReads}
@@ -75,6 +76,10 @@ input_is_refused (Ok (certify a)) reads f (Ok c, input, certifiable) z =
       | inr (inr ten) ↦ absurd (omega (arith, ten, z))
     ]
 input_is_refused (Ok (certify a)) reads f (Err g, input, e) z = refused_input reads f g e input
+input_is_refused (Ok (convex a)) reads f (Ok c, input, work) z =
+    let five = work_fault (rounds_for a.rounds c.market) c f work in
+    absurd (omega (arith, five, z))
+input_is_refused (Ok (convex a)) reads f (Err g, input, e) z = refused_input reads f g e input
 input_is_refused (Err x) reads f due z = let s : f ≡ Words x = same_fault f _ due in
     let one : status_of f ≡ 1 = ap status_of s in absurd (omega (arith, one, z))
 

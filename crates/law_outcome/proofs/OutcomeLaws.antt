@@ -6,7 +6,7 @@ use Rattle.law_outcome.proofs.Common.{Schedule, unit_count, IsFeasiblePlan, plan
 use Rattle.law_outcome.proofs.Common.{RunPricesAreWithin, UnitLine, Report, unit_lines, IsRightReport, words_of}
 use Rattle.law_outcome.proofs.Common.{WordsHaveSizes, MOST_BYTES, Asked, CheckAsked, PriceAsked, AuditAsked}
 use Rattle.law_outcome.proofs.Common.{SettleAsked, CertifyAsked, price, check, try, bound, fixed, audit, settle}
-use Rattle.law_outcome.proofs.Common.{certify, WordFault, PricesFile, MixtureFile, PricesText, PricesValue, MixtureText}
+use Rattle.law_outcome.proofs.Common.{certify, convex, rounds_for, WordFault, PricesFile, MixtureFile, PricesText, PricesValue, MixtureText}
 use Rattle.law_outcome.proofs.Common.{MixtureShare, MixtureRule, IsPricesFile, IsPriced, IsMixtureFile, IsCertifiable}
 use Rattle.law_outcome.proofs.Common.{AskForPrices, status_of, fault_line, ReportPaymentsMakeUpTheGap, CaseFile}
 use Rattle.law_outcome.proofs.Common.{ScheduleFile, ReportFile, TopFault, Words, Read, CaseText, CaseField, PlanText}
@@ -307,6 +307,15 @@ due_fault (Ok (certify a)) reads f (Err g, input, e) =
       | inr (inl p) ↦ unread ScheduleFile a.names.schedule_name p.0 refl p.1
       | inr (inr p) ↦ of_input p.0 p.1
     ]
+due_fault (Ok (convex a)) reads f (Ok c, input, work) =
+    of_work (λ b e. absurd cc) (λ b e. absurd cc) (λ b e. absurd cc) (work_fault (rounds_for a.rounds c.market) c f work)
+due_fault (Ok (convex a)) reads f (Err g, input, e) =
+    let same : g ≡ f = sym (same_fault f g e) in
+    elim (input_fault reads f (subst (λ (h : TopFault). IsInput reads (Err h)) same input)) [
+      | inl p ↦ unread CaseFile a.case_name p.0 refl p.1
+      | inr (inl p) ↦ unread ScheduleFile a.schedule_name p.0 refl p.1
+      | inr (inr p) ↦ of_input p.0 p.1
+    ]
 due_fault (Err x) reads f due = of_words x (same_fault f _ due) refl
 
 -- ---- the cause of each status
@@ -589,6 +598,10 @@ accepted_is_feasible (Ok (certify a)) reads i (Ok c, input, (Ok d, (Err g, price
 accepted_is_feasible (Ok (certify a)) reads i (Ok c, input, (Ok d, priced, (Err g, file, e))) = absurd cc
 accepted_is_feasible (Ok (certify a)) reads i (Ok c, input, (Err g, priced, e)) = absurd cc
 accepted_is_feasible (Ok (certify a)) reads i (Err g, input, e) = absurd cc
+accepted_is_feasible (Ok (convex a)) reads i (Ok c, input, work) =
+    subst (λ (c : PlannedCase). IsFeasiblePlan c.market c.plan × (c.cost ≡ plan_cost c.market c.plan))
+    (same_input (rounds_for a.rounds c.market) c i work) (input_is_feasible reads c input)
+accepted_is_feasible (Ok (convex a)) reads i (Err g, input, e) = absurd cc
 accepted_is_feasible (Err f) reads i due = absurd cc
 
 -- ---- the promise of a report

@@ -1,7 +1,7 @@
 -- Two runs of the same words over the same bytes print the same.
 use Rattle.law_outcome.proofs.Common.{◌≡◌, ℕ, inl, inr, List, Option, None, Some, Result, Ok, Err, refl, sym, ap, ◌∙◌}
 use Rattle.law_outcome.proofs.Common.{subst, arith, IfSome, Asked, check, price, try, bound, fixed, audit, settle}
-use Rattle.law_outcome.proofs.Common.{certify, status_of, fault_line, CaseFile, ScheduleFile, ReportFile, PricesFile}
+use Rattle.law_outcome.proofs.Common.{certify, convex, IsWithinRounds, status_of, fault_line, CaseFile, ScheduleFile, ReportFile, PricesFile}
 use Rattle.law_outcome.proofs.Common.{MixtureFile, TopFault, End, Done, Cut, Refused, Reads, Then, IsCaseFile}
 use Rattle.law_outcome.proofs.Common.{IsPlanFile, IsChecked, IsInput, IsWithinWork, IsReportFile, IsJudged}
 use Rattle.law_outcome.proofs.Common.{IsPricesFile, IsMixtureFile, MixtureLists, IsAuditText, IsSettlementText}
@@ -60,6 +60,8 @@ module _ (reads other : Reads) where
   due_over (settle x) found same due =
       subst (λ (o : Option (List ℕ)). Then (IsInput other) (PricedOf o) found) (same PricesFile)
       (input_over (PricedOf (reads PricesFile)) found (same CaseFile) (same ScheduleFile) due)
+  due_over (convex x) found same due =
+      input_over (IsWithinRounds x.rounds) found (same CaseFile) (same ScheduleFile) due
   due_over (certify x) found same due =
       subst (λ (o : Option (List ℕ)). Then (IsInput other) (CertifiedOf o (other MixtureFile)) found) (same PricesFile)
       (subst (λ (o : Option (List ℕ)). Then (IsInput other) (CertifiedOf (reads PricesFile) o) found) (same MixtureFile)
@@ -74,6 +76,7 @@ module _ (reads other : Reads) where
   text_over (fixed x) i text same is = is
   text_over (audit x) i text same is = subst (λ (o : Option (List ℕ)). IsAuditText o i text) (same ReportFile) is
   text_over (settle x) i text same is = subst (λ (o : Option (List ℕ)). IsSettlementText o i text) (same PricesFile) is
+  text_over (convex x) i text same is = is
   text_over (certify x) i text same is =
       subst (λ (o : Option (List ℕ)). IsCertificateText o (other MixtureFile) x.radius i text) (same PricesFile)
       (subst (λ (o : Option (List ℕ)). IsCertificateText (reads PricesFile) o x.radius i text) (same MixtureFile) is)
@@ -141,6 +144,13 @@ module _ (got : BytesAreThoseRead) (text_read : ReportBytesAreItsText) (reads : 
   certify_read x i π mixture p file mixed MixtureFile = let parts = mixture_parts got reads i.market mixture mixed in
       (parts.bytes, parts.is_read)
 
+  convex_read : (x : _) (i : PlannedCase) → InputParts reads i → AllRead (convex x) reads
+  convex_read x i p CaseFile = (p.case_bytes, p.case_read)
+  convex_read x i p ScheduleFile = (p.plan_bytes, p.plan_read)
+  convex_read x i p ReportFile = tt
+  convex_read x i p PricesFile = tt
+  convex_read x i p MixtureFile = tt
+
   try_read : (x : _) → AllRead (try x) reads
   try_read x CaseFile = tt
   try_read x ScheduleFile = tt
@@ -171,6 +181,8 @@ module _ (got : BytesAreThoseRead) (text_read : ReportBytesAreItsText) (reads : 
   all_read (certify x) i (Ok c, input, (Ok d, priced, (Err g, mixed, e))) = absurd cc
   all_read (certify x) i (Ok c, input, (Err g, priced, e)) = absurd cc
   all_read (certify x) i (Err g, input, e) = absurd cc
+  all_read (convex x) i (Ok c, input, work) = convex_read x c (input_parts got reads c input)
+  all_read (convex x) i (Err g, input, e) = absurd cc
 
 -- where no count rose, each file was read
 quiet_read : (o : Option (List ℕ)) (told : List ℕ → Option (List ℕ)) (rose : List ℕ → Type 0) (read : Option (List ℕ)) →
@@ -212,6 +224,7 @@ free_reads (fixed x) workers told rose reads are = are
 free_reads (audit x) workers told rose reads are = are
 free_reads (settle x) workers told rose reads are = are
 free_reads (certify x) workers told rose reads are = are
+free_reads (convex x) workers told rose reads are = are
 
 free_ends : (a : Asked) (workers : ℕ) (reads : Reads) (gained short : List ℕ → Type 0) (e : End) →
     Ends (command_for (Ok (with_workers workers a))) reads gained short e →
@@ -224,6 +237,7 @@ free_ends (fixed x) workers reads gained short e ends = ends
 free_ends (audit x) workers reads gained short e ends = ends
 free_ends (settle x) workers reads gained short e ends = ends
 free_ends (certify x) workers reads gained short e ends = ends
+free_ends (convex x) workers reads gained short e ends = ends
 
 free_names : (a : Asked) (workers : ℕ) (rose : List ℕ → Type 0) →
     ((file : FileKind) → IfSome ((command_for (Ok (with_workers workers a))).name_of file) (λ name. ¬ rose name))
@@ -236,6 +250,7 @@ free_names (fixed x) workers rose quiet = quiet
 free_names (audit x) workers rose quiet = quiet
 free_names (settle x) workers rose quiet = quiet
 free_names (certify x) workers rose quiet = quiet
+free_names (convex x) workers rose quiet = quiet
 
 -- ---- one output
 

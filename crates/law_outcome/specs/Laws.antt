@@ -4,7 +4,7 @@
 -- it has a front of it and its count rose, or stands at its last value. IsOutcome and the commands
 -- are in the Outcome of hull_command.
 use Rattle.std.specs.List.{All}
-use Rattle.std.specs.Prelude.{◌≡◌, ◌≢◌, ◌⊎◌, ℕ, ◌<◌, ◌≤◌, ◌==◌, ◌||◌, Bool, ◌+ℤ◌, ◌-ℤ◌, List}
+use Rattle.std.specs.Prelude.{◌≡◌, ◌≢◌, ◌⊎◌, ⊤, ℕ, ◌<◌, ◌≤◌, ◌==◌, ◌||◌, Bool, ◌+ℤ◌, ◌-ℤ◌, List}
 use Rattle.std.specs.Prelude.{Option, None, Some, Result, Ok, Err, IsTrue, IfSome, IsSome, ℤ, ◌-◌}
 use Rattle.std.specs.Prelude.{pos, ◌≤ℤ◌, length, slice_get, unsigned_abs}
 use Rattle.uc_model.specs.Data.{Market, PriceLists, Schedule}
@@ -29,12 +29,13 @@ use Rattle.hull_io.specs.Edge.{Rose, Gains, FallsShort}
 use Rattle.plain_lists.specs.declared.limits.TheConstants.{MOST_BYTES}
 use Rattle.hull_io.specs.Asked.{Asked, CheckAsked, PriceAsked, TryAsked, BoundAsked, AuditAsked}
 use Rattle.hull_io.specs.Asked.{SettleAsked, CertifyAsked, check, price, try, bound, fixed, audit}
-use Rattle.hull_io.specs.Asked.{settle, certify}
+use Rattle.hull_io.specs.Asked.{settle, certify, convex, ConvexAsked}
 use Rattle.hull_io.specs.Words.{words_of}
 use Rattle.hull_io.specs.declared.word_fault.WordFault.{WordFault}
 use Rattle.price_settle.specs.FixedCase.{fixed_market}
 use Rattle.gap_proof.specs.Candidates.{RowRange, IsFirstLeast}
-use Rattle.law_bounds.specs.Laws.{IsBoundRound, IsInBox}
+use Rattle.law_bounds.specs.Laws.{IsBoundRound, IsInBox, ArePriced}
+use Rattle.convex_search.specs.FoundPrices.{FoundPrices, IsNear}
 use Rattle.hull_report.specs.AuditText.{audit_text}
 use Rattle.hull_report.specs.BoundText.{bound_text}
 use Rattle.hull_report.specs.FaultLines.{status_of, fault_line}
@@ -42,8 +43,10 @@ use Rattle.right_report.specs.RightSide.{ToldSide}
 use Rattle.hull_report.specs.FixedText.{fixed_text}
 use Rattle.report_form.specs.ReportText.{UnitLine, Report, report_text}
 use Rattle.report_form.specs.CertificateText.{certificate_text}
+use Rattle.report_form.specs.ConvexText.{convex_text}
 use Rattle.report_form.specs.SettlementText.{settlement_text}
 use Rattle.hull_report.specs.CertifiedText.{certificate_of}
+use Rattle.hull_report.specs.ConvexText.{convex_of}
 use Rattle.hull_report.specs.SettledText.{settlement_of}
 use Rattle.right_report.specs.RightReport.{IsRightReport, unit_lines}
 use Rattle.right_report.specs.RightSide.{IsRightSide, IsMadeUp}
@@ -60,7 +63,7 @@ use Rattle.report_compare.specs.Right.{DiffersFromRight}
 use Rattle.law_audit.specs.Laws.{AreAsked}
 use Rattle.hull_input.specs.Files.{Reads, AreReads}
 use Rattle.hull_input.specs.Planned.{PlannedCase}
-use Rattle.hull_input.specs.Steps.{IsInput, IsCaseFile, prices_fault, mixture_fault}
+use Rattle.hull_input.specs.Steps.{IsInput, IsCaseFile, prices_fault, mixture_fault, rounds_for}
 use Rattle.hull_command.specs.Outcome.{Command, command_for, HasText, IsOutcome}
 
 -- ---- at most one thing is due
@@ -71,10 +74,16 @@ OneDue = (words : List (List ℕ)) (reads : Reads) (due other : Result PlannedCa
     → (command_for (words_of words)).IsDue reads due
     → (command_for (words_of words)).IsDue reads other → due ≡ other
 
--- and one text of that input: its bytes follow from the case, the schedule and the run's numbers
+-- words of every command but a search, of which it isn't said which prices it finds
+abbrev pub TextFollows : Result Asked WordFault → Type 0
+TextFollows (Ok (convex a)) = ⊥
+TextFollows words = ⊤
+
+-- and of such words one text of that input: its bytes follow from the case, the schedule and the
+-- run's numbers
 abbrev pub OneText : Type 0
 OneText = (words : List (List ℕ)) (reads : Reads) (i : PlannedCase) (text other : List ℕ)
-    → (command_for (words_of words)).IsText reads i text
+    → TextFollows (words_of words) → (command_for (words_of words)).IsText reads i text
     → (command_for (words_of words)).IsText reads i other → text ≡ other
 
 -- an accepted input has a feasible schedule, at its cost
@@ -408,6 +417,41 @@ pub record HasNoMixture (c : Command) (gained short : List ℕ → Type 0) (read
   pub none : length bytes ≤ MOST_BYTES → (x : MixtureLists) →
       IsMixtureFileOf i.market bytes (Ok x) → IsMixture i.market x → ⊥
 
+-- THE PROMISE of `hull convex`, where it answers 0: there are bytes of the case and of the schedule,
+-- those that are told where any are; they are a case and a feasible schedule of it; and what was
+-- printed is the text of prices within their limits, of what the schedule is settled at there, of a
+-- mixture of feasible schedules of each thermal unit, and of a bound. No whole prices within the
+-- limits have a dual value above the bound, so neither have these; and at any of them payments and
+-- surplus sum to at least `least_paid`. No more rounds were made than the words and the case give,
+-- and fewer only where bound and dual value are near.
+pub record IsConvexPromised (a : ConvexAsked) (told : List ℕ → Option (List ℕ))
+    (gained : List ℕ → Type 0) : Type 0 where
+  pub case_bytes : List ℕ
+  pub case_told : IfSome (told a.case_name) (λ all. case_bytes ≡ all)
+  pub schedule_bytes : List ℕ
+  pub schedule_told : IfSome (told a.schedule_name) (λ all. schedule_bytes ≡ all)
+  pub market : Market
+  pub is_case : IsCaseOf case_bytes (Ok market)
+  pub plan : List Schedule
+  pub is_plan : IsPlanOf market schedule_bytes (Ok plan)
+  pub feasible : IsFeasiblePlan market plan
+  pub found : FoundPrices
+  pub prices : ArePriced market found.settled.row.prices
+  pub settled : IsSettledAt market plan found.settled.row.prices found.settled
+  pub adds_up : AddsUp market plan found.settled
+  pub mixed : IsMixture market found.mixture
+  pub holds : (π : PriceLists) (value : ℤ) → ArePriced market π → IsDualValue market π value →
+      value ≤ℤ found.bound
+  pub reached : found.settled.row.value ≤ℤ found.bound
+  pub paid : (π : PriceLists) (scheduled payments : List ℤ) (surplus sum : ℤ) →
+      ArePriced market π → IsSettled market plan π scheduled payments surplus sum →
+      least_paid (plan_cost market plan) found.bound ≤ℤ (sum +ℤ surplus)
+  pub made : found.made ≤ rounds_for a.rounds market
+  pub near : found.made < rounds_for a.rounds market →
+      IsNear (pos a.within) found.bound found.settled.row.value
+  pub printed : gained (convex_text (convex_of market (plan_cost market plan) found.settled
+      found.mixture (pos a.within) (rounds_for a.rounds market) found.made found.bound))
+
 -- ---- how many workers there are
 
 -- Two commands read the same files, and over them the same is due and the same texts may be
@@ -445,6 +489,7 @@ with_workers n (audit a) = audit (record a { workers = n })
 with_workers n (check a) = check a
 with_workers n (settle a) = settle a
 with_workers n (certify a) = certify a
+with_workers n (convex a) = convex a
 
 -- both tell the same bytes of each file that these words name
 abbrev pub TellTheSame : Asked → (told other : List ℕ → Option (List ℕ)) → Type 0
@@ -522,11 +567,15 @@ module _ {F S : Type 0} (told : F → List ℕ → Option (List ℕ)) (faults : 
       × (n ≡ 10 → OverReads (command_for (words_of words)) told rose (λ reads.
       (i : PlannedCase) × HasNoMixture (command_for (words_of words)) gained short reads i)))
 
+  abbrev pub SearchesHold : Type 0
+  SearchesHold = OnRuns (λ words told rose gained short n.
+      (a : ConvexAsked) → words_of words ≡ Ok (convex a) → n ≡ 0 → IsConvexPromised a told gained)
+
 -- ---- two runs
 
--- ONE OUTPUT: two runs of the same words but for the number of workers, over shelves that tell the
--- same of the files that they name. Where both answer 0, their sinks gained one and the same text;
--- and so they did where both are audits that answer 8 and no count of theirs rose.
+-- ONE OUTPUT: two runs of the same words but for the number of workers, of no search, over shelves
+-- that tell the same of the files that they name. Where both answer 0, their sinks gained one and
+-- the same text; and so they did where both are audits that answer 8 and no count of theirs rose.
 module _ {F S G T : Type 0} (told : F → List ℕ → Option (List ℕ)) (faults : F → List ℕ → ℕ)
     (last : Option ℕ) (held : S → Option (List ℕ)) (counts : S → ℕ) (most : Option ℕ)
     (told_other : G → List ℕ → Option (List ℕ)) (faults_other : G → List ℕ → ℕ)
@@ -537,6 +586,7 @@ module _ {F S G T : Type 0} (told : F → List ℕ → Option (List ℕ)) (fault
       (words words_other : List (List ℕ)) (a : Asked) (workers : ℕ)
       (old new : F) (before after : S) (n : ℕ)
       (old_other new_other : G) (before_other after_other : T) (n_other : ℕ)
+      → TextFollows (Ok a)
       → words_of words ≡ Ok a → words_of words_other ≡ Ok (with_workers workers a)
       → TellTheSame a (told old) (told_other old_other)
       → IsOutcome words (told old) (λ name. Rose last (faults old name) (faults new name))

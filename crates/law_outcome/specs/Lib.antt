@@ -2,3 +2,4 @@
 pub mod Laws
 -- what printed texts tell
 pub mod SettledTexts
+pub mod SearchTexts

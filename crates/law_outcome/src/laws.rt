@@ -5,7 +5,7 @@ ghost use Rattle.law_outcome.specs.Laws.{EachStatusHasItsCause, WhatWasReadDecid
 ghost use Rattle.law_outcome.specs.Laws.{RefusedSchedulesAreInfeasible, ReportsAreRight};
 ghost use Rattle.law_outcome.specs.Laws.{BoundsHold, BothGapsAreMadeUp, AuditsHold};
 ghost use Rattle.law_outcome.specs.Laws.{SettlementsHold, CertificatesHold, WorkersAreFree};
-ghost use Rattle.law_outcome.specs.Laws.{RunsPrintTheSame};
+ghost use Rattle.law_outcome.specs.Laws.{RunsPrintTheSame, SearchesHold};
 
 use gap_proof::mixture_laws::mixtures_break_no_rule;
 use hull_command::laws::words_have_sizes;
@@ -46,8 +46,8 @@ pub fn one_thing_is_due()
     one_mixture();
 }
 
-/// At most one text may be printed of an input: what `hull price` prints is a function of the case,
-/// the schedule, the budget and the number of proposals ahead.
+/// At most one text may be printed of an input, but for a search: what `hull price` prints is a
+/// function of the case, the schedule, the budget and the number of proposals ahead.
 pub fn one_text_is_right()
     ensures { OneText }
 {
@@ -186,9 +186,24 @@ pub fn certificates_hold<F: Shelf, S: Sink>()
     mixtures_break_no_rule();
 }
 
-/// Two runs of the same words but for the number of workers, over shelves that tell the same of the
-/// files that they name, print the same bytes where both answer 0; and where both are audits that
-/// answer 8 and no count rose.
+/// What `hull convex` promises where it answers 0: what it prints is prices within their limits, what
+/// the schedule is settled at there, a mixture of feasible schedules of each thermal unit, and its
+/// bound; no whole prices within the limits have a dual value above that bound, and at any of them
+/// payments and surplus sum to at least what is printed.
+pub fn searches_hold<F: Shelf, S: Sink>()
+    ensures { SearchesHold F.told F.faults F.last S.held S.faults S.last }
+{
+    bytes_are_those_read();
+    settlements_add_up();
+    cases_are_within();
+    mixture_bound_holds();
+    mixture_bound_reaches_centre();
+    payments_reach_least();
+}
+
+/// Two runs of the same words but for the number of workers, of no search, over shelves that tell the
+/// same of the files that they name, print the same bytes where both answer 0; and where both are
+/// audits that answer 8 and no count rose.
 pub fn runs_print_the_same<F: Shelf, S: Sink, G: Shelf, T: Sink>()
     ensures { RunsPrintTheSame F.told F.faults F.last S.held S.faults S.last
         G.told G.faults G.last T.held T.faults T.last }

@@ -1,8 +1,9 @@
 //! Laws over texts that are printed: each is the contract of a function that answers nothing.
 ghost use Rattle.law_outcome.specs.SettledTexts.{SettlementsHaveForm, TextTellsTheSettlement};
+ghost use Rattle.law_outcome.specs.SearchTexts.{TextTellsTheSearch};
 
 use price_settle::laws::one_settlement;
-use report_form::laws::text_determines_the_settlement;
+use report_form::laws::{text_determines_the_search, text_determines_the_settlement};
 use uc_model::laws::units_are_numbered;
 
 /// What `price_settle::settle_at` answers has the form of which the text of `hull settle` tells
@@ -20,5 +21,15 @@ pub fn text_tells_the_settlement()
 {
     settlements_have_form();
     text_determines_the_settlement();
+    one_settlement();
+}
+
+/// What two searches for a plan found is one where it has one text, so what `hull convex` prints tells
+/// prices, settlement, mixture and bound.
+pub fn text_tells_the_search()
+    ensures { TextTellsTheSearch }
+{
+    settlements_have_form();
+    text_determines_the_search();
     one_settlement();
 }

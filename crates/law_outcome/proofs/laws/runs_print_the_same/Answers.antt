@@ -1,4 +1,5 @@
-use Rattle.law_outcome.proofs.Common.{◌≡◌, ℕ, List, Option, Result, Ok, subst, inl, inr, Asked, WordFault, words_of}
+use Rattle.law_outcome.proofs.Common.{◌≡◌, ℕ, List, Option, Result, Ok, sym, subst, inl, inr, Asked, WordFault}
+use Rattle.law_outcome.proofs.Common.{words_of, TextFollows}
 use Rattle.law_outcome.proofs.Common.{command_for, Reads, PlannedCase, TopFault, AreReads, Ends, IsQuiet}
 use Rattle.hull_command.specs.Outcome.{IsOutcome}
 use Rattle.law_outcome.proofs.SameOutput.{Shows, free_shows, free_quiet, same_at_0, same_at_8}
@@ -21,14 +22,14 @@ still w a told rose gained short same h =
     subst (λ (v : Result Asked WordFault). IsQuiet (command_for v) told rose gained short) same h
 
 pub returns : goal.returns
-returns g c words words_other a workers old new before after n old_other new_other before_other after_other n_other same
-    same_other tell h h_other at =
+returns g c words words_other a workers old new before after n old_other new_other before_other after_other n_other
+    follows same same_other tell h h_other at =
     let due = subst (λ (v : Result Asked WordFault). (reads : Reads) (due other : Result PlannedCase TopFault) →
     (command_for v).IsDue reads due → (command_for v).IsDue reads other → due ≡ other) same
     (c.one_thing_is_due.ensures words) in
     let text = subst (λ (v : Result Asked WordFault). (reads : Reads) (i : PlannedCase) (text other : List ℕ) →
     (command_for v).IsText reads i text → (command_for v).IsText reads i other → text ≡ other) same
-    (c.one_text_is_right.ensures words) in
+    (λ reads i text other. c.one_text_is_right.ensures words reads i text other (subst TextFollows (sym same) follows)) in
     let s = shown words a _ _ _ _ n same h in
     let t = free_shows a workers _ _ _ _ n_other (shown words_other _ _ _ _ _ n_other same_other h_other) in
     let got = c.bytes_are_those_read.ensures in
