@@ -1,5 +1,5 @@
 use crate::same::{same, same_of};
-use hull_io::{Command, PriceWords, SettleWords, TryWords, WordError, read_words};
+use hull_io::{Command, ConvexWords, PriceWords, SettleWords, TryWords, WordError, read_words};
 use std::alloc::{AllocError, Global};
 use std::test::Fail;
 
@@ -43,6 +43,15 @@ fn settle_text(alloc: Global, words: &SettleWords) -> Result<String, AllocError>
     let schedule_name = words.schedule_name.as_str();
     let prices_name = words.prices_name.as_str();
     format!(in alloc; "{case_name} {schedule_name} {prices_name}")
+}
+
+/// With 0 rounds where the words say none.
+fn convex_text(alloc: Global, words: &ConvexWords) -> Result<String, AllocError> {
+    let case_name = words.case_name.as_str();
+    let schedule_name = words.schedule_name.as_str();
+    let within = words.within;
+    let rounds = words.rounds.unwrap_or(0);
+    format!(in alloc; "convex {case_name} {schedule_name} {within} {rounds}")
 }
 
 /// The command and its values in the order of its fields.
@@ -92,6 +101,7 @@ fn command_text(alloc: Global, command: &Command) -> Result<String, AllocError> 
             let radius = words.radius;
             format!(in alloc; "certify {names} {mixture_name} {radius}")
         }
+        Command::Convex(words) => convex_text(alloc, words),
     }
 }
 
@@ -118,6 +128,11 @@ const FAULTS: &[(&str, u32, u32)] = &[
     ("settle --radius=1", 3, 2),
     ("settle --mixture m", 3, 2),
     ("certify --workers 1", 3, 2),
+    ("certify --within 5", 3, 2),
+    ("price --rounds 5", 3, 2),
+    ("convex --workers 1", 3, 2),
+    ("convex --radius=1", 3, 2),
+    ("convex --prices p", 3, 2),
     // 4: given before
     ("price --case a --case b", 4, 4),
     ("price --proposals=1 --proposals=0", 4, 3),
@@ -128,6 +143,8 @@ const FAULTS: &[(&str, u32, u32)] = &[
     ("audit --report=a --report", 4, 3),
     ("settle --prices p --case a --prices=p", 4, 6),
     ("certify --mixture p --case a --mixture=p", 4, 6),
+    ("convex --within 1 --case a --within", 4, 6),
+    ("convex --rounds=1 --rounds=1", 4, 3),
     // 5: no value
     ("price --case", 5, 2),
     ("price --case= a", 5, 2),
@@ -140,6 +157,8 @@ const FAULTS: &[(&str, u32, u32)] = &[
     ("audit --report -b", 5, 2),
     ("settle --case a --prices", 5, 4),
     ("certify --radius", 5, 2),
+    ("convex --rounds", 5, 2),
+    ("convex --case a --within=", 5, 4),
     // 6: no number of the range
     ("price --proposals 0", 6, 2),
     ("price --proposals 10001", 6, 2),
@@ -149,6 +168,9 @@ const FAULTS: &[(&str, u32, u32)] = &[
     ("bound --radius 20000001", 6, 2),
     ("bound --ahead 1 --radius +5", 6, 4),
     ("certify --radius 20000001", 6, 2),
+    ("convex --rounds 0", 6, 2),
+    ("convex --rounds=1001", 6, 2),
+    ("convex --case a --schedule b --within 1000000000001", 6, 6),
     ("fixed --ahead 1_0", 6, 2),
     ("audit --workers 1.0", 6, 2),
     ("try 7 --ahead 17", 6, 3),
@@ -171,6 +193,8 @@ const FAULTS: &[(&str, u32, u32)] = &[
     ("settle --prices=p --schedule b", 7, 4),
     ("certify --case a --schedule b --prices p --radius 0", 7, 9),
     ("certify --mixture=m --case=a --schedule=b", 7, 4),
+    ("convex --case a", 7, 3),
+    ("convex --within 5 --rounds 5 --schedule b", 7, 7),
     // 8: a word too much
     ("price 7", 8, 2),
     ("price --case=a --schedule=b -5", 8, 4),
@@ -186,6 +210,7 @@ const FAULTS: &[(&str, u32, u32)] = &[
     ("audit --case a --workers 2 1 --schedule=b --report=c", 8, 6),
     ("settle 7 --case a", 8, 2),
     ("certify --case a 7", 8, 4),
+    ("convex --case a 7", 8, 4),
 ];
 
 #[test]
@@ -233,6 +258,15 @@ const COMMANDS: &[(&str, &str)] = &[
     (
         "certify --radius=0 --case a --schedule=b --mixture=c --prices a",
         "certify a b a c 0",
+    ),
+    ("convex --case a --schedule b", "convex a b 1000000 0"),
+    (
+        "convex --rounds=1000 --within 0 --schedule=b --case a",
+        "convex a b 0 1000",
+    ),
+    (
+        "convex --within 1000000000000 --rounds 1 --case=a --schedule b",
+        "convex a b 1000000000000 1",
     ),
 ];
 

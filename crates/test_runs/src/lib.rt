@@ -9,6 +9,8 @@ mod runs;
 #[cfg(test)]
 mod same;
 #[cfg(test)]
+mod searches;
+#[cfg(test)]
 mod texts;
 #[cfg(test)]
 mod worked;
