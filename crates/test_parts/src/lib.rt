@@ -6,6 +6,8 @@
 #[cfg(test)]
 mod board_store_tests;
 #[cfg(test)]
+mod convex_text_tests;
+#[cfg(test)]
 mod cost_curve_tests;
 #[cfg(test)]
 mod decimal_tests;

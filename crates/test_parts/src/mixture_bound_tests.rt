@@ -13,7 +13,7 @@ use uc_prices::read_prices;
 
 /// A thermal unit of 8 to 20 MW that costs 50 to start and is off, and a renewable one of 0 to 3
 /// MW, with a demand of 10 MW and a required reserve of 2 MW.
-const CASE: &[u8] = b"{\"time_periods\":1,\"demand\":[10.0],\"reserves\":[2.0],\
+pub const CASE: &[u8] = b"{\"time_periods\":1,\"demand\":[10.0],\"reserves\":[2.0],\
     \"thermal_generators\":{\
     \"G1\":{\"must_run\":0,\"power_output_minimum\":8.0,\"power_output_maximum\":20.0,\
     \"ramp_up_limit\":20.0,\"ramp_down_limit\":20.0,\"ramp_startup_limit\":20.0,\
