@@ -12,7 +12,7 @@ use Rattle.plain_lists.specs.Reserved.{Reserved}
 use Rattle.gap_proof.specs.declared.mixtures.Entry.{Entry}
 use Rattle.gap_proof.specs.declared.mixtures.Mixture.{Mixture}
 use Rattle.uc_model.specs.declared.cases.Case.{Case}
-use Rattle.uc_model.specs.declared.cases.NamedUnit.{NamedUnit}
+use Rattle.uc_model.specs.declared.units.NamedUnit.{NamedUnit}
 
 -- an item stands at a place
 pub record IsItem {X : Type 0} (xs : List X) (k : ℕ) (x : X) : Type 0 where
@@ -32,13 +32,13 @@ item_is (y ∷ ys) (suc k) x e =
 abbrev pub share_lines : List Entry → List ShareLine
 share_lines es = map share_line (map entry_of es)
 
-pub length-lines : (es : List Entry) → length (share_lines es) ≡ length es
-length-lines es = length-map (map entry_of es) share_line ∙ length-map es entry_of
+pub length-shares : (es : List Entry) → length (share_lines es) ≡ length es
+length-shares es = length-map (map entry_of es) share_line ∙ length-map es entry_of
 
 pub entry_at : (es : List Entry) (k : ℕ) (e : Entry) → k < length es → e ≡ get_or es k e →
     IsItem (share_lines es) k (share_line (entry_of e))
 entry_at es k e h is =
-    let told = length-lines es in
+    let told = length-shares es in
     let weighed = length-map es entry_of in
     record {
       inside = omega (arith, h, told);
@@ -49,9 +49,9 @@ entry_at es k e h is =
     }
 
 -- the line before the entries, as it is written
-pub mixed_as_told : (name : List ℕ) (n : ℕ) (es : List Entry) → n ≡ length es →
-    mixed_text name n ≡ mixed_text name (length (share_lines es))
-mixed_as_told name n es h = ap (mixed_text name) (h ∙ sym (length-lines es))
+pub mixed_as_told : (name : List ℕ) (es : List Entry) →
+    mixed_text name (length es) ≡ mixed_text name (length (share_lines es))
+mixed_as_told name es = ap (mixed_text name) (sym (length-shares es))
 
 -- ---- the mixtures of all units
 

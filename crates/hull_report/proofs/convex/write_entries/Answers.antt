@@ -1,5 +1,5 @@
 use Rattle.hull_report.proofs.Common.{arith, rules, w64, to_z-of_z, share_text, share_line, entry_of}
-use Rattle.hull_report.proofs.Lemmas.{gains_at_item, exit_at_item, all_items, share_lines, length-lines, entry_at}
+use Rattle.hull_report.proofs.Lemmas.{gains_at_item, exit_at_item, all_items, share_lines, length-shares, entry_at}
 use Rattle.hull_report.proofs.convex.write_entries.Goals as goal
 
 pub returns-in_err-write_share : goal.returns-in_err-write_share
@@ -22,6 +22,6 @@ loop-entry-preserved g c =
 
 pub returns : goal.returns
 returns g c =
-    let long = length-lines c.args.entries.now in
+    let long = length-shares c.args.entries.now in
     all_items share_text (share_lines c.args.entries.now) c.loop-entry.entry-index (omega (arith, long))
     c.loop-entry.invariant

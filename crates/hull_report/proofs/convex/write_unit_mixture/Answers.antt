@@ -7,11 +7,11 @@ returns-in_err-write_mixed g c =
     let es = c.args.entries.now in
     first_of_two c.texts_add_up.ensures _ (flat_map share_text (share_lines es)) _ c.from_residual.ensures.0
     (subst (FallsShort g.S.Sink.held g.S.Sink.faults g.S.Sink.last c.args.out.now c.write_mixed.new.out)
-    (mixed_as_told c.args.name.now c.len.result es c.len.ensures) c.in_err-write_mixed.ensures.err)
+    (mixed_as_told c.args.name.now es) c.in_err-write_mixed.ensures.err)
 
 pub returns : goal.returns
 returns g c =
     let es = c.args.entries.now in
     last_of_two c.texts_add_up.ensures _ (flat_map share_text (share_lines es)) _ c.write_entries.ensures
     (subst (Gains g.S.Sink.held g.S.Sink.faults c.args.out.now c.write_mixed.new.out)
-    (mixed_as_told c.args.name.now c.len.result es c.len.ensures) c.in_ok-write_mixed.ensures.ok)
+    (mixed_as_told c.args.name.now es) c.in_ok-write_mixed.ensures.ok)
