@@ -3,7 +3,7 @@ use Rattle.hull_report.proofs.Common.{◌≡◌, ℕ, zero, suc, ◌+◌, ◌<�
 use Rattle.hull_report.proofs.Common.{slice_get, sym, ap, ◌∙◌, arith, append_assoc, length-map, get_or-map, flat_map}
 use Rattle.hull_report.proofs.Common.{NamedThermalUnit, Market, unit_count, thermal_names, renewable_names, bid_names}
 use Rattle.hull_report.proofs.Common.{market_of, named_thermal_of, lines_from, Settled, settled_line, settlement_of}
-use Rattle.hull_report.proofs.Common.{thermal_text, renewable_text, bid_text, MixtureLine, ShareLine, searched_text}
+use Rattle.hull_report.proofs.Common.{thermal_text, renewable_text, bid_text, ShareLine, searched_text}
 use Rattle.hull_report.proofs.Common.{weighed_text, mixed_text, mixture_text, bounded_text, convex_text, share_line}
 use Rattle.hull_report.proofs.Common.{mixture_line, mixture_lines, convex_of, least_paid, WeighedSchedule, MixtureLists}
 use Rattle.hull_report.proofs.Common.{AreEntries, HasMixtureShape, entry_of, entries_of, mixture_of}

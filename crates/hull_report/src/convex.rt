@@ -1,5 +1,5 @@
 //! The text of `hull convex`.
-ghost use Rattle.std.specs.Prelude.{◌≡◌, ◌-ℤ◌, ◌++◌, map};
+ghost use Rattle.std.specs.Prelude.{◌-ℤ◌, ◌++◌, map};
 ghost use Rattle.std.specs.List.{flat_map};
 ghost use Rattle.hull_io.specs.Edge.{Writes};
 ghost use Rattle.gap_proof.specs.MixtureLaws.{least_paid};

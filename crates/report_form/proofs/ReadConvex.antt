@@ -1,5 +1,5 @@
 -- What a search for convex hull prices tells, read back from its text block by block.
-use Rattle.report_form.proofs.Common.{◌≡◌, ℕ, suc, ℤ, List, [], ◌∷◌, ◌++◌, length, drop, codes, refl, sym, ap, ◌∙◌, arith}
+use Rattle.report_form.proofs.Common.{◌≡◌, ℕ, ℤ, List, [], ◌∷◌, ◌++◌, length, drop, codes, refl, sym, ap, ◌∙◌, arith}
 use Rattle.report_form.proofs.Common.{append_assoc, append_cancel_left, flat_map, thermal_text, renewable_text, bid_text}
 use Rattle.report_form.proofs.Common.{ShareLine, MixtureLine, ConvexReport, search_text, searched_text, weighed_text}
 use Rattle.report_form.proofs.Common.{share_text, mixed_text, mixture_text, bounded_text, convex_text}
