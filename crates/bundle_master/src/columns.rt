@@ -1,0 +1,169 @@
+//! The columns of a group: schedules, of which it takes shares that sum to 1.
+
+/// A step goes so far of the way to where a number would be 0.
+pub const WAY: f64 = 0.95;
+
+/// Newton steps to the level of a group at most, and how near to 1 the sum of the shares has to be.
+const LEVEL_STEPS: usize = 30;
+
+const LEVEL_ACCURACY: f64 = 1e-12;
+
+/// A schedule that a group takes a share of.
+#[derive(Clone, Copy)]
+pub struct Column {
+    /// What the schedule costs.
+    pub cost: f64,
+    /// The share: above 0.
+    pub share: f64,
+    /// The reduced cost: what it costs at the prices beyond the group's level, above 0.
+    pub reduced: f64,
+    /// How the two change in a step.
+    pub share_step: f64,
+    pub reduced_step: f64,
+    /// The share over the reduced cost: how fast the share follows the prices.
+    pub weight: f64,
+    /// How the share changes at unchanged prices.
+    pub push: f64,
+}
+
+impl Column {
+    /// A column that costs nothing, without a share.
+    pub const BLANK: Column = Column {
+        cost: 0.0,
+        share: 0.0,
+        reduced: 0.0,
+        share_step: 0.0,
+        reduced_step: 0.0,
+        weight: 0.0,
+        push: 0.0,
+    };
+}
+
+/// Sums over the pairs of a master problem: of what is at least 0, and of what it's multiplied by.
+#[derive(Clone, Copy)]
+pub struct Sums {
+    /// What the shares cost.
+    pub cost: f64,
+    /// The products of the pairs.
+    pub products: f64,
+    /// How many pairs there are.
+    pub pairs: f64,
+}
+
+// What the shares are above 1 in sum, where each product is the same, and how fast that falls with the level.
+fn above_one(columns: &[Column], product: f64, level: f64) -> (f64, f64) {
+    let mut above = -1.0;
+    let mut slope = 0.0;
+    for column in columns {
+        let share = product / (column.reduced + level);
+        above += share;
+        slope += share * share / product;
+    }
+    (above, slope)
+}
+
+// The level at which the shares sum to 1. Their sum falls with it and is convex: from the left Newton's method comes
+// nearer from below each time.
+fn level_of(columns: &[Column], product: f64) -> f64 {
+    let mut least = f64::INFINITY;
+    for column in columns {
+        if column.reduced < least {
+            least = column.reduced;
+        }
+    }
+    let mut level = product - least;
+    for _ in 0..LEVEL_STEPS {
+        let (above, slope) = above_one(columns, product, level);
+        if above <= LEVEL_ACCURACY {
+            break;
+        }
+        level += above / slope;
+    }
+    level
+}
+
+/// Shares at which all products with the reduced costs are the same. The reduced costs may be off by one number.
+pub fn centre(columns: &mut [Column], product: f64) {
+    let level = level_of(columns, product);
+    let mut sum = 0.0;
+    for column in columns.iter_mut() {
+        column.reduced += level;
+        column.share = product / column.reduced;
+        sum += column.share;
+    }
+    for column in columns.iter_mut() {
+        column.share /= sum;
+    }
+}
+
+/// The sums with those of a group.
+pub fn add_to(sums: Sums, columns: &[Column]) -> Sums {
+    let mut sums = sums;
+    for column in columns {
+        sums.cost += column.share * column.cost;
+        sums.products += column.share * column.reduced;
+        sums.pairs += 1.0;
+    }
+    sums
+}
+
+/// Sets the weights; their sum.
+pub fn weigh(columns: &mut [Column]) -> f64 {
+    let mut sum = 0.0;
+    for column in columns {
+        column.weight = column.share / column.reduced;
+        sum += column.weight;
+    }
+    sum
+}
+
+/// Sets the pushes that bring each product to the same; their sum.
+pub fn push(columns: &mut [Column], product: f64) -> f64 {
+    let mut sum = 0.0;
+    for column in columns {
+        column.push = product / column.reduced - column.share;
+        sum += column.push;
+    }
+    sum
+}
+
+/// The steps of a group whose columns earn so much more by the step of the prices as their `reduced_step` says: the
+/// group's level moves so that the shares sum to what they did.
+pub fn follow(columns: &mut [Column], weight: f64) {
+    let mut sum = 0.0;
+    for column in columns.iter() {
+        sum += column.push + column.weight * column.reduced_step;
+    }
+    let level = -sum / weight;
+    for column in columns.iter_mut() {
+        let earned = column.reduced_step + level;
+        column.share_step = column.push + column.weight * earned;
+        column.reduced_step = -earned;
+    }
+}
+
+/// The length of a step, or a lesser one at which a number becomes 0.
+pub fn shortened(length: f64, number: f64, step: f64) -> f64 {
+    if step < 0.0 && number < -step * length {
+        return -number / step;
+    }
+    length
+}
+
+/// The length of a step, or a lesser one at which a share or a reduced cost becomes 0.
+pub fn longest(columns: &[Column], length: f64) -> f64 {
+    let mut length = length;
+    for column in columns {
+        length = shortened(length, column.share, column.share_step);
+        length = shortened(length, column.reduced, column.reduced_step);
+    }
+    length
+}
+
+/// Takes a step of that length.
+pub fn advance(columns: &mut [Column], length: f64) {
+    for column in columns {
+        column.share += length * column.share_step;
+        column.reduced += length * column.reduced_step;
+    }
+}

@@ -1,0 +1,106 @@
+//! Variables of one row, such as a renewable unit's power or a block of a bid.
+ghost use Rattle.std.specs.Prelude.{◌≡◌};
+
+use crate::columns::{self, Column, Sums};
+use std::marker::Model;
+
+/// A variable from 0 to an amount in one row, as a group of two columns: nothing, and the whole. Contracts see the row.
+#[derive(Drop)]
+pub struct Single {
+    row: usize,
+    amount: f64,
+    columns: [Column; 2],
+    // The mean of nothing and the whole by the columns' weights, and the weights' sum.
+    mean: f64,
+    weight: f64,
+}
+
+impl Model for Single {
+    ghost use Rattle.std.specs.Prelude.{ℕ};
+
+    ghost Value = { ℕ };
+
+    ghost view = { λ s. s.row };
+}
+
+impl Single {
+    /// A variable from 0 to an amount, which costs so much as a whole.
+    pub fn new(row: usize, amount: f64, cost: f64) -> Single
+        ensures { result ≡ row }
+    {
+        let mut whole = Column::BLANK;
+        whole.cost = cost;
+        Single {
+            row,
+            amount,
+            columns: [Column::BLANK, whole],
+            mean: 0.0,
+            weight: 0.0,
+        }
+    }
+
+    /// The row.
+    pub fn row(&self) -> usize
+        ensures { result ≡ self.now }
+    {
+        self.row
+    }
+
+    /// The sums with those of the two columns.
+    pub fn add_to(&self, sums: Sums) -> Sums {
+        columns::add_to(sums, &self.columns)
+    }
+
+    /// Shares at which each product with the reduced cost at that price is the same.
+    pub fn centre(&mut self, price: f64, product: f64)
+        ensures { self.new ≡ self.old }
+    {
+        self.columns[0].reduced = 0.0;
+        self.columns[1].reduced = self.columns[1].cost - self.amount * price;
+        columns::centre(&mut self.columns, product);
+    }
+
+    /// What the shares give.
+    pub fn given(&self) -> f64 {
+        self.columns[1].share * self.amount
+    }
+
+    /// Sets weights and mean; how fast what the columns give follows the price.
+    pub fn weigh(&mut self) -> f64
+        ensures { self.new ≡ self.old }
+    {
+        self.weight = columns::weigh(&mut self.columns);
+        self.mean = self.columns[1].weight * self.amount / self.weight;
+        let above = self.amount - self.mean;
+        self.columns[0].weight * self.mean * self.mean + self.columns[1].weight * above * above
+    }
+
+    /// Sets the pushes to a product; what they give.
+    pub fn push(&mut self, product: f64) -> f64
+        ensures { self.new ≡ self.old }
+    {
+        let sum = columns::push(&mut self.columns, product);
+        self.columns[1].push * self.amount - sum * self.mean
+    }
+
+    /// The steps of shares and reduced costs at that step of the price.
+    pub fn follow(&mut self, price_step: f64)
+        ensures { self.new ≡ self.old }
+    {
+        self.columns[0].reduced_step = 0.0;
+        self.columns[1].reduced_step = self.amount * price_step;
+        columns::follow(&mut self.columns, self.weight);
+    }
+
+    /// The length of a step, or a lesser one at which a share or a reduced cost becomes 0.
+    pub fn longest(&self, length: f64) -> f64 {
+        columns::longest(&self.columns, length)
+    }
+
+    /// Takes a step of that length.
+    pub fn advance(&mut self, length: f64)
+        ensures { self.new ≡ self.old }
+    {
+        columns::advance(&mut self.columns, length);
+    }
+}
