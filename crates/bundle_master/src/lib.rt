@@ -18,5 +18,3 @@ pub mod pace;
 pub mod rows;
 pub mod singles;
 pub mod units;
-#[cfg(test)]
-mod tests;

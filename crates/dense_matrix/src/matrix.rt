@@ -1,5 +1,5 @@
 //! A symmetric matrix with its root, which solves linear equations.
-ghost use Rattle.std.specs.Prelude.{◌≡◌, ◌+◌, ◌<◌, ◌≤◌, length, IfOk};
+ghost use Rattle.std.specs.Prelude.{◌≡◌, ◌+◌, ◌*◌, ◌<◌, ◌≤◌, length, IfOk};
 
 use crate::table::Table;
 use crate::vectors::{add_multiple, dot};
@@ -66,6 +66,28 @@ fn add_products(row: &mut [f64], a: &[f64], b: &[f64], c: &[f64], d: &[f64])
     }
 }
 
+// Adds the products of four columns, row by row: a row whose entries are 0 in all four stays.
+fn add_columns(entries: &mut [f64], size: usize, columns: &Table)
+    requires entries { length entries.old ≡ size * size }
+    requires columns { columns.now ≡ record { height = 4; width = size } }
+    requires size { size ≤ 100000 }
+{
+    let a = columns.row(0);
+    let b = columns.row(1);
+    let c = columns.row(2);
+    let d = columns.row(3);
+    for row in 0..size {
+        let start = row * size;
+        add_products(
+            &mut entries[start + row..start + size],
+            &a[row..],
+            &b[row..],
+            &c[row..],
+            &d[row..],
+        );
+    }
+}
+
 // Divides the entries of a row by a number, and leaves them in another list too.
 fn divide(row: &mut [f64], by: f64, copy: &mut [f64])
     requires { length copy.old ≡ length row.old }
@@ -117,11 +139,12 @@ impl Matrix {
         requires base { length base.now ≡ self.old }
         ensures { self.new ≡ self.old }
     {
-        self.columns
-            .set_difference(self.waiting, factor, list, base);
-        self.waiting += 1;
-        if self.waiting == GROUP {
+        let place = self.waiting;
+        self.columns.set_difference(place, factor, list, base);
+        if place + 1 == GROUP {
             self.add_waiting();
+        } else {
+            self.waiting = place + 1;
         }
     }
 
@@ -132,31 +155,15 @@ impl Matrix {
         if self.waiting == 0 {
             return;
         }
-        for column in self.waiting..GROUP {
-            self.columns.clear_row(column);
-        }
+        self.columns.clear_from(self.waiting);
         self.add_waiting();
     }
 
-    // Adds the products of four columns, row by row: a row whose entries are 0 in all four stays.
     fn add_waiting(&mut self)
         ensures { self.new ≡ self.old }
     {
         self.waiting = 0;
-        let a = self.columns.row(0);
-        let b = self.columns.row(1);
-        let c = self.columns.row(2);
-        let d = self.columns.row(3);
-        for row in 0..self.size {
-            let start = row * self.size;
-            add_products(
-                &mut self.entries[start + row..start + self.size],
-                &a[row..],
-                &b[row..],
-                &c[row..],
-                &d[row..],
-            );
-        }
+        add_columns(&mut self.entries, self.size, &self.columns);
     }
 
     /// Adds to an entry on the diagonal.
@@ -224,13 +231,14 @@ impl Matrix {
     pub fn solve(&self, right: &mut [f64])
         requires { length right.old ≡ self.now }
     {
-        for row in 0..self.size {
+        for row in 0..right.len() {
             let of_root = self.root_row(row);
             let unknown = right[row] / of_root[0];
             right[row] = unknown;
             add_multiple(&mut right[row + 1..], -unknown, &of_root[1..]);
         }
-        for row in (0..self.size).rev() {
+        for done in 0..right.len() {
+            let row = right.len() - 1 - done;
             let of_root = self.root_row(row);
             let rest = right[row] - dot(&of_root[1..], &right[row + 1..]);
             right[row] = rest / of_root[0];

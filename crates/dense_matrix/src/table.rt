@@ -67,13 +67,12 @@ impl Table {
         self.entries[row * self.width + at] = entry;
     }
 
-    /// Makes the entries of a row 0.
-    pub fn clear_row(&mut self, row: usize)
+    /// Makes the entries of the rows from one on 0.
+    pub fn clear_from(&mut self, row: usize)
         requires { row < self.old.height }
         ensures { self.new ≡ self.old }
     {
-        let start = row * self.width;
-        self.entries[start..start + self.width].fill(0.0);
+        self.entries[row * self.width..].fill(0.0);
     }
 
     /// Leaves a multiple of what one list is above another in a row.
