@@ -50,6 +50,15 @@ pub struct Sums {
     pub pairs: f64,
 }
 
+impl Sums {
+    /// Those of nothing.
+    pub const NONE: Sums = Sums {
+        cost: 0.0,
+        products: 0.0,
+        pairs: 0.0,
+    };
+}
+
 // What the shares are above 1 in sum, where each product is the same, and how fast that falls with the level.
 fn above_one(columns: &[Column], product: f64, level: f64) -> (f64, f64) {
     let mut above = -1.0;

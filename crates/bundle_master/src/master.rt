@@ -4,11 +4,11 @@ ghost use Rattle.bundle_master.specs.Shape.{count_of, with_column, with_single};
 
 use crate::columns::{Sums, WAY};
 use crate::pace::Pace;
-use crate::rows::{HIGHEST, LOWEST, Row};
-use crate::singles::Single;
-use crate::units::Unit;
+use crate::rows::{self, HIGHEST, LOWEST, Row};
+use crate::singles::{self, Single};
+use crate::units::{self, Unit};
 use dense_matrix::matrix::Matrix;
-use dense_matrix::vectors::magnitude;
+use dense_matrix::vectors::{add_multiple, magnitude};
 use std::alloc::{AllocError, Global};
 use std::marker::Model;
 
@@ -70,6 +70,27 @@ pub struct Master {
     ridge: f64,
 }
 
+impl Model for Master {
+    ghost use Rattle.std.specs.Prelude.{◌*◌, ◌-◌, length, map, vec_len, vec_capacity};
+    ghost use Rattle.bundle_master.specs.Shape.{Shape, AreParts};
+    ghost use Rattle.bundle_master.specs.UnitShape.{UnitShape};
+
+    ghost Value = { Shape };
+
+    ghost view = { λ m. record {
+      periods = m.periods;
+      thermal = length m.units.items;
+      places = m.places;
+      singles = length m.singles.items;
+      room =
+          vec_capacity m.singles - length m.singles.items;
+      counts = map (λ (u : UnitShape). u.count) m.units.items;
+    } };
+
+    ghost invariant = { λ m. AreParts m.periods m.places m.units.items m.singles.items (length m.rows.items)
+        (length m.prices.items) (length m.price_steps.items) (length m.left.items) m.matrix };
+}
+
 // Written out, so that a drop of it is a call, and not one for each list.
 impl Drop for Master {
     fn drop(self) {
@@ -95,6 +116,14 @@ pub fn make_master(alloc: Global, sizes: Sizes) -> Result<Master, AllocError>
     requires some { 1 ≤ sizes.places }
     requires places { sizes.places ≤ 1000 }
     requires singles { sizes.singles < 2 ^ 32 }
+    ensures { IfOk result (λ master. master ≡ record {
+      periods = sizes.periods;
+      thermal = sizes.thermal;
+      places = sizes.places;
+      singles = 0;
+      room = sizes.singles;
+      counts = replicate sizes.thermal 0;
+    }) }
 {
     let count = 2 * sizes.periods;
     let units = make_units(alloc, sizes)?;
@@ -118,7 +147,12 @@ pub fn make_master(alloc: Global, sizes: Sizes) -> Result<Master, AllocError>
     })
 }
 
-fn make_units(alloc: Global, sizes: Sizes) -> Result<Vec<Unit>, AllocError> {
+fn make_units(alloc: Global, sizes: Sizes) -> Result<Vec<Unit>, AllocError>
+    requires periods { sizes.periods ≤ 1000 }
+    requires thermal { sizes.thermal ≤ 4096 }
+    requires places { sizes.places ≤ 1000 }
+    ensures { IfOk result (λ units. units.items ≡ replicate sizes.thermal (record { count = 0; places = sizes.places; rows = 2 * sizes.periods })) }
+{
     let mut units = Vec::with_capacity(alloc, sizes.thermal)?;
     for _ in 0..sizes.thermal {
         let unit = Unit::make(alloc, sizes.places, 2 * sizes.periods)?;
@@ -127,7 +161,10 @@ fn make_units(alloc: Global, sizes: Sizes) -> Result<Vec<Unit>, AllocError> {
     Ok(units)
 }
 
-fn make_rows(alloc: Global, periods: usize) -> Result<Vec<Row>, AllocError> {
+fn make_rows(alloc: Global, periods: usize) -> Result<Vec<Row>, AllocError>
+    requires { periods ≤ 1000 }
+    ensures { IfOk result (λ rows. length rows.items ≡ 2 * periods) }
+{
     let mut rows = vec![in alloc; Row::new(0.0); 2 * periods]?;
     for row in 0..periods {
         rows[row] = Row::new(LOWEST);
@@ -136,22 +173,42 @@ fn make_rows(alloc: Global, periods: usize) -> Result<Vec<Row>, AllocError> {
 }
 
 impl Master {
-    pub fn set_due(&mut self, row: usize, amount: f64) {
+    /// Sets what is due in a row: demand or required reserve, in megawatts.
+    pub fn set_due(&mut self, row: usize, amount: f64)
+        requires { row < 2 * self.old.periods }
+        ensures { self.new ≡ self.old }
+    {
         self.rows[row].due = amount;
     }
 
-    pub fn add_single(&mut self, row: usize, amount: f64, cost: f64) {
+    /// Adds a variable from 0 to an amount in an energy row, which costs so much as a whole.
+    pub fn add_single(&mut self, row: usize, amount: f64, cost: f64)
+        requires row { row < self.old.periods }
+        requires room { 1 ≤ self.old.room }
+        ensures { self.new ≡ with_single self.old }
+    {
         self.singles.push_reserved(Single::new(row, amount, cost));
     }
 
-    pub fn count(&self, unit: usize) -> usize {
+    /// How many columns a thermal unit has.
+    pub fn count(&self, unit: usize) -> usize
+        requires { unit < self.now.thermal }
+        ensures value { result ≡ count_of self.now unit }
+        ensures limit { result ≤ self.now.places }
+    {
         self.units[unit].count()
     }
 
-    pub fn next_place(&self, unit: usize) -> usize {
+    /// The first free place of a thermal unit, else that of the column with the greatest reduced cost.
+    pub fn next_place(&self, unit: usize) -> usize
+        requires { unit < self.now.thermal }
+        ensures place { result < self.now.places }
+        ensures count { result ≤ count_of self.now unit }
+    {
         self.units[unit].next_place()
     }
 
+    /// Adds or replaces a column: what a schedule costs, and its power and reserve in each period, in kilowatts.
     pub fn set_column(
         &mut self,
         unit: usize,
@@ -159,27 +216,53 @@ impl Master {
         cost: f64,
         power: &[i64],
         reserve: &[i64],
-    ) {
+    )
+        requires unit { unit < self.old.thermal }
+        requires place { place < self.old.places }
+        requires count { place ≤ count_of self.old unit }
+        requires power { length power.now ≡ self.old.periods }
+        requires reserve { length reserve.now ≡ self.old.periods }
+        ensures { self.new ≡ with_column self.old unit place }
+    {
         self.units[unit].set_column(place, cost, power, reserve);
     }
 
-    pub fn set_price(&mut self, row: usize, price: f64) {
+    /// Sets the price at which a solution starts.
+    pub fn set_price(&mut self, row: usize, price: f64)
+        requires { row < 2 * self.old.periods }
+        ensures { self.new ≡ self.old }
+    {
         self.prices[row] = price;
     }
 
-    pub fn set_centre(&mut self, row: usize, price: f64) {
+    /// Sets the centre of the ridge.
+    pub fn set_centre(&mut self, row: usize, price: f64)
+        requires { row < 2 * self.old.periods }
+        ensures { self.new ≡ self.old }
+    {
         self.rows[row].centre = price;
     }
 
-    pub fn price(&self, row: usize) -> f64 {
+    /// The price of a row.
+    pub fn price(&self, row: usize) -> f64
+        requires { row < 2 * self.now.periods }
+    {
         self.prices[row]
     }
 
-    pub fn share(&self, unit: usize, place: usize) -> f64 {
+    /// The share of the column at a place of a thermal unit.
+    pub fn share(&self, unit: usize, place: usize) -> f64
+        requires unit { unit < self.now.thermal }
+        requires place { place < self.now.places }
+    {
         self.units[unit].share(place)
     }
 
-    pub fn solve(&mut self, aim: Aim) -> bool {
+    /// Changes prices and shares until the products sum to at most what the aim says, in at most so many Newton steps.
+    /// Whether they do. A unit without a column takes no part.
+    pub fn solve(&mut self, aim: Aim) -> bool
+        ensures { self.new ≡ self.old }
+    {
         self.ridge = aim.ridge;
         self.start(aim);
         let mut pace = Pace::new();
@@ -196,24 +279,21 @@ impl Master {
         false
     }
 
+    /// Where the last solution ended.
     pub fn standing(&self) -> Standing {
         let sums = self.sums();
-        let mut now = sums.cost;
-        let mut off = 0.0;
-        for row in 0..self.rows.len() {
-            let held = self.rows[row].held(self.prices[row], self.ridge);
-            now += held * self.prices[row];
-            off += held.abs();
-        }
+        let (cost, off) = rows::held(&self.rows, &self.prices, self.ridge);
         Standing {
-            now,
+            now: sums.cost + cost,
             products: sums.products,
             off,
         }
     }
 
     // Centres all groups, and where a solution is strict so wide that what is off is little beside the products.
-    fn start(&mut self, aim: Aim) {
+    fn start(&mut self, aim: Aim)
+        ensures { self.new ≡ self.old }
+    {
         let pairs = self.sums().pairs;
         let mut product = aim.wide / pairs;
         for _ in 0..GROWTHS {
@@ -225,132 +305,83 @@ impl Master {
         }
     }
 
-    fn centre(&mut self, product: f64) {
-        for unit in 0..self.units.len() {
-            self.units[unit].centre(&self.prices, product);
-        }
-        for single in 0..self.singles.len() {
-            let row = self.singles[single].row();
-            self.singles[single].centre(self.prices[row], product);
-        }
-        for row in 0..self.rows.len() {
-            self.rows[row].centre(self.prices[row], product);
-        }
+    fn centre(&mut self, product: f64)
+        ensures { self.new ≡ self.old }
+    {
+        units::centre(&mut self.units, &self.prices, product);
+        singles::centre(&mut self.singles, &self.prices, product);
+        rows::centre(&mut self.rows, &self.prices, product);
     }
 
     // Sets what is off in each row; the sum of the magnitudes.
-    fn balance(&mut self) -> f64 {
-        for row in 0..self.rows.len() {
-            self.left[row] = self.rows[row].wanted(self.prices[row], self.ridge);
-        }
-        for unit in 0..self.units.len() {
-            self.units[unit].take_off(&mut self.left);
-        }
-        for single in 0..self.singles.len() {
-            let row = self.singles[single].row();
-            self.left[row] -= self.singles[single].given();
-        }
+    fn balance(&mut self) -> f64
+        ensures { self.new ≡ self.old }
+    {
+        rows::begin(&self.rows, &self.prices, self.ridge, &mut self.left);
+        units::take_off(&self.units, &mut self.left);
+        singles::take_off(&self.singles, &mut self.left);
         magnitude(&self.left)
     }
 
     fn sums(&self) -> Sums {
-        let mut sums = Sums {
-            cost: 0.0,
-            products: 0.0,
-            pairs: 0.0,
-        };
-        for unit in &self.units {
-            sums = unit.add_to(sums);
-        }
-        for single in &self.singles {
-            sums = single.add_to(sums);
-        }
-        for row in 0..self.rows.len() {
-            sums = self.rows[row].add_to(sums, self.prices[row], self.left[row]);
-        }
-        sums
+        let sums = units::add_to(&self.units, Sums::NONE);
+        let sums = singles::add_to(&self.singles, sums);
+        rows::add_to(&self.rows, &self.prices, &self.left, sums)
     }
 
     // The step that brings what is off to 0, and each product to the same.
-    fn step(&mut self, product: f64) {
+    fn step(&mut self, product: f64)
+        ensures { self.new ≡ self.old }
+    {
         self.factor();
         self.push(product);
         self.matrix.solve(&mut self.price_steps);
         self.follow();
     }
 
-    fn factor(&mut self) {
+    fn factor(&mut self)
+        ensures { self.new ≡ self.old }
+    {
         self.matrix.clear();
-        for unit in 0..self.units.len() {
-            self.units[unit].add_to_matrix(&mut self.matrix);
-        }
-        for single in 0..self.singles.len() {
-            let row = self.singles[single].row();
-            let curvature = self.singles[single].weigh();
-            self.matrix.add_to_diagonal(row, curvature);
-        }
-        for row in 0..self.rows.len() {
-            let curvature = self.rows[row].curvature(self.prices[row], self.ridge);
-            self.matrix.add_to_diagonal(row, curvature);
-        }
+        units::add_to_matrix(&mut self.units, &mut self.matrix);
+        singles::add_to_matrix(&mut self.singles, &mut self.matrix);
+        rows::add_to_matrix(&self.rows, &self.prices, self.ridge, &mut self.matrix);
         self.matrix.factor();
     }
 
     // Sets the pushes, and leaves the right-hand side in the prices' steps.
-    fn push(&mut self, product: f64) {
+    fn push(&mut self, product: f64)
+        ensures { self.new ≡ self.old }
+    {
         self.price_steps.copy_from_slice(&self.left);
-        for unit in 0..self.units.len() {
-            self.units[unit].push(product, &mut self.price_steps);
-        }
-        for single in 0..self.singles.len() {
-            let row = self.singles[single].row();
-            self.price_steps[row] -= self.singles[single].push(product);
-        }
-        for row in 0..self.rows.len() {
-            self.price_steps[row] -= self.rows[row].push(self.prices[row], product);
-        }
+        units::push(&mut self.units, product, &mut self.price_steps);
+        singles::push(&mut self.singles, product, &mut self.price_steps);
+        rows::push(&mut self.rows, &self.prices, product, &mut self.price_steps);
     }
 
-    fn follow(&mut self) {
-        for unit in 0..self.units.len() {
-            self.units[unit].follow(&self.price_steps);
-        }
-        for single in 0..self.singles.len() {
-            let row = self.singles[single].row();
-            self.singles[single].follow(self.price_steps[row]);
-        }
-        for row in 0..self.rows.len() {
-            self.rows[row].follow(self.prices[row], self.price_steps[row]);
-        }
+    fn follow(&mut self)
+        ensures { self.new ≡ self.old }
+    {
+        units::follow(&mut self.units, &self.price_steps);
+        singles::follow(&mut self.singles, &self.price_steps);
+        rows::follow(&mut self.rows, &self.prices, &self.price_steps);
     }
 
     fn longest(&self) -> f64 {
-        let mut length = 1.0 / WAY;
-        for unit in &self.units {
-            length = unit.longest(length);
-        }
-        for single in &self.singles {
-            length = single.longest(length);
-        }
-        for row in 0..self.rows.len() {
-            length = self.rows[row].longest(length, self.prices[row], self.price_steps[row]);
-        }
-        WAY * length
+        let length = units::longest(&self.units, 1.0 / WAY);
+        let length = singles::longest(&self.singles, length);
+        WAY * rows::longest(&self.rows, &self.prices, &self.price_steps, length)
     }
 
     // Takes the step as far as all numbers stay above 0, and the whole of it at most; how far.
-    fn advance(&mut self) -> f64 {
+    fn advance(&mut self) -> f64
+        ensures { self.new ≡ self.old }
+    {
         let length = self.longest();
-        for unit in 0..self.units.len() {
-            self.units[unit].advance(length);
-        }
-        for single in 0..self.singles.len() {
-            self.singles[single].advance(length);
-        }
-        for row in 0..self.rows.len() {
-            self.rows[row].advance(length);
-            self.prices[row] += length * self.price_steps[row];
-        }
+        units::advance(&mut self.units, length);
+        singles::advance(&mut self.singles, length);
+        rows::advance(&mut self.rows, length);
+        add_multiple(&mut self.prices, length, &self.price_steps);
         length
     }
 }

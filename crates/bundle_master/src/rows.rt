@@ -1,6 +1,8 @@
 //! The rows of a master problem: what is due, and the limits of the price.
+ghost use Rattle.std.specs.Prelude.{◌≡◌, length};
 
 use crate::columns::{Sums, shortened};
+use dense_matrix::matrix::Matrix;
 
 /// The greatest price, and the least energy price.
 pub const HIGHEST: f64 = 10000.0;
@@ -99,5 +101,100 @@ impl Row {
     pub fn advance(&mut self, length: f64) {
         self.lack += length * self.lack_step;
         self.more += length * self.more_step;
+    }
+}
+
+/// Makes the products of all rows the same at those prices.
+pub fn centre(rows: &mut [Row], prices: &[f64], product: f64)
+    requires { length prices.now ≡ length rows.old }
+{
+    for row in 0..rows.len() {
+        rows[row].centre(prices[row], product);
+    }
+}
+
+/// Sets what the columns have to give.
+pub fn begin(rows: &[Row], prices: &[f64], ridge: f64, due: &mut [f64])
+    requires prices { length prices.now ≡ length rows.now }
+    requires due { length due.old ≡ length rows.now }
+{
+    for row in 0..rows.len() {
+        due[row] = rows[row].wanted(prices[row], ridge);
+    }
+}
+
+/// The sums with those of all rows, of which so much is left.
+pub fn add_to(rows: &[Row], prices: &[f64], left: &[f64], sums: Sums) -> Sums
+    requires prices { length prices.now ≡ length rows.now }
+    requires left { length left.now ≡ length rows.now }
+{
+    let mut sums = sums;
+    for row in 0..rows.len() {
+        sums = rows[row].add_to(sums, prices[row], left[row]);
+    }
+    sums
+}
+
+/// What the ridge holds, priced; and the sum of the magnitudes.
+pub fn held(rows: &[Row], prices: &[f64], ridge: f64) -> (f64, f64)
+    requires { length prices.now ≡ length rows.now }
+{
+    let mut cost = 0.0;
+    let mut sum = 0.0;
+    for row in 0..rows.len() {
+        let held = rows[row].held(prices[row], ridge);
+        cost += held * prices[row];
+        sum += held.abs();
+    }
+    (cost, sum)
+}
+
+/// Adds to the matrix how fast what is lacking, too much and held follows the prices.
+pub fn add_to_matrix(rows: &[Row], prices: &[f64], ridge: f64, matrix: &mut Matrix)
+    requires prices { length prices.now ≡ length rows.now }
+    requires matrix { matrix.old ≡ length rows.now }
+    ensures { matrix.new ≡ matrix.old }
+{
+    for row in 0..rows.len() {
+        matrix.add_to_diagonal(row, rows[row].curvature(prices[row], ridge));
+    }
+}
+
+/// Sets the steps of all rows to a product at unchanged prices, and takes them off a right-hand side.
+pub fn push(rows: &mut [Row], prices: &[f64], product: f64, right: &mut [f64])
+    requires prices { length prices.now ≡ length rows.old }
+    requires right { length right.old ≡ length rows.old }
+{
+    for row in 0..rows.len() {
+        right[row] -= rows[row].push(prices[row], product);
+    }
+}
+
+/// The steps of all rows at that step of the prices.
+pub fn follow(rows: &mut [Row], prices: &[f64], price_steps: &[f64])
+    requires prices { length prices.now ≡ length rows.old }
+    requires steps { length price_steps.now ≡ length rows.old }
+{
+    for row in 0..rows.len() {
+        rows[row].follow(prices[row], price_steps[row]);
+    }
+}
+
+/// The length of a step, or a lesser one at which a number of a row becomes 0.
+pub fn longest(rows: &[Row], prices: &[f64], price_steps: &[f64], most: f64) -> f64
+    requires prices { length prices.now ≡ length rows.now }
+    requires steps { length price_steps.now ≡ length rows.now }
+{
+    let mut shortest = most;
+    for row in 0..rows.len() {
+        shortest = rows[row].longest(shortest, prices[row], price_steps[row]);
+    }
+    shortest
+}
+
+/// Takes a step of that length with all rows.
+pub fn advance(rows: &mut [Row], length: f64) {
+    for row in rows {
+        row.advance(length);
     }
 }

@@ -1,7 +1,9 @@
 //! Variables of one row, such as a renewable unit's power or a block of a bid.
-ghost use Rattle.std.specs.Prelude.{◌≡◌};
+ghost use Rattle.std.specs.Prelude.{◌≡◌, length};
+ghost use Rattle.bundle_master.specs.UnitShape.{AreBelow};
 
 use crate::columns::{self, Column, Sums};
+use dense_matrix::matrix::Matrix;
 use std::marker::Model;
 
 /// A variable from 0 to an amount in one row, as a group of two columns: nothing, and the whole. Contracts see the row.
@@ -102,5 +104,88 @@ impl Single {
         ensures { self.new ≡ self.old }
     {
         columns::advance(&mut self.columns, length);
+    }
+}
+
+/// The sums with those of all variables.
+pub fn add_to(singles: &[Single], sums: Sums) -> Sums {
+    let mut sums = sums;
+    for single in singles {
+        sums = single.add_to(sums);
+    }
+    sums
+}
+
+/// Centres all variables at those prices.
+pub fn centre(singles: &mut [Single], prices: &[f64], product: f64)
+    requires { AreBelow (length prices.now) singles.old }
+    ensures { singles.new ≡ singles.old }
+{
+    for single in 0..singles.len() {
+        let row = singles[single].row();
+        singles[single].centre(prices[row], product);
+    }
+}
+
+/// Takes what the shares of all variables give off what is due.
+pub fn take_off(singles: &[Single], due: &mut [f64])
+    requires { AreBelow (length due.old) singles.now }
+{
+    for single in 0..singles.len() {
+        let row = singles[single].row();
+        due[row] -= singles[single].given();
+    }
+}
+
+/// Sets the weights and means of all variables, and adds to the matrix how fast what they give follows the prices.
+pub fn add_to_matrix(singles: &mut [Single], matrix: &mut Matrix)
+    requires { AreBelow matrix.old singles.old }
+    ensures singles { singles.new ≡ singles.old }
+    ensures matrix { matrix.new ≡ matrix.old }
+{
+    for single in 0..singles.len() {
+        let row = singles[single].row();
+        let curvature = singles[single].weigh();
+        matrix.add_to_diagonal(row, curvature);
+    }
+}
+
+/// Sets the pushes of all variables to a product, and takes what they give off a right-hand side.
+pub fn push(singles: &mut [Single], product: f64, right: &mut [f64])
+    requires { AreBelow (length right.old) singles.old }
+    ensures { singles.new ≡ singles.old }
+{
+    for single in 0..singles.len() {
+        let row = singles[single].row();
+        right[row] -= singles[single].push(product);
+    }
+}
+
+/// The steps of all variables at that step of the prices.
+pub fn follow(singles: &mut [Single], price_steps: &[f64])
+    requires { AreBelow (length price_steps.now) singles.old }
+    ensures { singles.new ≡ singles.old }
+{
+    for single in 0..singles.len() {
+        let row = singles[single].row();
+        singles[single].follow(price_steps[row]);
+    }
+}
+
+/// The length of a step, or a lesser one at which a share or a reduced cost of a variable becomes 0.
+pub fn longest(singles: &[Single], length: f64) -> f64 {
+    let mut length = length;
+    for single in singles {
+        length = single.longest(length);
+    }
+    length
+}
+
+/// Takes a step of that length with all variables.
+pub fn advance(singles: &mut [Single], length: f64)
+    ensures { singles.new ≡ singles.old }
+{
+    for single in 0..singles.len() {
+        singles[single].advance(length);
     }
 }

@@ -1,5 +1,6 @@
 //! The thermal units of a master problem.
-ghost use Rattle.std.specs.Prelude.{◌≡◌, ◌+◌, ◌*◌, ◌<◌, ◌≤◌, length, IfOk, All, max, replicate};
+ghost use Rattle.std.specs.Prelude.{◌≡◌, ◌+◌, ◌<◌, ◌≤◌, length, IfOk, max};
+ghost use Rattle.bundle_master.specs.UnitShape.{AreOver};
 
 use crate::columns::{self, Column, Sums};
 use crate::numbers::megawatts;
@@ -49,6 +50,101 @@ impl Model for Unit {
         × (length u.mean.items ≡ u.amounts.width) };
 }
 
+// The place of the column with the greatest reduced cost.
+fn greatest(columns: &[Column]) -> usize
+    requires { 1 ≤ length columns.now }
+    ensures { result < length columns.now }
+{
+    let mut greatest = 0;
+    for place in 1..columns.len() {
+        if columns[place].reduced > columns[greatest].reduced {
+            greatest = place;
+        }
+    }
+    greatest
+}
+
+// Writes kilowatts, from an entry of a row on.
+fn write(amounts: &mut Table, place: usize, first: usize, kilowatts: &[i64])
+    requires place { place < amounts.old.height }
+    requires room { first + length kilowatts.now ≤ amounts.old.width }
+    ensures { amounts.new ≡ amounts.old }
+{
+    for period in 0..kilowatts.len() {
+        amounts.set(place, first + period, megawatts(kilowatts[period]));
+    }
+}
+
+// What each column costs at those prices.
+fn reduce(columns: &mut [Column], amounts: &Table, prices: &[f64])
+    requires columns { length columns.old ≤ amounts.now.height }
+    requires prices { length prices.now ≡ amounts.now.width }
+{
+    for place in 0..columns.len() {
+        columns[place].reduced = columns[place].cost - dot(amounts.row(place), prices);
+    }
+}
+
+// Takes what the shares give off what is due.
+fn take_shares(columns: &[Column], amounts: &Table, due: &mut [f64])
+    requires columns { length columns.now ≤ amounts.now.height }
+    requires due { length due.old ≡ amounts.now.width }
+{
+    for place in 0..columns.len() {
+        add_multiple(due, -columns[place].share, amounts.row(place));
+    }
+}
+
+// The mean of the columns by their weights. Where all give the same, it is that to the bit.
+fn write_mean(columns: &[Column], amounts: &Table, weight: f64, mean: &mut [f64])
+    requires some { 1 ≤ length columns.now }
+    requires columns { length columns.now ≤ amounts.now.height }
+    requires mean { length mean.old ≡ amounts.now.width }
+{
+    mean.fill(0.0);
+    let first = amounts.row(0);
+    for place in 0..columns.len() {
+        add_difference(mean, columns[place].weight, amounts.row(place), first);
+    }
+    for row in 0..first.len() {
+        mean[row] = first[row] + mean[row] / weight;
+    }
+}
+
+// Adds the products of the columns, as they are above their mean, to the matrix.
+fn add_columns(columns: &[Column], amounts: &Table, mean: &[f64], matrix: &mut Matrix)
+    requires columns { length columns.now ≤ amounts.now.height }
+    requires mean { length mean.now ≡ amounts.now.width }
+    requires matrix { matrix.old ≡ amounts.now.width }
+    ensures { matrix.new ≡ matrix.old }
+{
+    for place in 0..columns.len() {
+        let factor = columns[place].weight.sqrt();
+        matrix.add_column(factor, amounts.row(place), mean);
+    }
+    matrix.end_columns();
+}
+
+// Takes what the pushes give off a right-hand side.
+fn take_pushes(columns: &[Column], amounts: &Table, right: &mut [f64])
+    requires columns { length columns.now ≤ amounts.now.height }
+    requires right { length right.old ≡ amounts.now.width }
+{
+    for place in 0..columns.len() {
+        add_multiple(right, -columns[place].push, amounts.row(place));
+    }
+}
+
+// What each column earns by that step of the prices.
+fn earn(columns: &mut [Column], amounts: &Table, price_steps: &[f64])
+    requires columns { length columns.old ≤ amounts.now.height }
+    requires steps { length price_steps.now ≡ amounts.now.width }
+{
+    for place in 0..columns.len() {
+        columns[place].reduced_step = dot(amounts.row(place), price_steps);
+    }
+}
+
 impl Unit {
     /// A unit with room for so many columns of so many rows.
     pub fn make(alloc: Global, places: usize, rows: usize) -> Result<Unit, AllocError>
@@ -85,13 +181,7 @@ impl Unit {
         if self.count < self.columns.len() {
             return self.count;
         }
-        let mut greatest = 0;
-        for place in 1..self.count {
-            if self.columns[place].reduced > self.columns[greatest].reduced {
-                greatest = place;
-            }
-        }
-        greatest
+        greatest(&self.columns)
     }
 
     /// Adds or replaces a column: what a schedule costs, and its power and reserve in each period, in kilowatts.
@@ -101,13 +191,8 @@ impl Unit {
         requires rows { length power.now + length reserve.now ≡ self.old.rows }
         ensures { self.new ≡ record self.old { count = max self.old.count (place + 1) } }
     {
-        for period in 0..power.len() {
-            self.amounts.set(place, period, megawatts(power[period]));
-        }
-        for period in 0..reserve.len() {
-            self.amounts
-                .set(place, power.len() + period, megawatts(reserve[period]));
-        }
+        write(&mut self.amounts, place, 0, power);
+        write(&mut self.amounts, place, power.len(), reserve);
         self.columns[place] = Column::BLANK;
         self.columns[place].cost = cost;
         if place == self.count {
@@ -132,10 +217,7 @@ impl Unit {
         requires { length prices.now ≡ self.old.rows }
         ensures { self.new ≡ self.old }
     {
-        for place in 0..self.count {
-            let earned = dot(self.amounts.row(place), prices);
-            self.columns[place].reduced = self.columns[place].cost - earned;
-        }
+        reduce(&mut self.columns[..self.count], &self.amounts, prices);
         columns::centre(&mut self.columns[..self.count], product);
     }
 
@@ -143,9 +225,7 @@ impl Unit {
     pub fn take_off(&self, due: &mut [f64])
         requires { length due.old ≡ self.now.rows }
     {
-        for place in 0..self.count {
-            add_multiple(due, -self.columns[place].share, self.amounts.row(place));
-        }
+        take_shares(&self.columns[..self.count], &self.amounts, due);
     }
 
     /// Sets weights and mean, and adds to the matrix how fast what the columns give follows the prices.
@@ -158,32 +238,26 @@ impl Unit {
             return;
         }
         self.weigh();
-        for place in 0..self.count {
-            let factor = self.columns[place].weight.sqrt();
-            matrix.add_column(factor, self.amounts.row(place), &self.mean);
-        }
-        matrix.end_columns();
+        add_columns(
+            &self.columns[..self.count],
+            &self.amounts,
+            &self.mean,
+            matrix,
+        );
     }
 
-    // Sets the weights and the mean of the columns by them. Where all columns give the same, that is the mean to the bit.
+    // Sets the weights and the mean of the columns by them.
     fn weigh(&mut self)
         requires { 1 ≤ self.old.count }
         ensures { self.new ≡ self.old }
     {
         self.weight = columns::weigh(&mut self.columns[..self.count]);
-        self.mean.fill(0.0);
-        let first = self.amounts.row(0);
-        for place in 0..self.count {
-            add_difference(
-                &mut self.mean,
-                self.columns[place].weight,
-                self.amounts.row(place),
-                first,
-            );
-        }
-        for row in 0..self.mean.len() {
-            self.mean[row] = first[row] + self.mean[row] / self.weight;
-        }
+        write_mean(
+            &self.columns[..self.count],
+            &self.amounts,
+            self.weight,
+            &mut self.mean,
+        );
     }
 
     /// Sets the pushes to a product, and takes what they give off a right-hand side.
@@ -195,9 +269,7 @@ impl Unit {
             return;
         }
         let sum = columns::push(&mut self.columns[..self.count], product);
-        for place in 0..self.count {
-            add_multiple(right, -self.columns[place].push, self.amounts.row(place));
-        }
+        take_pushes(&self.columns[..self.count], &self.amounts, right);
         add_multiple(right, sum, &self.mean);
     }
 
@@ -206,9 +278,7 @@ impl Unit {
         requires { length price_steps.now ≡ self.old.rows }
         ensures { self.new ≡ self.old }
     {
-        for place in 0..self.count {
-            self.columns[place].reduced_step = dot(self.amounts.row(place), price_steps);
-        }
+        earn(&mut self.columns[..self.count], &self.amounts, price_steps);
         columns::follow(&mut self.columns[..self.count], self.weight);
     }
 
@@ -222,5 +292,82 @@ impl Unit {
         ensures { self.new ≡ self.old }
     {
         columns::advance(&mut self.columns[..self.count], length);
+    }
+}
+
+/// The sums with those of all units.
+pub fn add_to(units: &[Unit], sums: Sums) -> Sums {
+    let mut sums = sums;
+    for unit in units {
+        sums = unit.add_to(sums);
+    }
+    sums
+}
+
+/// Centres all units at those prices.
+pub fn centre(units: &mut [Unit], prices: &[f64], product: f64)
+    requires { AreOver (length prices.now) units.old }
+    ensures { units.new ≡ units.old }
+{
+    for unit in 0..units.len() {
+        units[unit].centre(prices, product);
+    }
+}
+
+/// Takes what the shares of all units give off what is due.
+pub fn take_off(units: &[Unit], due: &mut [f64])
+    requires { AreOver (length due.old) units.now }
+{
+    for unit in 0..units.len() {
+        units[unit].take_off(due);
+    }
+}
+
+/// Sets the weights and means of all units, and adds to the matrix how fast what they give follows the prices.
+pub fn add_to_matrix(units: &mut [Unit], matrix: &mut Matrix)
+    requires { AreOver matrix.old units.old }
+    ensures units { units.new ≡ units.old }
+    ensures matrix { matrix.new ≡ matrix.old }
+{
+    for unit in 0..units.len() {
+        units[unit].add_to_matrix(matrix);
+    }
+}
+
+/// Sets the pushes of all units to a product, and takes what they give off a right-hand side.
+pub fn push(units: &mut [Unit], product: f64, right: &mut [f64])
+    requires { AreOver (length right.old) units.old }
+    ensures { units.new ≡ units.old }
+{
+    for unit in 0..units.len() {
+        units[unit].push(product, right);
+    }
+}
+
+/// The steps of all units at that step of the prices.
+pub fn follow(units: &mut [Unit], price_steps: &[f64])
+    requires { AreOver (length price_steps.now) units.old }
+    ensures { units.new ≡ units.old }
+{
+    for unit in 0..units.len() {
+        units[unit].follow(price_steps);
+    }
+}
+
+/// The length of a step, or a lesser one at which a share or a reduced cost of a unit becomes 0.
+pub fn longest(units: &[Unit], length: f64) -> f64 {
+    let mut length = length;
+    for unit in units {
+        length = unit.longest(length);
+    }
+    length
+}
+
+/// Takes a step of that length with all units.
+pub fn advance(units: &mut [Unit], length: f64)
+    ensures { units.new ≡ units.old }
+{
+    for unit in 0..units.len() {
+        units[unit].advance(length);
     }
 }
