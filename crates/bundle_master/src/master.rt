@@ -250,10 +250,9 @@ impl Master {
         self.prices[row]
     }
 
-    /// The share of the column at a place of a thermal unit.
+    /// The share of the column at a place of a thermal unit, and 0 where there is none.
     pub fn share(&self, unit: usize, place: usize) -> f64
-        requires unit { unit < self.now.thermal }
-        requires place { place < self.now.places }
+        requires { unit < self.now.thermal }
     {
         self.units[unit].share(place)
     }
@@ -282,7 +281,7 @@ impl Master {
     /// Where the last solution ended.
     pub fn standing(&self) -> Standing {
         let sums = self.sums();
-        let (cost, off) = rows::held(&self.rows, &self.prices, self.ridge);
+        let (cost, off) = rows::held(self.rows.as_slice(), self.prices.as_slice(), self.ridge);
         Standing {
             now: sums.cost + cost,
             products: sums.products,
@@ -308,25 +307,35 @@ impl Master {
     fn centre(&mut self, product: f64)
         ensures { self.new ≡ self.old }
     {
-        units::centre(&mut self.units, &self.prices, product);
-        singles::centre(&mut self.singles, &self.prices, product);
-        rows::centre(&mut self.rows, &self.prices, product);
+        units::centre(self.units.as_mut_slice(), self.prices.as_slice(), product);
+        singles::centre(self.singles.as_mut_slice(), self.prices.as_slice(), product);
+        rows::centre(self.rows.as_mut_slice(), self.prices.as_slice(), product);
     }
 
     // Sets what is off in each row; the sum of the magnitudes.
     fn balance(&mut self) -> f64
         ensures { self.new ≡ self.old }
     {
-        rows::begin(&self.rows, &self.prices, self.ridge, &mut self.left);
-        units::take_off(&self.units, &mut self.left);
-        singles::take_off(&self.singles, &mut self.left);
-        magnitude(&self.left)
+        rows::begin(
+            self.rows.as_slice(),
+            self.prices.as_slice(),
+            self.ridge,
+            self.left.as_mut_slice(),
+        );
+        units::take_off(self.units.as_slice(), self.left.as_mut_slice());
+        singles::take_off(self.singles.as_slice(), self.left.as_mut_slice());
+        magnitude(self.left.as_slice())
     }
 
     fn sums(&self) -> Sums {
-        let sums = units::add_to(&self.units, Sums::NONE);
-        let sums = singles::add_to(&self.singles, sums);
-        rows::add_to(&self.rows, &self.prices, &self.left, sums)
+        let sums = units::add_to(self.units.as_slice(), Sums::NONE);
+        let sums = singles::add_to(self.singles.as_slice(), sums);
+        rows::add_to(
+            self.rows.as_slice(),
+            self.prices.as_slice(),
+            self.left.as_slice(),
+            sums,
+        )
     }
 
     // The step that brings what is off to 0, and each product to the same.
@@ -335,7 +344,7 @@ impl Master {
     {
         self.factor();
         self.push(product);
-        self.matrix.solve(&mut self.price_steps);
+        self.matrix.solve(self.price_steps.as_mut_slice());
         self.follow();
     }
 
@@ -343,9 +352,14 @@ impl Master {
         ensures { self.new ≡ self.old }
     {
         self.matrix.clear();
-        units::add_to_matrix(&mut self.units, &mut self.matrix);
-        singles::add_to_matrix(&mut self.singles, &mut self.matrix);
-        rows::add_to_matrix(&self.rows, &self.prices, self.ridge, &mut self.matrix);
+        units::add_to_matrix(self.units.as_mut_slice(), &mut self.matrix);
+        singles::add_to_matrix(self.singles.as_mut_slice(), &mut self.matrix);
+        rows::add_to_matrix(
+            self.rows.as_slice(),
+            self.prices.as_slice(),
+            self.ridge,
+            &mut self.matrix,
+        );
         self.matrix.factor();
     }
 
@@ -353,24 +367,46 @@ impl Master {
     fn push(&mut self, product: f64)
         ensures { self.new ≡ self.old }
     {
-        self.price_steps.copy_from_slice(&self.left);
-        units::push(&mut self.units, product, &mut self.price_steps);
-        singles::push(&mut self.singles, product, &mut self.price_steps);
-        rows::push(&mut self.rows, &self.prices, product, &mut self.price_steps);
+        self.price_steps.copy_from_slice(self.left.as_slice());
+        units::push(
+            self.units.as_mut_slice(),
+            product,
+            self.price_steps.as_mut_slice(),
+        );
+        singles::push(
+            self.singles.as_mut_slice(),
+            product,
+            self.price_steps.as_mut_slice(),
+        );
+        rows::push(
+            self.rows.as_mut_slice(),
+            self.prices.as_slice(),
+            product,
+            self.price_steps.as_mut_slice(),
+        );
     }
 
     fn follow(&mut self)
         ensures { self.new ≡ self.old }
     {
-        units::follow(&mut self.units, &self.price_steps);
-        singles::follow(&mut self.singles, &self.price_steps);
-        rows::follow(&mut self.rows, &self.prices, &self.price_steps);
+        units::follow(self.units.as_mut_slice(), self.price_steps.as_slice());
+        singles::follow(self.singles.as_mut_slice(), self.price_steps.as_slice());
+        rows::follow(
+            self.rows.as_mut_slice(),
+            self.prices.as_slice(),
+            self.price_steps.as_slice(),
+        );
     }
 
     fn longest(&self) -> f64 {
-        let length = units::longest(&self.units, 1.0 / WAY);
-        let length = singles::longest(&self.singles, length);
-        WAY * rows::longest(&self.rows, &self.prices, &self.price_steps, length)
+        let length = units::longest(self.units.as_slice(), 1.0 / WAY);
+        let length = singles::longest(self.singles.as_slice(), length);
+        WAY * rows::longest(
+            self.rows.as_slice(),
+            self.prices.as_slice(),
+            self.price_steps.as_slice(),
+            length,
+        )
     }
 
     // Takes the step as far as all numbers stay above 0, and the whole of it at most; how far.
@@ -378,10 +414,14 @@ impl Master {
         ensures { self.new ≡ self.old }
     {
         let length = self.longest();
-        units::advance(&mut self.units, length);
-        singles::advance(&mut self.singles, length);
-        rows::advance(&mut self.rows, length);
-        add_multiple(&mut self.prices, length, &self.price_steps);
+        units::advance(self.units.as_mut_slice(), length);
+        singles::advance(self.singles.as_mut_slice(), length);
+        rows::advance(self.rows.as_mut_slice(), length);
+        add_multiple(
+            self.prices.as_mut_slice(),
+            length,
+            self.price_steps.as_slice(),
+        );
         length
     }
 }

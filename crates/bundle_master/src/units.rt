@@ -13,7 +13,6 @@ use std::marker::Model;
 /// Schedules of one unit as columns, with what each gives in each row. Contracts see how many there are, for how many
 /// there is room, and how many rows each has.
 pub struct Unit {
-    count: usize,
     columns: Vec<Column>,
     amounts: Table,
     // The mean of the columns by their weights, and the weights' sum.
@@ -25,7 +24,6 @@ pub struct Unit {
 impl Drop for Unit {
     fn drop(self) {
         let Unit {
-            count: _,
             columns: _,
             amounts: _,
             mean: _,
@@ -35,19 +33,20 @@ impl Drop for Unit {
 }
 
 impl Model for Unit {
-    ghost use Rattle.std.specs.Prelude.{◌≡◌, ◌≤◌, length};
+    ghost use Rattle.std.specs.Prelude.{◌≡◌, ◌≤◌, length, vec_capacity};
     ghost use Rattle.bundle_master.specs.UnitShape.{UnitShape};
 
     ghost Value = { UnitShape };
 
     ghost view = { λ u. record {
-      count = u.count;
+      count = length u.columns.items;
       places = u.amounts.height;
       rows = u.amounts.width;
     } };
 
-    ghost invariant = { λ u. (u.count ≤ u.amounts.height) × (length u.columns.items ≡ u.amounts.height)
-        × (length u.mean.items ≡ u.amounts.width) };
+    ghost invariant = { λ u. (vec_capacity u.columns ≡ u.amounts.height)
+        × (length u.columns.items ≤ u.amounts.height)
+        × (length u.mean.items ≡ u.amounts.width) × (u.amounts.width ≤ 2000) };
 }
 
 // The place of the column with the greatest reduced cost.
@@ -68,6 +67,7 @@ fn greatest(columns: &[Column]) -> usize
 fn write(amounts: &mut Table, place: usize, first: usize, kilowatts: &[i64])
     requires place { place < amounts.old.height }
     requires room { first + length kilowatts.now ≤ amounts.old.width }
+    requires width { amounts.old.width ≤ 2000 }
     ensures { amounts.new ≡ amounts.old }
 {
     for period in 0..kilowatts.len() {
@@ -152,11 +152,10 @@ impl Unit {
         requires rows { rows ≤ 2000 }
         ensures { IfOk result (λ unit. unit ≡ record { count = 0; places = places; rows = rows }) }
     {
-        let columns = vec![in alloc; Column::BLANK; places]?;
+        let columns = Vec::with_capacity(alloc, places)?;
         let mean = vec![in alloc; 0.0; rows]?;
         let amounts = Table::make(alloc, places, rows)?;
         Ok(Unit {
-            count: 0,
             columns,
             amounts,
             mean,
@@ -169,7 +168,7 @@ impl Unit {
         ensures value { result ≡ self.now.count }
         ensures limit { result ≤ self.now.places }
     {
-        self.count
+        self.columns.len()
     }
 
     /// The first free place, else that of the column with the greatest reduced cost.
@@ -178,10 +177,11 @@ impl Unit {
         ensures place { result < self.now.places }
         ensures count { result ≤ self.now.count }
     {
-        if self.count < self.columns.len() {
-            return self.count;
+        let count = self.columns.len();
+        if count < self.amounts.height() {
+            return count;
         }
-        greatest(&self.columns)
+        greatest(self.columns.as_slice())
     }
 
     /// Adds or replaces a column: what a schedule costs, and its power and reserve in each period, in kilowatts.
@@ -193,23 +193,27 @@ impl Unit {
     {
         write(&mut self.amounts, place, 0, power);
         write(&mut self.amounts, place, power.len(), reserve);
-        self.columns[place] = Column::BLANK;
-        self.columns[place].cost = cost;
-        if place == self.count {
-            self.count += 1;
+        let mut column = Column::BLANK;
+        column.cost = cost;
+        if place < self.columns.len() {
+            self.columns[place] = column;
+        } else {
+            self.columns.push_reserved(column);
         }
     }
 
-    /// The share of the column at a place.
-    pub fn share(&self, place: usize) -> f64
-        requires { place < self.now.places }
-    {
-        self.columns[place].share
+    /// The share of the column at a place, and 0 where there is none.
+    pub fn share(&self, place: usize) -> f64 {
+        if place < self.columns.len() {
+            self.columns[place].share
+        } else {
+            0.0
+        }
     }
 
     /// The sums with those of the columns.
     pub fn add_to(&self, sums: Sums) -> Sums {
-        columns::add_to(sums, &self.columns[..self.count])
+        columns::add_to(sums, self.columns.as_slice())
     }
 
     /// Shares at which each product with the reduced cost at those prices is the same.
@@ -217,15 +221,15 @@ impl Unit {
         requires { length prices.now ≡ self.old.rows }
         ensures { self.new ≡ self.old }
     {
-        reduce(&mut self.columns[..self.count], &self.amounts, prices);
-        columns::centre(&mut self.columns[..self.count], product);
+        reduce(self.columns.as_mut_slice(), &self.amounts, prices);
+        columns::centre(self.columns.as_mut_slice(), product);
     }
 
     /// Takes what the shares give off what is due.
     pub fn take_off(&self, due: &mut [f64])
         requires { length due.old ≡ self.now.rows }
     {
-        take_shares(&self.columns[..self.count], &self.amounts, due);
+        take_shares(self.columns.as_slice(), &self.amounts, due);
     }
 
     /// Sets weights and mean, and adds to the matrix how fast what the columns give follows the prices.
@@ -234,16 +238,11 @@ impl Unit {
         ensures unit { self.new ≡ self.old }
         ensures matrix { matrix.new ≡ matrix.old }
     {
-        if self.count == 0 {
+        if self.columns.is_empty() {
             return;
         }
         self.weigh();
-        add_columns(
-            &self.columns[..self.count],
-            &self.amounts,
-            &self.mean,
-            matrix,
-        );
+        add_columns(self.columns.as_slice(), &self.amounts, &self.mean, matrix);
     }
 
     // Sets the weights and the mean of the columns by them.
@@ -251,9 +250,9 @@ impl Unit {
         requires { 1 ≤ self.old.count }
         ensures { self.new ≡ self.old }
     {
-        self.weight = columns::weigh(&mut self.columns[..self.count]);
+        self.weight = columns::weigh(self.columns.as_mut_slice());
         write_mean(
-            &self.columns[..self.count],
+            self.columns.as_slice(),
             &self.amounts,
             self.weight,
             &mut self.mean,
@@ -265,11 +264,11 @@ impl Unit {
         requires { length right.old ≡ self.old.rows }
         ensures { self.new ≡ self.old }
     {
-        if self.count == 0 {
+        if self.columns.is_empty() {
             return;
         }
-        let sum = columns::push(&mut self.columns[..self.count], product);
-        take_pushes(&self.columns[..self.count], &self.amounts, right);
+        let sum = columns::push(self.columns.as_mut_slice(), product);
+        take_pushes(self.columns.as_slice(), &self.amounts, right);
         add_multiple(right, sum, &self.mean);
     }
 
@@ -278,20 +277,20 @@ impl Unit {
         requires { length price_steps.now ≡ self.old.rows }
         ensures { self.new ≡ self.old }
     {
-        earn(&mut self.columns[..self.count], &self.amounts, price_steps);
-        columns::follow(&mut self.columns[..self.count], self.weight);
+        earn(self.columns.as_mut_slice(), &self.amounts, price_steps);
+        columns::follow(self.columns.as_mut_slice(), self.weight);
     }
 
     /// The length of a step, or a lesser one at which a share or a reduced cost becomes 0.
     pub fn longest(&self, length: f64) -> f64 {
-        columns::longest(&self.columns[..self.count], length)
+        columns::longest(self.columns.as_slice(), length)
     }
 
     /// Takes a step of that length.
     pub fn advance(&mut self, length: f64)
         ensures { self.new ≡ self.old }
     {
-        columns::advance(&mut self.columns[..self.count], length);
+        columns::advance(self.columns.as_mut_slice(), length);
     }
 }
 

@@ -49,6 +49,13 @@ impl Table {
         })
     }
 
+    /// How many rows there are.
+    pub fn height(&self) -> usize
+        ensures { result ≡ self.now.height }
+    {
+        self.height
+    }
+
     /// Lends a row.
     pub fn row(&self, row: usize) -> &[f64]
         requires { row < self.now.height }
