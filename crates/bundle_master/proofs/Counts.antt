@@ -1,5 +1,5 @@
 -- How many columns the units of a master problem have.
-use Rattle.std.proofs.Common.{◌≡◌, ℕ, zero, suc, ◌+◌, ◌-◌, ◌<◌, List, [], ◌∷◌, length, map, max, get_or, replicate}
+use Rattle.std.proofs.Common.{◌≡◌, ℕ, zero, suc, ◌+◌, ◌-◌, ◌<◌, List, ◌∷◌, length, map, max, get_or, replicate}
 use Rattle.std.proofs.Common.{slice_set, slice_index_or, refl, sym, ap, ◌∙◌, arith}
 use Rattle.std.proofs.lemmas.List.{map-set, get_or-map, length-set, length-replicate}
 use Rattle.bundle_master.specs.Shape.{Shape, with_column}
@@ -40,7 +40,7 @@ pub fresh_is :
     }
 fresh_is periods places thermal rows room units singles capacity copies none exact =
     let counts : map count_in units ≡ replicate thermal 0 =
-        ap (λ (xs : List UnitShape). map count_in xs) copies ∙ count_of_copies thermal _ in
+    ap (λ (xs : List UnitShape). map count_in xs) copies ∙ count_of_copies thermal _ in
     let long : length units ≡ thermal = ap length copies ∙ length-replicate thermal _ in
     let left : capacity - singles ≡ room = omega arith in
     cc
@@ -52,9 +52,9 @@ counts_set :
     ≡ slice_set (map count_in units) unit (max (slice_index_or (map count_in units) unit 0) (place + 1))
 counts_set units unit place old new within was is =
     let had : get_or (map count_in units) unit 0 ≡ old.count =
-        get_or-map count_in units unit old 0 within ∙ sym (ap count_in was) in
+    get_or-map count_in units unit old 0 within ∙ sym (ap count_in was) in
     let new_count : new.count ≡ max (get_or (map count_in units) unit 0) (place + 1) =
-        is ∙ sym (ap (λ (n : ℕ). max n (place + 1)) had) in
+    is ∙ sym (ap (λ (n : ℕ). max n (place + 1)) had) in
     map-set count_in units unit new
     ∙ ap (λ (n : ℕ). slice_set (map count_in units) unit n) new_count
 
@@ -66,7 +66,7 @@ pub column_is :
     ≡ with_column (shape_of periods places units singles capacity) unit place
 column_is periods places units singles capacity unit place old new within was is =
     let counts : map count_in (slice_set units unit new)
-        ≡ slice_set (map count_in units) unit (max (slice_index_or (map count_in units) unit 0) (place + 1)) =
-        counts_set units unit place old new within was is in
+    ≡ slice_set (map count_in units) unit (max (slice_index_or (map count_in units) unit 0) (place + 1)) =
+    counts_set units unit place old new within was is in
     let long : length (slice_set units unit new) ≡ length units = length-set units unit new in
     cc
