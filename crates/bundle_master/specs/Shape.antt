@@ -27,7 +27,7 @@ with_single s = record s { singles = s.singles + 1; room = s.room - 1 }
 
 -- what the parts of a master problem over so many periods are, with so many places for each unit
 pub record AreParts (horizon room : ℕ) (units : List UnitShape) (singles : List ℕ)
-    (row_count price_count step_count left_count matrix_rows : ℕ) : Type 0 where
+    (row_count price_count step_count left_count right_count matrix_rows : ℕ) : Type 0 where
   pub some : 1 ≤ room
   pub periods : horizon ≤ 1000
   pub places : All (λ (u : UnitShape). u.places ≡ room) units
@@ -37,4 +37,5 @@ pub record AreParts (horizon room : ℕ) (units : List UnitShape) (singles : Lis
   pub prices : price_count ≡ 2 * horizon
   pub steps : step_count ≡ 2 * horizon
   pub left : left_count ≡ 2 * horizon
+  pub right : right_count ≡ 2 * horizon
   pub matrix : matrix_rows ≡ 2 * horizon

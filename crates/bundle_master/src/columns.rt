@@ -50,6 +50,20 @@ pub struct Sums {
     pub pairs: f64,
 }
 
+/// What a step brings each product to. The second order of the last step's counts up to a limit: 0 leaves it out.
+#[derive(Clone, Copy)]
+pub struct Target {
+    pub product: f64,
+    pub limit: f64,
+}
+
+/// How far a step goes with shares, and with what they are paired with.
+#[derive(Clone, Copy)]
+pub struct Lengths {
+    pub primal: f64,
+    pub dual: f64,
+}
+
 impl Sums {
     /// Those of nothing.
     pub const NONE: Sums = Sums {
@@ -126,11 +140,17 @@ pub fn weigh(columns: &mut [Column]) -> f64 {
     sum
 }
 
-/// Sets the pushes that bring each product to the same; their sum.
-pub fn push(columns: &mut [Column], product: f64) -> f64 {
+/// A number kept within a distance of 0.
+pub fn limited(x: f64, limit: f64) -> f64 {
+    x.max(-limit).min(limit)
+}
+
+/// Sets the pushes to a target; their sum.
+pub fn push(columns: &mut [Column], target: Target) -> f64 {
     let mut sum = 0.0;
     for column in columns {
-        column.push = product / column.reduced - column.share;
+        let second = limited(column.share_step * column.reduced_step, target.limit);
+        column.push = (target.product - second) / column.reduced - column.share;
         sum += column.push;
     }
     sum
@@ -159,14 +179,24 @@ pub fn shortened(length: f64, number: f64, step: f64) -> f64 {
     length
 }
 
-/// The length of a step, or a lesser one at which a share or a reduced cost becomes 0.
-pub fn longest(columns: &[Column], length: f64) -> f64 {
-    let mut length = length;
+/// The lengths of a step, or lesser ones at which a share or a reduced cost becomes 0.
+pub fn longest(columns: &[Column], lengths: Lengths) -> Lengths {
+    let mut lengths = lengths;
     for column in columns {
-        length = shortened(length, column.share, column.share_step);
-        length = shortened(length, column.reduced, column.reduced_step);
+        lengths.primal = shortened(lengths.primal, column.share, column.share_step);
+        lengths.dual = shortened(lengths.dual, column.reduced, column.reduced_step);
     }
-    length
+    lengths
+}
+
+/// The sum of products with those of the columns after a step of those lengths.
+pub fn add_ahead(sum: f64, columns: &[Column], lengths: Lengths) -> f64 {
+    let mut sum = sum;
+    for column in columns {
+        let share = column.share + lengths.primal * column.share_step;
+        sum += share * (column.reduced + lengths.dual * column.reduced_step);
+    }
+    sum
 }
 
 /// Takes a step of that length.

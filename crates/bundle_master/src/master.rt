@@ -2,7 +2,7 @@
 ghost use Rattle.std.specs.Prelude.{◌≡◌, ◌+◌, ◌*◌, ◌^◌, ◌<◌, ◌≤◌, length, IfOk, replicate};
 ghost use Rattle.bundle_master.specs.Shape.{count_of, with_column, with_single};
 
-use crate::columns::{Sums, WAY};
+use crate::columns::{Lengths, Sums, Target, WAY};
 use crate::pace::Pace;
 use crate::rows::{self, HIGHEST, LOWEST, Row};
 use crate::singles::{self, Single};
@@ -22,6 +22,9 @@ const START: f64 = 0.1;
 const GROWTH: f64 = 4.0;
 
 const GROWTHS: usize = 12;
+
+/// The second order of a step counts up to so many times the product at which it aims.
+const SECOND_ORDER: f64 = 3.0;
 
 /// How large a master problem is: rows are twice the periods, and each thermal unit has so many places for columns.
 #[derive(Clone, Copy)]
@@ -66,6 +69,7 @@ pub struct Master {
     price_steps: Vec<f64>,
     // What is off in each row.
     left: Vec<f64>,
+    right: Vec<f64>,
     matrix: Matrix,
     ridge: f64,
 }
@@ -88,7 +92,7 @@ impl Model for Master {
     } };
 
     ghost invariant = { λ m. AreParts m.periods m.places m.units.items m.singles.items (length m.rows.items)
-        (length m.prices.items) (length m.price_steps.items) (length m.left.items) m.matrix };
+        (length m.prices.items) (length m.price_steps.items) (length m.left.items) (length m.right.items) m.matrix };
 }
 
 // Written out, so that a drop of it is a call, and not one for each list.
@@ -103,6 +107,7 @@ impl Drop for Master {
             prices: _,
             price_steps: _,
             left: _,
+            right: _,
             matrix: _,
             ridge: _,
         } = self;
@@ -132,6 +137,7 @@ pub fn make_master(alloc: Global, sizes: Sizes) -> Result<Master, AllocError>
     let prices = vec![in alloc; 0.0; count]?;
     let price_steps = vec![in alloc; 0.0; count]?;
     let left = vec![in alloc; 0.0; count]?;
+    let right = vec![in alloc; 0.0; count]?;
     let matrix = Matrix::make(alloc, count)?;
     Ok(Master {
         periods: sizes.periods,
@@ -142,6 +148,7 @@ pub fn make_master(alloc: Global, sizes: Sizes) -> Result<Master, AllocError>
         prices,
         price_steps,
         left,
+        right,
         matrix,
         ridge: 0.0,
     })
@@ -272,7 +279,7 @@ impl Master {
                 return true;
             }
             let held = aim.strict && off > sums.products;
-            self.step(pace.share(held) * (sums.products / sums.pairs));
+            self.step(sums, pace.share(), held);
             pace.set(self.advance());
         }
         false
@@ -338,13 +345,30 @@ impl Master {
         )
     }
 
-    // The step that brings what is off to 0, and each product to the same.
-    fn step(&mut self, product: f64)
+    // A step that brings what is off to 0. The products are held at their mean, or brought to that share of it or more:
+    // the less a step to 0 would leave of them, the lower (a predictor and a corrector, Mehrotra 1992).
+    fn step(&mut self, sums: Sums, share: f64, held: bool)
         ensures { self.new ≡ self.old }
     {
+        let mean = sums.products / sums.pairs;
         self.factor();
-        self.push(product);
-        self.matrix.solve(self.price_steps.as_mut_slice());
+        if held {
+            self.head_for(mean, 0.0);
+        } else {
+            self.head_for(0.0, 0.0);
+            let left = self.ahead() / sums.products;
+            let product = mean * (left * left * left).max(share).min(1.0);
+            self.head_for(product, SECOND_ORDER * product);
+        }
+    }
+
+    // The step that brings what is off to 0, and each product to the same, by the root of the matrix.
+    fn head_for(&mut self, product: f64, limit: f64)
+        ensures { self.new ≡ self.old }
+    {
+        self.push(Target { product, limit });
+        self.matrix.solve(self.right.as_mut_slice());
+        self.price_steps.copy_from_slice(self.right.as_slice());
         self.follow();
     }
 
@@ -363,26 +387,20 @@ impl Master {
         self.matrix.factor();
     }
 
-    // Sets the pushes, and leaves the right-hand side in the prices' steps.
-    fn push(&mut self, product: f64)
+    // Sets the pushes and the right-hand side.
+    fn push(&mut self, target: Target)
         ensures { self.new ≡ self.old }
     {
-        self.price_steps.copy_from_slice(self.left.as_slice());
-        units::push(
-            self.units.as_mut_slice(),
-            product,
-            self.price_steps.as_mut_slice(),
-        );
-        singles::push(
-            self.singles.as_mut_slice(),
-            product,
-            self.price_steps.as_mut_slice(),
-        );
+        self.right.copy_from_slice(self.left.as_slice());
+        let right = self.right.as_mut_slice();
+        units::push(self.units.as_mut_slice(), target, right);
+        singles::push(self.singles.as_mut_slice(), target, right);
         rows::push(
             self.rows.as_mut_slice(),
             self.prices.as_slice(),
-            product,
-            self.price_steps.as_mut_slice(),
+            self.price_steps.as_slice(),
+            target,
+            right,
         );
     }
 
@@ -398,14 +416,38 @@ impl Master {
         );
     }
 
-    fn longest(&self) -> f64 {
-        let length = units::longest(self.units.as_slice(), 1.0 / WAY);
-        let length = singles::longest(self.singles.as_slice(), length);
-        WAY * rows::longest(
+    fn longest(&self) -> Lengths {
+        let whole = Lengths {
+            primal: 1.0 / WAY,
+            dual: 1.0 / WAY,
+        };
+        let lengths = units::longest(self.units.as_slice(), whole);
+        let lengths = singles::longest(self.singles.as_slice(), lengths);
+        let prices = self.prices.as_slice();
+        let lengths = rows::longest(
             self.rows.as_slice(),
-            self.prices.as_slice(),
+            prices,
             self.price_steps.as_slice(),
-            length,
+            lengths,
+        );
+        Lengths {
+            primal: WAY * lengths.primal,
+            dual: WAY * lengths.dual,
+        }
+    }
+
+    // The sum of the products after the longest step.
+    fn ahead(&self) -> f64 {
+        let lengths = self.longest();
+        let sum = units::add_ahead(0.0, self.units.as_slice(), lengths);
+        let sum = singles::add_ahead(sum, self.singles.as_slice(), lengths);
+        let prices = self.prices.as_slice();
+        rows::add_ahead(
+            sum,
+            self.rows.as_slice(),
+            prices,
+            self.price_steps.as_slice(),
+            lengths,
         )
     }
 
@@ -413,7 +455,8 @@ impl Master {
     fn advance(&mut self) -> f64
         ensures { self.new ≡ self.old }
     {
-        let length = self.longest();
+        let lengths = self.longest();
+        let length = lengths.primal.min(lengths.dual);
         units::advance(self.units.as_mut_slice(), length);
         singles::advance(self.singles.as_mut_slice(), length);
         rows::advance(self.rows.as_mut_slice(), length);

@@ -4,7 +4,7 @@
 /// and falls after one that is longer than LONG.
 const FIRST_SHARE: f64 = 0.1;
 
-const LEAST_SHARE: f64 = 0.1;
+const LEAST_SHARE: f64 = 0.01;
 
 const SHORT: f64 = 0.3;
 
@@ -23,9 +23,9 @@ impl Pace {
         Pace { share: FIRST_SHARE }
     }
 
-    /// The share of the next step: the whole where it is to mend the balance alone.
-    pub fn share(&self, held: bool) -> f64 {
-        if held { 1.0 } else { self.share }
+    /// The share of the next step.
+    pub fn share(&self) -> f64 {
+        self.share
     }
 
     /// Follows a step of that length.

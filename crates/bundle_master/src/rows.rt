@@ -1,7 +1,7 @@
 //! The rows of a master problem: what is due, and the limits of the price.
 ghost use Rattle.std.specs.Prelude.{◌≡◌, length};
 
-use crate::columns::{Sums, shortened};
+use crate::columns::{Lengths, Sums, Target, limited, shortened};
 use dense_matrix::matrix::Matrix;
 
 /// The greatest price, and the least energy price.
@@ -76,10 +76,13 @@ impl Row {
         }
     }
 
-    /// Sets the steps to a product at an unchanged price; what they take off what is left.
-    pub fn push(&mut self, price: f64, product: f64) -> f64 {
-        self.lack_step = product / (HIGHEST - price) - self.lack;
-        self.more_step = product / (price - self.lowest) - self.more;
+    /// Sets the steps to a target at an unchanged price; what they take off what is left. The last step's second order
+    /// is that of the price's step too.
+    pub fn push(&mut self, price: f64, last_step: f64, target: Target) -> f64 {
+        let second_lack = limited(last_step * self.lack_step, target.limit);
+        let second_more = limited(last_step * self.more_step, target.limit);
+        self.lack_step = (target.product + second_lack) / (HIGHEST - price) - self.lack;
+        self.more_step = (target.product - second_more) / (price - self.lowest) - self.more;
         self.lack_step - self.more_step
     }
 
@@ -89,12 +92,22 @@ impl Row {
         self.more_step -= self.more / (price - self.lowest) * price_step;
     }
 
-    /// The length of a step, or a lesser one at which a number becomes 0.
-    pub fn longest(&self, length: f64, price: f64, price_step: f64) -> f64 {
-        let length = shortened(length, self.lack, self.lack_step);
-        let length = shortened(length, self.more, self.more_step);
-        let length = shortened(length, HIGHEST - price, -price_step);
-        shortened(length, price - self.lowest, price_step)
+    /// The lengths of a step, or lesser ones at which a number becomes 0.
+    pub fn longest(&self, lengths: Lengths, price: f64, price_step: f64) -> Lengths {
+        let primal = shortened(lengths.primal, self.lack, self.lack_step);
+        let dual = shortened(lengths.dual, HIGHEST - price, -price_step);
+        Lengths {
+            primal: shortened(primal, self.more, self.more_step),
+            dual: shortened(dual, price - self.lowest, price_step),
+        }
+    }
+
+    /// The sum of products with the row's two after a step of those lengths.
+    pub fn add_ahead(&self, sum: f64, lengths: Lengths, price: f64, price_step: f64) -> f64 {
+        let step = lengths.dual * price_step;
+        let lack = self.lack + lengths.primal * self.lack_step;
+        let more = self.more + lengths.primal * self.more_step;
+        sum + lack * (HIGHEST - price - step) + more * (price + step - self.lowest)
     }
 
     /// Takes a step of that length.
@@ -160,13 +173,14 @@ pub fn add_to_matrix(rows: &[Row], prices: &[f64], ridge: f64, matrix: &mut Matr
     }
 }
 
-/// Sets the steps of all rows to a product at unchanged prices, and takes them off a right-hand side.
-pub fn push(rows: &mut [Row], prices: &[f64], product: f64, right: &mut [f64])
+/// Sets the steps of all rows to a target at unchanged prices, and takes them off a right-hand side.
+pub fn push(rows: &mut [Row], prices: &[f64], last_steps: &[f64], target: Target, right: &mut [f64])
     requires prices { length prices.now ≡ length rows.old }
+    requires steps { length last_steps.now ≡ length rows.old }
     requires right { length right.old ≡ length rows.old }
 {
     for row in 0..rows.len() {
-        right[row] -= rows[row].push(prices[row], product);
+        right[row] -= rows[row].push(prices[row], last_steps[row], target);
     }
 }
 
@@ -180,16 +194,34 @@ pub fn follow(rows: &mut [Row], prices: &[f64], price_steps: &[f64])
     }
 }
 
-/// The length of a step, or a lesser one at which a number of a row becomes 0.
-pub fn longest(rows: &[Row], prices: &[f64], price_steps: &[f64], most: f64) -> f64
+/// The lengths of a step, or lesser ones at which a number of a row becomes 0.
+pub fn longest(rows: &[Row], prices: &[f64], price_steps: &[f64], lengths: Lengths) -> Lengths
     requires prices { length prices.now ≡ length rows.now }
     requires steps { length price_steps.now ≡ length rows.now }
 {
-    let mut shortest = most;
+    let mut lengths = lengths;
     for row in 0..rows.len() {
-        shortest = rows[row].longest(shortest, prices[row], price_steps[row]);
+        lengths = rows[row].longest(lengths, prices[row], price_steps[row]);
     }
-    shortest
+    lengths
+}
+
+/// The sum of products with those of all rows after a step of those lengths.
+pub fn add_ahead(
+    sum: f64,
+    rows: &[Row],
+    prices: &[f64],
+    price_steps: &[f64],
+    lengths: Lengths,
+) -> f64
+    requires prices { length prices.now ≡ length rows.now }
+    requires steps { length price_steps.now ≡ length rows.now }
+{
+    let mut sum = sum;
+    for row in 0..rows.len() {
+        sum = rows[row].add_ahead(sum, lengths, prices[row], price_steps[row]);
+    }
+    sum
 }
 
 /// Takes a step of that length with all rows.

@@ -2,7 +2,7 @@
 ghost use Rattle.std.specs.Prelude.{◌≡◌, length};
 ghost use Rattle.bundle_master.specs.UnitShape.{AreBelow};
 
-use crate::columns::{self, Column, Sums};
+use crate::columns::{self, Column, Lengths, Sums, Target};
 use dense_matrix::matrix::Matrix;
 use std::marker::Model;
 
@@ -77,11 +77,11 @@ impl Single {
         self.columns[0].weight * self.mean * self.mean + self.columns[1].weight * above * above
     }
 
-    /// Sets the pushes to a product; what they give.
-    pub fn push(&mut self, product: f64) -> f64
+    /// Sets the pushes to a target; what they give.
+    pub fn push(&mut self, target: Target) -> f64
         ensures { self.new ≡ self.old }
     {
-        let sum = columns::push(&mut self.columns, product);
+        let sum = columns::push(&mut self.columns, target);
         self.columns[1].push * self.amount - sum * self.mean
     }
 
@@ -94,9 +94,14 @@ impl Single {
         columns::follow(&mut self.columns, self.weight);
     }
 
-    /// The length of a step, or a lesser one at which a share or a reduced cost becomes 0.
-    pub fn longest(&self, length: f64) -> f64 {
-        columns::longest(&self.columns, length)
+    /// The lengths of a step, or lesser ones at which a share or a reduced cost becomes 0.
+    pub fn longest(&self, lengths: Lengths) -> Lengths {
+        columns::longest(&self.columns, lengths)
+    }
+
+    /// The sum of products with those of the columns after a step of those lengths.
+    pub fn add_ahead(&self, sum: f64, lengths: Lengths) -> f64 {
+        columns::add_ahead(sum, &self.columns, lengths)
     }
 
     /// Takes a step of that length.
@@ -150,14 +155,14 @@ pub fn add_to_matrix(singles: &mut [Single], matrix: &mut Matrix)
     }
 }
 
-/// Sets the pushes of all variables to a product, and takes what they give off a right-hand side.
-pub fn push(singles: &mut [Single], product: f64, right: &mut [f64])
+/// Sets the pushes of all variables to a target, and takes what they give off a right-hand side.
+pub fn push(singles: &mut [Single], target: Target, right: &mut [f64])
     requires { AreBelow (length right.old) singles.old }
     ensures { singles.new ≡ singles.old }
 {
     for single in 0..singles.len() {
         let row = singles[single].row();
-        right[row] -= singles[single].push(product);
+        right[row] -= singles[single].push(target);
     }
 }
 
@@ -172,13 +177,22 @@ pub fn follow(singles: &mut [Single], price_steps: &[f64])
     }
 }
 
-/// The length of a step, or a lesser one at which a share or a reduced cost of a variable becomes 0.
-pub fn longest(singles: &[Single], length: f64) -> f64 {
-    let mut length = length;
+/// The lengths of a step, or lesser ones at which a share or a reduced cost of a variable becomes 0.
+pub fn longest(singles: &[Single], lengths: Lengths) -> Lengths {
+    let mut lengths = lengths;
     for single in singles {
-        length = single.longest(length);
+        lengths = single.longest(lengths);
     }
-    length
+    lengths
+}
+
+/// The sum of products with those of all variables after a step of those lengths.
+pub fn add_ahead(sum: f64, singles: &[Single], lengths: Lengths) -> f64 {
+    let mut sum = sum;
+    for single in singles {
+        sum = single.add_ahead(sum, lengths);
+    }
+    sum
 }
 
 /// Takes a step of that length with all variables.

@@ -2,7 +2,7 @@
 ghost use Rattle.std.specs.Prelude.{◌≡◌, ◌+◌, ◌<◌, ◌≤◌, length, IfOk, max};
 ghost use Rattle.bundle_master.specs.UnitShape.{AreOver};
 
-use crate::columns::{self, Column, Sums};
+use crate::columns::{self, Column, Lengths, Sums, Target};
 use crate::numbers::megawatts;
 use dense_matrix::matrix::Matrix;
 use dense_matrix::table::Table;
@@ -259,15 +259,15 @@ impl Unit {
         );
     }
 
-    /// Sets the pushes to a product, and takes what they give off a right-hand side.
-    pub fn push(&mut self, product: f64, right: &mut [f64])
+    /// Sets the pushes to a target, and takes what they give off a right-hand side.
+    pub fn push(&mut self, target: Target, right: &mut [f64])
         requires { length right.old ≡ self.old.rows }
         ensures { self.new ≡ self.old }
     {
         if self.columns.is_empty() {
             return;
         }
-        let sum = columns::push(self.columns.as_mut_slice(), product);
+        let sum = columns::push(self.columns.as_mut_slice(), target);
         take_pushes(self.columns.as_slice(), &self.amounts, right);
         add_multiple(right, sum, &self.mean);
     }
@@ -281,9 +281,14 @@ impl Unit {
         columns::follow(self.columns.as_mut_slice(), self.weight);
     }
 
-    /// The length of a step, or a lesser one at which a share or a reduced cost becomes 0.
-    pub fn longest(&self, length: f64) -> f64 {
-        columns::longest(self.columns.as_slice(), length)
+    /// The lengths of a step, or lesser ones at which a share or a reduced cost becomes 0.
+    pub fn longest(&self, lengths: Lengths) -> Lengths {
+        columns::longest(self.columns.as_slice(), lengths)
+    }
+
+    /// The sum of products with those of the columns after a step of those lengths.
+    pub fn add_ahead(&self, sum: f64, lengths: Lengths) -> f64 {
+        columns::add_ahead(sum, self.columns.as_slice(), lengths)
     }
 
     /// Takes a step of that length.
@@ -333,13 +338,13 @@ pub fn add_to_matrix(units: &mut [Unit], matrix: &mut Matrix)
     }
 }
 
-/// Sets the pushes of all units to a product, and takes what they give off a right-hand side.
-pub fn push(units: &mut [Unit], product: f64, right: &mut [f64])
+/// Sets the pushes of all units to a target, and takes what they give off a right-hand side.
+pub fn push(units: &mut [Unit], target: Target, right: &mut [f64])
     requires { AreOver (length right.old) units.old }
     ensures { units.new ≡ units.old }
 {
     for unit in 0..units.len() {
-        units[unit].push(product, right);
+        units[unit].push(target, right);
     }
 }
 
@@ -353,13 +358,22 @@ pub fn follow(units: &mut [Unit], price_steps: &[f64])
     }
 }
 
-/// The length of a step, or a lesser one at which a share or a reduced cost of a unit becomes 0.
-pub fn longest(units: &[Unit], length: f64) -> f64 {
-    let mut length = length;
+/// The lengths of a step, or lesser ones at which a share or a reduced cost of a unit becomes 0.
+pub fn longest(units: &[Unit], lengths: Lengths) -> Lengths {
+    let mut lengths = lengths;
     for unit in units {
-        length = unit.longest(length);
+        lengths = unit.longest(lengths);
     }
-    length
+    lengths
+}
+
+/// The sum of products with those of all units after a step of those lengths.
+pub fn add_ahead(sum: f64, units: &[Unit], lengths: Lengths) -> f64 {
+    let mut sum = sum;
+    for unit in units {
+        sum = unit.add_ahead(sum, lengths);
+    }
+    sum
 }
 
 /// Takes a step of that length with all units.
