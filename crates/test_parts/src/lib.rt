@@ -6,11 +6,15 @@
 #[cfg(test)]
 mod board_store_tests;
 #[cfg(test)]
+mod bundle_master_tests;
+#[cfg(test)]
 mod convex_text_tests;
 #[cfg(test)]
 mod cost_curve_tests;
 #[cfg(test)]
 mod decimal_tests;
+#[cfg(test)]
+mod dense_matrix_tests;
 #[cfg(test)]
 mod flat_answer_tests;
 #[cfg(test)]
