@@ -75,7 +75,7 @@ pub struct Master {
 }
 
 impl Model for Master {
-    ghost use Rattle.std.specs.Prelude.{◌*◌, ◌-◌, length, map, vec_len, vec_capacity};
+    ghost use Rattle.std.specs.Prelude.{◌-◌, length, map, vec_capacity};
     ghost use Rattle.bundle_master.specs.Shape.{Shape, AreParts};
     ghost use Rattle.bundle_master.specs.UnitShape.{UnitShape};
 
@@ -158,7 +158,8 @@ fn make_units(alloc: Global, sizes: Sizes) -> Result<Vec<Unit>, AllocError>
     requires periods { sizes.periods ≤ 1000 }
     requires thermal { sizes.thermal ≤ 4096 }
     requires places { sizes.places ≤ 1000 }
-    ensures { IfOk result (λ units. units.items ≡ replicate sizes.thermal (record { count = 0; places = sizes.places; rows = 2 * sizes.periods })) }
+    ensures { IfOk result (λ units. units.items ≡ replicate sizes.thermal
+        (record { count = 0; places = sizes.places; rows = 2 * sizes.periods })) }
 {
     let mut units = Vec::with_capacity(alloc, sizes.thermal)?;
     for _ in 0..sizes.thermal {
@@ -211,6 +212,7 @@ impl Master {
         requires { unit < self.now.thermal }
         ensures place { result < self.now.places }
         ensures count { result ≤ count_of self.now unit }
+        ensures free { count_of self.now unit < self.now.places → result ≡ count_of self.now unit }
     {
         self.units[unit].next_place()
     }

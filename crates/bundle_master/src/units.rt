@@ -176,6 +176,7 @@ impl Unit {
         requires { 1 ≤ self.now.places }
         ensures place { result < self.now.places }
         ensures count { result ≤ self.now.count }
+        ensures free { self.now.count < self.now.places → result ≡ self.now.count }
     {
         let count = self.columns.len();
         if count < self.amounts.height() {

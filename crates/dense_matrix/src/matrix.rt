@@ -9,7 +9,7 @@ use std::marker::Model;
 /// How many columns are multiplied at once.
 const GROUP: usize = 4;
 
-/// A pivot that is no greater, or no number, is taken for one whose root is ROOT_OF_NONE: the unknown is then 0 or nearly so.
+/// A pivot that is no greater, or no number, is taken for one whose root is ROOT_OF_NONE: its unknown is then nearly 0.
 const LEAST_PIVOT: f64 = 1e-30;
 
 const ROOT_OF_NONE: f64 = 1e60;
@@ -45,7 +45,8 @@ impl Model for Matrix {
 
     ghost view = { λ m. m.size };
 
-    ghost invariant = { λ m. (length m.entries.items ≡ m.size * m.size) × (m.columns ≡ record { height = 4; width = m.size })
+    ghost invariant = { λ m. (length m.entries.items ≡ m.size * m.size)
+        × (m.columns ≡ record { height = 4; width = m.size })
         × (m.waiting < 4) × (length m.pivot_row.items ≡ m.size) × (m.size ≤ 100000) };
 }
 
@@ -133,7 +134,8 @@ impl Matrix {
         self.waiting = 0;
     }
 
-    /// Adds the product of a column with itself: so much times what one list is above another. `end_columns` has to follow.
+    /// Adds the product of a column with itself: so much times what one list is above another. `end_columns` has to
+    /// follow.
     pub fn add_column(&mut self, factor: f64, list: &[f64], base: &[f64])
         requires list { length list.now ≡ self.old }
         requires base { length base.now ≡ self.old }
