@@ -3,6 +3,9 @@
 /// A step goes so far of the way to where a number would be 0.
 pub const WAY: f64 = 0.95;
 
+/// The golden ratio, less 1.
+const GOLDEN: f64 = 0.618_033_988_749_894_9;
+
 /// Newton steps to the level of a group at most, and how near to 1 the sum of the shares has to be.
 const LEVEL_STEPS: usize = 30;
 
@@ -205,4 +208,18 @@ pub fn advance(columns: &mut [Column], length: f64) {
         column.share += length * column.share_step;
         column.reduced += length * column.reduced_step;
     }
+}
+
+/// Adds a part of an amount to the cost of each column. The parts go round from 0 to 1 in steps of the
+/// golden ratio, so that no two are alike; tells where they have come to.
+pub fn perturb(columns: &mut [Column], amount: f64, start: f64) -> f64 {
+    let mut part = start;
+    for place in 0..columns.len() {
+        part += GOLDEN;
+        if part >= 1.0 {
+            part -= 1.0;
+        }
+        columns[place].cost += amount * part;
+    }
+    part
 }

@@ -12,9 +12,6 @@ use dense_matrix::vectors::{add_multiple, magnitude};
 use std::alloc::{AllocError, Global};
 use std::marker::Model;
 
-/// Newton steps of a solution at most.
-const STEPS: usize = 60;
-
 /// Where a strict solution starts: what is off costs no more than so many of the products; they grow by so much, so
 /// often at most.
 const START: f64 = 0.1;
@@ -43,8 +40,11 @@ pub struct Aim {
     /// The sum of the products at which it is solved, and at which it starts.
     pub accuracy: f64,
     pub wide: f64,
-    /// Whether what is off, at the greatest price, has to be below the accuracy too.
+    /// Whether what is off has to cost less than `balance` at the greatest price.
     pub strict: bool,
+    pub balance: f64,
+    /// How many Newton steps are made at most.
+    pub steps: usize,
 }
 
 /// Where a solution ended.
@@ -252,6 +252,15 @@ impl Master {
         self.rows[row].centre = price;
     }
 
+    /// Adds a part of an amount of the currency to the cost of each column, each another part: of the many solutions that
+    /// a master problem mostly has one is then the best, and it has few columns (Charnes, 'Optimality and Degeneracy in
+    /// Linear Programming', Econometrica 1952, perturbs so).
+    pub fn perturb(&mut self, amount: f64)
+        ensures { self.new ≡ self.old }
+    {
+        units::perturb(self.units.as_mut_slice(), amount);
+    }
+
     /// The price of a row.
     pub fn price(&self, row: usize) -> f64
         requires { row < 2 * self.now.periods }
@@ -274,10 +283,10 @@ impl Master {
         self.ridge = aim.ridge;
         self.start(aim);
         let mut pace = Pace::new();
-        for _ in 0..STEPS {
+        for _ in 0..aim.steps {
             let off = self.balance();
             let sums = self.sums();
-            if sums.products <= aim.accuracy && (!aim.strict || off * HIGHEST < aim.accuracy) {
+            if sums.products <= aim.accuracy && (!aim.strict || off * HIGHEST < aim.balance) {
                 return true;
             }
             let held = aim.strict && off > sums.products;

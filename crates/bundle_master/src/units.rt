@@ -146,6 +146,13 @@ fn earn(columns: &mut [Column], amounts: &Table, price_steps: &[f64])
 }
 
 impl Unit {
+    /// Adds a part of an amount to the cost of each column, each another part; tells where the parts have come to.
+    pub fn perturb(&mut self, amount: f64, start: f64) -> f64
+        ensures { self.new ≡ self.old }
+    {
+        columns::perturb(self.columns.as_mut_slice(), amount, start)
+    }
+
     /// A unit with room for so many columns of so many rows.
     pub fn make(alloc: Global, places: usize, rows: usize) -> Result<Unit, AllocError>
         requires places { places ≤ 1000 }
@@ -307,6 +314,16 @@ pub fn add_to(units: &[Unit], sums: Sums) -> Sums {
         sums = unit.add_to(sums);
     }
     sums
+}
+
+/// Adds a part of an amount to the cost of each column of all units, each another part.
+pub fn perturb(units: &mut [Unit], amount: f64)
+    ensures { units.new ≡ units.old }
+{
+    let mut part = 0.0;
+    for unit in 0..units.len() {
+        part = units[unit].perturb(amount, part);
+    }
 }
 
 /// Centres all units at those prices.

@@ -13,6 +13,8 @@ const AIM: Aim = Aim {
     accuracy: 0.000_001,
     wide: 100.0,
     strict: true,
+    balance: 1e-6,
+    steps: 60,
 };
 
 // One unit that gives nothing, or 4 MW and 1 MW of reserve for 100; 3 MW are due and no reserve. The dual value at
