@@ -7,6 +7,7 @@ from .errors import HullError
 from .inputs import as_case, as_prices, as_schedule, as_zones
 from .linear import need_scipy
 from .numbers import millionths
+from .outputs import Convex
 from .prices import Prices
 from .program import Hull, as_file
 from .fast_start import FastStart
@@ -58,17 +59,9 @@ def elmp(
     return fast_start_prices(read, as_schedule(schedule, read), fast)
 
 
-def convex_prices(case, schedule, within=None, rounds=None, hull=None):
-    """Convex hull prices, in `prices`, and the `mixture` by which `hull certify` bounds how far they are from the best, in `distance`."""
-    need_scipy()
-    from .commands.convex_prices import search
-    from .convex import Limits
-
-    program = Hull(hull)
-    program.check(case, schedule)
-    with as_file(case) as case_name, as_file(schedule) as schedule_name:
-        limits = Limits(within, rounds=rounds)
-        return search(program, as_case(case), (case_name, schedule_name), limits, quiet)
+def convex_prices(case, schedule, within=None, rounds=None, hull=None) -> Convex:
+    """The text of `hull convex`: `prices`, their settlement, and the `mixture` that proves how far they are from the best, in `distance`."""
+    return Hull(hull).convex(case, schedule, within, rounds)
 
 
 def settle_zones(case, schedule, zones, hull=None) -> Zonal:

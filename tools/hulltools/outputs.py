@@ -6,14 +6,17 @@ import json
 import re
 from dataclasses import dataclass, field
 
-from .prices import Prices
 from .errors import HullError, one_line, read_bytes, shown_name
+from .mixtures import MOST_WEIGHT, Entry, Mixture
+from .prices import Prices
+from .schedules import Plan
 
 COUNT = (0, 2**32 - 1)
 MONEY = (-(2**63), 2**63 - 1)
 SUM = (-(2**127), 2**127 - 1)
 PRICE = 10_000_000
 RADIUS = (0, 20_000_000)
+WITHIN, ROUNDS = 10**12, 1000  # the greatest of each that `hull convex` takes
 NUMBER = r"(0|-?[1-9][0-9]{0,38})"
 NAME = r'"(?:[^\x00-\x1f"\\]|\\["\\]|\\u00[01][0-9a-f])*"'
 KINDS = ("thermal", "renewable", "bid")
@@ -112,6 +115,28 @@ class Settlement(Priced):
     """The text of `hull settle`."""
 
     command = "settle"
+
+    @property
+    def proposals(self):
+        return [self.best]
+
+
+@dataclass
+class Convex(Priced):
+    """The text of `hull convex`: prices with their settlement, and the mixture that bounds the dual value of all prices."""
+
+    command = "convex"
+    within: int
+    rounds: int
+    made: int
+    mixture: Mixture
+    bound: int
+    distance: int
+    least: int
+
+    @property
+    def value(self) -> int:
+        return self.best.value
 
     @property
     def proposals(self):
@@ -302,6 +327,41 @@ def read_settlement(lines):
     return Settlement(lines.name, periods, cost, row, units, *read_sums(lines))
 
 
+def read_entry(lines, weight, periods):
+    """An entry of a mixture: its share, and a schedule of the unit."""
+    share = lines.number("share", 0, weight)
+    on = lines.numbers("on", periods, 0, 1)
+    return Entry(share, Plan(on, lines.numbers("power", periods, *COUNT), lines.numbers("reserve", periods, *COUNT)))
+
+
+def read_mixture_lines(lines, names, periods):
+    """The mixture, which has entries of each thermal unit, in order, whose shares sum to the weight."""
+    weight = lines.number("weight", 1, MOST_WEIGHT)
+    thermal = {}
+    for name in names:
+        quoted, count = lines.take(f"mixture thermal ({NAME}) entries {NUMBER}", (1, COUNT[1]))
+        if name_of(quoted) != name:
+            raise HullError(f"{lines.name}, line {lines.read}: another unit's mixture is due here")
+        thermal[name] = [read_entry(lines, weight, periods) for _ in range(count)]
+        if sum(entry.weight for entry in thermal[name]) != weight:
+            raise HullError(f"{lines.name}, line {lines.read}: the unit's shares don't sum to the weight")
+    return Mixture(weight, thermal)
+
+
+def read_convex(lines):
+    lines.take("hull-convex 1")
+    periods, count = read_head(lines)
+    cost = lines.number("cost", *SUM)
+    asked = lines.number("within", 0, WITHIN), lines.number("rounds", 1, ROUNDS), lines.number("made", 0, ROUNDS)
+    row = Row(1, lines.number("value", *SUM), *read_lists(lines, periods))
+    units = read_units(lines, count, periods)
+    sums = [lines.number(it, *SUM) for it in ("surplus", "payments", "gap")]
+    mixture = read_mixture_lines(lines, [unit.name for unit in units if unit.kind == "thermal"], periods)
+    bounds = [lines.number(it, *SUM) for it in ("bound", "distance", "least")]
+    lines.end()
+    return Convex(lines.name, periods, cost, row, units, *sums, *asked, mixture, *bounds)
+
+
 def read_bound(lines):
     lines.take("hull-bound 1")
     proposals = lines.number("proposals", 1, COUNT[1])
@@ -345,6 +405,7 @@ def read_certificate(lines):
 FORMS = {
     "hull-report 1": ("a report of `hull price`", read_report),
     "hull-settlement 1": ("a text of `hull settle`", read_settlement),
+    "hull-convex 1": ("a text of `hull convex`", read_convex),
     "hull-bound 1": ("a text of `hull bound`", read_bound),
     "hull-fixed 1": ("a text of `hull fixed`", read_fixed),
     "hull-certificate 1": ("a text of `hull certify`", read_certificate),
@@ -356,7 +417,7 @@ def parse_output(name, data, due=tuple(FORMS)):
     first = data.split(b"\n", 1)[0].decode("utf-8", "replace")
     if first.startswith("fault "):
         raise HullError(f"{shown_name(name)}: this run was refused: {one_line(first)[:200]}")
-    other = re.fullmatch(r"hull-(bound|fixed|check|try|audit|report|settlement|certificate) 1", first)
+    other = re.fullmatch(r"hull-(bound|fixed|check|try|audit|report|settlement|certificate|convex) 1", first)
     if other and first not in due:
         is_a = FORMS[first][0] if first in FORMS else f"a text of `hull {other[1]}`"
         raise HullError(f"{shown_name(name)}: this is {is_a}, where {' or '.join(FORMS[it][0] for it in due)} is due")

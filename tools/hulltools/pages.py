@@ -225,10 +225,15 @@ def value_part(report):
 def nearness(priced, certificate):
     """In one sentence how near the prices are to the best, as far as something says so."""
     gap = money(priced.gap)
+    if certificate is None and priced.command == "convex":
+        return (
+            f"No prices need less than {money(priced.least)} of payments and surplus for this schedule; these need {gap}, and their dual value is "
+            f"within {money(priced.distance)} of the greatest."
+        )
     if certificate is None:
         return (
             f"Payments and surplus are {gap} together. How much of that other prices could save isn't said by this text; hull certify "
-            "says it, from a mixture such as tools/convex_prices.py finds."
+            "says it, from a mixture such as hull convex finds."
         )
     if (certificate.cost, certificate.value) != (priced.cost, priced.best.value):
         raise HullError(f"{certificate.name}: this certificate is of other prices or of another schedule")
@@ -253,13 +258,18 @@ def sums_part(priced):
     return "<dl>" + "".join(f"<div><dt>{name}</dt><dd>{money(it)}</dd></div>" for name, it in rows) + "</dl>"
 
 
+TITLES = {
+    "price": "Report of hull price",
+    "settle": "Settlement by hull settle",
+    "convex": "Convex hull prices by hull convex",
+}
 HEADS = ("*Kind", "*Name", "Earned", "Scheduled", "Payment", "Make-whole", "Lost opportunity", "Response, MW periods")
 
 
 def page_of(priced, schedule=None, certificate=None):
     """The page of a report or a settlement."""
     is_report = priced.command == "price"
-    title = "Report of hull price" if is_report else "Settlement by hull settle"
+    title = TITLES[priced.command]
     rows = "\n".join(unit_rows(priced.units, schedule))
     heads = (*HEADS, "Schedule, MW periods") if schedule else HEADS
     picture = '<i class="energy"></i>best response at the prices <i class="reserve"></i>its reserve'

@@ -8,6 +8,7 @@ import subprocess
 import tempfile
 
 from .errors import HullError, one_line
+from .numbers import millionths
 from .outputs import parse_output
 from .refusals import refusal
 
@@ -129,6 +130,15 @@ class Hull:
             names = [(f"--{key}", files.enter_context(as_file(it))) for key, it in given.items()]
             output = self.text("certify", *(word for pair in names for word in pair), *more)
         return parse_output("hull certify", output, ("hull-certificate 1",))
+
+    def convex(self, case, schedule, within=None, rounds=None):
+        """Convex hull prices, their settlement, and the mixture that bounds the dual value; `within` is in the currency."""
+        self.need("convex")
+        more = [] if within is None else ["--within", str(millionths(str(within)))]
+        more += [] if rounds is None else ["--rounds", str(rounds)]
+        with as_file(case) as case_name, as_file(schedule) as schedule_name:
+            output = self.text("convex", "--case", case_name, "--schedule", schedule_name, *more)
+        return parse_output("hull convex", output, ("hull-convex 1",))
 
 
 class as_file:

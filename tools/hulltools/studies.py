@@ -34,6 +34,8 @@ class Wanted:
     title: str = ""
     currency: str = ""
     clock: Clock = field(default_factory=Clock)
+    within: Optional[float] = None
+    rounds: Optional[int] = None
 
 
 @dataclass
@@ -142,15 +144,17 @@ class Maker:
             "Zonal prices have payments by unit alone. A dual value, a gap and the consumers' bill are of one price for all."
         )
 
-    def add_convex(self, search) -> None:
-        """The prices of a search; its mixture and certificate are written too."""
-        found = search([it.settlement.prices for it in self.study.lists.values()])
+    def add_convex(self) -> None:
+        """The prices of `hull convex`; its text, the mixture, and the certificate by it are written too."""
+        wanted = self.study.wanted
+        found = self.hull.convex(*self.files, wanted.within, wanted.rounds)
+        self.write("convex.txt", self.hull.last_text)
         self.write("mixture.json", found.mixture.text())
         self.study.certificate = self.hull.certify(*self.files, found.prices, found.mixture)
         self.write("certificate.txt", self.hull.last_text)
         self.add(CONVEX_HULL, found.prices)
 
-    def make(self, search) -> Study:
+    def make(self) -> Study:
         case, wanted = self.study.case, self.study.wanted
         self.add(LMP, held_prices(case, self.study.schedule))
         self.add(RELAXATION, relaxed_prices(case))
@@ -161,7 +165,7 @@ class Maker:
             self.add(PriceList(key_of(name), name, "prices of a file"), prices)
         if wanted.zones:
             self.add_zonal(wanted.zones)
-        self.add_convex(search)
+        self.add_convex()
         return self.study
 
 

@@ -73,7 +73,9 @@ def tables_of(texts, case=None, schedule=None, currency=False):
     """The tables of some texts by name; demand, requirement and the schedule stand beside where these are given."""
     tables = {name: Table(heads.split(), currency) for name, heads in HEADS.items()}
     for it in texts:
-        fill = {"price": add_priced, "settle": add_priced, "fixed": add_fixed}.get(it.command, add_sums)
+        fill = {"price": add_priced, "settle": add_priced, "convex": add_priced, "fixed": add_fixed}.get(
+            it.command, add_sums
+        )
         fill(tables, it, case, schedule)
     return {name: it for name, it in tables.items() if it.rows}
 
@@ -90,7 +92,7 @@ def add_sums(tables, it, case, schedule):
 
 def add_priced(tables, it, case, schedule):
     searched = it.command == "price"
-    run = {key: value for key, value in vars(it).items() if key not in ("units", "proposals")}
+    run = {key: value for key, value in vars(it).items() if key not in ("units", "proposals", "mixture")}
     run.update(units=len(it.units), value=it.best.value, make_whole=it.make_whole)
     run.update(lost_opportunity=it.payments - it.make_whole)
     if searched:

@@ -138,22 +138,22 @@ class Replaced(unittest.TestCase):
         folder = tempfile.TemporaryDirectory(prefix="hull-replaced-")
         self.addCleanup(folder.cleanup)
         self.room = folder.name
-        self.start = f"{self.room}/start.json"
-        with open(self.start, "w", encoding="utf-8") as it:
-            it.write('{"energy":[98]}')
+        self.best = f"{self.room}/best.json"
+        with open(self.best, "w", encoding="utf-8") as it:
+            it.write("{}")
 
     def refused(self, prices, mixture):
-        words = [*files("usual"), prices, mixture, "--start", self.start, "--hull", PROGRAM]
+        words = [*files("usual"), prices, mixture, "--best-schedule", self.best, "--hull", PROGRAM]
         status, text, said = run("convex_prices.py", *words)
-        self.assertEqual((status, text, said.count("\n"), os.listdir(self.room)), (1, "", 1, ["start.json"]))
+        self.assertEqual((status, text, said.count("\n"), os.listdir(self.room)), (1, "", 1, ["best.json"]))
         return said.replace(f"{self.room}/", "").removeprefix("convex_prices.py: ")
 
     def test_a_file_that_is_read_is_not_replaced(self):
-        for it in (*files("usual"), self.start):
+        for it in (*files("usual"), self.best):
             for given in ((it, f"{self.room}/new"), (f"{self.room}/new", it)):
                 self.assertTrue(self.refused(*given).endswith("this is a file to read, and it would be replaced\n"))
-        with open(self.start, encoding="utf-8") as it:
-            self.assertEqual(it.read(), '{"energy":[98]}')
+        with open(self.best, encoding="utf-8") as it:
+            self.assertEqual(it.read(), "{}")
 
     def test_prices_and_mixture_are_two_files(self):
         for other in ("new", "./new", f"../{os.path.basename(self.room)}/new"):

@@ -296,7 +296,7 @@ class Report(unittest.TestCase):
         self.assertEqual(
             self.report("page", f"{EXAMPLES}/two_units/bound.output", "page.html")[2],
             f"report.py: {EXAMPLES}/two_units/bound.output: this is a text of `hull bound`, where a report of `hull price` or a text of "
-            "`hull settle` is due\n",
+            "`hull settle` or a text of `hull convex` is due\n",
         )
         self.assertIn(
             "this is a text of `hull check`, where ",

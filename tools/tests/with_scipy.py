@@ -7,15 +7,13 @@ import json
 import os
 import random
 import re
-import signal
-import subprocess
 import sys
 import tempfile
 import unittest
 from unittest import mock
 from decimal import Decimal
 
-from tool import EXAMPLES, PROGRAM, ROOT, run
+from tool import EXAMPLES, PROGRAM, run
 
 import hulltools
 from hulltools.numbers import money
@@ -25,34 +23,6 @@ SMALL = ("usual", "evening", "windows")
 
 def files(example):
     return f"{EXAMPLES}/{example}/case.json", f"{EXAMPLES}/{example}/schedule.json"
-
-
-class Master(unittest.TestCase):
-    """The interior point method beside HiGHS."""
-
-    def test_random_problems_have_the_value_that_highs_finds(self):
-        import numpy as np
-        from hulltools.master import Columns, Master, Singles
-        from scipy.optimize import linprog
-
-        for seed in range(5):
-            draw = np.random.default_rng(seed)
-            owner = np.repeat(np.arange(6), 5)
-            gives, cost = draw.uniform(0, 50, (4, 30)), draw.uniform(0, 900, 30)
-            singles = Singles(
-                np.r_[np.arange(4), np.arange(4), np.arange(4)],
-                np.repeat([1.0, -1.0, 1.0], 4),
-                np.repeat([1e4, 1e4, 3.0], 4),
-                np.r_[np.full(8, np.inf), np.full(4, 20.0)],
-            )
-            due = draw.uniform(50, 200, 4)
-            master = Master(Columns(cost, gives, owner), singles, due)
-            found = master.value(master.solve(np.zeros(4), 1e-4, 1e4))
-            rows = np.vstack([np.hstack([gives, singles.sign * np.eye(4)[:, singles.row]]), np.zeros((6, 42))])
-            rows[4 + owner, np.arange(30)] = 1
-            bounds = [(0, None)] * 30 + [(0, it) for it in singles.most]
-            due_of = linprog(np.r_[cost, singles.cost], A_eq=rows, b_eq=np.r_[due, np.ones(6)], bounds=bounds)
-            self.assertAlmostEqual(found, due_of.fun, delta=1e-3)
 
 
 class Rounding(unittest.TestCase):
@@ -140,17 +110,10 @@ class Settled(unittest.TestCase):
         self.assertEqual(status, 1)
         self.assertIn("no unit is fast-start by the rule given", said)
 
-    def test_convex_hull_prices_of_the_usual_unit(self):
-        """Of all prices 100.50 for energy and 0.50 for reserve have the greatest dual value, 704.50 (worked by hand)."""
-        found = self.convex("usual", "--within", "0.01")
-        self.assertLessEqual(704_500_000 - found.best.value, 10_000)
-        self.assertLessEqual(found.best.value, 704_500_000)
-
     def convex(self, example, *more):
         prices, mixture = f"{self.room}/prices.json", f"{self.room}/mixture.json"
         status, _, said = run("convex_prices.py", *files(example), prices, mixture, "--hull", PROGRAM, *more)
         self.assertEqual(status, 0, said)
-        self.assertIn("as near as was asked for: hull certify says", said)
         return self.settle(example, prices)
 
     def test_a_mixture_bounds_every_dual_value(self):
@@ -171,61 +134,13 @@ class Settled(unittest.TestCase):
                 ]
                 self.assertLessEqual(self.settle(example, prices_near(*near)).best.value, bound)
 
-    def test_the_last_line_has_the_gap_in_its_parts(self):
-        """Of examples/dear_schedule, whose README works the parts by hand."""
-        folder = f"{EXAMPLES}/dear_schedule"
-        words = [*files("dear_schedule"), f"{self.room}/prices.json", f"{self.room}/mixture.json", "--hull", PROGRAM]
-        for more, due in (
-            (
-                (),
-                "no prices save 650.00, the schedule's part and the duality gap together, and at most 0.00 is the prices'",
-            ),
-            (
-                ("--best-schedule", f"{folder}/best.schedule.json"),
-                "400.00 is the schedule's part, 250.00 is the duality gap",
-            ),
-        ):
-            status, _, said = run("convex_prices.py", *words, *more)
-            self.assertEqual(status, 0, said)
-            self.assertIn(f"at these prices the gap is 650.00: {due}", said.splitlines()[-1])
-
-    def test_rounds_end_the_search(self):
-        words = [*files("windows"), f"{self.room}/prices.json", f"{self.room}/mixture.json", "--hull", PROGRAM]
-        status, _, said = run("convex_prices.py", *words, "--within", "0", "--rounds", "2")
-        self.assertEqual((status, said.count(": round ")), (0, 2), said)
-        self.assertIn("the rounds are made: hull certify says", said)
-
-    def test_an_interrupt_ends_with_the_best_so_far(self):
-        words = [
-            *files("windows"),
-            f"{self.room}/prices.json",
-            f"{self.room}/mixture.json",
-            "--within",
-            "0",
-            "--hull",
-            PROGRAM,
-        ]
-        ran = subprocess.Popen(
-            [sys.executable, "-B", f"{ROOT}/tools/convex_prices.py", *words], stderr=subprocess.PIPE, text=True
-        )
-        line = ran.stderr.readline()
-        while line and "round 2" not in line:
-            line = ran.stderr.readline()
-        ran.send_signal(signal.SIGINT)
-        said = ran.communicate(timeout=60)[1]
-        self.assertEqual(ran.returncode, 0, said)
-        self.assertIn("interrupted: ", said)
-        self.settle("windows", f"{self.room}/prices.json")
-
-    def test_a_program_without_certify_is_refused(self):
+    def test_a_program_without_convex_is_refused(self):
         older = f"{self.room}/older"
         with open(older, "w", encoding="utf-8") as it:
             it.write("#!/bin/sh\nprintf 'fault 1 words 2 1\\n'\nexit 1\n")
         os.chmod(older, 0o755)
         status, _, said = run("study.py", files("usual")[0], f"{self.room}/study", "--hull", older)
-        self.assertEqual(
-            (status, said), (1, f"study.py: {older} has no command `certify`: a newer program is needed\n")
-        )
+        self.assertEqual((status, said), (1, f"study.py: {older} has no command `convex`: a newer program is needed\n"))
 
     def test_the_certificate_is_what_a_plain_reckoning_finds(self):
         from hulltools.cases import read_case

@@ -1,15 +1,18 @@
-"""Turns texts of `hull` into tables, a picture, a page to look at, or a prices file.
+"""Turns texts of `hull` into tables, a picture, a page to look at, or a file of prices or of a mixture.
 
 usage: report.py csv TEXT.. FOLDER [--case F --schedule F] [--currency] [--names-as-they-are]
        report.py plot TEXT PICTURE
        report.py page TEXT PAGE [--case F --schedule F] [--certificate F]
        report.py prices TEXT PRICES
+       report.py mixture TEXT MIXTURE
 
   csv     writes runs.csv, proposals.csv, prices.csv, units.csv and responses.csv to FOLDER, those of them that have rows. The first
-          column has the name of the text, so several can be given at once: of `hull price`, `settle`, `bound`, `fixed` and `certify`
-  plot    draws prices, values and payments of a text of `hull price` or `hull settle` (PNG, SVG or PDF; needs matplotlib)
-  page    writes one HTML file that needs nothing else, of a text of `hull price` or `hull settle`
-  prices  writes the chosen prices of a text of `hull price`, or those of a text of `hull settle`, as a prices file
+          column has the name of the text, so several can be given at once: of `hull price`, `settle`, `convex`, `bound`, `fixed` and
+          `certify`
+  plot    draws prices, values and payments of a text of `hull price`, `settle` or `convex` (PNG, SVG or PDF; needs matplotlib)
+  page    writes one HTML file that needs nothing else, of a text of `hull price`, `settle` or `convex`
+  prices  writes the chosen prices of a text of `hull price`, or those of a text of `hull settle` or `convex`, as a prices file
+  mixture writes the mixture of a text of `hull convex` as a file that `hull certify` reads
 
   --case F, --schedule F  demand, requirement and what each unit is to do stand beside
   --certificate F         a text of `hull certify` of the same prices: the page says how near they are
@@ -29,12 +32,13 @@ from ..tables import tables_of, told_apart_count
 from ..errors import HullError, refuse_inputs, run_tool, write_whole
 from .words import asker
 
-PRICED = ("hull-report 1", "hull-settlement 1")
+CONVEX = "hull-convex 1"
+PRICED = ("hull-report 1", "hull-settlement 1", CONVEX)
 
 
 def arguments(words):
     ask = asker("report.py", __doc__)
-    ask.add_argument("verb", choices=("csv", "plot", "page", "prices"))
+    ask.add_argument("verb", choices=("csv", "plot", "page", "prices", "mixture"))
     ask.add_argument("texts", nargs="+")
     ask.add_argument("to")
     for it in ("--case", "--schedule", "--certificate"):
@@ -85,11 +89,13 @@ def body(words, tell):
     if given.verb == "csv":
         return write_tables(given, inputs, tell)
     refuse_inputs(given.to, inputs)
-    priced = read_output(given.texts[0], PRICED)
+    priced = read_output(given.texts[0], (CONVEX,) if given.verb == "mixture" else PRICED)
     if given.verb == "plot":
         write_whole(given.to, picture_of(priced, given.to), inputs)
     elif given.verb == "prices":
         priced.prices.write(given.to, inputs)
+    elif given.verb == "mixture":
+        write_whole(given.to, priced.mixture.text(), inputs)
     else:
         _, schedule = case_and_schedule(given, [priced])
         certificate = read_output(given.certificate, ("hull-certificate 1",)) if given.certificate else None

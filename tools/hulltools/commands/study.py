@@ -27,7 +27,7 @@ usage: study.py CASE FOLDER [--schedule S] [--best-schedule S2 | --no-schedule] 
   --hours-per-period H  how long a period is, as 0.25; prices are then told per MWh
 
   --gap, --nodes, --seconds  when a search for a schedule ends, as for make_schedule.py
-  --within, --rounds  when the search for convex hull prices ends: 0.02 % of the payments or 1.00, and 150 rounds, if left out
+  --within, --rounds  when the search of `hull convex` ends: at a distance of 1.00, or after 150 rounds, if left out
   --hull PROGRAM      the program that checks, settles and certifies; the launcher of this repository if left out
 
 Nothing ends by the clock: what the searches find depends on the files, the words and the versions of SciPy and HiGHS, which the page names.
@@ -54,11 +54,8 @@ from ..schedules import read_schedule
 from ..scheduling import Made
 from ..settlement_rules import RULES
 from ..zones import read_zones
-from .convex_prices import search, told
 from .make_schedule import make
 from .words import MISSED_GAP, add_fast_start, add_search_limits, asker, count, fast_start, positive, search_limits
-
-ROUNDS = 150
 
 
 def named_file(text: str):
@@ -92,7 +89,7 @@ def arguments(words):
     ask.add_argument("--hours-per-period", type=length_of_period)
     add_search_limits(ask)
     ask.add_argument("--within", type=positive)
-    ask.add_argument("--rounds", type=count, default=ROUNDS)
+    ask.add_argument("--rounds", type=count)
     given = ask.parse_args(words)
     if given.no_schedule and not given.schedule:
         ask.error("--no-schedule goes with --schedule")
@@ -108,7 +105,8 @@ def wanted(given, case: Case):
     clock = Clock(given.hours_per_period, given.start)
     rules = [given.rule] if given.rule else list(RULES)
     zones = read_zones(given.zones, case) if given.zones else None
-    return Wanted(given.search, fast_start(given), files, zones, rules, given.title, given.currency, clock)
+    told = (given.title, given.currency, clock)
+    return Wanted(given.search, fast_start(given), files, zones, rules, *told, given.within, given.rounds)
 
 
 @dataclass
@@ -161,7 +159,6 @@ def schedules_of(given, hull: Hull, tell) -> Schedules:
 
 def study_of(given, words, hull: Hull, tell):
     """The study with all its lists, whose files are written."""
-    from ..convex import Limits
     from ..studies import Maker, Study
 
     case = read_case(given.case)
@@ -175,12 +172,7 @@ def study_of(given, words, hull: Hull, tell):
         study.is_short = True
         study.notes.append(found.missing)
 
-    def find(starts):
-        result = search(hull, case, files, Limits(given.within, rounds=given.rounds), lambda text: None, starts)
-        tell(told(result))
-        return result
-
-    return Maker(hull, files, study, given.folder, tell).make(find)
+    return Maker(hull, files, study, given.folder, tell).make()
 
 
 def write_results(study, folder: str, files) -> None:
@@ -199,7 +191,7 @@ def body(words, tell):
     given = arguments(words)
     need_scipy()
     hull = Hull(given.hull, tell)
-    hull.need("certify")
+    hull.need("convex")
     os.makedirs(given.folder, exist_ok=True)
     names = {"case": given.case, "schedule": given.schedule}
     warnings = first_look({what: name for what, name in names.items() if name}, tell)
