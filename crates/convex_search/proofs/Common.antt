@@ -21,4 +21,13 @@ pub use Rattle.uc_model.specs.Systems.{IsFeasiblePlan}
 pub use Rattle.gap_proof.specs.Mixtures.{WeighedSchedule, MixtureLists, entry_of, entries_of, mixture_of, AreShares}
 pub use Rattle.gap_proof.specs.Mixtures.{AreMixed, IsMixture, AreEntries, HasMixtureShape, most_whole}
 pub use Rattle.convex_search.specs.FoundPrices.{ArePricesOver, IsGoal, IsFound, IsNear, everywhere}
-pub use Rattle.convex_search.specs.Mixing.{AreOfOne, AreKept, IsKept}
+pub use Rattle.bundle_columns.specs.Mixing.{AreOfOne, AreKept, IsKept}
+pub use Rattle.gap_proof.specs.declared.mixtures.Entry.{Entry}
+pub use Rattle.bundle_columns.specs.Weights.{weight_at, reweighed, rescheduled, StaysKept}
+pub use Rattle.std.specs.Prelude.{slice_set}
+pub use Rattle.plain_lists.proofs.ListLaws.{item_of}
+pub use Rattle.uc_model.specs.Limits.{IsEarned, IsSum, IsUnit, IsMarket, ArePrices}
+pub use Rattle.uc_model.specs.Earnings.{IsTop, earnings}
+pub use Rattle.bundle_columns.specs.Weights.{IsFitAt}
+pub use Rattle.bundle_columns.specs.Pools.{IsPool, places_in}
+pub use Rattle.convex_search.specs.Searching.{IsOracle, IsBestOf, IsSearch}

@@ -1,6 +1,10 @@
 -- The names from elsewhere that the proofs here cite.
 pub mod Common
--- opening.rt, find.rt: the mixtures that are kept
-pub mod Keeping
 -- find.rt: what is found
 pub mod Finding
+-- search.rt, oracle.rt: what all units earn
+pub mod Earning
+-- bounds.rt: a box with all prices in it
+pub mod Everywhere
+-- find.rt: one dual value
+pub mod OneValue

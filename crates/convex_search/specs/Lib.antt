@@ -1,4 +1,6 @@
 -- what a search is to reach, and what it finds
 pub mod FoundPrices
--- the mixtures that a search keeps
-pub mod Mixing
+-- what a search has in hand
+pub mod Searching
+-- the master problem of a case
+pub mod Starting

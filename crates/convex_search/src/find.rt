@@ -1,20 +1,72 @@
 //! The search.
-ghost use Rattle.std.specs.Prelude.{IfOk};
+ghost use Rattle.std.specs.Prelude.{◌<◌, ◌≤◌, IfOk};
 ghost use Rattle.uc_model.specs.PlainCases.{market_of, schedules_of};
 ghost use Rattle.uc_model.specs.Systems.{IsFeasiblePlan};
-ghost use Rattle.convex_search.specs.FoundPrices.{IsGoal, IsFound, found_of};
+ghost use Rattle.convex_search.specs.FoundPrices.{IsGoal, IsFound, IsNear, found_of};
+ghost use Rattle.bundle_columns.specs.Pools.{places_in};
+ghost use Rattle.convex_search.specs.Searching.{IsSearch};
 
+use crate::best::Best;
 use crate::found::Found;
 use crate::goals::Goal;
-use crate::opening::{first_prices, plan_mixture};
-use gap_proof::bound_of_mixture;
+use crate::oracle::Oracle;
+use crate::rounds::make_rounds;
+use crate::search::Search;
+use crate::short::shorten;
+use crate::start::open_search;
+use bundle_columns::written::weighed_mixture;
 use price_settle::settle_at;
 use std::alloc::{AllocError, Global};
 use uc_model::cases::{Case, Plan};
-use unit_program::bench_for;
 
-/// A radius round any prices that has all prices in it.
-const EVERYWHERE: i64 = 20_000_000;
+// What was found, with the settlement.
+fn finish(
+    alloc: Global,
+    case: &Case,
+    plan: &Plan,
+    search: Search,
+    goal: Goal,
+    made: u32,
+) -> Result<Found, AllocError>
+    requires feasible { IsFeasiblePlan (market_of case.now) (schedules_of plan.now) }
+    requires search { IsSearch (market_of case.now) (places_in search.pool) search }
+    requires made { made ≤ goal.rounds }
+    requires near { made < goal.rounds → IsNear goal.within search.best.bound search.best.value }
+    ensures { IfOk result (λ found. IsFound (market_of case.now) (schedules_of plan.now) goal
+        (found_of found)) }
+{
+    let places = search.pool.wanted.len();
+    let Search {
+        oracle,
+        pool: _,
+        best,
+        asked: _,
+        centre: _,
+        point: _,
+        trial: _,
+    } = search;
+    let Oracle {
+        mut bench,
+        last: _,
+        answer: _,
+        earned: _,
+        given: _,
+    } = oracle;
+    let Best {
+        prices,
+        value: _,
+        mixture,
+        bound,
+    } = best;
+    let mixture = weighed_mixture(alloc, case, places, &mixture)?;
+    let settled = settle_at(alloc, case, plan, prices, &mut bench)?;
+    Ok(Found {
+        settled,
+        mixture,
+        bound,
+        made,
+    })
+}
 
 /// Finds prices for a feasible plan, and a mixture that tells how near they are to the best. It
 /// ends as soon as the distance is what the goal asks for, and after as many rounds as that allows;
@@ -29,15 +81,8 @@ pub fn find_convex(alloc: Global, case: &Case, plan: &Plan, goal: Goal) -> Resul
     ensures { IfOk result (λ found. IsFound (market_of case.now) (schedules_of plan.now) goal
         (found_of found)) }
 {
-    let mut bench = bench_for(alloc, case)?;
-    let mixture = plan_mixture(alloc, case, plan, 1)?;
-    let prices = first_prices(alloc, case)?;
-    let bound = bound_of_mixture(case, &mixture, &prices, EVERYWHERE);
-    let settled = settle_at(alloc, case, plan, prices, &mut bench)?;
-    Ok(Found {
-        settled,
-        mixture,
-        bound,
-        made: goal.rounds,
-    })
+    let mut search = open_search(alloc, case, plan)?;
+    let made = make_rounds(&mut search, case, goal);
+    shorten(&mut search, case, goal, made);
+    finish(alloc, case, plan, search, goal, made)
 }

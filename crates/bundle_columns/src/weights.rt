@@ -1,0 +1,122 @@
+//! Weights of a unit's entries. They only move from one entry to another, so what they sum to never
+//! changes.
+ghost use Rattle.std.specs.Prelude.{◌≡◌, ◌<◌, ◌≤◌, pos, ◌+ℤ◌, ◌-ℤ◌, ◌≤ℤ◌, length};
+ghost use Rattle.plain_lists.specs.Ranges.{IsFrom};
+ghost use Rattle.gap_proof.specs.Mixtures.{entries_of, AreShares, most_whole};
+ghost use Rattle.bundle_columns.specs.Weights.{weight_at as weight_of, reweighed, StaysKept};
+
+use gap_proof::Entries;
+use plain_lists::lists::Numbers;
+
+/// What the weights of each unit sum to.
+pub const WHOLE: i64 = 1_000_000_000_000;
+
+/// The weight of the entry at a place.
+pub fn weight_at(entries: &Entries, place: usize) -> i64
+    requires { place < length entries.now.items }
+    ensures { result ≡ weight_of (entries_of entries.now) place }
+{
+    entries.get(place).weight
+}
+
+// Writes the weight of the entry at a place.
+fn set_weight(entries: &mut Entries, place: usize, weight: i64)
+    requires { place < length entries.old.items }
+    ensures { entries_of entries.new ≡ reweighed (entries_of entries.old) place weight }
+{
+    entries.get_mut(place).weight = weight;
+}
+
+// A weight without a part of it.
+fn less_by(weight: i64, amount: i64) -> i64
+    requires weight { weight ≤ℤ most_whole }
+    requires amount { IsFrom (pos 0) weight amount }
+    ensures { result ≡ weight -ℤ amount }
+{
+    weight - amount
+}
+
+// A weight with another.
+fn more_by(weight: i64, amount: i64) -> i64
+    requires weight { IsFrom (pos 0) most_whole weight }
+    requires amount { IsFrom (pos 0) most_whole amount }
+    ensures { result ≡ weight +ℤ amount }
+{
+    weight + amount
+}
+
+// Moves so much of the weight of one entry to another.
+fn move_weight(entries: &mut Entries, from: usize, to: usize, amount: i64)
+    requires from { from < length entries.old.items }
+    requires to { to < length entries.old.items }
+    requires shares { AreShares most_whole (entries_of entries.old) }
+    requires amount { IsFrom (pos 0) (weight_of (entries_of entries.old) from) amount }
+    ensures stays { StaysKept (entries_of entries.old) (entries_of entries.new) }
+    ensures shares { AreShares most_whole (entries_of entries.new) }
+    ensures count { length entries.new.items ≡ length entries.old.items }
+{
+    let given = less_by(weight_at(entries, from), amount);
+    set_weight(entries, from, given);
+    let taken = more_by(weight_at(entries, to), amount);
+    set_weight(entries, to, taken);
+}
+
+// Moves all weight to one entry.
+fn gather(entries: &mut Entries, base: usize)
+    requires base { base < length entries.old.items }
+    requires shares { AreShares most_whole (entries_of entries.old) }
+    ensures stays { StaysKept (entries_of entries.old) (entries_of entries.new) }
+    ensures shares { AreShares most_whole (entries_of entries.new) }
+    ensures count { length entries.new.items ≡ length entries.old.items }
+{
+    for place in 0..entries.len() {
+        let amount = weight_at(entries, place);
+        move_weight(entries, place, base, amount);
+    }
+}
+
+// Moves as much as is wanted of one entry's weight to another, or all that it has.
+fn hand_out(entries: &mut Entries, base: usize, place: usize, wanted: i64)
+    requires base { base < length entries.old.items }
+    requires place { place < length entries.old.items }
+    requires shares { AreShares most_whole (entries_of entries.old) }
+    ensures stays { StaysKept (entries_of entries.old) (entries_of entries.new) }
+    ensures shares { AreShares most_whole (entries_of entries.new) }
+    ensures count { length entries.new.items ≡ length entries.old.items }
+{
+    let left = weight_at(entries, base);
+    move_weight(entries, base, place, wanted.clamp(0, left));
+}
+
+// The place of the greatest number, the first of several.
+fn greatest_place(numbers: &Numbers) -> usize
+    requires { 1 ≤ length numbers.now.items }
+    ensures { result < length numbers.now.items }
+{
+    let mut best = 0;
+    for place in 1..numbers.len() {
+        if *numbers.get(place) > *numbers.get(best) {
+            best = place;
+        }
+    }
+    best
+}
+
+/// Gives each entry the weight that is wanted for it, as far as there is some left. The entry for
+/// which most is wanted takes what the others leave.
+pub fn deal(entries: &mut Entries, wanted: &Numbers)
+    requires some { 1 ≤ length entries.old.items }
+    requires wanted { length wanted.now.items ≡ length entries.old.items }
+    requires shares { AreShares most_whole (entries_of entries.old) }
+    ensures stays { StaysKept (entries_of entries.old) (entries_of entries.new) }
+    ensures shares { AreShares most_whole (entries_of entries.new) }
+    ensures count { length entries.new.items ≡ length entries.old.items }
+{
+    let base = greatest_place(wanted);
+    gather(entries, base);
+    for place in 0..wanted.len() {
+        if place != base {
+            hand_out(entries, base, place, *wanted.get(place));
+        }
+    }
+}

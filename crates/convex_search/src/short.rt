@@ -1,0 +1,236 @@
+//! Mixtures of few entries.
+ghost use Rattle.std.specs.Prelude.{◌≡◌, ◌<◌, length, IsTrue};
+ghost use Rattle.uc_model.specs.Limits.{IsWorth};
+ghost use Rattle.uc_model.specs.PlainCases.{market_of};
+ghost use Rattle.gap_proof.specs.MixtureSizes.{IsBound};
+ghost use Rattle.convex_search.specs.FoundPrices.{IsNear};
+ghost use Rattle.bundle_columns.specs.Pools.{IsPool, places_in};
+ghost use Rattle.convex_search.specs.Searching.{IsSearch};
+
+use crate::best::{Best, is_enough, is_near, is_within};
+use crate::bounds::{bound_of_columns, take_columns};
+use crate::goals::Goal;
+use crate::pace::near_of;
+use crate::points::read_prices;
+use crate::rounds::go_to_centre;
+use crate::search::{Search, currency};
+use bundle_columns::copies::copy_mixture;
+use bundle_columns::pool::{Pool, weigh};
+use bundle_columns::weights::{WHOLE, deal, weight_at};
+use bundle_master::master::Aim;
+use bundle_master::numbers::{megawatts, whole};
+use gap_proof::Entries;
+use plain_lists::lists::Numbers;
+use std::num::nearest_i64_to_f64;
+use uc_model::cases::Case;
+
+/// Shares below which entries are left out, in parts of the whole, as far as the bound allows.
+const THRESHOLDS: [i64; 10] = [
+    1_000_000_000,
+    100_000_000,
+    10_000_000,
+    1_000_000,
+    100_000,
+    10_000,
+    1_000,
+    100,
+    10,
+    2,
+];
+
+/// By how much costs are made to differ for a mixture of few entries, in what may be lost for each
+/// unit; how near the products come to 0, in that difference; where they start, in what is near; and
+/// what is off, in what may be lost.
+const PERTURBATION: f64 = 25.0;
+
+const ACCURACY: f64 = 1e-6;
+
+const WIDE: f64 = 30.0;
+
+const BALANCE: f64 = 0.05;
+
+const RIDGE: f64 = 1e-4;
+
+const STEPS: usize = 150;
+
+// Writes the weights without those below a threshold, the others grown to the whole.
+fn write_wanted(entries: &Entries, threshold: i64, wanted: &mut Numbers)
+    requires { length wanted.old.items ≡ length entries.now.items }
+    ensures { length wanted.new.items ≡ length wanted.old.items }
+{
+    let mut kept = 0.0;
+    for entry in entries.as_slice() {
+        if entry.weight >= threshold {
+            kept += nearest_i64_to_f64(entry.weight);
+        }
+    }
+    for place in 0..wanted.len() {
+        let weight = weight_at(entries, place);
+        let mut grown = 0;
+        if weight >= threshold {
+            grown = whole(1e12 * (nearest_i64_to_f64(weight) / kept) + 0.5, 0, WHOLE);
+        }
+        wanted.set(place, grown);
+    }
+}
+
+// Leaves out the entries of a unit that are below a threshold.
+fn leave_out_of(pool: &mut Pool, case: &Case, number: usize, threshold: i64)
+    requires pool { IsPool (market_of case.now) (places_in pool.old) pool.old }
+    requires number { number < length (market_of case.now).thermal }
+    ensures { IsPool (market_of case.now) (places_in pool.old) pool.new }
+{
+    write_wanted(
+        pool.columns.thermal.get(number),
+        threshold,
+        &mut pool.wanted,
+    );
+    deal(pool.columns.thermal.get_mut(number), &pool.wanted);
+}
+
+// The same of all units.
+fn leave_out(pool: &mut Pool, case: &Case, threshold: i64)
+    requires { IsPool (market_of case.now) (places_in pool.old) pool.old }
+    ensures { IsPool (market_of case.now) (places_in pool.old) pool.new }
+{
+    for number in 0..case.thermal.len() {
+        leave_out_of(pool, case, number, threshold);
+    }
+}
+
+// The greatest distance that a shorter mixture may have.
+fn most_distance(best: &Best, within: i64) -> i128
+    requires bound { IsBound best.now.bound }
+    requires value { IsWorth best.now.value }
+{
+    let distance = best.bound - best.value;
+    let grown = distance + distance / 10;
+    if is_within(best.bound, best.value, within) {
+        return i128::from(within);
+    }
+    if is_enough(best.bound, best.value) {
+        return grown.min(best.value.abs() / 1_000_000);
+    }
+    grown
+}
+
+// Whether a bound may stand in place of a lesser one: a search that has ended early stays near.
+fn may_take(best: &Best, bound: i128, most: i128, goal: Goal, made: u32) -> bool
+    requires bound { IsBound bound }
+    requires value { IsWorth best.now.value }
+    ensures { IsTrue result → made < goal.rounds → IsNear goal.within bound best.now.value }
+{
+    if bound - best.value > most {
+        return false;
+    }
+    if made < goal.rounds {
+        return is_near(bound, best.value, goal.within);
+    }
+    true
+}
+
+// Takes the columns but for those below a threshold, where the bound allows it; tells whether it does.
+fn take_above(
+    search: &mut Search,
+    case: &Case,
+    threshold: i64,
+    most: i128,
+    goal: Goal,
+    made: u32,
+) -> bool
+    requires search { IsSearch (market_of case.now) (places_in search.old.pool) search.old }
+    requires near { made < goal.rounds
+        → IsNear goal.within search.old.best.bound search.old.best.value }
+    ensures search { IsSearch (market_of case.now) (places_in search.old.pool) search.new }
+    ensures near { made < goal.rounds
+        → IsNear goal.within search.new.best.bound search.new.best.value }
+{
+    leave_out(&mut search.pool, case, threshold);
+    let bound = bound_of_columns(search, case);
+    if !may_take(&search.best, bound, most, goal, made) {
+        return false;
+    }
+    take_columns(search, case, bound);
+    true
+}
+
+// Solves the master problem at the best prices, with costs that differ a little: then few columns
+// have a share. What may be lost by that is shared among the units.
+fn solve_perturbed(search: &mut Search, case: &Case, most: i128) -> bool
+    requires { IsSearch (market_of case.now) (places_in search.old.pool) search.old }
+    ensures search { IsSearch (market_of case.now) (places_in search.old.pool) search.new }
+    ensures best { search.new.best ≡ search.old.best }
+{
+    let value = currency(search.best.value);
+    let distance = currency(search.best.bound) - value;
+    let left = (currency(most) - distance).max(0.0);
+    let amount = PERTURBATION * left / megawatts(1000 * case.thermal.len() as i64).max(1.0);
+    search.pool.master.perturb(amount);
+    read_prices(&search.best.prices, &mut search.centre);
+    go_to_centre(search, case);
+    search.pool.master.solve(Aim {
+        ridge: RIDGE,
+        accuracy: ACCURACY * amount,
+        wide: WIDE * near_of(value),
+        strict: true,
+        balance: BALANCE * left,
+        steps: STEPS,
+    })
+}
+
+// Takes the shares of a master problem in which few columns have one, and leaves out those of little
+// weight; tells whether the bound allows it.
+fn shorten_solution(search: &mut Search, case: &Case, most: i128, goal: Goal, made: u32) -> bool
+    requires search { IsSearch (market_of case.now) (places_in search.old.pool) search.old }
+    requires near { made < goal.rounds
+        → IsNear goal.within search.old.best.bound search.old.best.value }
+    ensures search { IsSearch (market_of case.now) (places_in search.old.pool) search.new }
+    ensures near { made < goal.rounds
+        → IsNear goal.within search.new.best.bound search.new.best.value }
+{
+    if !solve_perturbed(search, case, most) {
+        return false;
+    }
+    for step in 0..THRESHOLDS.len() {
+        weigh(&mut search.pool, case);
+        if take_above(search, case, THRESHOLDS[step], most, goal, made) {
+            return true;
+        }
+    }
+    false
+}
+
+// Leaves entries of little weight out of the best mixture, as far as the bound allows.
+fn shorten_best(search: &mut Search, case: &Case, most: i128, goal: Goal, made: u32)
+    requires search { IsSearch (market_of case.now) (places_in search.old.pool) search.old }
+    requires near { made < goal.rounds
+        → IsNear goal.within search.old.best.bound search.old.best.value }
+    ensures search { IsSearch (market_of case.now) (places_in search.old.pool) search.new }
+    ensures near { made < goal.rounds
+        → IsNear goal.within search.new.best.bound search.new.best.value }
+{
+    let places = search.pool.wanted.len();
+    for step in 0..THRESHOLDS.len() {
+        let columns = &mut search.pool.columns;
+        copy_mixture(case, places, &search.best.mixture, columns);
+        if take_above(search, case, THRESHOLDS[step], most, goal, made) {
+            return;
+        }
+    }
+}
+
+/// Leaves a mixture of fewer entries, as long as the distance stays within what was asked for, or
+/// else grows by a tenth at most.
+pub fn shorten(search: &mut Search, case: &Case, goal: Goal, made: u32)
+    requires search { IsSearch (market_of case.now) (places_in search.old.pool) search.old }
+    requires near { made < goal.rounds
+        → IsNear goal.within search.old.best.bound search.old.best.value }
+    ensures search { IsSearch (market_of case.now) (places_in search.old.pool) search.new }
+    ensures near { made < goal.rounds
+        → IsNear goal.within search.new.best.bound search.new.best.value }
+{
+    let most = most_distance(&search.best, goal.within);
+    if !shorten_solution(search, case, most, goal, made) {
+        shorten_best(search, case, most, goal, made);
+    }
+}

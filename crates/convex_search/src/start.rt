@@ -1,0 +1,301 @@
+//! How a search opens: all memory is taken, the start prices are asked at, and the plan is the
+//! first mixture.
+ghost use Rattle.std.specs.Prelude.{◌≡◌, ◌^◌, ◌*◌, ◌<◌, ◌≤◌, length, IfOk};
+ghost use Rattle.uc_model.specs.PlainCases.{market_of, schedules_of};
+ghost use Rattle.uc_model.specs.PlainUnits.{prices_of};
+ghost use Rattle.uc_model.specs.Systems.{IsFeasiblePlan};
+ghost use Rattle.unit_program.specs.Tops.{HasSchedules};
+ghost use Rattle.convex_search.specs.FoundPrices.{ArePricesOver};
+ghost use Rattle.bundle_columns.specs.Pools.{IsPool, places_in};
+ghost use Rattle.convex_search.specs.Searching.{IsOracle, IsSearch, IsBestOf};
+ghost use Rattle.convex_search.specs.Starting.{IsProblem};
+
+use crate::best::Best;
+use crate::bounds::EVERYWHERE;
+use crate::opening::first_prices;
+use crate::oracle::{Oracle, answer_all};
+use crate::points::read_prices;
+use crate::search::{Search, value_at};
+use bundle_columns::plans::plan_mixture;
+use bundle_columns::pool::{Pool, keep};
+use bundle_master::master::{Master, Sizes, make_master};
+use bundle_master::numbers::megawatts;
+use gap_proof::bound_of_mixture;
+use plain_lists::lists::Numbers;
+use std::alloc::{AllocError, Global};
+use uc_model::cases::{Case, Plan};
+use uc_model::units::{Answered, Block};
+use unit_program::{LastAnswers, bench_for};
+
+/// Places for columns of all thermal units, for each period at least so many, and of one unit.
+const ALL_PLACES: usize = 3600;
+
+const PLACES_OF_PERIOD: usize = 24;
+
+const FEWEST_PLACES: usize = 12;
+
+/// Variables of one row that a master problem may have.
+const MOST_SINGLES: usize = 4_000_000_000;
+
+// How many columns each thermal unit has room for.
+fn place_count(case: &Case) -> usize
+    ensures some { 1 ≤ result }
+    ensures most { result ≤ 1000 }
+{
+    let periods = case.periods as usize;
+    let all = ALL_PLACES.max(PLACES_OF_PERIOD * periods);
+    let each = all / case.thermal.len().max(1);
+    each.max(FEWEST_PLACES).min(2 * periods + 8)
+}
+
+// How many variables of one row there may be: one for each period, and one for each block.
+fn single_count(case: &Case) -> usize
+    ensures { result < 2 ^ 32 }
+{
+    let mut count = case.periods as usize;
+    for named in case.bids.as_slice() {
+        for blocks in named.bid.blocks.as_slice() {
+            count = count.saturating_add(blocks.len());
+        }
+    }
+    count.min(MOST_SINGLES)
+}
+
+/// What renewable units give in a period, in megawatts.
+#[derive(Clone, Copy)]
+struct Range {
+    least: f64,
+    most: f64,
+}
+
+// What the renewable unit of a number gives.
+fn range_of(case: &Case, number: usize, k: usize) -> Range
+    requires number { number < length (market_of case.now).flat }
+    requires place { k < (market_of case.now).periods }
+{
+    let flat = &case.flat.get(number).flat;
+    Range {
+        least: megawatts(*flat.least.get(k)),
+        most: megawatts(*flat.most.get(k)),
+    }
+}
+
+// What all of them give.
+fn range_at(case: &Case, k: usize) -> Range
+    requires { k < (market_of case.now).periods }
+{
+    let mut least = 0.0;
+    let mut most = 0.0;
+    for number in 0..case.flat.len() {
+        let range = range_of(case, number, k);
+        least += range.least;
+        most += range.most;
+    }
+    Range { least, most }
+}
+
+// The blocks of the bid of a number in a period.
+fn blocks_of(case: &Case, number: usize, k: usize) -> &[Block]
+    requires number { number < length (market_of case.now).bids }
+    requires place { k < (market_of case.now).periods }
+{
+    case.bids.get(number).bid.blocks.get(k).as_slice()
+}
+
+// Writes what is due in each row.
+fn write_due(master: &mut Master, case: &Case)
+    requires { master.old.periods ≡ (market_of case.now).periods }
+    ensures { master.new ≡ master.old }
+{
+    let periods = case.periods as usize;
+    for k in 0..periods {
+        master.set_due(k, megawatts(*case.demand.get(k)) - range_at(case, k).least);
+        master.set_due(periods + k, megawatts(*case.reserves.get(k)));
+    }
+}
+
+// Adds what renewable units may give in each period. Tells how much room is left.
+fn add_renewable(master: &mut Master, case: &Case, room: usize) -> usize
+    requires problem { IsProblem (market_of case.now) master.old.places master.old }
+    requires room { room ≤ master.old.room }
+    ensures room { result ≤ master.new.room }
+    ensures problem { IsProblem (market_of case.now) master.old.places master.new }
+{
+    let mut left = room;
+    for k in 0..case.periods as usize {
+        let range = range_at(case, k);
+        let amount = range.most - range.least;
+        if amount > 0.0 && left > 0 {
+            master.add_single(k, amount, 0.0);
+            left -= 1;
+        }
+    }
+    left
+}
+
+// Adds what blocks may take in a period. Tells how much room is left.
+fn add_blocks_at(master: &mut Master, case: &Case, blocks: &[Block], k: usize, room: usize) -> usize
+    requires problem { IsProblem (market_of case.now) master.old.places master.old }
+    requires place { k < (market_of case.now).periods }
+    requires room { room ≤ master.old.room }
+    ensures room { result ≤ master.new.room }
+    ensures problem { IsProblem (market_of case.now) master.old.places master.new }
+{
+    let mut left = room;
+    for block in blocks {
+        if block.width > 0 && left > 0 {
+            let amount = megawatts(block.width);
+            master.add_single(k, -amount, -amount * megawatts(block.price));
+            left -= 1;
+        }
+    }
+    left
+}
+
+// Adds what the blocks of a bid may take. Tells how much room is left.
+fn add_bid(master: &mut Master, case: &Case, number: usize, room: usize) -> usize
+    requires problem { IsProblem (market_of case.now) master.old.places master.old }
+    requires number { number < length (market_of case.now).bids }
+    requires room { room ≤ master.old.room }
+    ensures room { result ≤ master.new.room }
+    ensures problem { IsProblem (market_of case.now) master.old.places master.new }
+{
+    let mut left = room;
+    for k in 0..case.periods as usize {
+        left = add_blocks_at(master, case, blocks_of(case, number, k), k, left);
+    }
+    left
+}
+
+// Adds what the blocks of all bids may take.
+fn add_blocks(master: &mut Master, case: &Case, room: usize)
+    requires problem { IsProblem (market_of case.now) master.old.places master.old }
+    requires room { room ≤ master.old.room }
+    ensures { IsProblem (market_of case.now) master.old.places master.new }
+{
+    let mut left = room;
+    for number in 0..case.bids.len() {
+        left = add_bid(master, case, number, left);
+    }
+}
+
+fn make_problem(alloc: Global, case: &Case, places: usize) -> Result<Master, AllocError>
+    requires some { 1 ≤ places }
+    requires most { places ≤ 1000 }
+    ensures { IfOk result (λ master. IsProblem (market_of case.now) places master) }
+{
+    let singles = single_count(case);
+    let sizes = Sizes {
+        periods: case.periods as usize,
+        thermal: case.thermal.len(),
+        places,
+        singles,
+    };
+    let mut master = make_master(alloc, sizes)?;
+    write_due(&mut master, case);
+    let left = add_renewable(&mut master, case, singles);
+    add_blocks(&mut master, case, left);
+    Ok(master)
+}
+
+fn make_pool(alloc: Global, case: &Case, plan: &Plan, places: usize) -> Result<Pool, AllocError>
+    requires feasible { IsFeasiblePlan (market_of case.now) (schedules_of plan.now) }
+    requires some { 1 ≤ places }
+    requires most { places ≤ 1000 }
+    ensures { IfOk result (λ pool. IsPool (market_of case.now) places pool) }
+{
+    let columns = plan_mixture(alloc, case, plan, places as u32)?;
+    let wanted = Numbers::filled(alloc, places as u32, 0)?;
+    let power = Numbers::filled(alloc, case.periods, 0)?;
+    let reserve = Numbers::filled(alloc, case.periods, 0)?;
+    let master = make_problem(alloc, case, places)?;
+    Ok(Pool {
+        columns,
+        master,
+        wanted,
+        power,
+        reserve,
+    })
+}
+
+fn make_oracle(alloc: Global, case: &Case) -> Result<Oracle, AllocError>
+    ensures { IfOk result (IsOracle (market_of case.now)) }
+{
+    let answer = Answered::make(alloc, case.periods)?;
+    let earned = Numbers::make(alloc, case.unit_count())?;
+    let given = vec![in alloc; 0.0; 2 * case.periods as usize]?;
+    let last = LastAnswers::make(alloc, case.thermal.len() as u32, case.periods)?;
+    let bench = bench_for(alloc, case)?;
+    Ok(Oracle {
+        bench,
+        last,
+        answer,
+        earned,
+        given,
+    })
+}
+
+// Keeps the plan's schedules as columns.
+fn keep_plan(pool: &mut Pool, case: &Case, plan: &Plan)
+    requires feasible { IsFeasiblePlan (market_of case.now) (schedules_of plan.now) }
+    requires pool { IsPool (market_of case.now) (places_in pool.old) pool.old }
+    ensures { IsPool (market_of case.now) (places_in pool.old) pool.new }
+{
+    for number in 0..case.thermal.len() {
+        let _ = keep(pool, case, number, plan.responses.get(number));
+    }
+}
+
+// The start prices with their value, and the plan as a mixture with its bound.
+fn first_best(
+    alloc: Global,
+    case: &Case,
+    plan: &Plan,
+    oracle: &mut Oracle,
+    pool: &mut Pool,
+) -> Result<Best, AllocError>
+    requires feasible { IsFeasiblePlan (market_of case.now) (schedules_of plan.now) }
+    requires oracle { IsOracle (market_of case.now) oracle.old }
+    requires pool { IsPool (market_of case.now) (places_in pool.old) pool.old }
+    ensures best { IfOk result (λ best. IsBestOf (market_of case.now) (places_in pool.old) best) }
+    ensures oracle { IfOk result (λ best. IsOracle (market_of case.now) oracle.new) }
+    ensures pool { IfOk result (λ best. IsPool (market_of case.now) (places_in pool.old) pool.new) }
+{
+    let mixture = plan_mixture(alloc, case, plan, pool.wanted.len() as u32)?;
+    let prices = first_prices(alloc, case)?;
+    let bound = bound_of_mixture(case, &mixture, &prices, EVERYWHERE);
+    let _ = answer_all(oracle, case, &prices, pool);
+    let value = value_at(case, &prices, oracle.earned.as_slice());
+    Ok(Best {
+        prices,
+        value,
+        mixture,
+        bound,
+    })
+}
+
+/// Opens a search: the start prices have been asked at.
+pub fn open_search(alloc: Global, case: &Case, plan: &Plan) -> Result<Search, AllocError>
+    requires { IsFeasiblePlan (market_of case.now) (schedules_of plan.now) }
+    ensures { IfOk result (λ s. IsSearch (market_of case.now) (places_in s.pool) s) }
+{
+    let mut pool = make_pool(alloc, case, plan, place_count(case))?;
+    keep_plan(&mut pool, case, plan);
+    let mut oracle = make_oracle(alloc, case)?;
+    let best = first_best(alloc, case, plan, &mut oracle, &mut pool)?;
+    let asked = first_prices(alloc, case)?;
+    let rows = 2 * case.periods as usize;
+    let mut centre = vec![in alloc; 0.0; rows]?;
+    let point = vec![in alloc; 0.0; rows]?;
+    let trial = vec![in alloc; 0.0; rows]?;
+    read_prices(&asked, &mut centre);
+    Ok(Search {
+        oracle,
+        pool,
+        best,
+        asked,
+        centre,
+        point,
+        trial,
+    })
+}
