@@ -35,7 +35,7 @@ look() {
 # Puts all that belongs to the release into the folder $1.
 gather() {
     local names
-    mapfile -d '' -t names < <(git -C "$home" ls-files -z README.md CHANGELOG.md LICENSE NOTICE hull docs examples tools | grep -zvxE "$own")
+    mapfile -d '' -t names < <(git -C "$home" ls-files -z README.md CHANGELOG.md LICENSE NOTICE hull docs examples tools workflow | grep -zvxE "$own")
     git -C "$home" archive HEAD -- "${names[@]}" | tar -xm -C "$1" -f - || fail "the files can't be copied"
     { mkdir "$1/bin" && cp -- "$shipped" "$1/bin/hull"; } || fail "the program can't be copied"
     cat >"$1/VERSION" <<END

@@ -151,7 +151,7 @@ class Using(unittest.TestCase):
         names = {os.path.relpath(f"{at}/{it}", self.home) for at, _, files in os.walk(self.home) for it in files}
         due = {"hull", "bin/hull", "VERSION", "README.md", "CHANGELOG.md", "LICENSE", "NOTICE", "SHA256SUMS"}
         due |= {f"docs/{it}" for it in ("FORMATS.md", "REPORT.md", "FAULTS.md", "MANY.md", "hull.1", "help.txt")}
-        due |= {"tools/report.py", "tools/make_schedule.py", "tools/many.sh", "examples/day/case.json"}
+        due |= {"tools/report.py", "tools/make_schedule.py", "workflow/Snakefile", "examples/day/case.json"}
         self.assertEqual(due - names, set())
         self.assertEqual(
             [
@@ -234,12 +234,21 @@ class Using(unittest.TestCase):
             status, _, said = call("/", sys.executable, "-B", f"{self.home}/tools/report.py", *words)
             self.assertEqual((status, said), (0, ""))
         self.assertIn("<html", read(f"{self.above}/page.html"))
-        day = f"{self.above}/a day"
-        os.mkdir(day)
+
+    def test_the_workflow(self):
+        """A day is priced and audited by the unpacked files alone."""
+        if not shutil.which("snakemake", path=BARE["PATH"]):
+            self.skipTest("there is no snakemake here")
+        study = f"{self.above}/study"
+        day = f"{study}/days/a day"
+        os.makedirs(day)
         for it in FILES:
             shutil.copy(f"{EXAMPLES}/usual/{it}.json", day)
-        for verb in ("price", "audit", "left"):
-            self.assertEqual(call(self.above, f"{self.home}/tools/many.sh", verb, "a day"), (0, "", ""))
+        flow, env = f"{self.home}/workflow", {**BARE, "HOME": f"{self.above}/home"}
+        words = ["snakemake", "-s", f"{flow}/Snakefile", "--profile", f"{flow}/profiles/here", "--config", "lists=[]"]
+        ended = subprocess.run(words, cwd=study, env=env, capture_output=True, timeout=300)
+        self.assertEqual(ended.returncode, 0, ended.stderr)
+        self.assertTrue(read(f"{study}/results/a day/audit.txt").endswith("\nright\n"))
 
     def test_the_manual_page(self):
         if not shutil.which("man"):

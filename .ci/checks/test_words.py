@@ -16,15 +16,16 @@ PAGES = sorted(
         "README.md",
         "CONTRIBUTING.md",
         "bench/README.md",
+        "workflow/README.md",
         *(os.path.relpath(page, ROOT) for page in glob.glob(f"{ROOT}/docs/*.md")),
         *(os.path.relpath(page, ROOT) for page in glob.glob(f"{ROOT}/examples/**/README.md", recursive=True)),
     }
 )
 # Pages that don't name the glossary yet. A page may leave this list, and none may join it.
-WITHOUT_GLOSSARY = {"docs/MANY.md", "docs/PYTHON.md", "docs/STUDY.md"}
+WITHOUT_GLOSSARY = {"docs/PYTHON.md", "docs/STUDY.md"}
 
 # Sentences above the limit that pages still have. A number only falls.
-LONG_SENTENCES = {"docs/MANY.md": 2, "docs/STUDY.md": 3}
+LONG_SENTENCES = {"docs/STUDY.md": 3}
 
 # Phrases that stand for a noun, so that a reader has to look for it, and how often the pages have each. A number only falls.
 PRONOUNS = {
@@ -34,7 +35,7 @@ PRONOUNS = {
     "what is told": 0,
     "it is so": 0,
     "is so where": 0,
-    "befell": 1,
+    "befell": 0,
     "wanting": 0,
     "want of memory": 0,
     "no longer": 0,

@@ -1,0 +1,155 @@
+"""What files hold: their sums, records of what was made of what, and files that appear whole or not at all.
+
+No name is followed where it is a symbolic link, and no file is replaced that has no record of having been made here.
+"""
+import contextlib
+import fcntl
+import functools
+import hashlib
+import json
+import os
+import tempfile
+from typing import Any, Dict, Iterator, Mapping, Optional, Tuple
+
+from days import STEPS, Day, Settings
+from hulltools.errors import HullError, one_line
+
+HIDDEN = ".steps"  # the folder of records and flags
+CHUNK = 1 << 20
+
+
+def sum_of(name: str, is_input: bool = False) -> Optional[str]:
+    """The sum of a plain file's contents, or None; an input may be a symbolic link to one."""
+    if not os.path.isfile(name) or os.path.islink(name) and not is_input:
+        return None
+    try:
+        looks = os.stat(name)
+        return sum_of_contents(name, (looks.st_ino, looks.st_size, looks.st_mtime_ns, looks.st_ctime_ns))
+    except OSError:
+        return None
+
+
+@functools.lru_cache(maxsize=4096)
+def sum_of_contents(name: str, looks: Tuple[int, ...]) -> str:
+    """The sum, which is worked out once for as long as the file looks as it does."""
+    found = hashlib.sha256()
+    with open(name, "rb") as file:
+        while part := file.read(CHUNK):
+            found.update(part)
+    return found.hexdigest()
+
+
+def write_whole(name: str, data: bytes) -> None:
+    """Writes a file so that it appears whole or not at all; a symbolic link of that name is replaced itself."""
+    folder = os.path.dirname(name)
+    handle, part = tempfile.mkstemp(dir=folder, prefix=".part-")
+    try:
+        with os.fdopen(handle, "wb") as file:
+            file.write(data)
+            file.flush()
+            os.fsync(file.fileno())
+        mask = os.umask(0)
+        os.umask(mask)
+        os.chmod(part, 0o666 & ~mask)
+        os.replace(part, name)
+    finally:
+        with contextlib.suppress(FileNotFoundError):
+            os.unlink(part)
+
+
+def refuse_links(settings: Settings, *names: str) -> None:
+    """Refuses names below the folder of results that are or lead through symbolic links, and that folder where it is one."""
+    root = settings.results
+    parts = root.split("/") if not os.path.isabs(root) else [root]
+    for name in ["/".join(parts[: i + 1]) for i in range(len(parts))] + [os.path.join(root, it) for it in names]:
+        if os.path.islink(name):
+            raise HullError(f"{one_line(name)} is a symbolic link, and nothing is written through it")
+
+
+def make_folders(day: Day) -> None:
+    """Makes the folders of a day's results."""
+    refuse_links(day.settings, day.name, f"{day.name}/{HIDDEN}", f"{day.name}/log")
+    for name in (HIDDEN, "log"):
+        os.makedirs(day.made(name), exist_ok=True)
+
+
+@contextlib.contextmanager
+def alone(name: str) -> Iterator[None]:
+    """Waits until no other process is within the same name."""
+    handle = os.open(name, os.O_CREAT | os.O_WRONLY | os.O_NOFOLLOW | os.O_CLOEXEC, 0o666)
+    try:
+        fcntl.flock(handle, fcntl.LOCK_EX)
+        yield
+    finally:
+        os.close(handle)
+
+
+def input_sums(day: Day, step: str) -> Dict[str, Optional[str]]:
+    return {what: sum_of(day.path(what), is_input=True) for what in STEPS[step].takes}
+
+
+def made_sums(day: Day, step: str) -> Dict[str, Optional[str]]:
+    return {file: sum_of(day.made(file)) for file in STEPS[step].makes}
+
+
+def record_name(day: Day, step: str, kind: str = "made") -> str:
+    return day.made(f"{HIDDEN}/{step}.{kind}.json")
+
+
+def read_record(name: str) -> Dict[str, Any]:
+    """A record, or an empty one where there is none that can be read."""
+    try:
+        if os.path.islink(name) or not os.path.isfile(name):
+            return {}
+        with open(name, encoding="utf-8") as file:
+            found = json.load(file)
+    except (OSError, ValueError, RecursionError):
+        return {}
+    return found if isinstance(found, dict) else {}
+
+
+def write_record(name: str, record: Mapping[str, Any]) -> None:
+    write_whole(name, (json.dumps(record, indent=1) + "\n").encode())
+
+
+def basis(day: Day, step: str) -> Dict[str, Any]:
+    """What a step's result follows from: sums of its inputs, and its words."""
+    return {"of": input_sums(day, step), "words": day.settings.words_of(step)}
+
+
+def why_not_current(day: Day, step: str) -> Optional[str]:
+    """Why the files of a step aren't those that it makes of the files that lie there, or None where they are."""
+    made = made_sums(day, step)
+    if any(found is None for found in made.values()):
+        return f"no {next(file for file, found in made.items() if found is None)}"
+    record = read_record(record_name(day, step))
+    for what, found in input_sums(day, step).items():
+        if record.get("of", {}).get(what) != found or found is None:
+            return f"{STEPS[step].makes[0]} was made of another {what}"
+    if record.get("words") != day.settings.words_of(step):
+        return f"{STEPS[step].makes[0]} was made with other words"
+    if record.get("made") != made:
+        return f"{next(file for file in made if made[file] != record.get('made', {}).get(file))} was changed afterwards"
+    if step == "audit" and not is_marked(day):
+        return "audit.txt isn't of an audit that you made"
+    return None
+
+
+def refuse_foreign(day: Day, step: str) -> None:
+    """Refuses a file that has the name of a result and was never made here: it stays."""
+    made = read_record(record_name(day, step)).get("made") or {}
+    for file in STEPS[step].makes:
+        if os.path.lexists(day.made(file)) and file not in made:
+            raise HullError(f"{one_line(day.made(file))} wasn't made by this workflow, so it stays: move it away")
+
+
+def audit_mark(settings: Settings, sums: Mapping[str, Optional[str]]) -> str:
+    """The name of the mark that an audit of files with these sums was right."""
+    text = "".join(f"{what} {sums[what]}\n" for what in STEPS["audit"].takes)
+    return os.path.join(settings.audits, hashlib.sha256(text.encode()).hexdigest())
+
+
+def is_marked(day: Day) -> bool:
+    """Whether `hull audit`, run by this user, found right the very files that lie there."""
+    sums = input_sums(day, "audit")
+    return all(sums.values()) and os.path.isfile(audit_mark(day.settings, sums))

@@ -1,0 +1,183 @@
+"""What is wanted of the days: the settings, the names that a day may have, and the steps with their files."""
+import json
+import os
+import re
+import shlex
+import sys
+from dataclasses import asdict, dataclass, field
+from typing import Any, Dict, List, Mapping, Optional, Tuple
+
+HOME = os.path.dirname(os.path.dirname(os.path.dirname(os.path.abspath(__file__))))
+sys.path.insert(0, os.path.join(HOME, "tools"))
+
+from hulltools.errors import HullError, one_line  # noqa: E402
+from hulltools.program import default_program  # noqa: E402
+
+LISTS = {
+    "lmp": "LMP: duals of the dispatch with the schedule's commitments held",
+    "relaxation": "integer relaxation: duals with on flags between 0 and 1",
+    "subgradient_100": "hull price with 100 proposals, four ahead",
+    "subgradient_1000": "hull price with up to 1,000 proposals, one ahead",
+    "convex_hull": "convex hull prices, certified",
+}
+REPORT = "report"
+ABOUT = {**LISTS, REPORT: "hull price, with the words that are set"}
+DAY_NAME = re.compile(r"\w(?:[\w.+@ -]{0,98}[\w.+@-])?", re.ASCII)
+
+
+@dataclass(frozen=True)
+class Step:
+    """What is made of one day: from which files, and which files in the day's folder of results."""
+
+    name: str
+    takes: Tuple[str, ...]
+    makes: Tuple[str, ...]
+
+
+def price_list_step(name: str) -> Step:
+    return Step(name, ("case", "schedule"), (f"{name}.prices.json", f"{name}.settlement.txt"))
+
+
+CONVEX_MAKES = (
+    "convex_hull.txt",
+    "convex_hull.prices.json",
+    "convex_hull.settlement.txt",
+    "convex_hull.mixture.json",
+    "convex_hull.certificate.txt",
+)
+STEPS = {
+    "schedule": Step("schedule", ("case",), ("schedule.json",)),
+    **{name: price_list_step(name) for name in LISTS},
+    "convex_hull": Step("convex_hull", ("case", "schedule"), CONVEX_MAKES),
+    REPORT: Step(REPORT, ("case", "schedule"), ("report.txt",)),
+    "audit": Step("audit", ("case", "schedule", "report"), ("audit.txt",)),
+}
+
+
+@dataclass(frozen=True)
+class Settings:
+    """The configuration, as the steps take it."""
+
+    days: str = "days"
+    results: str = "results"
+    audits: str = ""
+    only: Optional[List[str]] = None
+    lists: List[str] = field(default_factory=list)
+    report: bool = True
+    audit: bool = True
+    program: str = "hull"
+    python: str = sys.executable
+    words: Dict[str, str] = field(default_factory=dict)
+
+    def text(self) -> str:
+        return json.dumps(asdict(self))
+
+    def words_of(self, step: str) -> List[str]:
+        return shlex.split(self.words.get(step, ""))
+
+    def wanted(self) -> List[str]:
+        """The steps that are wanted of each day, without the schedule."""
+        return [*self.lists, *([REPORT] if self.report else []), *(["audit"] if self.audit else [])]
+
+
+def read_settings(name: str) -> Settings:
+    """The settings that a run has left in a file."""
+    with open(name, encoding="utf-8") as file:
+        return Settings(**json.load(file))
+
+
+def audits_folder(given: str) -> str:
+    """Where the marks of right audits lie: outside of the study, since marks that came with a folder prove nothing."""
+    state = os.environ.get("XDG_STATE_HOME") or os.path.join(os.path.expanduser("~"), ".local", "state")
+    return os.path.abspath(os.path.expanduser(given)) if given else os.path.join(state, "hull", "audits")
+
+
+def settings_from(config: Mapping[str, Any]) -> Settings:
+    """The settings that a configuration has; HullError where one can't be."""
+    lists = list(config.get("lists") or [])
+    for name in lists:
+        if name not in LISTS:
+            raise HullError(f"lists: {one_line(name)} isn't one of {', '.join(LISTS)}")
+    only = config.get("only")
+    if only is not None and not isinstance(only, list):
+        only = [only]
+    words = {"schedule": "schedule_words", "convex_hull": "convex_words", REPORT: "report_words"}
+    audit = bool(config.get("audit", True))
+    return Settings(
+        days=str(config.get("days") or "days"),
+        results=str(config.get("results") or "results"),
+        audits=audits_folder(str(config.get("audits") or "")),
+        only=None if only is None else [str(name) for name in only],
+        lists=lists,
+        report=bool(config.get("report", True)),
+        audit=audit,
+        program=program_of(str(config.get("program") or "")),
+        python=str(config.get("python") or sys.executable),
+        words={step: str(config.get(key) or "") for step, key in words.items()},
+    )
+
+
+def program_of(given: str) -> str:
+    """The program: the one that is given, whose name is one from here where it has a folder."""
+    if not given:
+        return default_program()
+    return os.path.abspath(os.path.expanduser(given)) if "/" in given else given
+
+
+def refusal_of_name(name: str) -> Optional[str]:
+    """Why a day can't have the name, or None."""
+    if DAY_NAME.fullmatch(name):
+        return None
+    return "no name for a day: letters, digits and ._+@- with spaces inside, 100 at most, and a letter or digit first"
+
+
+def shown(name: str) -> str:
+    """A day's name for people: one that can't be is in quotes."""
+    return name if DAY_NAME.fullmatch(name) else f"'{one_line(name)}'"
+
+
+@dataclass(frozen=True)
+class Day:
+    """A day and where its files are."""
+
+    name: str
+    settings: Settings
+
+    @property
+    def folder(self) -> str:
+        return os.path.join(self.settings.results, self.name)
+
+    @property
+    def given(self) -> str:
+        return os.path.join(self.settings.days, self.name)
+
+    def path(self, what: str) -> str:
+        """The file `case`, `schedule` or `report`: the day's own where it has one, and else the result."""
+        file = {"case": "case.json", "schedule": "schedule.json", "report": "report.txt"}[what]
+        own = os.path.join(self.given, file)
+        return own if what == "case" or os.path.lexists(own) else os.path.join(self.folder, file)
+
+    def made(self, file: str) -> str:
+        return os.path.join(self.folder, file)
+
+    def is_given(self, what: str) -> bool:
+        return self.path(what).startswith(os.path.join(self.given, ""))
+
+    def steps(self) -> List[str]:
+        """The steps that the day needs: none makes what the day has."""
+        steps = [] if self.is_given("schedule") else ["schedule"]
+        wanted = [step for step in self.settings.wanted() if not (step == REPORT and self.is_given("report"))]
+        if "audit" in wanted and REPORT not in wanted and not self.is_given("report"):
+            wanted.remove("audit")
+        return steps + wanted
+
+
+def days_of(settings: Settings) -> List[Day]:
+    """The days that are named, or all that have a folder."""
+    names = settings.only
+    if names is None:
+        try:
+            names = sorted(entry.name for entry in os.scandir(settings.days) if entry.is_dir())
+        except OSError as error:
+            raise HullError(f"{one_line(settings.days)}: {error.strerror}") from None
+    return [Day(name, settings) for name in dict.fromkeys(names)]

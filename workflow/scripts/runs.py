@@ -1,0 +1,102 @@
+"""What the Snakefile needs of a run: the lock of the study, resources that grow with the case and the attempt, and the summary."""
+import fcntl
+import os
+import subprocess
+import sys
+from typing import Any, Callable, Iterator, TypeVar
+
+from contents import HIDDEN, refuse_links, write_whole
+from days import Day, Settings
+from hulltools.errors import HullError, one_line
+
+Found = TypeVar("Found")
+BESIDE = (".snakemake/conda", ".snakemake/singularity")  # where Snakemake itself may keep links
+
+
+def is_main(workflow: Any) -> bool:
+    """Whether this is the process that the user started, and not one of its jobs."""
+    mode = getattr(workflow, "exec_mode", getattr(workflow, "mode", 0))  # (of Snakemake 8 and later, and of 7)
+    return getattr(mode, "value", mode) == 0
+
+
+def links_below(folder: str) -> Iterator[str]:
+    for at, folders, files in os.walk(folder):
+        folders[:] = [name for name in folders if os.path.join(at, name) not in BESIDE]
+        yield from (os.path.join(at, name) for name in (*folders, *files) if os.path.islink(os.path.join(at, name)))
+
+
+def refuse_audits_inside(settings: Settings) -> None:
+    """Refuses a place for marks of audits that may have come with the study."""
+    audits = os.path.join(os.path.realpath(settings.audits), "")
+    home = os.path.realpath(os.path.expanduser("~"))
+    for folder in {os.path.realpath(it) for it in (".", settings.days, settings.results)} - {home}:
+        if audits.startswith(os.path.join(folder, "")):
+            raise HullError(
+                f"audits: {one_line(settings.audits)} is inside the study, and marks there may be anybody's"
+            )
+
+
+def refuse_results_among_days(settings: Settings) -> None:
+    days, results = (os.path.join(os.path.realpath(name), "") for name in (settings.days, settings.results))
+    if results.startswith(days):
+        raise HullError(f"results: {one_line(settings.results)} is among the days, where nothing is written")
+
+
+def or_end(call: Callable[..., Found], *words: Any) -> Found:
+    """What the call gives; the process ends with one line where something is refused, without Snakemake's trace of it."""
+    try:
+        return call(*words)
+    except HullError as error:
+        print(one_line(error), file=sys.stderr, flush=True)
+        os._exit(1)
+
+
+def begin_alone(settings: Settings) -> int:
+    """Takes the lock of the study for as long as this process lives, and leaves the settings for the jobs."""
+    try:
+        for name in [".snakemake"] * os.path.islink(".snakemake") + list(links_below(".snakemake")):
+            raise HullError(f"{one_line(name)} is a symbolic link, and nothing is written through it")
+        refuse_links(settings, HIDDEN)
+        refuse_results_among_days(settings)
+        refuse_audits_inside(settings)
+        os.makedirs(os.path.join(settings.results, HIDDEN), exist_ok=True)
+        name = os.path.join(settings.results, HIDDEN, "lock")
+        handle = os.open(name, os.O_CREAT | os.O_WRONLY | os.O_NOFOLLOW | os.O_CLOEXEC, 0o666)
+        fcntl.flock(handle, fcntl.LOCK_EX | fcntl.LOCK_NB)
+        write_whole(settings_file(settings), settings.text().encode())
+    except BlockingIOError:
+        raise HullError(f"another run is at work in {settings.results}") from None
+    except OSError as error:
+        raise HullError(f"{error.filename or settings.results}: {error.strerror}") from None
+    return handle
+
+
+def settings_file(settings: Settings) -> str:
+    """Where the settings of the run lie for its jobs."""
+    return os.path.join(settings.results, HIDDEN, "settings.json")
+
+
+def megabytes(settings: Settings, day: str) -> float:
+    try:
+        return os.path.getsize(Day(day, settings).path("case")) / 1e6
+    except OSError:
+        return 0.0
+
+
+def memory(settings: Settings, least: int, per_megabyte: int) -> Callable[..., int]:
+    """MB for a job: more for a larger case, and more at each attempt."""
+    return lambda wildcards, attempt: int((least + per_megabyte * megabytes(settings, wildcards.day)) * attempt)
+
+
+def minutes(settings: Settings, least: int, per_megabyte: int) -> Callable[..., int]:
+    """Minutes for a job, in the same way."""
+    return lambda wildcards, attempt: int((least + per_megabyte * megabytes(settings, wildcards.day)) * attempt)
+
+
+def summary(settings: Settings, scripts: str, began: float) -> None:
+    """Writes the table and the page, where the run hasn't, and prints what is left."""
+    left = os.path.join(settings.results, "left.txt")
+    is_new = os.path.isfile(left) and not os.path.islink(left) and os.path.getmtime(left) >= began
+    more = ["--print"] if is_new else []
+    words = [settings.python, os.path.join(scripts, "summary.py"), "--settings", settings_file(settings), *more]
+    subprocess.run(words, stdin=subprocess.DEVNULL)

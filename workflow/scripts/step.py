@@ -1,0 +1,269 @@
+"""Makes one step of one day: its files appear whole, with a record of what they were made of, or a reason stands in the day's log.
+
+usage: step.py STEP DAY --settings FILE [--attempt N]
+"""
+import argparse
+import os
+import re
+import signal
+import subprocess
+import sys
+import tempfile
+from hashlib import sha256
+from typing import Any, Callable, Dict, List, Optional
+
+from contents import alone, audit_mark, basis, make_folders, read_record, record_name, refuse_foreign
+from contents import why_not_current, write_record, write_whole
+from days import HOME, LISTS, REPORT, STEPS, Day, refusal_of_name, read_settings, shown
+from hulltools.errors import HullError, one_line
+from hulltools.faults import sentence
+from hulltools.named_files import Files
+from hulltools.outputs import parse_output
+from hulltools.prices import Prices
+from hulltools.program import MOST_WORK
+
+Made = Dict[str, bytes]
+PASSING = ("2", "7")  # statuses of what may pass: a file that can't be read, no memory
+RIGHT_AUDIT = re.compile(rb"hull-audit 1\nproposals [0-9]+\nright\n")
+
+
+class Refused(Exception):
+    """The program's fault line, and the line in words."""
+
+    def __init__(self, line: str, words: str):
+        super().__init__(f"refused: {line}" + (f" ({words})" if words else ""))
+        self.passes = line.split()[1] in PASSING
+
+
+def said_by(ran: "subprocess.CompletedProcess[bytes]") -> str:
+    text = one_line(" ".join(ran.stderr.decode("utf-8", "replace").split()))
+    return f": {text[-300:]}" if text else ""
+
+
+def hull(day: Day, command: str, *more: str, **files: str) -> bytes:
+    """What the program prints with status 0 for the day's case and schedule, and for further files."""
+    given = {"case": day.path("case"), "schedule": day.path("schedule"), **files}
+    words = [command, *(word for key, name in given.items() for word in (f"--{key}", name)), *more]
+    ran = subprocess.run([day.settings.program, *words], stdin=subprocess.DEVNULL, capture_output=True)
+    if ran.returncode == 0:
+        return ran.stdout
+    line = one_line(ran.stdout[:1000].decode("utf-8", "replace").rstrip("\n"))
+    if line.startswith(f"fault {ran.returncode} "):
+        raise Refused(line, in_words(line, Files(given)))
+    raise HullError(f"hull {command} ended with status {ran.returncode}, and no line that says why{said_by(ran)}")
+
+
+def in_words(line: str, files: Files) -> str:
+    try:
+        return sentence(line, files)
+    except HullError:
+        return ""
+
+
+def tool(day: Day, name: str, *words: str) -> None:
+    """Runs a tool of the repository; what it says goes on to standard error."""
+    program = [day.settings.python, os.path.join(HOME, "tools", name), *words]
+    with subprocess.Popen(program, stdin=subprocess.DEVNULL, stderr=subprocess.PIPE) as running:
+        assert running.stderr is not None
+        last = ""
+        for line in running.stderr:
+            last = one_line(line.decode("utf-8", "replace").rstrip("\n"))
+            print(last, file=sys.stderr, flush=True)
+    if running.returncode:
+        raise HullError(last or f"{name} ended with status {running.returncode}, and says nothing")
+
+
+def read(name: str) -> bytes:
+    with open(name, "rb") as file:
+        return file.read()
+
+
+def make_schedule(day: Day, room: str) -> Made:
+    words = (*day.settings.words_of("schedule"), "--hull", day.settings.program)
+    tool(day, "make_schedule.py", day.path("case"), f"{room}/schedule.json", *words)
+    return {"schedule.json": read(f"{room}/schedule.json")}
+
+
+def settlement(day: Day, prices: str) -> bytes:
+    text = hull(day, "settle", prices=prices)
+    parse_output("hull settle", text, ("hull-settlement 1",))
+    return text
+
+
+def report(day: Day, *words: str) -> bytes:
+    text = hull(day, "price", "--workers", "1", *words)
+    parse_output("hull price", text, ("hull-report 1",))
+    return text
+
+
+def searched_prices(day: Day, proposals: int, *words: str) -> Prices:
+    """The prices that `hull price` chooses, from as many proposals as the case allows."""
+    from hulltools.cases import read_case
+
+    case = read_case(day.path("case"))
+    most = max(1, min(proposals, MOST_WORK // (len(case.units) * case.periods)))
+    return parse_output("hull price", report(day, "--proposals", str(most), *words)).prices
+
+
+def optimised_prices(day: Day, held: bool) -> Prices:
+    from hulltools.cases import read_case
+    from hulltools.linear import need_scipy
+    from hulltools.schedules import read_schedule
+
+    need_scipy()
+    from hulltools.relaxation import held_prices, relaxed_prices
+
+    hull(day, "check")
+    case = read_case(day.path("case"))
+    return held_prices(case, read_schedule(day.path("schedule"), case)) if held else relaxed_prices(case)
+
+
+PRICES: Dict[str, Callable[[Day], Prices]] = {
+    "lmp": lambda day: optimised_prices(day, held=True),
+    "relaxation": lambda day: optimised_prices(day, held=False),
+    "subgradient_100": lambda day: searched_prices(day, 100),
+    "subgradient_1000": lambda day: searched_prices(day, 1000, "--ahead", "1"),
+}
+
+
+def make_price_list(day: Day, name: str, room: str) -> Made:
+    text = PRICES[name](day).text().encode()
+    write_whole(f"{room}/prices.json", text)
+    return {f"{name}.prices.json": text, f"{name}.settlement.txt": settlement(day, f"{room}/prices.json")}
+
+
+def make_convex_hull(day: Day, room: str) -> Made:
+    """What `hull convex` finds, its prices and mixture as files, and their settlement and certificate by themselves."""
+    text, prices, mixture = f"{room}/convex.txt", f"{room}/prices.json", f"{room}/mixture.json"
+    write_whole(text, hull(day, "convex", *day.settings.words_of("convex_hull")))
+    tool(day, "report.py", "prices", text, prices)
+    tool(day, "report.py", "mixture", text, mixture)
+    certificate = hull(day, "certify", prices=prices, mixture=mixture)
+    parse_output("hull certify", certificate, ("hull-certificate 1",))
+    made = (read(text), read(prices), settlement(day, prices), read(mixture), certificate)
+    return dict(zip(STEPS["convex_hull"].makes, made))
+
+
+def make_audit(day: Day) -> Made:
+    text = hull(day, "audit", "--workers", "1", report=day.path("report"))
+    if not RIGHT_AUDIT.fullmatch(text):
+        raise HullError("hull audit ended with status 0, and its text isn't that of a right audit")
+    return {"audit.txt": text}
+
+
+def make(day: Day, step: str, room: str) -> Made:
+    if step == "schedule":
+        return make_schedule(day, room)
+    if step == "convex_hull":
+        return make_convex_hull(day, room)
+    if step in LISTS:
+        return make_price_list(day, step, room)
+    if step == REPORT:
+        return {"report.txt": report(day, *day.settings.words_of(REPORT))}
+    return make_audit(day)
+
+
+def mark_audit(day: Day, sums: Dict[str, Optional[str]]) -> None:
+    """Notes outside of the study that the files with these sums were found right."""
+    os.makedirs(day.settings.audits, exist_ok=True)
+    write_whole(audit_mark(day.settings, sums), f"right: {day.name}\n".encode())
+
+
+def keep(day: Day, step: str, of: Dict[str, Any], made: Made) -> None:
+    """Writes the record, and then the files: one without a record isn't ours."""
+    if basis(day, step) != of:
+        raise HullError("its files were changed meanwhile")
+    write_record(record_name(day, step), {**of, "made": {file: sha256(it).hexdigest() for file, it in made.items()}})
+    for file, data in made.items():
+        write_whole(day.made(file), data)
+    if step == "audit":
+        mark_audit(day, of["of"])
+
+
+def drop(name: str) -> None:
+    if os.path.lexists(name):
+        os.unlink(name)
+
+
+def note(day: Day, step: str, of: Dict[str, Any], why: Exception) -> None:
+    """Takes the step's old files away, and leaves the reason in the log and for the list of what is left."""
+    refuse_foreign(day, step)
+    for file in STEPS[step].makes:
+        drop(day.made(file))
+    stays = isinstance(why, Refused) and not why.passes
+    write_record(record_name(day, step, "left"), {**of, "why": str(why), "stays": stays})
+    write_log(day, step, str(why))
+
+
+def write_log(day: Day, step: str, why: str) -> None:
+    write_whole(day.made(f"log/{step}.txt"), f"{why}\n".encode())
+
+
+def why_refused_before(day: Day, step: str, of: Dict[str, Any]) -> Optional[str]:
+    """What an attempt before this one was refused for, where another attempt can't help."""
+    left = read_record(record_name(day, step, "left"))
+    is_same = all(left.get(key) == found for key, found in of.items())
+    return str(left.get("why")) if is_same and left.get("stays") else None
+
+
+def run_step(day: Day, step: str, attempt: int) -> Optional[str]:
+    """Runs the step; why it is left, or None."""
+    of = basis(day, step)
+    refuse_foreign(day, step)
+    if why_not_current(day, step) is None:
+        return None
+    before = why_refused_before(day, step, of) if attempt > 1 else None
+    if before:
+        write_log(day, step, before)  # (Snakemake takes the log of an attempt away before the next)
+        return before
+    try:
+        with tempfile.TemporaryDirectory(prefix="hull-day-") as room:
+            keep(day, step, of, make(day, step, room))
+        for name in (record_name(day, step, "left"), day.made(f"log/{step}.txt")):
+            drop(name)
+        return None
+    except (HullError, Refused, MemoryError) as error:
+        why: Exception = error
+    except OSError as error:
+        why = HullError(f"{one_line(error.filename or 'a file')}: {error.strerror or error}")
+    note(day, step, of, why)
+    return str(why) or "no memory"
+
+
+def body(words: List[str]) -> Optional[str]:
+    ask = argparse.ArgumentParser(prog="step.py", usage=(__doc__ or "").split("usage: ")[1].strip())
+    ask.add_argument("step", choices=list(STEPS))
+    ask.add_argument("day")
+    ask.add_argument("--settings", required=True, type=read_settings)
+    ask.add_argument("--attempt", type=int, default=1)
+    given = ask.parse_args(words)
+    why = refusal_of_name(given.day)
+    if why:
+        return why
+    day = Day(given.day, given.settings)
+    make_folders(day)
+    with alone(day.made(f".steps/{given.step}.lock")):
+        return run_step(day, given.step, given.attempt)
+
+
+def end_quietly(number: int, frame: object) -> None:
+    """Ends the step so that its temporary folder goes too."""
+    sys.exit(128 + number)
+
+
+def main() -> int:
+    for number in (signal.SIGINT, signal.SIGTERM):
+        signal.signal(number, end_quietly)
+    try:
+        why = body(sys.argv[1:])
+    except HullError as error:
+        why = str(error)
+    except OSError as error:
+        why = f"{one_line(error.filename or 'a file')}: {error.strerror or error}"
+    if why:
+        print(f"{shown(sys.argv[2])}: {sys.argv[1]}: {one_line(why)}", file=sys.stderr)
+    return 1 if why else 0
+
+
+if __name__ == "__main__":
+    sys.exit(main())

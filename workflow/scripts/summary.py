@@ -1,0 +1,213 @@
+"""Writes the table and the page over all days, and the list of what is left and why.
+
+usage: summary.py --settings FILE [--quiet | --print]
+
+Status 1 where a day is left. What counts is what the files hold: a result of other files, or one that was changed, isn't in the table.
+"""
+import argparse
+import os
+import sys
+from dataclasses import dataclass, field
+from typing import List, Optional, Tuple
+
+from contents import HIDDEN, basis, is_marked, read_record, record_name, refuse_links, sum_of, why_not_current
+from contents import write_record, write_whole
+from days import LISTS, REPORT, STEPS, Day, Settings, read_settings, shown
+from plan import plan_of
+from hulltools.errors import HullError, one_line
+from hulltools.outputs import read_output
+from hulltools.tables import Table
+
+FILES = ("table.csv", "page.html", "left.txt")
+HEADS = (
+    "day list kind unit cost:money dual_value:money payments:money make_whole:money lost_opportunity:money surplus:money uplift:money "
+    "certified_least:money above_least:money earned:money scheduled:money audited"
+)
+
+
+@dataclass
+class Paid:
+    """What a unit is owed."""
+
+    kind: str
+    name: str
+    payment: int
+    make_whole: int
+    earned: int
+    scheduled: int
+
+    @property
+    def lost_opportunity(self) -> int:
+        return self.payment - self.make_whole
+
+
+@dataclass
+class Priced:
+    """A price list of a day: the sums of its settlement, and whether a report of it was audited."""
+
+    day: str
+    list: str
+    cost: int
+    value: int
+    surplus: int
+    uplift: int
+    units: List[Paid]
+    audited: Optional[bool] = None
+    least: Optional[int] = None
+
+    @property
+    def payments(self) -> int:
+        return sum(unit.payment for unit in self.units)
+
+    @property
+    def make_whole(self) -> int:
+        return sum(unit.make_whole for unit in self.units)
+
+    @property
+    def above_least(self) -> Optional[int]:
+        return None if self.least is None else self.uplift - self.least
+
+
+@dataclass
+class Summary:
+    """What there is of all days, and by day what is left and why."""
+
+    count: int = 0
+    priced: List[Priced] = field(default_factory=list)
+    left: List[Tuple[str, str]] = field(default_factory=list)
+
+    def lists(self) -> List[str]:
+        return [name for name in (*LISTS, REPORT) if any(it.list == name for it in self.priced)]
+
+    def days(self) -> List[str]:
+        return list(dict.fromkeys(it.day for it in self.priced))
+
+
+def why_left(day: Day, step: str) -> Optional[str]:
+    """Why the step isn't done, or None."""
+    why = why_not_current(day, step)
+    if why is None:
+        return None
+    left = read_record(record_name(day, step, "left"))
+    if all(left.get(key) == found for key, found in basis(day, step).items()):
+        return str(left.get("why"))
+    waits = [what for what in STEPS[step].takes if sum_of(day.path(what), is_input=True) is None]
+    return f"waits for the {waits[0]}" if waits else why
+
+
+def priced(day: Day, name: str, file: str, audited: Optional[bool] = None) -> Priced:
+    """What a settlement or a report says, without its lists by period."""
+    text = read_output(file, ("hull-settlement 1", "hull-report 1"))
+    units = [Paid(it.kind, it.name, it.payment, it.make_whole, it.earned, it.scheduled) for it in text.units]
+    return Priced(day.name, name, text.cost, text.best.value, text.surplus, text.gap, units, audited)
+
+
+def certified_least(day: Day) -> int:
+    """The least that payments and surplus sum to at any prices, by the day's certificate."""
+    return read_output(day.made("convex_hull.certificate.txt"), ("hull-certificate 1",)).least
+
+
+def add_day(summary: Summary, day: Day, steps: List[str]) -> None:
+    """Adds the price lists of a day that are of the files that lie there, and what is left of it."""
+    why = {step: why_left(day, step) for step in steps}
+    summary.left += [(day.name, f"{step}: {told}") for step, told in why.items() if told is not None]
+    made = [step for step in steps if why[step] is None]
+    found = [priced(day, name, day.made(f"{name}.settlement.txt")) for name in LISTS if name in made]
+    if REPORT in made or day.is_given(REPORT) and is_marked(day):
+        found.append(priced(day, REPORT, day.path("report"), is_marked(day)))
+    least = certified_least(day) if "convex_hull" in made else None
+    for price_list in found:
+        price_list.least = least
+    summary.priced += found
+
+
+def summary_of(settings: Settings) -> Summary:
+    plan = plan_of(settings)
+    summary = Summary(len(plan.days) + len(plan.refused))
+    summary.left = [(name, why) for name, why in plan.refused.items()]
+    for day, steps in plan.days:
+        try:
+            add_day(summary, day, steps)
+        except (HullError, OSError) as error:
+            summary.left.append((day.name, one_line(error)))
+    return summary
+
+
+def table_of(summary: Summary) -> Table:
+    """A row of kind `day` for each day and list, and behind it one for each unit."""
+    table = Table(HEADS.split(), True)
+    for it in summary.priced:
+        paid = (it.payments, it.make_whole, it.payments - it.make_whole)
+        sums = (it.cost, it.value, *paid, it.surplus, it.uplift, it.least, it.above_least)
+        audited = None if it.audited is None else "yes" if it.audited else "no"
+        table.add(it.day, it.list, "day", None, *sums, None, None, audited)
+        for unit in it.units:
+            paid = (unit.payment, unit.make_whole, unit.lost_opportunity)
+            rest = (None, None, None, None, unit.earned, unit.scheduled, None)
+            table.add(it.day, it.list, unit.kind, unit.name, None, None, *paid, *rest)
+    return table
+
+
+def left_text(summary: Summary) -> str:
+    return "".join(f"{shown(day)}: {one_line(why)}\n" for day, why in summary.left)
+
+
+def write_files(settings: Settings, summary: Summary) -> None:
+    """Writes the three files, whole; files of those names that weren't made here stay."""
+    from uplift_page import uplift_page
+
+    folder = os.path.join(settings.results, HIDDEN)
+    refuse_links(settings, HIDDEN)
+    os.makedirs(folder, exist_ok=True)
+    record = os.path.join(folder, "summary.json")
+    made = read_record(record).get("made") or []
+    for name in FILES:
+        if os.path.lexists(os.path.join(settings.results, name)) and name not in made:
+            raise HullError(
+                f"{one_line(os.path.join(settings.results, name))} wasn't made by this workflow, so it stays: move it away"
+            )
+    write_record(record, {"made": list(FILES)})
+    texts = (table_of(summary).text(), uplift_page(summary), left_text(summary))
+    for name, text in zip(FILES, texts):
+        write_whole(os.path.join(settings.results, name), text.encode())
+
+
+def tell(settings: Settings, text: str) -> None:
+    print(text, end="")
+    count = len(text.splitlines())
+    told = "nothing is left" if not count else f"{count} line{'s' * (count > 1)} of what is left"
+    where = os.path.join(settings.results, "")
+    print(f"{one_line(where)}table.csv, page.html and left.txt are written; {told}", flush=True)
+
+
+def body(words: List[str]) -> int:
+    ask = argparse.ArgumentParser(prog="summary.py", usage=(__doc__ or "").split("usage: ")[1].split("\n")[0])
+    ask.add_argument("--settings", required=True, type=read_settings)
+    ask.add_argument("--quiet", action="store_true")
+    ask.add_argument("--print", action="store_true")
+    given = ask.parse_args(words)
+    if given.print:
+        with open(os.path.join(given.settings.results, "left.txt"), encoding="utf-8") as file:
+            text = file.read()
+    else:
+        summary = summary_of(given.settings)
+        write_files(given.settings, summary)
+        text = left_text(summary)
+    if not given.quiet:
+        tell(given.settings, text)
+    return 1 if text else 0
+
+
+def main() -> int:
+    try:
+        return body(sys.argv[1:])
+    except HullError as error:
+        why = str(error)
+    except OSError as error:
+        why = f"{error.filename or 'a file'}: {error.strerror or error}"
+    print(f"summary.py: {one_line(why)}", file=sys.stderr)
+    return 1
+
+
+if __name__ == "__main__":
+    sys.exit(main())
