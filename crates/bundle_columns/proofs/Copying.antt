@@ -12,7 +12,8 @@ spliced (suc n) [] into = []
 spliced (suc n) (x ∷ from) [] = []
 spliced (suc n) (x ∷ from) (y ∷ into) = x ∷ spliced n from into
 
-pub splice_more : {X : Type 0} (n : ℕ) (from into : List X) (x : X) → slice_get from n ≡ Some x → length from ≡ length into →
+pub splice_more : {X : Type 0} (n : ℕ) (from into : List X) (x : X) → slice_get from n ≡ Some x →
+    length from ≡ length into →
     slice_set (spliced n from into) n x ≡ spliced (n + 1) from into
 splice_more n [] into x at same = absurd (none_some x at)
 splice_more n (y ∷ from) [] x at same = absurd (omega (arith, same))

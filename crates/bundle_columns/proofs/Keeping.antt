@@ -1,6 +1,7 @@
 -- The mixtures that are kept: they are mixtures, and have the shape of one.
 use Rattle.bundle_columns.proofs.Common.{◌≡◌, ℕ, zero, suc, ◌+◌, ◌<◌, ℤ, pos, ◌≤ℤ◌, List, [], ◌∷◌, ◌++◌, length}
-use Rattle.bundle_columns.proofs.Common.{map, take, refl, sym, ap, ◌∙◌, subst, arith, ints, Some, All, AllZip, slice_get}
+use Rattle.bundle_columns.proofs.Common.{map, take, refl, sym, ap, ◌∙◌, subst, arith, ints}
+use Rattle.bundle_columns.proofs.Common.{Some, All, AllZip, slice_get}
 use Rattle.bundle_columns.proofs.Common.{head_of, tail_of, all_nil, all_cons, none_some, same_item, total-push, total}
 use Rattle.bundle_columns.proofs.Common.{map_push, all_zipped_more, AnyUnit, ThermalUnit, NamedThermalUnit}
 use Rattle.bundle_columns.proofs.Common.{Schedule, Market, IsFeasible, IsThermalFeasible, WeighedSchedule}
@@ -34,7 +35,8 @@ one_entry s e same whole = record {
     from_zero = all_cons IsLow e [] (omega (arith, ints, whole)) (all_nil IsLow);
     whole_is = omega (arith, ints, whole);
   };
-  same = all_cons (λ (x : WeighedSchedule). x.schedule ≡ s) e [] same (all_nil (λ (x : WeighedSchedule). x.schedule ≡ s));
+  same = all_cons (λ (x : WeighedSchedule). x.schedule ≡ s) e [] same (all_nil (λ (x : WeighedSchedule).
+      x.schedule ≡ s));
 }
 
 -- one more without weight
@@ -53,7 +55,8 @@ one_more count s es e h same none =
       same = all_push (λ (x : WeighedSchedule). x.schedule ≡ s) es e h.same same;
     }
 
-pub entries_pushed : (count : ℕ) (s : Schedule) (old new : List Entry) (e : Entry) → AreOfOne count s (map entry_of old) →
+pub entries_pushed : (count : ℕ) (s : Schedule) (old new : List Entry) (e : Entry) →
+    AreOfOne count s (map entry_of old) →
     new ≡ old ++ e ∷ [] → schedule_of e.response ≡ s → e.weight ≡ pos 0 → AreOfOne (count + 1) s (map entry_of new)
 entries_pushed count s old new e h is same none =
     subst (λ (l : List WeighedSchedule). AreOfOne (count + 1) s l)
@@ -134,7 +137,8 @@ kept_shape m places x h =
     record {
       whole = record { at_least = omega (arith, ints, whole); at_most = omega (arith, ints, whole) };
       entries = subst (λ (w : ℤ). AllZip (S w) m.thermal x.entries) (sym whole)
-          (all_zip_by (AreKeptOf m.periods places) (S most_whole) (over_of m.periods places) m.thermal x.entries h.kept);
+          (all_zip_by (AreKeptOf m.periods places) (S most_whole) (over_of m.periods places) m.thermal
+          x.entries h.kept);
     }
 
 pub kept_mixture : (m : Market) (places : ℕ) (x : MixtureLists) → IsKept m places x → IsMixture m x

@@ -1,6 +1,7 @@
 -- The units of a pool.
 use Rattle.bundle_columns.proofs.Common.{◌≡◌, ℕ, zero, suc, ◌<◌, ℤ, List, [], ◌∷◌, length, map, sym, ◌∙◌, subst, arith}
-use Rattle.bundle_columns.proofs.Common.{Some, slice_get, none_some, map_item, zip_item, item_of, length-map, Entry, entry_of}
+use Rattle.bundle_columns.proofs.Common.{Some, slice_get, none_some, map_item, zip_item}
+use Rattle.bundle_columns.proofs.Common.{item_of, length-map, Entry, entry_of}
 use Rattle.bundle_columns.proofs.Common.{entries_of, Market, NamedThermalUnit, ThermalUnit, AreKept, IsKept}
 use Rattle.bundle_columns.proofs.Common.{AnyUnit, Thermal, Schedule, units, same_item, IsFeasible, IsFitAt}
 use Rattle.bundle_columns.proofs.Common.{schedule_of}
@@ -29,12 +30,14 @@ kept_of m places whole items i n es h at there =
     zip_item (AreKeptOf m.periods places) m.thermal (map entries_of items) i n (entries_of es) h.kept at
     (map_item entries_of items i es there)
 
-pub entry_count : (periods places : ℕ) (g : ThermalUnit) (es : Reserved Entry) → AreKept periods places g (entries_of es) →
+pub entry_count : (periods places : ℕ) (g : ThermalUnit) (es : Reserved Entry) →
+    AreKept periods places g (entries_of es) →
     length es.items ≡ places
 entry_count periods places g es h = sym (length-map es.items entry_of) ∙ h.count
 
 pub over_at : (periods places : ℕ) (g : ThermalUnit) (es : Reserved Entry) (k : ℕ) (e : Entry) →
-    AreKept periods places g (entries_of es) → slice_get es.items k ≡ Some e → length (schedule_of e.response).on ≡ periods
+    AreKept periods places g (entries_of es) → slice_get es.items k ≡ Some e →
+    length (schedule_of e.response).on ≡ periods
 over_at periods places g es k e h at =
     (item_of (IsFit periods g) (entries_of es) k (entry_of e) h.mixed.feasible
     (map_item entry_of es.items k e at)).schedule.on

@@ -1,6 +1,7 @@
 -- The entries that have some weight.
 use Rattle.bundle_columns.proofs.Common.{◌≡◌, ℕ, suc, ◌+◌, ◌<◌, ℤ, pos, ◌+ℤ◌, ◌-ℤ◌, ◌*ℤ◌, ◌≤ℤ◌, List, [], ◌∷◌, ◌++◌}
-use Rattle.bundle_columns.proofs.Common.{map, take, refl, sym, ap, ◌∙◌, subst, arith, ints, Some, slice_get, All, AllZip}
+use Rattle.bundle_columns.proofs.Common.{map, take, refl, sym, ap, ◌∙◌, subst, arith, ints}
+use Rattle.bundle_columns.proofs.Common.{Some, slice_get, All, AllZip}
 use Rattle.bundle_columns.proofs.Common.{head_of, tail_of, all_cons, total, AnyUnit, Thermal, ThermalUnit, Schedule}
 use Rattle.bundle_columns.proofs.Common.{NamedThermalUnit, Market, PriceLists, MixtureLists, WeighedSchedule}
 use Rattle.bundle_columns.proofs.Common.{AreMixed, IsMixture, AreEntries, HasMixtureShape, most_whole, AreKept, IsKept}
@@ -51,14 +52,17 @@ same_weighed f (e ∷ es) h =
     let rest = same_weighed f es (tail_of IsLow e es h) in
     let low = head_of IsLow e es h in
     elim (true_or_false (int_lt (pos 0) e.weight)) [
-      | inl above ↦ subst (λ b. weighed f (if b then (e ∷ weighed_of es) else weighed_of es) ≡ weighed f (e ∷ es)) (sym above)
+      | inl above ↦ subst (λ b. weighed f (if b then (e ∷ weighed_of es) else weighed_of es) ≡ weighed f (e ∷
+          es)) (sym above)
           (ap (λ (s : ℤ). (e.weight *ℤ f e.schedule) +ℤ s) rest)
-      | inr below ↦ subst (λ b. weighed f (if b then (e ∷ weighed_of es) else weighed_of es) ≡ weighed f (e ∷ es)) (sym below)
+      | inr below ↦ subst (λ b. weighed f (if b then (e ∷ weighed_of es) else weighed_of es) ≡ weighed f (e ∷
+          es)) (sym below)
           (let zero_is = nothing e (f e.schedule) low (not_above e.weight below) in
           omega (arith, ints, rest, zero_is))
     ]
 
-pub same_total : (es : List WeighedSchedule) → All IsLow es → total (map weight_of (weighed_of es)) ≡ total (map weight_of es)
+pub same_total : (es : List WeighedSchedule) → All IsLow es → total (map weight_of (weighed_of es)) ≡ total
+    (map weight_of es)
 same_total [] h = refl
 same_total (e ∷ es) h =
     let rest = same_total es (tail_of IsLow e es h) in
@@ -143,11 +147,13 @@ told_mixture m places x h =
     record {
       some = omega (arith, ints, whole);
       mixed = subst (λ (w : ℤ). AllZip (S w) m.thermal (map weighed_of x.entries)) (sym whole)
-          (zip_map (AreKeptOf m.periods places) (S most_whole) weighed_of (λ n es k. told_mixed m.periods places n.unit es k)
+          (zip_map (AreKeptOf m.periods places) (S most_whole) weighed_of (λ n es k. told_mixed m.periods
+          places n.unit es k)
           m.thermal x.entries h.kept);
     }
 
-entries_told : (periods places : ℕ) (n : NamedThermalUnit) (es : List WeighedSchedule) → AreKept periods places n.unit es →
+entries_told : (periods places : ℕ) (n : NamedThermalUnit) (es : List WeighedSchedule) →
+    AreKept periods places n.unit es →
     AreEntries periods most_whole (weighed_of es)
 entries_told periods places n es h =
     let mixed = told_mixed periods places n.unit es h in

@@ -1,6 +1,7 @@
 -- Weights that move from one entry to another.
 use Rattle.bundle_columns.proofs.Common.{◌≡◌, ℕ, zero, suc, ◌<◌, ℤ, pos, ◌+ℤ◌, ◌-ℤ◌, ◌≤ℤ◌, List, [], ◌∷◌, length, map}
-use Rattle.bundle_columns.proofs.Common.{refl, sym, ap, ◌∙◌, subst, arith, ints, Some, slice_get, slice_set, All, head_of}
+use Rattle.bundle_columns.proofs.Common.{refl, sym, ap, ◌∙◌, subst, arith, ints, Some}
+use Rattle.bundle_columns.proofs.Common.{slice_get, slice_set, All, head_of}
 use Rattle.bundle_columns.proofs.Common.{tail_of, all_cons, none_some, same_item, total, IsFrom, Entry, entry_of}
 use Rattle.bundle_columns.proofs.Common.{ThermalUnit, IsThermalFeasible, WeighedSchedule, AreShares, most_whole}
 use Rattle.bundle_columns.proofs.Common.{AreKept, weight_at, reweighed, StaysKept}
@@ -13,7 +14,8 @@ IsLow e = pos 0 ≤ℤ e.weight
 
 -- ---- what the program keeps
 
-pub weight_is : (es : List Entry) (k : ℕ) (e : Entry) → slice_get es k ≡ Some e → e.weight ≡ weight_at (map entry_of es) k
+pub weight_is : (es : List Entry) (k : ℕ) (e : Entry) → slice_get es k ≡ Some e →
+    e.weight ≡ weight_at (map entry_of es) k
 weight_is [] k e at = absurd (none_some e at)
 weight_is (x ∷ es) zero e at = ap (λ (z : Entry). z.weight) (same_item x e at)
 weight_is (x ∷ es) (suc k) e at = weight_is es k e at
@@ -40,7 +42,8 @@ sum_reweighed (e ∷ es) (suc k) w lt =
     let rest = sum_reweighed es k w (omega (arith, lt)) in
     omega (arith, ints, rest)
 
-pub low_reweighed : (es : List WeighedSchedule) (k : ℕ) (w : ℤ) → pos 0 ≤ℤ w → All IsLow es → All IsLow (reweighed es k w)
+pub low_reweighed : (es : List WeighedSchedule) (k : ℕ) (w : ℤ) → pos 0 ≤ℤ w → All IsLow es →
+    All IsLow (reweighed es k w)
 low_reweighed [] k w low h = h
 low_reweighed (e ∷ es) zero w low h =
     all_cons IsLow (record e { weight = w }) es low (tail_of IsLow e es h)
@@ -126,7 +129,8 @@ moved_shares es from to amount lt less h a =
     let least = (taker_within es from to amount lt h a).at_least in
     let some = a.at_least in
     record {
-      from_zero = low_reweighed ms to (weight_at ms to +ℤ amount) (omega (arith, ints, least, some)) (given_low es from amount h.from_zero a);
+      from_zero = low_reweighed ms to (weight_at ms to +ℤ amount) (omega (arith, ints, least, some)) (given_low
+          es from amount h.from_zero a);
       whole_is = omega (arith, ints, given, taken, whole);
     }
 
@@ -136,7 +140,8 @@ pub moved_stays : (es after : List WeighedSchedule) (from to : ℕ) (amount : �
 moved_stays es after from to amount lt less h a is = λ periods places g kept.
     let ms = moved es from amount in
     subst (AreKept periods places g) (sym is) (record {
-      count = same_count ms to (weight_at ms to +ℤ amount) ∙ same_count es from (weight_at es from -ℤ amount) ∙ kept.count;
+      count = same_count ms to (weight_at ms to +ℤ amount) ∙ same_count es from (weight_at es from -ℤ amount) ∙
+          kept.count;
       mixed = record {
         shares = moved_shares es from to amount lt less h a;
         feasible = fit_reweighed periods g ms to (weight_at ms to +ℤ amount)

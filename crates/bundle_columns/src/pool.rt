@@ -1,7 +1,6 @@
 //! The columns: schedules of each thermal unit that were seen, as entries of a mixture and in the
 //! master problem.
-ghost use Rattle.std.specs.Prelude.{◌≡◌, ℕ, ◌+◌, ◌<◌, ◌≤◌, length, Some, slice_get};
-ghost use Rattle.uc_model.specs.Data.{NamedThermalUnit};
+ghost use Rattle.std.specs.Prelude.{◌≡◌, ◌+◌, ◌<◌, ◌≤◌, length, Some, slice_get};
 ghost use Rattle.uc_model.specs.PlainCases.{market_of};
 ghost use Rattle.uc_model.specs.PlainUnits.{thermal_of, schedule_of};
 ghost use Rattle.uc_model.specs.Schedules.{IsThermalFeasible};

@@ -252,7 +252,8 @@ impl Master {
         self.rows[row].centre = price;
     }
 
-    /// Adds a part of an amount of the currency to the cost of each column, each another part: of the many solutions that
+    /// Adds a part of an amount of the currency to the cost of each column, each another part: of
+    /// the many solutions that
     /// a master problem mostly has one is then the best, and it has few columns (Charnes, 'Optimality and Degeneracy in
     /// Linear Programming', Econometrica 1952, perturbs so).
     pub fn perturb(&mut self, amount: f64)

@@ -12,7 +12,8 @@ pub use Rattle.plain_lists.proofs.ListLaws.{head_of, tail_of, all_nil, all_cons,
 pub use Rattle.plain_lists.proofs.ListLaws.{map_item, zip_item}
 pub use Rattle.plain_lists.specs.Ranges.{IsFrom}
 pub use Rattle.plain_lists.specs.Sums.{int_at, total}
-pub use Rattle.uc_model.specs.Data.{AnyUnit, Thermal, ThermalUnit, NamedThermalUnit, Schedule, Market, PriceLists, units}
+pub use Rattle.uc_model.specs.Data.{AnyUnit, Thermal, ThermalUnit, NamedThermalUnit, Schedule}
+pub use Rattle.uc_model.specs.Data.{Market, PriceLists, units}
 pub use Rattle.uc_model.specs.PlainCases.{market_of, schedules_of}
 pub use Rattle.uc_model.specs.PlainUnits.{prices_of, schedule_of, named_thermal_of, thermal_of}
 pub use Rattle.uc_model.specs.PriceRule.{start_price}

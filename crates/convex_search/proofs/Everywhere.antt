@@ -1,6 +1,7 @@
 -- A box that has all prices in it is the same round any prices.
 use Rattle.convex_search.proofs.Common.{◌≡◌, ℕ, ◌+◌, ◌-◌, ◌<◌, ℤ, pos, neg_ℤ, ◌+ℤ◌, ◌-ℤ◌, ◌*ℤ◌, ◌≤ℤ◌, sym, ap, ◌∙◌}
-use Rattle.convex_search.proofs.Common.{arith, ints, IsFrom, int_at, Market, PriceLists, MixtureLists, ArePricesOver, everywhere}
+use Rattle.convex_search.proofs.Common.{arith, ints, IsFrom, int_at, Market, PriceLists}
+use Rattle.convex_search.proofs.Common.{MixtureLists, ArePricesOver, everywhere}
 use Rattle.std.proofs.Common.{unsigned_abs, nat_lt, if◌then◌else◌, true, false}
 use Rattle.std.proofs.lemmas.Int.{clamps}
 use Rattle.std.specs.Int.{int_min, int_max}
@@ -13,7 +14,8 @@ use Rattle.gap_proof.specs.MixtureBound.{greatest, added, lack, short, most_ener
 unfoldable use Rattle.gap_proof.specs.MixtureBound.{mixture_bound}
 
 -- each price is within the limits
-within : (m : Market) (π : PriceLists) (j : ℕ) → ArePricesOver m π → IsFrom (neg_ℤ price_limit) price_limit (price_at m π j)
+within : (m : Market) (π : PriceLists) (j : ℕ) → ArePricesOver m π →
+    IsFrom (neg_ℤ price_limit) price_limit (price_at m π j)
 within m π j h = elim (nat_lt j m.periods) as (λ b. IsFrom (neg_ℤ price_limit) price_limit
     (if b then int_at π.energy j else int_at π.reserve (j - m.periods))) [
       | true ↦ at_place (IsFrom (neg_ℤ price_limit) price_limit) (pos 0)
@@ -53,7 +55,8 @@ added_between m x k low high low_reserve high_reserve =
     greatest (unsigned_abs (high -ℤ low)) (λ i. added m x.whole (lack m x k) k (low +ℤ pos i)) +ℤ
     int_max (short m x k *ℤ low_reserve) (short m x k *ℤ high_reserve)
 
-pub everywhere_same : (m : Market) (x : MixtureLists) (π other : PriceLists) → ArePricesOver m π → ArePricesOver m other →
+pub everywhere_same : (m : Market) (x : MixtureLists) (π other : PriceLists) → ArePricesOver m π →
+    ArePricesOver m other →
     mixture_bound m x π everywhere ≡ mixture_bound m x other everywhere
 unfolding mixture_bound
 everywhere_same m x π other h i =
@@ -64,4 +67,5 @@ everywhere_same m x π other h i =
     λ j. high_is m π j h ∙ sym (high_is m other j i) in
     let same : (k : ℕ) → k < m.periods → f π k ≡ f other k = λ k lt. λ j.
     added_between m x k (low k j) (high k j) (low (m.periods + k) j) (high (m.periods + k) j) in
-    ap (λ (s : ℤ). floor_div (mixture_cost m x +ℤ s) (unsigned_abs x.whole)) (sum_below-same m.periods (f π) (f other) same)
+    ap (λ (s : ℤ). floor_div (mixture_cost m x +ℤ s) (unsigned_abs x.whole)) (sum_below-same m.periods (f π) (f
+    other) same)

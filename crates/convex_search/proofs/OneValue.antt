@@ -1,5 +1,6 @@
 -- Prices have one dual value.
-use Rattle.convex_search.proofs.Common.{◌≡◌, ℤ, ◌-ℤ◌, List, [], ◌∷◌, refl, sym, ap, ◌∙◌, arith, ints, AllZip, total, AnyUnit}
+use Rattle.convex_search.proofs.Common.{◌≡◌, ℤ, ◌-ℤ◌, List, [], ◌∷◌, refl, sym, ap, ◌∙◌, arith}
+use Rattle.convex_search.proofs.Common.{ints, AllZip, total, AnyUnit}
 use Rattle.convex_search.proofs.Common.{PriceLists, Market, units, IsTop}
 use Rattle.uc_model.specs.Systems.{worth_of_demand, IsDualValue}
 

@@ -1,5 +1,5 @@
 //! The best prices so far, and the mixture with the least bound.
-ghost use Rattle.std.specs.Prelude.{◌≡◌, ◌*◌, pos, ◌-ℤ◌, ◌*ℤ◌, ◌≤ℤ◌, unsigned_abs, IsTrue};
+ghost use Rattle.std.specs.Prelude.{◌*◌, pos, ◌-ℤ◌, ◌*ℤ◌, ◌≤ℤ◌, unsigned_abs, IsTrue};
 ghost use Rattle.uc_model.specs.Limits.{IsWorth};
 ghost use Rattle.gap_proof.specs.MixtureSizes.{IsBound};
 ghost use Rattle.convex_search.specs.FoundPrices.{IsNear};

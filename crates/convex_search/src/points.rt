@@ -1,6 +1,6 @@
 //! Points in the space of prices, in the currency for a megawatt and period: the energy prices of
 //! all periods, and then their reserve prices.
-ghost use Rattle.std.specs.Prelude.{◌≡◌, ◌*◌, ◌≤◌, ◌≤ℤ◌, neg_ℤ, length};
+ghost use Rattle.std.specs.Prelude.{◌≡◌, ◌*◌, ◌≤◌, neg_ℤ, length};
 ghost use Rattle.std.specs.List.{All};
 ghost use Rattle.plain_lists.specs.Ranges.{IsFrom};
 ghost use Rattle.uc_model.specs.Limits.{price_limit};

@@ -1,6 +1,5 @@
 //! The rounds of a search.
 ghost use Rattle.std.specs.Prelude.{◌≡◌, ◌*◌, ◌<◌, ◌≤◌, IsTrue};
-ghost use Rattle.uc_model.specs.Data.{Market};
 ghost use Rattle.uc_model.specs.Limits.{IsWorth};
 ghost use Rattle.uc_model.specs.PlainCases.{market_of};
 ghost use Rattle.unit_program.specs.Tops.{HasSchedules};

@@ -2,10 +2,7 @@
 //! first mixture.
 ghost use Rattle.std.specs.Prelude.{◌≡◌, ◌^◌, ◌*◌, ◌<◌, ◌≤◌, length, IfOk};
 ghost use Rattle.uc_model.specs.PlainCases.{market_of, schedules_of};
-ghost use Rattle.uc_model.specs.PlainUnits.{prices_of};
 ghost use Rattle.uc_model.specs.Systems.{IsFeasiblePlan};
-ghost use Rattle.unit_program.specs.Tops.{HasSchedules};
-ghost use Rattle.convex_search.specs.FoundPrices.{ArePricesOver};
 ghost use Rattle.bundle_columns.specs.Pools.{IsPool, places_in};
 ghost use Rattle.convex_search.specs.Searching.{IsOracle, IsSearch, IsBestOf};
 ghost use Rattle.convex_search.specs.Starting.{IsProblem};

@@ -14,7 +14,8 @@ use Rattle.hull_command.specs.declared.answer.Answer.TheVariants.{Convex}
 use Rattle.hull_command.specs.declared.answer.FoundInput.{FoundInput}
 
 module _ (words : ConvexWords) (input : Input) (x : FoundInput) (same : x.input ≡ input)
-    (within : x.goal.within ≡ pos words.within) (rounds : x.goal.rounds ≡ rounds_for words.rounds (market_of input.case))
+    (within : x.goal.within ≡ pos words.within) (rounds : x.goal.rounds ≡ rounds_for words.rounds (market_of
+    input.case))
     (found : IsFoundIn x) where
   pub answers_convex : (reads : Reads) → Then (IsInput reads) (IsWithinRounds words.rounds) (Ok (planned_of input))
       → IsCommandAnswer (command_for (Ok (convex (convex_asked words)))) reads (Ok (Convex x))

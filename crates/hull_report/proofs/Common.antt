@@ -47,10 +47,12 @@ unfoldable pub use Rattle.hull_report.specs.CertifiedText.{certificate_of}
 pub use Rattle.report_form.specs.SettlementText.{priced_text}
 unfoldable pub use Rattle.report_form.specs.SettlementText.{settlement_text}
 unfoldable pub use Rattle.report_form.specs.ConvexText.{convex_text}
-pub use Rattle.report_form.specs.ConvexText.{ShareLine, MixtureLine, searched_text, weighed_text, mixed_text, share_text}
+pub use Rattle.report_form.specs.ConvexText.{ShareLine, MixtureLine, searched_text}
+pub use Rattle.report_form.specs.ConvexText.{weighed_text, mixed_text, share_text}
 pub use Rattle.report_form.specs.ConvexText.{mixture_text, bounded_text}
 pub use Rattle.hull_report.specs.ConvexText.{share_line, mixture_line, mixture_lines}
 unfoldable pub use Rattle.hull_report.specs.ConvexText.{convex_of}
 pub use Rattle.gap_proof.specs.MixtureLaws.{least_paid}
-pub use Rattle.gap_proof.specs.Mixtures.{WeighedSchedule, MixtureLists, AreEntries, HasMixtureShape, entry_of, entries_of}
+pub use Rattle.gap_proof.specs.Mixtures.{WeighedSchedule, MixtureLists, AreEntries}
+pub use Rattle.gap_proof.specs.Mixtures.{HasMixtureShape, entry_of, entries_of}
 pub use Rattle.gap_proof.specs.Mixtures.{mixture_of}

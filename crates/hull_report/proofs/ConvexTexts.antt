@@ -1,5 +1,6 @@
 -- The text of a search for convex hull prices, part by part.
-use Rattle.hull_report.proofs.Common.{◌≡◌, ℕ, zero, suc, ◌+◌, ◌<◌, ℤ, ◌-ℤ◌, Some, List, [], ◌∷◌, ◌++◌, map, length, get_or}
+use Rattle.hull_report.proofs.Common.{◌≡◌, ℕ, zero, suc, ◌+◌, ◌<◌, ℤ, ◌-ℤ◌, Some, List, [], ◌∷◌}
+use Rattle.hull_report.proofs.Common.{◌++◌, map, length, get_or}
 use Rattle.hull_report.proofs.Common.{slice_get, sym, ap, ◌∙◌, arith, append_assoc, length-map, get_or-map, flat_map}
 use Rattle.hull_report.proofs.Common.{NamedThermalUnit, Market, unit_count, thermal_names, renewable_names, bid_names}
 use Rattle.hull_report.proofs.Common.{market_of, named_thermal_of, lines_from, Settled, settled_line, settlement_of}

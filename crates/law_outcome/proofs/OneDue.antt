@@ -2,7 +2,9 @@
 use Rattle.law_outcome.proofs.Common.{OutOfForm, Wrong, ◌≡◌, ℕ, ◌<◌, ℤ, List, length, unsigned_abs, Option, Some, inl}
 use Rattle.law_outcome.proofs.Common.{inr, Result, Ok, Err, sym, ap, subst, ◌∙◌, arith, cases_lt, same_Some, slice_get}
 use Rattle.law_outcome.proofs.Common.{Market, Schedule, Proposal, Asked, price, check, try, bound, fixed, audit, settle}
-use Rattle.law_outcome.proofs.Common.{certify, convex, IsWithinRounds, TextFollows, WordFault, PriceLists, OneSettlement, Settled, IsSettledAt, PricesFile}
+use Rattle.law_outcome.proofs.Common.{certify, convex, IsWithinRounds, TextFollows, WordFault}
+use Rattle.law_outcome.proofs.Common.{PriceLists, OneSettlement, Settled, IsSettledAt}
+use Rattle.law_outcome.proofs.Common.{PricesFile}
 use Rattle.law_outcome.proofs.Common.{prices_fault, IsPrices, IsPricesFile, IsPriced, IsSettlementText}
 use Rattle.law_outcome.proofs.Common.{IsCertificateText, MixtureFile, MixtureRule, MixtureLists, mixture_fault}
 use Rattle.law_outcome.proofs.Common.{IsShares, IsSharesFile, IsMixed, IsMixtureFile, HasMixture, IsCertifiable}
@@ -306,10 +308,12 @@ module _ (one : OneRightReport) (one_side : OneRightSide) (determined : TextDete
   pub one_text : (w : Result Asked WordFault) (reads : Reads) (c : PlannedCase) (text other : List ℕ) →
       TextFollows w → (command_for w).IsText reads c text → (command_for w).IsText reads c other → text ≡ other
   one_text (Ok (check x)) reads c text other follows p q = p ∙ sym q
-  one_text (Ok (price x)) reads c text other follows p q = one_report_text report_text x.proposals x.ahead c text other p q
+  one_text (Ok (price x)) reads c text other follows p q = one_report_text report_text x.proposals x.ahead c
+      text other p q
   one_text (Ok (try x)) reads c text other follows p q =
       one_report_text (try_text x.number) x.proposals x.ahead c text other p q
-  one_text (Ok (bound x)) reads c text other follows p q = one_bound_text x.run.proposals x.run.ahead x.radius c text other p q
+  one_text (Ok (bound x)) reads c text other follows p q = one_bound_text x.run.proposals x.run.ahead x.radius
+      c text other p q
   one_text (Ok (fixed x)) reads c text other follows p q = one_fixed_text x.proposals x.ahead c text other p q
   one_text (Ok (audit x)) reads c text other follows p q = one_audit_text (reads ReportFile) c text other p q
   one_text (Ok (settle x)) reads c text other follows p q = one_settlement_text (reads PricesFile) c text other p q

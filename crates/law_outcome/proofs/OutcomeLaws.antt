@@ -6,7 +6,8 @@ use Rattle.law_outcome.proofs.Common.{Schedule, unit_count, IsFeasiblePlan, plan
 use Rattle.law_outcome.proofs.Common.{RunPricesAreWithin, UnitLine, Report, unit_lines, IsRightReport, words_of}
 use Rattle.law_outcome.proofs.Common.{WordsHaveSizes, MOST_BYTES, Asked, CheckAsked, PriceAsked, AuditAsked}
 use Rattle.law_outcome.proofs.Common.{SettleAsked, CertifyAsked, price, check, try, bound, fixed, audit, settle}
-use Rattle.law_outcome.proofs.Common.{certify, convex, rounds_for, WordFault, PricesFile, MixtureFile, PricesText, PricesValue, MixtureText}
+use Rattle.law_outcome.proofs.Common.{certify, convex, rounds_for, WordFault, PricesFile}
+use Rattle.law_outcome.proofs.Common.{MixtureFile, PricesText, PricesValue, MixtureText}
 use Rattle.law_outcome.proofs.Common.{MixtureShare, MixtureRule, IsPricesFile, IsPriced, IsMixtureFile, IsCertifiable}
 use Rattle.law_outcome.proofs.Common.{AskForPrices, status_of, fault_line, ReportPaymentsMakeUpTheGap, CaseFile}
 use Rattle.law_outcome.proofs.Common.{ScheduleFile, ReportFile, TopFault, Words, Read, CaseText, CaseField, PlanText}
@@ -308,7 +309,8 @@ due_fault (Ok (certify a)) reads f (Err g, input, e) =
       | inr (inr p) ↦ of_input p.0 p.1
     ]
 due_fault (Ok (convex a)) reads f (Ok c, input, work) =
-    of_work (λ b e. absurd cc) (λ b e. absurd cc) (λ b e. absurd cc) (work_fault (rounds_for a.rounds c.market) c f work)
+    of_work (λ b e. absurd cc) (λ b e. absurd cc) (λ b e. absurd cc) (work_fault (rounds_for a.rounds c.market)
+    c f work)
 due_fault (Ok (convex a)) reads f (Err g, input, e) =
     let same : g ≡ f = sym (same_fault f g e) in
     elim (input_fault reads f (subst (λ (h : TopFault). IsInput reads (Err h)) same input)) [

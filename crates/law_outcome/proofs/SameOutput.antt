@@ -1,7 +1,8 @@
 -- Two runs of the same words over the same bytes print the same.
 use Rattle.law_outcome.proofs.Common.{◌≡◌, ℕ, inl, inr, List, Option, None, Some, Result, Ok, Err, refl, sym, ap, ◌∙◌}
 use Rattle.law_outcome.proofs.Common.{subst, arith, IfSome, Asked, check, price, try, bound, fixed, audit, settle}
-use Rattle.law_outcome.proofs.Common.{certify, convex, IsWithinRounds, status_of, fault_line, CaseFile, ScheduleFile, ReportFile, PricesFile}
+use Rattle.law_outcome.proofs.Common.{certify, convex, IsWithinRounds, status_of, fault_line}
+use Rattle.law_outcome.proofs.Common.{CaseFile, ScheduleFile, ReportFile, PricesFile}
 use Rattle.law_outcome.proofs.Common.{MixtureFile, TopFault, End, Done, Cut, Refused, Reads, Then, IsCaseFile}
 use Rattle.law_outcome.proofs.Common.{IsPlanFile, IsChecked, IsInput, IsWithinWork, IsReportFile, IsJudged}
 use Rattle.law_outcome.proofs.Common.{IsPricesFile, IsMixtureFile, MixtureLists, IsAuditText, IsSettlementText}

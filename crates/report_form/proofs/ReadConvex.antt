@@ -1,11 +1,13 @@
 -- What a search for convex hull prices tells, read back from its text block by block.
 use Rattle.report_form.proofs.Common.{◌≡◌, ℕ, ℤ, List, [], ◌∷◌, ◌++◌, length, drop, codes, refl, sym, ap, ◌∙◌, arith}
-use Rattle.report_form.proofs.Common.{append_assoc, append_cancel_left, flat_map, thermal_text, renewable_text, bid_text}
+use Rattle.report_form.proofs.Common.{append_assoc, append_cancel_left, flat_map, thermal_text}
+use Rattle.report_form.proofs.Common.{renewable_text, bid_text}
 use Rattle.report_form.proofs.Common.{ShareLine, MixtureLine, ConvexReport, search_text, searched_text, weighed_text}
 use Rattle.report_form.proofs.Common.{share_text, mixed_text, mixture_text, bounded_text, convex_text}
 use Rattle.report_form.proofs.Common.{TextDeterminesConvex}
 use Rattle.report_form.proofs.ReadBack.{after_count, after_amount, after_counts, after_flags, after_name}
-use Rattle.report_form.proofs.ReadLines.{Begins, BeginsWith, BeginsOther, ReadsLine, read_lines, other_byte, read_levels}
+use Rattle.report_form.proofs.ReadLines.{Begins, BeginsWith, BeginsOther, ReadsLine, read_lines}
+use Rattle.report_form.proofs.ReadLines.{other_byte, read_levels}
 use Rattle.report_form.proofs.ReadLines.{read_units}
 
 -- the lines before the units
@@ -27,7 +29,8 @@ read_front : (a b : ConvexReport) (u v : List ℕ) → front_text a ++ u ≡ fro
 unfolding search_text searched_text
 read_front a b u v same =
     let text = simp append_assoc at same in
-    let periods = after_count (codes "hull-convex 1\nperiods ") a.settled.periods b.settled.periods _ _ text refl refl in
+    let periods = after_count (codes "hull-convex 1\nperiods ") a.settled.periods b.settled.periods _ _ text
+    refl refl in
     let units = after_count (codes "\nunits ") a.settled.units b.settled.units _ _ periods.1 refl refl in
     let cost = after_amount (codes "\ncost ") a.settled.cost b.settled.cost _ _ units.1 refl refl in
     let within = after_amount (codes "\nwithin ") a.within b.within _ _ cost.1 refl refl in

@@ -67,7 +67,8 @@ struct Search {
     head: &'static str,
 }
 
-// What holds of any prices, mixture and bound that are found.
+// What holds of any prices, mixture and bound that are found; and with more rounds than one such a
+// small case comes as near as is asked for.
 fn holds(search: &Search, told: &Told) -> bool {
     told.value <= search.greatest
         && told.bound >= search.greatest
@@ -77,6 +78,7 @@ fn holds(search: &Search, told: &Told) -> bool {
         && told.least == search.cost.saturating_sub(told.bound).max(0)
         && told.made <= search.rounds
         && (told.made == search.rounds || is_near(search, told))
+        && (search.rounds == 1 || told.distance <= search.within)
 }
 
 // Near enough to end sooner: within what was asked for, or within a millionth of the dual value.
@@ -321,8 +323,11 @@ fn idle_case(alloc: Global, units: u32, zeros: &str) -> Result<String, AllocErro
         "{{\"power_output_minimum\":{zeros},\"power_output_maximum\":{zeros}}}"
     )?;
     let renewable = each_unit(alloc, units, of_each.as_str())?;
+    let horizon = format!(in alloc;
+        "\"time_periods\":168,\"demand\":{zeros},\"reserves\":{zeros}"
+    )?;
     format!(in alloc;
-        "{{\"time_periods\":168,\"demand\":{zeros},\"reserves\":{zeros},\"thermal_generators\":{{}},\"renewable_generators\":{renewable}}}"
+        "{{{horizon},\"thermal_generators\":{{}},\"renewable_generators\":{renewable}}}"
     )
 }
 

@@ -11,7 +11,8 @@ pub get-requires : goal.get-requires
 get-requires c =
     let m = market_of c.args.case.now in
     let plan = schedules_of c.args.plan.now in
-    let count = plan_count m.periods m.thermal (others m) plan (plan_apart m m.periods plan c.requires.feasible.feasible) in
+    let count = plan_count m.periods m.thermal (others m) plan (plan_apart m m.periods plan
+    c.requires.feasible.feasible) in
     let units = length-map c.args.case.now.thermal.items named_thermal_of in
     let responses = length-map c.args.plan.now.responses.items schedule_of in
     let lt : c.loop-number.number < length c.args.case.now.thermal.items = omega arith in

@@ -6,7 +6,8 @@ use Rattle.bundle_master.specs.Shape.{Shape}
 use Rattle.bundle_columns.proofs.pool.set_column.Goals as goal
 use Rattle.bundle_columns.proofs.pool.set_column.Goals.{After-get_mut}
 
-kept : (c : After-get_mut) → AreKept (market_of c.args.case.now).periods (places_in c.args.pool.now) c.requires.fit.unit.unit
+kept : (c : After-get_mut) → AreKept (market_of c.args.case.now).periods (places_in c.args.pool.now)
+    c.requires.fit.unit.unit
     (entries_of c.get_mut.result.now)
 kept c = kept_of (market_of c.args.case.now) (places_in c.args.pool.now) c.args.pool.now.columns.weight
     c.args.pool.now.columns.thermal.items c.args.number c.requires.fit.unit c.get_mut.result.now c.requires.pool.columns
@@ -23,13 +24,15 @@ get_mut-requires c =
 pub set_schedule-requires-clause-place : goal.set_schedule-requires-clause-place
 set_schedule-requires-clause-place c =
     let m = market_of c.args.case.now in
-    let long = entry_count m.periods (places_in c.args.pool.now) c.requires.fit.unit.unit c.get_mut.result.now (kept c) in
+    let long = entry_count m.periods (places_in c.args.pool.now) c.requires.fit.unit.unit c.get_mut.result.now
+    (kept c) in
     let lt = c.requires.place in
     omega (arith, long, lt)
 
 pub set_schedule-requires-clause-horizon : goal.set_schedule-requires-clause-horizon
 set_schedule-requires-clause-horizon c = λ d at.
-    over_at (market_of c.args.case.now).periods (places_in c.args.pool.now) c.requires.fit.unit.unit c.get_mut.result.now
+    over_at (market_of c.args.case.now).periods (places_in c.args.pool.now) c.requires.fit.unit.unit
+    c.get_mut.result.now
     c.args.place d (kept c) at ∙ sym c.requires.fit.feasible.schedule.on
 
 pub set_column-requires-clause-unit : goal.set_column-requires-clause-unit
@@ -52,7 +55,8 @@ returns c =
     record {
       some = c.requires.pool.some;
       most = c.requires.pool.most;
-      columns = kept_set m places c.args.pool.now.columns.weight c.args.pool.now.columns.thermal.items c.args.number unit
+      columns = kept_set m places c.args.pool.now.columns.weight c.args.pool.now.columns.thermal.items
+          c.args.number unit
           c.set_schedule.new.entries c.requires.pool.columns c.requires.fit.is now;
       periods = ap (λ (s : Shape). s.periods) c.set_column.ensures ∙ c.requires.pool.periods;
       thermal = ap (λ (s : Shape). s.thermal) c.set_column.ensures ∙ c.requires.pool.thermal;

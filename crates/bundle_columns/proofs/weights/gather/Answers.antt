@@ -15,7 +15,8 @@ loop-place-preserved c =
     let count = c.loop-place.invariant.count in
     let more = c.move_weight.ensures.count in
     record {
-      stays = stays_on (entries_of c.args.entries.now) (entries_of c.loop-place.entries) (entries_of c.move_weight.new.entries)
+      stays = stays_on (entries_of c.args.entries.now) (entries_of c.loop-place.entries) (entries_of
+          c.move_weight.new.entries)
           c.loop-place.invariant.stays c.move_weight.ensures.stays;
       shares = c.move_weight.ensures.shares;
       count = omega (arith, count, more);

@@ -1,5 +1,6 @@
 use Rattle.bundle_columns.proofs.Common.{arith, ints, ◌≡◌, ◌<◌, ℕ, ℤ, pos, ◌+ℤ◌, ◌-ℤ◌, length, List, Entry, IsFrom}
-use Rattle.bundle_columns.proofs.Common.{entries_of, entry_of, length-map, weight_at, reweighed, ap, ◌∙◌, sym, subst, map}
+use Rattle.bundle_columns.proofs.Common.{entries_of, entry_of, length-map, weight_at, reweighed}
+use Rattle.bundle_columns.proofs.Common.{ap, ◌∙◌, sym, subst, map}
 use Rattle.bundle_columns.proofs.Common.{WeighedSchedule, most_whole, AreShares, rules, w64, FitsSigned, to_z-of_z}
 use Rattle.bundle_columns.proofs.Weighing.{same_count, giver_within, taker_within, moved_shares, moved_stays, moved}
 use Rattle.bundle_columns.proofs.weights.move_weight.Goals as goal
@@ -9,7 +10,8 @@ less : (xs : List Entry) (k : ℕ) → k < length xs → k < length (map entry_o
 less xs k lt = let same = length-map xs entry_of in omega (arith, lt, same)
 
 -- the entries after the first weight was written
-given : (c : After-set_weight) → entries_of c.set_weight.new.entries ≡ moved (entries_of c.args.entries.now) c.args.from c.args.amount
+given : (c : After-set_weight) → entries_of c.set_weight.new.entries ≡ moved (entries_of c.args.entries.now)
+    c.args.from c.args.amount
 given c =
     let fits : FitsSigned w64 c.weight_at.result = search rules in
     let amount_fits : FitsSigned w64 c.args.amount = search rules in
@@ -56,7 +58,8 @@ more_by-taken-requires c =
     let fits : FitsSigned w64 c.weight_at-2.result = search rules in
     let amount_fits : FitsSigned w64 c.args.amount = search rules in
     let same = to_z-of_z w64 c.args.amount amount_fits in
-    let is = to_z-of_z w64 c.weight_at-2.result fits ∙ c.weight_at-2.ensures ∙ ap (λ (l : List WeighedSchedule). weight_at l c.args.to)
+    let is = to_z-of_z w64 c.weight_at-2.result fits ∙ c.weight_at-2.ensures ∙ ap (λ (l : List
+    WeighedSchedule). weight_at l c.args.to)
     (given (goal.at.more_by-taken-requires c).After-set_weight) in
     let giver = giver_within es c.args.from c.requires.shares in
     let a = c.requires.amount.at_least in
@@ -74,7 +77,8 @@ set_weight-requires-2 c =
     omega (arith, same, to)
 
 -- and after the second
-taken : (c : After-set_weight-2) → entries_of c.set_weight.new.entries ≡ moved (entries_of c.args.entries.now) c.args.from c.args.amount →
+taken : (c : After-set_weight-2) → entries_of c.set_weight.new.entries ≡ moved (entries_of c.args.entries.now)
+    c.args.from c.args.amount →
     entries_of c.set_weight-2.new.entries ≡ reweighed
     (moved (entries_of c.args.entries.now) c.args.from c.args.amount) c.args.to
     (weight_at (moved (entries_of c.args.entries.now) c.args.from c.args.amount) c.args.to +ℤ c.args.amount)
@@ -94,7 +98,8 @@ taken c at =
 
 pub returns-clause-stays : goal.returns-clause-stays
 returns-clause-stays c =
-    moved_stays (entries_of c.args.entries.now) (entries_of c.set_weight-2.new.entries) c.args.from c.args.to c.args.amount
+    moved_stays (entries_of c.args.entries.now) (entries_of c.set_weight-2.new.entries) c.args.from c.args.to
+    c.args.amount
     (less c.args.entries.now.items c.args.from c.requires.from) (less c.args.entries.now.items c.args.to c.requires.to)
     c.requires.shares c.requires.amount (taken c (given (goal.at.returns-clause-stays c).After-set_weight))
 

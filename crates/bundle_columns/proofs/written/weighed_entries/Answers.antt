@@ -1,4 +1,5 @@
-use Rattle.bundle_columns.proofs.Common.{◌≤◌, List, length, ap, sym, ◌++◌, ◌∷◌, [], ◌∙◌, arith, entries_of, entry_of, item_of}
+use Rattle.bundle_columns.proofs.Common.{◌≤◌, List, length, ap, sym, ◌++◌, ◌∷◌, [], ◌∙◌, arith}
+use Rattle.bundle_columns.proofs.Common.{entries_of, entry_of, item_of}
 use Rattle.bundle_columns.proofs.Common.{map_item, WeighedSchedule, length-map, take_all}
 use Rattle.uc_model.specs.declared.limits.TheConstants.{MOST_PERIODS}
 use Rattle.bundle_columns.specs.Written.{weighed_of}
@@ -7,7 +8,8 @@ use Rattle.bundle_columns.proofs.written.weighed_entries.Goals as goal
 
 pub push_weighed-requires-clause-periods : goal.push_weighed-requires-clause-periods
 push_weighed-requires-clause-periods c =
-    item_of (λ (e : WeighedSchedule). length e.schedule.on ≤ MOST_PERIODS) (entries_of c.args.from.now) c.loop-place.place
+    item_of (λ (e : WeighedSchedule). length e.schedule.on ≤ MOST_PERIODS) (entries_of c.args.from.now)
+    c.loop-place.place
     (entry_of c.get.result.now) c.requires.periods
     (map_item entry_of c.args.from.now.items c.loop-place.place c.get.result.now c.get.ensures.item)
 

@@ -1,5 +1,6 @@
 use Rattle.bundle_columns.proofs.Common.{◌≡◌, ℕ, ℤ, ◌<◌, ◌∷◌, [], ◌++◌, List, length, map, take, sym, ap, ◌∙◌}
-use Rattle.bundle_columns.proofs.Common.{subst, arith, market_of, entries_of, mixture_of, map_item, map_push, length-map, take_all}
+use Rattle.bundle_columns.proofs.Common.{subst, arith, market_of, entries_of, mixture_of}
+use Rattle.bundle_columns.proofs.Common.{map_item, map_push, length-map, take_all}
 use Rattle.bundle_columns.proofs.Common.{AreKept, Some, slice_get, named_thermal_of, WeighedSchedule, IsMixture}
 use Rattle.bundle_columns.proofs.Common.{HasMixtureShape, NamedThermalUnit, Market, IsKept, Entry}
 use Rattle.bundle_columns.proofs.Common.{rules, w64, FitsSigned, to_z-of_z}
@@ -58,7 +59,8 @@ loop-number-preserved c =
       so_far = ap (λ l. map entries_of l) c.push.ensures.items ∙ map_push entries_of c.loop-number.thermal.items es ∙
           ap (λ (l : List (List WeighedSchedule)). l ++ entries_of es ∷ []) c.loop-number.invariant.so_far ∙
           ap (λ (e : List WeighedSchedule). map weighed_of (take k all) ++ e ∷ []) c.in_ok-weighed_entries.ensures ∙
-          sym (ap (λ (l : List (List WeighedSchedule)). map weighed_of l) (take_item all k (entries_of c.get.result.now) at) ∙
+          sym (ap (λ (l : List (List WeighedSchedule)). map weighed_of l) (take_item all k (entries_of
+          c.get.result.now) at) ∙
           map_push weighed_of (take k all) (entries_of c.get.result.now));
       room = omega (arith, room, spare);
     }
@@ -74,8 +76,13 @@ returns-clause-shape c =
     (take_all c.loop-number.number x.entries (omega (arith, units, all, count))) in
     let fits : FitsSigned w64 c.args.from.now.weight = search rules in
     let same = to_z-of_z w64 c.args.from.now.weight fits in
-    subst (λ (w : ℤ). HasMixtureShape m (record { whole = w; entries = map entries_of c.loop-number.thermal.items })) (sym same)
-    (subst (λ (l : List (List WeighedSchedule)). HasMixtureShape m (record { whole = x.whole; entries = l })) (sym whole)
+    subst (λ (w : ℤ). HasMixtureShape m (record {
+      whole = w;
+      entries = map entries_of
+          c.loop-number.thermal.items;
+    })) (sym same)
+    (subst (λ (l : List (List WeighedSchedule)). HasMixtureShape m (record { whole = x.whole; entries = l }))
+    (sym whole)
     (told_shape m c.args.places x c.requires.kept))
 
 pub returns-clause-mixture : goal.returns-clause-mixture
@@ -89,7 +96,8 @@ returns-clause-mixture c =
     (take_all c.loop-number.number x.entries (omega (arith, units, all, count))) in
     let fits : FitsSigned w64 c.args.from.now.weight = search rules in
     let same = to_z-of_z w64 c.args.from.now.weight fits in
-    subst (λ (w : ℤ). IsMixture m (record { whole = w; entries = map entries_of c.loop-number.thermal.items })) (sym same)
+    subst (λ (w : ℤ). IsMixture m (record { whole = w; entries = map entries_of c.loop-number.thermal.items }))
+    (sym same)
     (subst (λ (l : List (List WeighedSchedule)). IsMixture m (record { whole = x.whole; entries = l })) (sym whole)
     (told_mixture m c.args.places x c.requires.kept))
 
@@ -104,7 +112,10 @@ returns-clause-bound c = λ π radius.
     (take_all c.loop-number.number x.entries (omega (arith, units, all, count))) in
     let fits : FitsSigned w64 c.args.from.now.weight = search rules in
     let same = to_z-of_z w64 c.args.from.now.weight fits in
-    subst (λ (w : ℤ). mixture_bound m (record { whole = w; entries = map entries_of c.loop-number.thermal.items }) π radius
+    subst (λ (w : ℤ). mixture_bound m (record {
+      whole = w;
+      entries = map entries_of c.loop-number.thermal.items;
+    }) π radius
     ≡ mixture_bound m x π radius) (sym same)
     (subst (λ (l : List (List WeighedSchedule)). mixture_bound m (record { whole = x.whole; entries = l }) π radius
     ≡ mixture_bound m x π radius) (sym whole) (told_bound m c.args.places x π radius c.requires.kept))

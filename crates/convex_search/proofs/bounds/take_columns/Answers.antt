@@ -1,4 +1,5 @@
-use Rattle.convex_search.proofs.Common.{◌≡◌, refl, ◌∙◌, sym, subst, rules, FitsSigned, to_z-of_z, market_of, mixture_of, prices_of}
+use Rattle.convex_search.proofs.Common.{◌≡◌, refl, ◌∙◌, sym, subst, rules, FitsSigned}
+use Rattle.convex_search.proofs.Common.{to_z-of_z, market_of, mixture_of, prices_of}
 use Rattle.convex_search.proofs.Common.{places_in, MixtureLists, IsKept, everywhere}
 use Rattle.convex_search.proofs.Everywhere.{everywhere_same}
 use Rattle.gap_proof.specs.MixtureBound.{mixture_bound}
@@ -25,7 +26,8 @@ returns-clause-search c =
         mixture = subst (λ (x : MixtureLists). IsKept m places x) (sym copied) c.requires.search.pool.columns;
         bound = λ π prices. same ∙ c.requires.bound ∙
             everywhere_same m columns (prices_of c.args.search.now.best.prices) π was.prices prices ∙
-            subst (λ (x : MixtureLists). mixture_bound m columns π everywhere ≡ mixture_bound m x π everywhere) (sym copied)
+            subst (λ (x : MixtureLists). mixture_bound m columns π everywhere ≡ mixture_bound m x π everywhere)
+            (sym copied)
             refl;
         bound_size = subst IsBound (sym same) c.requires.size;
       };

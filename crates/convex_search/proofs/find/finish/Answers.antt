@@ -1,4 +1,5 @@
-use Rattle.convex_search.proofs.Common.{ℤ, sym, subst, ◌∙◌, market_of, schedules_of, prices_of, mixture_of, IsNear, everywhere}
+use Rattle.convex_search.proofs.Common.{ℤ, sym, subst, ◌∙◌, market_of, schedules_of, prices_of}
+use Rattle.convex_search.proofs.Common.{mixture_of, IsNear, everywhere}
 use Rattle.convex_search.proofs.Finding.{found_at}
 use Rattle.convex_search.proofs.OneValue.{one_value}
 use Rattle.convex_search.proofs.Common.{rules, FitsSigned, to_z-of_z}
@@ -19,6 +20,7 @@ returns c =
     found_at m (schedules_of c.args.plan.now) c.args.goal π s (mixture_of c.in_ok-mixture.mixture)
     _ c.args.made best.prices c.in_ok-settled.ensures.settled
     c.in_ok-mixture.ensures.shape c.in_ok-mixture.ensures.mixture
-    (bound ∙ best.bound π best.prices ∙ sym (c.in_ok-mixture.ensures.bound π everywhere)) (subst IsBound (sym bound) best.bound_size) c.requires.made
+    (bound ∙ best.bound π best.prices ∙ sym (c.in_ok-mixture.ensures.bound π everywhere)) (subst IsBound (sym
+    bound) best.bound_size) c.requires.made
     (λ lt. subst (λ (b : ℤ). IsNear c.args.goal.within b s.row.value) (sym bound)
     (subst (λ (v : ℤ). IsNear c.args.goal.within c.args.search.best.bound v) same (c.requires.near lt)))

@@ -1,4 +1,5 @@
-use Rattle.convex_search.proofs.Common.{◌≡◌, ◌+◌, ◌*◌, ◌≤◌, length, market_of, prices_of, schedule_of, IsPool, places_in}
+use Rattle.convex_search.proofs.Common.{◌≡◌, ◌+◌, ◌*◌, ◌≤◌, length, market_of, prices_of}
+use Rattle.convex_search.proofs.Common.{schedule_of, IsPool, places_in}
 use Rattle.unit_program.proofs.Lemmas.{AreTopsTo}
 use Rattle.unit_program.specs.Tops.{IsBenchOver}
 use Rattle.uc_model.specs.Data.{unit_count}

@@ -1,4 +1,5 @@
-use Rattle.convex_search.proofs.Common.{arith, rules, subst, sym, ◌∙◌, FitsSigned, to_z-of_z, IsSum, market_of, prices_of}
+use Rattle.convex_search.proofs.Common.{arith, rules, subst, sym, ◌∙◌, FitsSigned, to_z-of_z}
+use Rattle.convex_search.proofs.Common.{IsSum, market_of, prices_of}
 use Rattle.convex_search.proofs.Earning.{all_earned, earned_count, few_earned}
 use Rattle.std.specs.Int.{w128}
 use Rattle.uc_model.specs.Limits.{IsWorth}
@@ -12,7 +13,8 @@ earned_sum-requires-clause-count c =
 pub earned_sum-requires-clause-bound : goal.earned_sum-requires-clause-bound
 earned_sum-requires-clause-bound c =
     all_earned c.earnings_are_within.ensures (market_of c.args.case.now) (prices_of c.args.prices.now) c.args.earned.now
-    c.args.prices.now.valid (c.units_are_within.ensures (market_of c.args.case.now) c.args.case.now.valid) c.requires.tops
+    c.args.prices.now.valid (c.units_are_within.ensures (market_of c.args.case.now) c.args.case.now.valid)
+    c.requires.tops
 
 pub dual_value-requires-clause-earned : goal.dual_value-requires-clause-earned
 dual_value-requires-clause-earned c =

@@ -8,7 +8,8 @@ use Rattle.convex_search.proofs.start.blocks_of.Goals as goal
 pub get-requires-2 : goal.get-requires-2
 get-requires-2 c =
     let m = market_of c.args.case.now in
-    let over = item_of (λ (n : NamedBidUnit). IsBidUnit n.unit × (length n.unit.blocks ≡ m.periods)) m.bids c.args.number
+    let over = item_of (λ (n : NamedBidUnit). IsBidUnit n.unit × (length n.unit.blocks ≡ m.periods)) m.bids
+    c.args.number
     (named_bid_of c.get.result.now) c.args.case.now.valid.bids
     (map_item named_bid_of c.args.case.now.bids.items c.args.number c.get.result.now c.get.ensures.item) in
     let long = over.1 in

@@ -27,5 +27,6 @@ keep-requires-clause-fit c =
       is = some.1;
       feasible = feasible_at m.periods m.thermal (others m) plan c.loop-number.number some.0
           (schedule_of c.get.result.now) (plan_apart m m.periods plan c.requires.feasible.feasible) some.1
-          (map_item schedule_of c.args.plan.now.responses.items c.loop-number.number c.get.result.now c.get.ensures.item);
+          (map_item schedule_of c.args.plan.now.responses.items c.loop-number.number c.get.result.now
+          c.get.ensures.item);
     }

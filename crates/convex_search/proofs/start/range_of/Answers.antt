@@ -9,7 +9,8 @@ over : (c : After-get) → IsRenewableUnit (named_renewable_of c.get.result.now)
     × (length (named_renewable_of c.get.result.now).unit.least ≡ (market_of c.args.case.now).periods)
 over c =
     let m = market_of c.args.case.now in
-    item_of (λ (n : NamedRenewableUnit). IsRenewableUnit n.unit × (length n.unit.least ≡ m.periods)) m.flat c.args.number
+    item_of (λ (n : NamedRenewableUnit). IsRenewableUnit n.unit × (length n.unit.least ≡ m.periods)) m.flat
+    c.args.number
     (named_renewable_of c.get.result.now) c.args.case.now.valid.flat
     (map_item named_renewable_of c.args.case.now.flat.items c.args.number c.get.result.now c.get.ensures.item)
 

@@ -7,7 +7,8 @@ pub returns-in_err-write_searched : goal.returns-in_err-write_searched
 returns-in_err-write_searched g c =
     let n = c.args.numbers in
     let case = c.args.case.now in
-    writes_same (whole_search (market_of case) c.args.cost (settled_of c.args.settled.now) (mixture_of c.args.mixture.now)
+    writes_same (whole_search (market_of case) c.args.cost (settled_of c.args.settled.now) (mixture_of
+    c.args.mixture.now)
     n.within n.rounds n.made n.bound)
     (first_of_three c.texts_add_up.ensures _ _ _ _ c.from_residual.ensures.0
     (subst (FallsShort g.S.Sink.held g.S.Sink.faults g.S.Sink.last c.args.out.now c.write_searched.new.out)
@@ -19,7 +20,8 @@ pub returns-in_err-write_all_settled : goal.returns-in_err-write_all_settled
 returns-in_err-write_all_settled g c =
     let n = c.args.numbers in
     let case = c.args.case.now in
-    writes_same (whole_search (market_of case) c.args.cost (settled_of c.args.settled.now) (mixture_of c.args.mixture.now)
+    writes_same (whole_search (market_of case) c.args.cost (settled_of c.args.settled.now) (mixture_of
+    c.args.mixture.now)
     n.within n.rounds n.made n.bound)
     (second_of_three c.texts_add_up.ensures _ _ _ _ c.from_residual-in_err-write_all_settled.ensures.0
     c.in_err-write_all_settled.ensures.err
@@ -34,7 +36,8 @@ returns g c =
     let case = c.args.case.now in
     let ending = rw (to_z-of_z w128 c.args.cost (search rules), to_z-of_z w128 n.bound (search rules)) at
     c.write_ending.ensures in
-    writes_same (whole_search (market_of case) c.args.cost (settled_of c.args.settled.now) (mixture_of c.args.mixture.now)
+    writes_same (whole_search (market_of case) c.args.cost (settled_of c.args.settled.now) (mixture_of
+    c.args.mixture.now)
     n.within n.rounds n.made n.bound)
     (last_of_three c.texts_add_up.ensures _ _ _ _ ending c.in_ok-write_all_settled.ensures.ok
     (subst (Gains g.S.Sink.held g.S.Sink.faults c.args.out.now c.write_searched.new.out)

@@ -1,5 +1,6 @@
 use Rattle.hull_report.proofs.Common.{map, arith, length-map, market_of, named_thermal_of, mixture_of, entry_of}
-use Rattle.hull_report.proofs.Common.{entries_of, mixture_text, mixture_line, mixture_lines, NamedThermalUnit, AreEntries}
+use Rattle.hull_report.proofs.Common.{entries_of, mixture_text, mixture_line, mixture_lines}
+use Rattle.hull_report.proofs.Common.{NamedThermalUnit, AreEntries}
 use Rattle.hull_report.proofs.Common.{List, WeighedSchedule}
 use Rattle.hull_report.proofs.Lemmas.{gains_at_item, exit_at_item, all_items, mixture_at, no_more_mixtures}
 use Rattle.plain_lists.proofs.ListLaws.{length_same}

@@ -29,7 +29,8 @@ returns g c words words_other a workers old new before after n old_other new_oth
     (c.one_thing_is_due.ensures words) in
     let text = subst (λ (v : Result Asked WordFault). (reads : Reads) (i : PlannedCase) (text other : List ℕ) →
     (command_for v).IsText reads i text → (command_for v).IsText reads i other → text ≡ other) same
-    (λ reads i text other. c.one_text_is_right.ensures words reads i text other (subst TextFollows (sym same) follows)) in
+    (λ reads i text other. c.one_text_is_right.ensures words reads i text other (subst TextFollows (sym same)
+    follows)) in
     let s = shown words a _ _ _ _ n same h in
     let t = free_shows a workers _ _ _ _ n_other (shown words_other _ _ _ _ _ n_other same_other h_other) in
     let got = c.bytes_are_those_read.ensures in
