@@ -1,11 +1,12 @@
 #!/usr/bin/env python3
 """Generates a realistic case of any size with a feasible schedule, from a seed.
 
-usage: make_case.py FOLDER [--thermal N] [--renewable N] [--periods T] [--reserve PERCENT] [--seed S]
+usage: make_case.py FOLDER [--thermal N] [--renewable N] [--periods T] [--reserve PERCENT] [--bids N] [--windows] [--must-run] [--seed S]
 
 Writes FOLDER/case.json, in pglib-uc's format, and FOLDER/schedule.json. Units come on in the order of their cost as a daily load
 rises, within minimum times, ramps, start and stop limits; demand is what they give, and the reserve requirement is a share of it.
-The same words give the same files.
+Demand bids buy nothing in the schedule. With --windows every third unit is held on, or off, where the schedule has it so, for some
+periods; with --must-run every fourth of the units that are always on has to run. The same words give the same files.
 """
 import argparse
 import json
@@ -154,7 +155,33 @@ def renewable(draw, periods):
     return most
 
 
-def make(thermal, renewables, periods, reserve, seed):
+def bid(draw, periods):
+    """A demand bid: in each period up to three blocks, the dearest first."""
+    blocks = []
+    for _ in range(periods):
+        prices = sorted((round(draw.uniform(5, 90), 3) for _ in range(draw.randint(0, 3))), reverse=True)
+        blocks.append([{"mw": draw.randint(1, 20), "price": price} for price in prices])
+    return {"blocks": blocks}
+
+
+def hold(draw, unit, fields):
+    """Holds a unit for some periods to what its schedule has there."""
+    periods = len(unit.on)
+    first = draw.randrange(periods)
+    after = min(periods, first + draw.randint(1, 8))
+    fields["commitment"] = [int(unit.on[t]) if first <= t < after else None for t in range(periods)]
+
+
+def oblige(draw, units, fields, windows, must_run):
+    """Adds commitment windows and must-run flags that the schedules of the units keep."""
+    for i, unit in enumerate(units):
+        if windows and i % 3 == 0:
+            hold(draw, unit, fields[i])
+        if must_run and i % 4 == 0 and all(unit.on):
+            fields[i]["must_run"] = 1
+
+
+def make(thermal, renewables, periods, reserve, seed, bids=0, windows=False, must_run=False):
     """The case and the schedule, as what JSON holds."""
     draw = random.Random(seed)
     units = [Unit(draw, i, thermal, periods) for i in range(thermal)]
@@ -168,11 +195,14 @@ def make(thermal, renewables, periods, reserve, seed):
             kept[t] = min(left, unit.room(t))
             left -= kept[t]
         required.append(sum(it[t] for it in reserves))
+    fields = [unit.case() for unit in units]
+    bought = [bid(draw, periods) for _ in range(bids)]
+    oblige(draw, units, fields, windows, must_run)
     case = {
         "time_periods": periods,
         "demand": [it / 1000 for it in demand],
         "reserves": [it / 1000 for it in required],
-        "thermal_generators": {f"T{i:04}": it.case() for i, it in enumerate(units, 1)},
+        "thermal_generators": {f"T{i:04}": it for i, it in enumerate(fields, 1)},
         "renewable_generators": {
             f"R{i:04}": {
                 "power_output_minimum": [0] * periods,
@@ -188,6 +218,9 @@ def make(thermal, renewables, periods, reserve, seed):
         },
         "renewable": {f"R{i:04}": it for i, it in enumerate(others, 1)},
     }
+    if bids:
+        case["demand_bids"] = {f"B{i:04}": it for i, it in enumerate(bought, 1)}
+        schedule["bids"] = {f"B{i:04}": [0] * periods for i in range(1, bids + 1)}
     return case, schedule
 
 
@@ -202,8 +235,10 @@ def write(folder, **size):
 def main():
     ask = argparse.ArgumentParser(description="Generates a realistic case of any size with a feasible schedule.")
     ask.add_argument("folder")
-    for word, usual in (("thermal", 73), ("renewable", 81), ("periods", 48), ("reserve", 3), ("seed", 1)):
+    for word, usual in (("thermal", 73), ("renewable", 81), ("periods", 48), ("reserve", 3), ("bids", 0), ("seed", 1)):
         ask.add_argument(f"--{word}", type=int, default=usual)
+    ask.add_argument("--windows", action="store_true")
+    ask.add_argument("--must-run", action="store_true")
     it = ask.parse_args()
     write(
         it.folder,
@@ -211,6 +246,9 @@ def main():
         renewables=it.renewable,
         periods=it.periods,
         reserve=it.reserve,
+        bids=it.bids,
+        windows=it.windows,
+        must_run=it.must_run,
         seed=it.seed,
     )
 
