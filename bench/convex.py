@@ -1,7 +1,7 @@
 #!/usr/bin/env python3
 """Measures how near `hull convex` comes to the best prices, and how fast, over sixty generated cases.
 
-usage: convex.py [--program PROGRAM] [--only WORD] [--first N] [--large]
+usage: convex.py [--program PROGRAM] [--only WORD] [--large]
 
 For each case a line: its size, the distance with the limit that it is to be within (the greater of 1.00 and a millionth of the dual
 value), rounds, entries and bytes of the mixture's text, processor time and peak memory. Prices and mixture are taken from the text, and
@@ -9,6 +9,7 @@ value), rounds, entries and bytes of the mixture's text, processor time and peak
 Ends with 1 where a case is beyond its limit or a number differs.
 """
 import argparse
+import ctypes
 import json
 import os
 import subprocess
@@ -19,7 +20,6 @@ import make_case
 import run
 import try_case
 
-HOME = os.path.dirname(os.path.dirname(os.path.abspath(__file__)))
 # thermal, renewables, periods, reserve, bids, windows, must_run
 SIZES = [
     (1, 0, 1, 5), (1, 1, 24, 5), (1, 0, 96, 0), (1, 2, 168, 5), (2, 0, 12, 5), (2, 1, 48, 3), (2, 0, 168, 5), (3, 3, 24, 4),
@@ -117,19 +117,21 @@ def differences(program, folder, files, found):
             yield word
 
 
-def measure(program, words):
-    """Standard output, status, processor seconds and peak memory in MB of one call."""
-    with tempfile.TemporaryFile() as out:
-        child = subprocess.Popen([program, *words], stdout=out)
-        _, status, used = os.wait4(child.pid, 0)
-        child.returncode = os.waitstatus_to_exitcode(status)
-        out.seek(0)
-        return out.read(), child.returncode, used.ru_utime + used.ru_stime, used.ru_maxrss / 1024
+def measure(program, words, to):
+    """Status, processor seconds and peak memory in MB of one call, whose standard output is written to a file."""
+    # (the system counts the memory of who starts a program to its peak: so a small shell does, as in run.py)
+    shell = ["sh", "-c", 'to=$1; shift; "$@" > "$to" & echo $!', "sh", to, program, *words]
+    started = subprocess.run(shell, stdin=subprocess.DEVNULL, stdout=subprocess.PIPE, check=True)
+    _, status, used = os.wait4(int(started.stdout), 0)
+    return os.waitstatus_to_exitcode(status), used.ru_utime + used.ru_stime, used.ru_maxrss / 1000
 
 
 def row(program, folder, name, files):
     """Prints the line of a case, and answers whether all is well."""
-    text, status, seconds, memory = measure(program, ["convex", *files])
+    to = os.path.join(folder, "text")
+    status, seconds, memory = measure(program, ["convex", *files], to)
+    with open(to, "rb") as it:
+        text = it.read()
     if status:
         print(f"{name:28} status {status} {text[:60]!r}", flush=True)
         return False
@@ -149,10 +151,12 @@ def row(program, folder, name, files):
 
 def main():
     ask = argparse.ArgumentParser(description="Measures how near hull convex comes to the best prices, and how fast.")
-    ask.add_argument("--program", default=os.path.join(HOME, "hull"))
+    ask.add_argument("--program")
     ask.add_argument("--only", default="", help="cases whose name has this in it")
     ask.add_argument("--large", action="store_true")
     given = ask.parse_args()
+    given.program = given.program or run.program_here()
+    ctypes.CDLL(None).prctl(run.PR_SET_CHILD_SUBREAPER, 1)
     good = True
     with tempfile.TemporaryDirectory() as folder:
         for name, pair in cases(given.large):
