@@ -3,6 +3,8 @@
 It shares nothing with the program but the rules of docs/FORMATS.md and docs/DEFINITIONS.md. Powers are whole kilowatts, money
 is in millionths, a price in millionths per kilowatt and period. A schedule is a tuple of (on, power, reserve), one a period.
 """
+from __future__ import annotations
+
 import itertools
 import json
 
@@ -11,6 +13,22 @@ LARGEST_PRICE = 10_000_000
 
 class Thermal:
     kind = "thermal"
+    least: int
+    most: int
+    must_run: bool
+    ramp_up: int
+    ramp_down: int
+    start_limit: int
+    stop_limit: int
+    min_up: int
+    min_down: int
+    on0: bool
+    power0: int
+    up0: int
+    down0: int
+    lags: list[tuple[int, int]]
+    points: list[tuple[int, int]]
+    window: list[int | None]
 
     def __init__(self, numbers, periods):
         self.__dict__.update(numbers)
@@ -164,16 +182,6 @@ class Case:
         paid = sum(price * due for price, due in zip(energy, self.demand))
         paid += sum(price * due for price, due in zip(reserve, self.reserves))
         return paid - sum(top(unit, energy, reserve) for unit in self.units)
-
-    def held_dual_value(self, energy, reserve):
-        """The dual value where each thermal unit's commitment is that of the schedule."""
-        value = self.dual_value(energy, reserve)
-        for unit, (planned, _) in zip(self.units, self.plan):
-            if unit.kind == "thermal":
-                held = [it for it in unit.schedules if [t[0] for t in it[0]] == [t[0] for t in planned]]
-                value += top(unit, energy, reserve)
-                value -= max(earnings(unit, schedule, cost, energy, reserve) for schedule, cost in held)
-        return value
 
     def write(self, folder):
         case = {

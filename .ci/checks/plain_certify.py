@@ -1,11 +1,12 @@
 """A plain reader of mixture files and a plain certificate, over the tiny cases of plain.py. It shares nothing with the program.
 
-`MixtureFault` has the fault line's end where a file is refused. Which rule an entry breaks isn't worked out: the line then ends in `period ..`.
+`MixtureFault` has the fault line's end where a file is refused.
 """
 from fractions import Fraction
 
 import plain
 import plain_settle
+from plain_rules import first_broken
 
 MOST_WHOLE = 10**12
 MOST_POWER = 10**9
@@ -69,8 +70,11 @@ def read_mixture(data, case):
         entries.append(read_unit(value["thermal"][name], whole, case.periods, unit))
     for number, ((_, unit), found) in enumerate(zip(units, entries), 1):
         for entry, (_, schedule) in enumerate(found, 1):
-            if schedule not in [it for it, _ in unit.schedules]:
-                raise MixtureFault(f"RULE kind thermal unit {number} entry {entry} period")
+            broken = first_broken(unit, schedule)
+            if broken:
+                code, period, left, right = broken
+                place = f"kind thermal unit {number} entry {entry} period {period}"
+                raise MixtureFault(f"{code} {place} left {left} right {right}")
     return whole, entries
 
 

@@ -1,18 +1,19 @@
 """`hull certify` beside a plain program (plain_certify.py): random tiny cases with random mixtures, and the same files spoiled.
 
-The text is due to the byte, and so is the fault line of a file that is refused, but for the rule that an entry breaks. No prices that are
-drawn from within the radius have a dual value above the bound.
+The text is due to the byte, and so is the fault line of a file that is refused: also of each rule that an entry can break. No prices that
+are drawn from within the radius have a dual value above the bound.
 """
+import itertools
 import json
 import os
 import random
-import re
 import tempfile
 import unittest
 
 import plain
 import plain_certify
 from built import PROGRAM, run
+from plain_rules import ORDER, Schedule, first_broken
 from test_settle import spoil
 
 CASES = int(os.environ.get("HULL_PLAIN_CASES", "24"))
@@ -60,6 +61,30 @@ def draw_fault(draw, mixture):
         entry[key][-1] += draw.choice([-1, 1, 1, 0.5, 10**9])
 
 
+def draw_schedule(draw: random.Random, unit: plain.Thermal) -> Schedule:
+    """Flags, powers and reserves that may break any rule."""
+    rows = []
+    for _ in range(unit.periods):
+        on = draw.random() < 0.7
+        most = unit.most + int(draw.random() < 0.2) if on else int(draw.random() < 0.05)
+        power = draw.randint(max(0, unit.least - int(draw.random() < 0.1)), most) if on else draw.randint(0, most)
+        rows.append((on, power, draw.choice([0, 0, draw.randint(0, most - power)])))
+    return tuple(rows)
+
+
+class PlainRules(unittest.TestCase):
+    """The rules by spells beside those by periods of plain.py."""
+
+    def test_a_schedule_without_a_broken_rule_is_a_feasible_one(self):
+        for number in range(CASES):
+            draw = random.Random(f"rules {number}")
+            unit = plain.draw_thermal(draw, draw.randint(1, 4))
+            feasible = {it for it, _ in unit.schedules}
+            for _ in range(TRIED * TRIED):
+                schedule = draw_schedule(draw, unit)
+                self.assertEqual(first_broken(unit, schedule) is None, schedule in feasible, (number, schedule))
+
+
 class PlainCertify(unittest.TestCase):
     """The plain program itself: with best responses as the mixture and radius 0 the bound is the value."""
 
@@ -77,10 +102,6 @@ class PlainCertify(unittest.TestCase):
 
 
 class Certify(unittest.TestCase):
-    def setUp(self):
-        if run(["certify"])[1] == b"fault 1 words 2 1\n":
-            self.skipTest("the program has no command `certify`")
-
     def certified(self, folder, data, radius):
         with open(f"{folder}/mixture.json", "wb") as it:
             it.write(data)
@@ -95,13 +116,51 @@ class Certify(unittest.TestCase):
         try:
             mixture = plain_certify.read_mixture(data, case)
         except plain_certify.MixtureFault as fault:
-            line = re.escape(f"fault 10 mixture {fault}").replace("RULE", r"\d+")
-            line += r" \d+ left -?\d+ right -?\d+\n" if "RULE" in str(fault) else r"\n"
-            self.assertEqual(found[0], 10, data)
-            self.assertRegex(found[1], f"^{line}$", data)
+            self.assertEqual(found, (10, f"fault 10 mixture {fault}\n"), data)
             return
         self.assertEqual(found, (0, plain_certify.certificate(case, *prices, mixture, radius)), data)
         self.check_box(case, prices, radius, int(found[1].split("bound ")[1].split()[0]))
+
+    def test_each_rule_that_an_entry_can_break(self):
+        seen = dict.fromkeys(ORDER, 0)
+        for number in itertools.count():
+            draw = random.Random(f"entry {number}")
+            case = plain.draw_case(draw)
+            with tempfile.TemporaryDirectory(prefix="hull-certify-") as folder, self.subTest(number=number):
+                case.write(folder)
+                with open(f"{folder}/prices.json", "w", encoding="utf-8") as it:
+                    json.dump({"energy": [0] * case.periods}, it)
+                for _ in range(SPOILED):
+                    data = self.broken(draw, case)
+                    self.check_file(case, folder, [[0] * case.periods] * 2, data, 0)
+                    code = self.rule_of(case, data)
+                    if code:
+                        seen[code] += 1
+            if number >= CASES and min(seen.values()) >= 3:
+                break
+            self.assertLess(number, 50 + 10 * CASES, seen)
+
+    @staticmethod
+    def rule_of(case, data):
+        """The code of the fault line that is due, or None."""
+        try:
+            plain_certify.read_mixture(data, case)
+        except plain_certify.MixtureFault as fault:
+            return int(str(fault).split()[0])
+        return None
+
+    @staticmethod
+    def broken(draw, case):
+        """A mixture with an entry that may break a rule, or two; at times one that is of no weight."""
+        mixture = draw_mixture(draw, case)
+        for _ in range(draw.choice([1, 1, 2])):
+            name, unit = draw.choice(case.names("thermal"))
+            schedule, entries = lists_of(draw_schedule(draw, unit)), mixture["thermal"][name]
+            if draw.random() < 0.3:
+                entries.append({"weight": 0, **schedule})
+            else:
+                draw.choice(entries).update(schedule)
+        return json.dumps(mixture).encode()
 
     def check_box(self, case, prices, radius, bound):
         draw = random.Random(bound)

@@ -207,6 +207,13 @@ class Edges(unittest.TestCase):
         self.assertEqual((status, said), (0, b""))
         self.assertTrue(output.startswith(REPORT) and output.endswith(b"\nend\n"))
 
+    def test_schedule_from_a_fifo(self):
+        due = self.price()
+        self.assertEqual(due[0], 0)
+        writer = self.fed(self.read("schedule.json"))
+        self.assertEqual(self.price(schedule="pipe"), due)
+        writer.join(10)
+
     def test_file_that_is_cut_off_while_it_is_read(self):
         writer = self.fed(self.read("case.json")[:100])
         status, output, said = self.price(case="pipe")

@@ -1,8 +1,9 @@
 """The program beside a plain one (plain.py) that lists every schedule: random tiny cases, the same for every run.
 
-`price`: each proposal's value is the dual value at its prices, the chosen one is the first with the greatest, each response is
-the least best one, and the payments add up. `bound`: no prices within the radius have a greater dual value than the bound; the
-corners of the box, random prices in it and the other proposals are tried. `fixed`: both sides' payments are those of the case.
+`price`: the proposals are those of the price rule (plain_price.py), with their values and totals; the chosen one is the first with the
+greatest value, each response is the least best one, and the payments add up. `bound`: the text is due to the byte, and no prices within the
+radius have a greater dual value than the bound; the corners of the box, random prices in it and the other proposals are tried. `fixed`:
+both sides' prices are those of the price rule, and their payments those of the case.
 """
 import os
 import random
@@ -10,10 +11,12 @@ import tempfile
 import unittest
 
 import plain
+import plain_price
 from built import PROGRAM, run
 
 CASES = int(os.environ.get("HULL_PLAIN_CASES", "24"))
 PRICES = 40
+BUDGETS = (*range(1, 13), 30, 45, 60)  # (a step is halved once no proposal of ten was better)
 
 
 def numbers(line, skip):
@@ -21,7 +24,7 @@ def numbers(line, skip):
 
 
 class Report:
-    """The text of `hull price`: prices and value of each proposal, and one (earned, scheduled, payment, schedule) per unit."""
+    """The text of `hull price`: the row of each proposal, and one (earned, scheduled, payment, schedule) per unit."""
 
     def __init__(self, text):
         lines = text.decode().splitlines()
@@ -29,10 +32,17 @@ class Report:
         self.surplus, self.payments, self.gap = (int(field[it]) for it in ("surplus", "payments", "gap"))
         self.cost = int(field["cost"])
         starts = [at for at, it in enumerate(lines) if it.startswith("proposal ")]
-        self.rows = [(int(lines[at].split()[3]), numbers(lines[at + 1], 1), numbers(lines[at + 2], 1)) for at in starts]
+        self.rows = [self.row(lines, at) for at in starts]
+        self.proposals = int(field["proposals"])
         at = next(at for at, it in enumerate(lines) if it.startswith("chosen "))
         self.chosen, self.value = int(lines[at].split()[1]), int(lines[at].split()[3])
         self.units = [self.unit(lines, at) for at, it in enumerate(lines) if it.startswith("unit ")]
+
+    @staticmethod
+    def row(lines, at):
+        words = [it.split()[0] for it in lines[at + 1 : at + 5]]
+        assert words == ["energy", "reserve", "supplied", "reserved"], words
+        return plain_price.Row(int(lines[at].split()[3]), *(numbers(it, 1) for it in lines[at + 1 : at + 5]))
 
     @staticmethod
     def unit(lines, at):
@@ -66,18 +76,19 @@ class Plain(unittest.TestCase):
         self.check_each(self.check_price)
 
     def check_price(self, draw, case):
-        budget, ahead = str(draw.randint(1, 12)), str(draw.randint(1, 4))
+        budget, ahead = str(draw.choice(BUDGETS)), str(draw.randint(1, 4))
         report = Report(self.run_of("price", *self.FILES, "--proposals", budget, "--ahead", ahead))
-        for value, energy, reserve in report.rows:
-            self.assertEqual(value, case.dual_value(energy, reserve))
-        values = [it[0] for it in report.rows]
-        self.assertEqual((report.value, report.chosen), (max(values), 1 + values.index(max(values))))
-        self.assertEqual(report.cost, case.cost)
-        _, energy, reserve = report.rows[report.chosen - 1]
+        self.assertEqual(report.rows, plain_price.proposals(case, int(budget), int(ahead)))
+        self.assertEqual(report.proposals, len(report.rows))
+        self.assertEqual(report.chosen, plain_price.chosen_of(report.rows))
+        best = report.rows[report.chosen - 1]
+        self.assertEqual((report.value, report.cost), (best.value, case.cost))
+        self.assertEqual(len(report.units), len(case.units))
+        prices = best.energy, best.reserve
         for unit, (schedule, cost), (earned, scheduled, payment, response) in zip(case.units, case.plan, report.units):
-            self.assertEqual(response, plain.least_best(unit, energy, reserve))
-            self.assertEqual(earned, plain.top(unit, energy, reserve))
-            self.assertEqual(scheduled, plain.earnings(unit, schedule, cost, energy, reserve))
+            self.assertEqual(response, plain.least_best(unit, *prices))
+            self.assertEqual(earned, plain.top(unit, *prices))
+            self.assertEqual(scheduled, plain.earnings(unit, schedule, cost, *prices))
             self.assertEqual(payment, earned - scheduled)
         self.assertEqual(report.payments, sum(it[2] for it in report.units))
         self.assertEqual(report.payments + report.surplus, case.cost - report.value)
@@ -87,35 +98,44 @@ class Plain(unittest.TestCase):
         self.check_each(self.check_bound)
 
     def check_bound(self, draw, case):
-        words = (*self.FILES, "--proposals", str(draw.randint(1, 12)))
-        radius = draw.choice([0, 1, 3, 10, 40, 20_000_000])
-        report = Report(self.run_of("price", *words))
-        told = self.run_of("bound", *words, "--radius", str(radius)).decode().splitlines()
-        bound = next(int(it.split()[1]) for it in told if it.startswith("bound "))
-        _, *centre = report.rows[report.chosen - 1]
-        for prices in self.prices_within(draw, centre, radius, report.rows):
+        budget, radius = draw.choice(BUDGETS), draw.choice([0, 1, 3, 10, 40, 20_000_000])
+        words = (*self.FILES, "--proposals", str(budget), "--radius", str(radius))
+        told, rows = self.run_of("bound", *words).decode(), plain_price.proposals(case, budget, 4)
+        self.assertEqual(told, plain_price.bound_text(case, rows, radius))
+        bound = int(told.split("\nbound ")[1].split()[0])
+        centre = rows[plain_price.chosen_of(rows) - 1]
+        for prices in self.prices_within(draw, [centre.energy, centre.reserve], radius, rows):
             self.assertLessEqual(case.dual_value(*prices), bound)
 
     def test_fixed(self):
         self.check_each(self.check_fixed)
 
     def check_fixed(self, draw, case):
-        words = (*self.FILES, "--proposals", str(draw.randint(1, 12)), "--ahead", str(draw.randint(1, 4)))
-        report = Report(self.run_of("price", *words))
+        budget, ahead = draw.choice(BUDGETS), draw.randint(1, 4)
+        words = (*self.FILES, "--proposals", str(budget), "--ahead", str(ahead))
         lines = [it.split() for it in self.run_of("fixed", *words).decode().splitlines()]
-        for side, dual_value in (("hull", case.dual_value), ("fixed", case.held_dual_value)):
-            (*_, value), (_, _, *energy), (_, _, *reserve) = (it for it in lines if it[0] == side)
-            prices = [[int(it) for it in list_] for list_ in (energy, reserve)]
-            self.assertEqual(int(value), dual_value(*prices))
-            told = {it[0]: int(it[it.index(side) + 1]) for it in lines if it[0] in ("payments", "surplus")}
-            payments = [int(it[it.index(side) + 1]) for it in lines if it[0] == "unit"]
-            for unit, (schedule, cost), payment in zip(case.units, case.plan, payments):
-                self.assertEqual(payment, plain.top(unit, *prices) - plain.earnings(unit, schedule, cost, *prices))
-            self.assertEqual(told["payments"], sum(payments))
-            self.assertEqual(told["payments"] + told["surplus"], case.cost - case.dual_value(*prices))
-            if side == "hull":
-                self.assertEqual([report.value, *report.rows[report.chosen - 1][1:]], [int(value), *prices])
+        for side, priced in (("hull", case), ("fixed", plain_price.held(case))):
+            self.check_side(case, side, plain_price.proposals(priced, budget, ahead), lines)
         self.assertEqual(lines[-2], ["cost", str(case.cost)])
+
+    def check_side(self, case, side, rows, lines):
+        chosen = plain_price.chosen_of(rows)
+        best = rows[chosen - 1]
+        head = [side, "proposals", len(rows), "chosen", chosen, "value", best.value]
+        due = [list(map(str, it)) for it in (head, [side, "energy", *best.energy], [side, "reserve", *best.reserve])]
+        self.assertEqual([it for it in lines if it[0] == side], due)
+        told = {it[0]: int(it[it.index(side) + 1]) for it in lines if it[0] in ("payments", "surplus")}
+        payments = [int(it[it.index(side) + 1]) for it in lines if it[0] == "unit"]
+        prices = best.energy, best.reserve
+        self.assertEqual(
+            payments,
+            [
+                plain.top(unit, *prices) - plain.earnings(unit, schedule, cost, *prices)
+                for unit, (schedule, cost) in zip(case.units, case.plan)
+            ],
+        )
+        self.assertEqual(told["payments"], sum(payments))
+        self.assertEqual(told["payments"] + told["surplus"], case.cost - case.dual_value(*prices))
 
     @staticmethod
     def prices_within(draw, centre, radius, rows):
@@ -129,7 +149,7 @@ class Plain(unittest.TestCase):
                 [draw.randint(max(a, c - 30), min(b, c + 30)) for a, b, c in zip(*it)] for it in zip(low, high, centre)
             ]
             yield draw.choice([near, [[draw.randint(a, b) for a, b in zip(*it)] for it in zip(low, high)]])
-        for _, *prices in rows:
+        for prices in ([it.energy, it.reserve] for it in rows):
             if all(a <= x <= b for three in zip(low, prices, high) for a, x, b in zip(*three)):
                 yield prices
 

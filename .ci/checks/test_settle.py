@@ -108,10 +108,6 @@ class PlainSettle(unittest.TestCase):
 
 
 class Settle(unittest.TestCase):
-    def setUp(self):
-        if run(["settle"])[1] == b"fault 1 words 2 1\n":
-            self.skipTest("the program has no command `settle`")
-
     def check_file(self, case, folder, data):
         with open(f"{folder}/prices.json", "wb") as it:
             it.write(data)

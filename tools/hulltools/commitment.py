@@ -47,19 +47,33 @@ class Unit:
             stopped = ((self.stop[i], 1) for i in range(max(0, t - unit.min_down + 1), t + 1))
             row([*stopped, (self.on[t], 1)], -INFINITY, 1)
 
-    def start_costs(self):
-        """A start takes one lag of the list; it may take an early one only after a stop, or a time off before period 1, so short."""
-        for t in range(self.periods if self.unit.lags else 0):
-            kinds = [self.program.variable(0, 1, cost / 1e6) for _, cost in self.unit.lags]
+    def start_costs(self) -> None:
+        """A start takes one lag of the list, and only one that goes with how long the unit was off, where another would be cheaper."""
+        lags = self.unit.lags
+        for t in range(self.periods if lags else 0):
+            kinds = [self.program.variable(0, 1, cost / 1e6) for _, cost in lags]
             self.program.row([(self.start[t], 1), *((it, -1) for it in kinds)], 0, 0)
-            for i, kind in enumerate(kinds[:-1]):
-                self.early_start(t, i, kind)
+            for i, kind in enumerate(kinds):
+                if i + 1 < len(kinds):
+                    self.bar_early_lag(t, i, kind)
+                if any(cost > lags[i][1] for _, cost in lags[:i]):
+                    self.bar_late_lag(t, lags[i][0], kind)
 
-    def early_start(self, t, i, kind):
+    def bar_early_lag(self, t: int, i: int, kind: int) -> None:
+        """It needs a stop, or a time off before period 1, from its lag up to the next one before the start."""
         unit = self.unit
-        first, after = (1 if i == 0 else unit.lags[i][0]), unit.lags[i + 1][0]
+        first, after = (0 if i == 0 else unit.lags[i][0]), unit.lags[i + 1][0]
         stops = [(self.stop[t - down], -1) for down in range(max(first, 1), min(after, t + 1))]
         self.program.at_most([(kind, 1), *stops], int(not unit.on0 and first <= unit.down0 + t < after))
+
+    def bar_late_lag(self, t: int, lag: int, kind: int) -> None:
+        """It needs the unit off for all of its lag before the start."""
+        unit = self.unit
+        if lag > t and (unit.on0 or unit.down0 + t < lag):
+            self.program.high[kind] = 0
+            return
+        for before in range(max(0, t - lag), t):
+            self.program.at_most([(kind, 1), (self.on[before], 1)], 1)
 
     def dispatch(self, room):
         unit, at_most = self.unit, self.program.at_most

@@ -1,4 +1,5 @@
 """What a schedule costs, by the definitions of docs/DEFINITIONS.md, in millionths."""
+from __future__ import annotations
 
 
 def lower_hull(points):
@@ -33,6 +34,21 @@ def envelope(points, power):
     ] or [(0, 1)]
     beside = {rise // run + more for rise, run in slopes for more in (0, 1)}
     return max(min(cost + k * (power - at) for at, cost in corners) for k in beside)
+
+
+def most_below_lines(points: list[tuple[int, int]]) -> float:
+    """By how much the envelope can be below the straight lines between the points at most.
+
+    A slope between two whole prices k and k + 1, over w kilowatts, is told by lines of slope k and k + 1 from the two ends of these. What
+    that takes from the straight line is greatest where both take the same, and then at most a quarter for each kilowatt.
+    """
+    widths: dict[int, int] = {}
+    corners = lower_hull(points)
+    for (a, cost_a), (b, cost_b) in zip(corners, corners[1:]):
+        price, rest = divmod(cost_b - cost_a, b - a)
+        if rest:
+            widths[price] = widths.get(price, 0) + b - a
+    return max(widths.values(), default=0) / 4
 
 
 def start_cost(unit, down):

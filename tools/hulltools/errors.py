@@ -1,9 +1,16 @@
 """What a tool says in one line, files that appear whole or not at all, and interrupts."""
+from __future__ import annotations
+
+import contextlib
 import os
 import signal
 import stat
 import sys
 import tempfile
+from collections.abc import Iterator, Sequence
+from typing import Optional, Union
+
+MOST_LINKS = 40  # (as many as the system follows)
 
 
 class HullError(Exception):
@@ -44,13 +51,16 @@ def run_tool(tool, body, words):
         signal.signal(signal.SIGINT, signal.SIG_DFL)
     tell = teller(tool)
     try:
-        return body(words, tell) or 0
+        with flushed_output():
+            return body(words, tell) or 0
     except HullError as why:
         tell(why)
     except BrokenPipeError:
         tell("nobody reads the output")
+        forget_output()
     except OSError as error:
-        tell(f"{error.filename or 'a file'}: {error.strerror or error}")
+        tell(f"{error.filename or 'standard output'}: {error.strerror or error}")
+        forget_output()
     except MemoryError:
         tell("no memory")
     except UnicodeEncodeError:
@@ -58,16 +68,33 @@ def run_tool(tool, body, words):
     return 1
 
 
-def read_bytes(name, what, most=67_108_864):
-    """The bytes of a file, or of standard input where the name is `-`."""
+@contextlib.contextmanager
+def flushed_output() -> Iterator[None]:
+    """What was printed is written before the process is at its end, where nobody is told that it can't be."""
+    try:
+        yield
+    finally:
+        if sys.stdout is not None and not sys.stdout.closed:
+            sys.stdout.flush()
+
+
+def forget_output() -> None:
+    """What couldn't be written isn't tried again at the end of the process."""
+    with contextlib.suppress(AttributeError, OSError, ValueError):
+        output = sys.stdout.fileno()
+        os.dup2(os.open(os.devnull, os.O_WRONLY), output)
+
+
+def read_bytes(name, what, most=67_108_864, begins=b""):
+    """The bytes of a file, or of standard input where the name is `-`; of one that doesn't begin as is due perhaps only the first ones."""
     try:
         if name == "-":
             if sys.stdin is None:
                 raise HullError("standard input is closed")
-            data = bytes_of(sys.stdin.buffer, most)
+            data = bytes_of(sys.stdin.buffer, most, begins)
         else:
             with open(name, "rb") as it:
-                data = bytes_of(it, most)
+                data = bytes_of(it, most, begins)
     except OSError as error:
         raise HullError(f"{shown_name(name)}: {error.strerror}") from None
     except ValueError:
@@ -77,10 +104,10 @@ def read_bytes(name, what, most=67_108_864):
     return data
 
 
-def bytes_of(source, most):
-    """What is read to its end, or until it is more than so many bytes."""
+def bytes_of(source, most, begins=b""):
+    """What is read to its end, or until it is more than so many bytes, or doesn't begin as is due."""
     parts, left = [], most
-    while left >= 0:
+    while left >= 0 and (not parts or parts[0][: len(begins)] == begins[: len(parts[0])]):
         part = source.read(1 << 20)
         if not part:
             break
@@ -103,34 +130,136 @@ def refuse_inputs(to, inputs):
             pass
 
 
-def write_whole(name, content, inputs=()):
-    """Writes a file so that it appears whole or not at all, and never over one of the inputs."""
-    refuse_inputs(name, inputs)
-    data = content.encode("utf-8") if isinstance(content, str) else content
-    name = os.path.realpath(name)
-    if os.path.isdir(name):
-        raise HullError(f"{name}: Is a directory")
-    if os.path.exists(name) and not stat.S_ISREG(os.stat(name).st_mode):
-        with open(name, "wb") as it:  # (a device or a pipe: there is nothing to replace)
-            it.write(data)
-        return
-    folder = os.path.dirname(name)
-    try:
-        handle, part = tempfile.mkstemp(dir=folder, prefix=".part-")
-    except OSError as error:
-        raise HullError(f"{folder}: {error.strerror}") from None
-    try:
-        with os.fdopen(handle, "wb") as it:
+def behind_links(name: str) -> Iterator[str]:
+    """The name, and those that its links lead to one after another; the folder of each is resolved."""
+    for _ in range(MOST_LINKS):
+        name = os.path.join(os.path.realpath(os.path.dirname(name)), os.path.basename(name))
+        yield name
+        if not os.path.islink(name):
+            return
+        name = os.path.join(os.path.dirname(name), os.readlink(name))
+
+
+def stream_at(name: str) -> Optional[str]:
+    """The open file that a name such as /dev/stdout leads to, below /proc or /dev/fd; None where there is none."""
+    return next((it for it in behind_links(name) if it.startswith(("/proc/", "/dev/fd/"))), None)
+
+
+def write_on(stream: str, data: bytes) -> None:
+    """Writes to an open file behind what is there. One of this process is written through, so that others who have it open go on behind."""
+    folder, number = os.path.split(stream)
+    is_ours = folder in ("/dev/fd", os.path.realpath("/proc/self/fd")) and number.isdigit()
+    with open(int(number), "wb", closefd=False) if is_ours else open(stream, "ab") as it:
+        it.write(data)
+
+
+class Part:
+    """A file that is written beside the one that it is to replace. `name` is the file, with its links resolved where they are followed."""
+
+    def __init__(self, name: str, follow_links: bool = True) -> None:
+        self.name = os.path.realpath(name) if follow_links else os.path.abspath(name)
+        if os.path.isdir(self.name):
+            raise HullError(f"{self.name}: Is a directory")
+        folder = os.path.dirname(self.name)
+        try:
+            handle, self.part = tempfile.mkstemp(dir=folder, prefix=".part-")
+        except OSError as error:
+            raise HullError(f"{folder}: {error.strerror}") from None
+        os.close(handle)
+        self.kept: Optional[str] = None
+
+    def fill(self, data: bytes) -> None:
+        with open(self.part, "wb") as it:
             it.write(data)
             it.flush()
             os.fsync(it.fileno())
-        os.chmod(part, mode_of(name))
-        os.replace(part, name)
+        os.chmod(self.part, mode_of(self.name))
+
+    def place(self, keep: bool) -> None:
+        """Puts it in its place; what was there is kept beside for a while, where it may have to come back."""
+        if keep and os.path.lexists(self.name):
+            kept = f"{self.part}-old"
+            try:
+                os.link(self.name, kept, follow_symlinks=False)
+            except (OSError, NotImplementedError):  # (not every disk has links)
+                os.rename(self.name, kept)
+            self.kept = kept
+        os.replace(self.part, self.name)
+
+    def undo(self) -> None:
+        """What was there before comes back."""
+        if self.kept:
+            os.replace(self.kept, self.name)  # (does nothing where both are still one file)
+        elif not os.path.lexists(self.part):
+            os.unlink(self.name)
+
+    def drop(self) -> None:
+        for it in (self.part, self.kept):
+            if it and os.path.lexists(it):
+                os.unlink(it)
+
+
+def is_replaced(name: str) -> bool:
+    """Whether the name is a file's, or nothing is there: a device, a pipe or an open file is written as it is."""
+    return not stream_at(name) and (not os.path.exists(name) or os.path.isdir(name) or os.path.isfile(name))
+
+
+def try_output(name: str, inputs: Sequence[str] = ()) -> None:
+    """Refuses a file that can't be written, before what is to stand in it is worked out."""
+    refuse_inputs(name, inputs)
+    if is_replaced(name):
+        Part(name).drop()
+
+
+def write_whole(name: str, content: Union[str, bytes], inputs: Sequence[str] = ()) -> None:
+    """Writes a file so that it appears whole or not at all, and never over one of the inputs; a link is followed."""
+    write_together({name: content}, inputs)
+
+
+def write_together(files: dict[str, Union[str, bytes]], inputs: Sequence[str] = (), follow_links: bool = True) -> None:
+    """Writes files, by name, so that all of them appear or none does, and none over one of the inputs."""
+    for name in files:
+        refuse_inputs(name, inputs)
+    contents = {name: it.encode("utf-8") if isinstance(it, str) else it for name, it in files.items()}
+    parts: dict[str, Part] = {}
+    try:
+        for name, data in contents.items():
+            if not follow_links or is_replaced(name):
+                parts[name] = Part(name, follow_links)
+                with told_with(parts[name].name):
+                    parts[name].fill(data)
+        for name in (it for it in contents if it not in parts):
+            with told_with(name):
+                write_on(stream_at(name) or name, contents[name])
+        place_all(list(parts.values()))
+    finally:
+        for it in parts.values():
+            it.drop()
+
+
+def place_all(parts: list[Part]) -> None:
+    """Puts each in its place, or none."""
+    placed: list[Part] = []
+    try:
+        for it in parts:
+            with told_with(it.name):
+                placed.append(it)
+                it.place(len(parts) > 1)
+    except BaseException:
+        for it in placed:
+            it.undo()
+        raise
+
+
+@contextlib.contextmanager
+def told_with(name: str) -> Iterator[None]:
+    """Tells what the system refuses with the name of the file."""
+    try:
+        yield
+    except BrokenPipeError:
+        raise
     except OSError as error:
         raise HullError(f"{name}: {error.strerror}") from None
-    finally:
-        if os.path.exists(part):
-            os.unlink(part)
 
 
 def mode_of(name):

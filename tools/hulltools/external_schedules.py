@@ -1,4 +1,6 @@
 """Schedules in megawatts from elsewhere: what each unit is to do, by its name."""
+from __future__ import annotations
+
 import csv
 import io
 import os
@@ -10,6 +12,7 @@ from .converters.pypsa import solution
 from .json_texts import Refused, is_number, parse
 from .errors import HullError, one_line
 
+MOST_MEGAWATTS = 1_000_000
 JULIA = {
     "on": ("Is on",),
     "power": ("Production (MW)", "Thermal production (MW)", "Profiled production (MW)"),
@@ -29,11 +32,15 @@ class Followed:
 
 
 def number(value, name, where):
-    if isinstance(value, bool):
+    if isinstance(value, bool) or is_number(value) and abs(value) <= MOST_MEGAWATTS:
         return float(value)
-    if is_number(value):
-        return float(value)
-    raise HullError(f"{name}: {one_line(where)}: a number is due")
+    raise HullError(f"{name}: {one_line(where)}: a number of at most {MOST_MEGAWATTS:,} is due")
+
+
+def object_of(value: object, name: str, what: str) -> dict:
+    if not isinstance(value, dict):
+        raise HullError(f"{name}: {what} isn't an object of units by name")
+    return value
 
 
 def numbers(value, periods, name, where):
@@ -47,21 +54,22 @@ def numbers(value, periods, name, where):
     return [number(it, name, where) for it in value]
 
 
-def units_of(value):
+def units_of(value, name):
     """By unit name an object of lists, whichever of the three forms the file has."""
     if isinstance(value.get("elements"), dict):
-        return value["elements"].get("generator", {}), EGRET
+        return object_of(value["elements"].get("generator", {}), name, "generator"), EGRET
     if any(isinstance(value.get(key), dict) for keys in JULIA.values() for key in keys):
         turned, products = {}, value.get("Spinning reserve (MW)")
         if isinstance(products, dict) and "Reserve (MW)" not in value:
-            value = {**value, "Reserve (MW)": next(iter(products.values()), {})}
+            reserve = object_of(next(iter(products.values()), {}), name, "Spinning reserve (MW)")
+            value = {**value, "Reserve (MW)": reserve}
         for key, by_name in value.items():
             for unit, row in by_name.items() if isinstance(by_name, dict) else ():
                 turned.setdefault(unit, {})[key] = row
         return turned, JULIA
     found = {}
     for group in ("thermal", "renewable", "bids"):
-        for unit, row in (value.get(group) or {}).items():
+        for unit, row in object_of(value.get(group) or {}, name, group).items():
             found[unit] = row if isinstance(row, dict) else {"power": row}
     return found, PLAIN
 
@@ -73,7 +81,7 @@ def followed_json(data, name, periods):
         raise HullError(f"{name}: no JSON text: {why}") from None
     if not isinstance(value, dict):
         raise HullError(f"{name}: an object is due")
-    units, keys = units_of(value)
+    units, keys = units_of(value, name)
     found = Followed()
     for unit, row in units.items():
         for what, names in keys.items():
@@ -85,7 +93,7 @@ def followed_json(data, name, periods):
 
 def followed_csv(data, name, periods):
     """Rows of unit, period from 1, on, power and reserve; the first row names the columns, in any order."""
-    rows = csv.DictReader(io.StringIO(data.decode("utf-8-sig")))
+    rows = csv.DictReader(io.StringIO(data.decode("utf-8-sig"), newline=""))
     if not {"unit", "period", "power"} <= set(rows.fieldnames or ()):
         raise HullError(
             f"{name}: the first line has to name the columns unit, period, on, power, reserve, with commas between them"
@@ -96,7 +104,10 @@ def followed_csv(data, name, periods):
             period = int(row["period"])
             for what in ("on", "power", "reserve"):
                 if row.get(what) not in (None, ""):
-                    getattr(found, what).setdefault(row["unit"], [0.0] * periods)[period - 1] = float(row[what])
+                    value = float(row[what])
+                    if not abs(value) <= MOST_MEGAWATTS:
+                        raise ValueError(value)
+                    getattr(found, what).setdefault(row["unit"], [0.0] * periods)[period - 1] = value
         except (ValueError, IndexError, TypeError):
             raise HullError(f"{name}, line {line}: no row of unit, period from 1 to {periods}, and numbers") from None
         if not 1 <= period <= periods:
@@ -104,12 +115,19 @@ def followed_csv(data, name, periods):
     return found
 
 
+def network_numbers(row: list[str], folder: str, unit: str) -> list[float]:
+    """The numbers of a column of a network's table; what is empty is 0."""
+    try:
+        return [number(Decimal(it or 0), folder, unit) for it in row]
+    except ArithmeticError:
+        raise HullError(f"{folder}: {one_line(unit)}: a number of at most {MOST_MEGAWATTS:,} is due") from None
+
+
 def followed_network(folder, periods):
     """The powers and states of a solved network of PyPSA, in its folder of tables."""
     powers, states = solution(folder)
-    what = lambda unit, row: [number(Decimal(it or 0), folder, unit) for it in row]
-    found = Followed({unit: what(unit, row) for unit, row in states.items()}, {})
-    found.power = {unit: what(unit, row) for unit, row in powers.items()}
+    found = Followed({unit: network_numbers(row, folder, unit) for unit, row in states.items()}, {})
+    found.power = {unit: network_numbers(row, folder, unit) for unit, row in powers.items()}
     if not powers or any(len(row) != periods for row in powers.values()):
         raise HullError(
             f"{folder}: generators-p.csv hasn't a row for each of the {periods} periods: was the network solved?"
@@ -125,6 +143,8 @@ def followed_file(name, periods):
         return (followed_json if is_json else followed_csv)(data, name, periods)
     except UnicodeDecodeError:
         raise HullError(f"{name}: it isn't UTF-8") from None
+    except csv.Error as why:
+        raise HullError(f"{name}: no csv text: {why}") from None
 
 
 def read_followed(name, case):

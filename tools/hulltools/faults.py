@@ -79,13 +79,34 @@ BEGINNINGS = {
 }
 
 
+MOST_ESCAPES = (
+    1000  # how many quotes with a backslash before them, and how many of these in a row, a string is looked through for
+)
+
+
+def is_open_string(data: bytes, place: int) -> bool:
+    """Whether a string that begins at the place isn't closed; where very much of it is escaped that isn't known, and it counts as closed."""
+    if data[place : place + 1] != b'"':
+        return False
+    at = place
+    for _ in range(MOST_ESCAPES):
+        at = data.find(b'"', at + 1)
+        if at < 0:
+            return True
+        before = data[max(place + 1, at - MOST_ESCAPES) : at]
+        backslashes = len(before) - len(before.rstrip(b"\\"))
+        if backslashes % 2 == 0 or backslashes == MOST_ESCAPES:
+            return False
+    return False
+
+
 def known_mistake(files, what, place):
     """What a text's fault most likely is, by what stands at the place; an empty text where it isn't known."""
     data = files.bytes_of(what)
     told = next((it for mark, it in BEGINNINGS.items() if data.startswith(mark) and not place), None)
     if files.is_empty(what):
         told = "the file is empty"
-    elif data and re.fullmatch(rb'("([^"\\]|\\.)*\\?|[-+.\w]*)', data[place:], re.S):
+    elif data and (is_open_string(data, place) or re.compile(rb"[-+.\w]*").fullmatch(data, place)):
         told = "the file ends there"
     elif re.search(rb"\d,\s*\Z", data[:place]) and data[place : place + 1].isdigit():
         told = "a decimal comma? Numbers have a point"
@@ -266,7 +287,7 @@ def need_files(line, files):
 
 def sentence(line, files):
     """The fault line in words; HullError where it is none, or where a file that it is told of can't be read."""
-    for form, told in FORMS:
+    for form, told in FORMS if not re.search(r"\d{41}", line) else ():
         found = re.fullmatch(form, line)
         if found:
             need_files(line, files)

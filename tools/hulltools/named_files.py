@@ -2,7 +2,9 @@
 import json
 import os
 from dataclasses import dataclass, field
-from decimal import Decimal
+from decimal import Decimal, InvalidOperation
+
+from .json_texts import Refused, counted
 
 GROUPS = {"thermal": "thermal_generators", "renewable": "renewable_generators", "bid": "demand_bids"}
 PLAN_GROUPS = {"thermal": "thermal", "renewable": "renewable", "bid": "bids"}
@@ -69,19 +71,26 @@ class Written(str):
 
 
 def number_of(value):
-    """A number of a file, or None where it is none."""
-    found = Decimal(value) if isinstance(value, Written) else Decimal("nan")
+    """A number of a file, or None where it is none, or has more digits or a larger exponent than `hull` reads."""
+    try:
+        found = Decimal(counted(value)) if isinstance(value, Written) else Decimal("nan")
+    except (Refused, InvalidOperation):
+        return None
     return found if found.is_finite() else None
 
 
-def written(value):
-    """A value as a file would have it, cut where it is long."""
+def written(value, levels=8):
+    """A value as a file would have it, cut where it is long or deep."""
     if isinstance(value, Written):
-        return str(value)
+        return str(value) if len(value) <= 120 else value[:117] + "..."
+    if isinstance(value, (list, dict)) and not levels:
+        return "..."
     if isinstance(value, list):
-        text = f"[{', '.join(written(it) for it in value[:200])}]"
+        text = f"[{', '.join(written(it, levels - 1) for it in value[:200])}]"
     elif isinstance(value, dict):
-        text = f"{{{', '.join(f'{json.dumps(key, ensure_ascii=False)}: {written(it)}' for key, it in list(value.items())[:50])}}}"
+        members = list(value.items())[:50]
+        rows = (f"{json.dumps(key, ensure_ascii=False)}: {written(it, levels - 1)}" for key, it in members)
+        text = f"{{{', '.join(rows)}}}"
     else:
         text = json.dumps(value, ensure_ascii=False)
     return text if len(text) <= 120 else text[:117] + "..."

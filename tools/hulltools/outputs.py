@@ -427,4 +427,4 @@ def parse_output(name, data, due=tuple(FORMS)):
 
 def read_output(name, due=tuple(FORMS)):
     """The text of `hull` in a file."""
-    return parse_output(name, read_bytes(name, "a text of hull", most=2**31), due)
+    return parse_output(name, read_bytes(name, "a text of hull", most=2**31, begins=b"hull-"), due)

@@ -1,6 +1,7 @@
 """A picture of a report or a settlement by matplotlib."""
 import io
 import os
+import warnings
 
 from .pages import largest_payments, short
 from .errors import HullError
@@ -62,6 +63,8 @@ def picture_of(priced, name):
         draw(it, priced)
     into = io.BytesIO()
     try:
+        # (a letter that the font hasn't is drawn as a box, and isn't told)
+        warnings.filterwarnings("ignore", "Glyph .* missing")
         figure.savefig(into, dpi=110, format=os.path.splitext(name)[1].lstrip(".") or "png")
     except ValueError as error:
         raise HullError(f"{name}: {error}") from None

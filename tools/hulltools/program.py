@@ -3,9 +3,11 @@ import contextlib
 import hashlib
 import json
 import os
+import re
 import shutil
 import subprocess
 import tempfile
+from typing import Optional
 
 from .errors import HullError, one_line
 from .numbers import millionths
@@ -99,16 +101,23 @@ class Hull:
     def check(self, case, schedule):
         """The schedule's cost in millionths; HullError where it isn't feasible."""
         with as_file(case) as case_name, as_file(schedule) as schedule_name:
-            output = self.text("check", "--case", case_name, "--schedule", schedule_name).decode()
-        return int(output.split("\ncost ")[1].split("\n")[0])
+            output = self.text("check", "--case", case_name, "--schedule", schedule_name).decode("utf-8", "replace")
+        return self.cost_of(output)
+
+    def cost_of(self, output: str) -> int:
+        """The cost that a text of `hull check` says."""
+        found = re.fullmatch(r"hull-check 1\n[^\n]+\ncost (-?\d{1,39})\nfeasible\n", output)
+        if not found:
+            raise HullError(f"{self.program} ended with status 0, but printed no text of hull check")
+        return int(found[1])
 
     def refusal_of_case(self, case):
         """Why the case is refused, or None: an empty schedule is refused after the case."""
         status, output = self.run("check", "--case", case, "--schedule", os.devnull)
         line = one_line(output.decode("utf-8", "replace").strip())
-        if status in (0, 4):
-            return None
-        return line or f"hull check ended with status {status}"
+        if status not in (0, 4) and not line.startswith(f"fault {status} "):
+            raise HullError(f"hull check ended with status {status}, and with no line that says why")
+        return line if status not in (0, 4) else None
 
     def price(self, case, schedule, *more):
         with as_file(case) as case_name, as_file(schedule) as schedule_name:
@@ -145,18 +154,29 @@ class as_file:
     """The name of a file that holds what is given, an object or a dict, for as long as it is needed; a name stays itself."""
 
     def __init__(self, given):
-        self.given, self.folder = given, None
+        self.given, self.held = given, contextlib.ExitStack()
 
     def __enter__(self):
         is_dict = isinstance(self.given, dict)
         if not is_dict and not hasattr(self.given, "text"):
             return os.fspath(self.given)
-        self.folder = tempfile.TemporaryDirectory(prefix="hull-tools-")
-        name = os.path.join(self.folder.name, "file.json")
+        name = self.nameless() or self.named()
         with open(name, "w", encoding="utf-8") as it:
             it.write(json.dumps(self.given) if is_dict else self.given.text())
         return name
 
+    def nameless(self) -> Optional[str]:
+        """A file that is gone with this process, however it ends; None where the system has none."""
+        try:
+            number = os.memfd_create("hull-tools")
+        except (AttributeError, OSError):
+            return None
+        self.held.callback(os.close, number)
+        name = f"/proc/{os.getpid()}/fd/{number}"
+        return name if os.access(name, os.R_OK | os.W_OK) else None
+
+    def named(self) -> str:
+        return os.path.join(self.held.enter_context(tempfile.TemporaryDirectory(prefix="hull-tools-")), "file.json")
+
     def __exit__(self, *_):
-        if self.folder:
-            self.folder.cleanup()
+        self.held.close()

@@ -1,9 +1,11 @@
 """Feasible schedules in whole kilowatts: found by solving the unit commitment problem, or near one from elsewhere."""
 from dataclasses import dataclass, replace
+from math import isfinite
 from typing import Optional
 
 from .cases import POWER
 from .commitment import Commitment
+from .costs import most_below_lines
 from .external_schedules import Followed
 from .impossible import units_that_bar, why_flags
 from .lint_units import clash
@@ -23,16 +25,21 @@ def relative_gap(cost: float, bound: float) -> float:
 
 @dataclass
 class Made:
-    """A schedule, and of a search the solver's own cost and bound, in the currency, its nodes, and the gap that was to be reached."""
+    """A schedule, and of a search the solver's own cost and bound, in the currency, its nodes, and the gap that was to be reached.
+
+    The solver's costs are straight between the points of a curve; `below_lines` is how far below these a schedule's cost may be.
+    """
 
     schedule: Schedule
     cost: Optional[float] = None
     bound: Optional[float] = None
     nodes: int = 0
     wanted_gap: float = 0.0
+    below_lines: float = 0.0
 
     @property
     def gap(self) -> float:
+        """By what share of its cost the solver's choice is above its bound, both by the solver's own numbers."""
         return 0.0 if self.cost is None or self.bound is None else relative_gap(self.cost, self.bound)
 
     @property
@@ -40,11 +47,16 @@ class Made:
         """Whether the gap is reached."""
         return self.gap <= self.wanted_gap
 
-    def told(self) -> str:
-        """What the search reached."""
+    def told(self, cost: int) -> str:
+        """What the search reached: how far the cost in millionths, which is what `hull check` says, is above a bound that holds for it."""
         near = "within" if self.is_near else f"the gap of {self.wanted_gap * 100:g} % is missed:"
         nodes = f"{self.nodes} node{'s' * (self.nodes != 1)}"
-        return f"{near} {self.gap * 100:.4f} % of the solver's bound, {self.bound:,.2f}, after {nodes}"
+        if self.bound is None or not isfinite(self.bound):
+            return f"{near} the solver has no bound after {nodes}"
+        bound = self.bound - self.below_lines
+        return (
+            f"{near} {relative_gap(cost / 1e6, bound) * 100:.4f} % of the solver's bound, {bound:,.2f}, after {nodes}"
+        )
 
 
 def refuse_contradictions(case):
@@ -179,7 +191,8 @@ def make_schedule(case, limits: SearchLimits) -> Made:
     # (with no whole variable there is no bound beside the optimum)
     bound = found.fun if found.mip_dual_bound is None else found.mip_dual_bound
     schedule = dispatch(case, model, model.flags(found.x))
-    return Made(schedule, found.fun, bound, int(found.mip_node_count or 0), limits.gap)
+    below_lines = sum(most_below_lines(it.points) for it in case.thermal) * case.periods / 1e6
+    return Made(schedule, found.fun, bound, int(found.mip_node_count or 0), limits.gap, below_lines)
 
 
 def wanted_powers(case, followed: Followed):

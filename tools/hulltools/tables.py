@@ -5,6 +5,7 @@ and millionths; or, with `currency`, megawatts and the currency, exact all the s
 """
 import csv
 import io
+import re
 from decimal import Decimal
 
 from .numbers import decimal_text
@@ -15,7 +16,9 @@ UNITS = {  # how a number is told: the places that the point moves, and the ends
     "money": (6, "millionths", "currency"),
     "price": (3, "millionths_per_kw", "currency_per_mw"),
 }
-FORMULA = tuple("=+-@\t\r'")  # what a spreadsheet may take a cell for, and the mark that tells it apart
+# Where a spreadsheet may find a formula, an empty cell or the mark that tells these apart: at the beginning of a name, and behind what parts
+# cells in one country or another.
+FORMULA = re.compile(r"(?:\A|(?<=[;\t\r\n]))(?=[\t\r\n]|\s*[=+\-@\uff1d\uff0b\uff0d\uff20'])")
 
 
 class Table:
@@ -49,14 +52,14 @@ class Table:
 
 
 def told_apart(cell):
-    """The cell, with ' in front of a text that a spreadsheet would take for a formula, or that begins with ' itself."""
-    return f"'{cell}" if isinstance(cell, str) and cell.startswith(FORMULA) else cell
+    """The cell, with ' in front of what a spreadsheet would take for a formula, or of ' itself: at the beginning of a text or within."""
+    return FORMULA.sub("'", cell) if isinstance(cell, str) else cell
 
 
 def told_apart_count(tables):
-    """How many names begin so."""
+    """How many names have such a place."""
     cells = {it for table in tables.values() for row in table.rows for it in row if isinstance(it, str)}
-    return sum(it.startswith(FORMULA) for it in cells)
+    return sum(FORMULA.search(it) is not None for it in cells)
 
 
 HEADS = {

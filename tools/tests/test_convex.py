@@ -3,7 +3,7 @@ import os
 import tempfile
 import unittest
 
-from tool import EXAMPLES, PROGRAM, program_has, run
+from tool import EXAMPLES, PROGRAM, run
 
 import hulltools
 from hulltools.outputs import parse_output
@@ -155,7 +155,6 @@ class ByHand(Room):
         self.assertEqual((status, "prices and mixture need a file each" in said), (1, True))
 
 
-@unittest.skipUnless(os.path.exists(PROGRAM) and program_has("convex"), "the program has no command `convex`")
 class Found(Room):
     def test_settle_and_certify_say_the_same_of_what_is_taken(self):
         for example in ("usual", "evening", "windows", "dear_schedule"):

@@ -1,10 +1,13 @@
 """tools/explain.py: fault lines in words, with the unit's name, what was found and what is due."""
 import os
 import shutil
+import subprocess
+import sys
 import tempfile
+import time
 import unittest
 
-from tool import EXAMPLES, run
+from tool import EXAMPLES, ROOT, run
 
 EVENING = f"{EXAMPLES}/evening"
 
@@ -373,6 +376,66 @@ class Explain(unittest.TestCase):
         for line in ("right", "fault 3 case 99 at 0", "fault x"):
             status, text, said = run("explain.py", os.devnull, os.devnull, input=f"{line}\n")
             self.assertEqual((status, text, said.count("\n")), (1, "", 1))
+
+
+class Harmful(unittest.TestCase):
+    """Lines and files that were made to harm: a sentence or a line at once."""
+
+    def setUp(self):
+        self.room = tempfile.mkdtemp(prefix="hull-explain-")
+        self.addCleanup(shutil.rmtree, self.room)
+
+    def explained(self, line, text=b"{}", what="case"):
+        names = {"case": f"{EVENING}/case.json", "schedule": f"{EVENING}/schedule.json", what: f"{self.room}/file"}
+        with open(names[what], "wb") as it:
+            it.write(text)
+        more = ["--mixture", names["mixture"]] if what == "mixture" else []
+        began = time.monotonic()
+        status, told, said = run("explain.py", names["case"], names["schedule"], *more, input=f"{line}\n")
+        self.assertLess(time.monotonic() - began, 5)
+        self.assertEqual((status, said.count("\n"), told.count("\n")), (1, 1, 0) if status else (0, 0, 1), said)
+        return told or said
+
+    def test_a_line_with_a_number_of_thousands_of_digits(self):
+        for line in (f"fault 1 words 2 {'9' * 5000}", f"fault 3 case 10 at {'1' * 5000}"):
+            self.assertIn("this is no fault line of hull", self.explained(line))
+
+    def test_a_file_of_hundreds_of_levels(self):
+        for levels in (100, 500, 900, 5000):
+            deep = b'{"time_periods":' + b"[" * levels + b"]" * levels + b"}"
+            self.explained("fault 3 case 21 field time_periods kind case unit 0 item 0", deep)
+
+    def test_numbers_that_hull_refuses_by_their_size(self):
+        line = "fault 10 mixture 62 kind thermal unit 1 entry 0 item 0"
+        for weight in (b"1e99999999", b"-1e-99999999", b"1e" + b"9" * 30, b"9" * 100_000, b"NaN", b"Infinity"):
+            self.explained(line, b'{"weight":2,"thermal":{"G1":[{"weight":%s},{"weight":1}]}}' % weight, "mixture")
+
+    def test_a_large_file_that_ends_within_a_string(self):
+        line = "fault 3 case 10 at 5"
+        for inner in (b"a", b"\\n", b'\\"', b"\\"):
+            text = b'{"x":"' + inner * (20_000_000 // len(inner))
+            self.explained(line, text)
+        self.assertIn("(the file ends there)", self.explained(line, b'{"x":"' + b"a" * 20_000_000))
+        self.assertIn("(the file ends there)", self.explained(line, b'{"x":"a\\"b\\\\\\"'))
+        self.assertNotIn("(the file ends there)", self.explained(line, b'{"x":"a\\\\"'))
+
+    def test_an_output_that_is_closed_or_full(self):
+        tool = f'"{sys.executable}" -B "{ROOT}/tools/explain.py"'
+        for to, why in (
+            (">&-", "standard output is closed"),
+            (">/dev/full", "standard output: No space left on device"),
+        ):
+            command = f"echo fault 7 memory | {tool} {to}"
+            self.assertEqual(self.shell(command), (1, f"explain.py: {why}\n"))
+        self.assertEqual(self.shell(f"{tool} --help >/dev/full"), (1, f"explain.py: {why}\n"))
+
+    @staticmethod
+    def shell(command):
+        """Status and standard error of a command whose output is kept back until there is more of it, or the end."""
+        where = {key: it for key, it in os.environ.items() if key != "PYTHONUNBUFFERED"}
+        how = {"stderr": subprocess.PIPE, "text": True, "timeout": 60, "check": False, "env": where}
+        ended = subprocess.run(["bash", "-c", command], **how)
+        return ended.returncode, ended.stderr
 
 
 if __name__ == "__main__":

@@ -181,6 +181,15 @@ class Follow(unittest.TestCase):
         self.assertEqual(status, 1)
         self.assertIn("was the network solved?", said)
 
+    def test_a_network_whose_powers_are_no_numbers(self) -> None:
+        other_forms.pypsa(f"{self.room}/network")
+        for damaged in ("x", "nan", "1e399", "1000001"):
+            rows = [["snapshot", "CCGT3"], *([str(hour), damaged] for hour in range(24))]
+            other_forms.write_table(f"{self.room}/network/generators-p.csv", rows)
+            status, said = self.follow("network")
+            due = "make_schedule.py: network: CCGT3: a number of at most 1,000,000 is due\n"
+            self.assertEqual((status, said), (1, due), damaged)
+
 
 if __name__ == "__main__":
     unittest.main()

@@ -1,15 +1,20 @@
 """The package hulltools: readers, costs, the mixture's bound; what needs SciPy runs in a Python that has it (with_scipy.py)."""
 import doctest
 import os
+import random
 import re
+import signal
 import subprocess
+import sys
 import tempfile
 import unittest
+from fractions import Fraction
+from unittest import mock
 
-from tool import EXAMPLES, PROGRAM, ROOT, program_has, python_with, run
+from tool import EXAMPLES, PROGRAM, ROOT, python_with, run
 
 import hulltools
-from hulltools.costs import envelope
+from hulltools.costs import envelope, most_below_lines
 from hulltools.json_texts import Refused, parse
 from hulltools.mixtures import Entry, Mixture
 from hulltools.numbers import decimal_text, kilowatts, money
@@ -73,6 +78,23 @@ class Costs(unittest.TestCase):
             for power in range(points[0][0], points[-1][0] + 1):
                 due = max(min(cost + k * (power - at) for at, cost in points) for k in range(-100, 101))
                 self.assertEqual(envelope(points, power), due, (points, power))
+
+    def test_how_far_the_envelope_is_below_straight_lines(self):
+        for seed in range(200):
+            draw = random.Random(seed)
+            at = sorted(draw.sample(range(25), draw.randint(1, 5)))
+            points = [(power, draw.randint(0, 90)) for power in at]
+            below = [straight(points, power) - envelope(points, power) for power in range(at[0], at[-1] + 1)]
+            self.assertGreaterEqual(min(below), 0)
+            self.assertLessEqual(max(below), most_below_lines(points), points)
+        self.assertEqual([most_below_lines(it) for it in ([(0, 0), (4, 2)], [(0, 0), (4, 8)], [(3, 7)])], [1.0, 0, 0])
+
+
+def straight(points, power):
+    """The cost at a power by the straight lines of the lower convex envelope: the least of all lines between two points."""
+    lines = [(a, b) for a in points for b in points if a[0] <= power <= b[0] and a[0] < b[0]]
+    on_lines = [Fraction((b[1] - a[1]) * (power - a[0]), b[0] - a[0]) + a[1] for a, b in lines]
+    return min([*on_lines, *(cost for at, cost in points if at == power)])
 
 
 class Bounds(unittest.TestCase):
@@ -172,8 +194,6 @@ class Settled(unittest.TestCase):
     """The prices of a text of hull, settled, owe each unit the same to the millionth."""
 
     def setUp(self):
-        if not program_has("settle"):
-            self.skipTest("the program has no command `settle`")
         folder = tempfile.TemporaryDirectory(prefix="hull-package-")
         self.addCleanup(folder.cleanup)
         self.room = folder.name
@@ -200,11 +220,73 @@ class Settled(unittest.TestCase):
                 self.assertEqual(self.settle(example, prices).units, hulltools.read_output(text).units)
 
 
+class Programs(unittest.TestCase):
+    """What is called as `hull` and isn't, or is ended."""
+
+    def setUp(self):
+        folder = tempfile.TemporaryDirectory(prefix="hull-programs-")
+        self.addCleanup(folder.cleanup)
+        self.room = folder.name
+
+    def program(self, body):
+        name = f"{self.room}/hull"
+        with open(name, "w", encoding="utf-8") as it:
+            it.write(f"#!/bin/sh\n{body}\n")
+        os.chmod(name, 0o755)
+        return hulltools.Hull(name)
+
+    def test_a_program_that_is_killed_refuses_nothing(self):
+        hull = self.program("kill -9 $$")
+        self.assertRaisesRegex(hulltools.HullError, "status -9", hull.refusal_of_case, files("usual")[0])
+        self.assertRaisesRegex(hulltools.HullError, "status -9", hull.check, *files("usual"))
+
+    def test_a_program_that_lies_is_told(self):
+        for body in ("true", "echo hull-check 1", "printf 'hull-check 1\\nperiods 1\\ncost x\\nfeasible\\n'"):
+            hull = self.program(body)
+            self.assertRaisesRegex(hulltools.HullError, "no text of hull check", hull.check, *files("usual"))
+            self.assertRaises(hulltools.HullError, hull.price, *files("usual"))
+            self.assertRaises(hulltools.HullError, hull.settle, *files("usual"), hulltools.per_mwh([98]))
+        self.assertRaises(hulltools.HullError, self.program("exit 5").refusal_of_case, files("usual")[0])
+        self.assertEqual(hulltools.Hull(PROGRAM).refusal_of_case(files("usual")[0]), None)
+        self.assertEqual(hulltools.Hull(PROGRAM).refusal_of_case(f"{self.room}/none"), "fault 2 read case")
+
+
+class Temporary(unittest.TestCase):
+    """The files that the program is given of what stands in memory."""
+
+    def setUp(self):
+        folder = tempfile.TemporaryDirectory(prefix="hull-temporary-")
+        self.addCleanup(folder.cleanup)
+        self.room = folder.name
+
+    def settled(self):
+        return hulltools.settle(*files("usual"), hulltools.per_mwh([98]), hull=PROGRAM).payments
+
+    def test_a_tool_that_is_killed_leaves_no_file(self):
+        code = (
+            f"import os, sys; sys.path.insert(0, {ROOT + '/tools'!r}); import hulltools\n"
+            "from hulltools.program import as_file\n"
+            "with as_file(hulltools.per_mwh([98])) as name:\n"
+            "    os.system(f'cat {name}; kill -9 {os.getpid()}')\n"
+        )
+        where = {**os.environ, "TMPDIR": self.room}
+        ran = subprocess.run([sys.executable, "-B", "-c", code], capture_output=True, text=True, env=where, timeout=60)
+        self.assertEqual((ran.returncode, ran.stdout), (-signal.SIGKILL, hulltools.per_mwh([98]).text()))
+        if hasattr(os, "memfd_create"):
+            self.assertEqual(os.listdir(self.room), [])
+
+    def test_without_nameless_files_a_folder_is_made_and_goes(self):
+        due = self.settled()
+        with mock.patch.object(os, "memfd_create", side_effect=OSError, create=True), mock.patch.object(
+            tempfile, "tempdir", self.room
+        ):
+            self.assertEqual(self.settled(), due)
+        self.assertEqual(os.listdir(self.room), [])
+
+
 class Pages(unittest.TestCase):
     def test_the_session_of_the_page_runs(self):
         """docs/PYTHON.md, in the folder of the examples."""
-        if not program_has("settle"):
-            self.skipTest("the program has no command `settle`")
         here, known = os.getcwd(), os.environ.get("HULL")
         os.chdir(EXAMPLES)
         os.environ["HULL"] = PROGRAM
@@ -235,7 +317,7 @@ class WithSciPy(unittest.TestCase):
         if not python:
             self.skipTest("no Python here has SciPy with milp")
         ran = subprocess.run(
-            [python, "-B", "-m", "unittest", "-v", "with_scipy"],
+            [python, "-B", "-m", "unittest", "-v", "with_scipy", "with_scipy_schedules"],
             cwd=os.path.dirname(__file__),
             capture_output=True,
             text=True,

@@ -1,12 +1,18 @@
 """tools/report.py: tables, pictures, pages and prices of the texts of hull, and what it says of a text that is none."""
 import csv
+import io
 import json
 import os
 import shutil
+import sys
 import tempfile
+import time
 import unittest
+from unittest import mock
 
 from tool import EXAMPLES, python_with, run
+
+from hulltools.errors import read_bytes
 
 ODD = """hull-report 1
 periods 1
@@ -180,8 +186,12 @@ class Report(unittest.TestCase):
             self.assertEqual(json.loads(self.read("prices.json")), {"energy": [98], "reserve": [0]})
 
     def test_names_that_a_spreadsheet_evaluates_are_told_apart(self):
-        for name, told in (("=1+1", "'=1+1"), ("'=1+1", "''=1+1"), ("@a", "'@a"), ("a=1", "a=1")):
-            text = self.write(SETTLED.replace('"W1"', json.dumps(name)))
+        rows = [("=1+1", "'=1+1"), ("'=1+1", "''=1+1"), ("@a", "'@a"), ("a=1", "a=1"), ("x;=1+1", "x;'=1+1")]
+        rows += [("x; -1;+2", "x;' -1;'+2"), ("x;'y", "x;''y"), ("x;y", "x;y"), ("\uff1d1+1", "'\uff1d1+1")]
+        rows += [(" =1+1", "' =1+1"), ("\n=1+1", "'\n'=1+1"), ("a\n@b", "a\n'@b"), ("\t\tx", "'\t'\tx")]
+        for name, told in rows:
+            written = json.dumps(name, ensure_ascii=False).replace("\\n", "\\u000a").replace("\\t", "\\u0009")
+            text = self.write(SETTLED.replace('"W1"', written))
             self.assertEqual(self.report("csv", text, "tables")[0], 0)
             self.assertEqual(self.table("units.csv")[2][3], told)
             self.assertEqual(run("report.py", "csv", text, f"{self.room}/tables", "--names-as-they-are")[2], "")
@@ -265,6 +275,8 @@ class Report(unittest.TestCase):
             with open(f"{self.room}/picture.png", "rb") as it:
                 self.assertTrue(it.read().startswith(b"\x89PNG"))
         self.assertEqual(self.report("plot", self.write(ODD), "picture.svg", python=python)[0], 0)
+        odd_letters = self.write(SETTLED.replace("W1", "\uff1d\U0001f600\u0378"))
+        self.assertEqual(self.report("plot", odd_letters, "picture.png", python=python), (0, "", ""))
         status, _, said = self.report("plot", f"{EXAMPLES}/first/price.output", "picture.odd", python=python)
         self.assertEqual((status, said.count("\n")), (1, 1))
 
@@ -274,6 +286,14 @@ class Report(unittest.TestCase):
             (status, said),
             (1, "report.py: plot needs matplotlib (Debian: python3-matplotlib); page draws without it\n"),
         )
+
+    def test_what_does_not_begin_as_a_text_is_not_read_to_its_end(self):
+        began = time.monotonic()
+        status, _, said = self.report("csv", "/dev/zero", "tables")
+        self.assertEqual((status, said.count("\n")), (1, 1))
+        self.assertLess(time.monotonic() - began, 2)
+        with mock.patch.object(sys, "stdin", io.TextIOWrapper(io.BytesIO(b"hull" + b"\0" * 5_000_000))):
+            self.assertEqual(len(read_bytes("-", "a text", 2**31, b"hull-")), 1 << 20)
 
     def test_what_is_no_report_is_told_in_one_line(self):
         self.assertEqual(

@@ -41,13 +41,6 @@ def python_with(module):
     return None
 
 
-@functools.lru_cache(None)
-def program_has(command):
-    """Whether the built program has a command."""
-    ran = subprocess.run([PROGRAM, command], capture_output=True, stdin=subprocess.DEVNULL)
-    return ran.stdout != b"fault 1 words 2 1\n"
-
-
 def run_here(tool, words, text):
     """Runs a tool's main as it is, without a Python of its own; an interrupt is the tests' again behind it."""
     main = importlib.import_module(f"hulltools.commands.{tool.removesuffix('.py')}").main

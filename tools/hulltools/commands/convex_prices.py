@@ -2,7 +2,7 @@
 
 usage: convex_prices.py CASE SCHEDULE PRICES MIXTURE [--within MONEY] [--rounds N] [--best-schedule S2] [--hull PROGRAM]
 
-  PRICES, MIXTURE  two files that are written. What is there is replaced, but for a file that is read
+  PRICES, MIXTURE  two files that are written, both or none. What is there is replaced, but for a file that is read
   --within MONEY   the search ends at a distance of at most that, in the currency; 1.00 if left out
   --rounds N       it ends after so many rounds at most; 150 if left out
   --best-schedule S2  the best schedule known: the last line then tells the schedule's part of the gap from the duality gap
@@ -13,7 +13,7 @@ One mixture serves for any prices of the case: `hull certify` with prices of you
 """
 import os
 
-from ..errors import HullError, refuse_inputs, run_tool, write_whole
+from ..errors import HullError, run_tool, try_output, write_together
 from ..gap_parts import gap_parts
 from ..numbers import money
 from ..outputs import Convex
@@ -45,14 +45,13 @@ def body(words, tell):
     given = arguments(words)
     inputs = [it for it in (given.case, given.schedule, given.best_schedule) if it]
     for it in (given.prices, given.mixture):
-        refuse_inputs(it, inputs)
+        try_output(it, inputs)
     if os.path.realpath(given.prices) == os.path.realpath(given.mixture):
         raise HullError(f"{given.mixture}: prices and mixture need a file each")
     hull = Hull(given.hull, tell)
     found = hull.convex(given.case, given.schedule, given.within, given.rounds)
     best_cost = hull.check(given.case, given.best_schedule) if given.best_schedule else None
-    found.prices.write(given.prices, inputs)
-    write_whole(given.mixture, found.mixture.text(), inputs)
+    write_together({given.prices: found.prices.text(), given.mixture: found.mixture.text()}, inputs)
     tell(told(found))
     tell(gap_parts(found.cost, found.value, found.bound, best_cost).sentence("at these prices"))
 

@@ -15,7 +15,7 @@ ISO New England, relax such units so, each with rules of its own for who is elig
 them beside convex hull prices. Needs SciPy.
 """
 from ..cases import read_case
-from ..errors import HullError, one_line, refuse_inputs, run_tool
+from ..errors import HullError, one_line, run_tool, try_output
 from ..linear import need_scipy
 from ..program import Hull
 from ..relaxation import fast_start_prices
@@ -31,7 +31,7 @@ def body(words, tell):
     given = ask.parse_args(words)
     need_scipy()
     inputs = [given.case, given.schedule]
-    refuse_inputs(given.prices, inputs)
+    try_output(given.prices, inputs)
     Hull(given.hull, tell).check(given.case, given.schedule)
     case, fast = read_case(given.case), fast_start(given)
     names = [unit.name for unit in fast.units(case)]

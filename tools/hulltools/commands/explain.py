@@ -58,6 +58,8 @@ def body(words: list[str], tell: object) -> None:
     else:
         files = Files({**files_of(run), **{name: file for name, file in given.items() if file}})
         text = sentence(line, files) + word_of(line, run)
+    if sys.stdout is None:
+        raise HullError("standard output is closed")
     sys.stdout.buffer.write(f"{text}\n".encode("utf-8", "replace"))
     sys.stdout.buffer.flush()
 

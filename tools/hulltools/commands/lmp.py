@@ -13,7 +13,7 @@ from ..linear import need_scipy
 from ..program import Hull
 from ..relaxation import held_prices
 from ..schedules import read_schedule
-from ..errors import refuse_inputs, run_tool
+from ..errors import run_tool, try_output
 from .words import asker
 
 
@@ -23,7 +23,7 @@ def body(words, tell):
         ask.add_argument(it)
     given = ask.parse_args(words)
     need_scipy()
-    refuse_inputs(given.prices, [given.case, given.schedule])
+    try_output(given.prices, [given.case, given.schedule])
     Hull(given.hull, tell).check(given.case, given.schedule)
     case = read_case(given.case)
     held_prices(case, read_schedule(given.schedule, case)).write(given.prices, [given.case, given.schedule])

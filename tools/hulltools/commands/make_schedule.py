@@ -15,25 +15,28 @@ usage: make_schedule.py CASE SCHEDULE [--gap G] [--nodes N] [--seconds S] [--fol
   --deviations TABLE  with --follow: a csv of the powers and reserves that aren't FILE's, the farthest first
   --hull PROGRAM  the program that checks; the launcher of this repository if left out
 
-Gap and nodes don't depend on the clock: the same version of SciPy makes the same schedule of a case. The last line says the gap that was
-reached. Status 3 means that SCHEDULE is written and feasible, and that it misses the gap.
+Gap and nodes don't depend on the clock: the same version of SciPy makes the same schedule of a case. The last line says how far above the
+bound the cost of `hull check` is, as a share of that cost. Status 3 means that SCHEDULE is written and feasible, and that the solver's own
+cost and bound miss the gap.
 
 Needs SciPy with its solver HiGHS (Debian: python3-scipy, with /usr/bin/python3). Nothing of this tool is proved, and nothing has to
 be: `hull check`, which is, holds the schedule against every rule. That no schedule costs less than the bound is the solver's word
-alone, and of costs that are straight between the points of a curve.
+alone.
 
 Three steps: which units are on (a mixed integer program), what each gives (the same with those choices held), and the whole
 kilowatts next to that which balance exactly and cost least (a small integer program).
 """
+from __future__ import annotations
+
 from ..cases import read_case
 from ..deviations import deviations, farthest, in_words, table_text
 from ..external_schedules import read_followed
 from ..linear import need_scipy
 from ..numbers import money
 from ..program import Hull, as_file
-from ..scheduling import follow, make_schedule
+from ..scheduling import Made, follow, make_schedule
 from ..search_limits import SearchLimits
-from ..errors import HullError, refuse_inputs, run_tool, write_whole
+from ..errors import HullError, run_tool, try_output, write_whole
 from .words import MISSED_GAP, add_search_limits, asker, positive, search_limits
 
 
@@ -57,7 +60,7 @@ def checked_case(hull, name):
     return read_case(name)
 
 
-def followed_schedule(given, case):
+def followed_schedule(given, case) -> tuple[Made, str]:
     """What follows a schedule from elsewhere, and how far it is from that."""
     followed = read_followed(given.follow, case)
     made = follow(case, followed, given.follow)
@@ -70,28 +73,25 @@ def followed_schedule(given, case):
     return made, told
 
 
-def made(given, limits: SearchLimits, case, tell):
-    """What was made, and what is to be said of it."""
-    if given.follow:
-        return followed_schedule(given, case)
+def searched_schedule(case, limits: SearchLimits, tell) -> Made:
+    """What a search finds."""
     sizes = f"{len(case.thermal)} thermal and {len(case.renewable)} renewable units, {len(case.bids)} bids, {case.periods} periods"
     tell(f"{sizes}: searching for at most {limits.nodes} nodes and {limits.seconds:g} s")
-    found = make_schedule(case, limits)
-    return found, found.told()
+    return make_schedule(case, limits)
 
 
 def make(given, limits: SearchLimits, tell):
     """Makes the schedule, has it checked, writes it; what was made, its cost in millionths and what is to be said of it."""
     hull = Hull(given.hull, tell)
     case = checked_case(hull, given.case)
-    found, reached = made(given, limits, case, tell)
+    found, reached = followed_schedule(given, case) if given.follow else (searched_schedule(case, limits, tell), None)
     try:
         with as_file(found.schedule) as name:
             cost = hull.check(given.case, name)
     except HullError as why:
         raise HullError(f"nothing is written, since what was found is refused: {why}") from None
     write_whole(given.schedule, found.schedule.text(), [given.case])
-    return found, cost, reached
+    return found, cost, reached or found.told(cost)
 
 
 def body(words, tell):
@@ -99,7 +99,10 @@ def body(words, tell):
     if not given.follow and (given.tolerance is not None or given.deviations):
         raise HullError("--tolerance and --deviations go with --follow")
     need_scipy()
-    refuse_inputs(given.schedule, [it for it in (given.case, given.follow) if it])
+    inputs = [it for it in (given.case, given.follow) if it]
+    for it in (given.schedule, given.deviations):
+        if it:
+            try_output(it, inputs)
     found, cost, reached = make(given, search_limits(given), tell)
     tell(f"hull check accepts {given.schedule}: cost {money(cost)}; {reached}")
     return 0 if found.is_near else MISSED_GAP

@@ -17,9 +17,11 @@ usage: report.py csv TEXT.. FOLDER [--case F --schedule F] [--currency] [--names
   --case F, --schedule F  demand, requirement and what each unit is to do stand beside
   --certificate F         a text of `hull certify` of the same prices: the page says how near they are
   --currency              numbers in the currency and MW; left out, millionths and kW as the text has them
-  --names-as-they-are     left out, a name that a spreadsheet would take for a formula, or that begins with ', gets ' in front
+  --names-as-they-are     left out, ' is put into a name: in front of what a spreadsheet would take for a formula, at the beginning or behind
+                          a semicolon, tab or line end, and in front of ' there
 
-TEXT is a file, or - for standard input. A file is written whole or not at all, and never over a text.
+TEXT is a file, or - for standard input. A file is written whole or not at all, and never over a text; the tables of csv appear together.
+A link that is named as a file to write is followed. A link in FOLDER is replaced. /dev/stdout and its like are written as they are.
 """
 import os
 
@@ -29,7 +31,7 @@ from ..pages import page_of
 from ..pictures import picture_of
 from ..schedules import read_schedule
 from ..tables import tables_of, told_apart_count
-from ..errors import HullError, refuse_inputs, run_tool, write_whole
+from ..errors import HullError, refuse_inputs, run_tool, write_together, write_whole
 from .words import asker
 
 CONVEX = "hull-convex 1"
@@ -74,13 +76,12 @@ def write_tables(given, inputs, tell):
     tables = tables_of(texts, case, schedule, given.currency)
     files = {os.path.join(given.to, f"{name}.csv"): it for name, it in tables.items()}
     os.makedirs(given.to, exist_ok=True)
-    for name in files:
-        refuse_inputs(name, inputs)
-    for name, it in files.items():
-        write_whole(name, it.text(given.names_as_they_are), inputs)
+    # (what is in the folder may be somebody else's: a link there isn't followed)
+    texts_of = {name: it.text(given.names_as_they_are) for name, it in files.items()}
+    write_together(texts_of, inputs, follow_links=False)
     count = 0 if given.names_as_they_are else told_apart_count(tables)
     if count:
-        tell(f"{count} name{'s' * (count > 1)} that a spreadsheet would take for something else got ' in front")
+        tell(f"{count} name{'s' * (count > 1)} that a spreadsheet would take for something else got ' in front of it")
 
 
 def body(words, tell):

@@ -125,11 +125,11 @@ def made_source(given, name: str, tell):
     words = SimpleNamespace(case=given.case, schedule=os.path.join(given.folder, name), follow=None, hull=given.hull)
     found, cost, reached = make(words, search_limits(given), tell)
     tell(f"a schedule is made: cost {money(cost)}; {reached}")
-    return made_by_search(words.schedule, found), cost
+    return made_by_search(words.schedule, found, reached), cost
 
 
-def made_by_search(name: str, found: Made) -> Source:
-    how = f"made by make_schedule.py, {found.told()}"
+def made_by_search(name: str, found: Made, reached: str) -> Source:
+    how = f"made by make_schedule.py, {reached}"
     return Source(name, sha256_of(name), how, found.gap, found.is_near)
 
 
