@@ -1,13 +1,10 @@
 -- A bench for the most cost points of a case suffices for each of its units.
-use Rattle.answer_workers.proofs.Common.{◌≡◌, ℕ, suc, ◌≤◌, Bool, true, false, List, [], ◌∷◌, ◌++◌, map, refl, sym}
+use Rattle.answer_workers.proofs.Common.{ℕ, suc, ◌≤◌, List, [], ◌∷◌, ◌++◌, map, sym}
 use Rattle.answer_workers.proofs.Common.{subst, append_assoc, arith, All, Contains, AnyUnit, Thermal, Flat, Bid, Market}
-use Rattle.answer_workers.proofs.Common.{NamedThermalUnit, NamedRenewableUnit, NamedBidUnit, PriceLists, Schedule}
-use Rattle.answer_workers.proofs.Common.{ThermalUnit, units, schedule_of, IsThermalFeasible, Answered, IsBenchFor}
-use Rattle.answer_workers.proofs.Common.{Bench, HasSchedule, IsResponse, Suffices, IsBenchOf, length, All-nil, All-cons}
-use Rattle.std.specs.Prelude.{IsTrue, IsFalse}
-use Rattle.uc_model.specs.Earnings.{earnings}
+use Rattle.answer_workers.proofs.Common.{NamedThermalUnit, NamedRenewableUnit, NamedBidUnit}
+use Rattle.answer_workers.proofs.Common.{units, IsBenchFor}
+use Rattle.answer_workers.proofs.Common.{Bench, Suffices, IsBenchOf, length, All-nil, All-cons}
 use Rattle.unit_program.specs.Benches.{BenchesServeLess}
-use Rattle.uc_model.specs.Ties.{IsLeast}
 
 module _ (less : BenchesServeLess) (periods : ℕ) (b : Bench) where
   abbrev Serves : AnyUnit → Type 0
@@ -58,11 +55,3 @@ kept old new keeps periods (Bid d) h = tt
 pub all_kept : (m : Market) (old new : Bench) →
     ((periods : ℕ) (u : AnyUnit) → Suffices periods u old → Suffices periods u new) → IsBenchOf m old → IsBenchOf m new
 all_kept m old new keeps served k d inside = keeps m.periods _ (served k d inside)
-
--- an answer is found where some schedule is feasible
-pub found : (g : ThermalUnit) (π : PriceLists) (a : Answered) (is_found : Bool) →
-    HasSchedule (Thermal g) (length π.energy) → (IsTrue is_found → IsLeast (Thermal g) π (schedule_of a.response))
-    → (IsTrue is_found → a.earned ≡ earnings (Thermal g) π (schedule_of a.response)) →
-    (IsFalse is_found → (s : Schedule) → IsThermalFeasible g (length π.energy) s → ⊥) → IsResponse (Thermal g) π a
-found g π a true some least earned none = record { fit = least refl; earned = sym (earned refl) }
-found g π a false some least earned none = absurd (none refl some.0 some.1)

@@ -1,5 +1,5 @@
 -- The names that the proofs of this crate take from its specs and from other crates, passed on from one place.
-pub use Rattle.std.proofs.Common.{◌≡◌, ℕ, suc, ◌+◌, ◌*◌, ◌<◌, ◌≤◌, inl, inr, Bool, true, false, cond, List, [], ◌∷◌}
+pub use Rattle.std.proofs.Common.{◌≡◌, ℕ, suc, ◌+◌, ◌<◌, ◌≤◌, inl, inr, Bool, true, false, cond, List, [], ◌∷◌}
 pub use Rattle.std.proofs.Common.{◌++◌, map, length, refl, sym, ap, ◌∙◌, subst, arith, append_assoc, ◌≢◌, append-nil}
 pub use Rattle.std.proofs.Common.{get_or, set}
 pub use Rattle.std.proofs.lemmas.List.{get_or-set_same, get_or-set_other, get_or_default, length-set, length-replicate}
@@ -10,7 +10,8 @@ pub use Rattle.std.proofs.lemmas.Option.{slice_get_within, get_or_from_slice_get
 pub use Rattle.std.specs.List.{All, AllWithin, Contains}
 pub use Rattle.std.specs.Prelude.{vec_capacity}
 pub use Rattle.std.specs.Vec.{with_item}
-pub use Rattle.answer_workers.specs.Answers.{HasSchedule, IsResponse, Suffices, IsBenchOf}
+pub use Rattle.answer_workers.specs.Answers.{HasSchedule, IsBenchOf}
+pub use Rattle.unit_program.specs.Answers.{IsResponse, Suffices}
 pub use Rattle.answer_workers.specs.Workers.{Came, GoesOn, IsWorkerOf, HasWorked, HaveWorked, HasFinished, HasParts}
 pub use Rattle.answer_workers.specs.Workers.{market_at, IsTold, IsEnd, IsAnswerable, IsAnswered, AreGiven, AreAnswered}
 pub use Rattle.answer_workers.specs.Workers.{IsHeldFor}
@@ -28,10 +29,10 @@ pub use Rattle.board_share.specs.Tells.{Called}
 pub use Rattle.board_share.specs.Views.{BoardEvent, View, caller_of, content}
 pub use Rattle.board_share.specs.declared.shared.SharedBoard.{SharedBoard}
 pub use Rattle.uc_model.specs.Data.{AnyUnit, Thermal, Flat, Bid, Market, NamedThermalUnit, NamedRenewableUnit}
-pub use Rattle.uc_model.specs.Data.{NamedBidUnit, PriceLists, Schedule, ThermalUnit, units}
+pub use Rattle.uc_model.specs.Data.{NamedBidUnit, PriceLists, units}
 pub use Rattle.uc_model.specs.PlainCases.{task_unit}
-pub use Rattle.uc_model.specs.PlainUnits.{schedule_of, prices_of, thermal_of}
-pub use Rattle.uc_model.specs.Schedules.{IsThermalFeasible, IsFeasible}
+pub use Rattle.uc_model.specs.PlainUnits.{schedule_of, prices_of}
+pub use Rattle.uc_model.specs.Schedules.{IsFeasible}
 pub use Rattle.uc_model.specs.TaskRoom.{IsTaskFor}
 pub use Rattle.uc_model.specs.declared.cases.Task.{Task}
 pub use Rattle.uc_model.specs.declared.units.Answered.{Answered}

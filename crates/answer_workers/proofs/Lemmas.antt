@@ -1,5 +1,5 @@
 -- The lemmas that answers cite, passed on from one place.
-pub use Rattle.answer_workers.proofs.BenchLaws.{found, kept, bench_of_case}
+pub use Rattle.answer_workers.proofs.BenchLaws.{kept, bench_of_case}
 pub use Rattle.answer_workers.proofs.Going.{claim_goes, post_goes}
 pub use Rattle.answer_workers.proofs.Rows.{zip_worked, then_worked, one_works, one_there, one_finishes, all_still}
 pub use Rattle.answer_workers.proofs.Rows.{still_all_of, EachWorked, EachFinished}

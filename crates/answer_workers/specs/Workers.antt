@@ -13,7 +13,8 @@ use Rattle.uc_model.specs.PlainCases.{task_unit}
 use Rattle.uc_model.specs.PlainUnits.{prices_of, schedule_of}
 use Rattle.uc_model.specs.TaskRoom.{IsTaskFor}
 use Rattle.uc_model.specs.declared.cases.Task.{Task}
-use Rattle.answer_workers.specs.Answers.{HasSchedule, IsResponse, IsBenchOf}
+use Rattle.answer_workers.specs.Answers.{HasSchedule, IsBenchOf}
+use Rattle.unit_program.specs.Answers.{IsResponse}
 use Rattle.answer_workers.specs.declared.worker.Worker.{Worker}
 use Rattle.answer_workers.specs.declared.worker.Held.{Held}
 use Rattle.answer_workers.specs.declared.worker.TheConstants.{MOST_HELD}

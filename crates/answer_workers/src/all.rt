@@ -5,13 +5,25 @@ ghost use Rattle.answer_workers.specs.Workers.{IsWorkerOf, HasWorked, HaveWorked
 
 use crate::gate::Gate;
 use crate::visit::{Call, Crew, Lookout};
-use crate::work::work;
+use crate::work::work_to_the_end;
 use crate::worker::{Ended, Worker};
 use board_share::SharedBoard;
 use std::sync::{Mutex, Wait};
 use std::thread;
-use std::thread::Threads;
-use task_deal::make_way;
+use std::thread::{Parker, Threads};
+use std::time::Duration;
+
+// For how long a worker sleeps before it works, where there are several.
+const START_MICROSECONDS: u64 = 20;
+
+// Sleeps for a moment where there are several workers. A system may queue a new thread on the
+// processor of the one that started it, which works on; a thread that wakes up may be put on a
+// processor that has nothing to do.
+fn make_way<R: Wait>(rt: &R, crew: &Crew) {
+    if crew.workers > 1 {
+        Parker::new().park_timeout(rt, Duration::from_micros(START_MICROSECONDS));
+    }
+}
 
 fn work_one<R: Wait, G: Gate>(
     rt: &R,
@@ -23,8 +35,8 @@ fn work_one<R: Wait, G: Gate>(
     requires { IsWorkerOf board.now worker.old }
     ensures { HasWorked worker.old worker.new }
 {
-    make_way(rt, crew.workers);
-    let _ = work(rt, board, crew, worker, gate);
+    make_way(rt, crew);
+    let _ = work_to_the_end(rt, board, crew, worker, gate);
 }
 
 // Lets each worker work, in a thread of its own where one can be started.
@@ -65,7 +77,7 @@ fn end_all<R: Wait, G: Gate>(
     ensures ended { HaveEnded result workers.new }
 {
     for k in 0..workers.len() {
-        match work(rt, board, crew, &mut workers[k], gate) {
+        match work_to_the_end(rt, board, crew, &mut workers[k], gate) {
             Ended::Finished => {}
             Ended::Halted => return Ended::Halted,
         }

@@ -1,38 +1,25 @@
 //! The answer to a task: the least best response of its unit at its prices, and what that earns.
 ghost use Rattle.std.specs.Prelude.{◌≡◌, ℕ, length};
-ghost use Rattle.uc_model.specs.Data.{AnyUnit, Thermal};
-ghost use Rattle.uc_model.specs.PlainCases.{task_unit};
-ghost use Rattle.uc_model.specs.PlainUnits.{thermal_of, prices_of, schedule_of};
-ghost use Rattle.unit_program.specs.Benches.{IsBenchFor};
-ghost use Rattle.answer_workers.specs.Answers.{HasSchedule, IsResponse, Suffices};
+ghost use Rattle.uc_model.specs.Data.{AnyUnit, horizon_of};
+ghost use Rattle.uc_model.specs.PlainCases.{task_unit, unit_of};
+ghost use Rattle.uc_model.specs.PlainUnits.{prices_of, schedule_of};
+ghost use Rattle.unit_program.specs.Answers.{IsResponse, Suffices};
+ghost use Rattle.answer_workers.specs.Answers.{HasSchedule};
 
-use flat_answer::{best_bid, best_flat};
-use uc_model::cases::Task;
-use uc_model::units::{Answered, Prices, Unit, UnitKind};
-use unit_program::{Bench, LastAnswers, least_on_bench};
+use uc_model::cases::{Task, UnitRef};
+use uc_model::units::{Answered, UnitKind};
+use unit_program::{Bench, LastAnswers, answer_unit};
 
-// Answers the thermal unit of a number, which has a schedule.
-fn answer_thermal(
-    bench: &mut Bench,
-    last: &LastAnswers,
-    number: u32,
-    unit: &Unit,
-    prices: &Prices,
-    into: &mut Answered,
-)
-    requires horizon { length (thermal_of unit.now).window ≡ length (prices_of prices.now).energy }
-    requires some { HasSchedule (Thermal (thermal_of unit.now))
-        (length (prices_of prices.now).energy) }
-    requires bench { IsBenchFor (length (prices_of prices.now).energy)
-        (length (thermal_of unit.now).points) bench.old }
-    requires into { length (schedule_of into.old.response).on
-        ≡ length (prices_of prices.now).energy }
-    ensures response { IsResponse (Thermal (thermal_of unit.now)) (prices_of prices.now) into.new }
-    ensures bench { (periods : ℕ) (u : AnyUnit) → Suffices periods u bench.old
-        → Suffices periods u bench.new }
+// The unit that a task is for.
+fn unit_of_task(task: &Task) -> UnitRef<'_>
+    ensures unit { unit_of result ≡ task_unit task.now }
+    ensures horizon { horizon_of (task_unit task.now) ≡ length (prices_of task.now.prices).energy }
 {
-    // It is found, since some schedule is feasible.
-    let _ = least_on_bench(bench, last, number, unit, prices, into);
+    match task.kind {
+        UnitKind::Thermal => UnitRef::Thermal(&task.thermal),
+        UnitKind::Flat => UnitRef::Renewable(&task.flat),
+        UnitKind::Bid => UnitRef::Bid(&task.bid),
+    }
 }
 
 /// Leaves the answer to a task in `into`, which is over the task's periods. Some schedule of the
@@ -48,12 +35,6 @@ pub fn answer_task(bench: &mut Bench, last: &LastAnswers, task: &Task, into: &mu
     ensures bench { (periods : ℕ) (u : AnyUnit) → Suffices periods u bench.old
         → Suffices periods u bench.new }
 {
-    match task.kind {
-        UnitKind::Thermal => {
-            let number = task.unit;
-            answer_thermal(bench, last, number, &task.thermal, &task.prices, into);
-        }
-        UnitKind::Flat => best_flat(&task.flat, &task.prices, into),
-        UnitKind::Bid => best_bid(&task.bid, &task.prices, into),
-    }
+    let unit = unit_of_task(task);
+    answer_unit(bench, last, task.unit, unit, &task.prices, into);
 }

@@ -61,7 +61,7 @@ fn post_each<R: Wait>(rt: &R, board: &SharedBoard, worker: &mut Worker, answered
 }
 
 // One claim, and what it tells.
-fn claim<R: Wait>(rt: &R, board: &SharedBoard, worker: &mut Worker) -> Claim
+fn claim_task<R: Wait>(rt: &R, board: &SharedBoard, worker: &mut Worker) -> Claim
     requires { IsWorkerOf board.now worker.old }
     ensures worked { HasWorked worker.old worker.new }
     ensures held { worker.new.held.items ≡ worker.old.held.items }
@@ -84,7 +84,7 @@ fn claim_share<R: Wait>(
     ensures told { IsEnd result.end worker.new }
 {
     for k in 0..MOST_HELD {
-        let end = claim(rt, board, worker);
+        let end = claim_task(rt, board, worker);
         let Claim::Given = end else {
             return Outcome { given: k, end };
         };
@@ -112,7 +112,7 @@ fn take_call<'a, R: Wait>(rt: &R, crew: &'a Crew) -> MutexGuard<'a, Call> {
 }
 
 /// Posts the answers to the first tasks that the worker holds, and claims others in their place.
-pub fn visit<R: Wait>(
+pub fn visit_board<R: Wait>(
     rt: &R,
     board: &SharedBoard,
     crew: &Crew,

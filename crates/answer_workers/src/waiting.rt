@@ -4,7 +4,7 @@ ghost use Rattle.answer_workers.specs.Workers.{IsWorkerOf, HasWorked, AreGiven, 
 
 use crate::gate::Gate;
 use crate::pace::Pace;
-use crate::visit::{Crew, Outcome, visit};
+use crate::visit::{Crew, Outcome, visit_board};
 use crate::worker::Worker;
 use board_core::Claim;
 use board_share::SharedBoard;
@@ -28,7 +28,7 @@ fn look_out<R: Wait>(
 {
     let _lookout = crew.lookout.lock(rt);
     for _ in rt.forever() {
-        let outcome = visit(rt, board, crew, worker, 0, pace);
+        let outcome = visit_board(rt, board, crew, worker, 0, pace);
         if outcome.given > 0 || outcome.end != Claim::NotYet {
             return outcome;
         }
@@ -64,7 +64,7 @@ pub fn next_visit<R: Wait, G: Gate>(
     ensures given { AreGiven result.given worker.new }
     ensures told { IsEnd result.end worker.new }
 {
-    let outcome = visit(rt, board, crew, worker, answered, pace);
+    let outcome = visit_board(rt, board, crew, worker, answered, pace);
     tell_each(worker, answered, gate);
     if outcome.given > 0 || outcome.end != Claim::NotYet {
         return outcome;

@@ -53,7 +53,7 @@ fn ended_by(end: Claim) -> Option<Ended>
 }
 
 /// Claims, answers and posts until a claim finds the board finished or halted.
-pub fn work<R: Wait, G: Gate>(
+pub fn work_to_the_end<R: Wait, G: Gate>(
     rt: &R,
     board: &SharedBoard,
     crew: &Crew,

@@ -31,7 +31,7 @@ pub struct Held {
     pub unit: u32,
 }
 
-// Written out, so that a drop of it is a call, and not one for each list.
+// By hand, so that dropping it is one call.
 impl Drop for Held {
     fn drop(self) {
         let Held {
@@ -119,7 +119,7 @@ fn make_room(alloc: Global, periods: u32) -> Result<(Answered, Vec<Held>, Task),
 
 impl Worker {
     /// A worker for a case of so many periods, whose thermal units have at most so many cost
-    /// points. `AllocError` is want of memory; the seat is then dropped.
+    /// points. `AllocError` if memory runs out; the seat is then dropped.
     pub fn make(
         alloc: Global,
         seat: Seat,

@@ -6,7 +6,7 @@ ghost use Rattle.uc_model.specs.PlainUnits.{prices_of, schedule_of};
 ghost use Rattle.unit_program.specs.Tops.{CanAnswer, IsBenchOver};
 ghost use Rattle.audit_check.specs.Sums.{AreSumsOf, AreWithin};
 
-use crate::count::{Means, count_at};
+use crate::count::{AnswerRoom, count_at};
 use crate::sums::Sums;
 use plain_lists::lists::{ReservedList, copy_list};
 use std::alloc::{AllocError, Global};
@@ -24,7 +24,7 @@ pub struct Answerer<'a> {
     /// The case.
     pub case: &'a Case,
     /// Where units are answered.
-    pub means: Means,
+    pub means: AnswerRoom,
     /// The prices of the proposal.
     pub prices: Prices,
     /// The numbers that it answered at these prices.
@@ -53,7 +53,7 @@ impl<'a> Answerer<'a> {
     ///
     /// # Errors
     ///
-    /// `AllocError` for want of memory; the bench is then dropped.
+    /// `AllocError` if memory runs out; the bench is then dropped.
     pub fn make(
         alloc: Global,
         case: &'a Case,
@@ -72,7 +72,7 @@ impl<'a> Answerer<'a> {
         let sums = Sums::make(alloc, case.periods)?;
         Ok(Answerer {
             case,
-            means: Means {
+            means: AnswerRoom {
                 bench,
                 last,
                 answer,

@@ -17,9 +17,9 @@ ghost use Rattle.report_compare.specs.Right.{DiffersFromRight};
 ghost use Rattle.report_compare.specs.declared.verdict.Audit.TheVariants.{Right};
 
 use crate::answerer::Answerer;
-use crate::count::Means;
+use crate::count::AnswerRoom;
 use crate::rows::right_rows;
-use report_compare::{Audit, Desk, judged, opening_right};
+use report_compare::{Audit, CompareRoom, opening_right, verdict_of_rows};
 use report_read::Report;
 use std::alloc::{AllocError, Global};
 use std::sync::{Arc, Wait};
@@ -63,7 +63,7 @@ fn last_bench(mut jobs: Vec<Answerer>) -> Bench
         left: _,
         sums: _,
     } = job;
-    let Means {
+    let AnswerRoom {
         bench,
         last: _,
         answer: _,
@@ -114,8 +114,8 @@ fn judged_by_own_rows<R: Threads + Wait + Sync>(
     let mut jobs = jobs_for(alloc, case, benches, &last)?;
     let most = enough_rows(report);
     let rows = right_rows(rt, alloc, case, cost, most, report.ahead, &mut jobs)?;
-    let mut desk = Desk::make(alloc, case, last_bench(jobs), last)?;
-    let audit = judged(case, plan, cost, rows.as_slice(), report, &mut desk);
+    let mut compare_room = CompareRoom::make(alloc, case, last_bench(jobs), last)?;
+    let audit = verdict_of_rows(case, plan, cost, rows.as_slice(), report, &mut compare_room);
     Ok(audit)
 }
 
@@ -132,7 +132,7 @@ fn judged_by_own_rows<R: Threads + Wait + Sync>(
 ///
 /// # Errors
 ///
-/// `AllocError` for want of memory.
+/// `AllocError` if memory runs out.
 pub fn check_report<R: Threads + Wait + Sync>(
     rt: &R,
     alloc: Global,

@@ -19,7 +19,7 @@ use unit_program::{Bench, LastAnswers, answer_at};
 /// What units are answered with: a bench, their last answers, which other benches may share, and
 /// room for an answer.
 #[derive(Drop)]
-pub struct Means {
+pub struct AnswerRoom {
     pub bench: Bench,
     pub last: Arc<LastAnswers, Global>,
     pub answer: Answered,
@@ -27,7 +27,7 @@ pub struct Means {
 
 /// Answers the unit of a number at the prices, and adds what it earns, gives or takes, and
 /// reserves; adds nothing where there is no unit of that number. Takes no memory.
-pub fn count_at(means: &mut Means, case: &Case, prices: &Prices, number: u32, sums: &mut Sums)
+pub fn count_at(means: &mut AnswerRoom, case: &Case, prices: &Prices, number: u32, sums: &mut Sums)
     requires some { CanAnswer (market_of case.now) }
     requires bench { IsBenchOver (market_of case.now) means.old.bench }
     requires horizon { length (prices_of prices.now).energy ≡ (market_of case.now).periods }

@@ -37,7 +37,7 @@ fn begin_all(case: &Case, jobs: &mut [Answerer], prices: &Prices)
     }
 }
 
-// The same of a list of jobs.
+// Begins all jobs of a list.
 fn begin_jobs(case: &Case, jobs: &mut Vec<Answerer>, prices: &Prices)
     requires jobs { AreFor (market_of case.now) jobs.old.items }
     requires horizon { length (prices_of prices.now).energy ≡ (market_of case.now).periods }
@@ -48,7 +48,7 @@ fn begin_jobs(case: &Case, jobs: &mut Vec<Answerer>, prices: &Prices)
 }
 
 // Adds the sums of all jobs to sums of nothing.
-fn gather(jobs: &[Answerer], sums: &mut Sums)
+fn gather_sums(jobs: &[Answerer], sums: &mut Sums)
     requires count { length jobs.now ≤ MOST_JOBS }
     requires jobs { All (λ job. AreWithin (length sums.old.supply.items) MOST_UNITS job.sums)
         jobs.now }
@@ -63,7 +63,7 @@ fn gather(jobs: &[Answerer], sums: &mut Sums)
 }
 
 // The sums of the answers of all units at these prices.
-fn answered<R: Threads + Wait + Sync>(
+fn sums_of_answers<R: Threads + Wait + Sync>(
     rt: &R,
     alloc: Global,
     case: &Case,
@@ -87,7 +87,7 @@ fn answered<R: Threads + Wait + Sync>(
     let mut sums = Sums::make(alloc, case.periods)?;
     let units = case.unit_count();
     deal_all(rt, alloc, units, jobs)?;
-    gather(jobs.as_slice(), &mut sums);
+    gather_sums(jobs.as_slice(), &mut sums);
     Ok(sums)
 }
 
@@ -96,7 +96,7 @@ fn answered<R: Threads + Wait + Sync>(
 ///
 /// # Errors
 ///
-/// `AllocError` for want of memory.
+/// `AllocError` if memory runs out.
 pub fn row_at<R: Threads + Wait + Sync>(
     rt: &R,
     alloc: Global,
@@ -116,7 +116,7 @@ pub fn row_at<R: Threads + Wait + Sync>(
     units_are_within();
     earnings_are_within();
     earned_sums_are_within();
-    let sums = answered(rt, alloc, case, &prices, jobs)?;
+    let sums = sums_of_answers(rt, alloc, case, &prices, jobs)?;
     let value = dual_value(case, &prices, sums.earned);
     Ok(Row {
         prices,

@@ -38,7 +38,7 @@ fn first_rows(rows: &[Row], count: usize) -> &[Row]
 }
 
 // Whether prices follow these rows; then they are left in `into`.
-fn propose(case: &Case, rows: &[Row], ahead: u32, cost: i128, into: &mut Prices) -> bool
+fn propose_prices(case: &Case, rows: &[Row], ahead: u32, cost: i128, into: &mut Prices) -> bool
     requires some { 1 ≤ length rows.now }
     requires count { length rows.now ≤ MOST_PROPOSALS }
     requires rows { All (IsRowBelow (market_of case.now) cost) (map proposal_of rows.now) }
@@ -82,7 +82,7 @@ fn next_into(
         return true;
     }
     let past = first_rows(rows, (number - ahead) as usize);
-    propose(case, past, ahead, cost, into)
+    propose_prices(case, past, ahead, cost, into)
 }
 
 /// The rows of the run of a case with that budget of proposals, of which `ahead` are opened ahead
@@ -97,7 +97,7 @@ fn next_into(
 ///
 /// # Errors
 ///
-/// `AllocError` for want of memory.
+/// `AllocError` if memory runs out.
 pub fn right_rows<R: Threads + Wait + Sync>(
     rt: &R,
     alloc: Global,

@@ -21,7 +21,7 @@ pub use Rattle.std.specs.List.{range_with_len, list_any, flat_map, All, AllZip, 
 pub use Rattle.std.specs.Option.{option_map_or}
 pub use Rattle.std.specs.Prelude.{not, nat_lt, nat_le, slice_get, slice_index, slice_index_or, is_some, replicate}
 pub use Rattle.std.specs.Prelude.{slice_set}
-pub use Rattle.board_store.specs.Answers.{Kept, Answers, nothing, kept_of}
+pub use Rattle.board_store.specs.Answers.{answer_of}
 pub use Rattle.board_core.specs.Boards.{kept_answer}
 pub use Rattle.board_core.specs.Events.{task_number, event_of, events_of, event_by}
 pub use Rattle.board_core.specs.Ledgers.{LedgerValue, with_prices, with_value, blank, raised_by, with_schedule}
@@ -34,7 +34,6 @@ pub use Rattle.board_core.specs.Replies.{posted_of, closed_of as closed_if, clai
 pub use Rattle.board_core.specs.Rounds.{Sums, Fronts, is_full, row_in, with_row, opens, with_round, IsRound, is_due}
 pub use Rattle.board_core.specs.Rounds.{with_opened}
 pub use Rattle.board_core.specs.Setups.{IsSetup, setup_of}
-pub use Rattle.board_core.specs.Stored.{answers_kept, answer_kept, answer_of}
 pub use Rattle.board_store.specs.Board.{Setup, Answer, rules_of, no_answer, Content, IsRight, IsLegalHistory}
 pub use Rattle.board_store.specs.Board.{earned_in, schedules_in}
 pub use Rattle.board_store.specs.BoardLaws.{RoundLaws, BoardLaws, DifferencesMean, Extends, TakenTells}
@@ -69,7 +68,7 @@ pub use Rattle.uc_model.specs.Runs.{Fits}
 pub use Rattle.uc_model.specs.Schedules.{reserve_in, IsFeasible}
 pub use Rattle.plain_lists.specs.Sums.{int_at, total, zip_with}
 pub use Rattle.uc_model.specs.Systems.{worth_of_demand, total_power, total_reserve}
-pub use Rattle.uc_model.specs.TaskLists.{lag_numbers, point_numbers, block_numbers, period_numbers, mark_number}
+pub use Rattle.uc_model.specs.TaskLists.{lag_numbers, point_numbers, mark_number}
 pub use Rattle.uc_model.specs.TaskLists.{fixed_numbers, list_numbers, unit_numbers, task_numbers}
 pub use Rattle.uc_model.specs.declared.cases.Row.{Row}
 pub use Rattle.uc_model.specs.declared.cases.Task.{Task}

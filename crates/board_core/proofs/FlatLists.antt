@@ -1,14 +1,14 @@
 -- The flat list of a task isn't long, and a walk along two of them finds where they differ.
-use Rattle.board_core.proofs.Common.{inl, inr, ◌≡◌, ℕ, suc, ◌+◌, ◌*◌, ◌<◌, ◌≤◌, ℤ, pos, Option, Some, None, List, []}
+use Rattle.board_core.proofs.Common.{inl, inr, ◌≡◌, ℕ, ◌+◌, ◌*◌, ◌≤◌, ℤ, pos, Option, Some, None, List, []}
 use Rattle.board_core.proofs.Common.{◌∷◌, ◌++◌, map, length, get_or, refl, sym, ap, ◌∙◌, arith, length-append}
 use Rattle.board_core.proofs.Common.{length-map, get_or_from_slice_get, slice_get_within, slice_get-get_or, cases_lt}
 use Rattle.board_core.proofs.Common.{flat_map, option_map_or, slice_get, Setup, DifferencesMean, differs_from}
 use Rattle.board_core.proofs.Common.{difference, IsOver, IsTask, AnyUnit, PriceLists, Thermal, Flat, Bid, units}
 use Rattle.board_core.proofs.Common.{chosen_unit, task_unit, prices_of, items_in, int_at, lag_numbers, point_numbers}
-use Rattle.board_core.proofs.Common.{block_numbers, period_numbers, mark_number, fixed_numbers, list_numbers}
+use Rattle.board_core.proofs.Common.{mark_number, fixed_numbers, list_numbers}
 use Rattle.board_core.proofs.Common.{unit_numbers, task_numbers, Task, UnitKind, differs_of, AreSame}
+use Rattle.board_store.proofs.Numbers.{periods_length}
 use Rattle.uc_model.specs.Limits.{IsUnit}
-use Rattle.uc_model.specs.declared.units.Block.{Block}
 use Rattle.uc_model.specs.declared.units.Lag.{Lag}
 use Rattle.uc_model.specs.declared.units.Point.{Point}
 use Rattle.uc_model.specs.declared.units.UnitKind.TheVariants as kinds
@@ -38,19 +38,6 @@ lags_length (x ∷ xs) = let e = lags_length xs in omega (arith, e)
 points_length : (xs : List Point) → length (flat_map point_numbers xs) ≡ 2 * length xs
 points_length [] = refl
 points_length (x ∷ xs) = let e = points_length xs in omega (arith, e)
-
-blocks_length : (xs : List Block) → length (flat_map block_numbers xs) ≡ 2 * length xs
-blocks_length [] = refl
-blocks_length (x ∷ xs) = let e = blocks_length xs in omega (arith, e)
-
-periods_length : (ps : List (List Block)) → ((k : ℕ) (d : List Block) → k < length ps → length (get_or ps k d) ≤ 8) →
-    length (flat_map period_numbers ps) ≤ 17 * length ps
-periods_length [] h = omega arith
-periods_length (p ∷ ps) h =
-    let e = periods_length ps (λ k d lt. h (suc k) d (omega (arith, lt))) in
-    let f = h 0 p (omega arith) in
-    let g = blocks_length p in
-    omega (arith, e, f, g, length-append (period_numbers p) (flat_map period_numbers ps))
 
 unit_few : (n : ℕ) (u : AnyUnit) → n ≤ 168 → IsUnit u → IsOver n u → length (unit_numbers u) ≤ 2900
 unit_few n (Thermal g) few limits over =
@@ -144,10 +131,6 @@ one_more own given k y z S e f same =
             sym (get_or_from_slice_get given k z (pos 0) f) ∙ ap (int_at given) (sym j)
       ];
     }
-
-pub none_same : (own given : List ℤ) → AreSame own given 0
-none_same own given =
-    record { own_long = omega arith; given_long = omega arith; same = λ i lt. absurd (omega (arith, lt)) }
 
 -- the board's own task differs in nothing
 pub no_difference : DifferencesMean → (b : Setup) (u : ℕ) (π ρ : PriceLists) (x : AnyUnit) → π ≡ ρ →

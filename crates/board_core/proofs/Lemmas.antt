@@ -7,7 +7,6 @@ pub use Rattle.board_core.proofs.FlatLists.{no_difference}
 pub use Rattle.board_core.proofs.Fronts.{closed_is, opened_is, rows_count, prices_count, kept_inside, kept_is, rows_few}
 pub use Rattle.board_core.proofs.Halts.{one_less, stopped, not_yet, halted_lists, halt_place, halt_room}
 pub use Rattle.board_core.proofs.Inner.{setup_in, events_in, lists_in}
-pub use Rattle.board_core.proofs.Kept.{is_inside, put_kept, kept_at, as_many}
 pub use Rattle.board_core.proofs.LedgerSteps.{IsWritten, due_says, opens_it, is_early, is_over, with_one, with_none}
 pub use Rattle.board_core.proofs.LedgerSteps.{opened_fronts, opened_sums, opened_ledger, closed_fronts, closed_sums}
 pub use Rattle.board_core.proofs.LedgerSteps.{closed_ledger}

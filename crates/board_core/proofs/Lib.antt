@@ -16,8 +16,6 @@ pub mod Fronts
 pub mod Halts
 -- what a board holds: its setup, its events and its lists
 pub mod Inner
--- the answers of a board's store
-pub mod Kept
 -- numbers of tasks, lists over ranges, and the first of two that is there
 pub mod Lists
 -- what closing and opening a proposal leaves of a ledger

@@ -8,5 +8,4 @@ pub mod Refusals
 pub mod Replies
 pub mod Rounds
 pub mod Setups
-pub mod Stored
 pub mod Tasks

@@ -28,7 +28,7 @@ use uc_model::units::Prices;
 
 // Whether prices follow these rows, of which the first with the greatest value is at `best`; then
 // they are left in `into`.
-fn propose(terms: &Terms, rows: &[Row], best: usize, into: &mut Prices) -> bool
+fn propose_prices(terms: &Terms, rows: &[Row], best: usize, into: &mut Prices) -> bool
     requires setup { IsSetup (setup_of terms.now) }
     requires best { IsFirstUpTo (values_of (map proposal_of rows.now)) (length rows.now) best }
     requires count { length rows.now ≤ MOST_PROPOSALS }
@@ -78,7 +78,7 @@ fn open_next(terms: &Terms, ledger: &mut Ledger, next: &mut Prices)
     if !is_due(terms, ledger) {
         return;
     }
-    if !propose(terms, ledger.rows(), ledger.best(), next) {
+    if !propose_prices(terms, ledger.rows(), ledger.best(), next) {
         return;
     }
     ledger.open(next);
@@ -109,7 +109,7 @@ fn close_next(terms: &Terms, ledger: &mut Ledger)
 
 /// Closes all proposals from the first on whose units all have answers, and opens those that the
 /// rows then call for.
-pub fn advance(terms: &Terms, counts: &[u32], ledger: &mut Ledger, next: &mut Prices)
+pub fn advance_proposals(terms: &Terms, counts: &[u32], ledger: &mut Ledger, next: &mut Prices)
     requires setup { IsSetup (setup_of terms.now) }
     requires counts { length counts.now ≡ (setup_of terms.now).budget }
     requires ledger { IsLedger (setup_of terms.now) ledger.old }

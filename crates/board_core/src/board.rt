@@ -15,14 +15,14 @@ ghost use Rattle.plain_lists.specs.declared.limits.TheConstants.{MOST_PROPOSALS}
 ghost use Rattle.board_core.specs.Boards.{empty_board, kept_answer};
 ghost use Rattle.board_core.specs.Replies.{claim_of, posted_of};
 ghost use Rattle.board_core.specs.Setups.{IsSetup, setup_of};
-ghost use Rattle.board_core.specs.Stored.{answer_of};
+ghost use Rattle.board_store.specs.Answers.{answer_of};
 ghost use Rattle.board_core.specs.Tasks.{LeavesTask};
 
-use crate::advance::advance;
+use crate::advance::advance_proposals;
 use crate::history::{entry_of, post_entry};
 use crate::ledger::Ledger;
 use crate::opening::{EventLists, Room, no_events, open_ledger};
-use crate::posts::{closed_of, count_up, refusal};
+use crate::posts::{closed_of, count_up, refusal_of_post};
 use crate::replies::{Claim, Posted};
 use crate::terms::{Terms, number_before, task_number};
 use board_store::Store;
@@ -60,37 +60,36 @@ impl Model for Board {
     ghost use Rattle.board_core.specs.Events.{events_of};
     ghost use Rattle.board_core.specs.Parts.{IsBoard, IsKept};
     ghost use Rattle.board_core.specs.Setups.{setup_of};
-    ghost use Rattle.board_core.specs.Stored.{answers_kept};
 
     ghost Value = { Content };
 
     ghost view = { λ b. record {
       setup = setup_of b.terms;
       events =
-          events_of (unit_count (setup_of b.terms).market) (answers_kept b.store)
+          events_of (unit_count (setup_of b.terms).market) b.store.answers
           b.lists.history.items;
     } };
 
     ghost invariant = { λ b.
         IsBoard (setup_of b.terms)
-        (events_of (unit_count (setup_of b.terms).market) (answers_kept b.store)
+        (events_of (unit_count (setup_of b.terms).market) b.store.answers
         b.lists.history.items)
         (record {
           takers = b.lists.takers.items;
           marks = b.lists.marks.items;
-          kept = answers_kept b.store;
+          kept = b.store.answers;
           counts = b.lists.counts.items;
           halted = b.lists.halted.items;
           any_halt = b.any_halt;
         }) b.ledger
         × IsKept (setup_of b.terms)
-        (events_of (unit_count (setup_of b.terms).market) (answers_kept b.store)
+        (events_of (unit_count (setup_of b.terms).market) b.store.answers
         b.lists.history.items)
         b.lists.history.items
         (record {
           takers = b.lists.takers.items;
           marks = b.lists.marks.items;
-          kept = answers_kept b.store;
+          kept = b.store.answers;
           counts = b.lists.counts.items;
           halted = b.lists.halted.items;
           any_halt = b.any_halt;
@@ -100,7 +99,7 @@ impl Model for Board {
         × IsTaskFor (setup_of b.terms).market.periods b.room.own };
 }
 
-// Written out, so that a caller's drop of a board is a call, and not one for each part.
+// By hand, so that dropping a board is one call.
 impl Drop for Board {
     fn drop(self) {
         let Board {
@@ -200,7 +199,7 @@ impl Board {
             (prices_of task.now.prices) (task_unit task.now) (answer_of answer.now) }
     {
         board_laws();
-        let refused = refusal(
+        let refused = refusal_of_post(
             &self.terms,
             &self.ledger,
             &self.lists.marks,
@@ -222,7 +221,7 @@ impl Board {
         self.lists
             .history
             .push_reserved(post_entry(caller, task, closes));
-        advance(
+        advance_proposals(
             &self.terms,
             &self.lists.counts,
             &mut self.ledger,

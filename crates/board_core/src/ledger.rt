@@ -54,7 +54,7 @@ impl Model for Ledger {
         → IsFirstUpTo (values_of (map proposal_of l.proposals.items)) l.closed l.best };
 }
 
-// Written out, so that a drop of it is a call, and not one for each list.
+// By hand, so that dropping it is one call.
 impl Drop for Ledger {
     fn drop(self) {
         let Ledger {

@@ -31,7 +31,7 @@ pub struct EventLists {
     pub halted: Vec<bool>,
 }
 
-// Written out, so that a drop of them is a call, and not one for each list.
+// By hand, so that dropping them is one call.
 impl Drop for EventLists {
     fn drop(self) {
         let EventLists {
@@ -50,7 +50,7 @@ pub struct Room {
     pub own: Task,
 }
 
-// Written out, so that a drop of it is a call, and not one for each list in it.
+// By hand, so that dropping it is one call.
 impl Drop for Room {
     fn drop(self) {
         let Room { next: _, own: _ } = self;

@@ -20,23 +20,23 @@ use crate::ledger::Ledger;
 use crate::replies::{Differs, Posted};
 use crate::terms::{Terms, task_number};
 use board_store::laws::differences_mean;
-use board_store::same::{alike, is_unit_of, same_prices};
+use board_store::same::{count_alike, is_unit_of, same_prices};
 use board_store::tasks::copy_task;
 use uc_model::cases::Task;
-use uc_model::flat_list::flat_number;
+use uc_model::task_numbers::flat_number;
 
 // A flat list has at most 336 prices, and a unit at most 168 marks or 17 numbers for each period.
 const MOST_NUMBERS: u32 = 4_000;
 
 // The first place at which the flat lists of two tasks differ, with the two numbers there. A number
 // of a bid is found by going over its periods, so the walk begins at the first period that differs.
-fn difference(own: &Task, task: &Task) -> Option<Differs>
+fn find_difference(own: &Task, task: &Task) -> Option<Differs>
     ensures { result ≡ differs_of
         (difference_of (task_numbers (prices_of own.now.prices) (task_unit own.now))
         (task_numbers (prices_of task.now.prices) (task_unit task.now))) }
 {
     differences_mean();
-    for place in alike(own, task)..MOST_NUMBERS {
+    for place in count_alike(own, task)..MOST_NUMBERS {
         let board = flat_number(own, place)?;
         let task = flat_number(task, place)?;
         if board != task {
@@ -48,7 +48,12 @@ fn difference(own: &Task, task: &Task) -> Option<Differs>
 
 // Where a task differs from the board's own of its proposal and unit. That one is built in `own`
 // only where the two aren't seen to be the same at once.
-fn content(terms: &Terms, ledger: &Ledger, own: &mut Task, task: &Task) -> Option<Differs>
+fn difference_from_own(
+    terms: &Terms,
+    ledger: &Ledger,
+    own: &mut Task,
+    task: &Task,
+) -> Option<Differs>
     requires first { 1 ≤ task.now.proposal }
     requires last { task.now.proposal ≤ length ledger.now.proposals }
     requires unit { task.now.unit < unit_count (setup_of terms.now).market }
@@ -67,7 +72,7 @@ fn content(terms: &Terms, ledger: &Ledger, own: &mut Task, task: &Task) -> Optio
         return None;
     }
     copy_task(&terms.case, prices, task.proposal, task.unit, own);
-    difference(own, task)
+    find_difference(own, task)
 }
 
 fn holder_in(takers: &[u32], at: usize) -> Option<u32>
@@ -103,7 +108,7 @@ fn refusal_at(marks: &[bool], takers: &[u32], at: usize, caller: u32) -> Option<
 
 /// Why a post is refused, if it is. Where the task differs from the board's own, that one is left
 /// in `own`.
-pub fn refusal(
+pub fn refusal_of_post(
     terms: &Terms,
     ledger: &Ledger,
     marks: &[bool],
@@ -141,7 +146,7 @@ pub fn refusal(
             units,
         }));
     }
-    if let Some(differs) = content(terms, ledger, own, task) {
+    if let Some(differs) = difference_from_own(terms, ledger, own, task) {
         return Some(Posted::Stranger(differs));
     }
     let at = task_number(units, task.proposal, task.unit);

@@ -23,7 +23,7 @@ pub struct Terms {
     pub callers: u32,
 }
 
-// Written out, so that a drop of them is a call, and not one for each list of the case.
+// By hand, so that dropping them is one call.
 impl Drop for Terms {
     fn drop(self) {
         let Terms {

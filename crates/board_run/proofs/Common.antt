@@ -11,18 +11,19 @@ pub use Rattle.std.proofs.lemmas.Slice.Zip.{AllZip-long}
 pub use Rattle.std.specs.Int.{w64, w128}
 pub use Rattle.std.specs.List.{All, AllZip, Contains, list_any}
 pub use Rattle.std.specs.Prelude.{◌==◌, if◌then◌else◌, vec_capacity}
-pub use Rattle.answer_workers.specs.Answers.{IsBenchOf, Suffices}
+pub use Rattle.answer_workers.specs.Answers.{IsBenchOf}
 pub use Rattle.answer_workers.specs.Workers.{IsWorkerOf, HasParts, Came, HasWorked, HaveWorked, HaveEnded, HasSeenHalt}
 pub use Rattle.answer_workers.specs.Workers.{HasFinished}
 pub use Rattle.answer_workers.specs.declared.worker.Worker.{Worker}
 pub use Rattle.board_core.specs.Boards.{empty_board}
 pub use Rattle.board_core.specs.Setups.{IsSetup, setup_of}
+pub use Rattle.unit_program.specs.Answers.{Suffices}
 pub use Rattle.board_store.specs.Board.{Content, IsLegalHistory, Setup}
 pub use Rattle.board_store.specs.Calls.{has_finished}
 pub use Rattle.board_store.specs.Laws.{FinishedStays}
 pub use Rattle.board_run.specs.Crews.{StartsWith, named_by, IsNew, IsCrew, IsHired, IsCalmWorker, IsCalm, SomeEnd}
 pub use Rattle.board_run.specs.Crews.{AreOut}
-pub use Rattle.price_settle.specs.Ended.{IsEnded}
+pub use Rattle.plan_settle.specs.Ended.{IsEnded}
 pub use Rattle.board_share.specs.Seats.{SeatValue, view_of, IsSeatOf, IsSameBoard, IsOwner}
 pub use Rattle.board_share.specs.Views.{BoardEvent, View, caller_of, content, cut_left, cut_right, first_view, without}
 pub use Rattle.unit_program.specs.Tops.{IsBenchOver}

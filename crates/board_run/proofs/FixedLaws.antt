@@ -1,10 +1,10 @@
 -- The second run of `hull fixed`: its terms.
 use Rattle.board_run.proofs.Common.{◌≡◌, ℕ, ◌*◌, ◌≤◌, sym, ap, ◌∙◌, subst, IsSetup, Setup, Market, IsFeasiblePlan}
 use Rattle.plain_lists.specs.declared.limits.TheConstants.{MOST_WORK}
-use Rattle.price_settle.specs.FixedCase.{fixed_market}
-use Rattle.price_settle.specs.HeldLaws.{CommitmentsAreFixed}
+use Rattle.plan_settle.specs.FixedCase.{fixed_market}
+use Rattle.plan_settle.specs.HeldLaws.{CommitmentsAreFixed}
 use Rattle.right_report.specs.declared.side.Side.{Side}
-use Rattle.price_settle.specs.Compared.{IsPaidSide, IsFixedSide, held_setup}
+use Rattle.plan_settle.specs.Compared.{IsPaidSide, IsFixedSide, held_setup}
 
 -- what its board is made for
 pub held_is_setup : CommitmentsAreFixed → (b : Setup) → IsSetup b → IsSetup (held_setup b)

@@ -1,14 +1,14 @@
 //! A run with the best bound round the prices that it chose.
 ghost use Rattle.std.specs.Prelude.{IfOk};
 ghost use Rattle.gap_proof.specs.PlaneSums.{IsRadius};
-ghost use Rattle.price_settle.specs.Bounded.{IsBounded};
+ghost use Rattle.plan_settle.specs.Bounded.{IsBounded};
 ghost use Rattle.board_core.specs.Setups.{IsSetup, setup_of};
 
 use crate::run::{open_run, run_board};
 use answer_workers::Gate;
 use board_core::Terms;
 use plain_lists::lists::Amounts;
-use price_settle::{Bounded, best_bound};
+use plan_settle::{Bounded, best_bound};
 use std::alloc::{AllocError, Global};
 use std::sync::Wait;
 use std::thread::Threads;

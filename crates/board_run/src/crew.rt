@@ -21,7 +21,7 @@ use unit_program::{Bench, LastAnswers};
 
 /// Splits a new board's seats, and gives each a worker for so many thermal units, periods and cost
 /// points.
-pub fn hire(
+pub fn hire_workers(
     alloc: Global,
     board: &SharedBoard,
     mut owner: Seat,

@@ -3,15 +3,15 @@
 ghost use Rattle.std.specs.Prelude.{◌≡◌, IfOk};
 ghost use Rattle.uc_model.specs.PlainCases.{market_of};
 ghost use Rattle.uc_model.specs.Systems.{IsFeasiblePlan};
-ghost use Rattle.price_settle.specs.FixedCase.{fixed_market};
+ghost use Rattle.plan_settle.specs.FixedCase.{fixed_market};
 ghost use Rattle.board_core.specs.Setups.{IsSetup, setup_of};
-ghost use Rattle.price_settle.specs.Compared.{IsPaidSide, IsOwnSide, AreSides};
+ghost use Rattle.plan_settle.specs.Compared.{IsPaidSide, IsOwnSide, AreSides};
 
 use crate::run::{open_run, run_board};
 use answer_workers::Gate;
 use board_core::Terms;
-use price_settle::held_laws::commitments_are_fixed;
-use price_settle::{Sides, hold, own_side, settled_side, side_room};
+use plan_settle::held_laws::commitments_are_fixed;
+use plan_settle::{Sides, hold_commitments, own_side, settled_side, side_room};
 use right_report::Side;
 use std::alloc::{AllocError, Global};
 use std::sync::Wait;
@@ -71,7 +71,7 @@ pub fn compared_runs<R: Threads + Wait + Sync, G: Gate>(
     commitments_are_fixed();
     let cost = terms.cost;
     let (hull, terms) = hull_side(rt, alloc, terms, gate)?;
-    let (case, held) = hold(alloc, terms)?;
+    let (case, held) = hold_commitments(alloc, terms)?;
     let fixed = fixed_side(rt, alloc, &case, held, gate)?;
     Ok(Sides {
         case,

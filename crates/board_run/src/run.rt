@@ -3,15 +3,15 @@
 ghost use Rattle.std.specs.Prelude.{◌≡◌, IfOk};
 ghost use Rattle.board_core.specs.Setups.{IsSetup, setup_of};
 ghost use Rattle.board_run.specs.Crews.{IsCrew};
-ghost use Rattle.price_settle.specs.Ended.{IsEnded};
+ghost use Rattle.plan_settle.specs.Ended.{IsEnded};
 
-use crate::crew::{answer_board, hire};
+use crate::crew::{answer_board, hire_workers};
 use answer_workers::{Gate, Worker};
 use board_core::{Board, Terms};
 use board_share::SharedBoard;
 use plain_lists::lists::Numbers;
-use plan_check::Settlement;
-use price_settle::{Done, chosen_room, settle_chosen};
+use plan_settle::{Done, chosen_room, settle_chosen};
+use price_settle::Settlement;
 use std::alloc::{AllocError, Global};
 use std::marker::Model;
 use std::sync::Wait;
@@ -35,7 +35,7 @@ impl Model for Run {
     ghost use Rattle.std.specs.Prelude.{◌+◌, length};
     ghost use Rattle.board_store.specs.Board.{Setup};
     ghost use Rattle.board_run.specs.Crews.{named_by, IsCrew};
-    ghost use Rattle.price_settle.specs.RunRooms.{HasRunRoom};
+    ghost use Rattle.plan_settle.specs.RunRooms.{HasRunRoom};
 
     ghost Value = { Setup };
 
@@ -47,7 +47,7 @@ impl Model for Run {
 }
 
 /// The shared board of a run, with a worker for each of its seats.
-fn staff(alloc: Global, terms: Terms) -> Result<(SharedBoard, Vec<Worker>), AllocError>
+fn staffed_board(alloc: Global, terms: Terms) -> Result<(SharedBoard, Vec<Worker>), AllocError>
     requires { IsSetup (setup_of terms) }
     ensures { IfOk result (λ r. IsCrew (setup_of terms) r.0 r.1.items) }
 {
@@ -57,7 +57,7 @@ fn staff(alloc: Global, terms: Terms) -> Result<(SharedBoard, Vec<Worker>), Allo
     let thermal = terms.case.thermal.len() as u32;
     let board = Board::make(alloc, terms)?;
     let (board, owner) = SharedBoard::make(alloc, board)?;
-    let workers = hire(alloc, &board, owner, callers, thermal, periods, points)?;
+    let workers = hire_workers(alloc, &board, owner, callers, thermal, periods, points)?;
     Ok((board, workers))
 }
 
@@ -68,7 +68,7 @@ pub fn open_run(alloc: Global, terms: Terms) -> Result<Run, AllocError>
     ensures { IfOk result (λ opened. opened ≡ setup_of terms) }
 {
     let (buffer, settlement, earned) = chosen_room(alloc, &terms.case)?;
-    let (board, workers) = staff(alloc, terms)?;
+    let (board, workers) = staffed_board(alloc, terms)?;
     Ok(Run {
         board,
         workers,

@@ -12,7 +12,7 @@ pub use Rattle.atomic_table.proofs.Lists.{set_else, set_here, at_longer, at_last
 pub use Rattle.atomic_table.specs.Table.{opening, State, Final, Seen, Joins, Allows, step, keeps, Splits, Step, Act}
 pub use Rattle.atomic_table.specs.Table.{takes, gives, Valid, carried_after, stepped, rest}
 pub use Rattle.board_core.specs.Replies.{claim_of, posted_of}
-pub use Rattle.board_core.specs.Stored.{answer_of}
+pub use Rattle.board_store.specs.Answers.{answer_of}
 pub use Rattle.board_core.specs.Tasks.{LeavesTask}
 pub use Rattle.board_store.specs.Board.{Content, Setup, Answer, rules_of, IsLegalHistory}
 pub use Rattle.board_store.specs.Calls.{differs_from, claim_answer, after_claim, post_answer, after_post, after_halt}

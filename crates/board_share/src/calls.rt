@@ -9,7 +9,7 @@ ghost use Rattle.uc_model.specs.PlainUnits.{prices_of, schedule_of};
 ghost use Rattle.uc_model.specs.Runs.{Fits};
 ghost use Rattle.uc_model.specs.TaskRoom.{IsTaskFor};
 ghost use Rattle.board_core.specs.Replies.{claim_of, posted_of};
-ghost use Rattle.board_core.specs.Stored.{answer_of};
+ghost use Rattle.board_store.specs.Answers.{answer_of};
 ghost use Rattle.board_core.specs.Tasks.{LeavesTask};
 ghost use Rattle.board_share.specs.Seats.{view_of, IsSeatOf, IsSameBoard, IsOwner};
 ghost use Rattle.board_share.specs.Tells.{Called, HasJoined, KeepsRest};

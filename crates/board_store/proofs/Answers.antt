@@ -1,13 +1,14 @@
 -- The answers of a store, and one of them written in place.
 use Rattle.board_store.proofs.Common.{◌≡◌, ℕ, ◌<◌, ◌⊎◌, ℤ, pos, Bool, inl, inr, List, [], length, get_or, sym, ap, ◌∙◌}
-use Rattle.board_store.proofs.Common.{arith, set, length-set, get_or-set_same, get_or-set_other, int_at, Kept, Answers}
-use Rattle.board_store.proofs.Common.{nothing, answer_in, answers_in, least_left, replicate, length-replicate}
+use Rattle.board_store.proofs.Common.{arith, set, length-set, get_or-set_same, get_or-set_other, int_at, Answer}
+use Rattle.board_store.proofs.Common.{Answers, no_answer, answer_in, answers_in, least_left, replicate}
+use Rattle.board_store.proofs.Common.{length-replicate}
 use Rattle.std.proofs.lemmas.List.FromFn.{fill_by_all, length-map-range_with_len, get_or-map-range_with_len}
 
 pub same_answer : (on on2 : List Bool) (power power2 reserve reserve2 : List ℕ) (earned earned2 : ℤ) → on ≡ on2 →
     power ≡ power2 → reserve ≡ reserve2 → earned ≡ earned2 →
-    (let a : Kept = record { schedule = record { on = on; power = power; reserve = reserve }; earned = earned } in
-    let b : Kept = record { schedule = record { on = on2; power = power2; reserve = reserve2 }; earned = earned2 } in
+    (let a : Answer = record { schedule = record { on = on; power = power; reserve = reserve }; earned = earned } in
+    let b : Answer = record { schedule = record { on = on2; power = power2; reserve = reserve2 }; earned = earned2 } in
     a ≡ b)
 same_answer on on2 power power2 reserve reserve2 earned earned2 e f g h =
     λ i. record { schedule = record { on = e i; power = f i; reserve = g i }; earned = h i }
@@ -28,9 +29,9 @@ module _ (on : List (List Bool)) (power reserve : List (List ℕ)) (earned : Lis
   length-answers_in = length-map-range_with_len (answer_in on power reserve earned) 0 (length earned)
 
   pub answer_at_place : (i : ℕ) → i < length earned →
-      get_or (answers_in on power reserve earned) i nothing ≡ answer_in on power reserve earned i
+      get_or (answers_in on power reserve earned) i no_answer ≡ answer_in on power reserve earned i
   answer_at_place i lt =
-      get_or-map-range_with_len (answer_in on power reserve earned) 0 (length earned) i i nothing lt (omega arith)
+      get_or-map-range_with_len (answer_in on power reserve earned) 0 (length earned) i i no_answer lt (omega arith)
 
   -- a place of a store is one of its parts
   pub place_of : (v : Answers) (long left i : ℕ) →
@@ -41,7 +42,7 @@ module _ (on : List (List Bool)) (power reserve : List (List ℕ)) (earned : Lis
       ap (λ (w : Answers). length w.answers) is in
       omega (arith, e, lt, length-answers_in)
 
-module _ (on : List (List Bool)) (power reserve : List (List ℕ)) (earned : List ℤ) (i : ℕ) (a : Kept)
+module _ (on : List (List Bool)) (power reserve : List (List ℕ)) (earned : List ℤ) (i : ℕ) (a : Answer)
     (on_count : length on ≡ length earned) (power_count : length power ≡ length earned)
     (reserve_count : length reserve ≡ length earned) (lt : i < length earned) where
   abbrev on2 : List (List Bool)
@@ -56,7 +57,7 @@ module _ (on : List (List Bool)) (power reserve : List (List ℕ)) (earned : Lis
   abbrev earned2 : List ℤ
   earned2 = set earned i a.earned
 
-  abbrev old : List Kept
+  abbrev old : List Answer
   old = answers_in on power reserve earned
 
   here : answer_in on2 power2 reserve2 earned2 i ≡ a
@@ -83,16 +84,16 @@ module _ (on : List (List Bool)) (power reserve : List (List ℕ)) (earned : Lis
   -- one answer written in place
   pub put_answer : answers_in on2 power2 reserve2 earned2 ≡ set old i a
   put_answer =
-      sym (fill_by_all (answer_in on2 power2 reserve2 earned2) (set old i a) (length earned2) nothing
+      sym (fill_by_all (answer_in on2 power2 reserve2 earned2) (set old i a) (length earned2) no_answer
       (length-set old i a ∙ length-answers_in on power reserve earned ∙ sym (length-set earned i a.earned))
       (λ k h. elim (same_or k i) [
         | inl e ↦
-            ap (λ (j : ℕ). get_or (set old i a) j nothing) e
-            ∙ get_or-set_same old i a nothing (let l = length-answers_in on power reserve earned in
+            ap (λ (j : ℕ). get_or (set old i a) j no_answer) e
+            ∙ get_or-set_same old i a no_answer (let l = length-answers_in on power reserve earned in
             omega (arith, l, lt))
             ∙ sym here ∙ ap (answer_in on2 power2 reserve2 earned2) (sym e)
         | inr f ↦
-            get_or-set_other old i k a nothing f
+            get_or-set_other old i k a no_answer f
             ∙ answer_at_place on power reserve earned k (let l = length-set earned i a.earned in omega (arith, h, l))
             ∙ sym (there k f)
       ]))

@@ -15,7 +15,7 @@ pub use Rattle.std.proofs.lemmas.List.{take-append-le, drop-append-le, take-appe
 pub use Rattle.std.proofs.lemmas.List.{replicate-append-replicate, take_all, drop_all, take_at, drop_at, take_more}
 pub use Rattle.std.proofs.lemmas.List.{take_more_same, replicate_more, get_or-drop, drop-drop, same_from_push}
 pub use Rattle.std.specs.Int.{cast_signed, cast_unsigned}
-pub use Rattle.board_store.specs.Answers.{Kept, Answers, nothing, answer_in, answers_in, kept_of, least_left}
+pub use Rattle.board_store.specs.Answers.{Answers, answer_in, answers_in, answer_of, least_left}
 pub use Rattle.board_store.specs.RowRuns.{laid_out, from_run, row_at, IsAdded, IsAt}
 pub use Rattle.board_store.specs.Tables.{Rows, rows_in, IsTable}
 pub use Rattle.plain_lists.specs.Sums.{int_at, total, floor_div, clamped, zip_with}
@@ -48,13 +48,11 @@ pub use Rattle.plain_lists.proofs.SignedLaws.{IsWithin, clamped_from, wider}
 pub use Rattle.uc_model.specs.BoundLaws.{GivesWithin, OutputsAreWithin, EarningsAreWithin, UnitsAreWithin}
 pub use Rattle.uc_model.specs.BoundLaws.{TotalsAreWithin, DemandWorthIsWithin}
 pub use Rattle.uc_model.specs.Data.{PriceLists, units, unit_count, AnyUnit, Thermal, Flat, Bid, Schedule, Market}
-pub use Rattle.uc_model.specs.Data.{NamedThermalUnit, NamedRenewableUnit, NamedBidUnit, ThermalUnit, BidUnit}
-pub use Rattle.uc_model.specs.Data.{RenewableUnit}
+pub use Rattle.uc_model.specs.Data.{NamedThermalUnit, NamedRenewableUnit, NamedBidUnit, ThermalUnit}
 pub use Rattle.uc_model.specs.Earnings.{earnings, IsBest, IsTop, supply_in}
 pub use Rattle.uc_model.specs.Laws.{DualIsAtMostCost}
 pub use Rattle.plain_lists.specs.Ranges.{IsFrom}
-pub use Rattle.uc_model.specs.Limits.{IsMarket, IsUnit, IsTotal, IsHorizon, ArePrices, price_limit, IsThermalUnit}
-pub use Rattle.uc_model.specs.Limits.{IsBidUnit, IsRenewableUnit}
+pub use Rattle.uc_model.specs.Limits.{IsMarket, IsUnit, IsTotal, IsHorizon, ArePrices, price_limit}
 pub use Rattle.uc_model.specs.PriceRule.{Proposal, start_prices, opening_prices_of, stepped_prices, age, no_prices}
 pub use Rattle.uc_model.specs.PriceRule.{next_prices, move_of, squared_length, energy_direction, reserve_direction}
 pub use Rattle.uc_model.specs.PriceRule.{price_rule, is_settled}
@@ -64,8 +62,8 @@ pub use Rattle.uc_model.specs.Systems.{IsFeasiblePlan, total_power, total_reserv
 pub use Rattle.uc_model.specs.TaskLists.{task_numbers, flag_number, lag_numbers, point_numbers, mark_number}
 pub use Rattle.uc_model.specs.TaskLists.{block_numbers, period_numbers, fixed_numbers, list_numbers, unit_numbers}
 pub use Rattle.board_store.specs.Same.{AreSame, HaveSamePowers, HaveSameTimes}
-pub use Rattle.uc_model.specs.PlainCases.{chosen_unit, task_unit, market_of}
-pub use Rattle.uc_model.specs.PlainUnits.{named_thermal_of, named_bid_of, named_renewable_of, bid_of, prices_of}
+pub use Rattle.uc_model.specs.PlainCases.{chosen_unit, task_unit}
+pub use Rattle.uc_model.specs.PlainUnits.{bid_of, prices_of}
 pub use Rattle.plain_lists.specs.Reserved.{Reserved, items_in}
 pub use Rattle.uc_model.specs.declared.units.Block.{Block}
 pub use Rattle.uc_model.specs.declared.units.UnitKind.{UnitKind}

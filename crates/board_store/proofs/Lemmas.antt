@@ -7,7 +7,7 @@ pub use Rattle.board_store.proofs.Tables.{table_more, runs_few, lengths_free, va
 pub use Rattle.board_store.proofs.Tables.{rows_blank, long_is, left_some, inside, row_read, left_less, rows_more}
 pub use Rattle.board_store.proofs.Tables.{blank_first}
 pub use Rattle.board_store.proofs.Answers.{counted, least_same}
-pub use Rattle.board_store.proofs.RowBounds.{totals_within, rows_are_within, rows_are_at_most_cost}
+pub use Rattle.board_store.proofs.RowBounds.{rows_are_within}
 pub use Rattle.board_store.proofs.RowLaws.{answers_fit_now, rows_are_made, has_row, stays_finished, run_fits}
 pub use Rattle.board_store.proofs.SameTask.{difference_at, difference_none}
 pub use Rattle.board_store.proofs.UnitBounds.{model_laws}

@@ -44,8 +44,8 @@ next_for m cost (r ∷ rows) some =
     (option_map_or (stepped_prices m cost (age (r ∷ rows))) o no_prices)) (sym last)
     (stepped_for m cost (age (r ∷ rows)) (get_or (r ∷ rows) (length (r ∷ rows) - 1) r))
 
-above : (n m : ℕ) → nat_le n m ≡ false → m < n
-above n m h = grind (arith, nat_tests)
+pub not_le_lt : (n m : ℕ) → nat_le n m ≡ false → m < n
+not_le_lt n m h = grind (arith, nat_tests)
 
 module _ (b : Setup) (p : Posts Answer) where
   prices_for : (n : ℕ) → IsFor b.market.periods (prices_at (rules_of b) p n)
@@ -56,7 +56,7 @@ module _ (b : Setup) (p : Posts Answer) where
           (next_prices b.market b.cost (rows_to (rules_of b) p (n - b.ahead))))
       choose true is = opening_for b.market n
       choose false is =
-          let past = above n b.ahead is in
+          let past = not_le_lt n b.ahead is in
           next_for b.market b.cost (rows_to (rules_of b) p (n - b.ahead))
           (omega (arith, past, rows_length (rules_of b) p (n - b.ahead)))
 

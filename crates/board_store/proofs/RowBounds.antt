@@ -3,7 +3,7 @@
 -- that no row's value is above the cost of a feasible plan.
 use Rattle.board_store.proofs.Common.{◌≡◌, ℕ, zero, suc, ◌+◌, ◌-◌, ◌*◌, ◌<◌, Bool, true, false, cond, Option, Some}
 use Rattle.board_store.proofs.Common.{None, ℤ, pos, neg_ℤ, ◌+ℤ◌, ◌-ℤ◌, ◌*ℤ◌, ◌≤ℤ◌, List, [], ◌∷◌, map, length, get_or}
-use Rattle.board_store.proofs.Common.{refl, sym, ◌∙◌, subst, arith, nat_tests, ints, length-map, All-map}
+use Rattle.board_store.proofs.Common.{refl, sym, ◌∙◌, subst, arith, ints, length-map, All-map}
 use Rattle.board_store.proofs.Common.{All-replicate, length-range_with_len, slice_get_within, slice_get-get_or}
 use Rattle.board_store.proofs.Common.{get_or_from_slice_get, AllZip, range_with_len, option_map_or, nat_le, slice_get}
 use Rattle.board_store.proofs.Common.{AnyUnit, Bid, PriceLists, Schedule, Market, units, unit_count, GivesWithin}
@@ -17,8 +17,8 @@ use Rattle.board_store.proofs.Common.{posts, prices_at, answer_at, answers, rows
 use Rattle.board_store.specs.Bounds.{AreWithin, IsRowWithin, RowsAreWithin, RowsAreAtMostCost}
 use Rattle.board_store.proofs.Answered.{all_answer}
 use Rattle.board_store.proofs.PostsKept.{rows_length}
-use Rattle.board_store.proofs.OwnTasks.{own_horizon, own_reserve_horizon}
-use Rattle.board_store.proofs.RowLaws.{units_length, zip_range, fits_is_best, right_rows, rows_are_made}
+use Rattle.board_store.proofs.OwnTasks.{own_horizon, own_reserve_horizon, not_le_lt}
+use Rattle.board_store.proofs.RowLaws.{units_length, zip_range, same_some, fits_is_best, right_rows, rows_are_made}
 use Rattle.board_store.proofs.UnitBounds.{ModelLaws, no_output, earnings_within, lengths_of}
 
 -- numbers of a range within a bound
@@ -93,9 +93,6 @@ module _ (m : Market) (horizon : IsHorizon m.periods) where
       ArePrices (from o)) (sym last)
       (stepped_are cost (age (r ∷ rows)) (get_or (r ∷ rows) (length (r ∷ rows) - 1) r)) e q
 
-above : (n m : ℕ) → nat_le n m ≡ false → m < n
-above n m h = grind (arith, nat_tests)
-
 -- the prices of a proposal are prices
 pub own_are_prices : (b : Setup) (p : Posts Answer) (n : ℕ) → IsMarket b.market → ArePrices (prices_at (rules_of b) p n)
 own_are_prices b p n limits = choose (nat_le n b.ahead) refl (own_horizon b p n) (own_reserve_horizon b p n)
@@ -109,7 +106,7 @@ own_are_prices b p n limits = choose (nat_le n b.ahead) refl (own_horizon b p n)
         (next_prices b.market b.cost (rows_to (rules_of b) p (n - b.ahead))))
     choose true is e r = opening_prices b.market limits.horizon n e r
     choose false is e r =
-        let past = above n b.ahead is in
+        let past = not_le_lt n b.ahead is in
         next_are b.market limits.horizon b.cost (rows_to (rules_of b) p (n - b.ahead))
         (omega (arith, past, rows_length (rules_of b) p (n - b.ahead))) e r
 
@@ -138,14 +135,11 @@ module _ (laws : ModelLaws) (b : Setup) (h : List (Event Answer)) (limits : IsMa
         record { at_least = omega (arith, ints); at_most = omega (arith, ints) };
   }
 
-  one_unit : {X : Type 0} (o : Option X) (x y : X) → o ≡ Some x → o ≡ Some y → x ≡ y
-  one_unit o x y i j = (cc)
-
   posted_is_small : (u : ℕ) (x : AnyUnit) (y : ℕ × Answer) → slice_get (units m) u ≡ Some x → posts h n u ≡ Some y →
       IsSmall x y.1
   posted_is_small u x y is post =
       let right = (all_answer g (IsRight Fits m) (row_of m no_prices []) h legal n u y post).fit in
-      let same = one_unit (slice_get (units m) u) right.unit x right.is is in
+      let same = same_some (slice_get (units m) u) right.unit x right.is is in
       let best = fits_is_best right.unit π y.1.schedule right.fit in
       let feasible = best.feasible in
       let limited = unit_limited laws m limits u right.unit right.is in

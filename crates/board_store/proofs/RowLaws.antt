@@ -47,8 +47,8 @@ not_false : (b : Bool) → not b ≡ false → IsTrue b
 not_false true h = search rules
 not_false false h = absurd (false≢true (sym h))
 
-one_unit : {X : Type 0} (o : Option X) (x y : X) → o ≡ Some x → o ≡ Some y → x ≡ y
-one_unit o x y h i = (cc)
+pub same_some : {X : Type 0} (o : Option X) (x y : X) → o ≡ Some x → o ≡ Some y → x ≡ y
+same_some o x y h i = (cc)
 
 module _ (fits : AnyUnit → PriceLists → Schedule → Type 0)
     (best : (u : AnyUnit) (π : PriceLists) (s : Schedule) → fits u π s → IsBest u π s) where
@@ -69,7 +69,7 @@ module _ (fits : AnyUnit → PriceLists → Schedule → Type 0)
         let post = post_of g p n u closed inside in
         let right =
         (all_answer g (IsRight fits b.market) (row_of b.market no_prices []) h legal n u post.0 post.1).fit in
-        let same = one_unit (slice_get (units b.market) u) right.unit x right.is is in
+        let same = same_some (slice_get (units b.market) u) right.unit x right.is is in
         let there : answer_at g p n u ≡ post.0.1 =
         ap (λ (o : Option (ℕ × Answer)). option_map_or (λ (y : ℕ × Answer). y.1) o g.missing) post.1 in
         subst (λ (a : Answer). fits x (prices_at g p n) a.schedule ×

@@ -208,13 +208,14 @@ periods_same (l ∷ ls) (m ∷ ms) e h =
     ap (λ (z : List Block). z ∷ ls) r.0 ∙
     ap (λ (zs : List (List Block)). m ∷ zs) (periods_same ls ms (omega (arith, e)) r.1)
 
-record AreSame (g k : ThermalUnit) : Type 0 where
+-- parts of a thermal unit that are lists, compared together
+record HaveSameLists (g k : ThermalUnit) : Type 0 where
   lags : g.lags ≡ k.lags
   points : g.points ≡ k.points
   window : g.window ≡ k.window
 
 lists_same : (g k : ThermalUnit) → length g.window ≡ length k.window → Agree (list_numbers g) (list_numbers k) →
-    AreSame g k
+    HaveSameLists g k
 lists_same g k long h =
     let r =
     lags_same g.lags k.lags (pos (length g.points) ∷ (flat_map point_numbers g.points ++ map mark_number g.window))
@@ -224,7 +225,7 @@ lists_same g k long h =
     (pos_same (length g.points) (length k.points) r.1.0) r.1.1 in
     record { lags = r.0; points = s.0; window = marks_same g.window k.window long s.1 }
 
-thermal_same : (g k : ThermalUnit) → fixed_numbers g ≡ fixed_numbers k → AreSame g k → g ≡ k
+thermal_same : (g k : ThermalUnit) → fixed_numbers g ≡ fixed_numbers k → HaveSameLists g k → g ≡ k
 thermal_same g k e lists =
     let f0 = flag_same g.must_run k.must_run (cc e) in
     let f1 : g.min_power ≡ k.min_power = cc e in

@@ -1,32 +1,24 @@
 -- Answers, and what they are kept in.
-use Rattle.std.specs.Prelude.{◌≡◌, ℕ, ℤ, pos, Bool, List, [], length, map, min, slice_index_or}
+use Rattle.std.specs.Prelude.{◌≡◌, ℕ, ℤ, Bool, List, [], length, map, min, slice_index_or}
 use Rattle.std.specs.List.{range_with_len}
-use Rattle.uc_model.specs.Data.{Schedule}
 use Rattle.uc_model.specs.PlainUnits.{schedule_of}
 use Rattle.plain_lists.specs.Sums.{int_at}
 use Rattle.uc_model.specs.declared.units.Answered.{Answered}
+use Rattle.board_store.specs.Board.{Answer}
 use Rattle.board_store.specs.Tables.{Rows}
-
--- an answer: what the unit does, and what that earns
-pub record Kept : Type 0 where
-  pub schedule : Schedule
-  pub earned : ℤ
-
-abbrev pub nothing : Kept
-nothing = record { schedule = record { on = []; power = []; reserve = [] }; earned = pos 0 }
 
 -- what a contract sees of a store: its answers, whose lists have a number for each period, and how
 -- many more may be put
 pub record Answers : Type 0 where
   pub periods : ℕ
   pub left : ℕ
-  pub answers : List Kept
+  pub answers : List Answer
 
 -- an answer without the room of its lists
-abbrev pub kept_of : Answered → Kept
-kept_of a = record { schedule = schedule_of a.response; earned = a.earned }
+abbrev pub answer_of : Answered → Answer
+answer_of a = record { schedule = schedule_of a.response; earned = a.earned }
 
-abbrev pub answer_in : List (List Bool) → List (List ℕ) → List (List ℕ) → List ℤ → ℕ → Kept
+abbrev pub answer_in : List (List Bool) → List (List ℕ) → List (List ℕ) → List ℤ → ℕ → Answer
 answer_in on power reserve earned i = record {
   schedule =
       record {
@@ -37,7 +29,7 @@ answer_in on power reserve earned i = record {
   earned = int_at earned i;
 }
 
-abbrev pub answers_in : List (List Bool) → List (List ℕ) → List (List ℕ) → List ℤ → List Kept
+abbrev pub answers_in : List (List Bool) → List (List ℕ) → List (List ℕ) → List ℤ → List Answer
 answers_in on power reserve earned =
     map (answer_in on power reserve earned) (range_with_len 0 (length earned))
 

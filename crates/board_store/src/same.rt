@@ -128,7 +128,7 @@ fn alike_periods(a: &BlockLists, b: &BlockLists) -> u32
 
 /// How many numbers the flat lists of two tasks begin with alike, as far as that is seen at once:
 /// up to the first period with other blocks where both are of bids at the same prices.
-pub fn alike(own: &Task, task: &Task) -> u32
+pub fn count_alike(own: &Task, task: &Task) -> u32
     ensures { AreSame (task_numbers (prices_of own.now.prices) (task_unit own.now))
         (task_numbers (prices_of task.now.prices) (task_unit task.now)) result }
 {

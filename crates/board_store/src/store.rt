@@ -3,7 +3,8 @@ ghost use Rattle.std.specs.Prelude.{◌≡◌, ◌+◌, ◌*◌, ◌<◌, ◌≤
 ghost use Rattle.std.specs.Prelude.{slice_index_or, slice_set};
 ghost use Rattle.uc_model.specs.PlainUnits.{schedule_of};
 ghost use Rattle.plain_lists.specs.declared.limits.TheConstants.{MOST_TASKS, MOST_WORK};
-ghost use Rattle.board_store.specs.Answers.{nothing, kept_of};
+ghost use Rattle.board_store.specs.Answers.{answer_of};
+ghost use Rattle.board_store.specs.Board.{no_answer};
 
 use crate::table::Table;
 use std::alloc::{AllocError, Global};
@@ -20,7 +21,7 @@ pub struct Store {
     earned: Vec<i64>,
 }
 
-// Written out, so that a drop of it is a call, and not one for each list.
+// By hand, so that dropping it is one call.
 impl Drop for Store {
     fn drop(self) {
         let Store {
@@ -84,7 +85,7 @@ impl Store {
         requires left { 1 ≤ self.old.left }
         ensures periods { self.new.periods ≡ self.old.periods }
         ensures left { self.old.left ≤ self.new.left + 1 }
-        ensures answers { self.new.answers ≡ slice_set self.old.answers place (kept_of answer.now) }
+        ensures answers { self.new.answers ≡ slice_set self.old.answers place (answer_of answer.now) }
     {
         let response = &answer.response;
         self.on.put(place, response.on.as_slice(), like);
@@ -96,7 +97,7 @@ impl Store {
     /// What the answer at a place earns, in money.
     pub fn earned(&self, place: usize) -> i64
         requires { place < length self.now.answers }
-        ensures { result ≡ (slice_index_or self.now.answers place nothing).earned }
+        ensures { result ≡ (slice_index_or self.now.answers place no_answer).earned }
     {
         self.earned[place]
     }
@@ -106,7 +107,7 @@ impl Store {
     pub fn take(&self, place: usize, into: &mut Answered)
         requires place { place < length self.now.answers }
         requires horizon { length (schedule_of into.old.response).on ≡ self.now.periods }
-        ensures answer { kept_of into.new ≡ slice_index_or self.now.answers place nothing }
+        ensures answer { answer_of into.new ≡ slice_index_or self.now.answers place no_answer }
         ensures horizon { length (schedule_of into.new.response).on ≡ self.now.periods }
     {
         let response = &mut into.response;

@@ -41,7 +41,7 @@ pub struct Table<T> {
     values: Vec<T>,
 }
 
-// Written out, so that a drop of it is a call, and not one for each list.
+// By hand, so that dropping it is one call.
 impl<T: Drop> Drop for Table<T> {
     fn drop(self) {
         let Table {
@@ -100,7 +100,7 @@ fn add_runs<T: Cell>(lengths: &mut Vec<u8>, values: &mut Vec<T>, count: usize, v
 }
 
 // Adds the runs of a row behind others that have room for as many as the row has cells.
-fn append<T: Cell>(lengths: &mut Vec<u8>, values: &mut Vec<T>, row: &[T])
+fn append_row<T: Cell>(lengths: &mut Vec<u8>, values: &mut Vec<T>, row: &[T])
     requires some { 1 ≤ length row.now }
     requires pairs { length lengths.old.items ≡ length values.old.items }
     requires lengths_room { vec_len lengths.old + length row.now ≤ vec_capacity lengths.old }
@@ -197,7 +197,7 @@ fn start_of<T: Cell>(lengths: &mut Vec<u8>, values: &mut Vec<T>, like: u32, row:
         return 0;
     }
     let behind = values.len() as u32;
-    append(lengths, values, row);
+    append_row(lengths, values, row);
     behind
 }
 

@@ -9,7 +9,7 @@ use Rattle.bundle_columns.proofs.Common.{MixtureLists, AreMixed, IsMixture, AreE
 use Rattle.bundle_columns.proofs.Common.{most_whole, AreOfOne, AreKept, IsKept}
 use Rattle.bundle_columns.proofs.Common.{entry_of, schedule_of}
 use Rattle.gap_proof.specs.declared.mixtures.Entry.{Entry}
-use Rattle.price_settle.proofs.Fixing.{any_thermal}
+use Rattle.plan_check.proofs.UnitsApart.{any_thermal}
 
 -- ---- entries of one schedule
 

@@ -7,7 +7,7 @@ ghost use Rattle.uc_model.specs.Systems.{IsFeasiblePlan};
 ghost use Rattle.uc_model.specs.declared.limits.TheConstants.{MOST_PERIODS};
 ghost use Rattle.bundle_columns.specs.Mixing.{AreOfOne, IsKept};
 
-use crate::copies::copied;
+use crate::copies::copied_response;
 use crate::weights::WHOLE;
 use gap_proof::{Entries, Entry, EntryLists, Mixture};
 use std::alloc::{AllocError, Global};
@@ -22,13 +22,13 @@ fn entries_of_one(alloc: Global, from: &Response, places: u32) -> Result<Entries
         (entries_of entries)) }
 {
     let mut entries = Entries::make(alloc, places)?;
-    let response = copied(alloc, from)?;
+    let response = copied_response(alloc, from)?;
     entries.push(Entry {
         weight: WHOLE,
         response,
     });
     for _ in 1..places {
-        let response = copied(alloc, from)?;
+        let response = copied_response(alloc, from)?;
         entries.push(Entry {
             weight: 0,
             response,

@@ -12,9 +12,9 @@ ghost use Rattle.bundle_columns.specs.Pools.{IsPool, places_in};
 ghost use Rattle.bundle_columns.specs.Weights.{rescheduled, IsFitAt};
 
 use crate::copies::copy_response;
-use crate::weights::{WHOLE, deal};
+use crate::weights::{WHOLE, deal_weights};
 use bundle_master::master::Master;
-use bundle_master::numbers::whole;
+use bundle_master::numbers::floor_within;
 use gap_proof::{Entries, Mixture};
 use plain_lists::lists::Numbers;
 use plan_check::costs::{costs_of_starts, power_costs};
@@ -103,7 +103,7 @@ fn set_column(pool: &mut Pool, case: &Case, number: usize, place: usize, respons
 
 /// Keeps a feasible schedule of the thermal unit of a number as a column, where it is a new one;
 /// tells whether it is. Where there is no free place it takes that of another.
-pub fn keep(pool: &mut Pool, case: &Case, number: usize, response: &Response) -> bool
+pub fn keep_column(pool: &mut Pool, case: &Case, number: usize, response: &Response) -> bool
     requires pool { IsPool (market_of case.now) (places_in pool.old) pool.old }
     requires fit { IsFitAt (market_of case.now) number (schedule_of response.now) }
     ensures { IsPool (market_of case.now) (places_in pool.old) pool.new }
@@ -125,7 +125,7 @@ pub fn keep_answer(pool: &mut Pool, case: &Case, number: usize, response: &Respo
     ensures { IsPool (market_of case.now) (places_in pool.old) pool.new }
 {
     if number < case.thermal.len() {
-        return keep(pool, case, number, response);
+        return keep_column(pool, case, number, response);
     }
     false
 }
@@ -140,7 +140,7 @@ fn read_shares(master: &Master, number: usize, wanted: &mut Numbers)
     for place in 0..wanted.len() {
         let mut weight = 0;
         if place < count {
-            weight = whole(1e12 * master.share(number, place) + 0.5, 0, WHOLE);
+            weight = floor_within(1e12 * master.share(number, place) + 0.5, 0, WHOLE);
         }
         wanted.set(place, weight);
     }
@@ -153,11 +153,11 @@ fn weigh_unit(pool: &mut Pool, case: &Case, number: usize)
     ensures { IsPool (market_of case.now) (places_in pool.old) pool.new }
 {
     read_shares(&pool.master, number, &mut pool.wanted);
-    deal(pool.columns.thermal.get_mut(number), &pool.wanted);
+    deal_weights(pool.columns.thermal.get_mut(number), &pool.wanted);
 }
 
 /// Gives the columns the weights that are their shares in the master problem.
-pub fn weigh(pool: &mut Pool, case: &Case)
+pub fn weigh_columns(pool: &mut Pool, case: &Case)
     requires { IsPool (market_of case.now) (places_in pool.old) pool.old }
     ensures { IsPool (market_of case.now) (places_in pool.old) pool.new }
 {

@@ -62,7 +62,7 @@ fn move_weight(entries: &mut Entries, from: usize, to: usize, amount: i64)
 }
 
 // Moves all weight to one entry.
-fn gather(entries: &mut Entries, base: usize)
+fn gather_weight(entries: &mut Entries, base: usize)
     requires base { base < length entries.old.items }
     requires shares { AreShares most_whole (entries_of entries.old) }
     ensures stays { StaysKept (entries_of entries.old) (entries_of entries.new) }
@@ -104,7 +104,7 @@ fn greatest_place(numbers: &Numbers) -> usize
 
 /// Gives each entry the weight that is wanted for it, as far as there is some left. The entry for
 /// which most is wanted takes what the others leave.
-pub fn deal(entries: &mut Entries, wanted: &Numbers)
+pub fn deal_weights(entries: &mut Entries, wanted: &Numbers)
     requires some { 1 ≤ length entries.old.items }
     requires wanted { length wanted.now.items ≡ length entries.old.items }
     requires shares { AreShares most_whole (entries_of entries.old) }
@@ -113,7 +113,7 @@ pub fn deal(entries: &mut Entries, wanted: &Numbers)
     ensures count { length entries.new.items ≡ length entries.old.items }
 {
     let base = greatest_place(wanted);
-    gather(entries, base);
+    gather_weight(entries, base);
     for place in 0..wanted.len() {
         if place != base {
             hand_out(entries, base, place, *wanted.get(place));

@@ -11,7 +11,7 @@ ghost use Rattle.gap_proof.specs.MixtureBound.{mixture_bound};
 ghost use Rattle.bundle_columns.specs.Mixing.{IsKept};
 ghost use Rattle.bundle_columns.specs.Written.{weighed_of};
 
-use crate::copies::copied;
+use crate::copies::copied_response;
 use gap_proof::{Entries, Entry, EntryLists, Mixture};
 use std::alloc::{AllocError, Global};
 use uc_model::cases::Case;
@@ -27,7 +27,7 @@ fn push_weighed(alloc: Global, entry: &Entry, entries: &mut Entries) -> Result<(
     if entry.weight <= 0 {
         return Ok(());
     }
-    let response = copied(alloc, &entry.response)?;
+    let response = copied_response(alloc, &entry.response)?;
     entries.push(Entry {
         weight: entry.weight,
         response,

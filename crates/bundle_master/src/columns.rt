@@ -109,7 +109,7 @@ fn level_of(columns: &[Column], product: f64) -> f64 {
 }
 
 /// Shares at which all products with the reduced costs are the same. The reduced costs may be off by one number.
-pub fn centre(columns: &mut [Column], product: f64) {
+pub fn centre_columns(columns: &mut [Column], product: f64) {
     let level = level_of(columns, product);
     let mut sum = 0.0;
     for column in columns.iter_mut() {
@@ -134,7 +134,7 @@ pub fn add_to(sums: Sums, columns: &[Column]) -> Sums {
 }
 
 /// Sets the weights; their sum.
-pub fn weigh(columns: &mut [Column]) -> f64 {
+pub fn set_weights(columns: &mut [Column]) -> f64 {
     let mut sum = 0.0;
     for column in columns {
         column.weight = column.share / column.reduced;
@@ -144,15 +144,15 @@ pub fn weigh(columns: &mut [Column]) -> f64 {
 }
 
 /// A number kept within a distance of 0.
-pub fn limited(x: f64, limit: f64) -> f64 {
+pub fn limited_to(x: f64, limit: f64) -> f64 {
     x.max(-limit).min(limit)
 }
 
 /// Sets the pushes to a target; their sum.
-pub fn push(columns: &mut [Column], target: Target) -> f64 {
+pub fn set_pushes(columns: &mut [Column], target: Target) -> f64 {
     let mut sum = 0.0;
     for column in columns {
-        let second = limited(column.share_step * column.reduced_step, target.limit);
+        let second = limited_to(column.share_step * column.reduced_step, target.limit);
         column.push = (target.product - second) / column.reduced - column.share;
         sum += column.push;
     }
@@ -161,7 +161,7 @@ pub fn push(columns: &mut [Column], target: Target) -> f64 {
 
 /// The steps of a group whose columns earn so much more by the step of the prices as their `reduced_step` says: the
 /// group's level moves so that the shares sum to what they did.
-pub fn follow(columns: &mut [Column], weight: f64) {
+pub fn step_columns(columns: &mut [Column], weight: f64) {
     let mut sum = 0.0;
     for column in columns.iter() {
         sum += column.push + column.weight * column.reduced_step;
@@ -175,7 +175,7 @@ pub fn follow(columns: &mut [Column], weight: f64) {
 }
 
 /// The length of a step, or a lesser one at which a number becomes 0.
-pub fn shortened(length: f64, number: f64, step: f64) -> f64 {
+pub fn shortened_length(length: f64, number: f64, step: f64) -> f64 {
     if step < 0.0 && number < -step * length {
         return -number / step;
     }
@@ -183,11 +183,11 @@ pub fn shortened(length: f64, number: f64, step: f64) -> f64 {
 }
 
 /// The lengths of a step, or lesser ones at which a share or a reduced cost becomes 0.
-pub fn longest(columns: &[Column], lengths: Lengths) -> Lengths {
+pub fn longest_column_steps(columns: &[Column], lengths: Lengths) -> Lengths {
     let mut lengths = lengths;
     for column in columns {
-        lengths.primal = shortened(lengths.primal, column.share, column.share_step);
-        lengths.dual = shortened(lengths.dual, column.reduced, column.reduced_step);
+        lengths.primal = shortened_length(lengths.primal, column.share, column.share_step);
+        lengths.dual = shortened_length(lengths.dual, column.reduced, column.reduced_step);
     }
     lengths
 }
@@ -203,7 +203,7 @@ pub fn add_ahead(sum: f64, columns: &[Column], lengths: Lengths) -> f64 {
 }
 
 /// Takes a step of that length.
-pub fn advance(columns: &mut [Column], length: f64) {
+pub fn advance_columns(columns: &mut [Column], length: f64) {
     for column in columns {
         column.share += length * column.share_step;
         column.reduced += length * column.reduced_step;
@@ -212,7 +212,7 @@ pub fn advance(columns: &mut [Column], length: f64) {
 
 /// Adds a part of an amount to the cost of each column. The parts go round from 0 to 1 in steps of the
 /// golden ratio, so that no two are alike; tells where they have come to.
-pub fn perturb(columns: &mut [Column], amount: f64, start: f64) -> f64 {
+pub fn perturb_columns(columns: &mut [Column], amount: f64, start: f64) -> f64 {
     let mut part = start;
     for place in 0..columns.len() {
         part += GOLDEN;

@@ -8,7 +8,7 @@ use crate::rows::{self, HIGHEST, LOWEST, Row};
 use crate::singles::{self, Single};
 use crate::units::{self, Unit};
 use dense_matrix::matrix::Matrix;
-use dense_matrix::vectors::{add_multiple, magnitude};
+use dense_matrix::vectors::{add_multiple, sum_of_magnitudes};
 use std::alloc::{AllocError, Global};
 use std::marker::Model;
 
@@ -95,7 +95,7 @@ impl Model for Master {
         (length m.prices.items) (length m.price_steps.items) (length m.left.items) (length m.right.items) m.matrix };
 }
 
-// Written out, so that a drop of it is a call, and not one for each list.
+// By hand, so that dropping it is one call.
 impl Drop for Master {
     fn drop(self) {
         let Master {
@@ -259,7 +259,7 @@ impl Master {
     pub fn perturb(&mut self, amount: f64)
         ensures { self.new ≡ self.old }
     {
-        units::perturb(self.units.as_mut_slice(), amount);
+        units::perturb_units(self.units.as_mut_slice(), amount);
     }
 
     /// The price of a row.
@@ -300,7 +300,11 @@ impl Master {
     /// Where the last solution ended.
     pub fn standing(&self) -> Standing {
         let sums = self.sums();
-        let (cost, off) = rows::held(self.rows.as_slice(), self.prices.as_slice(), self.ridge);
+        let (cost, off) = rows::ridge_sums(
+            self.rows.as_slice(),
+            self.prices.as_slice(),
+            self.ridge,
+        );
         Standing {
             now: sums.cost + cost,
             products: sums.products,
@@ -326,16 +330,16 @@ impl Master {
     fn centre(&mut self, product: f64)
         ensures { self.new ≡ self.old }
     {
-        units::centre(self.units.as_mut_slice(), self.prices.as_slice(), product);
-        singles::centre(self.singles.as_mut_slice(), self.prices.as_slice(), product);
-        rows::centre(self.rows.as_mut_slice(), self.prices.as_slice(), product);
+        units::centre_units(self.units.as_mut_slice(), self.prices.as_slice(), product);
+        singles::centre_singles(self.singles.as_mut_slice(), self.prices.as_slice(), product);
+        rows::centre_rows(self.rows.as_mut_slice(), self.prices.as_slice(), product);
     }
 
     // Sets what is off in each row; the sum of the magnitudes.
     fn balance(&mut self) -> f64
         ensures { self.new ≡ self.old }
     {
-        rows::begin(
+        rows::begin_rows(
             self.rows.as_slice(),
             self.prices.as_slice(),
             self.ridge,
@@ -343,7 +347,7 @@ impl Master {
         );
         units::take_off(self.units.as_slice(), self.left.as_mut_slice());
         singles::take_off(self.singles.as_slice(), self.left.as_mut_slice());
-        magnitude(self.left.as_slice())
+        sum_of_magnitudes(self.left.as_slice())
     }
 
     fn sums(&self) -> Sums {
@@ -405,9 +409,9 @@ impl Master {
     {
         self.right.copy_from_slice(self.left.as_slice());
         let right = self.right.as_mut_slice();
-        units::push(self.units.as_mut_slice(), target, right);
-        singles::push(self.singles.as_mut_slice(), target, right);
-        rows::push(
+        units::set_unit_pushes(self.units.as_mut_slice(), target, right);
+        singles::set_single_pushes(self.singles.as_mut_slice(), target, right);
+        rows::set_row_steps(
             self.rows.as_mut_slice(),
             self.prices.as_slice(),
             self.price_steps.as_slice(),
@@ -419,9 +423,9 @@ impl Master {
     fn follow(&mut self)
         ensures { self.new ≡ self.old }
     {
-        units::follow(self.units.as_mut_slice(), self.price_steps.as_slice());
-        singles::follow(self.singles.as_mut_slice(), self.price_steps.as_slice());
-        rows::follow(
+        units::step_units(self.units.as_mut_slice(), self.price_steps.as_slice());
+        singles::step_singles(self.singles.as_mut_slice(), self.price_steps.as_slice());
+        rows::step_rows(
             self.rows.as_mut_slice(),
             self.prices.as_slice(),
             self.price_steps.as_slice(),
@@ -433,10 +437,10 @@ impl Master {
             primal: 1.0 / WAY,
             dual: 1.0 / WAY,
         };
-        let lengths = units::longest(self.units.as_slice(), whole);
-        let lengths = singles::longest(self.singles.as_slice(), lengths);
+        let lengths = units::longest_unit_steps(self.units.as_slice(), whole);
+        let lengths = singles::longest_single_steps(self.singles.as_slice(), lengths);
         let prices = self.prices.as_slice();
-        let lengths = rows::longest(
+        let lengths = rows::longest_row_steps(
             self.rows.as_slice(),
             prices,
             self.price_steps.as_slice(),
@@ -469,9 +473,9 @@ impl Master {
     {
         let lengths = self.longest();
         let length = lengths.primal.min(lengths.dual);
-        units::advance(self.units.as_mut_slice(), length);
-        singles::advance(self.singles.as_mut_slice(), length);
-        rows::advance(self.rows.as_mut_slice(), length);
+        units::advance_units(self.units.as_mut_slice(), length);
+        singles::advance_singles(self.singles.as_mut_slice(), length);
+        rows::advance_rows(self.rows.as_mut_slice(), length);
         add_multiple(
             self.prices.as_mut_slice(),
             length,

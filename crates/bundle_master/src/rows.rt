@@ -1,7 +1,7 @@
 //! The rows of a master problem: what is due, and the limits of the price.
 ghost use Rattle.std.specs.Prelude.{◌≡◌, length};
 
-use crate::columns::{Lengths, Sums, Target, limited, shortened};
+use crate::columns::{Lengths, Sums, Target, limited_to, shortened_length};
 use dense_matrix::matrix::Matrix;
 
 /// The greatest price, and the least energy price.
@@ -79,8 +79,8 @@ impl Row {
     /// Sets the steps to a target at an unchanged price; what they take off what is left. The last step's second order
     /// is that of the price's step too.
     pub fn push(&mut self, price: f64, last_step: f64, target: Target) -> f64 {
-        let second_lack = limited(last_step * self.lack_step, target.limit);
-        let second_more = limited(last_step * self.more_step, target.limit);
+        let second_lack = limited_to(last_step * self.lack_step, target.limit);
+        let second_more = limited_to(last_step * self.more_step, target.limit);
         self.lack_step = (target.product + second_lack) / (HIGHEST - price) - self.lack;
         self.more_step = (target.product - second_more) / (price - self.lowest) - self.more;
         self.lack_step - self.more_step
@@ -94,11 +94,11 @@ impl Row {
 
     /// The lengths of a step, or lesser ones at which a number becomes 0.
     pub fn longest(&self, lengths: Lengths, price: f64, price_step: f64) -> Lengths {
-        let primal = shortened(lengths.primal, self.lack, self.lack_step);
-        let dual = shortened(lengths.dual, HIGHEST - price, -price_step);
+        let primal = shortened_length(lengths.primal, self.lack, self.lack_step);
+        let dual = shortened_length(lengths.dual, HIGHEST - price, -price_step);
         Lengths {
-            primal: shortened(primal, self.more, self.more_step),
-            dual: shortened(dual, price - self.lowest, price_step),
+            primal: shortened_length(primal, self.more, self.more_step),
+            dual: shortened_length(dual, price - self.lowest, price_step),
         }
     }
 
@@ -118,7 +118,7 @@ impl Row {
 }
 
 /// Makes the products of all rows the same at those prices.
-pub fn centre(rows: &mut [Row], prices: &[f64], product: f64)
+pub fn centre_rows(rows: &mut [Row], prices: &[f64], product: f64)
     requires { length prices.now ≡ length rows.old }
 {
     for row in 0..rows.len() {
@@ -127,7 +127,7 @@ pub fn centre(rows: &mut [Row], prices: &[f64], product: f64)
 }
 
 /// Sets what the columns have to give.
-pub fn begin(rows: &[Row], prices: &[f64], ridge: f64, due: &mut [f64])
+pub fn begin_rows(rows: &[Row], prices: &[f64], ridge: f64, due: &mut [f64])
     requires prices { length prices.now ≡ length rows.now }
     requires due { length due.old ≡ length rows.now }
 {
@@ -149,7 +149,7 @@ pub fn add_to(rows: &[Row], prices: &[f64], left: &[f64], sums: Sums) -> Sums
 }
 
 /// What the ridge holds, priced; and the sum of the magnitudes.
-pub fn held(rows: &[Row], prices: &[f64], ridge: f64) -> (f64, f64)
+pub fn ridge_sums(rows: &[Row], prices: &[f64], ridge: f64) -> (f64, f64)
     requires { length prices.now ≡ length rows.now }
 {
     let mut cost = 0.0;
@@ -174,7 +174,13 @@ pub fn add_to_matrix(rows: &[Row], prices: &[f64], ridge: f64, matrix: &mut Matr
 }
 
 /// Sets the steps of all rows to a target at unchanged prices, and takes them off a right-hand side.
-pub fn push(rows: &mut [Row], prices: &[f64], last_steps: &[f64], target: Target, right: &mut [f64])
+pub fn set_row_steps(
+    rows: &mut [Row],
+    prices: &[f64],
+    last_steps: &[f64],
+    target: Target,
+    right: &mut [f64],
+)
     requires prices { length prices.now ≡ length rows.old }
     requires steps { length last_steps.now ≡ length rows.old }
     requires right { length right.old ≡ length rows.old }
@@ -185,7 +191,7 @@ pub fn push(rows: &mut [Row], prices: &[f64], last_steps: &[f64], target: Target
 }
 
 /// The steps of all rows at that step of the prices.
-pub fn follow(rows: &mut [Row], prices: &[f64], price_steps: &[f64])
+pub fn step_rows(rows: &mut [Row], prices: &[f64], price_steps: &[f64])
     requires prices { length prices.now ≡ length rows.old }
     requires steps { length price_steps.now ≡ length rows.old }
 {
@@ -195,7 +201,12 @@ pub fn follow(rows: &mut [Row], prices: &[f64], price_steps: &[f64])
 }
 
 /// The lengths of a step, or lesser ones at which a number of a row becomes 0.
-pub fn longest(rows: &[Row], prices: &[f64], price_steps: &[f64], lengths: Lengths) -> Lengths
+pub fn longest_row_steps(
+    rows: &[Row],
+    prices: &[f64],
+    price_steps: &[f64],
+    lengths: Lengths,
+) -> Lengths
     requires prices { length prices.now ≡ length rows.now }
     requires steps { length price_steps.now ≡ length rows.now }
 {
@@ -225,7 +236,7 @@ pub fn add_ahead(
 }
 
 /// Takes a step of that length with all rows.
-pub fn advance(rows: &mut [Row], length: f64) {
+pub fn advance_rows(rows: &mut [Row], length: f64) {
     for row in rows {
         row.advance(length);
     }

@@ -59,7 +59,7 @@ impl Single {
     {
         self.columns[0].reduced = 0.0;
         self.columns[1].reduced = self.columns[1].cost - self.amount * price;
-        columns::centre(&mut self.columns, product);
+        columns::centre_columns(&mut self.columns, product);
     }
 
     /// What the shares give.
@@ -71,7 +71,7 @@ impl Single {
     pub fn weigh(&mut self) -> f64
         ensures { self.new ≡ self.old }
     {
-        self.weight = columns::weigh(&mut self.columns);
+        self.weight = columns::set_weights(&mut self.columns);
         self.mean = self.columns[1].weight * self.amount / self.weight;
         let above = self.amount - self.mean;
         self.columns[0].weight * self.mean * self.mean + self.columns[1].weight * above * above
@@ -81,7 +81,7 @@ impl Single {
     pub fn push(&mut self, target: Target) -> f64
         ensures { self.new ≡ self.old }
     {
-        let sum = columns::push(&mut self.columns, target);
+        let sum = columns::set_pushes(&mut self.columns, target);
         self.columns[1].push * self.amount - sum * self.mean
     }
 
@@ -91,12 +91,12 @@ impl Single {
     {
         self.columns[0].reduced_step = 0.0;
         self.columns[1].reduced_step = self.amount * price_step;
-        columns::follow(&mut self.columns, self.weight);
+        columns::step_columns(&mut self.columns, self.weight);
     }
 
     /// The lengths of a step, or lesser ones at which a share or a reduced cost becomes 0.
     pub fn longest(&self, lengths: Lengths) -> Lengths {
-        columns::longest(&self.columns, lengths)
+        columns::longest_column_steps(&self.columns, lengths)
     }
 
     /// The sum of products with those of the columns after a step of those lengths.
@@ -108,7 +108,7 @@ impl Single {
     pub fn advance(&mut self, length: f64)
         ensures { self.new ≡ self.old }
     {
-        columns::advance(&mut self.columns, length);
+        columns::advance_columns(&mut self.columns, length);
     }
 }
 
@@ -122,7 +122,7 @@ pub fn add_to(singles: &[Single], sums: Sums) -> Sums {
 }
 
 /// Centres all variables at those prices.
-pub fn centre(singles: &mut [Single], prices: &[f64], product: f64)
+pub fn centre_singles(singles: &mut [Single], prices: &[f64], product: f64)
     requires { AreBelow (length prices.now) singles.old }
     ensures { singles.new ≡ singles.old }
 {
@@ -156,7 +156,7 @@ pub fn add_to_matrix(singles: &mut [Single], matrix: &mut Matrix)
 }
 
 /// Sets the pushes of all variables to a target, and takes what they give off a right-hand side.
-pub fn push(singles: &mut [Single], target: Target, right: &mut [f64])
+pub fn set_single_pushes(singles: &mut [Single], target: Target, right: &mut [f64])
     requires { AreBelow (length right.old) singles.old }
     ensures { singles.new ≡ singles.old }
 {
@@ -167,7 +167,7 @@ pub fn push(singles: &mut [Single], target: Target, right: &mut [f64])
 }
 
 /// The steps of all variables at that step of the prices.
-pub fn follow(singles: &mut [Single], price_steps: &[f64])
+pub fn step_singles(singles: &mut [Single], price_steps: &[f64])
     requires { AreBelow (length price_steps.now) singles.old }
     ensures { singles.new ≡ singles.old }
 {
@@ -178,7 +178,7 @@ pub fn follow(singles: &mut [Single], price_steps: &[f64])
 }
 
 /// The lengths of a step, or lesser ones at which a share or a reduced cost of a variable becomes 0.
-pub fn longest(singles: &[Single], lengths: Lengths) -> Lengths {
+pub fn longest_single_steps(singles: &[Single], lengths: Lengths) -> Lengths {
     let mut lengths = lengths;
     for single in singles {
         lengths = single.longest(lengths);
@@ -196,7 +196,7 @@ pub fn add_ahead(sum: f64, singles: &[Single], lengths: Lengths) -> f64 {
 }
 
 /// Takes a step of that length with all variables.
-pub fn advance(singles: &mut [Single], length: f64)
+pub fn advance_singles(singles: &mut [Single], length: f64)
     ensures { singles.new ≡ singles.old }
 {
     for single in 0..singles.len() {

@@ -3,10 +3,10 @@ ghost use Rattle.std.specs.Prelude.{◌≡◌, ◌+◌, ◌<◌, ◌≤◌, leng
 ghost use Rattle.bundle_master.specs.UnitShape.{AreOver};
 
 use crate::columns::{self, Column, Lengths, Sums, Target};
-use crate::numbers::megawatts;
+use crate::numbers::in_megawatts;
 use dense_matrix::matrix::Matrix;
 use dense_matrix::table::Table;
-use dense_matrix::vectors::{add_difference, add_multiple, dot};
+use dense_matrix::vectors::{add_difference, add_multiple, dot_product};
 use std::alloc::{AllocError, Global};
 use std::marker::Model;
 
@@ -20,7 +20,7 @@ pub struct Unit {
     weight: f64,
 }
 
-// Written out, so that a drop of it is a call, and not one for each list.
+// By hand, so that dropping it is one call.
 impl Drop for Unit {
     fn drop(self) {
         let Unit {
@@ -50,7 +50,7 @@ impl Model for Unit {
 }
 
 // The place of the column with the greatest reduced cost.
-fn greatest(columns: &[Column]) -> usize
+fn greatest_reduced_cost(columns: &[Column]) -> usize
     requires { 1 ≤ length columns.now }
     ensures { result < length columns.now }
 {
@@ -64,24 +64,24 @@ fn greatest(columns: &[Column]) -> usize
 }
 
 // Writes kilowatts, from an entry of a row on.
-fn write(amounts: &mut Table, place: usize, first: usize, kilowatts: &[i64])
+fn write_amounts(amounts: &mut Table, place: usize, first: usize, kilowatts: &[i64])
     requires place { place < amounts.old.height }
     requires room { first + length kilowatts.now ≤ amounts.old.width }
     requires width { amounts.old.width ≤ 2000 }
     ensures { amounts.new ≡ amounts.old }
 {
     for period in 0..kilowatts.len() {
-        amounts.set(place, first + period, megawatts(kilowatts[period]));
+        amounts.set(place, first + period, in_megawatts(kilowatts[period]));
     }
 }
 
 // What each column costs at those prices.
-fn reduce(columns: &mut [Column], amounts: &Table, prices: &[f64])
+fn set_reduced_costs(columns: &mut [Column], amounts: &Table, prices: &[f64])
     requires columns { length columns.old ≤ amounts.now.height }
     requires prices { length prices.now ≡ amounts.now.width }
 {
     for place in 0..columns.len() {
-        columns[place].reduced = columns[place].cost - dot(amounts.row(place), prices);
+        columns[place].reduced = columns[place].cost - dot_product(amounts.row(place), prices);
     }
 }
 
@@ -136,12 +136,12 @@ fn take_pushes(columns: &[Column], amounts: &Table, right: &mut [f64])
 }
 
 // What each column earns by that step of the prices.
-fn earn(columns: &mut [Column], amounts: &Table, price_steps: &[f64])
+fn set_reduced_steps(columns: &mut [Column], amounts: &Table, price_steps: &[f64])
     requires columns { length columns.old ≤ amounts.now.height }
     requires steps { length price_steps.now ≡ amounts.now.width }
 {
     for place in 0..columns.len() {
-        columns[place].reduced_step = dot(amounts.row(place), price_steps);
+        columns[place].reduced_step = dot_product(amounts.row(place), price_steps);
     }
 }
 
@@ -150,7 +150,7 @@ impl Unit {
     pub fn perturb(&mut self, amount: f64, start: f64) -> f64
         ensures { self.new ≡ self.old }
     {
-        columns::perturb(self.columns.as_mut_slice(), amount, start)
+        columns::perturb_columns(self.columns.as_mut_slice(), amount, start)
     }
 
     /// A unit with room for so many columns of so many rows.
@@ -189,7 +189,7 @@ impl Unit {
         if count < self.amounts.height() {
             return count;
         }
-        greatest(self.columns.as_slice())
+        greatest_reduced_cost(self.columns.as_slice())
     }
 
     /// Adds or replaces a column: what a schedule costs, and its power and reserve in each period, in kilowatts.
@@ -199,8 +199,8 @@ impl Unit {
         requires rows { length power.now + length reserve.now ≡ self.old.rows }
         ensures { self.new ≡ record self.old { count = max self.old.count (place + 1) } }
     {
-        write(&mut self.amounts, place, 0, power);
-        write(&mut self.amounts, place, power.len(), reserve);
+        write_amounts(&mut self.amounts, place, 0, power);
+        write_amounts(&mut self.amounts, place, power.len(), reserve);
         let mut column = Column::BLANK;
         column.cost = cost;
         if place < self.columns.len() {
@@ -229,8 +229,8 @@ impl Unit {
         requires { length prices.now ≡ self.old.rows }
         ensures { self.new ≡ self.old }
     {
-        reduce(self.columns.as_mut_slice(), &self.amounts, prices);
-        columns::centre(self.columns.as_mut_slice(), product);
+        set_reduced_costs(self.columns.as_mut_slice(), &self.amounts, prices);
+        columns::centre_columns(self.columns.as_mut_slice(), product);
     }
 
     /// Takes what the shares give off what is due.
@@ -258,7 +258,7 @@ impl Unit {
         requires { 1 ≤ self.old.count }
         ensures { self.new ≡ self.old }
     {
-        self.weight = columns::weigh(self.columns.as_mut_slice());
+        self.weight = columns::set_weights(self.columns.as_mut_slice());
         write_mean(
             self.columns.as_slice(),
             &self.amounts,
@@ -275,7 +275,7 @@ impl Unit {
         if self.columns.is_empty() {
             return;
         }
-        let sum = columns::push(self.columns.as_mut_slice(), target);
+        let sum = columns::set_pushes(self.columns.as_mut_slice(), target);
         take_pushes(self.columns.as_slice(), &self.amounts, right);
         add_multiple(right, sum, &self.mean);
     }
@@ -285,13 +285,13 @@ impl Unit {
         requires { length price_steps.now ≡ self.old.rows }
         ensures { self.new ≡ self.old }
     {
-        earn(self.columns.as_mut_slice(), &self.amounts, price_steps);
-        columns::follow(self.columns.as_mut_slice(), self.weight);
+        set_reduced_steps(self.columns.as_mut_slice(), &self.amounts, price_steps);
+        columns::step_columns(self.columns.as_mut_slice(), self.weight);
     }
 
     /// The lengths of a step, or lesser ones at which a share or a reduced cost becomes 0.
     pub fn longest(&self, lengths: Lengths) -> Lengths {
-        columns::longest(self.columns.as_slice(), lengths)
+        columns::longest_column_steps(self.columns.as_slice(), lengths)
     }
 
     /// The sum of products with those of the columns after a step of those lengths.
@@ -303,7 +303,7 @@ impl Unit {
     pub fn advance(&mut self, length: f64)
         ensures { self.new ≡ self.old }
     {
-        columns::advance(self.columns.as_mut_slice(), length);
+        columns::advance_columns(self.columns.as_mut_slice(), length);
     }
 }
 
@@ -317,7 +317,7 @@ pub fn add_to(units: &[Unit], sums: Sums) -> Sums {
 }
 
 /// Adds a part of an amount to the cost of each column of all units, each another part.
-pub fn perturb(units: &mut [Unit], amount: f64)
+pub fn perturb_units(units: &mut [Unit], amount: f64)
     ensures { units.new ≡ units.old }
 {
     let mut part = 0.0;
@@ -327,7 +327,7 @@ pub fn perturb(units: &mut [Unit], amount: f64)
 }
 
 /// Centres all units at those prices.
-pub fn centre(units: &mut [Unit], prices: &[f64], product: f64)
+pub fn centre_units(units: &mut [Unit], prices: &[f64], product: f64)
     requires { AreOver (length prices.now) units.old }
     ensures { units.new ≡ units.old }
 {
@@ -357,7 +357,7 @@ pub fn add_to_matrix(units: &mut [Unit], matrix: &mut Matrix)
 }
 
 /// Sets the pushes of all units to a target, and takes what they give off a right-hand side.
-pub fn push(units: &mut [Unit], target: Target, right: &mut [f64])
+pub fn set_unit_pushes(units: &mut [Unit], target: Target, right: &mut [f64])
     requires { AreOver (length right.old) units.old }
     ensures { units.new ≡ units.old }
 {
@@ -367,7 +367,7 @@ pub fn push(units: &mut [Unit], target: Target, right: &mut [f64])
 }
 
 /// The steps of all units at that step of the prices.
-pub fn follow(units: &mut [Unit], price_steps: &[f64])
+pub fn step_units(units: &mut [Unit], price_steps: &[f64])
     requires { AreOver (length price_steps.now) units.old }
     ensures { units.new ≡ units.old }
 {
@@ -377,7 +377,7 @@ pub fn follow(units: &mut [Unit], price_steps: &[f64])
 }
 
 /// The lengths of a step, or lesser ones at which a share or a reduced cost of a unit becomes 0.
-pub fn longest(units: &[Unit], lengths: Lengths) -> Lengths {
+pub fn longest_unit_steps(units: &[Unit], lengths: Lengths) -> Lengths {
     let mut lengths = lengths;
     for unit in units {
         lengths = unit.longest(lengths);
@@ -395,7 +395,7 @@ pub fn add_ahead(sum: f64, units: &[Unit], lengths: Lengths) -> f64 {
 }
 
 /// Takes a step of that length with all units.
-pub fn advance(units: &mut [Unit], length: f64)
+pub fn advance_units(units: &mut [Unit], length: f64)
     ensures { units.new ≡ units.old }
 {
     for unit in 0..units.len() {

@@ -33,7 +33,7 @@ pub struct UnitDraws {
 
 /// A number from `low` to `high`, by the generator's next word.
 #[tactic(auto, unfolding(crate::specs::Words::draw))]
-pub fn draw(random: &mut Pcg32, low: u32, high: u32) -> u32
+pub fn draw_number(random: &mut Pcg32, low: u32, high: u32) -> u32
     requires range { low ≤ high }
     requires limit { high < 1000 }
     ensures value { result ≡ draw low high (word_at random.old 0) }
@@ -50,15 +50,15 @@ pub fn draw_unit(random: &mut Pcg32) -> UnitDraws
     ensures moved { random.new ≡ moved_on 9 random.old }
 {
     UnitDraws {
-        megawatts: draw(random, 20, 400),
-        least_percent: draw(random, 20, 50),
-        ramp_divisor: draw(random, 2, 6),
-        min_up: draw(random, 1, 8),
-        min_down: draw(random, 1, 8),
-        state: draw(random, 0, 2),
-        energy_cost: draw(random, 15, 60),
-        start_hundreds: draw(random, 1, 50),
-        level_percent: draw(random, 0, 100),
+        megawatts: draw_number(random, 20, 400),
+        least_percent: draw_number(random, 20, 50),
+        ramp_divisor: draw_number(random, 2, 6),
+        min_up: draw_number(random, 1, 8),
+        min_down: draw_number(random, 1, 8),
+        state: draw_number(random, 0, 2),
+        energy_cost: draw_number(random, 15, 60),
+        start_hundreds: draw_number(random, 1, 50),
+        level_percent: draw_number(random, 0, 100),
     }
 }
 

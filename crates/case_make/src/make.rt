@@ -14,10 +14,10 @@ ghost use Rattle.case_make.specs.Words.{moved_on};
 
 use crate::draws::{UnitDraws, draw_unit};
 use crate::growing::Growing;
-use crate::names::name;
-use crate::renewables::{draw_powers, full, renewable};
+use crate::names::name_of_number;
+use crate::renewables::{draw_powers, full_response, renewable_of_powers};
 use crate::schedules::unit_schedule;
-use crate::units::unit;
+use crate::units::unit_of_draws;
 use rand_pcg::Pcg32;
 use std::alloc::{AllocError, Global};
 use uc_model::cases::{Case, Plan};
@@ -42,8 +42,8 @@ fn named_unit(alloc: Global, draws: &UnitDraws, number: u32) -> Result<NamedUnit
     ensures { IfOk result (λ n. named_thermal_of n
         ≡ record { name = name_of 84 number; unit = unit_of draws.now }) }
 {
-    let name = name(alloc, b'T', number)?;
-    let unit = unit(alloc, draws)?;
+    let name = name_of_number(alloc, b'T', number)?;
+    let unit = unit_of_draws(alloc, draws)?;
     Ok(NamedUnit { name, unit })
 }
 
@@ -101,8 +101,8 @@ fn named_flat(alloc: Global, powers: &Powers, number: u32) -> Result<NamedFlat, 
     ensures { IfOk result (λ n. named_renewable_of n
         ≡ record { name = name_of 82 number; unit = renewable_of powers.now.items }) }
 {
-    let name = name(alloc, b'R', number)?;
-    let flat = renewable(alloc, powers)?;
+    let name = name_of_number(alloc, b'R', number)?;
+    let flat = renewable_of_powers(alloc, powers)?;
     Ok(NamedFlat { name, flat })
 }
 
@@ -127,7 +127,7 @@ fn add_flat(
 {
     let powers = draw_powers(alloc, random)?;
     let unit = named_flat(alloc, &powers, number)?;
-    plan.push(full(alloc, powers)?);
+    plan.push(full_response(alloc, powers)?);
     Ok(unit)
 }
 
@@ -212,7 +212,7 @@ fn case_of(
 /// 81 renewable units `R01` to `R81` over 48 periods, all marks free, no bid. Each unit that is on
 /// before the horizon stays on, each other stays off, demand is the schedule's total power, and
 /// nine tenths of its reserve are required. Powers are in kilowatts and costs in millionths of the
-/// currency. `AllocError` is want of memory.
+/// currency. `AllocError` if memory runs out.
 pub fn make_case(alloc: Global, number: u64) -> Result<(Case, Plan), AllocError>
     ensures case { IfOk result (λ pair. market_of pair.0 ≡ (made number).market) }
     ensures plan { IfOk result (λ pair. schedules_of pair.1 ≡ (made number).plan) }

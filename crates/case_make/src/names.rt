@@ -7,7 +7,7 @@ use std::alloc::{AllocError, Global};
 
 /// An ASCII letter and a number in two digits.
 #[tactic(auto, unfolding(crate::specs::Made::name_of))]
-pub fn name(alloc: Global, letter: u8, number: u32) -> Result<Name, AllocError>
+pub fn name_of_number(alloc: Global, letter: u8, number: u32) -> Result<Name, AllocError>
     requires letter { letter < 128 }
     requires number { number < 100 }
     ensures { IfOk result (λ name. name.items ≡ name_of letter number) }

@@ -6,7 +6,7 @@ ghost use Rattle.case_make.specs.Drawn.{most_powers, renewable_of, full};
 ghost use Rattle.case_make.specs.Sizes.{ArePowers};
 ghost use Rattle.case_make.specs.Words.{moved_on};
 
-use crate::draws::draw;
+use crate::draws::draw_number;
 use crate::make::PERIODS;
 use plain_lists::lists::{Flags, Numbers};
 use rand_pcg::Pcg32;
@@ -21,14 +21,14 @@ pub fn draw_powers(alloc: Global, random: &mut Pcg32) -> Result<Powers, AllocErr
     ensures moved { OnOk result (random.new ≡ moved_on 49 random.old) }
 {
     let mut powers = Powers::make(alloc, PERIODS)?;
-    let capacity = 1000 * draw(random, 5, 100);
+    let capacity = 1000 * draw_number(random, 5, 100);
     for _ in 0..PERIODS {
-        powers.push(capacity * draw(random, 0, 100) / 100);
+        powers.push(capacity * draw_number(random, 0, 100) / 100);
     }
     Ok(powers)
 }
 
-fn numbers(alloc: Global, powers: &Powers) -> Result<Numbers, AllocError>
+fn numbers_of_powers(alloc: Global, powers: &Powers) -> Result<Numbers, AllocError>
     requires { length powers.now.items ≤ MOST_PERIODS }
     ensures { IfOk result (λ numbers. numbers.items ≡ map pos powers.now.items) }
 {
@@ -40,18 +40,18 @@ fn numbers(alloc: Global, powers: &Powers) -> Result<Numbers, AllocError>
 }
 
 /// The renewable unit of its greatest powers.
-pub fn renewable(alloc: Global, powers: &Powers) -> Result<Renewable, AllocError>
+pub fn renewable_of_powers(alloc: Global, powers: &Powers) -> Result<Renewable, AllocError>
     requires { ArePowers powers.now.items }
     ensures { IfOk result (λ r. renewable_unit_of r ≡ renewable_of powers.now.items) }
 {
     let least = Numbers::filled(alloc, PERIODS, 0)?;
-    let most = numbers(alloc, powers)?;
+    let most = numbers_of_powers(alloc, powers)?;
     Ok(Renewable { least, most })
 }
 
 /// Its schedule.
 #[tactic(auto, unfolding(crate::specs::Drawn::full))]
-pub fn full(alloc: Global, power: Powers) -> Result<Response, AllocError>
+pub fn full_response(alloc: Global, power: Powers) -> Result<Response, AllocError>
     requires { ArePowers power.items }
     ensures { IfOk result (λ r. schedule_of r ≡ full power.items) }
 {

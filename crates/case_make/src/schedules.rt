@@ -27,7 +27,7 @@ fn power_in(place: u32, level: u32, high: u32) -> u32
     if is_high(place) { high } else { level }
 }
 
-fn powers(alloc: Global, level: u32, high: u32) -> Result<Powers, AllocError>
+fn powers_of_level(alloc: Global, level: u32, high: u32) -> Result<Powers, AllocError>
     ensures { IfOk result (λ powers. powers.items
         ≡ map (power_at level high) (range_with_len 0 48)) }
 {
@@ -39,17 +39,22 @@ fn powers(alloc: Global, level: u32, high: u32) -> Result<Powers, AllocError>
 }
 
 #[tactic(auto, unfolding(crate::specs::Drawn::running))]
-fn running(alloc: Global, level: u32, high: u32, reserve: u32) -> Result<Response, AllocError>
+fn running_response(
+    alloc: Global,
+    level: u32,
+    high: u32,
+    reserve: u32,
+) -> Result<Response, AllocError>
     ensures { IfOk result (λ r. schedule_of r ≡ running level high reserve) }
 {
     let on = Flags::filled(alloc, PERIODS, true)?;
-    let power = powers(alloc, level, high)?;
+    let power = powers_of_level(alloc, level, high)?;
     let reserve = Powers::filled(alloc, PERIODS, reserve)?;
     Ok(Response { on, power, reserve })
 }
 
 #[tactic(auto, unfolding(crate::specs::Drawn::idle))]
-fn idle(alloc: Global) -> Result<Response, AllocError>
+fn idle_response(alloc: Global) -> Result<Response, AllocError>
     ensures { IfOk result (λ r. schedule_of r ≡ idle) }
 {
     let answered = Answered::make(alloc, PERIODS)?;
@@ -64,7 +69,7 @@ pub fn unit_schedule(alloc: Global, draws: &UnitDraws) -> Result<Response, Alloc
     ensures { IfOk result (λ r. schedule_of r ≡ unit_schedule draws.now) }
 {
     if !draws.is_on() {
-        return idle(alloc);
+        return idle_response(alloc);
     }
-    running(alloc, draws.level(), draws.high(), draws.reserve())
+    running_response(alloc, draws.level(), draws.high(), draws.reserve())
 }

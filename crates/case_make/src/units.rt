@@ -12,7 +12,7 @@ use std::alloc::{AllocError, Global};
 use uc_model::units::{Lag, Lags, Mark, Marks, Point, Points, Unit};
 
 // Money from 0 to 10^13.
-fn money(amount: u64) -> i64
+fn money_of(amount: u64) -> i64
     requires { amount ≤ 10000000000000 }
     ensures { result ≡ pos amount }
 {
@@ -21,7 +21,7 @@ fn money(amount: u64) -> i64
 
 // A start costs more after a longer time down.
 #[tactic(auto, unfolding(crate::specs::Drawn::lags_of))]
-fn lags(alloc: Global, draws: &UnitDraws) -> Result<Lags, AllocError>
+fn lags_of_draws(alloc: Global, draws: &UnitDraws) -> Result<Lags, AllocError>
     requires { AreDrawn draws.now }
     ensures { IfOk result (λ lags. lags.items ≡ lags_of draws.now) }
 {
@@ -30,15 +30,15 @@ fn lags(alloc: Global, draws: &UnitDraws) -> Result<Lags, AllocError>
     let mut lags = Lags::make(alloc, 3)?;
     lags.push(Lag {
         lag: first,
-        cost: money(cost),
+        cost: money_of(cost),
     });
     lags.push(Lag {
         lag: first + 4,
-        cost: money(2 * cost),
+        cost: money_of(2 * cost),
     });
     lags.push(Lag {
         lag: first + 12,
-        cost: money(3 * cost),
+        cost: money_of(3 * cost),
     });
     Ok(lags)
 }
@@ -66,7 +66,7 @@ fn next_cost(draws: &UnitDraws, cost: u64, place: u32) -> u64
     cost + u64::from(price) * u64::from(width)
 }
 
-fn point(draws: &UnitDraws, cost: u64, place: u32) -> Point
+fn cost_point(draws: &UnitDraws, cost: u64, place: u32) -> Point
     requires draws { AreDrawn draws.now }
     requires place { place ≤ 3 }
     requires cost { cost ≡ cost_of draws.now place }
@@ -74,21 +74,21 @@ fn point(draws: &UnitDraws, cost: u64, place: u32) -> Point
 {
     Point {
         at: i64::from(draws.point_power(place)),
-        cost: money(cost),
+        cost: money_of(cost),
     }
 }
 
 // Four points that cut the range of power in thirds; a kilowatt costs more in each.
-fn points(alloc: Global, draws: &UnitDraws) -> Result<Points, AllocError>
+fn cost_points(alloc: Global, draws: &UnitDraws) -> Result<Points, AllocError>
     requires { AreDrawn draws.now }
     ensures { IfOk result (λ points. points.items ≡ map (point_of draws.now) (range_with_len 0 4)) }
 {
     let mut points = Points::make(alloc, 4)?;
     let mut cost = first_cost(draws);
-    points.push(point(draws, cost, 0));
+    points.push(cost_point(draws, cost, 0));
     for place in 0..3 {
         cost = next_cost(draws, cost, place);
-        points.push(point(draws, cost, place + 1));
+        points.push(cost_point(draws, cost, place + 1));
     }
     Ok(points)
 }
@@ -116,12 +116,12 @@ fn first_down(draws: &UnitDraws) -> u32
 }
 
 /// The thermal unit of its draws.
-pub fn unit(alloc: Global, draws: &UnitDraws) -> Result<Unit, AllocError>
+pub fn unit_of_draws(alloc: Global, draws: &UnitDraws) -> Result<Unit, AllocError>
     requires { AreDrawn draws.now }
     ensures { IfOk result (λ u. thermal_of u ≡ unit_of draws.now) }
 {
-    let lags = lags(alloc, draws)?;
-    let points = points(alloc, draws)?;
+    let lags = lags_of_draws(alloc, draws)?;
+    let points = cost_points(alloc, draws)?;
     let window = Marks::filled(alloc, PERIODS, Mark::Free)?;
     let limit = draws.min_power() + draws.ramp();
     Ok(Unit {

@@ -21,7 +21,7 @@ pub use Rattle.uc_model.specs.Schedules.{IsFeasible, IsThermalFeasible}
 pub use Rattle.uc_model.specs.Systems.{IsFeasiblePlan}
 pub use Rattle.gap_proof.specs.Mixtures.{WeighedSchedule, MixtureLists, entry_of, entries_of, mixture_of, AreShares}
 pub use Rattle.gap_proof.specs.Mixtures.{AreMixed, IsMixture, AreEntries, HasMixtureShape, most_whole}
-pub use Rattle.convex_search.specs.FoundPrices.{ArePricesOver, IsGoal, IsFound, IsNear, everywhere}
+pub use Rattle.convex_search.specs.FoundPrices.{ArePricesOver, IsNear, everywhere}
 pub use Rattle.bundle_columns.specs.Mixing.{AreOfOne, AreKept, IsKept}
 pub use Rattle.gap_proof.specs.declared.mixtures.Entry.{Entry}
 pub use Rattle.bundle_columns.specs.Weights.{weight_at, reweighed, rescheduled, StaysKept}

@@ -3,7 +3,7 @@ use Rattle.convex_search.proofs.Common.{◌≡◌, ◌≤◌, ℤ, List, [], ◌
 use Rattle.convex_search.proofs.Common.{all_cons, head_of, tail_of, AnyUnit, PriceLists, Market, units, IsTop, IsEarned}
 use Rattle.convex_search.proofs.Common.{IsUnit, IsMarket, ArePrices}
 use Rattle.plain_lists.proofs.ListLaws.{length_same}
-use Rattle.price_settle.proofs.Earned.{few_units}
+use Rattle.price_space.proofs.EarnedSums.{few_units}
 use Rattle.uc_model.specs.BoundLaws.{EarningsAreWithin}
 use Rattle.uc_model.specs.PlanLaws.{UnitsAreNumbered}
 use Rattle.unit_program.specs.Tops.{AreTops}

@@ -1,7 +1,5 @@
 -- The names from elsewhere that the proofs here cite.
 pub mod Common
--- find.rt: what is found
-pub mod Finding
 -- search.rt, oracle.rt: what all units earn
 pub mod Earning
 -- bounds.rt: a box with all prices in it

@@ -1,33 +1,20 @@
--- What a search for convex hull prices is to reach, and what it finds. The dual is that of Gribik,
--- Hogan and Pope (2007), and the mixture is the pseudo-schedule of the bundle literature (Dubost,
--- Gonzalez and Lemarechal 2005); when a search ends is this project's profile.
-use Rattle.std.specs.Prelude.{◌≡◌, ℕ, ◌<◌, ◌≤◌, ◌⊎◌, ℤ, pos, ◌-ℤ◌, ◌*ℤ◌, ◌≤ℤ◌, unsigned_abs, List}
-use Rattle.std.specs.Prelude.{length}
-use Rattle.plain_lists.specs.Ranges.{IsFrom}
-use Rattle.uc_model.specs.Data.{PriceLists, Schedule, Market}
+-- What a search for convex hull prices finds. The dual is that of Gribik, Hogan and Pope (2007), and
+-- the mixture is the pseudo-schedule of the bundle literature (Dubost, Gonzalez and Lemarechal
+-- 2005); when a search ends is this project's profile.
+use Rattle.std.specs.Prelude.{◌≡◌, ℕ, ◌<◌, ◌≤◌, ◌⊎◌, ℤ, pos, ◌-ℤ◌, ◌*ℤ◌, ◌≤ℤ◌, unsigned_abs, length}
+use Rattle.uc_model.specs.Data.{PriceLists, Market}
 use Rattle.uc_model.specs.Limits.{ArePrices}
-use Rattle.plan_check.specs.Settled.{Settled, IsSettledAt, settled_of}
+use Rattle.uc_model.specs.PlainUnits.{prices_of}
+use Rattle.uc_model.specs.Systems.{IsDualValue}
 use Rattle.gap_proof.specs.Mixtures.{MixtureLists, mixture_of, IsMixture, HasMixtureShape}
 use Rattle.gap_proof.specs.MixtureBound.{mixture_bound}
 use Rattle.gap_proof.specs.MixtureSizes.{IsBound}
 use Rattle.convex_search.specs.declared.goals.Goal.{Goal}
-use Rattle.convex_search.specs.declared.goals.TheConstants.{MOST_WITHIN, MOST_ROUNDS}
 use Rattle.convex_search.specs.declared.found.Found.{Found}
 
--- ---- what is to be reached
-
--- a distance that isn't below 0, and one round or more
-pub record IsGoal (g : Goal) : Type 0 where
-  pub within : IsFrom (pos 0) MOST_WITHIN g.within
-  pub some_round : 1 ≤ g.rounds
-  pub rounds : g.rounds ≤ MOST_ROUNDS
-
--- ---- what is found
-
--- the settlement at the prices that were found, the mixture, the bound that it gives, and how many
--- rounds were made
+-- prices, a mixture, the bound that it gives, and how many rounds were made
 pub record FoundPrices : Type 0 where
-  pub settled : Settled
+  pub prices : PriceLists
   pub mixture : MixtureLists
   pub bound : ℤ
   pub made : ℕ
@@ -35,7 +22,7 @@ pub record FoundPrices : Type 0 where
 -- what the program keeps of it
 abbrev pub found_of : Found → FoundPrices
 found_of f = record {
-  settled = settled_of f.settled;
+  prices = prices_of f.prices;
   mixture = mixture_of f.mixture;
   bound = f.bound;
   made = f.made;
@@ -57,16 +44,16 @@ IsNear within bound value =
     ((bound -ℤ value) ≤ℤ within)
     ⊎ ((pos 1000000 *ℤ (bound -ℤ value)) ≤ℤ pos (unsigned_abs value))
 
--- What a search finds for a plan. The prices are within their limits, and what is told of them is
--- the plan's settlement at them. The mixture has feasible schedules of each thermal unit, whose
--- weights sum to its whole, and the bound is the one that it gives on the dual value of all prices.
--- No more rounds were made than asked for, and fewer only where bound and dual value are near.
-pub record IsFound (m : Market) (plan : List Schedule) (g : Goal) (f : FoundPrices) : Type 0 where
-  pub prices : ArePricesOver m f.settled.row.prices
-  pub settled : IsSettledAt m plan f.settled.row.prices f.settled
+-- What a search finds. The prices are within their limits. The mixture has feasible schedules of each
+-- thermal unit, whose weights sum to its whole, and the bound is the one that it gives on the dual
+-- value of all prices. No more rounds were made than asked for, and fewer only where the bound is
+-- near the prices' dual value.
+pub record IsFound (m : Market) (g : Goal) (f : FoundPrices) : Type 0 where
+  pub prices : ArePricesOver m f.prices
   pub shape : HasMixtureShape m f.mixture
   pub mixture : IsMixture m f.mixture
-  pub bound : f.bound ≡ mixture_bound m f.mixture f.settled.row.prices everywhere
+  pub bound : f.bound ≡ mixture_bound m f.mixture f.prices everywhere
   pub bound_size : IsBound f.bound
   pub made : f.made ≤ g.rounds
-  pub near : f.made < g.rounds → IsNear g.within f.bound f.settled.row.value
+  pub near : f.made < g.rounds → (value : ℤ) → IsDualValue m f.prices value →
+      IsNear g.within f.bound value

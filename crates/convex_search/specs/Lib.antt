@@ -1,4 +1,4 @@
--- what a search is to reach, and what it finds
+-- what a search finds
 pub mod FoundPrices
 -- what a search has in hand
 pub mod Searching

@@ -2,42 +2,37 @@
 ghost use Rattle.std.specs.Prelude.{◌<◌, ◌≤◌, IfOk};
 ghost use Rattle.uc_model.specs.PlainCases.{market_of, schedules_of};
 ghost use Rattle.uc_model.specs.Systems.{IsFeasiblePlan};
-ghost use Rattle.convex_search.specs.FoundPrices.{IsGoal, IsFound, IsNear, found_of};
+ghost use Rattle.convex_search.specs.FoundPrices.{IsFound, IsNear, found_of};
 ghost use Rattle.bundle_columns.specs.Pools.{places_in};
 ghost use Rattle.convex_search.specs.Searching.{IsSearch};
 
 use crate::best::Best;
 use crate::found::Found;
 use crate::goals::Goal;
-use crate::oracle::Oracle;
 use crate::rounds::make_rounds;
 use crate::search::Search;
-use crate::short::shorten;
+use crate::short::shorten_mixture;
 use crate::start::open_search;
 use bundle_columns::written::weighed_mixture;
-use price_settle::settle_at;
 use std::alloc::{AllocError, Global};
 use uc_model::cases::{Case, Plan};
 
-// What was found, with the settlement.
+// What was found.
 fn finish(
     alloc: Global,
     case: &Case,
-    plan: &Plan,
     search: Search,
     goal: Goal,
     made: u32,
 ) -> Result<Found, AllocError>
-    requires feasible { IsFeasiblePlan (market_of case.now) (schedules_of plan.now) }
     requires search { IsSearch (market_of case.now) (places_in search.pool) search }
     requires made { made ≤ goal.rounds }
     requires near { made < goal.rounds → IsNear goal.within search.best.bound search.best.value }
-    ensures { IfOk result (λ found. IsFound (market_of case.now) (schedules_of plan.now) goal
-        (found_of found)) }
+    ensures { IfOk result (λ found. IsFound (market_of case.now) goal (found_of found)) }
 {
     let places = search.pool.wanted.len();
     let Search {
-        oracle,
+        oracle: _,
         pool: _,
         best,
         asked: _,
@@ -45,13 +40,6 @@ fn finish(
         point: _,
         trial: _,
     } = search;
-    let Oracle {
-        mut bench,
-        last: _,
-        answer: _,
-        earned: _,
-        given: _,
-    } = oracle;
     let Best {
         prices,
         value: _,
@@ -59,9 +47,8 @@ fn finish(
         bound,
     } = best;
     let mixture = weighed_mixture(alloc, case, places, &mixture)?;
-    let settled = settle_at(alloc, case, plan, prices, &mut bench)?;
     Ok(Found {
-        settled,
+        prices,
         mixture,
         bound,
         made,
@@ -74,15 +61,13 @@ fn finish(
 ///
 /// # Errors
 ///
-/// `AllocError` for want of memory.
+/// `AllocError` if memory runs out.
 pub fn find_convex(alloc: Global, case: &Case, plan: &Plan, goal: Goal) -> Result<Found, AllocError>
-    requires feasible { IsFeasiblePlan (market_of case.now) (schedules_of plan.now) }
-    requires goal { IsGoal goal }
-    ensures { IfOk result (λ found. IsFound (market_of case.now) (schedules_of plan.now) goal
-        (found_of found)) }
+    requires { IsFeasiblePlan (market_of case.now) (schedules_of plan.now) }
+    ensures { IfOk result (λ found. IsFound (market_of case.now) goal (found_of found)) }
 {
     let mut search = open_search(alloc, case, plan)?;
     let made = make_rounds(&mut search, case, goal);
-    shorten(&mut search, case, goal, made);
-    finish(alloc, case, plan, search, goal, made)
+    shorten_mixture(&mut search, case, goal, made);
+    finish(alloc, case, search, goal, made)
 }

@@ -3,9 +3,9 @@
 //!
 //! Convex hull prices are those at which the Lagrangian dual is greatest (Gribik, Hogan and Pope,
 //! "Market-Clearing Electricity Prices and Energy Uplift", 2007). Which prices the search finds is
-//! not promised; what it tells of them is. The prices are within their limits, the settlement is
-//! theirs, each entry of the mixture is a feasible schedule of its unit, and the bound is that of
-//! the mixture over all prices. Whoever reads them needs no trust in the search.
+//! not promised; what it tells of them is. The prices are within their limits, each entry of the
+//! mixture is a feasible schedule of its unit, and the bound is that of the mixture over all prices.
+//! Whoever reads them needs no trust in the search.
 //!
 //! It is a proximal bundle method (Lemarechal, Nemirovskii and Nesterov, "New variants of bundle
 //! methods", 1995) whose columns are the schedules of each thermal unit apart, as Dantzig and Wolfe
@@ -31,4 +31,4 @@ mod start;
 
 pub use find::find_convex;
 pub use found::Found;
-pub use goals::{Goal, MOST_ROUNDS, MOST_WITHIN};
+pub use goals::Goal;

@@ -66,13 +66,13 @@ pub fn near_of(value: f64) -> f64 {
 
 /// How a search begins: with the dual value and the bound of its opening, and the sum of the
 /// squares of what the answers lack there.
-pub fn begin(value: f64, bound: f64, squares: f64) -> Pace {
+pub fn begin_pace(value: f64, bound: f64, squares: f64) -> Pace {
     let near = near_of(value);
     let gap = (bound - value).max(near);
     Pace {
         near,
         gap,
-        reach: limited(gap / squares.max(1.0)),
+        reach: limited_reach(gap / squares.max(1.0)),
         close: false,
         nulls: 0,
         late: 0,
@@ -80,7 +80,7 @@ pub fn begin(value: f64, bound: f64, squares: f64) -> Pace {
     }
 }
 
-fn limited(reach: f64) -> f64 {
+fn limited_reach(reach: f64) -> f64 {
     reach.min(MOST_REACH).max(LEAST_REACH)
 }
 
@@ -98,7 +98,7 @@ impl Pace {
 
     /// After a master problem that wasn't solved.
     pub fn shorten(&mut self) {
-        self.reach = limited(self.reach / GROWTH);
+        self.reach = limited_reach(self.reach / GROWTH);
     }
 
     // Whether the round is one that counts: the centre moves, and the reach grows.
@@ -140,7 +140,7 @@ impl Pace {
             }
             None => self.wait(),
         }
-        self.reach = limited(self.reach);
+        self.reach = limited_reach(self.reach);
         self.gap = (outcome.now - outcome.best).max(self.near);
         self.close = self.gap < CLOSE * self.near || !outcome.is_new;
         grown.is_some()

@@ -6,7 +6,7 @@ ghost use Rattle.plain_lists.specs.Ranges.{IsFrom};
 ghost use Rattle.uc_model.specs.Limits.{price_limit};
 ghost use Rattle.uc_model.specs.PlainUnits.{prices_of};
 
-use bundle_master::numbers::whole;
+use bundle_master::numbers::floor_within;
 use plain_lists::lists::Numbers;
 use std::num::nearest_i64_to_f64;
 use uc_model::limits::PRICE_LIMIT;
@@ -24,7 +24,7 @@ fn round_to(from: &[f64], low: i64, into: &mut Numbers)
     ensures count { length into.new.items ≡ length into.old.items }
 {
     for k in 0..into.len() {
-        into.set(k, whole(1e3 * from[k] + 0.5, low, PRICE_LIMIT));
+        into.set(k, floor_within(1e3 * from[k] + 0.5, low, PRICE_LIMIT));
     }
 }
 
@@ -50,7 +50,7 @@ pub fn read_prices(prices: &Prices, into: &mut [f64])
 }
 
 /// The least price of a row.
-pub fn lowest(row: usize, periods: usize) -> f64 {
+pub fn least_price_of_row(row: usize, periods: usize) -> f64 {
     if row < periods { -HIGHEST } else { 0.0 }
 }
 
@@ -62,6 +62,6 @@ pub fn go_through(from: &[f64], through: &[f64], far: f64, into: &mut [f64])
     let periods = from.len() / 2;
     for row in 0..from.len() {
         let price = from[row] + far * (through[row] - from[row]);
-        into[row] = price.max(lowest(row, periods)).min(HIGHEST);
+        into[row] = price.max(least_price_of_row(row, periods)).min(HIGHEST);
     }
 }

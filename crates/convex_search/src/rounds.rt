@@ -11,12 +11,12 @@ ghost use Rattle.convex_search.specs.Searching.{IsSearch};
 use crate::best::{Best, is_near, is_within};
 use crate::bounds::{bound_of_columns, take_columns};
 use crate::goals::Goal;
-use crate::pace::{Outcome, Pace, begin};
-use crate::points::{HIGHEST, go_through, lowest};
-use crate::search::{Asked, Search, ask_at_point, ask_at_trial, currency};
-use bundle_columns::pool::weigh;
+use crate::pace::{Outcome, Pace, begin_pace};
+use crate::points::{HIGHEST, go_through, least_price_of_row};
+use crate::search::{Asked, Search, ask_at_point, ask_at_trial, in_currency};
+use bundle_columns::pool::weigh_columns;
 use bundle_master::master::Aim;
-use bundle_master::numbers::megawatts;
+use bundle_master::numbers::in_megawatts;
 use uc_model::cases::Case;
 
 /// After so many close rounds a millionth of the dual value is enough.
@@ -43,8 +43,8 @@ fn lacking_squares(search: &Search, case: &Case) -> f64
     let periods = case.periods as usize;
     let mut sum = 0.0;
     for k in 0..periods {
-        let power = megawatts(*case.demand.get(k)) - search.oracle.given[k];
-        let reserve = megawatts(*case.reserves.get(k)) - search.oracle.given[periods + k];
+        let power = in_megawatts(*case.demand.get(k)) - search.oracle.given[k];
+        let reserve = in_megawatts(*case.reserves.get(k)) - search.oracle.given[periods + k];
         let short = reserve.max(0.0);
         sum += power * power + short * short;
     }
@@ -54,9 +54,9 @@ fn lacking_squares(search: &Search, case: &Case) -> f64
 fn first_pace(search: &Search, case: &Case) -> Pace
     requires { IsSearch (market_of case.now) (places_in search.now.pool) search.now }
 {
-    let value = currency(search.best.value);
-    let bound = currency(search.best.bound);
-    begin(value, bound, lacking_squares(search, case))
+    let value = in_currency(search.best.value);
+    let bound = in_currency(search.best.bound);
+    begin_pace(value, bound, lacking_squares(search, case))
 }
 
 /// Puts the centre into the master problem, and its prices there too, or just inside the limits.
@@ -68,7 +68,7 @@ pub fn go_to_centre(search: &mut Search, case: &Case)
     let periods = case.periods as usize;
     for row in 0..2 * periods {
         let low = if row < periods {
-            lowest(row, periods) + INSIDE
+            least_price_of_row(row, periods) + INSIDE
         } else {
             INSIDE_LEAST
         };
@@ -96,7 +96,7 @@ fn prove_bound(search: &mut Search, case: &Case)
     requires { IsSearch (market_of case.now) (places_in search.old.pool) search.old }
     ensures { IsSearch (market_of case.now) (places_in search.old.pool) search.new }
 {
-    weigh(&mut search.pool, case);
+    weigh_columns(&mut search.pool, case);
     let bound = bound_of_columns(search, case);
     if bound < search.best.bound {
         take_columns(search, case, bound);
@@ -164,8 +164,8 @@ fn make_round(search: &mut Search, case: &Case, pace: &mut Pace)
     let outcome = Outcome {
         now: standing.now,
         products: standing.products,
-        value: currency(asked.value),
-        best: currency(search.best.value),
+        value: in_currency(asked.value),
+        best: in_currency(search.best.value),
         is_new: asked.is_new,
     };
     if pace.step(outcome) {

@@ -1,9 +1,6 @@
 //! What a search has in hand.
-ghost use Rattle.std.specs.Prelude.{◌≡◌, ◌<◌, ◌≤◌, ◌+ℤ◌, length, Some, slice_get};
-ghost use Rattle.std.specs.List.{All};
-ghost use Rattle.plain_lists.specs.Sums.{total};
-ghost use Rattle.plain_lists.specs.declared.limits.TheConstants.{MOST_UNITS};
-ghost use Rattle.uc_model.specs.Limits.{IsEarned, IsSum, IsWorth};
+ghost use Rattle.std.specs.Prelude.{◌≡◌, length};
+ghost use Rattle.uc_model.specs.Limits.{IsWorth};
 ghost use Rattle.uc_model.specs.PlainCases.{market_of};
 ghost use Rattle.uc_model.specs.PlainUnits.{prices_of};
 ghost use Rattle.uc_model.specs.Systems.{IsDualValue};
@@ -16,7 +13,7 @@ use crate::oracle::{Oracle, answer_all};
 use crate::points::round_prices;
 use bundle_columns::copies::copy_prices;
 use bundle_columns::pool::Pool;
-use price_space::dual_value;
+use price_space::{dual_value, earned_sum};
 use std::num::nearest_i64_to_f64;
 use uc_model::cases::Case;
 use uc_model::laws::{
@@ -54,38 +51,9 @@ pub struct Asked {
 }
 
 /// Money in the currency.
-pub fn currency(money: i128) -> f64 {
+pub fn in_currency(money: i128) -> f64 {
     let most = i128::from(i64::MAX);
     nearest_i64_to_f64(money.clamp(-most, most) as i64) / 1e6
-}
-
-// What the unit of a number earns.
-fn earned_at(earned: &[i64], number: usize) -> i64
-    requires { number < length earned.now }
-    ensures { slice_get earned.now number ≡ Some result }
-{
-    earned[number]
-}
-
-// The sum with one more unit in it.
-fn sum_with(sum: i128, earned: i64) -> i128
-    requires { IsSum sum }
-    ensures { result ≡ sum +ℤ earned }
-{
-    sum + i128::from(earned)
-}
-
-// The sum of what units earn, in money.
-fn earned_sum(earned: &[i64]) -> i128
-    requires count { length earned.now ≤ MOST_UNITS }
-    requires bound { All IsEarned earned.now }
-    ensures { result ≡ total earned.now }
-{
-    let mut sum = 0;
-    for number in 0..earned.len() {
-        sum = sum_with(sum, earned_at(earned, number));
-    }
-    sum
 }
 
 /// The dual value of prices, at what the best schedules of all units earn.
@@ -104,7 +72,7 @@ pub fn value_at(case: &Case, prices: &Prices, earned: &[i64]) -> i128
 }
 
 /// Asks all units at the prices that are to be asked at; keeps the prices where they are better.
-pub fn ask(search: &mut Search, case: &Case) -> Asked
+pub fn ask_units(search: &mut Search, case: &Case) -> Asked
     requires some { HasSchedules (market_of case.now) }
     requires search { IsSearch (market_of case.now) (places_in search.old.pool) search.old }
     ensures { IsSearch (market_of case.now) (places_in search.old.pool) search.new }
@@ -125,7 +93,7 @@ pub fn ask_at_point(search: &mut Search, case: &Case) -> Asked
     ensures { IsSearch (market_of case.now) (places_in search.old.pool) search.new }
 {
     round_prices(&search.point, &mut search.asked);
-    ask(search, case)
+    ask_units(search, case)
 }
 
 /// And at those nearest to the other point.
@@ -135,5 +103,5 @@ pub fn ask_at_trial(search: &mut Search, case: &Case) -> Asked
     ensures { IsSearch (market_of case.now) (places_in search.old.pool) search.new }
 {
     round_prices(&search.trial, &mut search.asked);
-    ask(search, case)
+    ask_units(search, case)
 }

@@ -13,12 +13,12 @@ use crate::goals::Goal;
 use crate::pace::near_of;
 use crate::points::read_prices;
 use crate::rounds::go_to_centre;
-use crate::search::{Search, currency};
+use crate::search::{Search, in_currency};
 use bundle_columns::copies::copy_mixture;
-use bundle_columns::pool::{Pool, weigh};
-use bundle_columns::weights::{WHOLE, deal, weight_at};
+use bundle_columns::pool::{Pool, weigh_columns};
+use bundle_columns::weights::{WHOLE, deal_weights, weight_at};
 use bundle_master::master::Aim;
-use bundle_master::numbers::{megawatts, whole};
+use bundle_master::numbers::{floor_within, in_megawatts};
 use gap_proof::Entries;
 use plain_lists::lists::Numbers;
 use std::num::nearest_i64_to_f64;
@@ -68,7 +68,7 @@ fn write_wanted(entries: &Entries, threshold: i64, wanted: &mut Numbers)
         let weight = weight_at(entries, place);
         let mut grown = 0;
         if weight >= threshold {
-            grown = whole(1e12 * (nearest_i64_to_f64(weight) / kept) + 0.5, 0, WHOLE);
+            grown = floor_within(1e12 * (nearest_i64_to_f64(weight) / kept) + 0.5, 0, WHOLE);
         }
         wanted.set(place, grown);
     }
@@ -85,10 +85,10 @@ fn leave_out_of(pool: &mut Pool, case: &Case, number: usize, threshold: i64)
         threshold,
         &mut pool.wanted,
     );
-    deal(pool.columns.thermal.get_mut(number), &pool.wanted);
+    deal_weights(pool.columns.thermal.get_mut(number), &pool.wanted);
 }
 
-// The same of all units.
+// Leaves out, unit by unit, the columns below the threshold.
 fn leave_out(pool: &mut Pool, case: &Case, threshold: i64)
     requires { IsPool (market_of case.now) (places_in pool.old) pool.old }
     ensures { IsPool (market_of case.now) (places_in pool.old) pool.new }
@@ -161,10 +161,10 @@ fn solve_perturbed(search: &mut Search, case: &Case, most: i128) -> bool
     ensures search { IsSearch (market_of case.now) (places_in search.old.pool) search.new }
     ensures best { search.new.best ≡ search.old.best }
 {
-    let value = currency(search.best.value);
-    let distance = currency(search.best.bound) - value;
-    let left = (currency(most) - distance).max(0.0);
-    let amount = PERTURBATION * left / megawatts(1000 * case.thermal.len() as i64).max(1.0);
+    let value = in_currency(search.best.value);
+    let distance = in_currency(search.best.bound) - value;
+    let left = (in_currency(most) - distance).max(0.0);
+    let amount = PERTURBATION * left / in_megawatts(1000 * case.thermal.len() as i64).max(1.0);
     search.pool.master.perturb(amount);
     read_prices(&search.best.prices, &mut search.centre);
     go_to_centre(search, case);
@@ -192,7 +192,7 @@ fn shorten_solution(search: &mut Search, case: &Case, most: i128, goal: Goal, ma
         return false;
     }
     for step in 0..THRESHOLDS.len() {
-        weigh(&mut search.pool, case);
+        weigh_columns(&mut search.pool, case);
         if take_above(search, case, THRESHOLDS[step], most, goal, made) {
             return true;
         }
@@ -221,7 +221,7 @@ fn shorten_best(search: &mut Search, case: &Case, most: i128, goal: Goal, made: 
 
 /// Leaves a mixture of fewer entries, as long as the distance stays within what was asked for, or
 /// else grows by a tenth at most.
-pub fn shorten(search: &mut Search, case: &Case, goal: Goal, made: u32)
+pub fn shorten_mixture(search: &mut Search, case: &Case, goal: Goal, made: u32)
     requires search { IsSearch (market_of case.now) (places_in search.old.pool) search.old }
     requires near { made < goal.rounds
         → IsNear goal.within search.old.best.bound search.old.best.value }

@@ -14,9 +14,9 @@ use crate::oracle::{Oracle, answer_all};
 use crate::points::read_prices;
 use crate::search::{Search, value_at};
 use bundle_columns::plans::plan_mixture;
-use bundle_columns::pool::{Pool, keep};
+use bundle_columns::pool::{Pool, keep_column};
 use bundle_master::master::{Master, Sizes, make_master};
-use bundle_master::numbers::megawatts;
+use bundle_master::numbers::in_megawatts;
 use gap_proof::bound_of_mixture;
 use plain_lists::lists::Numbers;
 use std::alloc::{AllocError, Global};
@@ -72,8 +72,8 @@ fn range_of(case: &Case, number: usize, k: usize) -> Range
 {
     let flat = &case.flat.get(number).flat;
     Range {
-        least: megawatts(*flat.least.get(k)),
-        most: megawatts(*flat.most.get(k)),
+        least: in_megawatts(*flat.least.get(k)),
+        most: in_megawatts(*flat.most.get(k)),
     }
 }
 
@@ -106,8 +106,11 @@ fn write_due(master: &mut Master, case: &Case)
 {
     let periods = case.periods as usize;
     for k in 0..periods {
-        master.set_due(k, megawatts(*case.demand.get(k)) - range_at(case, k).least);
-        master.set_due(periods + k, megawatts(*case.reserves.get(k)));
+        master.set_due(
+            k,
+            in_megawatts(*case.demand.get(k)) - range_at(case, k).least,
+        );
+        master.set_due(periods + k, in_megawatts(*case.reserves.get(k)));
     }
 }
 
@@ -141,8 +144,8 @@ fn add_blocks_at(master: &mut Master, case: &Case, blocks: &[Block], k: usize, r
     let mut left = room;
     for block in blocks {
         if block.width > 0 && left > 0 {
-            let amount = megawatts(block.width);
-            master.add_single(k, -amount, -amount * megawatts(block.price));
+            let amount = in_megawatts(block.width);
+            master.add_single(k, -amount, -amount * in_megawatts(block.price));
             left -= 1;
         }
     }
@@ -239,7 +242,7 @@ fn keep_plan(pool: &mut Pool, case: &Case, plan: &Plan)
     ensures { IsPool (market_of case.now) (places_in pool.old) pool.new }
 {
     for number in 0..case.thermal.len() {
-        let _ = keep(pool, case, number, plan.responses.get(number));
+        let _ = keep_column(pool, case, number, plan.responses.get(number));
     }
 }
 

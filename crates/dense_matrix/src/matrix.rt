@@ -2,7 +2,7 @@
 ghost use Rattle.std.specs.Prelude.{◌≡◌, ◌+◌, ◌*◌, ◌<◌, ◌≤◌, length, IfOk};
 
 use crate::table::Table;
-use crate::vectors::{add_multiple, dot};
+use crate::vectors::{add_multiple, dot_product};
 use std::alloc::{AllocError, Global};
 use std::marker::Model;
 
@@ -25,7 +25,7 @@ pub struct Matrix {
     pivot_row: Vec<f64>,
 }
 
-// Written out, so that a drop of it is a call, and not one for each list.
+// By hand, so that dropping it is one call.
 impl Drop for Matrix {
     fn drop(self) {
         let Matrix {
@@ -90,7 +90,7 @@ fn add_columns(entries: &mut [f64], size: usize, columns: &Table)
 }
 
 // Divides the entries of a row by a number, and leaves them in another list too.
-fn divide(row: &mut [f64], by: f64, copy: &mut [f64])
+fn divide_row(row: &mut [f64], by: f64, copy: &mut [f64])
     requires { length copy.old ≡ length row.old }
 {
     for at in 0..row.len() {
@@ -196,7 +196,7 @@ impl Matrix {
     {
         let start = pivot * self.size;
         let root = root_of(self.entries[start + pivot]);
-        divide(
+        divide_row(
             &mut self.entries[start + pivot..start + self.size],
             root,
             &mut self.pivot_row[pivot..],
@@ -242,7 +242,7 @@ impl Matrix {
         for done in 0..right.len() {
             let row = right.len() - 1 - done;
             let of_root = self.root_row(row);
-            let rest = right[row] - dot(&of_root[1..], &right[row + 1..]);
+            let rest = right[row] - dot_product(&of_root[1..], &right[row + 1..]);
             right[row] = rest / of_root[0];
         }
     }

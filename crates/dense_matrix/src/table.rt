@@ -12,7 +12,7 @@ pub struct Table {
     entries: Vec<f64>,
 }
 
-// Written out, so that a drop of it is a call.
+// By hand, so that dropping it is one call.
 impl Drop for Table {
     fn drop(self) {
         let Table {

@@ -2,7 +2,7 @@
 ghost use Rattle.std.specs.Prelude.{◌≡◌, length};
 
 /// The sum of the products of the entries at each place, in four partial sums.
-pub fn dot(a: &[f64], b: &[f64]) -> f64
+pub fn dot_product(a: &[f64], b: &[f64]) -> f64
     requires { length a.now ≡ length b.now }
 {
     let quarters = a.len() / 4;
@@ -54,7 +54,7 @@ pub fn write_difference(into: &mut [f64], factor: f64, list: &[f64], base: &[f64
 }
 
 /// The sum of the entries' magnitudes.
-pub fn magnitude(list: &[f64]) -> f64 {
+pub fn sum_of_magnitudes(list: &[f64]) -> f64 {
     let mut sum = 0.0;
     for entry in list {
         sum += entry.abs();

@@ -12,7 +12,7 @@ ghost use Rattle.uc_model.specs.Ties.{IsLeast};
 ghost use Rattle.flat_answer.specs.Choices.{IsLeastChoice, IsWithinBlocks, bought_at, added_power};
 ghost use Rattle.flat_answer.specs.Choices.{added_gain, most_earned};
 
-use crate::choice::{PowerChoice, earned_at, keep};
+use crate::choice::{PowerChoice, earned_at, keep_choice};
 use uc_model::units::{Answered, Bid, Block, Prices};
 
 // The choice with a block more where it is worth more than it costs.
@@ -77,6 +77,6 @@ pub fn best_bid(bid: &Bid, prices: &Prices, into: &mut Answered)
     into.earned = 0;
     for k in 0..prices.energy.len() {
         let choice = choice_in(bid, prices, k);
-        keep(into, k, choice);
+        keep_choice(into, k, choice);
     }
 }

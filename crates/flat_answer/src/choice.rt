@@ -43,7 +43,7 @@ pub fn choice_at(price: i64, power: i64) -> PowerChoice
 
 /// Keeps the choice of a period: on with that power, no reserve, and what it earns added to what is
 /// earned so far.
-pub fn keep(into: &mut Answered, place: usize, choice: PowerChoice)
+pub fn keep_choice(into: &mut Answered, place: usize, choice: PowerChoice)
     requires place { place < length (schedule_of into.old.response).on }
     requires so_far { IsFrom (neg_ℤ (pos 4000000000000000000)) (pos 4000000000000000000)
         into.old.earned }

@@ -9,7 +9,7 @@ ghost use Rattle.plain_lists.specs.Sums.{int_at};
 ghost use Rattle.uc_model.specs.Ties.{IsLeast};
 ghost use Rattle.flat_answer.specs.Choices.{IsLeastChoice, IsBetween, sold_at};
 
-use crate::choice::{PowerChoice, choice_at, keep};
+use crate::choice::{PowerChoice, choice_at, keep_choice};
 use uc_model::units::{Answered, Prices, Renewable};
 
 // The greatest power where it is paid for, and the least otherwise.
@@ -55,6 +55,6 @@ pub fn best_flat(flat: &Renewable, prices: &Prices, into: &mut Answered)
     into.earned = 0;
     for k in 0..prices.energy.len() {
         let choice = choice_in(flat, prices, k);
-        keep(into, k, choice);
+        keep_choice(into, k, choice);
     }
 }

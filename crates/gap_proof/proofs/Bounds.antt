@@ -1,7 +1,9 @@
 -- Products and sums within bounds.
 use Rattle.gap_proof.proofs.Common.{◌≡◌, ℕ, ◌+◌, ◌*◌, ◌^◌, ◌<◌, ◌≤◌, FitsSigned, ℤ, pos, ◌+ℤ◌, ◌*ℤ◌, arith, ints}
 use Rattle.gap_proof.proofs.Common.{mul-le-mul_right, w128, IsFrom, mul-add, *ℤ_comm, suc_ℤ-*ℤ, zero-*ℤ, IsWithin}
-use Rattle.gap_proof.proofs.Common.{fits_within}
+use Rattle.gap_proof.proofs.Common.{fits_within, floor_div}
+use Rattle.std.specs.Prelude.{negsuc}
+use Rattle.std.proofs.Math.Nat.{div-le_self}
 use mir.Val.{hbits}
 
 pub add-mul : (a b c : ℤ) → (a +ℤ b) *ℤ c ≡ (a *ℤ c) +ℤ (b *ℤ c)
@@ -29,3 +31,14 @@ sum_step c n most sum x h i lt low =
     record { at_least = omega (arith, ints, a, d, more); at_most = omega (arith, ints, b, e, more) } in
     let few : (n + 1) * c ≤ most * c = mul-le-mul_right c (let l : n + 1 ≤ most = omega (arith, lt) in l) in
     record { within = within; fits = fits_within w128 ((n + 1) * c) (sum +ℤ x) within (omega (arith, few, low)) }
+
+-- a quotient that is rounded down isn't larger than what is divided
+pub quotient_within : (n w : ℕ) (a : ℤ) → IsWithin n a → IsWithin n (floor_div a w)
+quotient_within n w (pos a) h =
+    let b = h.at_most in
+    let d = div-le_self a w in
+    record { at_least = omega (arith, ints); at_most = omega (arith, ints, b, d) }
+quotient_within n w (negsuc a) h =
+    let b = h.at_least in
+    let d = div-le_self a w in
+    record { at_least = omega (arith, ints, b, d); at_most = omega (arith, ints) }

@@ -1,12 +1,14 @@
 -- Sums over lists, item by item, and how large they are.
 use Rattle.gap_proof.proofs.Common.{◌≡◌, ℕ, zero, suc, ◌+◌, ◌*◌, ◌<◌, ℤ, pos, neg_ℤ, ◌+ℤ◌, ◌-ℤ◌, ◌*ℤ◌, ◌≤ℤ◌, Some}
 use Rattle.gap_proof.proofs.Common.{List, [], ◌∷◌, map, take, refl, sym, ap, subst, ◌∙◌, arith, ints, *ℤ_comm}
-use Rattle.gap_proof.proofs.Common.{*ℤ-zero, slice_get, All, AllZip, head_of, tail_of, mul-add, mul-mono_of}
+use Rattle.gap_proof.proofs.Common.{*ℤ-zero, slice_get, slice_get-get_or, length, get_or, All, AllZip, head_of}
+use Rattle.gap_proof.proofs.Common.{tail_of, mul-add, mul-mono_of}
 use Rattle.gap_proof.proofs.Common.{mul-sub, IsFrom, IsWithin, total, zip_with, WeighedSchedule}
 use Rattle.std.proofs.Math.IntN.{pos-*ℤ-pos}
-use Rattle.gap_proof.specs.Mixtures.{AreEntries, most_whole}
+use Rattle.gap_proof.specs.Mixtures.{AreEntries, entry_of, most_whole}
+use Rattle.gap_proof.specs.declared.mixtures.Entry.{Entry}
 use Rattle.gap_proof.specs.MixtureSizes.{AreUnitWeights, AreBehind}
-use Rattle.plain_lists.proofs.ListLaws.{none_some, same_item}
+use Rattle.plain_lists.proofs.ListLaws.{none_some, same_item, map_item}
 
 -- ---- one item more
 
@@ -32,6 +34,11 @@ zip_more f (a ∷ xs) (b ∷ ys) (suc i) x y e g =
     let next : suc i + 1 ≡ suc (i + 1) = omega arith in
     let n = ap (λ (j : ℕ). total (zip_with f (take j (a ∷ xs)) (b ∷ ys))) next in
     omega (arith, ints, n, zip_more f xs ys i x y e g)
+
+-- an entry as a weighed schedule
+pub entry_at : (xs : List Entry) (i : ℕ) (x : Entry) → i < length xs → x ≡ get_or xs i x →
+    slice_get (map entry_of xs) i ≡ Some (entry_of x)
+entry_at xs i x lt is = map_item entry_of xs i x (slice_get-get_or xs i x lt ∙ ap Some (sym is))
 
 -- beside an item of the second list stands one of the first
 pub pair_at : {X Y : Type 0} → (R : X → Y → Type 0) (xs : List X) (ys : List Y) (i : ℕ) (y : Y) → AllZip R xs ys →

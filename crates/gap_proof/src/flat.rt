@@ -17,7 +17,7 @@ use uc_model::cases::Case;
 use uc_model::units::{Block, Renewable};
 
 // What a renewable unit earns at best at a place.
-fn sold(flat: &Renewable, place: usize, price: i64) -> i64
+fn renewable_earnings(flat: &Renewable, place: usize, price: i64) -> i64
     requires place { place < length (renewable_of flat.now).least }
     requires price { IsFrom (neg_ℤ price_limit) price_limit price }
     ensures value { result ≡ best_sold (renewable_of flat.now) place price }
@@ -38,13 +38,13 @@ fn renewables_at(case: &Case, place: usize, price: i64) -> i128
 {
     let mut sum: i128 = 0;
     for number in 0..case.flat.len() {
-        sum += i128::from(sold(&case.flat.get(number).flat, place, price));
+        sum += i128::from(renewable_earnings(&case.flat.get(number).flat, place, price));
     }
     sum
 }
 
 // What a block earns its buyer at best.
-fn gain(block: &Block, price: i64) -> i64
+fn block_earnings(block: &Block, price: i64) -> i64
     requires block { IsBlock block.now }
     requires price { IsFrom (neg_ℤ price_limit) price_limit price }
     ensures value { result
@@ -55,7 +55,7 @@ fn gain(block: &Block, price: i64) -> i64
 }
 
 // What blocks earn their buyer at best.
-fn bought(blocks: &[Block], price: i64) -> i64
+fn bid_earnings(blocks: &[Block], price: i64) -> i64
     requires blocks { IsBlockList blocks.now }
     requires price { IsFrom (neg_ℤ price_limit) price_limit price }
     ensures value { result ≡ best_bought blocks.now price }
@@ -63,7 +63,7 @@ fn bought(blocks: &[Block], price: i64) -> i64
 {
     let mut sum = 0;
     for block in blocks {
-        sum += gain(block, price);
+        sum += block_earnings(block, price);
     }
     sum
 }
@@ -79,7 +79,7 @@ fn bids_at(case: &Case, place: usize, price: i64) -> i128
     let mut sum: i128 = 0;
     for number in 0..case.bids.len() {
         let blocks = case.bids.get(number).bid.blocks.get(place).as_slice();
-        sum += i128::from(bought(blocks, price));
+        sum += i128::from(bid_earnings(blocks, price));
     }
     sum
 }

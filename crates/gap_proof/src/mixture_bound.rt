@@ -1,13 +1,12 @@
 //! The bound by a mixture.
-ghost use Rattle.std.specs.Prelude.{◌≡◌, ◌<◌, ◌*◌, pos, neg_ℤ, ◌+ℤ◌, ◌≤ℤ◌, unsigned_abs, length};
+ghost use Rattle.std.specs.Prelude.{◌≡◌, ◌<◌, ◌*◌, neg_ℤ, ◌+ℤ◌, ◌≤ℤ◌, length};
 ghost use Rattle.gap_proof.specs.CertifiedBound.{low_end, high_end};
 ghost use Rattle.gap_proof.specs.PlaneSums.{IsRadius};
 ghost use Rattle.plain_lists.specs.Ranges.{IsFrom};
 ghost use Rattle.uc_model.specs.Limits.{price_limit};
 ghost use Rattle.uc_model.specs.PlainCases.{market_of};
 ghost use Rattle.uc_model.specs.PlainUnits.{prices_of};
-ghost use Rattle.plain_lists.specs.Sums.{floor_div};
-ghost use Rattle.gap_proof.specs.Mixtures.{mixture_of, IsMixture, HasMixtureShape, most_whole};
+ghost use Rattle.gap_proof.specs.Mixtures.{mixture_of, IsMixture, HasMixtureShape};
 ghost use Rattle.gap_proof.specs.MixtureBound.{most_energy as most_energy_of};
 ghost use Rattle.gap_proof.specs.MixtureBound.{most_reserve as most_reserve_of};
 ghost use Rattle.gap_proof.specs.MixtureBound.{mixture_bound};
@@ -16,13 +15,14 @@ ghost use Rattle.gap_proof.specs.MixtureSizes.{IsBound};
 
 use crate::mixture_sums::{cost_of_mixture, lacks_at};
 use crate::mixtures::Mixture;
-use crate::plane_sums::{lower, upper};
+use crate::plane_sums::{high_end_of_price, low_end_of_price};
+use crate::wide::quotient_of;
 use crate::worst::{Interval, Lack, most_energy, most_reserve};
 use uc_model::cases::Case;
 use uc_model::units::Prices;
 
 // The interval of a price of the box.
-fn interval(case: &Case, centre: &Prices, radius: i64, place: usize) -> Interval
+fn price_interval(case: &Case, centre: &Prices, radius: i64, place: usize) -> Interval
     requires horizon { length (prices_of centre.now).energy ≡ (market_of case.now).periods }
     requires radius { IsRadius radius }
     requires place { place < 2 * (market_of case.now).periods }
@@ -33,8 +33,8 @@ fn interval(case: &Case, centre: &Prices, radius: i64, place: usize) -> Interval
     ensures ordered { result.low ≤ℤ result.high }
 {
     Interval {
-        low: lower(case, centre, radius, place),
-        high: upper(case, centre, radius, place),
+        low: low_end_of_price(case, centre, radius, place),
+        high: high_end_of_price(case, centre, radius, place),
     }
 }
 
@@ -56,24 +56,14 @@ fn most_at(case: &Case, mixture: &Mixture, centre: &Prices, radius: i64, place: 
         weight: mixture.weight,
         power: lacks.power,
     };
-    let energy = interval(case, centre, radius, place);
-    let reserve = interval(case, centre, radius, case.periods as usize + place);
+    let energy = price_interval(case, centre, radius, place);
+    let reserve = price_interval(case, centre, radius, case.periods as usize + place);
     most_energy(case, lack, energy) + most_reserve(lacks.reserve, reserve)
-}
-
-// The whole number below the quotient, or the quotient.
-fn quotient(sum: i128, weight: i64) -> i128
-    requires sum { IsBound sum }
-    requires weight { IsFrom (pos 1) most_whole weight }
-    ensures value { result ≡ floor_div sum (unsigned_abs weight) }
-    ensures limit { IsBound result }
-{
-    sum.div_euclid(i128::from(weight))
 }
 
 /// The bound on the dual value of all prices in a box, by a mixture: no whole prices within the
 /// limits, each within `radius` of that of `centre`, have a dual value above it,
-/// `law_bounds::laws::mixture_bound_holds`. Mixture and prices are over the case's units and
+/// `law_runs::bounds::mixture_bound_holds`. Mixture and prices are over the case's units and
 /// periods, and the mixture keeps the rules of `check_mixture`. The radius is from 0 to 20,000,000,
 /// in money for a kilowatt and period; the bound is in money, and within 10^35. Takes no memory.
 pub fn bound_of_mixture(case: &Case, mixture: &Mixture, centre: &Prices, radius: i64) -> i128
@@ -89,5 +79,5 @@ pub fn bound_of_mixture(case: &Case, mixture: &Mixture, centre: &Prices, radius:
     for place in 0..case.periods as usize {
         sum += most_at(case, mixture, centre, radius, place);
     }
-    quotient(sum, mixture.weight)
+    quotient_of(sum, mixture.weight)
 }

@@ -17,6 +17,7 @@ ghost use Rattle.gap_proof.specs.MixtureSizes.{AreUnitWeights, AreBehind, IsGive
 ghost use Rattle.gap_proof.specs.MixtureSizes.{IsLack, IsCostOfOne, IsMixtureCost};
 
 use crate::mixtures::{Entry, Mixture};
+use crate::wide::product_of;
 use plan_check::costs::{costs_of_starts, power_costs};
 use uc_model::cases::Case;
 use uc_model::units::{Response, Unit};
@@ -28,13 +29,6 @@ pub struct Weighed {
     pub power: i128,
     /// The reserve.
     pub reserve: i128,
-}
-
-// So many times a number.
-fn times(weight: i64, number: i64) -> i128
-    ensures { result ≡ weight *ℤ number }
-{
-    i128::from(weight) * i128::from(number)
 }
 
 // What is given with one more entry.
@@ -54,8 +48,8 @@ fn with_entry(given: Weighed, entry: &Entry, place: usize) -> Weighed
 {
     let response = &entry.response;
     Weighed {
-        power: given.power + times(entry.weight, response.power_at(place)),
-        reserve: given.reserve + times(entry.weight, response.reserve_at(place)),
+        power: given.power + product_of(entry.weight, response.power_at(place)),
+        reserve: given.reserve + product_of(entry.weight, response.reserve_at(place)),
     }
 }
 
@@ -106,14 +100,14 @@ fn given_at(case: &Case, mixture: &Mixture, place: usize) -> Weighed
 }
 
 // What is lacking of a power that is required so many times.
-fn lacking(weight: i64, required: i64, given: i128) -> i128
+fn weighted_lack(weight: i64, required: i64, given: i128) -> i128
     requires weight { IsFrom (pos 0) most_whole weight }
     requires required { IsPower required }
     requires given { IsGiven given }
     ensures value { result ≡ (weight *ℤ required) -ℤ given }
     ensures limit { IsLack result }
 {
-    times(weight, required) - given
+    product_of(weight, required) - given
 }
 
 /// What the mixture lacks of demand and of the required reserve at a place, as often as its weight
@@ -128,8 +122,8 @@ pub fn lacks_at(case: &Case, mixture: &Mixture, place: usize) -> Weighed
 {
     let given = given_at(case, mixture, place);
     Weighed {
-        power: lacking(mixture.weight, *case.demand.get(place), given.power),
-        reserve: lacking(mixture.weight, *case.reserves.get(place), given.reserve),
+        power: weighted_lack(mixture.weight, *case.demand.get(place), given.power),
+        reserve: weighted_lack(mixture.weight, *case.reserves.get(place), given.reserve),
     }
 }
 
@@ -156,7 +150,7 @@ fn cost_of_entries(unit: &Unit, entries: &[Entry]) -> i128
 {
     let mut sum: i128 = 0;
     for entry in entries {
-        sum += times(entry.weight, cost_of_one(unit, &entry.response));
+        sum += product_of(entry.weight, cost_of_one(unit, &entry.response));
     }
     sum
 }

@@ -10,7 +10,7 @@ pub struct Entry {
     pub response: Response,
 }
 
-// Written out, so that a drop of it is a call, and not one for each list.
+// By hand, so that dropping it is one call.
 impl Drop for Entry {
     fn drop(self) {
         let Entry {
@@ -34,7 +34,7 @@ pub struct Mixture {
     pub thermal: EntryLists,
 }
 
-// Written out, so that a drop of it is a call, and not one for each list.
+// By hand, so that dropping it is one call.
 impl Drop for Mixture {
     fn drop(self) {
         let Mixture {

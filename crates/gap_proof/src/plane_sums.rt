@@ -15,7 +15,8 @@ ghost use Rattle.gap_proof.specs.PlaneSums.{IsHeightStep, IsHeightSum, IsSlopeSu
 ghost use Rattle.gap_proof.specs.PlaneSums.{IsRiseSum};
 ghost use Rattle.gap_proof.specs.PlaneSums.{least_bound, most_bound};
 
-use crate::planes::{add_slopes, height, price};
+use crate::planes::{add_slopes, height_of_row, price_at_place};
+use crate::wide::quotient_of;
 use plain_lists::lists::Amounts;
 use uc_model::cases::{Case, Row};
 use uc_model::limits::PRICE_LIMIT;
@@ -42,7 +43,7 @@ pub fn clear_slopes(slopes: &mut Amounts)
 }
 
 // So many times a height.
-fn lifted(weight: i64, height: i128) -> i128
+fn weighted_height(weight: i64, height: i128) -> i128
     requires weight { IsWeight weight }
     requires height { IsHeight height }
     ensures value { result ≡ weight *ℤ height }
@@ -71,13 +72,13 @@ pub fn add_row(case: &Case, row: &Row, weight: i64, sums: Sums, slopes: &mut Amo
 {
     add_slopes(case, row, weight, slopes);
     Sums {
-        height: sums.height + lifted(weight, height(case, row)),
+        height: sums.height + weighted_height(weight, height_of_row(case, row)),
         weight: sums.weight + weight,
     }
 }
 
 // The lowest that the price at a place may be.
-fn lowest(case: &Case, place: usize) -> i64
+fn least_price_at(case: &Case, place: usize) -> i64
     ensures value { result ≡ lowest_price (market_of case.now) place }
     ensures limits { IsFrom (neg_ℤ price_limit) (pos 0) result }
 {
@@ -89,29 +90,29 @@ fn lowest(case: &Case, place: usize) -> i64
 
 /// The lower end of a price's interval: within the radius of the centre's price, and within the
 /// limits. Places count the energy prices and then the reserve prices, from 0.
-pub fn lower(case: &Case, centre: &Prices, radius: i64, place: usize) -> i64
+pub fn low_end_of_price(case: &Case, centre: &Prices, radius: i64, place: usize) -> i64
     requires horizon { length (prices_of centre.now).energy ≡ (market_of case.now).periods }
     requires radius { IsRadius radius }
     requires place { place < 2 * (market_of case.now).periods }
     ensures value { result ≡ low_end (market_of case.now) (prices_of centre.now) radius place }
     ensures limits { IsFrom (neg_ℤ price_limit) price_limit result }
 {
-    lowest(case, place).max(price(case, centre, place) - radius)
+    least_price_at(case, place).max(price_at_place(case, centre, place) - radius)
 }
 
 /// The upper end of a price's interval.
-pub fn upper(case: &Case, centre: &Prices, radius: i64, place: usize) -> i64
+pub fn high_end_of_price(case: &Case, centre: &Prices, radius: i64, place: usize) -> i64
     requires horizon { length (prices_of centre.now).energy ≡ (market_of case.now).periods }
     requires radius { IsRadius radius }
     requires place { place < 2 * (market_of case.now).periods }
     ensures value { result ≡ high_end (market_of case.now) (prices_of centre.now) radius place }
     ensures limits { IsFrom (neg_ℤ price_limit) price_limit result }
 {
-    PRICE_LIMIT.min(price(case, centre, place) + radius)
+    PRICE_LIMIT.min(price_at_place(case, centre, place) + radius)
 }
 
 // What a sum of slopes adds at a price.
-fn rise(slope: i128, price: i64) -> i128
+fn rise_of_slopes(slope: i128, price: i64) -> i128
     requires slope { IsSlopeSum slope }
     requires price { IsFrom (neg_ℤ price_limit) price_limit price }
     ensures value { result ≡ slope *ℤ price }
@@ -128,11 +129,11 @@ fn most_between(slope: i128, low: i64, high: i64) -> i128
     ensures value { result ≡ int_max (slope *ℤ low) (slope *ℤ high) }
     ensures bound { IsRise result }
 {
-    rise(slope, low).max(rise(slope, high))
+    rise_of_slopes(slope, low).max(rise_of_slopes(slope, high))
 }
 
 // The most that sums of slopes add at prices of the box.
-fn most(case: &Case, centre: &Prices, radius: i64, slopes: &Amounts) -> i128
+fn most_of_slopes(case: &Case, centre: &Prices, radius: i64, slopes: &Amounts) -> i128
     requires horizon { length (prices_of centre.now).energy ≡ (market_of case.now).periods }
     requires radius { IsRadius radius }
     requires length { length slopes.now.items ≡ 2 * (market_of case.now).periods }
@@ -143,21 +144,11 @@ fn most(case: &Case, centre: &Prices, radius: i64, slopes: &Amounts) -> i128
 {
     let mut total: i128 = 0;
     for place in 0..2 * case.periods as usize {
-        let low = lower(case, centre, radius, place);
-        let high = upper(case, centre, radius, place);
+        let low = low_end_of_price(case, centre, radius, place);
+        let high = high_end_of_price(case, centre, radius, place);
         total += most_between(*slopes.get(place), low, high);
     }
     total
-}
-
-// The whole number below the quotient, or the quotient.
-fn quotient(height: i128, weight: i64) -> i128
-    requires height { IsFrom least_bound most_bound height }
-    requires weight { IsFrom (pos 1) (pos 10000000000) weight }
-    ensures value { result ≡ floor_div height (unsigned_abs weight) }
-    ensures limits { IsFrom least_bound most_bound result }
-{
-    height.div_euclid(i128::from(weight))
 }
 
 /// The greatest height over the box of the mean of the planes that are summed.
@@ -174,8 +165,8 @@ pub fn bound_by(case: &Case, centre: &Prices, radius: i64, sums: Sums, slopes: &
         (unsigned_abs sums.weight) }
     ensures limits { IsFrom least_bound most_bound result }
 {
-    quotient(
-        sums.height + most(case, centre, radius, slopes),
+    quotient_of(
+        sums.height + most_of_slopes(case, centre, radius, slopes),
         sums.weight,
     )
 }

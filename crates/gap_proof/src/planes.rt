@@ -10,13 +10,14 @@ ghost use Rattle.price_space.specs.Sizes.{IsEntry, IsRowOver};
 ghost use Rattle.gap_proof.specs.CertifiedBound.{price_at, slope_at, height_of};
 ghost use Rattle.gap_proof.specs.PlaneSums.{IsRowWithin, IsUpTo, IsWeight, IsHeight, IsSlopeSum};
 
+use crate::wide::product_of;
 use plain_lists::lists::Amounts;
-use price_space::lacking;
+use price_space::lack_of_total;
 use uc_model::cases::{Case, Row};
 use uc_model::units::Prices;
 
 // What the row's totals lack at a price place.
-fn slope(case: &Case, row: &Row, place: usize) -> i64
+fn slope_of_row(case: &Case, row: &Row, place: usize) -> i64
     requires row { IsRowOver (market_of case.now) (proposal_of row.now) }
     requires place { place < 2 * (market_of case.now).periods }
     ensures value { result ≡ slope_at (market_of case.now) (proposal_of row.now) place }
@@ -24,14 +25,14 @@ fn slope(case: &Case, row: &Row, place: usize) -> i64
 {
     let periods = case.periods as usize;
     if place < periods {
-        return lacking(*case.demand.get(place), *row.supply.get(place));
+        return lack_of_total(*case.demand.get(place), *row.supply.get(place));
     }
     let k = place - periods;
-    lacking(*case.reserves.get(k), *row.reserve.get(k))
+    lack_of_total(*case.reserves.get(k), *row.reserve.get(k))
 }
 
 /// The price at a place.
-pub fn price(case: &Case, prices: &Prices, place: usize) -> i64
+pub fn price_at_place(case: &Case, prices: &Prices, place: usize) -> i64
     requires horizon { length (prices_of prices.now).energy ≡ (market_of case.now).periods }
     requires place { place < 2 * (market_of case.now).periods }
     ensures value { result ≡ price_at (market_of case.now) (prices_of prices.now) place }
@@ -45,7 +46,7 @@ pub fn price(case: &Case, prices: &Prices, place: usize) -> i64
 }
 
 // What a slope adds at a price.
-fn rise(slope: i64, price: i64) -> i128
+fn rise_of_slope(slope: i64, price: i64) -> i128
     requires slope { IsEntry slope }
     requires price { IsFrom (neg_ℤ price_limit) price_limit price }
     ensures value { result ≡ slope *ℤ price }
@@ -55,26 +56,19 @@ fn rise(slope: i64, price: i64) -> i128
 }
 
 /// Where the row's plane stands at prices of 0.
-pub fn height(case: &Case, row: &Row) -> i128
+pub fn height_of_row(case: &Case, row: &Row) -> i128
     requires { IsRowWithin (market_of case.now) (proposal_of row.now) }
     ensures value { result ≡ height_of (market_of case.now) (proposal_of row.now) }
     ensures bound { IsHeight result }
 {
     let mut at_prices: i128 = 0;
     for place in 0..2 * case.periods as usize {
-        at_prices += rise(slope(case, row, place), price(case, &row.prices, place));
+        at_prices += rise_of_slope(
+            slope_of_row(case, row, place),
+            price_at_place(case, &row.prices, place),
+        );
     }
     row.value - at_prices
-}
-
-// So many times a slope.
-fn times(weight: i64, slope: i64) -> i128
-    requires weight { IsWeight weight }
-    requires slope { IsEntry slope }
-    ensures value { result ≡ weight *ℤ slope }
-    ensures bound { IsUpTo 20000000000000000000 result }
-{
-    i128::from(weight) * i128::from(slope)
 }
 
 // A sum of slopes with one more in it, so many times.
@@ -84,7 +78,7 @@ fn sum_with(sum: i128, weight: i64, slope: i64) -> i128
     requires slope { IsEntry slope }
     ensures { result ≡ sum +ℤ (weight *ℤ slope) }
 {
-    sum + times(weight, slope)
+    sum + product_of(weight, slope)
 }
 
 /// Adds the row's slopes to the sums at each price place, so many times.
@@ -102,7 +96,7 @@ pub fn add_slopes(case: &Case, row: &Row, weight: i64, slopes: &mut Amounts)
     for place in 0..2 * case.periods as usize {
         slopes.set(
             place,
-            sum_with(*slopes.get(place), weight, slope(case, row, place)),
+            sum_with(*slopes.get(place), weight, slope_of_row(case, row, place)),
         );
     }
 }

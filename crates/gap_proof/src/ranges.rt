@@ -44,7 +44,13 @@ fn sums_of(case: &Case, row: &Row, slopes: &mut Amounts) -> Sums
 }
 
 // The bound round a row by that row alone.
-fn alone(case: &Case, rows: &[Row], number: u32, radius: i64, work: &mut Amounts) -> Certified
+fn bound_by_one_row(
+    case: &Case,
+    rows: &[Row],
+    number: u32,
+    radius: i64,
+    work: &mut Amounts,
+) -> Certified
     requires rows { All (IsRowWithin (market_of case.now)) (map proposal_of rows.now) }
     requires from_one { 1 ≤ number }
     requires to_last { number ≤ length rows.now }
@@ -70,7 +76,7 @@ fn alone(case: &Case, rows: &[Row], number: u32, radius: i64, work: &mut Amounts
 }
 
 // The better of a bound and that by the rows from an earlier one on, which is taken in a tie.
-fn better(best: Certified, first: u32, bound: i128) -> Certified
+fn better_range(best: Certified, first: u32, bound: i128) -> Certified
     ensures last { result.last ≡ best.last }
     ensures taken { bound ≤ℤ best.bound → (result.first ≡ first) × (result.bound ≡ bound) }
     ensures kept { best.bound <ℤ bound → (result.first ≡ best.first) × (result.bound ≡ best.bound) }
@@ -87,7 +93,7 @@ fn better(best: Certified, first: u32, bound: i128) -> Certified
 
 // The best bound round the centre by the rows from one of them to the last, the longest range in
 // a tie.
-fn trailing(
+fn best_suffix_bound(
     case: &Case,
     rows: &[Row],
     centre: &Prices,
@@ -125,7 +131,7 @@ fn trailing(
     for place in (0..count - 1).rev() {
         sums = add_row(case, row_at(rows, place), 1, sums, work);
         let bound = bound_by(case, centre, radius, sums, work);
-        best = better(best, place as u32 + 1, bound);
+        best = better_range(best, place as u32 + 1, bound);
     }
     best
 }
@@ -134,7 +140,7 @@ fn trailing(
 /// or by the rows from one of them to the last. In a tie it is the centre, and then the longest
 /// range. Rows are numbered from 1; they are at most 10,000, over the periods of the case, with
 /// values of at most 10^24 and totals of at most 10^13 in magnitude, which all answered rows are,
-/// `law_bounds::laws::answered_rows_are_within`. The radius is from 0 to 20,000,000, in money for a
+/// `law_runs::bounds::answered_rows_are_within`. The radius is from 0 to 20,000,000, in money for a
 /// kilowatt and period; the bound is in money, and within 10^35. `work` has two numbers for each
 /// period, and is left with any numbers. Takes no memory.
 pub fn best_range(
@@ -156,9 +162,9 @@ pub fn best_range(
     ensures work { length work.new.items ≡ length work.old.items }
     ensures spare { work.new.spare ≡ work.old.spare }
 {
-    let alone = alone(case, rows, centre, radius, work);
+    let alone = bound_by_one_row(case, rows, centre, radius, work);
     let middle = row_at(rows, centre as usize - 1);
-    let trailing = trailing(case, rows, &middle.prices, radius, work);
+    let trailing = best_suffix_bound(case, rows, &middle.prices, radius, work);
     if trailing.bound < alone.bound {
         return trailing;
     }

@@ -4,7 +4,7 @@ use Rattle.hull_command.proofs.Common.{IsAuditText, IsFaultOf, Then, Reads, IsIn
 use Rattle.hull_command.proofs.Common.{IsReported, IsAudit, PlannedCase, Completes, command_for, audit, audit_asked}
 use Rattle.hull_command.proofs.Common.{rest_with, report_of}
 use Rattle.hull_input.specs.Laws.{ReportBytesAreItsText}
-use Rattle.hull_io.specs.declared.command.AuditWords.{AuditWords}
+use Rattle.hull_words.specs.declared.command.AuditWords.{AuditWords}
 use Rattle.report_read.specs.declared.report.Report.{Report as ReadReport}
 use Rattle.hull_command.specs.declared.ready.Purpose.TheVariants.{Audit}
 

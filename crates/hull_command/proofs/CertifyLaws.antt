@@ -4,11 +4,11 @@ use Rattle.hull_command.proofs.Common.{PricesFile, MixtureFile, Reads, IsInput, 
 use Rattle.hull_command.proofs.Common.{planned_of, IsCommandAnswer, IsCertifiedAt, command_for, certify}
 use Rattle.hull_command.proofs.Common.{certify_asked, MixtureLists, mixture_bound}
 use Rattle.uc_model.specs.Data.{PriceLists}
-use Rattle.hull_io.specs.declared.command.CertifyWords.{CertifyWords}
+use Rattle.hull_words.specs.declared.command.CertifyWords.{CertifyWords}
 use Rattle.hull_report.specs.CertifiedText.{certificate_of}
 use Rattle.report_form.specs.CertificateText.{certificate_text}
 use Rattle.hull_input.specs.declared.input.Input.{Input}
-use Rattle.plan_check.specs.Settled.{IsSettledAt, settled_of}
+use Rattle.price_settle.specs.Settled.{IsSettledAt, settled_of}
 use Rattle.hull_command.specs.declared.answer.Answer.TheVariants.{Certify}
 use Rattle.hull_command.specs.declared.answer.CertifiedInput.{CertifiedInput}
 

@@ -3,8 +3,8 @@ pub use Rattle.hull_input.proofs.StepLaws.{answer_then}
 pub use Rattle.hull_command.proofs.AuditLaws.{audit_refused, completes_audit}
 pub use Rattle.hull_command.proofs.CertifyLaws.{answers_certify}
 pub use Rattle.hull_command.proofs.ConvexLaws.{answers_convex}
-pub use Rattle.hull_command.proofs.EndLaws.{refused_words, ends_as, sink_later, before_as, asked_any, handed_on}
-pub use Rattle.hull_command.proofs.EndLaws.{prepared_as, asked_as, never_unread}
+pub use Rattle.hull_command.proofs.EndLaws.{refused_words, ends_as, end_of_text, sink_later, handed_on}
+pub use Rattle.hull_command.proofs.EndLaws.{ended_as, handed_as, before_as, never_unread}
 pub use Rattle.hull_command.proofs.RestLaws.{completes_run, completes_try}
 pub use Rattle.hull_command.proofs.SettleLaws.{answers_settle}
 pub use Rattle.hull_command.proofs.WordSizes.{words_have_sizes, words_have_sizes as sizes}

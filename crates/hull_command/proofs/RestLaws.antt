@@ -3,8 +3,8 @@ use Rattle.hull_command.proofs.Common.{◌≡◌, ℕ, Result, Ok, sym, subst, t
 use Rattle.hull_command.proofs.Common.{planned_run, IsReportText, IsInput, IsWithinWork, IsMade, Then, Reads, Completes}
 use Rattle.hull_command.proofs.Common.{command_for, try, try_asked, HasNumbers, rest_with}
 use Rattle.hull_command.specs.Rest.{IsOfInputAlone, left_of, texts_of, run_with}
-use Rattle.hull_io.specs.declared.command.PriceWords.{PriceWords}
-use Rattle.hull_io.specs.declared.command.TryWords.{TryWords}
+use Rattle.hull_words.specs.declared.command.PriceWords.{PriceWords}
+use Rattle.hull_words.specs.declared.command.TryWords.{TryWords}
 use Rattle.hull_command.specs.declared.ready.Purpose.{Purpose}
 use Rattle.hull_command.specs.declared.ready.Purpose.TheVariants.{Price, Try, Bound, Fixed, Audit}
 

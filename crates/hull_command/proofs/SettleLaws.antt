@@ -2,11 +2,11 @@
 use Rattle.hull_command.proofs.Common.{◌≡◌, Ok, refl, subst, market_of, schedules_of, PricesFile, Reads, IsInput}
 use Rattle.hull_command.proofs.Common.{IsPricesFile, planned_of, IsCommandAnswer, command_for, settle, settle_asked}
 use Rattle.uc_model.specs.Data.{PriceLists}
-use Rattle.hull_io.specs.declared.command.SettleWords.{SettleWords}
+use Rattle.hull_words.specs.declared.command.SettleWords.{SettleWords}
 use Rattle.hull_report.specs.SettledText.{settlement_of}
 use Rattle.report_form.specs.SettlementText.{settlement_text}
 use Rattle.hull_input.specs.declared.input.Input.{Input}
-use Rattle.plan_check.specs.Settled.{IsSettledAt, settled_of}
+use Rattle.price_settle.specs.Settled.{IsSettledAt, settled_of}
 use Rattle.hull_command.specs.declared.answer.Answer.TheVariants.{Settle}
 use Rattle.hull_command.specs.declared.answer.SettledInput.{SettledInput}
 

@@ -10,10 +10,10 @@ use Rattle.hull_command.proofs.Common.{or_missing, asked_of, later_words, words_
 use Rattle.std.proofs.lemmas.Option.{same_Some}
 use Rattle.gap_proof.specs.PlaneSums.{IsRadius}
 use Rattle.std.specs.Str.Parse.{digits_value}
-use Rattle.hull_io.specs.declared.kinds.CommandKind.{CommandKind}
-use Rattle.hull_io.specs.declared.kinds.CommandKind.TheVariants as kinds
-use Rattle.hull_io.specs.Spelling.{command_named}
-use Rattle.hull_io.specs.WordTexts.{is_numeral, number_in}
+use Rattle.hull_words.specs.declared.kinds.CommandKind.{CommandKind}
+use Rattle.hull_words.specs.declared.kinds.CommandKind.TheVariants as kinds
+use Rattle.hull_words.specs.Spelling.{command_named}
+use Rattle.hull_words.specs.WordTexts.{is_numeral, number_in}
 use Rattle.hull_input.specs.Sizes.{IsWithin, IsWorkers, IsRunSize, IsSearchSize}
 use Rattle.hull_command.specs.Sizes.{HasSizes}
 
@@ -66,12 +66,12 @@ radius_of words =
     radius_within _ (given_within 0 20000000 20000000 _ (record { at_least = omega arith; at_most = omega arith }))
 
 sizes_of : (words : List (List ℕ)) → IsRunSize (unwrap_or (found_in words).proposals 100)
-    (unwrap_or (found_in words).workers 4) (unwrap_or (found_in words).ahead 4)
+    (unwrap_or (found_in words).ahead 4) (unwrap_or (found_in words).workers 4)
 unfolding found_in
 sizes_of words = record {
   budget_in = given_within 1 10000 100 _ (record { at_least = omega arith; at_most = omega arith });
-  workers_in = given_within 1 32 4 _ (record { at_least = omega arith; at_most = omega arith });
   ahead_in = given_within 1 16 4 _ (record { at_least = omega arith; at_most = omega arith });
+  callers_in = given_within 1 32 4 _ (record { at_least = omega arith; at_most = omega arith });
 }
 
 search_of : (words : List (List ℕ)) →
@@ -90,11 +90,11 @@ same a b count e = cc
 
 -- the sizes among the values of the words
 record Sizes (found : Found) : Type 0 where
-  run : IsRunSize (unwrap_or found.proposals 100) (unwrap_or found.workers 4) (unwrap_or found.ahead 4)
+  run : IsRunSize (unwrap_or found.proposals 100) (unwrap_or found.ahead 4) (unwrap_or found.workers 4)
   radius : IsRadius (pos (unwrap_or found.radius 20_000_000))
   search : IsSearchSize (unwrap_or found.within 1_000_000) found.rounds
 
-by_price : (names : Option CheckAsked) (budget workers ahead count : ℕ) (a : Asked) → IsRunSize budget workers ahead
+by_price : (names : Option CheckAsked) (budget ahead callers count : ℕ) (a : Asked) → IsRunSize budget ahead callers
     → Gives (option_map price
     (option_map
     (λ (n : CheckAsked).
@@ -102,24 +102,24 @@ by_price : (names : Option CheckAsked) (budget workers ahead count : ℕ) (a : A
       case_name = n.case_name;
       schedule_name = n.schedule_name;
       proposals = budget;
-      workers = workers;
+      workers = callers;
       ahead = ahead;
     } in p) names)) count a → HasSizes a
-by_price None budget workers ahead count a size e = absurd cc
-by_price (Some names) budget workers ahead count a size e = subst HasSizes (same _ a count e) size
+by_price None budget ahead callers count a size e = absurd cc
+by_price (Some names) budget ahead callers count a size e = subst HasSizes (same _ a count e) size
 
 by_check : (names : Option CheckAsked) (count : ℕ) (a : Asked) → Gives (option_map check names) count a → HasSizes a
 by_check None count a e = absurd cc
 by_check (Some names) count a e = subst HasSizes (same _ a count e) tt
 
-by_number : (number : Option ℕ) (budget workers ahead count : ℕ) (a : Asked) → IsRunSize budget workers ahead
-    → Gives (option_map (λ (n : ℕ). try (record { number = n; proposals = budget; workers = workers; ahead = ahead }))
+by_number : (number : Option ℕ) (budget ahead callers count : ℕ) (a : Asked) → IsRunSize budget ahead callers
+    → Gives (option_map (λ (n : ℕ). try (record { number = n; proposals = budget; workers = callers; ahead = ahead }))
     number) count a → HasSizes a
-by_number None budget workers ahead count a size e = absurd cc
-by_number (Some n) budget workers ahead count a size e = subst HasSizes (same _ a count e) size
+by_number None budget ahead callers count a size e = absurd cc
+by_number (Some n) budget ahead callers count a size e = subst HasSizes (same _ a count e) size
 
-by_run : (names : Option CheckAsked) (budget workers ahead : ℕ) (radius : ℤ) (count : ℕ) (a : Asked) →
-    IsRunSize budget workers ahead → IsRadius radius
+by_run : (names : Option CheckAsked) (budget ahead callers : ℕ) (radius : ℤ) (count : ℕ) (a : Asked) →
+    IsRunSize budget ahead callers → IsRadius radius
     → Gives (option_map (λ (r : PriceAsked). bound (record { run = r; radius = radius }))
     (option_map
     (λ (n : CheckAsked).
@@ -127,13 +127,13 @@ by_run : (names : Option CheckAsked) (budget workers ahead : ℕ) (radius : ℤ)
       case_name = n.case_name;
       schedule_name = n.schedule_name;
       proposals = budget;
-      workers = workers;
+      workers = callers;
       ahead = ahead;
     } in p) names)) count a → HasSizes a
-by_run None budget workers ahead radius count a size wide e = absurd cc
-by_run (Some names) budget workers ahead radius count a size wide e = subst HasSizes (same _ a count e) (size, wide)
+by_run None budget ahead callers radius count a size wide e = absurd cc
+by_run (Some names) budget ahead callers radius count a size wide e = subst HasSizes (same _ a count e) (size, wide)
 
-by_fixed : (names : Option CheckAsked) (budget workers ahead count : ℕ) (a : Asked) → IsRunSize budget workers ahead
+by_fixed : (names : Option CheckAsked) (budget ahead callers count : ℕ) (a : Asked) → IsRunSize budget ahead callers
     → Gives (option_map fixed
     (option_map
     (λ (n : CheckAsked).
@@ -141,20 +141,20 @@ by_fixed : (names : Option CheckAsked) (budget workers ahead count : ℕ) (a : A
       case_name = n.case_name;
       schedule_name = n.schedule_name;
       proposals = budget;
-      workers = workers;
+      workers = callers;
       ahead = ahead;
     } in p) names)) count a → HasSizes a
-by_fixed None budget workers ahead count a size e = absurd cc
-by_fixed (Some names) budget workers ahead count a size e = subst HasSizes (same _ a count e) size
+by_fixed None budget ahead callers count a size e = absurd cc
+by_fixed (Some names) budget ahead callers count a size e = subst HasSizes (same _ a count e) size
 
-by_report : (names : Option CheckAsked) (report : Option (List ℕ)) (workers count : ℕ) (a : Asked) → IsWorkers workers
+by_report : (names : Option CheckAsked) (report : Option (List ℕ)) (callers count : ℕ) (a : Asked) → IsWorkers callers
     → Gives (with_both names report
     (λ (n : CheckAsked) (r : List ℕ). audit
-    (record { case_name = n.case_name; schedule_name = n.schedule_name; report_name = r; workers = workers })))
+    (record { case_name = n.case_name; schedule_name = n.schedule_name; report_name = r; workers = callers })))
     count a → HasSizes a
-by_report None report workers count a size e = absurd cc
-by_report (Some n) None workers count a size e = absurd cc
-by_report (Some n) (Some r) workers count a size e = subst HasSizes (same _ a count e) size
+by_report None report callers count a size e = absurd cc
+by_report (Some n) None callers count a size e = absurd cc
+by_report (Some n) (Some r) callers count a size e = subst HasSizes (same _ a count e) size
 
 by_settle : (names : Option SettleAsked) (count : ℕ) (a : Asked) → Gives (option_map settle names) count a → HasSizes a
 by_settle None count a e = absurd cc
@@ -184,7 +184,7 @@ by_kind kinds.Try found count a size e = by_number found.number _ _ _ count a si
 by_kind kinds.Bound found count a size e = by_run (names_from found) _ _ _ _ count a size.run size.radius e
 by_kind kinds.Fixed found count a size e = by_fixed (names_from found) _ _ _ count a size.run e
 by_kind kinds.Audit found count a size e =
-    by_report (names_from found) found.report_name _ count a size.run.workers_in e
+    by_report (names_from found) found.report_name _ count a size.run.callers_in e
 by_kind kinds.Settle found count a size e = by_settle (settle_from found) count a e
 by_kind kinds.Certify found count a size e = by_mixture (settle_from found) found.mixture_name _ count a size.radius e
 by_kind kinds.Convex found count a size e = by_search (names_from found) _ found.rounds count a size.search e

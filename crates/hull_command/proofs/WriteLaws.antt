@@ -7,9 +7,9 @@ use Rattle.board_store.specs.Calls.{own_rows}
 use Rattle.hull_report.specs.BoundText.{bound_text}
 use Rattle.right_report.specs.RecordReport.{chosen_of, value_of, report_of, RecordReportIsRight}
 use Rattle.right_report.specs.RecordReport.{SettlementsAreOfAllUnits}
-use Rattle.price_settle.specs.declared.done.Done.{Done}
-use Rattle.price_settle.specs.declared.bound.Bounded.{Bounded}
-use Rattle.price_settle.specs.Bounded.{IsBounded}
+use Rattle.plan_settle.specs.declared.done.Done.{Done}
+use Rattle.plan_settle.specs.declared.bound.Bounded.{Bounded}
+use Rattle.plan_settle.specs.Bounded.{IsBounded}
 
 module _ {S E : Type 0} {held : S → Option (List ℕ)} {faults : S → ℕ} {last : Option ℕ} {old new : S}
     {r : Result (Unit {0}) E} where

@@ -10,21 +10,21 @@ use Rattle.board_store.specs.Board.{Setup}
 use Rattle.hull_report.specs.AuditText.{audit_text}
 use Rattle.hull_report.specs.CertifiedText.{certificate_of}
 use Rattle.hull_report.specs.CheckText.{check_text}
-use Rattle.hull_report.specs.FaultLines.{fault_line}
+use Rattle.hull_fault.specs.FaultLines.{fault_line}
 use Rattle.right_report.specs.RightSide.{told_of}
 use Rattle.hull_report.specs.FixedText.{fixed_text}
-use Rattle.convex_search.specs.FoundPrices.{IsFound, found_of}
+use Rattle.convex_search.specs.FoundPrices.{FoundPrices, IsFound}
 use Rattle.hull_report.specs.ConvexText.{convex_of}
 use Rattle.report_form.specs.CertificateText.{certificate_text}
 use Rattle.report_form.specs.ConvexText.{convex_text}
-use Rattle.report_form.specs.ReportText.{Report}
+use Rattle.report_form.specs.ReportText.{Report, report_text}
 use Rattle.hull_report.specs.SettledText.{settlement_of}
 use Rattle.report_form.specs.SettlementText.{settlement_text}
 use Rattle.hull_report.specs.TryText.{try_text}
-use Rattle.hull_report.specs.declared.fault.TopFault.{TopFault}
+use Rattle.hull_fault.specs.declared.fault.TopFault.{TopFault}
 use Rattle.hull_command.specs.declared.answer.Answer.{Answer}
-use Rattle.hull_command.specs.declared.answer.Answer.TheVariants.{Check, Settle, Try, Bound, Fixed}
-use Rattle.hull_command.specs.declared.answer.Answer.TheVariants.{Audit, Certify, Convex}
+use Rattle.hull_command.specs.declared.answer.Answer.TheVariants.{Price, Check, Settle, Try, Bound}
+use Rattle.hull_command.specs.declared.answer.Answer.TheVariants.{Fixed, Audit, Certify, Convex}
 use Rattle.hull_command.specs.declared.answer.CertifiedInput.{CertifiedInput}
 use Rattle.hull_command.specs.declared.answer.FoundInput.{FoundInput}
 use Rattle.hull_command.specs.declared.answer.SettledInput.{SettledInput}
@@ -34,11 +34,11 @@ use Rattle.hull_command.specs.Outcome.{Command, IsReportText, IsBoundText}
 use Rattle.hull_input.specs.Answers.{IsFaultOf}
 use Rattle.hull_input.specs.Files.{Reads}
 use Rattle.hull_input.specs.Planned.{PlannedCase, planned_in}
-use Rattle.price_settle.specs.Ended.{IsEnded}
-use Rattle.price_settle.specs.Bounded.{IsBounded}
-use Rattle.price_settle.specs.Compared.{ArePaid}
-use Rattle.plan_check.specs.Settled.{HasEachUnit}
-use Rattle.plan_check.specs.Settled.{settled_of, IsSettledAt}
+use Rattle.plan_settle.specs.Ended.{IsEnded}
+use Rattle.plan_settle.specs.Bounded.{IsBounded}
+use Rattle.plan_settle.specs.Compared.{ArePaid}
+use Rattle.price_settle.specs.Settled.{HasEachUnit}
+use Rattle.price_settle.specs.Settled.{settled_of, IsSettledAt}
 
 -- ---- the answer of a command
 
@@ -49,11 +49,12 @@ IsRunText text_of b = IsReportText text_of b.budget b.ahead (planned_in b)
 -- the text that tells what a search found
 abbrev pub found_text : FoundInput → List ℕ
 found_text x =
-    convex_text (convex_of (market_of x.input.case) x.input.cost (settled_of x.found.settled)
-    (mixture_of x.found.mixture) x.goal.within x.goal.rounds x.found.made x.found.bound)
+    convex_text (convex_of (market_of x.settled.input.case) x.settled.input.cost
+    (settled_of x.settled.settled) (mixture_of x.mixture) x.goal.within x.goal.rounds x.made x.bound)
 
 -- the texts that may be printed of an answer
 abbrev pub IsTextOf : Answer → List ℕ → Type 0
+IsTextOf (Price done) text = IsRunText report_text done.closed.setup text
 IsTextOf (Check input) text = text ≡ check_text (market_of input.case) input.cost
 IsTextOf (Settle s) text =
     text ≡ settlement_text
@@ -84,16 +85,24 @@ pub record HasCertified (x : CertifiedInput) : Type 0 where
 
 -- so it is of what a search found, and its mixture has entries for each thermal unit
 pub record HasFound (x : FoundInput) : Type 0 where
-  pub cost : IsSum x.input.cost
-  pub value : IsWorth x.found.settled.row.value
-  pub each : HasEachUnit (market_of x.input.case) (settled_of x.found.settled)
-  pub shape : HasMixtureShape (market_of x.input.case) (mixture_of x.found.mixture)
-  pub bound : IsTold x.found.bound
+  pub settled : HasSettled x.settled
+  pub shape : HasMixtureShape (market_of x.settled.input.case) (mixture_of x.mixture)
+  pub bound : IsTold x.bound
 
--- what a search finds for the schedule
-abbrev pub IsFoundIn : FoundInput → Type 0
-IsFoundIn x =
-    IsFound (market_of x.input.case) (schedules_of x.input.plan) x.goal (found_of x.found)
+-- what a search found: the prices are those of the settlement
+abbrev pub found_in : FoundInput → FoundPrices
+found_in x = record {
+  prices = (settled_of x.settled.settled).row.prices;
+  mixture = mixture_of x.mixture;
+  bound = x.bound;
+  made = x.made;
+}
+
+-- what a search may find, and the schedule's settlement at the prices that it found
+pub record IsFoundIn (x : FoundInput) : Type 0 where
+  pub found : IsFound (market_of x.settled.input.case) x.goal (found_in x)
+  pub settled : IsSettledAt (market_of x.settled.input.case) (schedules_of x.settled.input.plan)
+      (found_in x).prices (settled_of x.settled.settled)
 
 -- the schedule's settlement at these prices, and the bound round them by this mixture
 pub record IsCertifiedAt (π : PriceLists) (mixture : MixtureLists) (radius : ℤ)
@@ -105,6 +114,7 @@ pub record IsCertifiedAt (π : PriceLists) (mixture : MixtureLists) (radius : �
 
 -- a run that is answered has ended, and each unit is paid
 abbrev pub IsAnswered : Answer → Type 0
+IsAnswered (Price done) = IsEnded done.closed.setup done
 IsAnswered (Check input) = ⊤
 IsAnswered (Settle s) = HasSettled s
 IsAnswered (Certify x) = HasCertified x

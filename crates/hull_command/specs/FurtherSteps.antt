@@ -4,10 +4,10 @@
 use Rattle.std.specs.Prelude.{◌≡◌, ℕ, Result, Ok, Err}
 use Rattle.uc_model.specs.Systems.{IsFeasiblePlan, plan_cost}
 use Rattle.case_make.specs.Made.{made}
-use Rattle.hull_report.specs.declared.fault.FileKind.TheVariants.{ReportFile}
-use Rattle.hull_report.specs.declared.fault.ReportCode.TheVariants.{Wrong}
-use Rattle.hull_report.specs.declared.fault.TopFault.{TopFault}
-use Rattle.hull_report.specs.declared.fault.TopFault.TheVariants.{Report as Unfit}
+use Rattle.hull_fault.specs.declared.fault.FileKind.TheVariants.{ReportFile}
+use Rattle.hull_fault.specs.declared.fault.ReportCode.TheVariants.{Wrong}
+use Rattle.hull_fault.specs.declared.fault.TopFault.{TopFault}
+use Rattle.hull_fault.specs.declared.fault.TopFault.TheVariants.{Report as Unfit}
 use Rattle.report_form.specs.ReportText.{Report}
 use Rattle.right_report.specs.RightReport.{IsRightReport}
 use Rattle.report_compare.specs.Right.{DiffersFromRight}

@@ -1,10 +1,10 @@
 -- What the words of a command ask for.
-use Rattle.hull_io.specs.Asked.{TryAsked, BoundAsked, AuditAsked, CertifyAsked, price_asked}
-use Rattle.hull_io.specs.Asked.{settle_asked}
-use Rattle.hull_io.specs.declared.command.TryWords.{TryWords}
-use Rattle.hull_io.specs.declared.command.BoundWords.{BoundWords}
-use Rattle.hull_io.specs.declared.command.AuditWords.{AuditWords}
-use Rattle.hull_io.specs.declared.command.CertifyWords.{CertifyWords}
+use Rattle.hull_words.specs.Asked.{TryAsked, BoundAsked, AuditAsked, CertifyAsked, price_asked}
+use Rattle.hull_words.specs.Asked.{settle_asked}
+use Rattle.hull_words.specs.declared.command.TryWords.{TryWords}
+use Rattle.hull_words.specs.declared.command.BoundWords.{BoundWords}
+use Rattle.hull_words.specs.declared.command.AuditWords.{AuditWords}
+use Rattle.hull_words.specs.declared.command.CertifyWords.{CertifyWords}
 
 abbrev pub try_asked : TryWords → TryAsked
 try_asked w =

@@ -1,7 +1,7 @@
 -- What holds of all words. The law is the clause of a public function of its name.
 use Rattle.std.specs.Prelude.{◌≡◌, ℕ, List, Ok}
-use Rattle.hull_io.specs.Asked.{Asked}
-use Rattle.hull_io.specs.Words.{words_of}
+use Rattle.hull_words.specs.Asked.{Asked}
+use Rattle.hull_words.specs.Words.{words_of}
 use Rattle.hull_command.specs.Sizes.{HasSizes}
 
 -- the numbers that words ask for are within their ranges

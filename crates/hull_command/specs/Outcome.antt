@@ -20,28 +20,28 @@
 -- a side of `fixed` right is in right_report's RightReport and RightSide. The texts of a report, a
 -- settlement, a certificate and a search are in report_form's ReportText, SettlementText,
 -- CertificateText and ConvexText. The others are in hull_report: CheckText, TryText, BoundText,
--- FixedText, AuditText, FaultLines, and what `settle`, `certify` and `convex` tell in SettledText,
--- CertifiedText and ConvexText. A case with its schedule's commitments held is in price_settle's
--- FixedCase. Which reports are read, and the first line in fault, is in report_read's Bounds and
--- Faults, and the first line at which a report differs from the right one in report_compare's Right.
--- The bound round a row is in gap_proof's Candidates, the bound by a mixture in its MixtureBound, a
--- settlement at any prices in plan_check's Settled, and what a search finds in convex_search's
--- FoundPrices.
+-- FixedText, AuditText, and what `settle`, `certify` and `convex` tell in SettledText,
+-- CertifiedText and ConvexText. The line of a fault is in hull_fault's FaultLines. A case with its
+-- schedule's commitments held is in plan_settle's FixedCase. Which reports are read, and the first
+-- line in fault, is in report_read's Bounds and Faults, and the first line at which a report
+-- differs from the right one in report_compare's Right. The bound round a row is in gap_proof's
+-- Candidates, the bound by a mixture in its MixtureBound, a settlement at any prices in
+-- price_settle's Settled, and what a search finds in convex_search's FoundPrices.
 use Rattle.std.specs.Prelude.{◌≡◌, ◌⊎◌, ℕ, ℤ, pos, List, length, unsigned_abs, Option, None, Some}
 use Rattle.std.specs.Prelude.{Result, Ok, Err}
 use Rattle.uc_model.specs.Data.{PriceLists, Market}
-use Rattle.price_settle.specs.FixedCase.{fixed_market}
+use Rattle.plan_settle.specs.FixedCase.{fixed_market}
 use Rattle.gap_proof.specs.Candidates.{RowRange, IsFirstLeast}
-use Rattle.hull_io.specs.Asked.{Asked, check, price, try, bound, fixed, audit, settle}
-use Rattle.hull_io.specs.Asked.{certify, convex, ConvexAsked}
-use Rattle.hull_io.specs.Words.{words_of}
-use Rattle.hull_io.specs.declared.word_fault.WordFault.{WordFault}
+use Rattle.hull_words.specs.Asked.{Asked, check, price, try, bound, fixed, audit, settle}
+use Rattle.hull_words.specs.Asked.{certify, convex, ConvexAsked}
+use Rattle.hull_words.specs.Words.{words_of}
+use Rattle.hull_words.specs.declared.word_fault.WordFault.{WordFault}
 use Rattle.hull_report.specs.AuditText.{audit_text}
 use Rattle.hull_report.specs.BoundText.{bound_text}
 use Rattle.hull_report.specs.CertifiedText.{certificate_of}
 use Rattle.hull_report.specs.CheckText.{check_text}
 use Rattle.hull_report.specs.ConvexText.{convex_of}
-use Rattle.hull_report.specs.FaultLines.{status_of, fault_line}
+use Rattle.hull_fault.specs.FaultLines.{status_of, fault_line}
 use Rattle.right_report.specs.RightSide.{ToldSide}
 use Rattle.hull_report.specs.FixedText.{fixed_text}
 use Rattle.report_form.specs.CertificateText.{certificate_text}
@@ -52,10 +52,10 @@ use Rattle.right_report.specs.RightSide.{IsRightSide}
 use Rattle.hull_report.specs.SettledText.{settlement_of}
 use Rattle.report_form.specs.SettlementText.{settlement_text}
 use Rattle.hull_report.specs.TryText.{try_text}
-use Rattle.hull_report.specs.declared.fault.FileKind.{FileKind}
-use Rattle.hull_report.specs.declared.fault.FileKind.TheVariants.{ReportFile, PricesFile, MixtureFile}
-use Rattle.hull_report.specs.declared.fault.TopFault.{TopFault}
-use Rattle.hull_report.specs.declared.fault.TopFault.TheVariants.{Words, Memory}
+use Rattle.hull_fault.specs.declared.fault.FileKind.{FileKind}
+use Rattle.hull_fault.specs.declared.fault.FileKind.TheVariants.{ReportFile, PricesFile, MixtureFile}
+use Rattle.hull_fault.specs.declared.fault.TopFault.{TopFault}
+use Rattle.hull_fault.specs.declared.fault.TopFault.TheVariants.{Words, Memory}
 use Rattle.hull_input.specs.Files.{Reads, AreReads, case_and_schedule, with_report, with_prices}
 use Rattle.hull_input.specs.Files.{with_mixture}
 use Rattle.hull_input.specs.Planned.{PlannedCase}
@@ -64,7 +64,7 @@ use Rattle.hull_input.specs.Steps.{IsMixtureFile, IsCertifiable, rounds_for, IsW
 use Rattle.hull_command.specs.declared.end.End.{End}
 use Rattle.hull_command.specs.declared.end.End.TheVariants.{Done, Cut, Refused}
 use Rattle.hull_command.specs.FurtherSteps.{IsMade, IsAudit}
-use Rattle.plan_check.specs.Settled.{Settled, IsSettledAt}
+use Rattle.price_settle.specs.Settled.{Settled, IsSettledAt}
 use Rattle.gap_proof.specs.Mixtures.{MixtureLists}
 use Rattle.gap_proof.specs.MixtureBound.{mixture_bound}
 use Rattle.convex_search.specs.FoundPrices.{FoundPrices, IsFound}
@@ -137,12 +137,13 @@ IsCertificateText prices mixture radius c text =
 abbrev pub goal_for : ConvexAsked → Market → Goal
 goal_for a m = record { within = pos a.within; rounds = rounds_for a.rounds m }
 
--- the text of some prices, a mixture and its bound that such a search may find: which ones it finds
--- isn't said
+-- the text of some prices, a mixture and its bound that such a search may find, with what the schedule
+-- is settled at there: which ones it finds isn't said
 abbrev pub IsConvexText : ConvexAsked → PlannedCase → List ℕ → Type 0
 IsConvexText a c text =
-    (f : FoundPrices) × IsFound c.market c.plan (goal_for a c.market) f
-    × (text ≡ convex_text (convex_of c.market c.cost f.settled f.mixture (pos a.within)
+    (f : FoundPrices) × IsFound c.market (goal_for a c.market) f
+    × (s : Settled) × IsSettledAt c.market c.plan f.prices s
+    × (text ≡ convex_text (convex_of c.market c.cost s f.mixture (pos a.within)
     (rounds_for a.rounds c.market) f.made f.bound))
 
 -- words that are refused at once

@@ -2,13 +2,12 @@
 use Rattle.std.specs.Prelude.{◌≡◌, ⊤, ℕ, List, Option, None, Some, Result, Ok, Err}
 use Rattle.gap_proof.specs.PlaneSums.{IsRadius}
 use Rattle.hull_io.specs.Edge.{Rose}
-use Rattle.hull_io.specs.Asked.{Asked, check, price, try, bound, fixed, audit, settle}
-use Rattle.hull_io.specs.Asked.{certify, convex}
-use Rattle.hull_io.specs.Words.{words_of}
-use Rattle.hull_io.specs.declared.command.PriceWords.{PriceWords}
-use Rattle.hull_io.specs.declared.word_fault.WordFault.{WordFault}
+use Rattle.hull_words.specs.Asked.{Asked, check, price, try, bound, fixed, audit, settle}
+use Rattle.hull_words.specs.Asked.{certify, convex}
+use Rattle.hull_words.specs.declared.command.PriceWords.{PriceWords}
+use Rattle.hull_words.specs.declared.word_fault.WordFault.{WordFault}
 use Rattle.hull_report.specs.TryText.{try_text}
-use Rattle.hull_report.specs.declared.fault.TopFault.{TopFault}
+use Rattle.hull_fault.specs.declared.fault.TopFault.{TopFault}
 use Rattle.report_form.specs.ReportText.{report_text}
 use Rattle.report_read.specs.Plain.{report_of}
 use Rattle.board_core.specs.Setups.{IsSetup, setup_of}
@@ -17,15 +16,13 @@ use Rattle.hull_input.specs.Files.{Reads, case_and_schedule}
 use Rattle.hull_input.specs.Planned.{PlannedCase, planned_run}
 use Rattle.hull_input.specs.Sizes.{IsWorkers}
 use Rattle.hull_input.specs.Steps.{Then, IsInput, IsWithinWork}
-use Rattle.hull_command.specs.Answers.{IsAnswered, IsCommandAnswer, IsEndOf}
+use Rattle.hull_command.specs.Answers.{IsCommandAnswer, IsEndOf}
 use Rattle.hull_command.specs.FurtherSteps.{IsJudged}
-use Rattle.hull_command.specs.Outcome.{Command, command_for, no_files, Ends, IsOutcome, status_at}
+use Rattle.hull_command.specs.Outcome.{Command, command_for, no_files, Ends}
 use Rattle.hull_command.specs.Outcome.{IsReportText, IsBoundText, IsFixedText, IsAuditText}
-use Rattle.hull_command.specs.declared.end.End.{End}
+use Rattle.hull_command.specs.declared.answer.Answer.{Answer}
 use Rattle.hull_command.specs.declared.ready.Before.{Before}
 use Rattle.hull_command.specs.declared.ready.Before.TheVariants as befores
-use Rattle.hull_command.specs.declared.ready.Prepared.{Prepared}
-use Rattle.hull_command.specs.declared.ready.Prepared.TheVariants as prepareds
 use Rattle.hull_command.specs.declared.ready.Ready.{Ready}
 use Rattle.hull_command.specs.declared.ready.Purpose.{Purpose}
 use Rattle.hull_command.specs.declared.ready.Purpose.TheVariants.{Price, Try, Bound, Fixed, Audit}
@@ -75,12 +72,6 @@ pub record Completes (c : Command) (reads : Reads) (rest : Command) : Type 0 whe
 abbrev pub nothing_read : Reads
 nothing_read file = None
 
--- a command that reads no files ends with this status
-pub record EndsIn (c : Command) (gained short : List ℕ → Type 0) (status : ℕ) : Type 0 where
-  pub end : End
-  pub ends : Ends c nothing_read gained short end
-  pub status_is : status ≡ status_at end
-
 -- ---- what is ready
 
 abbrev pub IsFitPurpose : Purpose → Type 0
@@ -113,53 +104,45 @@ AskForRun (Ok (fixed a)) = ⊤
 AskForRun (Ok (audit a)) = ⊤
 AskForRun (Err f) = ⊥
 
-abbrev pub IsFit : Prepared → Type 0
-IsFit (prepareds.Answered answer) = IsAnswered answer
-IsFit (prepareds.Ready ready) = IsReady ready
-
--- an answer is one of the command; what is ready completes it; a fault is one that is due, or want
--- of memory
-abbrev pub IsPrepared : Command → Reads → Result Prepared TopFault → Type 0
-IsPrepared c reads (Ok (prepareds.Answered answer)) = IsCommandAnswer c reads (Ok answer)
-IsPrepared c reads (Ok (prepareds.Ready ready)) = Completes c reads (rest_of ready)
-IsPrepared c reads (Err f) = IsFaultOf (c.IsDue reads) f
-
--- a run is ready where these words ask for one alone
-abbrev pub IsAsked : Result Asked WordFault → Result Prepared TopFault → Type 0
-IsAsked words (Ok (prepareds.Ready ready)) = AskForRun words
-IsAsked words _ = ⊤
+-- a run that is ready completes the command; a fault is one that is due, or want of memory
+abbrev pub IsReadied : Command → Reads → Result Ready TopFault → Type 0
+IsReadied c reads (Ok ready) = Completes c reads (rest_of ready)
+IsReadied c reads (Err f) = IsFaultOf (c.IsDue reads) f
 
 module _ {F : Type 0} (told : F → List ℕ → Option (List ℕ)) (faults : F → List ℕ → ℕ)
     (last : Option ℕ) (old new : F) where
-  -- a command of such words, or their refusal, is prepared so over what was read of its files on a
-  -- shelf, which was left so
-  abbrev pub HasPrepared : Result Asked WordFault → Result Prepared TopFault → Type 0
-  HasPrepared words prepared =
+  -- the command of such words is answered so over what was read of its files on a shelf, which was
+  -- left so
+  abbrev pub HasAnswer : Result Asked WordFault → Result Answer TopFault → Type 0
+  HasAnswer words answer =
       HasReads (told old) (λ name. Rose last (faults old name) (faults new name))
-      (command_for words).name_of (λ reads. IsPrepared (command_for words) reads prepared)
+      (command_for words).name_of (λ reads. IsCommandAnswer (command_for words) reads answer)
 
--- BEFORE A RUN of these words: it has ended, with this outcome; or the words ask for a run, and what
--- is ready completes the command over what was read
-abbrev pub IsBefore : (words : List (List ℕ)) (told : List ℕ → Option (List ℕ))
+  -- and so its run is ready
+  abbrev pub HasReadied : Result Asked WordFault → Result Ready TopFault → Type 0
+  HasReadied words ready =
+      HasReads (told old) (λ name. Rose last (faults old name) (faults new name))
+      (command_for words).name_of (λ reads. IsReadied (command_for words) reads ready)
+
+-- BEFORE A RUN of such words, or their refusal: the command has ended as is due over what was read;
+-- or the words ask for a run, and what is ready completes the command over what was read
+abbrev pub IsBefore : Result Asked WordFault → (told : List ℕ → Option (List ℕ))
     (rose gained short : List ℕ → Type 0) → Before → Type 0
-IsBefore words told rose gained short (befores.Ended status) =
-    IsOutcome words told rose gained short status
+IsBefore words told rose gained short (befores.Ended end) =
+    HasReads told rose (command_for words).name_of
+    (λ reads. Ends (command_for words) reads gained short end)
 IsBefore words told rose gained short (befores.Ready ready) =
-    IsReady ready × AskForRun (words_of words)
-    × HasReads told rose (command_for (words_of words)).name_of
-    (λ reads. Completes (command_for (words_of words)) reads (rest_of ready))
+    IsReady ready × AskForRun words
+    × HasReads told rose (command_for words).name_of
+    (λ reads. Completes (command_for words) reads (rest_of ready))
 
--- what was prepared has ended so, or is what is ready
-abbrev pub IsBeforeOf : (gained short : List ℕ → Type 0) → Result Prepared TopFault → Before →
-    Type 0
-IsBeforeOf gained short (Ok (prepareds.Answered answer)) (befores.Ended status) =
-    (end : End) × IsEndOf gained short (Ok answer) end × (status ≡ status_at end)
-IsBeforeOf gained short (Err f) (befores.Ended status) =
-    (end : End) × IsEndOf gained short (Err f) end × (status ≡ status_at end)
-IsBeforeOf gained short (Ok (prepareds.Ready ready)) (befores.Ready other) = other ≡ ready
-IsBeforeOf gained short prepared before = ⊥
+-- what is ready was handed on, or the line of what refused it was written
+abbrev pub IsHandedOn : (gained short : List ℕ → Type 0) → Result Ready TopFault → Before → Type 0
+IsHandedOn gained short (Ok ready) (befores.Ready other) = other ≡ ready
+IsHandedOn gained short (Err f) (befores.Ended end) = IsEndOf gained short (Err f) end
+IsHandedOn gained short ready before = ⊥
 
 -- where a run is ready, P
 abbrev pub IsUntouched : Before → Type 0 → Type 0
-IsUntouched (befores.Ended status) P = ⊤
+IsUntouched (befores.Ended end) P = ⊤
 IsUntouched (befores.Ready ready) P = P

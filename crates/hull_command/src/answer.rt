@@ -1,10 +1,11 @@
 //! What is to be printed.
 
-use convex_search::{Found, Goal};
+use convex_search::Goal;
+use gap_proof::Mixture;
 use hull_input::Input;
-use hull_report::BoundWithin;
-use plan_check::Settled;
-use price_settle::{Bounded, Done, Sides};
+use hull_report::MixtureBound;
+use plan_settle::{Bounded, Done, Sides};
+use price_settle::Settled;
 
 /// A case with its schedule, and what that is settled at.
 pub struct SettledInput {
@@ -14,7 +15,7 @@ pub struct SettledInput {
     pub settled: Settled,
 }
 
-// Written out, so that a drop of it is a call, and not one for each list.
+// By hand, so that each drop is one call.
 impl Drop for SettledInput {
     fn drop(self) {
         let SettledInput {
@@ -27,10 +28,10 @@ impl Drop for SettledInput {
 /// What a schedule is settled at, and a bound round the prices.
 pub struct CertifiedInput {
     pub settled: SettledInput,
-    pub within: BoundWithin,
+    pub within: MixtureBound,
 }
 
-// Written out, so that a drop of it is a call, and not one for each list.
+// By hand, so that each drop is one call.
 impl Drop for CertifiedInput {
     fn drop(self) {
         let CertifiedInput {
@@ -42,27 +43,35 @@ impl Drop for CertifiedInput {
 
 /// A case with its schedule, and what a search for prices of it found.
 pub struct FoundInput {
-    /// The case with its schedule.
-    pub input: Input,
+    /// The case with its schedule, and what that is settled at, at the prices that were found.
+    pub settled: SettledInput,
     /// What the search was told.
     pub goal: Goal,
-    /// What it found.
-    pub found: Found,
+    /// Feasible schedules of each thermal unit, and how often each counts.
+    pub mixture: Mixture,
+    /// The bound that the mixture gives on the dual value of all prices, in money.
+    pub bound: i128,
+    /// How many rounds were made.
+    pub made: u32,
 }
 
-// Written out, so that a drop of it is a call, and not one for each list.
+// By hand, so that each drop is one call.
 impl Drop for FoundInput {
     fn drop(self) {
         let FoundInput {
-            input: _,
+            settled: _,
             goal: _,
-            found: _,
+            mixture: _,
+            bound: _,
+            made: _,
         } = self;
     }
 }
 
-/// What a command is to print, but for the report of a run.
+/// What a command is to print.
 pub enum Answer {
+    /// The report of a run.
+    Price(Done),
     /// That a schedule is feasible, and what it costs.
     Check(Input),
     /// What a schedule is settled at, at given prices.
@@ -81,10 +90,11 @@ pub enum Answer {
     Audit(u32),
 }
 
-// Written out, so that a drop of it is a call, and not one for each list.
+// By hand, so that each drop is one call.
 impl Drop for Answer {
     fn drop(self) {
         match self {
+            Answer::Price(_done) => {}
             Answer::Check(_input) => {}
             Answer::Settle(_settled) => {}
             Answer::Certify(_certified) => {}

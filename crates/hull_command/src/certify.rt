@@ -11,7 +11,7 @@ use crate::answer::CertifiedInput;
 use crate::settle::settled_input;
 use gap_proof::{Mixture, bound_of_mixture};
 use hull_input::PricedInput;
-use hull_report::BoundWithin;
+use hull_report::MixtureBound;
 use std::alloc::{AllocError, Global};
 
 /// What the schedule of an input is settled at, at its prices, and the bound by a mixture on the
@@ -33,6 +33,6 @@ pub fn certified_input(
 {
     let bound = bound_of_mixture(&priced.input.case, mixture, &priced.prices, radius);
     let settled = settled_input(alloc, priced)?;
-    let within = BoundWithin { radius, bound };
+    let within = MixtureBound { radius, bound };
     Ok(CertifiedInput { settled, within })
 }

@@ -1,25 +1,27 @@
 //! The end of a command: the text of its answer, or the line of a fault.
-ghost use Rattle.std.specs.Prelude.{◌≡◌, ◌≤◌, ℕ, List, length, IfOk};
+ghost use Rattle.std.specs.Prelude.{◌≡◌, ◌≤◌, ℕ, List, length, IfOk, OnOk, OnErr};
 ghost use Rattle.uc_model.specs.PlainUnits.{schedule_of};
 ghost use Rattle.hull_io.specs.Edge.{Writes, Gains, FallsShort};
 ghost use Rattle.report_form.specs.ReportText.{report_text};
 ghost use Rattle.right_report.specs.RecordReport.{report_of};
-ghost use Rattle.price_settle.specs.Ended.{IsEnded};
+ghost use Rattle.plan_settle.specs.Ended.{IsEnded};
 ghost use Rattle.hull_input.specs.Planned.{PlannedCase};
 ghost use Rattle.hull_command.specs.Answers.{IsTextOf, IsAnswered, IsCommandAnswer, IsEndOf};
 ghost use Rattle.hull_command.specs.Answers.{HasFound, found_text};
 ghost use Rattle.hull_command.specs.Outcome.{Ends, status_at};
-ghost use Rattle.hull_command.specs.Rest.{rest_with, nothing_read, IsFit, IsBeforeOf, IsUntouched};
+ghost use Rattle.hull_command.specs.Rest.{rest_with, nothing_read, IsReady, IsHandedOn, IsUntouched};
+ghost use Rattle.hull_command.specs.declared.end.End.TheVariants as ends;
 ghost use Rattle.hull_command.specs.declared.ready.Purpose.{Purpose};
 
 use crate::answer::{Answer, FoundInput, SettledInput};
-use crate::ready::{Before, Prepared};
+use crate::ready::{Before, Ready};
+use hull_fault::{TopFault, write_fault};
 use hull_io::{Sink, WriteFailed};
 use hull_report::{
-    SearchNumbers, TopFault, write_audit, write_bound, write_certificate, write_check,
-    write_convex, write_fault, write_fixed, write_report, write_settlement, write_try,
+    SearchNumbers, write_audit, write_bound, write_certificate, write_check, write_convex,
+    write_fixed, write_report, write_settlement, write_try,
 };
-use price_settle::Done;
+use plan_settle::Done;
 use right_report::laws::{record_report_is_right, settlements_are_of_all_units};
 
 /// How a command ended.
@@ -34,6 +36,17 @@ pub enum End {
 }
 
 impl End {
+    /// How a command ended whose text was written so.
+    pub fn of_text(written: Result<(), WriteFailed>) -> End
+        ensures whole { OnOk written (result ≡ ends.Done) }
+        ensures cut { OnErr written (result ≡ ends.Cut) }
+    {
+        match written {
+            Ok(()) => End::Done,
+            Err(WriteFailed) => End::Cut,
+        }
+    }
+
     /// Its status.
     pub fn status(&self) -> u8
         ensures { result ≡ status_at self.now }
@@ -67,31 +80,32 @@ fn write_found<S: Sink>(searched: &FoundInput, out: &mut S) -> Result<(), WriteF
     ensures { Writes S.held S.faults S.last out.old out.new result
         (found_text searched.now) }
 {
-    let FoundInput { input, goal, found } = searched;
+    let FoundInput {
+        settled,
+        goal,
+        mixture,
+        bound,
+        made,
+    } = searched;
     let numbers = SearchNumbers {
         within: goal.within,
         rounds: goal.rounds,
-        made: found.made,
-        bound: found.bound,
+        made: *made,
+        bound: *bound,
     };
-    write_convex(
-        &input.case,
-        input.cost,
-        &found.settled,
-        &found.mixture,
-        numbers,
-        out,
-    )
+    let SettledInput { input, settled } = settled;
+    write_convex(&input.case, input.cost, settled, mixture, numbers, out)
 }
 
-/// Writes the text of the answer.
-fn write_answer<S: Sink>(answer: &Answer, out: &mut S) -> Result<(), WriteFailed>
-    requires { IsAnswered answer.now }
-    ensures { (text : List ℕ) × IsTextOf answer.now text
+/// Writes the text of the answer, which is left as it was but for a run's room for an answer.
+fn write_answer<S: Sink>(answer: &mut Answer, out: &mut S) -> Result<(), WriteFailed>
+    requires { IsAnswered answer.old }
+    ensures { (text : List ℕ) × IsTextOf answer.old text
         × Writes S.held S.faults S.last out.old out.new result text }
 {
     record_report_is_right();
     match answer {
+        Answer::Price(done) => write_done(done, out),
         Answer::Check(input) => write_check(&input.case, input.cost, out),
         Answer::Settle(settled) => {
             let input = &settled.input;
@@ -129,12 +143,10 @@ pub fn finish<S: Sink>(answer: Result<Answer, TopFault>, out: &mut S) -> End
         → Ends (rest_with purpose c budget ahead) nothing_read
         (Gains S.held S.faults out.old out.new)
         (FallsShort S.held S.faults S.last out.old out.new) result }
+    ensures sink { S.faults out.old ≤ S.faults out.new }
 {
     match answer {
-        Ok(answer) => match write_answer(&answer, out) {
-            Ok(()) => End::Done,
-            Err(WriteFailed) => End::Cut,
-        },
+        Ok(mut answer) => End::of_text(write_answer(&mut answer, out)),
         Err(fault) => {
             let _ = write_fault(&fault, out);
             End::Refused(fault)
@@ -142,17 +154,16 @@ pub fn finish<S: Sink>(answer: Result<Answer, TopFault>, out: &mut S) -> End
     }
 }
 
-/// Ends a command that calls for no run, or leaves the sink as it is for one that does.
-pub fn end_prepared<S: Sink>(prepared: Result<Prepared, TopFault>, out: &mut S) -> Before
-    requires { IfOk prepared IsFit }
-    ensures before { IsBeforeOf (Gains S.held S.faults out.old out.new)
-        (FallsShort S.held S.faults S.last out.old out.new) prepared result }
+/// Hands on what is ready for its run, with nothing written, or writes the line of what refused it.
+pub fn hand_on<S: Sink>(ready: Result<Ready, TopFault>, out: &mut S) -> Before
+    requires { IfOk ready IsReady }
+    ensures before { IsHandedOn (Gains S.held S.faults out.old out.new)
+        (FallsShort S.held S.faults S.last out.old out.new) ready result }
     ensures sink { S.faults out.old ≤ S.faults out.new }
     ensures unwritten { IsUntouched result (out.new ≡ out.old) }
 {
-    match prepared {
-        Ok(Prepared::Ready(ready)) => Before::Ready(ready),
-        Ok(Prepared::Answered(answer)) => Before::Ended(finish(Ok(answer), out).status()),
-        Err(fault) => Before::Ended(finish(Err(fault), out).status()),
+    match ready {
+        Ok(ready) => Before::Ready(ready),
+        Err(fault) => Before::Ended(finish(Err(fault), out)),
     }
 }

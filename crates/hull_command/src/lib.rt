@@ -7,8 +7,8 @@
 
 ghost use Rattle.std.specs.Prelude.{◌≡◌, ◌≤◌, None};
 ghost use Rattle.hull_io.specs.Edge.{Rose, Gains, FallsShort};
-ghost use Rattle.hull_io.specs.Words.{texts, words_of};
-ghost use Rattle.hull_report.specs.declared.fault.FileKind.{FileKind};
+ghost use Rattle.hull_words.specs.Words.{texts, words_of};
+ghost use Rattle.hull_fault.specs.declared.fault.FileKind.{FileKind};
 ghost use Rattle.hull_input.specs.Answers.{IsLaterShelf};
 ghost use Rattle.hull_command.specs.Outcome.{command_for};
 ghost use Rattle.hull_command.specs.Rest.{IsBefore, IsUntouched};
@@ -23,25 +23,25 @@ mod ready;
 mod settle;
 
 pub use answer::Answer;
-use end::end_prepared;
 pub use end::{End, finish, write_done};
+use hull_input::laws::something_may_be_read;
 use hull_io::{Shelf, Sink};
-use prepare::prepare;
+use prepare::{begin_command, command_of};
 pub use ready::{Before, Purpose, Ready};
 use std::alloc::Global;
 
 /// Does all of a command that comes before a run: its words, its files and each refusal up to the
 /// opening of the run; of `hull check`, `hull settle`, `hull certify` and `hull convex` that is all.
-/// It answers the status with which the command has ended, or else what is left to be run, with
-/// nothing written yet. It starts no thread and waits for none, so it is proved to return where each
-/// read of the shelf and each write of the sink does.
+/// It answers how the command has ended, or else what is left to be run, with nothing written yet.
+/// It starts no thread and waits for none, so it is proved to return where each read of the shelf
+/// and each write of the sink does.
 pub fn hull_before_run<F: Shelf, S: Sink>(
     alloc: Global,
     words: &[String],
     shelf: &mut F,
     out: &mut S,
 ) -> Before
-    ensures before { IsBefore (texts words.now) (F.told shelf.old)
+    ensures before { IsBefore (words_of (texts words.now)) (F.told shelf.old)
         (λ name. Rose F.last (F.faults shelf.old name) (F.faults shelf.new name))
         (Gains S.held S.faults out.old out.new)
         (FallsShort S.held S.faults S.last out.old out.new) result }
@@ -52,6 +52,9 @@ pub fn hull_before_run<F: Shelf, S: Sink>(
         → shelf.new ≡ shelf.old }
     ensures unwritten { IsUntouched result (out.new ≡ out.old) }
 {
-    let prepared = prepare(alloc, words, shelf);
-    end_prepared(prepared, out)
+    something_may_be_read::<F>();
+    match command_of(alloc, words) {
+        Ok(command) => begin_command(alloc, shelf, &command, out),
+        Err(fault) => Before::Ended(finish(Err(fault), out)),
+    }
 }

@@ -1,6 +1,6 @@
 //! A command whose words and files are accepted, and what is left to be done of it.
 
-use crate::answer::Answer;
+use crate::end::End;
 use board_core::Terms;
 use report_read::Report;
 
@@ -29,20 +29,11 @@ pub struct Ready {
     pub terms: Terms,
 }
 
-/// What the words and the files of a command come to, where none is refused.
-#[derive(Drop)]
-pub enum Prepared {
-    /// What is to be printed, where no run is called for.
-    Answered(Answer),
-    /// A run is.
-    Ready(Ready),
-}
-
 /// What a command comes to before any run.
 #[derive(Drop)]
 pub enum Before {
-    /// It has ended with this status.
-    Ended(u8),
+    /// It has ended so.
+    Ended(End),
     /// A run is called for.
     Ready(Ready),
 }

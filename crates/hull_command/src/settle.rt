@@ -2,14 +2,14 @@
 ghost use Rattle.std.specs.Prelude.{◌≡◌, IfOk};
 ghost use Rattle.uc_model.specs.PlainCases.{market_of, schedules_of};
 ghost use Rattle.uc_model.specs.PlainUnits.{prices_of};
-ghost use Rattle.plan_check.specs.Settled.{IsSettledAt, settled_of};
+ghost use Rattle.price_settle.specs.Settled.{IsSettledAt, settled_of};
 ghost use Rattle.hull_input.specs.Answers.{IsFitPriced};
 ghost use Rattle.hull_command.specs.Answers.{HasSettled};
 
 use crate::answer::SettledInput;
 use hull_input::PricedInput;
+use plan_settle::settle_at;
 use price_settle::laws::settlements_have_each_unit;
-use price_settle::settle_at;
 use std::alloc::{AllocError, Global};
 use uc_model::laws::{dual_values_are_within, plan_costs_are_within};
 use unit_program::bench_for;

@@ -3,8 +3,8 @@ use Rattle.hull_engine.proofs.Common.{◌≡◌, ℕ, ℤ, List, subst, sym, ap,
 use Rattle.hull_engine.proofs.Common.{fixed_text, Terms, IsReportText, IsBoundText, IsFixedText, planned_in}
 use Rattle.hull_engine.proofs.Common.{planned_run, IsRunText, setup_of}
 use Rattle.board_store.specs.Board.{Setup}
-use Rattle.price_settle.specs.Compared.{AreSides, ArePaid}
-use Rattle.price_settle.specs.declared.sides.Sides.{Sides}
+use Rattle.plan_settle.specs.Compared.{AreSides, ArePaid}
+use Rattle.plan_settle.specs.declared.sides.Sides.{Sides}
 
 -- the texts of a run are those of its input, with the numbers of the words
 pub run_texts : (text_of : Report → List ℕ) (terms : Terms) (b : Setup) (budget ahead : ℕ) → b ≡ setup_of terms →

@@ -6,9 +6,9 @@ pub mod AnswerLaws
 pub mod RestLaws
 -- end.rt: the status of a run whose text was written
 pub mod WriteLaws
--- lib.rt, end.rt: how a run ends
+-- end.rt, answers.rt: how a run ends
 pub mod EndLaws
--- lib.rt: how many workers a run has
+-- end.rt: how many workers a run has
 pub mod WorkerLaws
 -- The lemmas that answers cite.
 pub mod Lemmas

@@ -1,4 +1,4 @@
-//! What a run leaves to be printed, but for the report of `hull price`.
+//! What a run leaves to be printed.
 ghost use Rattle.std.specs.Prelude.{IfOk};
 ghost use Rattle.gap_proof.specs.PlaneSums.{IsRadius};
 ghost use Rattle.board_core.specs.Setups.{IsSetup, setup_of};
@@ -14,11 +14,27 @@ use answer_workers::Gate;
 use board_core::Terms;
 use board_run::{bounded_run, compared_runs, open_run, run_board};
 use hull_command::Answer;
-use hull_report::TopFault;
+use hull_fault::TopFault;
 use report_read::Report;
 use std::alloc::Global;
 use std::sync::Wait;
 use std::thread::Threads;
+
+/// What `hull price` answers by its run.
+pub fn answer_price<R: Threads + Wait + Sync, G: Gate>(
+    rt: &R,
+    alloc: Global,
+    terms: Terms,
+    gate: &G,
+) -> Result<Answer, TopFault>
+    requires { IsSetup (setup_of terms) }
+    ensures answers { IsCommandAnswer (rest_with purposes.Price (planned_run terms)
+        terms.budget terms.ahead) nothing_read result }
+    ensures answered { IfOk result (λ answer. IsAnswered answer) }
+{
+    let opened = open_run(alloc, terms)?;
+    Ok(Answer::Price(run_board(rt, opened, gate)))
+}
 
 /// What `hull try` answers by its run.
 pub fn answer_try<R: Threads + Wait + Sync, G: Gate>(

@@ -13,7 +13,7 @@ ghost use Rattle.hull_command.specs.FurtherSteps.{IsJudged};
 
 use audit_check::check_report;
 use board_core::Terms;
-use hull_report::{ReportCode, TopFault};
+use hull_fault::{ReportCode, TopFault};
 use report_compare::Audit;
 use report_read::Report;
 use std::alloc::{AllocError, Global};

@@ -4,12 +4,10 @@
 
 ghost use Rattle.std.specs.Prelude.{◌≡◌, ◌≤◌, None};
 ghost use Rattle.hull_io.specs.Edge.{Rose, Gains, FallsShort};
-ghost use Rattle.hull_io.specs.Words.{texts, words_of};
-ghost use Rattle.hull_report.specs.declared.fault.FileKind.{FileKind};
+ghost use Rattle.hull_words.specs.Words.{texts, words_of};
+ghost use Rattle.hull_fault.specs.declared.fault.FileKind.{FileKind};
 ghost use Rattle.hull_command.specs.Outcome.{command_for, IsOutcome};
 ghost use Rattle.hull_input.specs.Answers.{IsLaterShelf};
-ghost use Rattle.hull_command.specs.Rest.{rest_of, IsReady, EndsIn};
-ghost use Rattle.hull_engine.specs.Workers.{IsUseful};
 
 mod answers;
 mod audit;
@@ -17,33 +15,13 @@ mod end;
 mod workers;
 
 use answer_workers::Gate;
-use end::end_ready;
-pub use end::finish_run;
-use hull_command::{Before, Ready, hull_before_run};
+pub use end::{end_ready, finish_run};
+use hull_command::{Before, hull_before_run};
 use hull_io::{Shelf, Sink};
 use std::alloc::Global;
 use std::sync::Wait;
 use std::thread::Threads;
 pub use workers::useful_workers;
-
-/// Does what is left of a command with so many workers, which are those of the words that are
-/// useful, and answers its status as [`hull_run`] does.
-pub fn finish_ready<R: Threads + Wait + Sync, S: Sink, G: Gate>(
-    rt: &R,
-    alloc: Global,
-    ready: Ready,
-    workers: u32,
-    out: &mut S,
-    gate: &G,
-) -> u8
-    requires ready { IsReady ready }
-    requires workers { IsUseful ready.terms.callers workers }
-    ensures ends { EndsIn (rest_of ready) (Gains S.held S.faults out.old out.new)
-        (FallsShort S.held S.faults S.last out.old out.new) result }
-    ensures sink { S.faults out.old ≤ S.faults out.new }
-{
-    end_ready(rt, alloc, ready, workers, out, gate).status()
-}
 
 /// Runs the command that the words give, and answers its status: 0 where its text was written
 /// whole, and otherwise the status of the one fault line that was written, or 6 where the sink
@@ -51,7 +29,7 @@ pub fn finish_ready<R: Threads + Wait + Sync, S: Sink, G: Gate>(
 ///
 /// What that says of a run is one relation, `IsOutcome` in hull_command's specs/Outcome.antt, to be read from top
 /// to bottom. The crate law_outcome has what follows from it: the cause of each status, that at most
-/// one thing is due, that where no count rose what was read decides but for want of memory, and
+/// one thing is due, that where no count rose what was read decides but if memory runs out, and
 /// what a report that was printed promises. It names no workers: for every number of them, and
 /// every gate, the text of the same words over the same files is one and the same.
 pub fn hull_run<R: Threads + Wait + Sync, F: Shelf, S: Sink, G: Gate>(
@@ -76,10 +54,10 @@ pub fn hull_run<R: Threads + Wait + Sync, F: Shelf, S: Sink, G: Gate>(
         → shelf.new ≡ shelf.old }
 {
     match hull_before_run(alloc, words, shelf, out) {
-        Before::Ended(status) => status,
+        Before::Ended(end) => end.status(),
         Before::Ready(ready) => {
             let workers = useful_workers(rt, ready.terms.callers);
-            finish_ready(rt, alloc, ready, workers, out, gate)
+            end_ready(rt, alloc, ready, workers, out, gate).status()
         }
     }
 }

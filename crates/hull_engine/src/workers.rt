@@ -14,7 +14,7 @@ use std::thread::Threads;
 pub const FEW_WORKERS: u32 = 4;
 
 /// How many processors there are, as far as it matters; as many as matter where that isn't known.
-fn processors<R: Threads>(rt: &R) -> u32 {
+fn processor_count<R: Threads>(rt: &R) -> u32 {
     match thread::available_parallelism(rt) {
         Ok(count) => count.get().min(MOST_WORKERS as usize) as u32,
         Err(_) => MOST_WORKERS,
@@ -32,11 +32,11 @@ pub fn useful_workers<R: Threads>(rt: &R, asked: u32) -> u32
     if asked <= FEW_WORKERS {
         return asked;
     }
-    asked.min(processors(rt).max(FEW_WORKERS))
+    asked.min(processor_count(rt).max(FEW_WORKERS))
 }
 
 /// The same terms for so many workers: the board has a caller for each.
-pub fn manned(terms: Terms, workers: u32) -> Terms
+pub fn terms_for_workers(terms: Terms, workers: u32) -> Terms
     requires setup { IsSetup (setup_of terms) }
     requires workers { IsWorkers workers }
     ensures same { result ≡ record terms { callers = workers } }

@@ -17,11 +17,11 @@ pub use Rattle.hull_input.specs.Steps.{IsInput, IsWithinWork, IsReportIn, IsRepo
 pub use Rattle.hull_input.specs.Steps.{IsPricesFile, IsPriced, IsShares, IsSharesFile, IsMixed, IsMixtureFile}
 pub use Rattle.hull_input.specs.Steps.{IsCertifiable}
 pub use Rattle.hull_io.specs.Edge.{Rose}
-pub use Rattle.hull_report.specs.declared.fault.FileKind.TheVariants.{CaseFile, ScheduleFile, ReportFile, PricesFile}
-pub use Rattle.hull_report.specs.declared.fault.FileKind.TheVariants.{MixtureFile}
-pub use Rattle.hull_report.specs.declared.fault.TopFault.{TopFault}
-pub use Rattle.hull_report.specs.declared.fault.TopFault.TheVariants.{TooBig}
-pub use Rattle.hull_io.specs.Asked.{SettleAsked, settle_asked}
+pub use Rattle.hull_fault.specs.declared.fault.FileKind.TheVariants.{CaseFile, ScheduleFile, ReportFile, PricesFile}
+pub use Rattle.hull_fault.specs.declared.fault.FileKind.TheVariants.{MixtureFile}
+pub use Rattle.hull_fault.specs.declared.fault.TopFault.{TopFault}
+pub use Rattle.hull_fault.specs.declared.fault.TopFault.TheVariants.{TooBig}
+pub use Rattle.hull_words.specs.Asked.{SettleAsked, settle_asked}
 pub use Rattle.report_form.specs.ReportText.{Report, report_text}
 unfoldable pub use Rattle.report_read.specs.Plain.{report_of}
 pub use Rattle.uc_text.specs.Files.{text, value}

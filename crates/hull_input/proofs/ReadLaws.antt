@@ -6,7 +6,7 @@ use Rattle.hull_input.proofs.Common.{PricesFile, MixtureFile, TooBig, Reads, byt
 use Rattle.hull_input.proofs.Common.{case_and_schedule, with_report, with_prices, with_mixture, SettleAsked, AreReads}
 use Rattle.hull_input.proofs.Common.{HasRead}
 use Rattle.plain_lists.specs.declared.limits.TheConstants.{MOST_BYTES}
-use Rattle.hull_report.specs.declared.fault.FileKind.{FileKind}
+use Rattle.hull_fault.specs.declared.fault.FileKind.{FileKind}
 
 -- ---- the bytes of one file
 

@@ -1,7 +1,7 @@
 -- How one step's answer goes on to the next.
 use Rattle.hull_input.proofs.Common.{◌≡◌, ℕ, List, Option, Result, Ok, Err, refl, sym, subst, inl, inr, TopFault, Then}
 use Rattle.hull_input.proofs.Common.{IsFaultOf, IsAnswer, HasReads, AreReads, IsReadOf, Reads, Rose, case_and_schedule}
-use Rattle.hull_report.specs.declared.fault.FileKind.{FileKind}
+use Rattle.hull_fault.specs.declared.fault.FileKind.{FileKind}
 use Rattle.std.specs.Prelude.{IsErrAnd}
 
 module _ {A B : Type 0} (first : Result A TopFault → Type 0) (next : A → Result B TopFault → Type 0) where

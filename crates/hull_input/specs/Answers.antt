@@ -4,10 +4,10 @@ use Rattle.uc_model.specs.PlainCases.{market_of}
 use Rattle.uc_model.specs.PlainUnits.{prices_of}
 use Rattle.board_core.specs.Setups.{IsSetup, setup_of}
 use Rattle.gap_proof.specs.Mixtures.{mixture_of, IsMixture, HasMixtureShape}
-use Rattle.hull_report.specs.declared.fault.FileKind.{FileKind}
-use Rattle.hull_report.specs.declared.fault.FileKind.TheVariants.{ReportFile, PricesFile, MixtureFile}
-use Rattle.hull_report.specs.declared.fault.TopFault.{TopFault}
-use Rattle.hull_report.specs.declared.fault.TopFault.TheVariants.{Memory}
+use Rattle.hull_fault.specs.declared.fault.FileKind.{FileKind}
+use Rattle.hull_fault.specs.declared.fault.FileKind.TheVariants.{ReportFile, PricesFile, MixtureFile}
+use Rattle.hull_fault.specs.declared.fault.TopFault.{TopFault}
+use Rattle.hull_fault.specs.declared.fault.TopFault.TheVariants.{Memory}
 use Rattle.report_read.specs.Bounds.{IsReport, AreInOrder}
 use Rattle.report_read.specs.Plain.{report_of, told_of}
 use Rattle.report_read.specs.declared.report.Report.{Report}

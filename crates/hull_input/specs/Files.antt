@@ -3,10 +3,10 @@
 -- `told name` is what the shelf tells of a file's bytes, None where it tells none, and `rose name`
 -- that its count of faults under that name rose.
 use Rattle.std.specs.Prelude.{◌≡◌, ℕ, List, Option, None, Some, IfSome}
-use Rattle.hull_io.specs.Asked.{SettleAsked}
-use Rattle.hull_report.specs.declared.fault.FileKind.{FileKind}
-use Rattle.hull_report.specs.declared.fault.FileKind.TheVariants.{CaseFile, ScheduleFile}
-use Rattle.hull_report.specs.declared.fault.FileKind.TheVariants.{ReportFile, PricesFile, MixtureFile}
+use Rattle.hull_words.specs.Asked.{SettleAsked}
+use Rattle.hull_fault.specs.declared.fault.FileKind.{FileKind}
+use Rattle.hull_fault.specs.declared.fault.FileKind.TheVariants.{CaseFile, ScheduleFile}
+use Rattle.hull_fault.specs.declared.fault.FileKind.TheVariants.{ReportFile, PricesFile, MixtureFile}
 
 -- ---- the names of the files
 

@@ -1,7 +1,7 @@
 -- What holds of every file that was read. Each law is the clause of a public function of its name.
 use Rattle.std.specs.Prelude.{◌≡◌, ℕ, List, Option, Some, Ok}
 use Rattle.hull_io.specs.Edge.{Rose}
-use Rattle.hull_report.specs.declared.fault.FileKind.{FileKind}
+use Rattle.hull_fault.specs.declared.fault.FileKind.{FileKind}
 use Rattle.report_form.specs.ReportText.{Report, report_text}
 use Rattle.hull_input.specs.Files.{Reads, AreReads}
 use Rattle.hull_input.specs.Steps.{IsBytes, IsReportFile}

@@ -1,8 +1,8 @@
 -- How large a run may be, and the numbers that words ask of it (this project's profile).
 use Rattle.std.specs.Prelude.{◌≡◌, ℕ, ◌≤◌, Option, IfSome}
 use Rattle.plain_lists.specs.declared.limits.TheConstants.{MOST_PROPOSALS, MOST_WORKERS, MOST_AHEAD}
-use Rattle.hull_io.specs.declared.command.PriceWords.{PriceWords}
-use Rattle.hull_io.specs.declared.limits.TheConstants.{MOST_WITHIN, MOST_ROUNDS}
+use Rattle.hull_words.specs.declared.command.PriceWords.{PriceWords}
+use Rattle.hull_words.specs.declared.limits.TheConstants.{MOST_WITHIN, MOST_ROUNDS}
 use Rattle.board_core.specs.declared.terms.Terms.{Terms}
 
 -- the number is from low to high
@@ -23,12 +23,13 @@ abbrev pub IsRounds : ℕ → Type 0
 IsRounds n = IsWithin 1 MOST_ROUNDS n
 
 -- the numbers of a run
-pub record IsRunSize (budget workers ahead : ℕ) : Type 0 where
+pub record IsRunSize (budget ahead callers : ℕ) : Type 0 where
   pub budget_in : IsBudget budget
-  pub workers_in : IsWorkers workers
   pub ahead_in : IsAhead ahead
+  pub callers_in : IsWorkers callers
 
--- a run has the numbers that such words ask for
+-- a run has the numbers that such words ask for: a budget of proposals, and a caller of the board for
+-- each worker
 pub record HasNumbers (w : PriceWords) (terms : Terms) : Type 0 where
   pub budget : terms.budget ≡ w.proposals
   pub ahead : terms.ahead ≡ w.ahead

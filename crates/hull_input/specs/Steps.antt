@@ -9,7 +9,7 @@ use Rattle.uc_model.specs.Data.{Market, PriceLists, Schedule, unit_count}
 use Rattle.uc_model.specs.Systems.{IsFeasiblePlan, plan_cost}
 use Rattle.uc_model.specs.Refusals.{refusals}
 use Rattle.plain_lists.specs.declared.limits.TheConstants.{MOST_BYTES, MOST_WORK}
-use Rattle.hull_io.specs.declared.defaults.TheConstants.{DEFAULT_ROUNDS}
+use Rattle.hull_words.specs.declared.defaults.TheConstants.{DEFAULT_ROUNDS}
 use Rattle.uc_text.specs.Files.{FileFault, text, value}
 use Rattle.uc_case.specs.CaseFiles.{IsCaseOf}
 use Rattle.uc_field.specs.declared.fault.FieldFault.{FieldFault}
@@ -26,17 +26,17 @@ use Rattle.gap_proof.specs.MixtureRefused.{mixture_refusals, entry_refusal_of}
 use Rattle.gap_proof.specs.declared.mixture_check.EntryFault.{EntryFault}
 use Rattle.plan_check.specs.Checks.{refusal_of}
 use Rattle.plan_check.specs.declared.RuleFault.{RuleFault}
-use Rattle.hull_report.specs.declared.fault.FileKind.{FileKind}
-use Rattle.hull_report.specs.declared.fault.FileKind.TheVariants.{CaseFile, ScheduleFile}
-use Rattle.hull_report.specs.declared.fault.FileKind.TheVariants.{ReportFile, PricesFile, MixtureFile}
-use Rattle.hull_report.specs.declared.fault.ReportCode.TheVariants.{OutOfForm}
-use Rattle.hull_report.specs.declared.fault.TopFault.{TopFault}
-use Rattle.hull_report.specs.declared.fault.TopFault.TheVariants.{Read, CaseText, CaseField}
-use Rattle.hull_report.specs.declared.fault.TopFault.TheVariants.{PlanText, PlanShape, PlanRule}
-use Rattle.hull_report.specs.declared.fault.TopFault.TheVariants.{TooBig, Work, Report as Unfit}
-use Rattle.hull_report.specs.declared.fault.TopFault.TheVariants.{PricesText, PricesValue}
-use Rattle.hull_report.specs.declared.fault.TopFault.TheVariants.{MixtureText, MixtureShare}
-use Rattle.hull_report.specs.declared.fault.TopFault.TheVariants.{MixtureRule}
+use Rattle.hull_fault.specs.declared.fault.FileKind.{FileKind}
+use Rattle.hull_fault.specs.declared.fault.FileKind.TheVariants.{CaseFile, ScheduleFile}
+use Rattle.hull_fault.specs.declared.fault.FileKind.TheVariants.{ReportFile, PricesFile, MixtureFile}
+use Rattle.hull_fault.specs.declared.fault.ReportCode.TheVariants.{OutOfForm}
+use Rattle.hull_fault.specs.declared.fault.TopFault.{TopFault}
+use Rattle.hull_fault.specs.declared.fault.TopFault.TheVariants.{Read, CaseText, CaseField}
+use Rattle.hull_fault.specs.declared.fault.TopFault.TheVariants.{PlanText, PlanShape, PlanRule}
+use Rattle.hull_fault.specs.declared.fault.TopFault.TheVariants.{TooBig, Work, Report as Unfit}
+use Rattle.hull_fault.specs.declared.fault.TopFault.TheVariants.{PricesText, PricesValue}
+use Rattle.hull_fault.specs.declared.fault.TopFault.TheVariants.{MixtureText, MixtureShare}
+use Rattle.hull_fault.specs.declared.fault.TopFault.TheVariants.{MixtureRule}
 use Rattle.report_form.specs.ReportText.{Report, report_text}
 use Rattle.report_read.specs.Bounds.{IsReport}
 use Rattle.report_read.specs.Faults.{IsFault}

@@ -2,7 +2,7 @@
 ghost use Rattle.std.specs.Prelude.{◌≡◌, IfOk, IfSome};
 ghost use Rattle.uc_model.specs.PlainCases.{market_of};
 ghost use Rattle.hull_io.specs.Edge.{Rose};
-ghost use Rattle.hull_io.specs.Asked.{settle_asked};
+ghost use Rattle.hull_words.specs.Asked.{settle_asked};
 ghost use Rattle.board_core.specs.Setups.{IsSetup, setup_of};
 ghost use Rattle.hull_input.specs.Answers.{IsAnswer, IsLaterShelf, HasReads};
 ghost use Rattle.hull_input.specs.Answers.{IsFitPriced, IsPricedAnswer, IsFitMixed, IsMixedAnswer};
@@ -13,12 +13,12 @@ ghost use Rattle.hull_input.specs.Sizes.{IsRunSize, IsWorkers, HasNumbers, IsRou
 ghost use Rattle.hull_input.specs.Steps.{Then, IsInput, IsWithinWork, IsWithinRounds};
 ghost use Rattle.hull_input.specs.Steps.{rounds_for};
 
-use crate::files::{read_input, read_prices_file, read_report_file};
+use crate::files::{read_input, read_mixture_file, read_prices_file, read_report_file};
 use crate::input::{MixedInput, PricedInput, ReportedRun, SearchInput, within_rounds, within_work};
-use crate::mixture::read_mixture_file;
 use board_core::Terms;
-use hull_io::{AuditWords, CertifyWords, ConvexWords, PriceWords, SettleWords, Shelf};
-use hull_report::TopFault;
+use hull_fault::TopFault;
+use hull_io::Shelf;
+use hull_words::{AuditWords, CertifyWords, ConvexWords, PriceWords, SettleWords};
 use std::alloc::Global;
 
 /// The terms of the run that words ask for, over the case and the schedule of their files; or the
@@ -28,7 +28,7 @@ pub fn read_run<F: Shelf>(
     shelf: &mut F,
     words: &PriceWords,
 ) -> Result<Terms, TopFault>
-    requires { IsRunSize words.now.proposals words.now.workers words.now.ahead }
+    requires { IsRunSize words.now.proposals words.now.ahead words.now.workers }
     ensures answers { HasReads (F.told shelf.old)
         (λ name. Rose F.last (F.faults shelf.old name) (F.faults shelf.new name))
         (case_and_schedule words.now.case_name.items words.now.schedule_name.items)

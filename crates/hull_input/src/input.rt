@@ -12,8 +12,8 @@ ghost use Rattle.hull_input.specs.Answers.{IsAnswer, IsFitSearch};
 
 use board_core::Terms;
 use gap_proof::Mixture;
-use hull_io::defaults::DEFAULT_ROUNDS;
-use hull_report::TopFault;
+use hull_fault::TopFault;
+use hull_words::defaults::DEFAULT_ROUNDS;
 use plain_lists::limits::MOST_WORK;
 use report_read::Report;
 use uc_model::cases::{Case, Plan};
@@ -98,7 +98,7 @@ fn check_work(proposals: u32, case: &Case) -> Result<(), TopFault>
 /// counted as a unit.
 pub fn within_work(input: Input, budget: u32, ahead: u32, callers: u32) -> Result<Terms, TopFault>
     requires planned { IsPlanned input }
-    requires size { IsRunSize budget callers ahead }
+    requires size { IsRunSize budget ahead callers }
     ensures answers { IsAnswer (IsWithinWork budget (planned_of input)) planned_run result }
     ensures setup { IfOk result (λ terms. IsSetup (setup_of terms)) }
     ensures budget { IfOk result (λ terms. terms.budget ≡ budget) }

@@ -7,7 +7,6 @@ mod commands;
 mod files;
 mod input;
 pub mod laws;
-mod mixture;
 
 pub use commands::{read_mixed, read_priced, read_reported, read_run, read_search};
 pub use files::read_input;

@@ -33,7 +33,7 @@ fn room_for_a_piece(alloc: Global) -> Result<Vec<u8>, AllocError>
 /// The bytes of a file.
 ///
 /// Where the file is told, it is read exactly where it has at most [`MOST_BYTES`] bytes, and
-/// `TooBig` exactly where it has more. A failed read and want of memory come before both.
+/// `TooBig` exactly where it has more. A failed read and a lack of memory come before both.
 pub fn read_whole<F: Shelf>(alloc: Global, shelf: &mut F, name: &str) -> Result<Vec<u8>, ReadFault>
     ensures bytes { IfOk result (λ v. IfSome (F.told shelf.old name.now)
         (λ bytes. v.items ≡ bytes)) }

@@ -1,29 +1,15 @@
-//! The outside of the engine: files by name, the place that its text goes to, and the words that it
-//! was called with. The words are read as a command, or have a first fault.
+//! The outside of the engine: files by name, and the place that its text goes to.
 #![tactic(auto)]
 
-mod command;
-pub mod defaults;
 mod file;
-mod given;
-mod kinds;
-pub mod limits;
 mod real;
-mod word_fault;
-mod word_pass;
-mod word_text;
 
 ghost use Rattle.std.specs.Prelude.{◌≡◌, ℕ, ◌+◌, ◌<◌, ◌≤◌, List, length, take, Option, IfOk};
 ghost use Rattle.std.specs.Prelude.{IfSome, OnErr};
 ghost use Rattle.hull_io.specs.Edge.{Rose, ReadsAt, grown, Writes};
 
-pub use command::{
-    AuditWords, CertifyWords, CheckWords, Command, ConvexWords, PriceWords, SettleWords, TryWords,
-};
 pub use file::{ReadFault, read_whole};
 pub use real::{FileShelf, StdSink, called_words};
-pub use word_fault::{WordError, WordFault};
-pub use word_pass::read_words;
 
 /// A read failed.
 #[derive(Debug, Clone, Copy, PartialEq, Eq)]

@@ -207,7 +207,7 @@ impl<W: Write + Drop> Sink for StdSink<W> {
 }
 
 /// The words that the program was called with, without its name; `Err` where they can't be had, as
-/// for want of memory. The system's contract tells nothing of them, so nothing is promised of them
+/// if memory runs out. The system's contract tells nothing of them, so nothing is promised of them
 /// here: that they are those of the call is tested.
 pub fn called_words<R: Env + AllocGlobal>(rt: &R) -> io::Result<Vec<String>> {
     let mut words = Vec::new(rt.alloc());

@@ -1,9 +1,5 @@
 -- The names from elsewhere that the proofs here cite.
 pub mod Common
--- fault.rt: the line of a fault of a unit
-mod FaultTexts
--- record.rt, fixed.rt, fault.rt: texts one after another
-mod RecordTexts
 -- record.rt, settled.rt, fixed.rt: the texts of all units, number by number and kind by kind
 mod UnitTexts
 -- record.rt: the text of a record's report, part by part

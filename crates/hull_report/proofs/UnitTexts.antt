@@ -6,7 +6,7 @@ use Rattle.hull_report.proofs.Common.{Market, units, unit_count, unit_names, the
 use Rattle.hull_report.proofs.Common.{lines_from, UnitLine, unit_text, thermal_text, renewable_text, bid_text}
 use Rattle.hull_report.proofs.Common.{market_of, named_thermal_of, named_renewable_of, named_bid_of}
 use Rattle.hull_report.proofs.Common.{take, Option, Result, IsErr, Gains, FallsShort, Writes, GainsAddUp}
-use Rattle.hull_report.proofs.RecordTexts.{writes_same, gains_at_item, exit_at_item}
+use Rattle.report_form.proofs.TextLaws.{writes_same, gains_at_item, exit_at_item}
 use Rattle.std.proofs.lemmas.List.Concat.{flat_map-append}
 use Rattle.plain_lists.proofs.ListLaws.{none_some, same_item}
 use Rattle.uc_model.specs.declared.cases.Case.{Case}

@@ -1,7 +1,7 @@
 -- What `hull certify` tells of prices and a bound round them (this project's profile).
 use Rattle.std.specs.Prelude.{ℕ, ℤ, ◌-ℤ◌}
 use Rattle.gap_proof.specs.MixtureLaws.{least_paid}
-use Rattle.plan_check.specs.Settled.{Settled}
+use Rattle.price_settle.specs.Settled.{Settled}
 use Rattle.report_form.specs.CertificateText.{Certificate}
 use Rattle.uc_model.specs.Data.{Market, unit_count}
 

@@ -3,7 +3,7 @@ use Rattle.std.specs.Prelude.{ℕ, ℤ, ◌-ℤ◌, List, map}
 use Rattle.gap_proof.specs.MixtureLaws.{least_paid}
 use Rattle.gap_proof.specs.Mixtures.{WeighedSchedule, MixtureLists}
 use Rattle.plain_lists.specs.Sums.{zip_with}
-use Rattle.plan_check.specs.Settled.{Settled}
+use Rattle.price_settle.specs.Settled.{Settled}
 use Rattle.uc_model.specs.Data.{Market, thermal_names}
 use Rattle.report_form.specs.ConvexText.{ShareLine, MixtureLine, ConvexReport}
 use Rattle.hull_report.specs.SettledText.{settlement_of}

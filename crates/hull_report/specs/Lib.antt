@@ -1,6 +1,4 @@
 pub mod BoundText
-pub mod Words
-pub mod FaultLines
 pub mod CheckText
 pub mod TryText
 pub mod FixedText

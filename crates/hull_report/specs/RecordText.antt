@@ -3,7 +3,7 @@ use Rattle.std.specs.Prelude.{◌≡◌, ℕ, ◌≤◌, length}
 use Rattle.board_store.specs.Board.{Content}
 use Rattle.board_store.specs.Calls.{own_rows}
 use Rattle.uc_model.specs.Data.{unit_count}
-use Rattle.plan_check.specs.declared.settlement.Settlement.{Settlement}
+use Rattle.price_settle.specs.declared.settlement.Settlement.{Settlement}
 
 -- there is a row of that number, and the settlement has its numbers for each unit
 pub record HasNumbers (c : Content) (s : Settlement) (proposal : ℕ) : Type 0 where

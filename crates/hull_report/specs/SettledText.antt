@@ -3,7 +3,7 @@ use Rattle.std.specs.Prelude.{ℕ, ◌+◌, ℤ, ◌-ℤ◌, List, [], length, s
 use Rattle.plain_lists.specs.Sums.{int_at}
 use Rattle.uc_model.specs.Data.{Schedule, Market, unit_count}
 use Rattle.uc_model.specs.Data.{thermal_names, renewable_names, bid_names}
-use Rattle.plan_check.specs.Settled.{Settled}
+use Rattle.price_settle.specs.Settled.{Settled}
 use Rattle.report_form.specs.ReportText.{UnitLine}
 use Rattle.report_form.specs.SettlementText.{SettlementReport}
 use Rattle.right_report.specs.RecordReport.{lines_from}

@@ -35,7 +35,7 @@ pub struct BoundLines {
 }
 
 // How far the bound is above the value.
-fn distance(lines: &BoundLines) -> i128
+fn bound_distance(lines: &BoundLines) -> i128
     requires value { IsTold lines.now.value }
     requires bound { IsTold lines.now.bound }
     ensures { result ≡ lines.now.bound -ℤ lines.now.value }
@@ -54,7 +54,7 @@ pub fn write_bound_lines<S: Sink>(lines: &BoundLines, out: &mut S) -> Result<(),
         (bound_text lines.now.proposals lines.now.chosen lines.now.value
         lines.now.radius lines.now.first lines.now.last lines.now.bound) }
 {
-    let distance = distance(lines);
+    let distance = bound_distance(lines);
     write_form(
         out,
         b"hull-bound 1\nproposals %\nchosen % value %\nradius %\ncertificate first % last %\n\

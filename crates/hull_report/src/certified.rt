@@ -4,19 +4,19 @@ ghost use Rattle.hull_io.specs.Edge.{Writes};
 ghost use Rattle.gap_proof.specs.MixtureLaws.{least_paid};
 ghost use Rattle.uc_model.specs.Limits.{IsSum, IsWorth};
 ghost use Rattle.uc_model.specs.PlainCases.{market_of};
-ghost use Rattle.plan_check.specs.Settled.{settled_of};
+ghost use Rattle.price_settle.specs.Settled.{settled_of};
 ghost use Rattle.report_form.specs.CertificateText.{certificate_in, certificate_text};
 ghost use Rattle.right_report.specs.Told.{IsTold};
 ghost use Rattle.hull_report.specs.CertifiedText.{certificate_of};
 
 use hull_io::{Sink, WriteFailed};
-use plan_check::Settled;
+use price_settle::Settled;
 use report_form::certificate::{CertificateLines, write_certificate_lines};
 use uc_model::cases::Case;
 
 /// A bound on the dual value of all prices within a radius of given ones.
 #[derive(Clone, Copy)]
-pub struct BoundWithin {
+pub struct MixtureBound {
     /// How far each price may be from the given one, in money for a kilowatt and period.
     pub radius: i64,
     /// The bound, in money.
@@ -24,7 +24,7 @@ pub struct BoundWithin {
 }
 
 // What payments and surplus sum to at least, at a cost and a bound on the dual value.
-pub(crate) fn least(cost: i128, bound: i128) -> i128
+pub(crate) fn least_uplift(cost: i128, bound: i128) -> i128
     requires cost { IsSum cost }
     requires bound { IsTold bound }
     ensures { result ≡ least_paid cost bound }
@@ -34,7 +34,7 @@ pub(crate) fn least(cost: i128, bound: i128) -> i128
 
 // What is told of a plan of this cost, of what it is settled at, and of a bound round the prices.
 #[tactic(auto, unfolding(crate::specs::CertifiedText::certificate_of))]
-fn lines_of(case: &Case, cost: i128, settled: &Settled, within: BoundWithin) -> CertificateLines
+fn lines_of(case: &Case, cost: i128, settled: &Settled, within: MixtureBound) -> CertificateLines
     requires cost { IsSum cost }
     requires value { IsWorth (settled_of settled.now).row.value }
     requires bound { IsTold within.bound }
@@ -53,7 +53,7 @@ fn lines_of(case: &Case, cost: i128, settled: &Settled, within: BoundWithin) -> 
         radius: within.radius.unsigned_abs(),
         bound: within.bound,
         distance: within.bound - value,
-        least: least(cost, within.bound),
+        least: least_uplift(cost, within.bound),
     }
 }
 
@@ -65,7 +65,7 @@ pub fn write_certificate<S: Sink>(
     case: &Case,
     cost: i128,
     settled: &Settled,
-    within: BoundWithin,
+    within: MixtureBound,
     out: &mut S,
 ) -> Result<(), WriteFailed>
     requires cost { IsSum cost }

@@ -6,17 +6,17 @@ ghost use Rattle.gap_proof.specs.MixtureLaws.{least_paid};
 ghost use Rattle.gap_proof.specs.Mixtures.{entry_of, mixture_of, HasMixtureShape};
 ghost use Rattle.uc_model.specs.Limits.{IsSum, IsWorth};
 ghost use Rattle.uc_model.specs.PlainCases.{market_of};
-ghost use Rattle.plan_check.specs.Settled.{HasEachUnit, settled_of};
+ghost use Rattle.price_settle.specs.Settled.{HasEachUnit, settled_of};
 ghost use Rattle.report_form.specs.ConvexText.{convex_text, share_text, mixture_text};
 ghost use Rattle.report_form.specs.ConvexText.{weighed_text, bounded_text};
 ghost use Rattle.right_report.specs.Told.{IsTold};
 ghost use Rattle.hull_report.specs.ConvexText.{share_line, mixture_line, mixture_lines, convex_of};
 
-use crate::certified::least;
+use crate::certified::least_uplift;
 use crate::settled::write_all_settled;
 use gap_proof::{Entry, Mixture};
 use hull_io::{Sink, WriteFailed};
-use plan_check::Settled;
+use price_settle::Settled;
 use report_form::convex::{
     SearchLines, write_bounded, write_mixed, write_searched, write_share, write_weighed,
 };
@@ -103,7 +103,7 @@ fn write_ending<S: Sink>(
     let value = settled.row.value;
     let gap = cost - value;
     let distance = bound - value;
-    let least = least(cost, bound);
+    let least = least_uplift(cost, bound);
     write_weighed(
         settlement.surplus,
         settlement.total,

@@ -14,7 +14,7 @@ ghost use Rattle.hull_report.specs.TryText.{try_text};
 
 use board_core::Closed;
 use hull_io::{Sink, WriteFailed};
-use plan_check::Settlement;
+use price_settle::Settlement;
 use report_form::laws::texts_add_up;
 use report_form::report::{
     Head, Owed, write_chosen, write_foot, write_head, write_rows, write_unit,

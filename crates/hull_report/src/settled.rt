@@ -6,15 +6,15 @@ ghost use Rattle.uc_model.specs.Data.{unit_count, thermal_names, renewable_names
 ghost use Rattle.uc_model.specs.Limits.{IsSum, IsWorth};
 ghost use Rattle.uc_model.specs.PlainCases.{market_of};
 ghost use Rattle.uc_model.specs.PlainUnits.{schedule_of};
-ghost use Rattle.plan_check.specs.Settled.{HasEachUnit};
-ghost use Rattle.plan_check.specs.Settled.{settled_of};
+ghost use Rattle.price_settle.specs.Settled.{HasEachUnit};
+ghost use Rattle.price_settle.specs.Settled.{settled_of};
 ghost use Rattle.report_form.specs.ReportText.{thermal_text, renewable_text, bid_text, owed_line};
 ghost use Rattle.report_form.specs.SettlementText.{settlement_text};
 ghost use Rattle.right_report.specs.RecordReport.{lines_from};
 ghost use Rattle.hull_report.specs.SettledText.{settled_line, settlement_of};
 
 use hull_io::{Sink, WriteFailed};
-use plan_check::Settled;
+use price_settle::Settled;
 use report_form::laws::texts_add_up;
 use report_form::report::{Owed, write_foot, write_unit};
 use report_form::settlement::write_priced;

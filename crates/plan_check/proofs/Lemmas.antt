@@ -13,6 +13,3 @@ pub use Rattle.plan_check.proofs.ShapeLaws.{covers}
 pub use Rattle.plan_check.proofs.SystemLaws.{sum_over-more, sum_over-whole, plan_cost_is, total_power_is}
 pub use Rattle.plan_check.proofs.SystemLaws.{total_map-append, unbalanced, total_reserve_is}
 pub use Rattle.plan_check.proofs.ToldLaws.{told_none, told_first, some_first}
-pub use Rattle.plan_check.proofs.Bounds.{best_within, scheduled_within}
-pub use Rattle.plan_check.proofs.Paid.{flat_paid, bid_paid, thermal_paid}
-pub use Rattle.plan_check.proofs.Units.{earned_length, earned_item}

@@ -1,13 +1,5 @@
 -- The names from elsewhere that the proofs here cite.
 pub mod Common
--- ---- src/earned.rt
--- what prices pay for the power and the reserve of a schedule
-pub mod Paid
--- the unit of a number, and what its schedule earns
-pub mod Units
--- ---- src/earned.rt and src/settlement.rt
--- what one of a plan's schedules, or a best schedule, earns fits its type
-pub mod Bounds
 -- ---- src/check.rt: the first refusal
 -- lists of refusals: when one is empty, and what its first item is
 pub mod ToldLaws
@@ -30,5 +22,8 @@ pub mod SystemLaws
 -- ---- src/costs.rt: what schedules cost
 -- what a block is worth, and the powers of on periods within the cost points
 pub mod CostSums
+-- ---- for crates that stand on this one
+-- the schedules of a plan for thermal units and for the others
+pub mod UnitsApart
 -- The lemmas that answers cite.
 pub mod Lemmas

@@ -44,26 +44,20 @@ total-negated : (g : Schedule → ℤ) (ss : List Schedule) → total (map (λ s
 total-negated g [] = refl
 total-negated g (s ∷ ss) = omega (arith, ints, total-negated g ss)
 
+abbrev flat_units : Market → List AnyUnit
+flat_units m = map (λ (n : NamedRenewableUnit). Flat n.unit) m.flat
+
 module _ (m : Market) (plan : List Schedule) (count : length plan ≡ unit_count m) (k : ℕ) where
-  abbrev thermal : List AnyUnit
-  thermal = map (λ (n : NamedThermalUnit). Thermal n.unit) m.thermal
-
-  abbrev flat : List AnyUnit
-  flat = map (λ (n : NamedRenewableUnit). Flat n.unit) m.flat
-
-  abbrev bids : List AnyUnit
-  bids = map (λ (n : NamedBidUnit). Bid n.unit) m.bids
-
   abbrev supply : AnyUnit → Schedule → ℤ
   supply u s = supply_in u s (suc k)
 
   abbrev gives : Schedule → ℤ
   gives s = power_in s (suc k)
 
-  producers_are : length (thermal ++ flat) ≡ length m.thermal + length m.flat
+  producers_are : length (thermal_units m ++ flat_units m) ≡ length m.thermal + length m.flat
   producers_are = omega (
     arith,
-    length-append thermal flat,
+    length-append (thermal_units m) (flat_units m),
     length-map m.thermal (λ (n : NamedThermalUnit). Thermal n.unit),
     length-map m.flat (λ (n : NamedRenewableUnit). Flat n.unit),
   )
@@ -73,18 +67,20 @@ module _ (m : Market) (plan : List Schedule) (count : length plan ≡ unit_count
   total_power_is =
       let n = producers_are in
       let bid_count = length-map m.bids (λ (b : NamedBidUnit). Bid b.unit) in
-      let front = take (length (thermal ++ flat)) plan in
-      let back = drop (length (thermal ++ flat)) plan in
-      let front_length = length-take (length (thermal ++ flat)) plan in
-      let back_length = length-drop (length (thermal ++ flat)) plan in
-      let split = sum_over-front supply (thermal ++ flat) bids plan (omega (arith, n, count)) in
-      let given = sum_over-plain supply gives (thermal ++ flat) front (omega (arith, n, count, front_length))
-      (All-append (λ u. (s : Schedule) → supply u s ≡ gives s) thermal flat
+      let front = take (length (thermal_units m ++ flat_units m)) plan in
+      let back = drop (length (thermal_units m ++ flat_units m)) plan in
+      let front_length = length-take (length (thermal_units m ++ flat_units m)) plan in
+      let back_length = length-drop (length (thermal_units m ++ flat_units m)) plan in
+      let split = sum_over-front supply (thermal_units m ++ flat_units m) (bid_units m) plan
+      (omega (arith, n, count)) in
+      let given = sum_over-plain supply gives (thermal_units m ++ flat_units m) front
+      (omega (arith, n, count, front_length))
+      (All-append (λ u. (s : Schedule) → supply u s ≡ gives s) (thermal_units m) (flat_units m)
       (All-map (λ u. (s : Schedule) → supply u s ≡ gives s) (λ (x : NamedThermalUnit). Thermal x.unit) m.thermal
       (λ j d lt s. refl))
       (All-map (λ u. (s : Schedule) → supply u s ≡ gives s) (λ (x : NamedRenewableUnit). Flat x.unit) m.flat
       (λ j d lt s. refl))) in
-      let bought = sum_over-plain supply (λ s. neg_ℤ (gives s)) bids back
+      let bought = sum_over-plain supply (λ s. neg_ℤ (gives s)) (bid_units m) back
       (omega (arith, n, count, back_length, bid_count))
       (All-map (λ u. (s : Schedule) → supply u s ≡ neg_ℤ (gives s)) (λ (x : NamedBidUnit). Bid x.unit) m.bids
       (λ j d lt s. refl)) in
@@ -96,7 +92,7 @@ module _ (m : Market) (plan : List Schedule) (count : length plan ≡ unit_count
   pub total_reserve_is : total_reserve (units m) plan k ≡ reserves_at plan k
   total_reserve_is =
       let n = producers_are in
-      let whole = length-append (thermal ++ flat) bids in
+      let whole = length-append (thermal_units m ++ flat_units m) (bid_units m) in
       let bid_count = length-map m.bids (λ (b : NamedBidUnit). Bid b.unit) in
       sum_over-plain (λ u s. reserve_in s (suc k)) (λ s. reserve_in s (suc k)) (units m) plan
       (omega (arith, n, count, whole, bid_count)) (λ j d lt s. refl)
@@ -153,7 +149,7 @@ pub plan_cost_is : (m : Market) (plan : List Schedule) → length plan ≡ unit_
 plan_cost_is m plan count =
     let n = producers_are m plan count 0 in
     let ts = thermal_units m in
-    let fs = map (λ (x : NamedRenewableUnit). Flat x.unit) m.flat in
+    let fs = flat_units m in
     let bs = bid_units m in
     let thermal_count = length-map m.thermal (λ (x : NamedThermalUnit). Thermal x.unit) in
     let outer = sum_over-front cost_of (ts ++ fs) bs plan (omega (arith, n, count)) in

@@ -1,5 +1,3 @@
-pub mod Earned
-pub mod Settled
 pub mod Checks
 pub mod Costs
 pub mod States

@@ -35,7 +35,7 @@ const THERMAL_RULES: [RuleCode; 10] = [
 ];
 
 // A broken rule under its unit and period.
-fn fault(code: RuleCode, kind: Kind, unit: u32, period: u32, sides: Sides) -> RuleFault
+fn fault_of_rule(code: RuleCode, kind: Kind, unit: u32, period: u32, sides: Sides) -> RuleFault
     ensures { refusal_of result
         ≡ record {
           rule = code;
@@ -108,7 +108,7 @@ fn check_rule(
     for place in 0..response.on.len() {
         if let Some(sides) = thermal_sides(rule, unit, response, place) {
             let period = place as u32 + shift_of(rule);
-            return Err(fault(rule, Kind::Thermal, number, period, sides));
+            return Err(fault_of_rule(rule, Kind::Thermal, number, period, sides));
         }
     }
     Ok(())
@@ -182,7 +182,7 @@ fn check_renewable(flat: &Renewable, response: &Response, number: u32) -> Result
     for place in 0..response.on.len() {
         if let Some(sides) = renewable_sides(flat, response, place) {
             let period = place as u32 + 1;
-            return Err(fault(
+            return Err(fault_of_rule(
                 RuleCode::RenewableRange,
                 Kind::Renewable,
                 number,
@@ -230,7 +230,7 @@ fn check_bid(bid: &Bid, response: &Response, number: u32) -> Result<(), RuleFaul
     for place in 0..response.on.len() {
         if let Some(sides) = bid_sides(bid, response, place) {
             let period = place as u32 + 1;
-            return Err(fault(RuleCode::BidRange, Kind::Bid, number, period, sides));
+            return Err(fault_of_rule(RuleCode::BidRange, Kind::Bid, number, period, sides));
         }
     }
     Ok(())
@@ -260,7 +260,7 @@ fn check_balance(case: &Case, plan: &Plan) -> Result<(), RuleFault>
 {
     for place in 0..case.periods {
         if let Some(sides) = totals::balance_sides(case, plan, place as usize) {
-            return Err(fault(RuleCode::Balance, Kind::Case, 0, place + 1, sides));
+            return Err(fault_of_rule(RuleCode::Balance, Kind::Case, 0, place + 1, sides));
         }
     }
     Ok(())
@@ -274,7 +274,7 @@ fn check_reserve(case: &Case, plan: &Plan) -> Result<(), RuleFault>
 {
     for place in 0..case.periods {
         if let Some(sides) = totals::reserve_sides(case, plan, place as usize) {
-            return Err(fault(RuleCode::Reserve, Kind::Case, 0, place + 1, sides));
+            return Err(fault_of_rule(RuleCode::Reserve, Kind::Case, 0, place + 1, sides));
         }
     }
     Ok(())

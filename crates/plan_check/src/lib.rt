@@ -1,25 +1,14 @@
-//! Whether a schedule of all units keeps the rules, what it costs, and what units are to be paid
-//! beside the prices, so that none does worse in it than by its own choice.
-//!
-//! A unit's uplift is what its best schedules earn at the prices less what its schedule in the plan
-//! earns (Gribik, Hogan and Pope, "Market-Clearing Electricity Prices and Energy Uplift", 2007).
-//! The payments and the worth of the surplus reserve make up the gap between the plan's cost and
-//! the dual value: `uc_model::laws::payments_make_up_the_gap`.
+//! Whether a schedule of all units keeps the rules, and what it costs.
 #![tactic(auto)]
 
 mod check;
 pub mod costs;
-mod earned;
 pub mod laws;
 mod rules;
-mod settled;
-mod settlement;
 mod states;
 pub mod totals;
 
 pub use check::{check_plan, check_thermal};
-pub use settled::Settled;
-pub use settlement::{Settlement, settle};
 use uc_model::kinds::{Kind, RuleCode};
 
 /// Why a schedule isn't feasible: the first rule that it breaks.

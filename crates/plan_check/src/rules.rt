@@ -18,7 +18,7 @@ use crate::states::{Sides, State};
 use uc_model::units::{Mark, Response, Unit};
 
 /// The numbers where a test fails.
-pub fn unless(holds: bool, left: i64, right: i64) -> Option<Sides>
+pub fn sides_unless(holds: bool, left: i64, right: i64) -> Option<Sides>
     ensures { sides_of result ≡ refusals.unless holds left right }
 {
     if holds {
@@ -32,7 +32,7 @@ pub fn unless(holds: bool, left: i64, right: i64) -> Option<Sides>
 pub fn at_most(value: i64, limit: i64) -> Option<Sides>
     ensures { sides_of result ≡ refusals.unless (int_le value limit) value limit }
 {
-    unless(value <= limit, value, limit)
+    sides_unless(value <= limit, value, limit)
 }
 
 /// Whether the unit is on in a period; period 0 is the state before the horizon.
@@ -116,7 +116,7 @@ pub fn must_run_sides(unit: &Unit, response: &Response, place: usize) -> Option<
         place }
 {
     let on = state_at(unit, response, place).on;
-    unless(!(unit.must_run && !on), 0, 1)
+    sides_unless(!(unit.must_run && !on), 0, 1)
 }
 
 // The periods from 1 on in which the unit stays as it was before.
@@ -141,7 +141,7 @@ pub fn initial_sides(unit: &Unit, response: &Response, place: usize) -> Option<S
         return None;
     }
     let on = on_in_period(unit, response, place + 1);
-    unless(unit.on0 == on, i64::from(on), i64::from(unit.on0))
+    sides_unless(unit.on0 == on, i64::from(on), i64::from(unit.on0))
 }
 
 // The start or stop since which the unit is as it is in a period, where one lies in the horizon.
@@ -169,7 +169,7 @@ fn run_sides(since: Option<usize>, end: usize, minimum: u32) -> Option<Sides>
         None => None,
         Some(start) => {
             let run = end.saturating_sub(start);
-            unless(minimum as usize <= run, run as i64, i64::from(minimum))
+            sides_unless(minimum as usize <= run, run as i64, i64::from(minimum))
         }
     }
 }
@@ -324,7 +324,7 @@ pub fn window_sides(unit: &Unit, response: &Response, place: usize) -> Option<Si
     let on = on_in_period(unit, response, place + 1);
     match *unit.window.get(place) {
         Mark::Free => None,
-        Mark::MustOff => unless(!on, 1, 0),
-        Mark::MustOn => unless(on, 0, 1),
+        Mark::MustOff => sides_unless(!on, 1, 0),
+        Mark::MustOn => sides_unless(on, 0, 1),
     }
 }

@@ -1,4 +1,5 @@
 -- The lemmas that answers cite, passed on from one place.
-pub use Rattle.price_settle.proofs.Fixing.{fixing, others, plan_apart, window_length, market_held, held_limits}
-pub use Rattle.price_settle.proofs.Items.{map_item, map_push, zip_more, zip_whole, plan_count, on_length, mapped_at}
-pub use Rattle.price_settle.proofs.SideLaws.{own_right, bench_over_given, held_lengths, held_side}
+pub use Rattle.plan_check.proofs.PlanLaws.{HasLengths}
+pub use Rattle.price_settle.proofs.Bounds.{best_within, scheduled_within}
+pub use Rattle.price_settle.proofs.Paid.{flat_paid, bid_paid, thermal_paid}
+pub use Rattle.price_settle.proofs.Units.{earned_length, earned_item}

@@ -1,22 +1,15 @@
 -- The names from elsewhere that the proofs here cite.
 pub mod Common
--- chosen.rt: the settlement at the prices of the chosen row
-pub mod SettleLaws
--- bound.rt: the best bound round the chosen prices of a run
-pub mod BoundLaws
--- sides.rt: the sides of `hull fixed`
-pub mod SideLaws
--- copies.rt, fix.rt, held_laws.rt: the fixed case of a plan, and what holds of it
-pub mod Fixing
--- held_laws.rt: a unit that is held to a commitment
-pub mod Held
--- copies.rt, fix.rt: items of lists that are mapped, and of plans
-pub mod Items
--- laws.rt: at most one settlement, what it adds up to, and the lists that it has
+-- ---- src/earned.rt
+-- what prices pay for the power and the reserve of a schedule
+pub mod Paid
+-- the unit of a number, and what its schedule earns
+pub mod Units
+-- ---- src/earned.rt and src/settlement.rt
+-- what one of a plan's schedules, or a best schedule, earns fits its type
+pub mod Bounds
+-- ---- src/laws.rt
+-- at most one settlement, what it adds up to, and the lists that it has
 pub mod Settlements
--- answers.rt: the answers of units, one after another
-pub mod Answered
--- totals.rt, settle.rt: what all units earn, and what sums of it are worth
-pub mod Earned
 -- The lemmas that answers cite.
 pub mod Lemmas

@@ -3,9 +3,10 @@ use Rattle.price_settle.proofs.Common.{◌≡◌, ℕ, ℤ, pos, ◌-ℤ◌, Lis
 use Rattle.price_settle.proofs.Common.{arith, ints, AllZip, range_with_len, get_or-map-range_with_len, length_same}
 use Rattle.price_settle.proofs.Common.{length-zip_with, total, zip_with, AnyUnit, PriceLists, Schedule, Market, units}
 use Rattle.price_settle.proofs.Common.{unit_count, IsTop, earnings, HasPlanShape, OneLeast, PaymentsMakeUpTheGap}
-use Rattle.price_settle.proofs.Common.{NothingIsPaidBack, UnitsAreNumbered, FeasiblePlansHaveShape, Fits, IsFeasible}
+use Rattle.price_settle.proofs.Common.{NothingIsPaidBack, UnitsAreNumbered, FeasiblePlansHaveShape, IsFeasible}
 use Rattle.price_settle.proofs.Common.{worth_of_demand, IsDualValue, total_power, total_reserve, OneSettlement}
 use Rattle.price_settle.proofs.Common.{SettlementsAddUp, SettlementsHaveEachUnit}
+use Rattle.uc_model.specs.Runs.{Fits}
 
 -- ---- one settlement
 

@@ -5,7 +5,7 @@ use Rattle.std.specs.List.{All}
 use Rattle.uc_model.specs.Data.{PriceLists, Schedule, Market}
 use Rattle.uc_model.specs.Laws.{ReserveFrom0}
 use Rattle.uc_model.specs.Systems.{IsFeasiblePlan, plan_cost}
-use Rattle.plan_check.specs.Settled.{Settled, IsSettledAt, HasEachUnit}
+use Rattle.price_settle.specs.Settled.{Settled, IsSettledAt, HasEachUnit}
 
 -- at most one is the settlement of a plan at given prices
 abbrev pub OneSettlement : Type 0

@@ -1,9 +1,6 @@
-pub mod Ended
-pub mod RunRooms
-pub mod Bounded
-pub mod Compared
-pub mod FixedCase
-pub mod HeldLaws
-pub mod Rooms
-pub mod Answers
+-- what a plan earns at prices
+pub mod Earned
+-- what it is settled at
+pub mod Settled
+-- what holds of every settlement
 pub mod Laws

@@ -1,32 +1,19 @@
-//! What a plan is settled at, at any prices: the dual value, what each unit would do, and what each
-//! is paid beside the prices. No thread is started, and nothing is waited for.
+//! What a plan is settled at, at any prices, where it is known what each unit earns at best there: what
+//! its schedules earn, what each unit is paid beside the prices, and what surplus reserve is worth.
 //!
-//! The prices are given, or a run has chosen them. What is made of a run that has ended is read off
-//! the record of its board: the settlement at the chosen prices, the best bound round them, and its
-//! side of `hull fixed`.
-//!
-//! `fix_case` gives the case with each thermal unit held to its commitment in a schedule. The dual
-//! value of the held case tells the prices for the commitments that were chosen, where that of the
-//! case as given is for all that could be (Gribik, Hogan and Pope, "Market-Clearing Electricity
-//! Prices and Energy Uplift", 2007, compare such prices).
+//! A unit's payment is what its best schedules earn at the prices less what its schedule in the plan
+//! earns (Gribik, Hogan and Pope, "Market-Clearing Electricity Prices and Energy Uplift", 2007).
+//! The uplift of a plan is its payments and the worth of its surplus reserve: together they make up
+//! the gap between the plan's cost and the dual value,
+//! `uc_model::laws::payments_make_up_the_gap`.
 #![tactic(auto)]
 
-mod answers;
-mod bound;
-mod chosen;
-mod copies;
-mod done;
-mod fix;
-pub mod held_laws;
+mod earned;
 pub mod laws;
-mod room;
-mod settle;
-mod sides;
+mod settled;
+mod settlement;
 mod totals;
 
-pub use bound::{Bounded, best_bound};
-pub use chosen::{chosen_room, settle_chosen};
-pub use done::Done;
-pub use fix::fix_case;
-pub use settle::settle_at;
-pub use sides::{Sides, hold, own_side, settled_side, side_room};
+pub use settled::Settled;
+pub use settlement::{Settlement, settle};
+pub use totals::total_all;

@@ -1,13 +1,10 @@
-//! What all units give and reserve, period by period, and what they earn.
-ghost use Rattle.std.specs.Prelude.{◌≡◌, ◌<◌, ◌≤◌, ◌+ℤ◌, [], length, map, Some, slice_get};
-ghost use Rattle.std.specs.List.{All, range_with_len};
+//! What all units give and reserve, period by period.
+ghost use Rattle.std.specs.Prelude.{◌≡◌, ◌≤◌, [], map};
+ghost use Rattle.std.specs.List.{range_with_len};
 ghost use Rattle.uc_model.specs.Data.{units};
 ghost use Rattle.uc_model.specs.Laws.{HasPlanShape};
-ghost use Rattle.uc_model.specs.Limits.{IsEarned, IsSum};
 ghost use Rattle.uc_model.specs.PlainCases.{market_of, schedules_of};
-ghost use Rattle.plain_lists.specs.Sums.{total};
 ghost use Rattle.uc_model.specs.Systems.{total_power, total_reserve};
-ghost use Rattle.plain_lists.specs.declared.limits.TheConstants.{MOST_UNITS};
 
 use plain_lists::lists::Amounts;
 use plan_check::totals::{net_power, reserves_in};
@@ -32,33 +29,4 @@ pub fn total_all(case: &Case, responses: &Plan, supply: &mut Amounts, reserve: &
         supply.push(i128::from(net_power(case, responses, place)));
         reserve.push(i128::from(reserves_in(case, responses, place).given));
     }
-}
-
-// What the unit of a number earns.
-fn earned_at(earned: &[i64], number: usize) -> i64
-    requires { number < length earned.now }
-    ensures { slice_get earned.now number ≡ Some result }
-{
-    earned[number]
-}
-
-// The sum with one more unit in it.
-fn sum_with(sum: i128, earned: i64) -> i128
-    requires { IsSum sum }
-    ensures { result ≡ sum +ℤ earned }
-{
-    sum + i128::from(earned)
-}
-
-/// The sum of what units earn, in money.
-pub fn earned_sum(earned: &[i64]) -> i128
-    requires count { length earned.now ≤ MOST_UNITS }
-    requires bound { All IsEarned earned.now }
-    ensures { result ≡ total earned.now }
-{
-    let mut sum = 0;
-    for number in 0..earned.len() {
-        sum = sum_with(sum, earned_at(earned, number));
-    }
-    sum
 }

@@ -14,5 +14,7 @@ pub mod FirstGreatest
 pub mod Squares
 -- step.rt and next.rt: prices after a step are those of the price rule, within their limits
 pub mod Steps
+-- value.rt: sums of what units earn
+pub mod EarnedSums
 -- The lemmas that answers cite.
 pub mod Lemmas

@@ -22,7 +22,7 @@ fn better_of(rows: &[Row], best: usize, later: usize) -> usize
 }
 
 /// The place from 0 of the first row whose value is at least each row's.
-pub fn greatest(rows: &[Row]) -> usize
+pub fn greatest_row(rows: &[Row]) -> usize
     requires { 0 < length rows.now }
     ensures place { result < length rows.now }
     ensures up_to { IsFirstUpTo (values_of (map proposal_of rows.now)) (length rows.now) result }
@@ -36,7 +36,7 @@ pub fn greatest(rows: &[Row]) -> usize
     best
 }
 
-/// The place of the first row with the greatest value among those up to and with `last`, where
+/// The place of the first row with the greatest value among those up to and with `last_row`, where
 /// `best` is that place among those before it, if there are some.
 pub fn greatest_with(rows: &[Row], last: usize, best: usize) -> usize
     requires last { last < length rows.now }

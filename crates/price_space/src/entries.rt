@@ -18,7 +18,7 @@ pub enum Product {
 }
 
 // The entry, and 0 where it would lead past the limit at which the price stands.
-fn projection(low: i64, high: i64, price: i64, entry: i64) -> i64
+fn projected_entry(low: i64, high: i64, price: i64, entry: i64) -> i64
     requires { IsEntry entry }
     ensures value { result ≡ projected low high price entry }
     ensures bound { IsEntry result }
@@ -31,7 +31,7 @@ fn projection(low: i64, high: i64, price: i64, entry: i64) -> i64
 }
 
 /// What a total lacks of the power that is required, in kilowatts: at most 2 * 10^13 in magnitude.
-pub fn lacking(required: i64, total: i128) -> i64
+pub fn lack_of_total(required: i64, total: i128) -> i64
     requires required { IsPower required }
     requires total { IsTotal total }
     ensures value { result ≡ required -ℤ total }
@@ -47,8 +47,8 @@ fn energy_entry(case: &Case, row: &Row, k: usize) -> i64
     ensures value { result ≡ energy_direction (market_of case.now) (proposal_of row.now) k }
     ensures bound { IsEntry result }
 {
-    let entry = lacking(*case.demand.get(k), *row.supply.get(k));
-    projection(-PRICE_LIMIT, PRICE_LIMIT, *row.prices.energy.get(k), entry)
+    let entry = lack_of_total(*case.demand.get(k), *row.supply.get(k));
+    projected_entry(-PRICE_LIMIT, PRICE_LIMIT, *row.prices.energy.get(k), entry)
 }
 
 // The entry of a reserve price, whose place counts from 0.
@@ -58,8 +58,8 @@ fn reserve_entry(case: &Case, row: &Row, k: usize) -> i64
     ensures value { result ≡ reserve_direction (market_of case.now) (proposal_of row.now) k }
     ensures bound { IsEntry result }
 {
-    let entry = lacking(*case.reserves.get(k), *row.reserve.get(k));
-    projection(0, PRICE_LIMIT, *row.prices.reserve.get(k), entry)
+    let entry = lack_of_total(*case.reserves.get(k), *row.reserve.get(k));
+    projected_entry(0, PRICE_LIMIT, *row.prices.reserve.get(k), entry)
 }
 
 /// The entry of a product's price, whose place counts from 0.

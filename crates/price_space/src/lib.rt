@@ -25,10 +25,10 @@ mod step;
 mod totals;
 mod value;
 
-pub use best_row::{greatest, greatest_with};
-pub use entries::{direction, lacking};
+pub use best_row::{greatest_row, greatest_with};
+pub use entries::{direction, lack_of_total};
 pub use next::{Moved, next_prices, next_prices_from};
 pub use opening::opening_prices;
 pub use start::start_prices;
 pub use totals::{add_response, count_each, take_bid};
-pub use value::dual_value;
+pub use value::{dual_value, earned_sum};

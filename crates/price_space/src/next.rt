@@ -12,7 +12,7 @@ ghost use Rattle.price_space.specs.Firsts.{IsFirstUpTo};
 ghost use Rattle.price_space.specs.Moves.{is_last_settled, values_of};
 ghost use Rattle.price_space.specs.Sizes.{IsRowBelow};
 
-use crate::best_row::greatest;
+use crate::best_row::greatest_row;
 use crate::entries::Product;
 use crate::step::{Step, norm_of, scale_of, take_step};
 use uc_model::cases::{Case, Row};
@@ -54,7 +54,7 @@ fn is_still(gap: i128, norm: i128) -> bool
 }
 
 // The last of the rows.
-fn last(rows: &[Row]) -> &Row
+fn last_row(rows: &[Row]) -> &Row
     requires { 0 < length rows.now }
     ensures { slice_get (map proposal_of rows.now) (length (map proposal_of rows.now) - 1)
         ≡ Some (proposal_of result.now) }
@@ -82,7 +82,7 @@ pub fn next_prices(case: &Case, rows: &[Row], ahead: u32, cost: i128, into: &mut
         ≡ prices_after (market_of case.now) cost (map proposal_of rows.now) }
     ensures unchanged { result ≡ Moved.Settled → prices_of into.new ≡ prices_of into.old }
 {
-    next_prices_from(case, rows, greatest(rows), cost, into)
+    next_prices_from(case, rows, greatest_row(rows), cost, into)
 }
 
 /// The same in time that doesn't grow with the rows, where `best` is the place of the first row
@@ -105,7 +105,7 @@ pub fn next_prices_from(
         ≡ prices_after (market_of case.now) cost (map proposal_of rows.now) }
     ensures unchanged { result ≡ Moved.Settled → prices_of into.new ≡ prices_of into.old }
 {
-    let row = last(rows);
+    let row = last_row(rows);
     let gap = gap_of(case, row, cost);
     let norm = norm_of(case, row);
     if is_still(gap, norm) {

@@ -26,7 +26,7 @@ pub struct Step {
     pub scale: i128,
 }
 
-fn square(entry: i64) -> i128
+fn square_of(entry: i64) -> i128
     requires { IsEntry entry }
     ensures value { result ≡ entry *ℤ entry }
     ensures bound { IsFrom (pos 0) (pos 400000000000000000000000000) result }
@@ -42,13 +42,13 @@ pub fn norm_of(case: &Case, row: &Row) -> i128
 {
     let mut total: i128 = 0;
     for place in 0..2 * case.periods {
-        total += square(direction(case, row, place));
+        total += square_of(direction(case, row, place));
     }
     total
 }
 
 // Twice as many with each ten rows that brought no better value, up to 2^20.
-fn doublings(age: usize) -> u32
+fn step_doublings(age: usize) -> u32
     ensures value { result ≡ 2 ^ min 20 (age / 10) }
     ensures low { 1 ≤ result }
     ensures high { result ≤ 1048576 }
@@ -63,7 +63,7 @@ pub fn scale_of(norm: i128, age: usize) -> i128
     ensures value { result ≡ norm *ℤ pos (2 ^ min 20 (age / 10)) }
     ensures bound { IsFrom (pos 1) (pos 1000000000000000000000000000000000000) result }
 {
-    norm * i128::from(doublings(age))
+    norm * i128::from(step_doublings(age))
 }
 
 /// How far an entry moves its price, cut toward zero: the product is below 4 * 10^37, and a 128-bit

@@ -7,7 +7,7 @@ use Rattle.uc_model.specs.Data.{Schedule, Market, unit_count}
 use Rattle.uc_model.specs.Data.{thermal_names, renewable_names, bid_names}
 use Rattle.uc_model.specs.PriceRule.{Proposal}
 use Rattle.plain_lists.specs.Sums.{int_at}
-use Rattle.plan_check.specs.declared.settlement.Settlement.{Settlement}
+use Rattle.price_settle.specs.declared.settlement.Settlement.{Settlement}
 use Rattle.report_form.specs.ReportText.{UnitLine, Report, chosen_text}
 use Rattle.right_report.specs.RecordReport.{lines_from}
 use Rattle.report_read.specs.Plain.{Told}

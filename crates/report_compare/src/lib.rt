@@ -2,7 +2,7 @@
 //! whether it does. The right one is never written out.
 #![tactic(auto)]
 
-mod desk;
+mod compare_room;
 mod due;
 pub mod laws;
 mod lines;
@@ -13,7 +13,7 @@ mod units;
 mod verdict;
 mod wrong;
 
-pub use desk::Desk;
+pub use compare_room::CompareRoom;
 pub use report::first_difference;
-pub use verdict::{Audit, judged, opening_right};
+pub use verdict::{Audit, opening_right, verdict_of_rows};
 pub use wrong::WrongLine;

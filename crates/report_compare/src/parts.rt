@@ -12,8 +12,8 @@ ghost use Rattle.report_compare.specs.ReportLines.{foot_lines};
 ghost use Rattle.report_compare.specs.Heads.{right_opening, right_head};
 
 use crate::lines::{same_amount, same_count};
-use crate::wrong::{WrongLine, all_same};
-use plan_check::Settlement;
+use crate::wrong::{WrongLine, first_wrong_line};
+use price_settle::Settlement;
 use report_read::Report;
 use uc_model::cases::Case;
 
@@ -32,7 +32,7 @@ fn same_choice(report: &Report, chosen: usize, value: i128) -> bool
 }
 
 /// The first six lines. Budget and number of proposals ahead are the report's own.
-pub fn opening_same(case: &Case, cost: i128, report: &Report) -> Result<u32, WrongLine>
+pub fn compare_opening(case: &Case, cost: i128, report: &Report) -> Result<u32, WrongLine>
     ensures lines { Compares 1 result (opening_lines (report_of report.now))
         (right_opening (market_of case.now) cost (report_of report.now)) }
     ensures units { IfOk result (λ next. report.now.units ≡ unit_count (market_of case.now)) }
@@ -46,22 +46,22 @@ pub fn opening_same(case: &Case, cost: i128, report: &Report) -> Result<u32, Wro
         true,
         same_amount(&report.cost, &cost),
     ];
-    all_same(1, &same)
+    first_wrong_line(1, &same)
 }
 
 /// The line that says how many proposals there are.
-fn number_same(first: u32, proposals: usize, report: &Report) -> Result<u32, WrongLine>
+fn compare_number(first: u32, proposals: usize, report: &Report) -> Result<u32, WrongLine>
     requires { first + 1 < 2 ^ 32 }
     ensures lines { Compares first result
         (number_line (length (report_of report.now).rows) ∷ []) (number_line proposals ∷ []) }
     ensures proposals { IfOk result (λ next. length report.now.rows.items ≡ proposals) }
     ensures next { IfOk result (λ next. next ≡ first + 1) }
 {
-    all_same(first, &[same_length(report, proposals)])
+    first_wrong_line(first, &[same_length(report, proposals)])
 }
 
 /// The first seven lines.
-pub fn head_same(
+pub fn compare_head(
     case: &Case,
     cost: i128,
     proposals: usize,
@@ -73,12 +73,12 @@ pub fn head_same(
     ensures proposals { IfOk result (λ next. length report.now.rows.items ≡ proposals) }
     ensures next { IfOk result (λ next. next ≡ 8) }
 {
-    let line = opening_same(case, cost, report)?;
-    number_same(line, proposals, report)
+    let line = compare_opening(case, cost, report)?;
+    compare_number(line, proposals, report)
 }
 
 /// The line of the chosen proposal.
-pub fn chosen_same(
+pub fn compare_chosen(
     first: u32,
     chosen: usize,
     value: i128,
@@ -90,11 +90,11 @@ pub fn chosen_same(
         (chosen_text chosen value ∷ []) }
     ensures next { IfOk result (λ next. next ≡ first + 1) }
 {
-    all_same(first, &[same_choice(report, chosen, value)])
+    first_wrong_line(first, &[same_choice(report, chosen, value)])
 }
 
 /// The last four lines.
-pub fn foot_same(
+pub fn compare_foot(
     first: u32,
     settlement: &Settlement,
     gap: i128,
@@ -112,5 +112,5 @@ pub fn foot_same(
         same_amount(&report.gap, &gap),
         true,
     ];
-    all_same(first, &same)
+    first_wrong_line(first, &same)
 }

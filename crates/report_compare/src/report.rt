@@ -20,13 +20,13 @@ ghost use Rattle.report_compare.specs.Right.{DiffersFromRight};
 ghost use Rattle.report_compare.specs.RightLines.{answers_of, titles, told_from};
 ghost use Rattle.report_compare.specs.RightLines.{right_of, whole_lines};
 
-use crate::desk::Desk;
-use crate::parts::{chosen_same, foot_same, head_same};
-use crate::rows::rows_same;
-use crate::units::units_same;
+use crate::compare_room::CompareRoom;
+use crate::parts::{compare_chosen, compare_foot, compare_head};
+use crate::rows::compare_rows;
+use crate::units::compare_units;
 use crate::wrong::WrongLine;
-use plan_check::settle;
-use price_space::greatest;
+use price_settle::settle;
+use price_space::greatest_row;
 use report_form::laws::text_determines_the_report;
 use report_read::Report;
 use right_report::laws::{
@@ -43,18 +43,18 @@ struct Choice<'a> {
     row: &'a Row,
 }
 
-// All lines, one part after another, where the desk has the money at the prices of the chosen row.
-fn report_same(
+// All lines, one part after another, where the compare_room has the money at the prices of the chosen row.
+fn compare_report(
     case: &Case,
     cost: i128,
     rows: &[Row],
     choice: &Choice<'_>,
     report: &Report,
-    desk: &mut Desk,
+    compare_room: &mut CompareRoom,
 ) -> Result<u32, WrongLine>
     requires some { HasSchedules (market_of case.now) }
-    requires desk { IsDeskFor (market_of case.now) desk.old }
-    requires earned { length desk.old.earned.items ≡ unit_count (market_of case.now) }
+    requires compare_room { IsDeskFor (market_of case.now) compare_room.old }
+    requires earned { length compare_room.old.earned.items ≡ unit_count (market_of case.now) }
     requires rows { length rows.now ≤ MOST_PROPOSALS }
     requires chosen { choice.now.place ≤ MOST_PROPOSALS }
     requires horizon { length (prices_of choice.now.row.now.prices).energy ≡ (market_of case.now).periods }
@@ -68,38 +68,43 @@ fn report_same(
         (whole_lines (report_of report.now)
         (flat_map told_lines (map told_of report.now.lines.items)))
         (whole_lines (right_of (market_of case.now)
-        (answers_of desk.old.earned.items desk.old.settlement responses)
+        (answers_of compare_room.old.earned.items compare_room.old.settlement responses)
         (report_of report.now).budget (report_of report.now).ahead cost
         (map proposal_of rows.now) (choice.now.place + 1) choice.now.row.now.value
-        desk.old.settlement.surplus desk.old.settlement.total)
+        compare_room.old.settlement.surplus compare_room.old.settlement.total)
         (flat_map told_lines (told_from
-        (answers_of desk.old.earned.items desk.old.settlement responses)
+        (answers_of compare_room.old.earned.items compare_room.old.settlement responses)
         0 (titles (market_of case.now))))) }
 {
-    let line = head_same(case, cost, rows.len(), report)?;
-    let line = rows_same(line, report.rows.as_slice(), rows)?;
-    let line = chosen_same(line, choice.place + 1, choice.row.value, report)?;
-    let line = units_same(
+    let line = compare_head(case, cost, rows.len(), report)?;
+    let line = compare_rows(line, report.rows.as_slice(), rows)?;
+    let line = compare_chosen(line, choice.place + 1, choice.row.value, report)?;
+    let line = compare_units(
         line,
         case,
         &choice.row.prices,
         report.lines.as_slice(),
-        desk,
+        compare_room,
     )?;
-    foot_same(line, &desk.settlement, cost - choice.row.value, report)
+    compare_foot(
+        line,
+        &compare_room.settlement,
+        cost - choice.row.value,
+        report,
+    )
 }
 
 /// The first line, from 1, at which the text of a report within the bounds of `read_report` differs
 /// from that of the right one for its own budget and number of proposals ahead; none exactly where
 /// the report is right. `cost` is what the feasible plan costs, in money, and `rows` are the run.
-/// The desk suffices for the case. Takes no memory.
+/// The compare_room suffices for the case. Takes no memory.
 pub fn first_difference(
     case: &Case,
     plan: &Plan,
     cost: i128,
     rows: &[Row],
     report: &Report,
-    desk: &mut Desk,
+    compare_room: &mut CompareRoom,
 ) -> Option<u32>
     requires feasible { IsFeasiblePlan (market_of case.now) (schedules_of plan.now) }
     requires cost { cost ≡ plan_cost (market_of case.now) (schedules_of plan.now) }
@@ -107,7 +112,7 @@ pub fn first_difference(
         (report_of report.now).ahead (map proposal_of rows.now) }
     requires bounds { IsReport (report_of report.now) }
     requires order { AreInOrder 0 (map told_of report.now.lines.items) }
-    requires desk { IsDeskFor (market_of case.now) desk.old }
+    requires compare_room { IsDeskFor (market_of case.now) compare_room.old }
     ensures right { (result ≡ None) ↔ IsRightReport (market_of case.now) (schedules_of plan.now)
         (report_of report.now).budget (report_of report.now).ahead (report_of report.now) }
     ensures wrong { IfSome result (λ line. DiffersFromRight (market_of case.now)
@@ -119,25 +124,25 @@ pub fn first_difference(
     settlements_are_of_all_units();
     plan_costs_are_within();
     dual_values_are_within();
-    let chosen = greatest(rows);
+    let chosen = greatest_row(rows);
     let row = &rows[chosen];
     earn_all(
-        &mut desk.bench,
-        &desk.last,
+        &mut compare_room.bench,
+        &compare_room.last,
         case,
         &row.prices,
-        &mut desk.answer,
-        &mut desk.earned,
+        &mut compare_room.answer,
+        &mut compare_room.earned,
     );
     settle(
         case,
         plan,
         &row.prices,
-        desk.earned.as_slice(),
-        &mut desk.settlement,
+        compare_room.earned.as_slice(),
+        &mut compare_room.settlement,
     );
     let choice = Choice { place: chosen, row };
-    match report_same(case, cost, rows, &choice, report, desk) {
+    match compare_report(case, cost, rows, &choice, report, compare_room) {
         Ok(_) => None,
         Err(wrong) => Some(wrong.line),
     }

@@ -5,11 +5,11 @@ ghost use Rattle.report_compare.specs.Compared.{Compares};
 ghost use Rattle.report_compare.specs.ReportLines.{row_lines, rows_lines};
 
 use crate::lines::{same_amount, same_prices, same_totals};
-use crate::wrong::{WrongLine, all_same};
+use crate::wrong::{WrongLine, first_wrong_line};
 use uc_model::cases::Row;
 
 // The lines of a proposal, of which the first has the number `first`.
-fn row_same(first: u32, mine: &Row, right: &Row) -> Result<u32, WrongLine>
+fn compare_row(first: u32, mine: &Row, right: &Row) -> Result<u32, WrongLine>
     requires { first + 5 < 2 ^ 32 }
     ensures lines { (number : ℕ) → Compares first result
         (row_lines number (proposal_of mine.now)) (row_lines number (proposal_of right.now)) }
@@ -22,11 +22,11 @@ fn row_same(first: u32, mine: &Row, right: &Row) -> Result<u32, WrongLine>
         same_totals(&mine.supply, &right.supply),
         same_totals(&mine.reserve, &right.reserve),
     ];
-    all_same(first, &same)
+    first_wrong_line(first, &same)
 }
 
 /// The lines of as many proposals, of which the first has the number `first`.
-pub fn rows_same(first: u32, mine: &[Row], right: &[Row]) -> Result<u32, WrongLine>
+pub fn compare_rows(first: u32, mine: &[Row], right: &[Row]) -> Result<u32, WrongLine>
     requires count { length mine.now ≡ length right.now }
     requires numbers { first + 5 * length mine.now < 2 ^ 32 }
     ensures lines { Compares first result
@@ -35,7 +35,7 @@ pub fn rows_same(first: u32, mine: &[Row], right: &[Row]) -> Result<u32, WrongLi
 {
     let mut line = first;
     for place in 0..mine.len() {
-        line = row_same(line, &mine[place], &right[place])?;
+        line = compare_row(line, &mine[place], &right[place])?;
     }
     Ok(line)
 }

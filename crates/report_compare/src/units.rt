@@ -15,10 +15,10 @@ ghost use Rattle.report_compare.specs.Desks.{IsDeskFor};
 ghost use Rattle.report_compare.specs.ReportLines.{response_lines, unit_lines, told_lines};
 ghost use Rattle.report_compare.specs.RightLines.{answers_of, titles, told_from};
 
-use crate::desk::Desk;
+use crate::compare_room::CompareRoom;
 use crate::due::{Title, title_at};
 use crate::lines::{same_flags, same_name, same_powers};
-use crate::wrong::{WrongLine, all_same};
+use crate::wrong::{WrongLine, first_wrong_line};
 use report_form::report::Owed;
 use report_read::UnitLine;
 use uc_model::cases::Case;
@@ -45,7 +45,7 @@ fn same_title(mine: &UnitLine, title: &Title<'_>) -> bool
 }
 
 // The lines behind a unit's first one, of which the first has the number `first`.
-fn response_same(
+fn compare_response(
     first: u32,
     kind: Kind,
     mine: &Response,
@@ -60,15 +60,15 @@ fn response_same(
         Kind::Thermal => {
             let on = same_flags(&mine.on, &right.on);
             let reserve = same_powers(&mine.reserve, &right.reserve);
-            all_same(first, &[on, power, reserve])
+            first_wrong_line(first, &[on, power, reserve])
         }
-        Kind::Renewable | Kind::Bid => all_same(first, &[power]),
+        Kind::Renewable | Kind::Bid => first_wrong_line(first, &[power]),
         Kind::Case => Ok(first),
     }
 }
 
 // The lines of a unit, of which the first has the number `first`.
-fn unit_same(
+fn same_unit(
     first: u32,
     mine: &UnitLine,
     title: &Title<'_>,
@@ -84,38 +84,38 @@ fn unit_same(
     if !same_title(mine, title) || !same_money(mine, owed) {
         return Err(WrongLine { line: first });
     }
-    response_same(first + 1, title.kind, &mine.response, right)
+    compare_response(first + 1, title.kind, &mine.response, right)
 }
 
 // What the unit of a number earns at best and in the plan, and what it is owed.
-fn owed_at(desk: &Desk, number: usize) -> Owed
-    requires earned { number < length desk.now.earned.items }
-    requires scheduled { number < length desk.now.settlement.scheduled.items }
-    requires payments { number < length desk.now.settlement.payments.items }
-    ensures earned { result.earned ≡ int_at desk.now.earned.items number }
-    ensures scheduled { result.scheduled ≡ int_at desk.now.settlement.scheduled.items number }
-    ensures payment { result.payment ≡ int_at desk.now.settlement.payments.items number }
+fn owed_at(compare_room: &CompareRoom, number: usize) -> Owed
+    requires earned { number < length compare_room.now.earned.items }
+    requires scheduled { number < length compare_room.now.settlement.scheduled.items }
+    requires payments { number < length compare_room.now.settlement.payments.items }
+    ensures earned { result.earned ≡ int_at compare_room.now.earned.items number }
+    ensures scheduled { result.scheduled ≡ int_at compare_room.now.settlement.scheduled.items number }
+    ensures payment { result.payment ≡ int_at compare_room.now.settlement.payments.items number }
 {
     Owed {
-        earned: *desk.earned.get(number),
-        scheduled: *desk.settlement.scheduled.get(number),
-        payment: *desk.settlement.payments.get(number),
+        earned: *compare_room.earned.get(number),
+        scheduled: *compare_room.settlement.scheduled.get(number),
+        payment: *compare_room.settlement.payments.get(number),
     }
 }
 
-/// The lines of all units and bids, of which the first has the number `first`. The desk suffices for
+/// The lines of all units and bids, of which the first has the number `first`. The compare_room suffices for
 /// the case and has the money of each unit at the prices, which are over the periods of the case.
 /// Each unit has a feasible schedule.
-pub fn units_same(
+pub fn compare_units(
     first: u32,
     case: &Case,
     prices: &Prices,
     lines: &[UnitLine],
-    desk: &mut Desk,
+    compare_room: &mut CompareRoom,
 ) -> Result<u32, WrongLine>
     requires some { HasSchedules (market_of case.now) }
-    requires desk { IsDeskFor (market_of case.now) desk.old }
-    requires earned { length desk.old.earned.items ≡ unit_count (market_of case.now) }
+    requires compare_room { IsDeskFor (market_of case.now) compare_room.old }
+    requires earned { length compare_room.old.earned.items ≡ unit_count (market_of case.now) }
     requires horizon { length (prices_of prices.now).energy ≡ (market_of case.now).periods }
     requires lines { length lines.now ≡ unit_count (market_of case.now) }
     requires numbers { first + 4 * length lines.now < 2 ^ 32 }
@@ -123,26 +123,32 @@ pub fn units_same(
         → AllZip (λ u s. Fits u (prices_of prices.now) s) (units (market_of case.now)) responses
         → Compares first result (flat_map told_lines (map told_of lines.now))
         (flat_map told_lines (told_from
-        (answers_of desk.old.earned.items desk.old.settlement responses)
+        (answers_of compare_room.old.earned.items compare_room.old.settlement responses)
         0 (titles (market_of case.now)))) }
     ensures few { IfOk result (λ next. next ≤ first + 4 * length lines.now) }
-    ensures settlement { desk.new.settlement ≡ desk.old.settlement }
+    ensures settlement { compare_room.new.settlement ≡ compare_room.old.settlement }
 {
     one_schedule_is_least();
     units_can_answer();
     let mut line = first;
     for number in 0..lines.len() {
         answer_at(
-            &mut desk.bench,
-            &desk.last,
+            &mut compare_room.bench,
+            &compare_room.last,
             case,
             prices,
             number,
-            &mut desk.answer,
+            &mut compare_room.answer,
         );
-        let owed = owed_at(desk, number);
+        let owed = owed_at(compare_room, number);
         let title = title_at(case, number);
-        line = unit_same(line, &lines[number], &title, &owed, &desk.answer.response)?;
+        line = same_unit(
+            line,
+            &lines[number],
+            &title,
+            &owed,
+            &compare_room.answer.response,
+        )?;
     }
     Ok(line)
 }

@@ -14,8 +14,8 @@ ghost use Rattle.report_compare.specs.ReportLines.{opening_lines};
 ghost use Rattle.report_compare.specs.Right.{DiffersFromRight, IsWrongFrom};
 ghost use Rattle.report_compare.specs.declared.verdict.Audit.TheVariants.{Right};
 
-use crate::desk::Desk;
-use crate::parts::opening_same;
+use crate::compare_room::CompareRoom;
+use crate::parts::compare_opening;
 use crate::report::first_difference;
 use crate::wrong::WrongLine;
 use report_form::laws::text_determines_the_report;
@@ -54,18 +54,18 @@ pub fn opening_right(
     text_determines_the_report();
     one_report_is_right();
     right_reports_exist();
-    opening_same(case, cost, report)
+    compare_opening(case, cost, report)
 }
 
 /// What the rows tell of a report whose first six lines are right. They are the run, up to one row
-/// more than the report has. The desk suffices for the case. Takes no memory.
-pub fn judged(
+/// more than the report has. The compare_room suffices for the case. Takes no memory.
+pub fn verdict_of_rows(
     case: &Case,
     plan: &Plan,
     cost: i128,
     rows: &[Row],
     report: &Report,
-    desk: &mut Desk,
+    compare_room: &mut CompareRoom,
 ) -> Audit
     requires feasible { IsFeasiblePlan (market_of case.now) (schedules_of plan.now) }
     requires cost { cost ≡ plan_cost (market_of case.now) (schedules_of plan.now) }
@@ -75,7 +75,7 @@ pub fn judged(
         (min r.budget (length r.rows + 1)) r.ahead (map proposal_of rows.now) }
     requires bounds { IsReport (report_of report.now) }
     requires order { AreInOrder 0 (map told_of report.now.lines.items) }
-    requires desk { IsDeskFor (market_of case.now) desk.old }
+    requires compare_room { IsDeskFor (market_of case.now) compare_room.old }
     ensures right { (result ≡ Right) ↔ IsRightReport (market_of case.now) (schedules_of plan.now)
         (report_of report.now).budget (report_of report.now).ahead (report_of report.now) }
     ensures wrong { IfWrong result (λ line. DiffersFromRight (market_of case.now)
@@ -90,7 +90,7 @@ pub fn judged(
     if right != told {
         return Audit::Wrong { line: NUMBER_LINE };
     }
-    match first_difference(case, plan, cost, rows, report, desk) {
+    match first_difference(case, plan, cost, rows, report, compare_room) {
         None => Audit::Right,
         Some(line) => Audit::Wrong { line },
     }

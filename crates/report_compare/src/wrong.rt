@@ -11,7 +11,7 @@ pub struct WrongLine {
 
 /// The number of the line behind these, of which the first has the number `first`, where all are
 /// the same; or the first that isn't.
-pub fn all_same(first: u32, same: &[bool]) -> Result<u32, WrongLine>
+pub fn first_wrong_line(first: u32, same: &[bool]) -> Result<u32, WrongLine>
     requires { first + length same.now < 2 ^ 32 }
     ensures { result ≡ wrong_from first same.now }
 {

@@ -24,5 +24,7 @@ mod ReadSettlement
 mod ReadCertificate
 -- laws.rt: a search for convex hull prices, read back block by block
 mod ReadConvex
+-- Crates above: texts one after another, over the law of laws.rt.
+pub mod TextLaws
 -- The lemmas that answers cite.
 pub mod Lemmas

@@ -3,14 +3,14 @@ ghost use Rattle.std.specs.Prelude.{◌≡◌, ◌≤◌, []};
 ghost use Rattle.report_read.specs.Words.{Finds, spaced, items_at as items_spec};
 
 use crate::values::ValueForm;
-use crate::words::behind;
+use crate::words::rest_behind;
 use plain_lists::lists::ReservedList;
 
 #[tactic(auto, unfolding(crate::specs::Words::spaced))]
 fn item_at<F: ValueForm>(item: F, bytes: &[u8]) -> Option<(F::Value, &[u8])>
     ensures { Finds (λ x. (x.0, x.1.now)) result (spaced (F.found item) bytes.now) }
 {
-    let rest = behind(b" ", bytes)?;
+    let rest = rest_behind(b" ", bytes)?;
     item.at(rest)
 }
 

@@ -9,17 +9,17 @@ ghost use Rattle.report_read.specs.Lines.{amount_line as amount_spec, list_line 
 use crate::items::items_at;
 use crate::stop::Stop;
 use crate::values::{Amount, Count, ValueForm, Valued};
-use crate::words::behind;
+use crate::words::rest_behind;
 use plain_lists::lists::ReservedList;
 use std::alloc::Global;
 
-/// What is left of a text. After a fault, or where memory is wanting, it isn't known what that is.
+/// What is left of a text. After a fault, or where memory runs out, it isn't known what that is.
 pub struct Reader<'a> {
     /// The bytes that are left.
     pub rest: &'a [u8],
 }
 
-// Written out, so that a drop of it is a call.
+// By hand, so that dropping it is one call.
 impl Drop for Reader<'_> {
     fn drop(self) {
         let Reader { rest: _ } = self;
@@ -30,8 +30,8 @@ impl Drop for Reader<'_> {
 fn word_in<'a>(word: &[u8], bytes: &'a [u8]) -> Option<&'a [u8]>
     ensures { Finds (λ rest. (tt, rest.now)) result (plain_form word.now bytes.now) }
 {
-    let rest = behind(word, bytes)?;
-    behind(b"\n", rest)
+    let rest = rest_behind(word, bytes)?;
+    rest_behind(b"\n", rest)
 }
 
 /// A line that is a word.
@@ -54,9 +54,9 @@ pub fn word_line(reader: &mut Reader<'_>, word: &[u8]) -> Result<(), Stop>
 fn value_in<'a, F: ValueForm>(word: &[u8], form: F, bytes: &'a [u8]) -> Option<(F::Value, &'a [u8])>
     ensures { Finds (λ x. (x.0, x.1.now)) result (word_form word.now (F.found form) bytes.now) }
 {
-    let rest = behind(word, bytes)?;
+    let rest = rest_behind(word, bytes)?;
     let (value, rest) = form.at(rest)?;
-    let rest = behind(b"\n", rest)?;
+    let rest = rest_behind(b"\n", rest)?;
     Some((value, rest))
 }
 
@@ -117,9 +117,9 @@ fn list_in<'a, F: ValueForm>(
     ensures { Finds (λ rest. (list.new.items, rest.now)) result
         (word_form word.now (items_found (spaced (F.found item)) periods) bytes.now) }
 {
-    let rest = behind(word, bytes)?;
+    let rest = rest_behind(word, bytes)?;
     let rest = items_at(list, item, periods, rest)?;
-    behind(b"\n", rest)
+    rest_behind(b"\n", rest)
 }
 
 /// A word and the items of all periods.

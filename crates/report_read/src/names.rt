@@ -6,7 +6,7 @@ ghost use Rattle.report_read.specs.Words.{backslashed_at as backslashed_spec};
 ghost use Rattle.report_read.specs.Words.{escaped_at as escaped_spec, closed_within};
 ghost use Rattle.report_read.specs.Words.{name_at as name_spec, FindsIfOk};
 
-use crate::words::behind;
+use crate::words::rest_behind;
 use plain_lists::lists::Name;
 use report_form::parts::is_plain;
 use std::alloc::{AllocError, Global};
@@ -43,7 +43,7 @@ fn two_digits(bytes: &[u8]) -> Option<(u8, &[u8])>
 fn control_at(bytes: &[u8]) -> Option<(u8, &[u8])>
     ensures { Finds (λ x. (x.0, x.1.now)) result (control_spec bytes.now) }
 {
-    let rest = behind(b"00", bytes)?;
+    let rest = rest_behind(b"00", bytes)?;
     two_digits(rest)
 }
 
@@ -78,7 +78,7 @@ fn closed_at(alloc: Global, bytes: &[u8]) -> Result<Option<(Vec<u8>, &[u8])>, Al
     let mut name = Vec::new(alloc);
     let mut rest = bytes;
     for _ in 0..bytes.len() {
-        if let Some(after) = behind(b"\"", rest) {
+        if let Some(after) = rest_behind(b"\"", rest) {
             return Ok(Some((name, after)));
         }
         let Some((byte, after)) = escaped_at(rest) else {

@@ -5,7 +5,7 @@ ghost use Rattle.report_read.specs.Words.{count_at as count_spec, integer_at};
 ghost use Rattle.report_read.specs.LineForms.{amount_at as amount_spec};
 ghost use Rattle.report_read.specs.declared.numbers.TheConstants.{MOST};
 
-use crate::words::rest_from;
+use text_tokens::bytes_from;
 
 /// The greatest magnitude of a number of 128 bits.
 pub const MOST: u128 = 170_141_183_460_469_231_731_687_303_715_884_105_728;
@@ -13,7 +13,7 @@ pub const MOST: u128 = 170_141_183_460_469_231_731_687_303_715_884_105_728;
 /// A number above it has no room for another digit.
 const MOST_BEFORE_LAST: u128 = 17_014_118_346_046_923_173_168_730_371_588_410_572;
 
-fn within(number: u128, rest: &[u8]) -> Option<(u128, &[u8])>
+fn number_and_rest(number: u128, rest: &[u8]) -> Option<(u128, &[u8])>
     ensures { Finds (λ x. (x.0, x.1.now)) result (count_between 0 MOST (number, rest.now)) }
 {
     if MOST < number {
@@ -31,14 +31,14 @@ fn digits_from(first: u128, bytes: &[u8]) -> Option<(u128, &[u8])>
     let mut number = first;
     for (offset, byte) in bytes.iter().enumerate() {
         if !byte.is_ascii_digit() {
-            return within(number, rest_from(bytes, offset));
+            return number_and_rest(number, bytes_from(bytes, offset));
         }
         if number > MOST_BEFORE_LAST {
             return None;
         }
         number = 10 * number + (*byte - b'0') as u128;
     }
-    within(number, rest_from(bytes, bytes.len()))
+    number_and_rest(number, bytes_from(bytes, bytes.len()))
 }
 
 /// A number of at most `MOST`.
@@ -65,7 +65,7 @@ pub fn count_at(bytes: &[u8], least: u32, most: u32) -> Option<(u32, &[u8])>
 }
 
 /// The number of that magnitude below 0.
-fn negated(magnitude: u128) -> i128
+fn negative_number(magnitude: u128) -> i128
     requires least { 1 ≤ magnitude }
     requires most { magnitude ≤ MOST }
     ensures { result ≡ neg_ℤ (pos magnitude) }
@@ -80,7 +80,7 @@ fn negative_at(bytes: &[u8]) -> Option<(i128, &[u8])>
     if magnitude == 0 {
         return None;
     }
-    Some((negated(magnitude), rest))
+    Some((negative_number(magnitude), rest))
 }
 
 fn positive_at(bytes: &[u8]) -> Option<(i128, &[u8])>

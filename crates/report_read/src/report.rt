@@ -31,7 +31,7 @@ pub struct UnitLine {
     pub response: Response,
 }
 
-// Written out, so that a drop of it is a call, and not one for each list.
+// By hand, so that dropping it is one call.
 impl Drop for UnitLine {
     fn drop(self) {
         let UnitLine {
@@ -75,7 +75,7 @@ pub struct Report {
     pub gap: i128,
 }
 
-// Written out, so that a drop of it is a call, and not one for each list.
+// By hand, so that dropping it is one call.
 impl Drop for Report {
     fn drop(self) {
         let Report {

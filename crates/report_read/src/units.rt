@@ -15,7 +15,7 @@ use crate::numbers::number_at;
 use crate::report::{UnitLine, UnitLines};
 use crate::stop::Stop;
 use crate::values::{Count, Flag};
-use crate::words::behind;
+use crate::words::rest_behind;
 use plain_lists::lists::{Flags, Name};
 use report_form::report::Owed;
 use std::alloc::{AllocError, Global};
@@ -40,7 +40,7 @@ const POWER: Count = Count {
 };
 
 /// The place of a kind in the order of a report.
-fn rank(kind: Kind) -> u32
+fn rank_of_kind(kind: Kind) -> u32
     ensures { result ≡ rank_spec kind }
 {
     match kind {
@@ -55,13 +55,13 @@ fn rank(kind: Kind) -> u32
 fn kind_at(bytes: &[u8]) -> Option<(Kind, &[u8])>
     ensures { Finds (λ x. (x.0, x.1.now)) result (kind_spec bytes.now) }
 {
-    if let Some(rest) = behind(b"thermal ", bytes) {
+    if let Some(rest) = rest_behind(b"thermal ", bytes) {
         return Some((Kind::Thermal, rest));
     }
-    if let Some(rest) = behind(b"renewable ", bytes) {
+    if let Some(rest) = rest_behind(b"renewable ", bytes) {
         return Some((Kind::Renewable, rest));
     }
-    let rest = behind(b"bid ", bytes)?;
+    let rest = rest_behind(b"bid ", bytes)?;
     Some((Kind::Bid, rest))
 }
 
@@ -70,12 +70,12 @@ fn kind_at(bytes: &[u8]) -> Option<(Kind, &[u8])>
 fn opening_at(least: u32, bytes: &[u8]) -> Option<(Kind, &[u8])>
     ensures { Finds (λ x. (x.0, x.1.now)) result (opening_spec least bytes.now) }
 {
-    let rest = behind(b"unit ", bytes)?;
+    let rest = rest_behind(b"unit ", bytes)?;
     let (kind, rest) = kind_at(rest)?;
-    if rank(kind) < least {
+    if rank_of_kind(kind) < least {
         return None;
     }
-    let rest = behind(b"\"", rest)?;
+    let rest = rest_behind(b"\"", rest)?;
     Some((kind, rest))
 }
 
@@ -83,7 +83,7 @@ fn opening_at(least: u32, bytes: &[u8]) -> Option<(Kind, &[u8])>
 fn money_at<'a>(word: &[u8], bytes: &'a [u8]) -> Option<(i64, &'a [u8])>
     ensures { Finds (λ x. (x.0, x.1.now)) result (after word.now number_spec bytes.now) }
 {
-    let rest = behind(word, bytes)?;
+    let rest = rest_behind(word, bytes)?;
     number_at(rest, i64::MIN, i64::MAX)
 }
 
@@ -117,7 +117,7 @@ fn title_in(alloc: Global, least: u32, bytes: &[u8]) -> Result<Option<(Title, &[
     let Some((owed, rest)) = owed_at(rest) else {
         return Ok(None);
     };
-    let Some(rest) = behind(b"\n", rest) else {
+    let Some(rest) = rest_behind(b"\n", rest) else {
         return Ok(None);
     };
     Ok(Some((Title { kind, name, owed }, rest)))
@@ -213,7 +213,7 @@ pub fn read_units(
     let mut least = 0;
     for _ in 0..count {
         let line = read_unit(alloc, reader, periods, least)?;
-        least = rank(line.kind);
+        least = rank_of_kind(line.kind);
         lines.push(line);
     }
     Ok(lines)

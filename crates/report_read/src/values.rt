@@ -5,7 +5,7 @@ ghost use Rattle.report_read.specs.Words.{integer_at};
 ghost use Rattle.report_read.specs.LineForms.{amount_at as amount_spec, after, both};
 
 use crate::numbers::{amount_at, count_at, number_at};
-use crate::words::behind;
+use crate::words::rest_behind;
 
 /// A form of values that a line may have.
 pub trait ValueForm: Copy + Drop {
@@ -102,7 +102,7 @@ impl ValueForm for Valued {
     #[tactic(auto, unfolding(crate::specs::LineForms::both, crate::specs::LineForms::after))]
     fn at(self, bytes: &[u8]) -> Option<((u32, i128), &[u8])> {
         let (number, rest) = count_at(bytes, self.least, self.most)?;
-        let rest = behind(b" value ", rest)?;
+        let rest = rest_behind(b" value ", rest)?;
         let (value, rest) = amount_at(rest)?;
         Some(((number, value), rest))
     }

@@ -53,5 +53,5 @@ pub use Rattle.uc_model.specs.Schedules.{IsThermalFeasible, IsRenewableFeasible,
 pub use Rattle.plain_lists.specs.Sums.{total, int_at, zip_with}
 pub use Rattle.uc_model.specs.Systems.{worth_of_demand, IsDualValue, plan_cost, IsSettled}
 pub use Rattle.uc_model.specs.declared.cases.Row.{Row}
-pub use Rattle.plan_check.specs.declared.settlement.Settlement.{Settlement}
+pub use Rattle.price_settle.specs.declared.settlement.Settlement.{Settlement}
 pub use Rattle.right_report.specs.Existence.{AreFeasible, DualValuesExist, BestResponsesExist, RunsExist}

@@ -12,7 +12,7 @@ use Rattle.uc_model.specs.Earnings.{IsTop}
 use Rattle.uc_model.specs.PriceRule.{Proposal, chosen_number}
 use Rattle.plain_lists.specs.Sums.{int_at}
 use Rattle.uc_model.specs.Systems.{IsFeasiblePlan, plan_cost, IsSettled}
-use Rattle.plan_check.specs.declared.settlement.Settlement.{Settlement}
+use Rattle.price_settle.specs.declared.settlement.Settlement.{Settlement}
 use Rattle.report_form.specs.ReportText.{UnitLine, Report}
 use Rattle.right_report.specs.RightReport.{IsRightReport}
 

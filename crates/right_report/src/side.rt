@@ -8,7 +8,7 @@ use crate::choice::choice_of;
 use board_core::Closed;
 use board_store::laws::rows_are_within;
 use plain_lists::lists::copy_list;
-use plan_check::Settlement;
+use price_settle::Settlement;
 use uc_model::units::Prices;
 
 /// What is told of one run: how many proposals it has, the number from 1 of the chosen one, its
@@ -27,7 +27,7 @@ pub struct Side {
     pub settlement: Settlement,
 }
 
-// Written out, so that a drop of it is a call, and not one for each list.
+// By hand, so that dropping it is one call.
 impl Drop for Side {
     fn drop(self) {
         let Side {

@@ -5,6 +5,7 @@ use Rattle.slope_list.proofs.Common.{option_map, ints, by_lt_z, cases_lt, Block,
 use Rattle.slope_list.proofs.Common.{IsLimitedCurve, IsPlace, IsLine, block, width_to, IsInBlock, IsPrice, HasCosts}
 use Rattle.slope_list.proofs.Common.{Span, cost_at}
 use Rattle.slope_list.proofs.LineLaws.{lt_is, not_lt_is, times_none, times_split, line_step}
+use Rattle.slope_list.proofs.Lookup.{same_some}
 
 pub cost_at_is : (c : Curve) (x v : ℤ) → curve_value c x ≡ Some v → cost_at c x ≡ v
 cost_at_is c x v h = rw h
@@ -47,24 +48,24 @@ end_of-width from (b ∷ bs) = let i = end_of-width (from +ℤ b.width) bs in om
 
 -- ---- values
 
-past_block : (b : Block) (bs : List Block) (x : ℤ) → b.width <ℤ x →
+-- past the first block, and within it
+pub rise_at-past : (b : Block) (bs : List Block) (x : ℤ) → b.width <ℤ x →
     rise_at (b ∷ bs) x ≡ option_map (λ (v : ℤ). v +ℤ (b.price *ℤ b.width)) (rise_at bs (x -ℤ b.width))
-past_block b bs x h = rw (lt_is b.width x h)
+rise_at-past b bs x h = rw (lt_is b.width x h)
 
-in_block : (b : Block) (bs : List Block) (x : ℤ) → x ≤ℤ b.width → rise_at (b ∷ bs) x ≡ Some (b.price *ℤ x)
-in_block b bs x h = rw (not_lt_is b.width x h)
+pub rise_at-inside : (b : Block) (bs : List Block) (x : ℤ) → x ≤ℤ b.width → rise_at (b ∷ bs) x ≡ Some (b.price *ℤ x)
+rise_at-inside b bs x h = rw (not_lt_is b.width x h)
 
-at_start : (bs : List Block) → AreWide bs → rise_at bs (pos 0) ≡ Some (pos 0)
-at_start [] w = refl
-at_start (b ∷ bs) w = in_block b bs (pos 0) (w 0 (omega arith)) ∙ ap Some (times_none b.price (pos 0) refl)
+rise_at-start : (bs : List Block) → AreWide bs → rise_at bs (pos 0) ≡ Some (pos 0)
+rise_at-start [] w = refl
+rise_at-start (b ∷ bs) w = rise_at-inside b bs (pos 0) (w 0 (omega arith)) ∙ ap Some (times_none b.price (pos 0) refl)
 
-one_value : {u v : ℤ} → (o : Option ℤ) → o ≡ Some u → o ≡ Some v → u ≡ v
-one_value o p q = cc
-
-mapped_some : (t : ℤ) (o : Option ℤ) (v : ℤ) → o ≡ Some v → option_map (λ (u : ℤ). u +ℤ t) o ≡ Some (v +ℤ t)
+pub mapped_some : (t : ℤ) (o : Option ℤ) (v : ℤ) → o ≡ Some v → option_map (λ (u : ℤ). u +ℤ t) o ≡ Some (v +ℤ t)
 mapped_some t o v h = ap (option_map (λ (u : ℤ). u +ℤ t)) h
 
-mapped : (k v : ℤ) (o : Option ℤ) → option_map (λ (u : ℤ). u +ℤ k) o ≡ Some v → (u : ℤ) × (o ≡ Some u) × (v ≡ u +ℤ k)
+-- what stands before a number was added
+pub mapped : (k v : ℤ) (o : Option ℤ) → option_map (λ (u : ℤ). u +ℤ k) o ≡ Some v →
+    (u : ℤ) × (o ≡ Some u) × (v ≡ u +ℤ k)
 mapped k v None h = cc
 mapped k v (Some u) h = (u, refl, (cc))
 
@@ -75,14 +76,14 @@ after_first b bs w x v low h =
     by_lt_z (pos 0) x
     (λ (l : pos 0 <ℤ x).
     let e : rise_at bs ((b.width +ℤ x) -ℤ b.width) ≡ Some v = ap (rise_at bs) (omega (arith, ints)) ∙ h in
-    past_block b bs (b.width +ℤ x) (omega (arith, ints)) ∙ mapped_some (b.price *ℤ b.width) _ v e ∙
+    rise_at-past b bs (b.width +ℤ x) (omega (arith, ints)) ∙ mapped_some (b.price *ℤ b.width) _ v e ∙
     ap Some (omega (arith, ints)))
     (λ (l : x ≤ℤ pos 0).
     let z : x ≡ pos 0 = omega (arith, ints) in
     let n : rise_at bs (pos 0) ≡ Some v = ap (rise_at bs) (sym z) ∙ h in
-    let none : pos 0 ≡ v = one_value (rise_at bs (pos 0)) (at_start bs (wide_tail b bs w)) n in
+    let none : pos 0 ≡ v = same_some (rise_at bs (pos 0)) (rise_at-start bs (wide_tail b bs w)) n in
     let same : b.price *ℤ (b.width +ℤ x) ≡ b.price *ℤ b.width = ap (λ (y : ℤ). b.price *ℤ y) (omega (arith, ints)) in
-    in_block b bs (b.width +ℤ x) (omega (arith, ints)) ∙ ap Some (omega (arith, ints)))
+    rise_at-inside b bs (b.width +ℤ x) (omega (arith, ints)) ∙ ap Some (omega (arith, ints)))
 
 -- in a block the value rises by its price
 pub rise_in_block : (bs : List Block) → AreWide bs → (j : ℕ) → j < length bs → (t : ℤ) → pos 0 ≤ℤ t →
@@ -90,7 +91,7 @@ pub rise_in_block : (bs : List Block) → AreWide bs → (j : ℕ) → j < lengt
     → rise_at bs (width_to bs j +ℤ t) ≡ Some (rise_to bs j +ℤ ((block bs j).price *ℤ t))
 rise_in_block [] w j h t low high = absurd (omega arith)
 rise_in_block (b ∷ bs) w zero h t low high =
-    ap (rise_at (b ∷ bs)) {y = t} (omega (arith, ints)) ∙ in_block b bs t high ∙ ap Some (omega (arith, ints))
+    ap (rise_at (b ∷ bs)) {y = t} (omega (arith, ints)) ∙ rise_at-inside b bs t high ∙ ap Some (omega (arith, ints))
 rise_in_block (b ∷ bs) w (suc j) h t low high =
     let i = rise_in_block bs (wide_tail b bs w) j (omega arith) t low high in
     let p = width_to-positive bs (wide_tail b bs w) j (omega arith) in
@@ -101,7 +102,7 @@ rise_in_block (b ∷ bs) w (suc j) h t low high =
 -- where the first j blocks end
 pub rise_at_end : (bs : List Block) → AreWide bs → (j : ℕ) → j ≤ length bs →
     rise_at bs (width_to bs j) ≡ Some (rise_to bs j)
-rise_at_end bs w zero h = at_start bs w
+rise_at_end bs w zero h = rise_at-start bs w
 rise_at_end [] w (suc j) h = absurd (omega arith)
 rise_at_end (b ∷ bs) w (suc j) h =
     after_first b bs w (width_to bs j) (rise_to bs j) (width_to-positive bs (wide_tail b bs w) j (omega arith))
@@ -188,23 +189,23 @@ price_within c limited a b span rise i within costs =
     record { at_least = omega (arith, ints); at_most = omega (arith, ints) }
 
 -- a power of the curve
-up_to_width : (bs : List Block) (x v : ℤ) → AreWide bs → rise_at bs x ≡ Some v → x ≤ℤ width_to bs (length bs)
+pub up_to_width : (bs : List Block) (x v : ℤ) → AreWide bs → rise_at bs x ≡ Some v → x ≤ℤ width_to bs (length bs)
 up_to_width [] x v w h = by_lt_z (pos 0) x (λ (l : pos 0 <ℤ x). let n : rise_at [] x ≡ None = rw (lt_is (pos 0) x l) in
     cc) (λ (l : x ≤ℤ pos 0). l)
 up_to_width (b ∷ bs) x v w h =
     by_lt_z b.width x
     (λ (l : b.width <ℤ x).
-    let m = mapped (b.price *ℤ b.width) v (rise_at bs (x -ℤ b.width)) (sym (past_block b bs x l) ∙ h) in
+    let m = mapped (b.price *ℤ b.width) v (rise_at bs (x -ℤ b.width)) (sym (rise_at-past b bs x l) ∙ h) in
     let i = up_to_width bs (x -ℤ b.width) m.0 (wide_tail b bs w) m.1 in
     omega (arith, ints))
     (λ (l : x ≤ℤ b.width). let p = width_to-positive bs (wide_tail b bs w) (length bs) (omega arith) in
     omega (arith, ints))
 
-pub record IsOnCurve (c : Curve) (x : ℤ) : Type 0 where
+pub record IsWithinCurve (c : Curve) (x : ℤ) : Type 0 where
   pub from : c.at ≤ℤ x
   pub to : x ≤ℤ (c.at +ℤ width_to c.blocks.items (length c.blocks.items))
 
-pub on_curve : (c : Curve) (x v : ℤ) → AreWide c.blocks.items → curve_value c x ≡ Some v → IsOnCurve c x
+pub on_curve : (c : Curve) (x v : ℤ) → AreWide c.blocks.items → curve_value c x ≡ Some v → IsWithinCurve c x
 on_curve c x v w h = by_lt_z x c.at
     (λ (l : x <ℤ c.at). let n : curve_value c x ≡ None = rw (lt_is x c.at l) in cc)
     (λ (l : c.at ≤ℤ x).
@@ -215,7 +216,7 @@ on_curve c x v w h = by_lt_z x c.at
     record { from = l; to = omega (arith, ints) })
 
 -- a block that ends within the curve isn't the last
-pub block_more : (c : Curve) (at : ℤ) (span : Span) (x : ℤ) → IsInBlock c at span → span.end <ℤ x → IsOnCurve c x →
+pub block_more : (c : Curve) (at : ℤ) (span : Span) (x : ℤ) → IsInBlock c at span → span.end <ℤ x → IsWithinCurve c x →
     suc span.index < length c.blocks.items
 block_more c at span x i l o =
     elim (cases_lt (suc span.index) (length c.blocks.items)) [

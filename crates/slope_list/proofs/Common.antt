@@ -47,7 +47,7 @@ pub use Rattle.uc_model.specs.Limits.{IsOutput, IsCost, IsPower}
 pub use Rattle.uc_model.specs.declared.units.Curve.{Curve}
 pub use lib.Signed.{lt_z}
 pub use Rattle.std.proofs.lemmas.Bool.{cases_lt, OnTrue_from}
-pub use Rattle.slope_list.specs.Totals.{CanGo}
+pub use Rattle.slope_list.specs.Totals.{CanGo, IsTotal}
 pub use Rattle.slope_list.specs.declared.blocks.Span.{Span}
 pub use Rattle.uc_model.specs.declared.units.Block.{Block}
 pub use Rattle.std.proofs.Math.IntN.{zero-*ℤ, *ℤ_comm, *ℤ-zero, *ℤ-one}

@@ -3,13 +3,13 @@ use Rattle.slope_list.proofs.Common.{◌≡◌, ℕ, zero, suc, ◌+◌, ◌-◌
 use Rattle.slope_list.proofs.Common.{ap}
 use Rattle.slope_list.proofs.Common.{◌∙◌, arith, ℤ, pos, ◌+ℤ◌, ◌-ℤ◌, ◌*ℤ◌, ◌≤ℤ◌, ◌<ℤ◌, by_lt_z, ints, clamps}
 use Rattle.slope_list.proofs.Common.{option_map}
-use Rattle.slope_list.proofs.Common.{*ℤ-one, one, Table, value_of, IsConvex, reserve_term, IsWindow, IsSum}
+use Rattle.slope_list.proofs.Common.{Table, value_of, IsConvex, reserve_term, IsWindow, IsSum}
 use Rattle.slope_list.proofs.Common.{PointIsConvex, CopyIsConvex, LineKeepsConvexity, ReserveKeepsConvexity}
 use Rattle.slope_list.proofs.Common.{WindowKeepsConvexity}
 use Rattle.std.specs.Int.{int_min}
 use Rattle.plain_lists.proofs.IntLaws.{mul-add, mul-mono_of}
-use Rattle.slope_list.proofs.Lookup.{IsAt, IsAt-from_value, value-from_index, value-from_is_at}
-pub use Rattle.slope_list.proofs.Lookup.{same_some}
+use Rattle.slope_list.proofs.Lookup.{IsAt, IsAt-from_value, value-from_index, value-from_is_at, same_some}
+use Rattle.slope_list.proofs.LineLaws.{times_next}
 
 module _ (v : ℕ → ℤ) (n : ℕ) (convex : (k : ℕ) → k + 2 < n → (v (k + 1) +ℤ v (k + 1)) ≤ℤ (v k +ℤ v (k + 2))) where
   -- the slope at i is no greater than the slope at j, d powers on
@@ -105,7 +105,7 @@ convex_at f h x a b c p q r =
     let l = s.convex in
     omega (arith, ints)
 
--- and the way back
+-- and backtracking
 pub IsConvex-from_places : (g : Table) →
     ((x a b c : ℤ) → value_of g x ≡ Some a → value_of g (x +ℤ pos 1) ≡ Some b → value_of g (x +ℤ pos 2) ≡ Some c →
     (b +ℤ b) ≤ℤ (a +ℤ c)) → IsConvex g
@@ -136,11 +136,6 @@ IsConvex-sum term f g sum is h = IsConvex-from_places g (λ x a b c p q r.
     let l = convex_at f h x u.0 v.0 w.0 u.1 v.1 w.1 in
     let t = is x in
     omega (arith, ints, u.2, v.2, w.2))
-
--- one step to the right adds the factor to a product
-pub times_next : (a x : ℤ) → a *ℤ (x +ℤ pos 1) ≡ a *ℤ x +ℤ a
-unfolding one
-times_next a x = let e : a *ℤ pos 1 ≡ a = *ℤ-one a in mul-add a x (pos 1) ∙ ap (λ y. (a *ℤ x) +ℤ y) e
 
 line_convex : (slope x : ℤ) → (slope *ℤ (x +ℤ pos 1) +ℤ slope *ℤ (x +ℤ pos 1)) ≤ℤ (slope *ℤ x +ℤ slope *ℤ (x +ℤ pos 2))
 line_convex slope x =

@@ -1,28 +1,17 @@
 -- The sum of a convex function and a curve is convex.
 use Rattle.slope_list.proofs.Common.{◌≡◌, ℕ, suc, ◌<◌, List, [], ◌∷◌, length, get_or, Option, Some, None, refl, sym, ap}
-use Rattle.slope_list.proofs.Common.{◌∙◌, arith, true, false, ℤ, pos, ◌+ℤ◌, ◌-ℤ◌, ◌*ℤ◌, ◌≤ℤ◌, ◌<ℤ◌, int_lt, MatchOption}
+use Rattle.slope_list.proofs.Common.{◌∙◌, arith, ℤ, pos, ◌+ℤ◌, ◌-ℤ◌, ◌*ℤ◌, ◌≤ℤ◌, ◌<ℤ◌, MatchOption}
 use Rattle.slope_list.proofs.Common.{option_map, by_lt_z, ints, *ℤ-zero, rise_at, curve_value, end_of}
 use Rattle.slope_list.proofs.Common.{CurveKeepsConvexity, CurvePlacesAreLimited, CurvesHaveValues, value_of}
 use Rattle.std.specs.List.{All}
 use Rattle.uc_model.specs.declared.units.Block.{Block}
 use Rattle.uc_model.specs.declared.units.Curve.{Curve}
 use Rattle.uc_model.specs.Limits as limits
-use Rattle.slope_list.proofs.ConvexLaws.{convex_at, IsConvex-from_places, times_next, same_some}
-
--- ---- what a test on powers chooses
-lt_is : (a b : ℤ) → a <ℤ b → int_lt a b ≡ true
-lt_is a b h = grind (arith, ints)
-
-not_lt_is : (a b : ℤ) → b ≤ℤ a → int_lt a b ≡ false
-not_lt_is a b h = grind (arith, ints)
-
--- past the first block, and within it
-pub rise_at-past : (b : Block) (bs : List Block) (x : ℤ) → b.width <ℤ x →
-    rise_at (b ∷ bs) x ≡ option_map (λ v. v +ℤ (b.price *ℤ b.width)) (rise_at bs (x -ℤ b.width))
-rise_at-past b bs x h = rw (lt_is b.width x h)
-
-pub rise_at-inside : (b : Block) (bs : List Block) (x : ℤ) → x ≤ℤ b.width → rise_at (b ∷ bs) x ≡ Some (b.price *ℤ x)
-rise_at-inside b bs x h = rw (not_lt_is b.width x h)
+use Rattle.slope_list.proofs.ConvexLaws.{convex_at, IsConvex-from_places}
+use Rattle.slope_list.proofs.Lookup.{same_some}
+use Rattle.slope_list.proofs.LineLaws.{lt_is, not_lt_is, times_next}
+use Rattle.slope_list.proofs.BlockLaws.{rise_at-past, rise_at-inside, mapped, AreWide, wide_tail, wide_of, up_to_width}
+use Rattle.slope_list.proofs.BlockLaws.{end_of-width, curve_value_is}
 
 -- blocks whose prices are at least p, and rise from block to block; no width is negative
 abbrev RiseFrom : ℤ → List Block → Type 0
@@ -39,11 +28,6 @@ rise_from p (b ∷ bs) widths rising first = (
   rise_from b.price bs (λ k d h. widths (suc k) d (omega arith)) (λ k d h. rising (suc k) d (omega arith))
       (λ d h. rising 0 d (omega arith)),
 )
-
--- what stands before a number was added
-mapped : (k v : ℤ) (o : Option ℤ) → option_map (λ u. u +ℤ k) o ≡ Some v → (u : ℤ) × (o ≡ Some u) × (v ≡ u +ℤ k)
-mapped k v None h = cc
-mapped k v (Some u) h = (u, refl, (cc))
 
 at_start : (p : ℤ) (bs : List Block) → RiseFrom p bs → rise_at bs (pos 0) ≡ Some (pos 0)
 at_start p [] h = refl
@@ -173,64 +157,35 @@ curve_rises c is x u v w p q r =
 
 -- ---- where it ends
 
-later : (b : Block) (bs : List Block) → All (λ d. pos 0 ≤ℤ d.width) (b ∷ bs) → All (λ d. pos 0 ≤ℤ d.width) bs
-later b bs widths k d h = widths (suc k) d (omega arith)
-
-pub rise_at-start : (bs : List Block) → All (λ b. pos 0 ≤ℤ b.width) bs → rise_at bs (pos 0) ≡ Some (pos 0)
-rise_at-start [] widths = refl
-rise_at-start (b ∷ bs) widths = rise_at-inside b bs (pos 0) (widths 0 b (omega arith)) ∙ ap Some (*ℤ-zero b.price)
-
-end_after_start : (bs : List Block) (from : ℤ) → All (λ b. pos 0 ≤ℤ b.width) bs → from ≤ℤ end_of from bs
-end_after_start [] from widths = omega (arith, ints)
-end_after_start (b ∷ bs) from widths =
-    let w = widths 0 b (omega arith) in
-    let i = end_after_start bs (from +ℤ b.width) (later b bs widths) in
-    omega (arith, ints)
-
-up_to_end : (bs : List Block) (from x v : ℤ) → All (λ b. pos 0 ≤ℤ b.width) bs → rise_at bs x ≡ Some v →
-    (from +ℤ x) ≤ℤ end_of from bs
-up_to_end [] from x v widths h =
-    by_lt_z (pos 0) x (λ (l : pos 0 <ℤ x). absurd (none_past_end x v l h)) (λ (l : x ≤ℤ pos 0). omega (arith, ints))
-up_to_end (b ∷ bs) from x v widths h =
-    by_lt_z b.width x
-    (λ (l : b.width <ℤ x).
-    let u = past_value b bs x (x -ℤ b.width) v l refl h in
-    let i = up_to_end bs (from +ℤ b.width) (x -ℤ b.width) u.0 (later b bs widths) u.1 in
-    omega (arith, ints))
-    (λ (l : x ≤ℤ b.width).
-    let e = end_after_start bs (from +ℤ b.width) (later b bs widths) in
-    omega (arith, ints))
-
 -- a power in a curve within the limits is one
 pub IsPlace-on_curve : CurvePlacesAreLimited
 IsPlace-on_curve c is x v h =
     let a = IsOnCurve-from_value c x v h in
     let from = a.from in
-    let to = up_to_end c.blocks.items c.at (x -ℤ c.at) a.rise is.blocks.widths a.there in
+    let to = up_to_width c.blocks.items (x -ℤ c.at) a.rise (wide_of c is) a.there in
+    let end = end_of-width c.at c.blocks.items in
     let first = is.first_place.0 in
     let last = is.last_place.1 in
     (omega (arith, ints), omega (arith, ints))
 
 -- up to its end it has values
-rise_there : (bs : List Block) (from x : ℤ) → All (λ b. pos 0 ≤ℤ b.width) bs → pos 0 ≤ℤ x →
+rise_there : (bs : List Block) (from x : ℤ) → AreWide bs → pos 0 ≤ℤ x →
     (from +ℤ x) ≤ℤ end_of from bs → (v : ℤ) × (rise_at bs x ≡ Some v)
 rise_there [] from x widths low high = let none : x ≤ℤ pos 0 = omega (arith, ints, high) in
     (pos 0, rw (not_lt_is (pos 0) x none))
 rise_there (b ∷ bs) from x widths low high =
     by_lt_z b.width x
     (λ (l : b.width <ℤ x).
-    let r = rise_there bs (from +ℤ b.width) (x -ℤ b.width) (later b bs widths) (omega (arith, ints, l))
+    let r = rise_there bs (from +ℤ b.width) (x -ℤ b.width) (wide_tail b bs widths) (omega (arith, ints, l))
     (omega (arith, ints, high)) in
     (r.0 +ℤ (b.price *ℤ b.width), rise_at-past b bs x l ∙ ap (option_map (λ v. v +ℤ (b.price *ℤ b.width))) r.1))
     (λ (l : x ≤ℤ b.width). (b.price *ℤ x, rise_at-inside b bs x l))
 
 pub curve_value-there : CurvesHaveValues
 curve_value-there c is x low high =
-    let r = rise_there c.blocks.items c.at (x -ℤ c.at) is.blocks.widths (omega (arith, ints, low))
+    let r = rise_there c.blocks.items c.at (x -ℤ c.at) (wide_of c is) (omega (arith, ints, low))
     (omega (arith, ints, high)) in
-    let e : curve_value c x ≡ option_map (λ u. u +ℤ c.value) (rise_at c.blocks.items (x -ℤ c.at)) =
-    rw (not_lt_is x c.at low) in
-    (r.0 +ℤ c.value, e ∙ ap (option_map (λ u. u +ℤ c.value)) r.1)
+    (r.0 +ℤ c.value, curve_value_is c x r.0 low r.1)
 
 -- what the curve added at a power with a value
 pub record IsRaised (curve : ℤ → Option ℤ) (y : ℤ) (o : Option ℤ) (v : ℤ) : Type 0 where

@@ -3,7 +3,7 @@ use Rattle.slope_list.proofs.Common.{◌≡◌, Option, Some, None, refl, sym, a
 use Rattle.slope_list.proofs.Common.{MatchOption, option_map, ints, Table, value_of, IsPoint, IsWindow, PointIsExact}
 use Rattle.slope_list.proofs.Common.{SumIsExact, CurveSumIsExact, WindowIsExact, SumIsOfValues, CurveSumIsOfValues}
 use Rattle.slope_list.proofs.Common.{WindowIsOfValues}
-use Rattle.slope_list.proofs.ConvexLaws.{same_some}
+use Rattle.slope_list.proofs.Lookup.{same_some}
 
 -- two look-ups agree where each value of one is a value of the other
 same_by : (o p : Option ℤ) → ((v : ℤ) → o ≡ Some v → p ≡ Some v) → ((v : ℤ) → p ≡ Some v → o ≡ Some v) → p ≡ o

@@ -1,10 +1,10 @@
 -- A walk over the blocks of a curve.
 use Rattle.slope_list.proofs.Common.{◌≡◌, ℕ, suc, ◌<◌, length, Some, sym, ap, ◌∙◌, arith, ℤ, ◌+ℤ◌, ◌-ℤ◌, ◌*ℤ◌, ◌≤ℤ◌}
 use Rattle.slope_list.proofs.Common.{◌<ℤ◌, FitsSigned, w64, ints, Curve, curve_value, end_of, IsLimitedCurve, width_to}
-use Rattle.slope_list.proofs.Common.{CanGo, rise_at, block}
+use Rattle.slope_list.proofs.Common.{CanGo, rise_at, block, IsTotal}
 use Rattle.slope_list.proofs.BlockLaws.{rise_to, wide_of, width_to-next, rise_to-next, value_in_block, block_power}
 use Rattle.slope_list.proofs.BlockLaws.{end_of-width, rise_at_end, curve_value_is, width_to-positive}
-use Rattle.slope_list.proofs.WrapLaws.{coded, IsNear, near_fits, coded_is}
+use Rattle.slope_list.proofs.WrapLaws.{coded, total_fits, coded_is}
 use Rattle.slope_list.proofs.LineLaws.{times_none}
 
 module _ (c : Curve) (limited : IsLimitedCurve c) (k : ℕ) (inside : k < length c.blocks.items) (from value : ℤ)
@@ -12,32 +12,32 @@ module _ (c : Curve) (limited : IsLimitedCurve c) (k : ℕ) (inside : k < length
   stop_is : from +ℤ (block c.blocks.items k).width ≡ c.at +ℤ width_to c.blocks.items (suc k)
   stop_is = let n = width_to-next c.blocks.items k inside in omega (arith, ints)
 
-  width_near : IsNear (block c.blocks.items k).width
-  width_near =
+  width_total : IsTotal (block c.blocks.items k).width
+  width_total =
       let p = block_power c limited k (omega arith) in
       let q = block_power c limited (suc k) inside in
       let n = width_to-next c.blocks.items k inside in
       let pa = p.0 in let pb = p.1 in let qa = q.0 in let qb = q.1 in
       record { at_least = omega (arith, ints); at_most = omega (arith, ints) }
 
-  stop_near : IsNear (from +ℤ (block c.blocks.items k).width)
-  stop_near =
+  stop_total : IsTotal (from +ℤ (block c.blocks.items k).width)
+  stop_total =
       let q = block_power c limited (suc k) inside in
       let s = stop_is in
       let qa = q.0 in let qb = q.1 in
       record { at_least = omega (arith, ints); at_most = omega (arith, ints) }
 
   pub fits_stop : FitsSigned w64 (from +ℤ coded (block c.blocks.items k).width)
-  fits_stop = rw (coded_is (block c.blocks.items k).width width_near)
-      (near_fits (from +ℤ (block c.blocks.items k).width) stop_near)
+  fits_stop = rw (coded_is (block c.blocks.items k).width width_total)
+      (total_fits (from +ℤ (block c.blocks.items k).width) stop_total)
 
   once : coded (from +ℤ coded (block c.blocks.items k).width) ≡ from +ℤ (block c.blocks.items k).width
-  once = rw (coded_is (block c.blocks.items k).width width_near)
-      (coded_is (from +ℤ (block c.blocks.items k).width) stop_near)
+  once = rw (coded_is (block c.blocks.items k).width width_total)
+      (coded_is (from +ℤ (block c.blocks.items k).width) stop_total)
 
   pub coded_stop : coded (coded (from +ℤ coded (block c.blocks.items k).width)) ≡ c.at +ℤ width_to c.blocks.items
       (suc k)
-  coded_stop = rw once (coded_is (from +ℤ (block c.blocks.items k).width) stop_near ∙ stop_is)
+  coded_stop = rw once (coded_is (from +ℤ (block c.blocks.items k).width) stop_total ∙ stop_is)
 
   pub block_rises : from ≤ℤ (c.at +ℤ width_to c.blocks.items (suc k))
   block_rises = let n = width_to-next c.blocks.items k inside in let w = wide_of c limited k inside in

@@ -2,6 +2,7 @@
 use Rattle.slope_list.proofs.Common.{◌≡◌, ℕ, zero, suc, ◌<◌, ◌≤◌, Option, Some, None, refl, sym, ap, ◌∙◌, arith, ℤ}
 use Rattle.slope_list.proofs.Common.{pos, negsuc, ◌+ℤ◌, ◌-ℤ◌, ◌≤ℤ◌, ◌<ℤ◌, slice_get, ints, by_lt_z, value_of}
 use Rattle.slope_list.proofs.Common.{offset_value, values_from, powers_to, table_on}
+use Rattle.slope_list.proofs.Lookup.{same_some}
 
 get_values : (f : ℤ → ℤ) (x : ℤ) (n k : ℕ) → k < n → slice_get (values_from f x n) k ≡ Some (f (x +ℤ pos k))
 get_values f x zero k h = absurd (omega arith)
@@ -56,9 +57,6 @@ pub record IsOn (f : ℤ → ℤ) (a b x v : ℤ) : Type 0 where
   pub to : x ≤ℤ b
   pub value : v ≡ f x
 
-same_some : {u v : ℤ} → (o : Option ℤ) → o ≡ Some u → o ≡ Some v → v ≡ u
-same_some o p q = cc
-
 not_some : {P : Type 0} {v : ℤ} → (o : Option ℤ) → o ≡ None → o ≡ Some v → P
 not_some o p q = cc
 
@@ -68,7 +66,7 @@ on_back f a b x v h = by_power a b x
       from = low;
       to = high;
       value =
-          same_some (value_of (table_on f a b) x) (on_inside f a b x low high) h;
+          same_some (value_of (table_on f a b) x) h (on_inside f a b x low high);
     })
     (λ none. not_some (value_of (table_on f a b) x) (none f) h)
 

@@ -14,7 +14,7 @@ pub use Rattle.slope_list.proofs.WayLaws.{before_moved, run_power, run_line, run
 pub use Rattle.slope_list.proofs.WindowLaws.{line_level_to, fewer_flat, runs_most, nearest_inside, nearer, falling_at}
 pub use Rattle.slope_list.proofs.WindowLaws.{flat_at, rising_at, level_joined, flat_from_line, flat_here}
 pub use Rattle.slope_list.proofs.OrderLaws.{same_le, le_lt, le_trans, lt_le_trans}
-pub use Rattle.slope_list.proofs.WrapLaws.{coded_is, output_near, fits_less, fits_sum, up_coded, down_coded}
+pub use Rattle.slope_list.proofs.WrapLaws.{coded_is, output_total, fits_less, fits_sum, up_coded, down_coded}
 pub use Rattle.slope_list.proofs.WrapLaws.{test_true, test_false, coded_up, fits_up, coded}
 pub use Rattle.slope_list.proofs.RangeLaws.{pieces_begin, pieces_end}
 pub use Rattle.slope_list.proofs.BelowLaws.{reached_amount, goes_on, end_ahead, end_of_one, fewer, under_on}

@@ -2,7 +2,8 @@
 use Rattle.slope_list.proofs.Common.{◌≡◌, sym, ap, ◌∙◌, subst, arith, ◌+ℤ◌, ints, value_of, IsPlace, IsAmount}
 use Rattle.slope_list.proofs.Common.{PointIsWithinLimits, CopyIsWithinLimits, SumIsWithinLimits, CurveSumIsWithinLimits}
 use Rattle.slope_list.proofs.Common.{WindowIsWithinLimits}
-use Rattle.slope_list.proofs.ConvexLaws.{same_some, added}
+use Rattle.slope_list.proofs.ConvexLaws.{added}
+use Rattle.slope_list.proofs.Lookup.{same_some}
 use Rattle.slope_list.proofs.CurveLaws.{raised_by}
 
 pub IsWithinLimits-point : PointIsWithinLimits

@@ -14,6 +14,7 @@ pub times_one : (s : ℤ) → s *ℤ pos 1 ≡ s
 unfolding one
 times_one s = *ℤ-one s
 
+-- one step to the right adds the factor to a product
 pub times_next : (a x : ℤ) → a *ℤ (x +ℤ pos 1) ≡ a *ℤ x +ℤ a
 times_next a x = omega (arith, ints, mul-add a x (pos 1), times_one a)
 

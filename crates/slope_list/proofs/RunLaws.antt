@@ -5,7 +5,7 @@ use Rattle.slope_list.proofs.Common.{IsLowered, IsGentle, IsPlaced, kinked, last
 use Rattle.slope_list.proofs.Common.{FitsSigned, w64}
 use Rattle.slope_list.proofs.LineLaws.{line_sum, line_product}
 use Rattle.slope_list.proofs.KinkLaws.{IsLeft, left, left_steep, IsEnd, end_within, end_of_valley}
-use Rattle.slope_list.proofs.WrapLaws.{coded, coded_is, output_near, coded_add, up_coded, fits_sum}
+use Rattle.slope_list.proofs.WrapLaws.{coded, coded_is, output_total, coded_add, up_coded, fits_sum}
 use Rattle.slope_list.proofs.WindowLaws.{line_falling, line_rising, fewer_bend, fewer_turn}
 
 pub gentle_slope : (w : Window) → IsGentle w.step.slope
@@ -102,11 +102,11 @@ module _ (w : Window) (cursor : Cursor) (placed : IsPlaced w.start.first w.piece
   cursor_in = end_within w.start w.pieces.now w.valid.slopes w.valid.small cursor placed cursor.at refl
 
   pub cursor_coded : coded cursor.at ≡ cursor.at
-  cursor_coded = coded_is cursor.at (output_near cursor.at cursor_in.out)
+  cursor_coded = coded_is cursor.at (output_total cursor.at cursor_in.out)
 
   pub turn_coded : coded w.turn ≡ w.turn
   turn_coded = coded_is w.turn
-      (output_near w.turn (end_of_valley w.start w.pieces.now w.valid.small w.step w.turn w.valid.valley))
+      (output_total w.turn (end_of_valley w.start w.pieces.now w.valid.small w.step w.turn w.valid.valley))
 
   pub reach_coded : coded (coded cursor.at +ℤ coded w.step.ramp_up) ≡ cursor.at +ℤ w.step.ramp_up
   reach_coded = up_coded cursor.at w.step.ramp_up cursor_in.out w.valid.fair.ramp_up

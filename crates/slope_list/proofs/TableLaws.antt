@@ -2,7 +2,7 @@
 use Rattle.slope_list.proofs.Common.{◌≡◌, ◌≤◌, Option, Some, None, sym, ap, ◌∙◌, subst, arith, ℤ, pos, ◌+ℤ◌, ◌≤ℤ◌}
 use Rattle.slope_list.proofs.Common.{MatchOption, option_map, ints, value_of, IsConvex, IsSum, IsCurveSum, curve_value}
 use Rattle.slope_list.proofs.Common.{ConvexityIsOfPlaces, Curve, HasCosts, with_cost, table_on, Curves}
-use Rattle.slope_list.proofs.BlockLaws.{cost_at_is}
+use Rattle.slope_list.proofs.BlockLaws.{cost_at_is, mapped_some}
 use Rattle.slope_list.proofs.FunctionLaws.{on_inside, by_power, on_back}
 
 -- ---- convexity
@@ -26,9 +26,6 @@ convex_steps law f a b x c low high =
     (on_inside f a b (x +ℤ pos 2) (omega (arith, ints)) high)
 
 -- ---- what is added
-
-mapped_some : (t : ℤ) (o : Option ℤ) (v : ℤ) → o ≡ Some v → option_map (λ (u : ℤ). u +ℤ t) o ≡ Some (v +ℤ t)
-mapped_some t o v h = ap (option_map (λ (u : ℤ). u +ℤ t)) h
 
 mapped_none : (t : ℤ) (o : Option ℤ) → o ≡ None → option_map (λ (u : ℤ). u +ℤ t) o ≡ None
 mapped_none t o h = ap (option_map (λ (u : ℤ). u +ℤ t)) h

@@ -7,8 +7,8 @@ ghost use Rattle.slope_list.specs.Pieces.{IsLine};
 ghost use Rattle.slope_list.specs.Cursors.{AreWithin};
 ghost use Rattle.slope_list.specs.Below.{IsReached, IsNowhereAbove, IsShift};
 
-use crate::cursor::{Reached, seek};
-use crate::piece::{Piece, Start, along, last_power};
+use crate::cursor::{Reached, seek_power};
+use crate::piece::{Piece, Start, last_power, level_along};
 
 /// Whether a value with the shift is above another one.
 fn is_over(value: i64, shift: i64, other: i64) -> bool
@@ -40,12 +40,12 @@ fn go_on(pieces: &[Piece], start: Start, at: i64, from: Reached, end: i64) -> Re
     };
     Reached {
         next,
-        value: along(from.value, piece, at, end),
+        value: level_along(from.value, piece, at, end),
     }
 }
 
 /// Whether a function is wherever another one is.
-fn covers(pieces: &[Piece], start: Start, others: &[Piece], other: Start) -> bool
+fn domain_covers(pieces: &[Piece], start: Start, others: &[Piece], other: Start) -> bool
     ensures first { OnTrue result (start.first ≤ℤ other.first) }
     ensures last { OnTrue result (last_power other.first others.now
         ≤ℤ last_power start.first pieces.now) }
@@ -63,12 +63,12 @@ pub fn is_below(pieces: &[Piece], start: Start, others: &[Piece], other: Start, 
     ensures { OnTrue result (IsNowhereAbove (table_of start pieces.now) (table_of other others.now)
         shift) }
 {
-    if !covers(pieces, start, others, other) {
+    if !domain_covers(pieces, start, others, other) {
         return false;
     }
     let mut at = other.first;
-    let mut here = seek(pieces, start, at);
-    let mut there = seek(others, other, at);
+    let mut here = seek_power(pieces, start, at);
+    let mut there = seek_power(others, other, at);
     if is_over(here.value, shift, there.value) {
         return false;
     }

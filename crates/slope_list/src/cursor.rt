@@ -3,7 +3,7 @@ ghost use Rattle.std.specs.Prelude.{◌≡◌, ◌≤ℤ◌};
 ghost use Rattle.slope_list.specs.Pieces.{last_power, function_of, AreSlopes};
 ghost use Rattle.slope_list.specs.Cursors.{IsPlaced, AreWithin, IsValley};
 
-use crate::piece::{Piece, Start, along, end_at};
+use crate::piece::{Piece, Start, end_at, level_along};
 
 /// A power of the function, and the index of the piece that goes on there.
 #[derive(Clone, Copy)]
@@ -15,7 +15,7 @@ pub struct Cursor {
 }
 
 /// The power from which the function doesn't fall, with the index of the piece that goes on there.
-pub fn fall(pieces: &[Piece], start: Start) -> Cursor
+pub fn end_of_fall(pieces: &[Piece], start: Start) -> Cursor
     requires slopes { AreSlopes start.first pieces.now }
     ensures placed { IsPlaced start.first pieces.now result }
     ensures valley { IsValley (function_of start pieces.now) start.first
@@ -41,7 +41,7 @@ pub struct Reached {
 }
 
 /// Finds a power of the interval, in kilowatts.
-pub fn seek(pieces: &[Piece], start: Start, at: i64) -> Reached
+pub fn seek_power(pieces: &[Piece], start: Start, at: i64) -> Reached
     requires slopes { AreSlopes start.first pieces.now }
     requires from { start.first ≤ℤ at }
     requires to { at ≤ℤ last_power start.first pieces.now }
@@ -54,12 +54,12 @@ pub fn seek(pieces: &[Piece], start: Start, at: i64) -> Reached
     let mut next = 0;
     while next < pieces.len() && pieces[next].end <= at {
         let piece = pieces[next];
-        value = along(value, piece, from, piece.end);
+        value = level_along(value, piece, from, piece.end);
         from = piece.end;
         next += 1;
     }
     if next < pieces.len() {
-        value = along(value, pieces[next], from, at);
+        value = level_along(value, pieces[next], from, at);
     }
     Reached { next, value }
 }

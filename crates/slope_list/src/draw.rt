@@ -23,7 +23,7 @@ pub struct Pen {
 }
 
 /// Writes a piece up to a power in the pen's block.
-fn write(slope: i64, end: i64, pen: Pen, out: &mut [Piece]) -> Pen
+fn write_piece(slope: i64, end: i64, pen: Pen, out: &mut [Piece]) -> Pen
     requires total { IsTotal slope }
     requires price { IsPrice pen.span.price }
     requires room { pen.used < length out.old }
@@ -85,7 +85,7 @@ fn end_block(curve: &Curve, slope: i64, pen: Pen, out: &mut [Piece]) -> Pen
     ensures at { result.at ≡ int_max pen.at pen.span.end }
 {
     if pen.at < pen.span.end {
-        let written = write(slope, pen.span.end, pen, out);
+        let written = write_piece(slope, pen.span.end, pen, out);
         return next_block(curve, written);
     }
     next_block(curve, pen)
@@ -93,7 +93,7 @@ fn end_block(curve: &Curve, slope: i64, pen: Pen, out: &mut [Piece]) -> Pen
 
 /// Writes the pieces of a part of one slope and the curve, up to a power in kilowatts. The slope is
 /// in millionths of the currency for a kilowatt.
-pub fn put(curve: &Curve, slope: i64, end: i64, from: Pen, out: &mut [Piece]) -> Pen
+pub fn put_pieces(curve: &Curve, slope: i64, end: i64, from: Pen, out: &mut [Piece]) -> Pen
     requires limited { IsLimitedCurve curve.now }
     requires rise { from.at <ℤ end }
     requires block { IsInBlock curve.now from.at from.span }
@@ -111,5 +111,5 @@ pub fn put(curve: &Curve, slope: i64, end: i64, from: Pen, out: &mut [Piece]) ->
     while pen.span.end < end {
         pen = end_block(curve, slope, pen, out);
     }
-    write(slope, end, pen, out)
+    write_piece(slope, end, pen, out)
 }

@@ -6,7 +6,7 @@ ghost use Rattle.slope_list.specs.Cursors.{IsPlaced, IsValley};
 ghost use Rattle.slope_list.specs.Kink.{kinked, bend_of, parts_from, IsLowered};
 ghost use Rattle.slope_list.specs.Kink.{IsGentle, AreGentle, IsSteep};
 
-use crate::cursor::{Cursor, fall};
+use crate::cursor::{Cursor, end_of_fall};
 use crate::piece::{Piece, Start};
 use crate::step_terms::Step;
 
@@ -31,7 +31,7 @@ fn bend_for(step: Step) -> i64
 }
 
 /// What is left of a piece from a power on, after the worth of the reserve is taken off.
-pub(crate) fn lowered(piece: Piece, cursor: Cursor, step: Step) -> Piece
+pub(crate) fn piece_less_reserve(piece: Piece, cursor: Cursor, step: Step) -> Piece
     requires fair { IsFairStep step }
     requires gentle { IsGentle piece.slope }
     ensures { IsLowered step cursor.at piece result }
@@ -63,7 +63,7 @@ pub(crate) fn part_at(pieces: &[Piece], cursor: Cursor, step: Step) -> Part
     ensures steep { IsSteep result.slope }
 {
     let whole = pieces[cursor.next];
-    let piece = lowered(whole, cursor, step);
+    let piece = piece_less_reserve(whole, cursor, step);
     let next = if piece.end < whole.end {
         cursor.next
     } else {
@@ -82,14 +82,14 @@ pub(crate) fn part_at(pieces: &[Piece], cursor: Cursor, step: Step) -> Part
 /// The least power of the least value, less the worth of the best reserve, in kilowatts. Where the
 /// function itself falls, it falls all the more less that worth, so the parts before that are
 /// passed by.
-pub fn turn(pieces: &[Piece], start: Start, step: Step) -> i64
+pub fn turning_power(pieces: &[Piece], start: Start, step: Step) -> i64
     requires slopes { AreSlopes start.first pieces.now }
     requires fair { IsFairStep step }
     requires gentle { AreGentle pieces.now }
     ensures { IsValley (kinked start pieces.now step) start.first
         (last_power start.first pieces.now) result }
 {
-    let mut cursor = fall(pieces, start);
+    let mut cursor = end_of_fall(pieces, start);
     while cursor.next < pieces.len() {
         let part = part_at(pieces, cursor, step);
         if part.slope >= 0 {

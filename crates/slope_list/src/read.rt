@@ -7,8 +7,8 @@ ghost use Rattle.slope_list.specs.Below.{IsAbove, IsShift};
 ghost use Rattle.slope_list.specs.Pieces.{last_power, function_of, table_of, AreSlopes};
 ghost use Rattle.slope_list.specs.Cursors.{AreWithin};
 
-use crate::cursor::{fall, seek};
-use crate::piece::{Piece, Start, along, last_power};
+use crate::cursor::{end_of_fall, seek_power};
+use crate::piece::{Piece, Start, last_power, level_along};
 
 /// A power and the value there.
 #[derive(Clone, Copy)]
@@ -20,7 +20,7 @@ pub struct Spot {
 }
 
 /// Whether a value with the shift is above a limit.
-fn exceeds(value: i64, shift: i64, limit: i64) -> bool
+fn exceeds_limit(value: i64, shift: i64, limit: i64) -> bool
     requires value { IsAmount value }
     requires shift { IsShift shift }
     ensures { IsTrue result → limit <ℤ (value +ℤ shift) }
@@ -39,16 +39,16 @@ pub fn is_above(pieces: &[Piece], start: Start, shift: i64, limit: i64) -> bool
     let mut at = start.first;
     let mut value = start.level;
     for piece in pieces {
-        if !exceeds(value, shift, limit) {
+        if !exceeds_limit(value, shift, limit) {
             return false;
         }
         if piece.slope >= 0 {
             return true;
         }
-        value = along(value, *piece, at, piece.end);
+        value = level_along(value, *piece, at, piece.end);
         at = piece.end;
     }
-    exceeds(value, shift, limit)
+    exceeds_limit(value, shift, limit)
 }
 
 /// The value at a power of the interval.
@@ -60,7 +60,7 @@ fn spot_at(pieces: &[Piece], start: Start, at: i64) -> Spot
     ensures at { result.at ≡ at }
     ensures value { result.value ≡ function_of start pieces.now at }
 {
-    let reached = seek(pieces, start, at);
+    let reached = seek_power(pieces, start, at);
     Spot {
         at,
         value: reached.value,
@@ -68,7 +68,7 @@ fn spot_at(pieces: &[Piece], start: Start, at: i64) -> Spot
 }
 
 /// The least value, at its least power.
-pub fn least(pieces: &[Piece], start: Start) -> Spot
+pub fn least_spot(pieces: &[Piece], start: Start) -> Spot
     requires slopes { AreSlopes start.first pieces.now }
     requires within { AreWithin start pieces.now }
     ensures { IsLeast (table_of start pieces.now) result.value result.at }
@@ -79,7 +79,7 @@ pub fn least(pieces: &[Piece], start: Start) -> Spot
         if piece.slope >= 0 {
             return Spot { at, value };
         }
-        value = along(value, *piece, at, piece.end);
+        value = level_along(value, *piece, at, piece.end);
         at = piece.end;
     }
     Spot { at, value }
@@ -98,6 +98,6 @@ pub fn least_in(pieces: &[Piece], start: Start, lo: i64, hi: i64) -> Option<Spot
     if low > high {
         return None;
     }
-    let at = low.max(high.min(fall(pieces, start).at));
+    let at = low.max(high.min(end_of_fall(pieces, start).at));
     Some(spot_at(pieces, start, at))
 }

@@ -6,7 +6,7 @@ ghost use Rattle.slope_list.specs.Cursors.{IsPlaced};
 ghost use Rattle.slope_list.specs.Runs.{IsRun};
 
 use crate::cursor::Cursor;
-use crate::kink::lowered;
+use crate::kink::piece_less_reserve;
 use crate::piece::Piece;
 use crate::step_terms::Step;
 use crate::window::Window;
@@ -23,7 +23,7 @@ pub struct Run {
 }
 
 /// What is left of a run from a power on, after the worth of the reserve is taken off.
-fn bent(run: Run, cursor: Cursor, step: Step) -> Run
+fn run_less_reserve(run: Run, cursor: Cursor, step: Step) -> Run
     requires fair { IsFairStep step }
     requires gentle { IsGentle run.slope }
     ensures lowered { IsLowered step cursor.at (record { end = run.until; slope = run.slope })
@@ -34,7 +34,7 @@ fn bent(run: Run, cursor: Cursor, step: Step) -> Run
         end: run.until,
         slope: run.slope,
     };
-    let left = lowered(whole, cursor, step);
+    let left = piece_less_reserve(whole, cursor, step);
     Run {
         until: left.end,
         shift: run.shift,
@@ -63,12 +63,12 @@ pub fn next_run(window: &Window<'_>, cursor: Cursor) -> Run
             shift: -step.ramp_down,
             slope: step.slope,
         };
-        return bent(falling, cursor, step);
+        return run_less_reserve(falling, cursor, step);
     }
     let rising = Run {
         until: window.high - step.ramp_up,
         shift: step.ramp_up,
         slope: step.slope,
     };
-    bent(rising, cursor, step)
+    run_less_reserve(rising, cursor, step)
 }

@@ -36,7 +36,7 @@ pub struct Spare {
     ghost pieces_room: { room ≤ vec_capacity pieces },
 }
 
-// Written out, so that a drop of it is a call, and not one for each list.
+// By hand, so that dropping it is one call.
 impl Drop for Slopes {
     fn drop(self) {
         let Slopes {
@@ -68,7 +68,7 @@ impl Spare {
 
 /// Lengthens a list within its memory to so many pieces, where it is shorter. What it then holds is
 /// open.
-fn lengthen(pieces: &mut Vec<Piece>, count: usize)
+fn lengthen_pieces(pieces: &mut Vec<Piece>, count: usize)
     requires { count ≤ vec_capacity pieces.old }
     ensures length { count ≤ length pieces.new.items }
     ensures capacity { vec_capacity pieces.new ≡ vec_capacity pieces.old }
@@ -97,7 +97,7 @@ fn lowest_of(pieces: &[Piece], stepped: Stepped) -> Option<Lowest>
 {
     match stepped.made {
         Some(made) => {
-            let spot = read::least(&pieces[..made.used], made.start);
+            let spot = read::least_spot(&pieces[..made.used], made.start);
             Some(Lowest {
                 value: spot.value,
                 at: spot.at,
@@ -167,7 +167,7 @@ impl Slopes {
             Some(made) => made,
             None => return,
         };
-        lengthen(&mut spare.pieces, made.used + curve.blocks.len() + 3);
+        lengthen_pieces(&mut spare.pieces, made.used + curve.blocks.len() + 3);
         let pieces = &self.pieces[..made.used];
         let stepped = slope_step(pieces, made.start, step, curve, &mut spare.pieces);
         self.made = stepped.made;
@@ -190,7 +190,7 @@ impl Slopes {
         let Some(made) = self.made else {
             return None;
         };
-        lengthen(&mut spare.pieces, made.used + curve.blocks.len() + 3);
+        lengthen_pieces(&mut spare.pieces, made.used + curve.blocks.len() + 3);
         let pieces = &self.pieces[..made.used];
         let stepped = slope_step(pieces, made.start, step, curve, &mut spare.pieces);
         lowest_of(&spare.pieces, stepped)
@@ -202,7 +202,7 @@ impl Slopes {
             (λ r. IsLeast (shown self.now) r.value r.at) }
     {
         match self.made {
-            Some(made) => Some(read::least(&self.pieces[..made.used], made.start)),
+            Some(made) => Some(read::least_spot(&self.pieces[..made.used], made.start)),
             None => None,
         }
     }

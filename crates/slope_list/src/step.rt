@@ -13,14 +13,14 @@ ghost use Rattle.slope_list.specs.Blocks.{IsInBlock, HasCosts};
 ghost use Rattle.slope_list.specs.After.{stepped, table_after, ArePiecesAfter, AreWithinAfter};
 ghost use Rattle.slope_list.specs.Turn.{IsTurn};
 
-use crate::blocks::find;
-use crate::cursor::{Cursor, seek};
+use crate::blocks::find_power;
+use crate::cursor::{Cursor, seek_power};
 use crate::draw::Pen;
-use crate::kink::turn;
+use crate::kink::turning_power;
 use crate::piece::{Piece, Start, last_power};
 use crate::shape_laws::{convexity_is_of_places, steps_keep_convexity};
 use crate::step_terms::Step;
-use crate::way::draw;
+use crate::way::draw_step;
 use crate::window::Window;
 use uc_model::units::Curve;
 
@@ -67,7 +67,7 @@ fn level_of(step: Step, value: i64, near: i64, at: i64, cost: i64) -> i64
 }
 
 /// Finds the first power after a step, and the value there.
-pub(crate) fn open(window: &Window<'_>, curve: &Curve, low: i64) -> Opening
+pub(crate) fn open_step(window: &Window<'_>, curve: &Curve, low: i64) -> Opening
     requires limited { IsLimitedCurve curve.now }
     requires from { window.now.start.first ≤ℤ (low +ℤ window.now.step.ramp_down) }
     requires to { low ≤ℤ window.now.high }
@@ -85,8 +85,8 @@ pub(crate) fn open(window: &Window<'_>, curve: &Curve, low: i64) -> Opening
 {
     let step = window.step;
     let near = (low - step.ramp_up).max((low + step.ramp_down).min(window.turn));
-    let reached = seek(window.pieces, window.start, near);
-    let found = find(curve, low);
+    let reached = seek_power(window.pieces, window.start, near);
+    let found = find_power(curve, low);
     Opening {
         cursor: Cursor {
             at: near,
@@ -127,7 +127,7 @@ pub fn slope_step(
     let high = step
         .most
         .min(last_power(pieces, start.first) + step.ramp_up);
-    let turn = turn(pieces, start, step);
+    let turn = turning_power(pieces, start, step);
     if low > high {
         return Stepped { made: None, turn };
     }
@@ -140,8 +140,8 @@ pub fn slope_step(
         turn,
         high,
     };
-    let opening = open(&window, curve, low);
-    let used = draw(&window, curve, opening.cursor, opening.pen, out);
+    let opening = open_step(&window, curve, low);
+    let used = draw_step(&window, curve, opening.cursor, opening.pen, out);
     Stepped {
         made: Some(Made {
             start: Start {

@@ -12,7 +12,7 @@ ghost use Rattle.slope_list.specs.Way.{IsFurther};
 ghost use Rattle.slope_list.specs.Runs.{IsNear, IsRun};
 
 use crate::cursor::Cursor;
-use crate::draw::{Pen, put};
+use crate::draw::{Pen, put_pieces};
 use crate::piece::Piece;
 use crate::run::{Run, next_run};
 use crate::window::{Window, is_flat, past_flat};
@@ -43,7 +43,7 @@ fn put_piece(curve: &Curve, run: Run, piece: Piece, pen: Pen, out: &mut [Piece])
     ensures block { IsInBlock curve.now (piece.end +ℤ run.shift) result.span }
     ensures used { result.used + pen.span.index ≤ pen.used + result.span.index + 1 }
 {
-    put(
+    put_pieces(
         curve,
         piece.slope + run.slope,
         piece.end + run.shift,
@@ -109,12 +109,12 @@ fn draw_flat(window: &Window<'_>, curve: &Curve, from: Way, out: &mut [Piece]) -
     let end = (cursor.at + window.step.ramp_up).min(window.high);
     Way {
         cursor,
-        pen: put(curve, window.step.slope, end, from.pen, out),
+        pen: put_pieces(curve, window.step.slope, end, from.pen, out),
     }
 }
 
 /// Writes the flat part or the run that the way is at.
-fn advance(window: &Window<'_>, curve: &Curve, way: Way, out: &mut [Piece]) -> Way
+fn advance_way(window: &Window<'_>, curve: &Curve, way: Way, out: &mut [Piece]) -> Way
     requires limited { IsLimitedCurve curve.now }
     requires costs { HasCosts curve.now way.pen.at window.now.high }
     requires block { IsInBlock curve.now way.pen.at way.pen.span }
@@ -133,7 +133,7 @@ fn advance(window: &Window<'_>, curve: &Curve, way: Way, out: &mut [Piece]) -> W
 }
 
 /// Writes the pieces of the function after a step from the pen on, and answers how many there are.
-pub(crate) fn draw(
+pub(crate) fn draw_step(
     window: &Window<'_>,
     curve: &Curve,
     near: Cursor,
@@ -159,7 +159,7 @@ pub(crate) fn draw(
         pen: from,
     };
     while way.pen.at < window.high {
-        way = advance(window, curve, way, out);
+        way = advance_way(window, curve, way, out);
     }
     way.pen.used
 }

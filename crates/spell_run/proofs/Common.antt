@@ -26,7 +26,7 @@ pub use Rattle.spell_run.proofs.Arithmetic.{signed, bounded}
 pub use Rattle.spell_run.proofs.Options.{same_some}
 pub use Rattle.spell_run.specs.Frontier.{IsFrontier, IsReached}
 pub use Rattle.spell_run.specs.Laws.{best_reserve, most_reserve, IsReserve, ReserveIsAKink, ReserveIsBest}
-pub use Rattle.spell_run.specs.Logs.{entry_at, left_from, AreLogged, left_by, IsTrail}
+pub use Rattle.spell_run.specs.Logs.{entry_at, left_from, AreLogged, left_by, IsTrace}
 pub use Rattle.spell_run.specs.Notes.{passed_at, IsNoted, IsEndNoted, end_cost, IsSpellNoted}
 pub use Rattle.spell_run.specs.Spells.{IsSpellWithin, IsDispatch, spell_cost, IsSpellAnswer}
 pub use Rattle.unit_rows.specs.NetCosts.{net_cost_at, net_cost}
@@ -37,7 +37,7 @@ unfoldable pub use Rattle.spell_run.specs.Steps.{level}
 pub use Rattle.spell_run.specs.declared.notes.Logged.{Logged}
 pub use Rattle.spell_run.specs.declared.notes.Note.{Note}
 pub use Rattle.spell_run.specs.declared.notes.Passed.{Passed}
-pub use Rattle.spell_run.specs.declared.notes.Trail.{Trail}
+pub use Rattle.spell_run.specs.declared.notes.Trace.{Trace}
 pub use Rattle.plain_lists.proofs.IntLaws.{mul-sub, mul-mono_of, sum_below-same}
 pub use Rattle.plain_lists.proofs.SignedLaws.{IsWithin, product_within, fits_within}
 pub use Rattle.uc_model.specs.Data.{Schedule, ThermalUnit, PriceLists}
@@ -49,5 +49,12 @@ pub use Rattle.uc_model.specs.Schedules.{power_in, reserve_in, cap_of}
 pub use Rattle.plain_lists.specs.Sums.{int_at, sum_below}
 pub use Rattle.uc_model.specs.declared.units.Curve.{Curve}
 pub use Rattle.spell_run.specs.Entries.{IsOnFromTo, IsSameOutside}
-pub use Rattle.spell_run.specs.Ways.{IsWritten, IsChosen, IsWayFrom, stops_at, HasBestReserve, HasSamePowersAfter}
-pub use Rattle.spell_run.specs.Ways.{IsSameAfter, IsCheapest}
+pub use Rattle.spell_run.specs.Backtracking.{
+  IsWritten,
+  IsChosen,
+  IsWayFrom,
+  stops_at,
+  HasBestReserve,
+  HasSamePowersAfter,
+}
+pub use Rattle.spell_run.specs.Backtracking.{IsSameAfter, IsCheapest}

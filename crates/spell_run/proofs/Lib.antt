@@ -28,7 +28,7 @@ pub mod SumLaws
 pub mod ChoiceLaws
 -- the entries of a spell in a log, read from the last one back
 pub mod RestLaws
--- the way back by what the steps noted
+-- backtracking by what the steps noted
 pub mod NoteLaws
 -- periods that are on, and one before them
 pub mod OnLaws

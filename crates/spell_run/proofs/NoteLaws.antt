@@ -1,4 +1,4 @@
--- The way back by what the steps noted: the power nearest to the turn is the cheapest power before, and the periods
+-- Backtracking by what the steps noted: the power nearest to the turn is the cheapest power before, and the periods
 -- that are written for it are a way on.
 use Rattle.spell_run.proofs.Common
 use Common.{bounded, signed, ◌≡◌, ℕ, zero, suc, ◌-◌, ◌<◌, ◌≤◌, ltb, eqb, ◌⊎◌, inl, inr, ℤ, pos, ◌+ℤ◌, ◌-ℤ◌, ◌≤ℤ◌}

@@ -1,4 +1,4 @@
--- The way back: the periods that are written make, with what comes before them, a dispatch of least cost, the first of
+-- Backtracking: the periods that are written make, with what comes before them, a dispatch of least cost, the first of
 -- those of that cost.
 use Rattle.spell_run.proofs.Common
 use Common.{signed, ◌≡◌, ℕ, zero, suc, ◌<◌, ◌≤◌, inl, inr, ℤ, pos, ◌+ℤ◌, ◌-ℤ◌, ◌≤ℤ◌, Bool, true, false, ◌&&◌, eqb}

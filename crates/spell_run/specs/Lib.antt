@@ -6,4 +6,4 @@ pub mod Notes
 pub mod Spells
 pub mod Steps
 pub mod Entries
-pub mod Ways
+pub mod Backtracking

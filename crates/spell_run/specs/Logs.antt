@@ -4,7 +4,7 @@ use Rattle.std.specs.Prelude.{ℕ, zero, suc, ◌<◌, ◌==◌, if◌then◌els
 use Rattle.std.specs.Prelude.{slice_index_or}
 use Rattle.spell_run.specs.declared.notes.Logged.{Logged}
 use Rattle.spell_run.specs.declared.notes.Passed.{Passed}
-use Rattle.spell_run.specs.declared.notes.Trail.{Trail}
+use Rattle.spell_run.specs.declared.notes.Trace.{Trace}
 use Rattle.spell_run.specs.Notes.{passed_at}
 
 abbrev pub entry_at : List Logged → ℕ → Logged
@@ -22,8 +22,8 @@ abbrev pub AreLogged : List Logged → ℕ → ℕ → Type 0
 AreLogged log i zero = ⊤
 AreLogged log i (suc n) = (i < length log) × AreLogged log (entry_at log i).before n
 
-abbrev pub left_by : List Logged → Trail → ℕ → Passed
-left_by log trail = left_from log trail.last trail.count
+abbrev pub left_by : List Logged → Trace → ℕ → Passed
+left_by log trace = left_from log trace.last trace.count
 
-abbrev pub IsTrail : List Logged → Trail → Type 0
-IsTrail log trail = AreLogged log trail.last trail.count
+abbrev pub IsTrace : List Logged → Trace → Type 0
+IsTrace log trace = AreLogged log trace.last trace.count

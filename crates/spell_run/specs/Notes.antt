@@ -1,4 +1,4 @@
--- What the steps of a spell leave for the way back over it (Bellman's principle, and the convexity
+-- What the steps of a spell leave for backtracking over it (Bellman's principle, and the convexity
 -- of the functions; this project's profile).
 use Rattle.std.specs.Prelude.{◌≡◌, ℕ, suc, ◌-◌, ◌<◌, ◌≤◌, ◌==◌, nat_lt, ℤ, pos, Bool}
 use Rattle.std.specs.Prelude.{false, List, length, slice_index_or, Option, Some, None}

@@ -5,13 +5,13 @@
 //! back needs. From that a dispatch of least net cost is written, with no step taken again.
 #![tactic(auto)]
 
+pub mod backtrack;
 pub mod laws;
 pub mod notes;
 pub mod running;
 pub mod step;
-pub mod way;
 pub mod write;
 
-pub use notes::{Log, Logged, Note, Passage, Passed, Trail};
-pub use running::{begin, end_and_run, run_over};
-pub use way::{Left, write_spell};
+pub use backtrack::{SpellTrace, write_spell};
+pub use notes::{Log, Logged, Note, Passage, Passed, Trace};
+pub use running::{begin_spell, end_and_run, run_over};

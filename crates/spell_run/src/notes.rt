@@ -1,11 +1,11 @@
-//! What the steps of a spell leave for the way back over it, and the log that it is kept in.
+//! What the steps of a spell leave for backtracking over it, and the log that it is kept in.
 ghost use Rattle.std.specs.Prelude.{◌≡◌, ◌≢◌, ℕ, suc, ◌^◌, ◌<◌, ◌≤◌, length};
-ghost use Rattle.spell_run.specs.Logs.{left_by, IsTrail};
+ghost use Rattle.spell_run.specs.Logs.{left_by, IsTrace};
 
 use plain_lists::lists::ReservedList;
 use slope_list::Lowest;
 
-/// What a step leaves for the way back, in kilowatts.
+/// What a step leaves for backtracking, in kilowatts.
 #[derive(Clone, Copy)]
 pub struct Note {
     /// The least power of the least value before the step, less the worth of its reserve.
@@ -25,7 +25,7 @@ pub struct Passage {
     pub place: usize,
 }
 
-/// What a spell leaves of a period for the way back.
+/// What a spell leaves of a period for backtracking.
 #[derive(Clone, Copy)]
 pub struct Passed {
     /// Of the step that goes on.
@@ -50,34 +50,34 @@ pub type Log = ReservedList<Logged>;
 
 /// The entries of one spell in a log, one for each period that it was taken over.
 #[derive(Clone, Copy)]
-pub struct Trail {
+pub struct Trace {
     /// The place of the last one, where there is one.
     pub last: u32,
     /// How many there are.
     pub count: u32,
 }
 
-impl Trail {
+impl Trace {
     /// No entry.
-    pub fn none() -> Trail
+    pub fn none() -> Trace
         ensures { result.count ≡ 0 }
     {
-        Trail { last: 0, count: 0 }
+        Trace { last: 0, count: 0 }
     }
 }
 
 /// Leaves one entry more of a spell, for which the log has memory, and answers all of the spell.
-pub fn leave(log: &mut Log, trail: Trail, passed: Passed) -> Trail
+pub fn leave_entry(log: &mut Log, trace: Trace, passed: Passed) -> Trace
     requires spare { 1 ≤ log.old.spare }
     requires small { length log.old.items < 2 ^ 32 }
-    requires few { suc trail.count < 2 ^ 32 }
-    requires trail { IsTrail log.old.items trail }
-    ensures trail { IsTrail log.new.items result }
-    ensures count { result.count ≡ suc trail.count }
-    ensures here { left_by log.new.items result trail.count ≡ passed }
-    ensures earlier { (k : ℕ) → k ≢ trail.count
-        → left_by log.new.items result k ≡ left_by log.old.items trail k }
-    ensures others { (other : Trail) → IsTrail log.old.items other → IsTrail log.new.items other
+    requires few { suc trace.count < 2 ^ 32 }
+    requires trace { IsTrace log.old.items trace }
+    ensures trace { IsTrace log.new.items result }
+    ensures count { result.count ≡ suc trace.count }
+    ensures here { left_by log.new.items result trace.count ≡ passed }
+    ensures earlier { (k : ℕ) → k ≢ trace.count
+        → left_by log.new.items result k ≡ left_by log.old.items trace k }
+    ensures others { (other : Trace) → IsTrace log.old.items other → IsTrace log.new.items other
         × ((k : ℕ) → left_by log.new.items other k ≡ left_by log.old.items other k) }
     ensures items { length log.new.items ≡ suc (length log.old.items) }
     ensures spare { suc log.new.spare ≡ log.old.spare }
@@ -85,25 +85,25 @@ pub fn leave(log: &mut Log, trail: Trail, passed: Passed) -> Trail
     let last = log.len() as u32;
     log.push(Logged {
         passed,
-        before: trail.last,
+        before: trace.last,
     });
-    Trail {
+    Trace {
         last,
-        count: trail.count + 1,
+        count: trace.count + 1,
     }
 }
 
 /// The first entries of a spell in a log, so many of them.
-pub fn first_of(log: &[Logged], trail: Trail, count: u32) -> Trail
-    requires trail { IsTrail log.now trail }
-    requires fewer { count ≤ trail.count }
-    ensures trail { IsTrail log.now result }
+pub fn first_of(log: &[Logged], trace: Trace, count: u32) -> Trace
+    requires trace { IsTrace log.now trace }
+    requires fewer { count ≤ trace.count }
+    ensures trace { IsTrace log.now result }
     ensures count { result.count ≡ count }
-    ensures same { (k : ℕ) → k < count → left_by log.now result k ≡ left_by log.now trail k }
+    ensures same { (k : ℕ) → k < count → left_by log.now result k ≡ left_by log.now trace k }
 {
-    let mut last = trail.last;
-    for _ in 0..trail.count - count {
+    let mut last = trace.last;
+    for _ in 0..trace.count - count {
         last = log[last as usize].before;
     }
-    Trail { last, count }
+    Trace { last, count }
 }

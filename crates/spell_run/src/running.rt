@@ -38,7 +38,7 @@ fn power_before(unit: &Unit, first: u32) -> i64
 
 /// Begins a spell: at the power that its first ramp is measured from, at no cost. `first` 0 stands
 /// for a spell that goes on from before period 1.
-pub fn begin(unit: &Unit, first: u32, running: &mut Slopes)
+pub fn begin_spell(unit: &Unit, first: u32, running: &mut Slopes)
     ensures frontier { (π : PriceLists)
         → IsFrontier (thermal_of unit.now) π first (first - 1) (shown running.new) }
     ensures count { count_of running.new ≡ 0 }
@@ -66,7 +66,7 @@ fn interval_of(running: &Slopes) -> Interval
 }
 
 /// Takes a spell over the period at a place, as far as no stop follows, and answers what the step
-/// leaves for the way back, which is open where no power is left. `curve` is the curve of the unit's
+/// leaves for backtracking, which is open where no power is left. `curve` is the curve of the unit's
 /// points.
 #[inline(always)]
 pub fn run_over(

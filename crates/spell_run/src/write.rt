@@ -1,6 +1,6 @@
 //! One period of a dispatch, written into an answer.
 ghost use Rattle.std.specs.Prelude.{◌≡◌, ◌<◌, pos, ◌-ℤ◌, ◌≤ℤ◌, length};
-ghost use Rattle.spell_run.specs.Ways.{IsWritten};
+ghost use Rattle.spell_run.specs.Backtracking.{IsWritten};
 ghost use Rattle.spell_run.specs.Laws.{best_reserve};
 ghost use Rattle.spell_run.specs.Steps.{IsFairStep};
 ghost use Rattle.uc_model.specs.Limits.{IsOutput};
@@ -26,7 +26,7 @@ fn reserve_of(step: Step, before: i64, power: i64) -> i64
 }
 
 /// Writes a period, whose place counts from 0.
-fn write(into: &mut Answered, place: usize, power: u32, reserve: u32)
+fn write_on_period(into: &mut Answered, place: usize, power: u32, reserve: u32)
     requires { place < length (schedule_of into.old.response).on }
     ensures written { IsWritten place (pos power) (pos reserve) (schedule_of into.old.response)
         (schedule_of into.new.response) }
@@ -51,5 +51,5 @@ pub fn write_best(into: &mut Answered, place: usize, step: Step, before: i64, po
     ensures earned { into.new.earned ≡ into.old.earned }
 {
     let reserve = reserve_of(step, before, power);
-    write(into, place, power as u32, reserve as u32);
+    write_on_period(into, place, power as u32, reserve as u32);
 }

@@ -9,10 +9,10 @@ use crate::apart::{put_together, take_apart};
 use crate::drain::{check_all, drain_all};
 use crate::job::Job;
 use crate::member::{Member, work_all};
-use crate::open::{fill_all, open};
-use crate::pour::pour;
+use crate::open::{fill_all, open_deques};
+use crate::pour::pour_source;
 use crate::rule::{Deque, Shared, SourcePass, ThiefPass};
-use crate::settle::settle;
+use crate::settle::settle_purses;
 use std::alloc::{AllocError, Global};
 use std::sync::Wait;
 use std::thread::Threads;
@@ -39,8 +39,8 @@ fn set_out<R: Wait>(
 ) -> Result<(Shared, Hands), AllocError>
     ensures { IfOk result (λ made. AreSetOut made.0 tasks count made.1) }
 {
-    let (source, owner) = pour(rt, alloc, tasks)?;
-    let (mut owns, thieves) = open(alloc, count)?;
+    let (source, owner) = pour_source(rt, alloc, tasks)?;
+    let (mut owns, thieves) = open_deques(alloc, count)?;
     let shared = Shared { source, thieves };
     let purses = fill_all(alloc, &shared, &mut owns, count)?;
     let hands = Hands {
@@ -90,7 +90,7 @@ fn run_all<J: Job + Send + Drop, R: Threads + Wait + Sync>(
         &mut owns,
         &mut purses,
     );
-    settle(shared, &mut owns, purses);
+    settle_purses(shared, &mut owns, purses);
     check_all(shared, &mut owns);
     drain_all(rt, shared, tasks, &mut owner, &mut owns, jobs);
 }
@@ -105,7 +105,7 @@ fn run_all<J: Job + Send + Drop, R: Threads + Wait + Sync>(
 ///
 /// # Errors
 ///
-/// `AllocError` for want of memory, before any job has run: all jobs are unchanged.
+/// `AllocError` if memory runs out, before any job has run: all jobs are unchanged.
 pub fn deal_all<J: Job + Send + Drop, R: Threads + Wait + Sync>(
     rt: &R,
     alloc: Global,

@@ -8,8 +8,6 @@
 //! weighed, what was put into a queue weighs as much as what was taken from it and what it holds.
 //! After the threads the caller puts the accounts of all queues together, and the first job runs
 //! whatever is left. So each number is run once and no other, whatever the schedule was.
-//!
-//! Threads that work side by side, here or at a board, begin with a moment's sleep (`make_way`).
 #![tactic(auto)]
 
 mod apart;
@@ -27,4 +25,3 @@ mod start;
 
 pub use deal::deal_all;
 pub use job::Job;
-pub use start::make_way;

@@ -20,7 +20,7 @@ pub struct Member<J> {
     pub seat: Seat,
 }
 
-fn work<J: Job, R: Wait>(
+fn work_as_member<J: Job, R: Wait>(
     rt: &R,
     shared: &Shared,
     members: usize,
@@ -59,6 +59,6 @@ pub(crate) fn work_all<J: Job + Send, R: Threads + Wait + Sync>(
         rt,
         members,
         count,
-        &|_, member| { work(rt, shared, count, tasks, member) },
+        &|_, member| { work_as_member(rt, shared, count, tasks, member) },
     );
 }

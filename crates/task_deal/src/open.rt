@@ -13,7 +13,10 @@ const ROOM: usize = 32;
 
 /// A deque for each worker, and what the others steal from it with.
 #[tactic(auto, using(crate::proofs::Opening::opens))]
-pub(crate) fn open(alloc: Global, count: usize) -> Result<(Vec<Deque>, Vec<Thief>), AllocError>
+pub(crate) fn open_deques(
+    alloc: Global,
+    count: usize,
+) -> Result<(Vec<Deque>, Vec<Thief>), AllocError>
     ensures { IfOk result (λ r. (length r.0.items ≡ count) × AreOpen r.1.items r.0.items) }
 {
     let mut owns = Vec::new(alloc);
@@ -46,7 +49,7 @@ fn fork_at(shared: &Shared, owns: &mut Vec<Deque>, out: usize, at: usize) -> Thi
 }
 
 // A purse with a pass for each deque.
-fn fill(
+fn fill_purse(
     alloc: Global,
     shared: &Shared,
     owns: &mut Vec<Deque>,
@@ -90,7 +93,7 @@ pub(crate) fn fill_all(
 {
     let mut purses = Vec::new(alloc);
     for out in 0..count {
-        let purse = fill(alloc, shared, owns, out)?;
+        let purse = fill_purse(alloc, shared, owns, out)?;
         purses.push(purse)?;
     }
     Ok(purses)

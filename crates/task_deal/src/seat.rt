@@ -37,7 +37,7 @@ fn pop_own(shared: &Shared, seat: &mut Seat) -> Option<u32>
 
 // Takes one number, and moves a batch of further ones to the own deque. Where there is no memory
 // for the batch, it takes one number alone.
-fn fetch<R: Wait>(rt: &R, shared: &Shared, seat: &mut Seat) -> Steal<u32>
+fn fetch_number<R: Wait>(rt: &R, shared: &Shared, seat: &mut Seat) -> Steal<u32>
     requires { IsSeatOf shared.now seat.old }
     ensures same { IsSeatOf shared.now seat.new × SameDeque seat.old seat.new }
     ensures gains { FoundIn result seat.old seat.new }
@@ -53,7 +53,7 @@ fn fetch<R: Wait>(rt: &R, shared: &Shared, seat: &mut Seat) -> Steal<u32>
 }
 
 // Steals one number. Where another thief was faster, it tries again.
-fn steal<R: Wait>(rt: &R, thief: &Thief, pass: &mut ThiefPass) -> Option<u32>
+fn steal_number<R: Wait>(rt: &R, thief: &Thief, pass: &mut ThiefPass) -> Option<u32>
     requires { IsPart thief.now pass.old }
     ensures same { IsPart thief.now pass.new }
     ensures view { let v = view pass.old in let w = view pass.new in
@@ -75,7 +75,7 @@ fn steal_at<R: Wait>(rt: &R, shared: &Shared, seat: &mut Seat, at: usize) -> Opt
     ensures same { IsSeatOf shared.now seat.new × SameDeque seat.old seat.new }
     ensures gains { Found result seat.old seat.new }
 {
-    steal(rt, &shared.thieves[at], &mut seat.purse[at])
+    steal_number(rt, &shared.thieves[at], &mut seat.purse[at])
 }
 
 fn steal_any<R: Wait>(rt: &R, shared: &Shared, seat: &mut Seat) -> Option<u32>
@@ -109,7 +109,7 @@ fn take_first<R: Wait>(rt: &R, shared: &Shared, seat: &mut Seat) -> Option<u32>
 
 /// A number of the own deque, or else of the source, from which a batch moves to the own deque, or
 /// else of another's deque.
-fn find<R: Wait>(rt: &R, shared: &Shared, seat: &mut Seat) -> Option<u32>
+fn find_number<R: Wait>(rt: &R, shared: &Shared, seat: &mut Seat) -> Option<u32>
     requires { IsSeatOf shared.now seat.old }
     ensures same { IsSeatOf shared.now seat.new × SameDeque seat.old seat.new }
     ensures gains { Found result seat.old seat.new }
@@ -118,7 +118,7 @@ fn find<R: Wait>(rt: &R, shared: &Shared, seat: &mut Seat) -> Option<u32>
         if let Some(task) = pop_own(shared, seat) {
             return Some(task);
         }
-        match fetch(rt, shared, seat) {
+        match fetch_number(rt, shared, seat) {
             Steal::Success(task) => return Some(task),
             Steal::Empty => return steal_any(rt, shared, seat),
             Steal::Retry => thread::yield_now(),
@@ -144,5 +144,5 @@ pub(crate) fn next_number<R: Wait>(
             return Some(task);
         }
     }
-    find(rt, shared, seat)
+    find_number(rt, shared, seat)
 }

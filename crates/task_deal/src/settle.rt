@@ -42,7 +42,7 @@ fn return_purse(shared: &Shared, owns: &mut Vec<Deque>, left: usize, purse: Vec<
 }
 
 /// Takes all purses back into the deques.
-pub(crate) fn settle(shared: &Shared, owns: &mut Vec<Deque>, purses: Vec<Vec<ThiefPass>>)
+pub(crate) fn settle_purses(shared: &Shared, owns: &mut Vec<Deque>, purses: Vec<Vec<ThiefPass>>)
     requires count { length owns.old.items ≡ length shared.now.thieves.items }
     requires purses { All (λ p. AreParts shared.now.thieves.items p.items) purses.items }
     requires owns { let last = length shared.now.thieves.items in

@@ -8,7 +8,7 @@ ghost use Rattle.text_tokens.specs.Tokens.{is_letter as letter};
 ghost use Rattle.text_tokens.specs.Plain.{is_plain as plain};
 
 /// The bytes from an offset on.
-pub fn rest_from(bytes: &[u8], at: usize) -> &[u8]
+pub fn bytes_from(bytes: &[u8], at: usize) -> &[u8]
     requires { at ≤ length bytes.now }
     ensures { result.now ≡ drop at bytes.now }
 {

@@ -53,7 +53,7 @@ pub fn whole(d: Decimal, scale: u32, limit: u64) -> Result<i64, NumFault>
     ensures { result ≡ (if nat_lt limit (unsigned_abs (rounded d scale)) then Err
         (NumFault.TooLarge limit) else Ok (rounded d scale)) }
 {
-    let Some(size) = size(d, scale, limit) else {
+    let Some(size) = rounded_magnitude(d, scale, limit) else {
         return Err(NumFault::TooLarge { limit });
     };
     let size = size as i64;
@@ -61,7 +61,7 @@ pub fn whole(d: Decimal, scale: u32, limit: u64) -> Result<i64, NumFault>
 }
 
 /// The magnitude of the rounded number, unless it is above the limit.
-fn size(d: Decimal, scale: u32, limit: u64) -> Option<u64>
+fn rounded_magnitude(d: Decimal, scale: u32, limit: u64) -> Option<u64>
     requires scale { scale ≤ 6 }
     requires limit { limit ≤ 10 ^ 18 }
     ensures { SomeIff result (rounded_size d scale ≤ limit) (rounded_size d scale) }
@@ -69,14 +69,14 @@ fn size(d: Decimal, scale: u32, limit: u64) -> Option<u64>
     let power = d.exponent as i64 + scale as i64;
     let places = power.unsigned_abs();
     if 0 <= power {
-        raised(d.digits, places, limit)
+        raised_digits(d.digits, places, limit)
     } else {
-        lowered(d, places, limit)
+        lowered_digits(d, places, limit)
     }
 }
 
 /// The digits with so many zeros behind them.
-fn raised(digits: u128, places: u64, limit: u64) -> Option<u64>
+fn raised_digits(digits: u128, places: u64, limit: u64) -> Option<u64>
     requires { limit ≤ 10 ^ 18 }
     ensures { SomeIff result (digits * 10 ^ places ≤ limit) (digits * 10 ^ places) }
 {
@@ -100,7 +100,7 @@ fn raised(digits: u128, places: u64, limit: u64) -> Option<u64>
 /// The digits without the last so many of them, rounded.
 // A call of its own, so that the way of most numbers stays short.
 #[inline(never)]
-fn lowered(d: Decimal, places: u64, limit: u64) -> Option<u64>
+fn lowered_digits(d: Decimal, places: u64, limit: u64) -> Option<u64>
     requires { limit ≤ 10 ^ 18 }
     ensures { SomeIff result (size_cut d.negative d.digits (10 ^ places) ≤ limit)
         (size_cut d.negative d.digits (10 ^ places)) }
@@ -123,7 +123,7 @@ fn nearest_quotient(negative: bool, digits: u128, unit: u128) -> u128
 {
     let kept = digits / unit;
     let twice = 2 * (digits % unit);
-    if counts(negative, twice, unit) {
+    if rounds_up(negative, twice, unit) {
         kept + 1
     } else {
         kept
@@ -131,7 +131,7 @@ fn nearest_quotient(negative: bool, digits: u128, unit: u128) -> u128
 }
 
 /// Whether a rest counts as one more, where it is twice the rest.
-fn counts(negative: bool, twice: u128, unit: u128) -> bool
+fn rounds_up(negative: bool, twice: u128, unit: u128) -> bool
     ensures { result ≡ (if negative then nat_lt unit twice else nat_le unit twice) }
 {
     if negative {

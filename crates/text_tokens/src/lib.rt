@@ -14,6 +14,7 @@ pub mod small;
 mod strings;
 mod token;
 
+pub use bytes::bytes_from;
 pub use decimal::{Decimal, NumFault, is_whole, whole};
 pub use number_run::decimal_at;
 pub use quoted::Quoted;

@@ -18,7 +18,7 @@ ghost use Rattle.text_tokens.specs.Small.{decimal_of};
 ghost use Rattle.text_tokens.specs.Tokens.{number_at};
 ghost use Rattle.text_tokens.specs.Scalars.{number};
 
-use crate::bytes::{begins_with, digits_len, is_number_byte, rest_from};
+use crate::bytes::{begins_with, bytes_from, digits_len, is_number_byte};
 use crate::decimal::Decimal;
 use crate::small::SmallNumber;
 
@@ -73,7 +73,7 @@ fn split_digits(bytes: &[u8]) -> (&[u8], &[u8])
     ensures fewer { length result.1.now ≤ length bytes.now }
 {
     let len = digits_len(bytes);
-    (&bytes[..len], rest_from(bytes, len))
+    (&bytes[..len], bytes_from(bytes, len))
 }
 
 fn is_whole_part(digits: &[u8]) -> bool
@@ -90,7 +90,7 @@ fn are_digits(bytes: &[u8]) -> bool
 }
 
 /// The power of ten of a number with a written exponent, and digits behind the point.
-fn exponent(lowers: bool, power: u32, fraction_len: usize) -> i32
+fn exponent_behind_point(lowers: bool, power: u32, fraction_len: usize) -> i32
     requires power { power ≤ 400 }
     requires fraction_len { fraction_len < 2 ^ 30 }
     ensures { result ≡ (if lowers then neg_ℤ (pos power) else pos power) -ℤ pos fraction_len }
@@ -122,7 +122,7 @@ fn number_token(
     let Some(written) = value_within(power, 400) else {
         return Numeral::TooLong;
     };
-    let exponent = exponent(lowers, written, fraction.len());
+    let exponent = exponent_behind_point(lowers, written, fraction.len());
     Numeral::Number(Decimal {
         negative,
         digits,
@@ -154,16 +154,16 @@ fn power_digits(
 
 /// Behind the letter of an exponent.
 #[tactic(auto, unfolding(crate::specs::Numbers::power))]
-fn power(negative: bool, whole: &[u8], fraction: &[u8], bytes: &[u8]) -> Numeral
+fn numeral_with_power(negative: bool, whole: &[u8], fraction: &[u8], bytes: &[u8]) -> Numeral
     requires whole { AreDigits whole.now }
     requires fraction { AreDigits fraction.now }
     requires few { length fraction.now < 2 ^ 30 }
     ensures { numeral_of result ≡ power_spec negative whole.now fraction.now bytes.now }
 {
     if begins_with(b'-', bytes) {
-        power_digits(negative, whole, fraction, true, rest_from(bytes, 1))
+        power_digits(negative, whole, fraction, true, bytes_from(bytes, 1))
     } else if begins_with(b'+', bytes) {
-        power_digits(negative, whole, fraction, false, rest_from(bytes, 1))
+        power_digits(negative, whole, fraction, false, bytes_from(bytes, 1))
     } else {
         power_digits(negative, whole, fraction, false, bytes)
     }
@@ -180,7 +180,7 @@ fn behind_fraction(negative: bool, whole: &[u8], fraction: &[u8], bytes: &[u8]) 
     if bytes.is_empty() {
         number_token(negative, whole, fraction, false, bytes)
     } else if begins_with(b'e', bytes) || begins_with(b'E', bytes) {
-        power(negative, whole, fraction, rest_from(bytes, 1))
+        numeral_with_power(negative, whole, fraction, bytes_from(bytes, 1))
     } else {
         Numeral::Bad
     }
@@ -196,7 +196,7 @@ fn behind_whole(negative: bool, whole: &[u8], bytes: &[u8]) -> Numeral
     if !begins_with(b'.', bytes) {
         return behind_fraction(negative, whole, &bytes[..0], bytes);
     }
-    let (fraction, others) = split_digits(rest_from(bytes, 1));
+    let (fraction, others) = split_digits(bytes_from(bytes, 1));
     if fraction.is_empty() {
         return Numeral::Bad;
     }
@@ -205,7 +205,7 @@ fn behind_whole(negative: bool, whole: &[u8], bytes: &[u8]) -> Numeral
 
 /// Behind the sign.
 #[tactic(auto, unfolding(crate::specs::Numbers::unsigned))]
-fn unsigned(negative: bool, bytes: &[u8]) -> Numeral
+fn unsigned_numeral(negative: bool, bytes: &[u8]) -> Numeral
     requires few { length bytes.now < 2 ^ 30 }
     ensures { numeral_of result ≡ unsigned_spec negative bytes.now }
 {
@@ -224,9 +224,9 @@ pub fn numeral_in(run: &[u8]) -> Numeral
     ensures { numeral_of result ≡ number_of run.now }
 {
     if begins_with(b'-', run) {
-        unsigned(true, rest_from(run, 1))
+        unsigned_numeral(true, bytes_from(run, 1))
     } else {
-        unsigned(false, run)
+        unsigned_numeral(false, run)
     }
 }
 
@@ -283,7 +283,7 @@ fn short_fraction(whole: u32, bytes: &[u8]) -> Option<(SmallNumber, usize)>
     if fraction_len == 0 || 9999 < fraction_len {
         return None;
     }
-    if !ends_number(rest_from(bytes, fraction_len)) {
+    if !ends_number(bytes_from(bytes, fraction_len)) {
         return None;
     }
     let small = SmallNumber {
@@ -309,9 +309,9 @@ pub fn short_number(bytes: &[u8]) -> Option<(SmallNumber, usize)>
     if !is_whole_part(&bytes[..len]) {
         return None;
     }
-    let others = rest_from(bytes, len);
+    let others = bytes_from(bytes, len);
     if begins_with(b'.', others) {
-        let (small, fraction_len) = short_fraction(digits, rest_from(others, 1))?;
+        let (small, fraction_len) = short_fraction(digits, bytes_from(others, 1))?;
         return Some((small, len + 1 + fraction_len));
     }
     if !ends_number(others) {

@@ -3,10 +3,10 @@ ghost use Rattle.std.specs.Prelude.{◌≡◌, ◌<◌, ◌≤◌, ◌^◌, ◌-
 ghost use Rattle.text_tokens.specs.Grammar.{end};
 ghost use Rattle.text_tokens.specs.Tokens.{is_blank as blank};
 
-use crate::bytes::rest_from;
+use crate::bytes::bytes_from;
 use crate::number::short_number;
 use crate::small::SmallNumber;
-use crate::token::{Lexeme, Token, is_blank, mark, token_at};
+use crate::token::{Lexeme, Token, is_blank, mark_token, token_at};
 
 /// A text, and the offset behind the last token that was read.
 #[derive(Drop)]
@@ -40,7 +40,7 @@ impl<'a> Reader<'a> {
     {
         let offset = self.at;
         if offset < self.bytes.len() {
-            if let Some(token) = mark(self.bytes[offset]) {
+            if let Some(token) = mark_token(self.bytes[offset]) {
                 self.at = offset + 1;
                 let offset = offset as u32;
                 return Lexeme { token, offset };
@@ -72,7 +72,7 @@ impl<'a> Reader<'a> {
         ensures same { self.new.bytes.now ≡ self.old.bytes.now }
     {
         self.pass_blanks();
-        let rest = rest_from(self.bytes, self.at);
+        let rest = bytes_from(self.bytes, self.at);
         let (small, len) = short_number(rest)?;
         if len < rest.len() && rest[len] == b',' {
             self.at += len + 1;
@@ -101,7 +101,7 @@ impl<'a> Reader<'a> {
                 offset: offset as u32,
             };
         }
-        let (token, len) = token_at(rest_from(self.bytes, offset));
+        let (token, len) = token_at(bytes_from(self.bytes, offset));
         self.at += len;
         let offset = offset as u32;
         Lexeme { token, offset }

@@ -5,7 +5,7 @@ ghost use Rattle.text_tokens.specs.Plain.{is_plain as plain};
 ghost use Rattle.text_tokens.specs.Pieces.{said_by};
 ghost use Rattle.text_tokens.specs.Strings.{string_from, after_piece};
 
-use crate::bytes::{begins_with, is_plain, rest_from};
+use crate::bytes::{begins_with, bytes_from, is_plain};
 use crate::quoted::Quoted;
 use crate::strings::{Said, piece_at, plain_string};
 
@@ -16,7 +16,7 @@ fn behind_said(bytes: &[u8], said: Said) -> Option<&[u8]>
 {
     match said {
         Said::Byte(byte) => if begins_with(byte, bytes) {
-            Some(rest_from(bytes, 1))
+            Some(bytes_from(bytes, 1))
         } else {
             None
         },
@@ -66,7 +66,7 @@ impl<'a> Quoted<'a> {
         self.says_bytes(text.as_bytes())
     }
 
-    /// The same of the bytes of a text.
+    /// Whether it says the text of these bytes, as `says` answers.
     pub fn says_bytes(self, text: &[u8]) -> bool
         ensures { result ≡ bytes_eq (said self.entry.bytes.now) text.now }
     {
@@ -75,9 +75,9 @@ impl<'a> Quoted<'a> {
         if at < bytes.len() && is_plain(bytes[at]) {
             return false;
         }
-        let mut wanted = rest_from(text, at);
+        let mut wanted = bytes_from(text, at);
         'pieces: while at < bytes.len() && bytes[at] != b'"' {
-            let Some(piece) = piece_at(rest_from(bytes, at)) else {
+            let Some(piece) = piece_at(bytes_from(bytes, at)) else {
                 unreachable!();
             };
             let Some(others) = behind_said(wanted, piece.said) else {

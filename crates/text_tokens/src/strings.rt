@@ -11,7 +11,7 @@ ghost use Rattle.text_tokens.specs.Strings.{escape_at as escape_spec, piece_at a
 ghost use Rattle.text_tokens.specs.Strings.{string_of, said};
 ghost use Rattle.text_tokens.specs.Pieces.{said_by, seen_piece};
 
-use crate::bytes::{byte_or_zero, plain_len, rest_from};
+use crate::bytes::{byte_or_zero, bytes_from, plain_len};
 use crate::quoted::Quoted;
 use std::alloc::{AllocError, Global};
 
@@ -32,7 +32,7 @@ pub struct Piece {
 }
 
 #[tactic(auto, unfolding(crate::specs::Strings::hex_of))]
-fn hex(b: u8) -> Option<u32>
+fn hex_digit(b: u8) -> Option<u32>
     ensures is { result ≡ hex_of b }
     ensures small { IfSome result (λ n. n < 16) }
     ensures ascii { IfSome result (λ _. b < 128) }
@@ -47,7 +47,7 @@ fn hex(b: u8) -> Option<u32>
 
 /// The byte that a letter behind a backslash stands for.
 #[tactic(auto, unfolding(crate::specs::Strings::short_of))]
-fn short(letter: u8) -> Option<u8>
+fn short_escape(letter: u8) -> Option<u8>
     ensures is { result ≡ short_of letter }
     ensures ascii { IfSome result (λ b. (b < 128) × (letter < 128)) }
 {
@@ -68,10 +68,10 @@ fn four_digits(a: u8, b: u8, c: u8, d: u8) -> Option<u32>
     ensures small { IfSome result (λ n. n < 65536) }
     ensures ascii { IfSome result (λ _. d < 128) }
 {
-    let first = hex(a)?;
-    let second = hex(b)?;
-    let third = hex(c)?;
-    let last = hex(d)?;
+    let first = hex_digit(a)?;
+    let second = hex_digit(b)?;
+    let third = hex_digit(c)?;
+    let last = hex_digit(d)?;
     Some(4096 * first + 256 * second + 16 * third + last)
 }
 
@@ -101,7 +101,7 @@ fn is_low(unit: u32) -> bool
 }
 
 /// A character, where the number is one.
-fn character(code: u32, len: usize) -> Option<Piece>
+fn character_piece(code: u32, len: usize) -> Option<Piece>
     requires few { 4 ≤ len }
     ensures low { code < 55296 → result ≡ Some (record { said = Said.Character code; len = len }) }
     ensures high { 57344 ≤ code → code < 1114112
@@ -115,7 +115,7 @@ fn character(code: u32, len: usize) -> Option<Piece>
 }
 
 #[tactic(auto, unfolding(crate::specs::Strings::pair))]
-fn pair(high: u32, low: u32) -> Option<Piece>
+fn surrogate_pair(high: u32, low: u32) -> Option<Piece>
     requires { high_unit high ≡ true }
     ensures is { seen_piece result ≡ pair_spec high (Some low) }
     ensures len { IfSome result (λ p. p.len ≡ 12) }
@@ -125,7 +125,7 @@ fn pair(high: u32, low: u32) -> Option<Piece>
     if !is_low(low) {
         return None;
     }
-    character(65536 + 1024 * (high - 0xD800) + (low - 0xDC00), 12)
+    character_piece(65536 + 1024 * (high - 0xD800) + (low - 0xDC00), 12)
 }
 
 #[tactic(auto, unfolding(crate::specs::Strings::second_at))]
@@ -134,7 +134,7 @@ fn second_at(bytes: &[u8]) -> Option<u32>
     ensures ascii { IfSome result (λ _. slice_index bytes.now 5 < 128) }
 {
     if byte_or_zero(bytes, 0) == b'\\' && byte_or_zero(bytes, 1) == b'u' {
-        unit_at(rest_from(bytes, 2))
+        unit_at(bytes_from(bytes, 2))
     } else {
         None
     }
@@ -150,12 +150,12 @@ fn unit_piece(unit: u32, bytes: &[u8]) -> Option<Piece>
 {
     if is_high(unit) {
         let low = second_at(bytes)?;
-        return pair(unit, low);
+        return surrogate_pair(unit, low);
     }
     if is_low(unit) {
         return None;
     }
-    character(unit, 6)
+    character_piece(unit, 6)
 }
 
 /// The piece behind a backslash.
@@ -169,14 +169,14 @@ fn escape_at(bytes: &[u8]) -> Option<Piece>
 {
     let letter = byte_or_zero(bytes, 0);
     if letter != b'u' {
-        let byte = short(letter)?;
+        let byte = short_escape(letter)?;
         return Some(Piece {
             said: Said::Byte(byte),
             len: 2,
         });
     }
-    let unit = unit_at(rest_from(bytes, 1))?;
-    unit_piece(unit, rest_from(bytes, 5))
+    let unit = unit_at(bytes_from(bytes, 1))?;
+    unit_piece(unit, bytes_from(bytes, 5))
 }
 
 /// The piece in front.
@@ -194,7 +194,7 @@ pub fn piece_at(bytes: &[u8]) -> Option<Piece>
 {
     let byte = bytes[0];
     if byte == b'\\' {
-        return escape_at(rest_from(bytes, 1));
+        return escape_at(bytes_from(bytes, 1));
     }
     if byte < 32 {
         return None;
@@ -229,7 +229,7 @@ fn string_len(bytes: &[u8]) -> Option<usize>
         if bytes[at] == b'"' {
             return Some(at);
         }
-        let piece = piece_at(rest_from(bytes, at))?;
+        let piece = piece_at(bytes_from(bytes, at))?;
         at += piece.len;
     }
     None
@@ -289,14 +289,14 @@ fn push_said(text: &mut Vec<u8>, said: Said) -> Result<(), AllocError>
 }
 
 /// What a string says, piece by piece.
-fn joined(alloc: Global, quoted: Quoted<'_>) -> Result<String, AllocError>
+fn joined_pieces(alloc: Global, quoted: Quoted<'_>) -> Result<String, AllocError>
     ensures { IfOk result (λ text. string_bytes text ≡ said quoted.entry.bytes.now) }
 {
     let bytes = quoted.bytes;
     let mut text = Vec::new(alloc);
     let mut at = 0;
     'pieces: while at < bytes.len() && bytes[at] != b'"' {
-        let Some(piece) = piece_at(rest_from(bytes, at)) else {
+        let Some(piece) = piece_at(bytes_from(bytes, at)) else {
             unreachable!();
         };
         push_said(&mut text, piece.said)?;
@@ -311,7 +311,7 @@ pub fn text_of(alloc: Global, quoted: Quoted<'_>) -> Result<String, AllocError>
     ensures { IfOk result (λ text. string_bytes text ≡ said quoted.entry.bytes.now) }
 {
     let Some(len) = plain_string(quoted.bytes) else {
-        return joined(alloc, quoted);
+        return joined_pieces(alloc, quoted);
     };
     match std::str::from_utf8(&quoted.bytes[..len]) {
         Ok(text) => String::from_str(alloc, text),

@@ -11,7 +11,7 @@ ghost use Rattle.text_tokens.specs.Seen.{token_of};
 ghost use Rattle.text_tokens.specs.Goes.{goes};
 ghost use Rattle.text_tokens.specs.Stands.{RefersTo, number_run};
 
-use crate::bytes::{letters_len, number_len, rest_from};
+use crate::bytes::{bytes_from, letters_len, number_len};
 use crate::number::{Numeral, numeral_in, short_number};
 use crate::number_run::NumberRun;
 use crate::quoted::Quoted;
@@ -131,7 +131,7 @@ fn string_at(bytes: &[u8]) -> (Token<'_>, usize)
 
 /// The token of a byte that is one by itself.
 #[tactic(auto, unfolding(crate::specs::Tokens::token_at))]
-pub fn mark(byte: u8) -> Option<Token<'static>>
+pub fn mark_token(byte: u8) -> Option<Token<'static>>
     ensures is { IfSome result
         (λ t. (bytes : List ℕ) → (token_of t, 1) ≡ token_spec byte bytes) }
     ensures shown { IfSome result (λ t. blank byte ≡ false) }
@@ -161,11 +161,11 @@ pub fn token_at(bytes: &[u8]) -> (Token<'_>, usize)
     ensures goes { goes (token_of result.0) ≡ true }
     ensures refers { RefersTo result.0 (drop 1 bytes.now) (number_run bytes.now) }
 {
-    if let Some(token) = mark(bytes[0]) {
+    if let Some(token) = mark_token(bytes[0]) {
         return (token, 1);
     }
     match bytes[0] {
-        b'"' => string_at(rest_from(bytes, 1)),
+        b'"' => string_at(bytes_from(bytes, 1)),
         b'-' | b'0'..=b'9' => number_at(bytes),
         b'a'..=b'z' => word_at(bytes),
         _ => (Token::Bad, 1),

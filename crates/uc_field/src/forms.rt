@@ -16,7 +16,7 @@ use crate::fault::{CaseCode, FieldFault, Site};
 use crate::limits::COST;
 use std::alloc::Global;
 use text_tokens::{is_whole, whole};
-use uc_text::inside::{bit, find};
+use uc_text::inside::{find_member, flag_of_number};
 use uc_text::stop::Stop;
 use uc_text::{Branch, ListBranch, Member, ObjectBranch};
 
@@ -152,7 +152,7 @@ pub fn read_flag(at: Site, branch: Branch<'_>) -> Result<bool, FieldStop>
     if !is_whole(d) {
         return Err(at.stop(CaseCode::NotWhole));
     }
-    match bit(d) {
+    match flag_of_number(d) {
         Some(flag) => Ok(flag),
         None => Err(at.stop(CaseCode::NotFlag)),
     }
@@ -162,7 +162,7 @@ pub fn read_flag(at: Site, branch: Branch<'_>) -> Result<bool, FieldStop>
 pub fn value_under<'a>(at: Site, members: &[Member<'a>], key: &str) -> Result<Branch<'a>, FieldStop>
     ensures { Gives view result (under at key.now (member_views members.now)) }
 {
-    match find(members, key) {
+    match find_member(members, key) {
         Some(value) => Ok(value),
         None => Err(at.stop(CaseCode::Missing)),
     }
@@ -182,7 +182,7 @@ pub fn amount_under(
     ensures value { Gives (λ n. n) result
         (part at key.now (amount scale limit) (member_views members.now)) }
 {
-    match find(members, key) {
+    match find_member(members, key) {
         Some(value) => read_amount(at, value, scale, limit),
         None => Err(at.stop(CaseCode::Missing)),
     }
@@ -195,7 +195,7 @@ pub fn time_under(at: Site, members: &[Member<'_>], key: &str, limit: u64) -> Re
     ensures value { Gives (λ n. n) result
         (part at key.now (time_within limit) (member_views members.now)) }
 {
-    match find(members, key) {
+    match find_member(members, key) {
         Some(value) => read_time(at, value, limit),
         None => Err(at.stop(CaseCode::Missing)),
     }
@@ -206,7 +206,7 @@ pub fn cost_under(at: Site, members: &[Member<'_>], key: &str) -> Result<i64, Fi
     ensures bound { IfOk result (λ n. IsCost n) }
     ensures value { Gives (λ n. n) result (part at key.now cost (member_views members.now)) }
 {
-    match find(members, key) {
+    match find_member(members, key) {
         Some(value) => read_cost(at, value),
         None => Err(at.stop(CaseCode::Missing)),
     }

@@ -11,7 +11,7 @@ ghost use Rattle.uc_field.specs.Forms.{keys, key, under, flag, power, time_withi
 
 use crate::fault::{Field, Site};
 use crate::forms::{FieldStop, amount_under, read_flag, time_under, value_under};
-use uc_text::inside::find;
+use uc_text::inside::find_member;
 use uc_text::{Branch, Member};
 
 /// A unit or the case: the site of its faults but for the field, and its members.
@@ -38,7 +38,7 @@ impl<'a> Keys<'a> {
         ensures { option_map view result
             ≡ value_under (key_of field) (member_views self.now.members.items) }
     {
-        find(&self.members, field.key())
+        find_member(&self.members, field.key())
     }
 
     /// The flag of a field, which must be there.

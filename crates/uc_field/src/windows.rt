@@ -15,13 +15,13 @@ use std::alloc::Global;
 use text_tokens::Decimal;
 use uc_model::units::{Mark, Marks};
 use uc_text::Branch;
-use uc_text::inside::bit;
+use uc_text::inside::flag_of_number;
 
 /// The mark of a period that the number 1 keeps on and the number 0 off.
 fn mark_set(number: Decimal) -> Option<Mark>
     ensures { result ≡ mark_in (scalar (number_spec number)) }
 {
-    match bit(number) {
+    match flag_of_number(number) {
         Some(true) => Some(Mark::MustOn),
         Some(false) => Some(Mark::MustOff),
         None => None,

@@ -18,7 +18,7 @@ use std::alloc::Global;
 use uc_plan::fault::ShapeCode;
 use uc_plan::shapes::{ThermalLists, thermal_lists};
 use uc_plan::units::read_lists;
-use uc_text::inside::find;
+use uc_text::inside::find_member;
 use uc_text::stop::Stop;
 use uc_text::{Branch, ListBranch, Member};
 
@@ -39,7 +39,10 @@ fn entry_parts<'a>(members: &[Member<'a>], periods: u32) -> Option<(Branch<'a>, 
     ensures value { option_map (λ p. (view p.0, lists_of p.1)) result
         ≡ entry_parts_spec periods (member_views members.now) }
 {
-    match (find(members, "weight"), thermal_lists(members, periods)) {
+    match (
+        find_member(members, "weight"),
+        thermal_lists(members, periods),
+    ) {
         (Some(heavy), Some(lists)) => Some((heavy, lists)),
         _ => None,
     }

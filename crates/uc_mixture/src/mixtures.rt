@@ -24,7 +24,7 @@ use uc_model::units::NamedUnit;
 use uc_plan::fault::ShapeCode;
 use uc_plan::plans::check_names;
 use uc_plan::shapes::object_under;
-use uc_text::inside::find;
+use uc_text::inside::find_member;
 use uc_text::{Branch, Member, ObjectBranch};
 
 /// The greatest weight of a mixture.
@@ -38,11 +38,14 @@ struct Head<'a> {
 }
 
 /// The weight and the units of a mixture, where each is among its members.
-fn head_parts<'a>(members: &[Member<'a>]) -> Option<(Branch<'a>, ObjectBranch<'a>)>
+fn mixture_members<'a>(members: &[Member<'a>]) -> Option<(Branch<'a>, ObjectBranch<'a>)>
     ensures { option_map (λ p. (view p.0, members_in p.1)) result
         ≡ head_parts_spec (member_views members.now) }
 {
-    match (find(members, "weight"), object_under(members, "thermal")) {
+    match (
+        find_member(members, "weight"),
+        object_under(members, "thermal"),
+    ) {
         (Some(heavy), Some(thermal)) => Some((heavy, thermal)),
         _ => None,
     }
@@ -61,7 +64,7 @@ fn read_head<'a>(alloc: Global, root: Branch<'a>) -> Result<Head<'a>, ShareStop>
         return Err(at.stop(shape));
     };
     let members = object.members(alloc)?;
-    let Some((heavy, thermal)) = head_parts(&members) else {
+    let Some((heavy, thermal)) = mixture_members(&members) else {
         return Err(at.stop(shape));
     };
     match weight_at(heavy, 1, MOST_WHOLE) {

@@ -11,7 +11,7 @@ use crate::limits::PRICE_LIMIT;
 use crate::units::Block;
 
 /// What so many kilowatts are worth at a price for each, in money.
-pub fn worth(price: i64, kilowatts: i64) -> i128
+pub fn worth_at_price(price: i64, kilowatts: i64) -> i128
     ensures { result ≡ price *ℤ kilowatts }
 {
     i128::from(price) * i128::from(kilowatts)

@@ -63,7 +63,7 @@ pub struct ShapeFault {
 }
 
 /// What a unit or bid of a kind is called, or the case.
-fn noun(kind: Kind) -> &'static str {
+fn noun_of_kind(kind: Kind) -> &'static str {
     match kind {
         Kind::Case => "case",
         Kind::Thermal => "thermal unit",
@@ -74,7 +74,7 @@ fn noun(kind: Kind) -> &'static str {
 
 impl fmt::Debug for ShapeFault {
     fn fmt<W: fmt::Write>(&self, f: &mut fmt::Formatter<W>) -> fmt::Result {
-        let kind = noun(self.kind);
+        let kind = noun_of_kind(self.kind);
         write!(
             f,
             "{:?} at {} {}, item {}",

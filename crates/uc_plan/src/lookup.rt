@@ -20,7 +20,7 @@ pub struct Values<'a> {
     pub by_key: IndexMap<String, Branch<'a>>,
 }
 
-// Written out, so that a drop of it is a call, and not one for each part of the map.
+// By hand, so that dropping it is one call.
 impl Drop for Values<'_> {
     fn drop(self) {
         let Values { by_key: _ } = self;
@@ -32,7 +32,7 @@ struct Names<'a> {
     set: IndexSet<&'a str>,
 }
 
-// Written out, so that a drop of it is a call, and not one for each part of the set.
+// By hand, so that dropping it is one call.
 impl Drop for Names<'_> {
     fn drop(self) {
         let Names { set: _ } = self;

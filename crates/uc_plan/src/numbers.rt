@@ -11,13 +11,13 @@ use plain_lists::lists::ReservedList;
 use std::alloc::Global;
 use text_tokens::{Decimal, is_whole, whole};
 use uc_model::limits::POWER_LIMIT;
-use uc_text::inside::bit;
+use uc_text::inside::flag_of_number;
 use uc_text::{Branch, ListBranch};
 
 const MOST: u64 = POWER_LIMIT as u64;
 
 /// A whole number from 0 to `POWER_LIMIT`.
-fn kilowatts(d: Decimal) -> Option<u32>
+fn whole_kilowatts(d: Decimal) -> Option<u32>
     ensures { result ≡ kilowatts_of d }
 {
     if !is_whole(d) {
@@ -48,7 +48,7 @@ impl Item for u32 {
 
     fn read(branch: Branch<'_>) -> Option<u32> {
         match branch.number() {
-            Some(d) => kilowatts(d),
+            Some(d) => whole_kilowatts(d),
             None => None,
         }
     }
@@ -60,7 +60,7 @@ impl Item for bool {
 
     fn read(branch: Branch<'_>) -> Option<bool> {
         match branch.number() {
-            Some(d) => bit(d),
+            Some(d) => flag_of_number(d),
             None => None,
         }
     }

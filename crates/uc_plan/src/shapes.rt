@@ -13,7 +13,7 @@ ghost use Rattle.uc_plan.specs.Views.{groups_of, lists_of, AreFull};
 use crate::fault::{ShapeCode, ShapeSite, ShapeStop};
 use std::alloc::Global;
 use uc_model::kinds::Kind;
-use uc_text::inside::find;
+use uc_text::inside::find_member;
 use uc_text::{Branch, ListBranch, Member, ObjectBranch};
 
 /// A list of an item for each period.
@@ -35,7 +35,7 @@ fn list_under<'a>(members: &[Member<'a>], key: &str, periods: u32) -> Option<Lis
     ensures value { option_map items_in result
         ≡ list_under_spec periods key.now (member_views members.now) }
 {
-    full_list(find(members, key)?, periods)
+    full_list(find_member(members, key)?, periods)
 }
 
 /// The lists of a thermal unit's schedule, each of an item for each period.
@@ -71,7 +71,7 @@ pub fn object_under<'a>(members: &[Member<'a>], key: &str) -> Option<ObjectBranc
     ensures { option_map members_in result
         ≡ object_under_spec key.now (member_views members.now) }
 {
-    find(members, key)?.object()
+    find_member(members, key)?.object()
 }
 
 /// The objects of a schedule, by unit name.
@@ -100,7 +100,7 @@ fn bids_object<'a>(members: &[Member<'a>], bids: usize) -> Option<ObjectBranch<'
     ensures { option_map members_in result
         ≡ bids_in bids (value_under (codes "bids") (member_views members.now)) }
 {
-    match find(members, "bids") {
+    match find_member(members, "bids") {
         Some(branch) => branch.object(),
         None => { if bids == 0 { Some(no_members()) } else { None } }
     }

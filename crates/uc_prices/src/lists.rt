@@ -14,7 +14,7 @@ use crate::fault::{PriceCode, PriceField, PriceSite, PriceStop};
 use plain_lists::lists::Numbers;
 use std::alloc::Global;
 use uc_model::units::Prices;
-use uc_text::inside::find;
+use uc_text::inside::find_member;
 use uc_text::{Branch, Member};
 
 /// The prices of a list, one for each period. It is tried in the order `WrongKind`, `WrongLength`,
@@ -52,7 +52,7 @@ fn read_energy(alloc: Global, members: &[Member<'_>], periods: u32) -> Result<Nu
         (energy periods (value_under (codes "energy") (member_views members.now))) }
 {
     let field = PriceField::Energy;
-    match find(members, field.key()) {
+    match find_member(members, field.key()) {
         Some(branch) => read_list(alloc, field, branch, periods),
         None => Err(PriceSite { field, item: 0 }.stop(PriceCode::Missing)),
     }
@@ -68,7 +68,7 @@ fn read_reserve(alloc: Global, members: &[Member<'_>], periods: u32) -> Result<N
         (reserve periods (value_under (codes "reserve") (member_views members.now))) }
 {
     let field = PriceField::Reserve;
-    match find(members, field.key()) {
+    match find_member(members, field.key()) {
         Some(branch) => read_list(alloc, field, branch, periods),
         None => Ok(Numbers::filled(alloc, periods, 0)?),
     }

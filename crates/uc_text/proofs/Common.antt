@@ -1,13 +1,13 @@
 -- The names that the proofs of this crate take from its specs and from other crates, passed on from one place.
 pub use Rattle.std.proofs.Common.{ℕ, List, Result, Ok, Err, ◌≡◌, ◌≢◌, zero, suc, ◌+◌, ◌-◌, ◌*◌, ◌<◌, ◌≤◌, Bool, true}
 pub use Rattle.std.proofs.Common.{false, cond, ◌⊎◌, inl, inr, [], ◌∷◌, ◌++◌, length, refl, sym, ap, subst, ◌∙◌, arith}
-pub use Rattle.std.proofs.Common.{true≢false, Option, Some, None, rules, not, ◌||◌, bytes_eq, get_or, ap₂, Vec}
-pub use Rattle.std.proofs.Common.{append_assoc, Global, take, drop, set, map, drop-cons, add-one}
+pub use Rattle.std.proofs.Common.{true≢false, Option, Some, None, rules, not, ◌||◌, bytes_eq, get_or, ap₂}
+pub use Rattle.std.proofs.Common.{append_assoc, take, drop, set, drop-cons, add-one}
 pub use Rattle.std.proofs.lemmas.Bool.{cases_lt}
 pub use Rattle.std.proofs.lemmas.List.{append-nil, length-append, length-set, get_or_append_left, map_push}
-pub use Rattle.std.proofs.lemmas.List.{length-map, take_more, take_all, drop-drop}
+pub use Rattle.std.proofs.lemmas.List.{take_more, take_all, drop-drop}
 pub use Rattle.std.proofs.lemmas.Result.{err_from_is_err_and}
-pub use Rattle.std.specs.Prelude.{IfOk, Contains, AllPairs, vec_len}
+pub use Rattle.std.specs.Prelude.{IfOk, Contains}
 pub use Rattle.text_tokens.specs.Ahead.{rest, ahead}
 pub use Rattle.text_tokens.specs.Goes.{goes}
 pub use Rattle.text_tokens.specs.Seen.{token_of, scalar_of}
@@ -45,10 +45,9 @@ pub use Rattle.uc_text.specs.declared.node.Node.{Node}
 pub use Rattle.uc_text.specs.declared.node.Node.TheVariants.{Text as TextNode, List as ListNode, Object as ObjectNode}
 pub use Rattle.uc_text.specs.declared.node.Node.TheVariants.{Number as NumberNode, Null as NullNode}
 pub use Rattle.uc_text.specs.declared.tree.Tree.{Tree}
-pub use Rattle.text_tokens.specs.declared.quoted.Quoted.{Quoted}
 pub use Rattle.text_tokens.specs.Decimals.{decimal_in}
 pub use Rattle.text_tokens.specs.Numbers.{number_of}
-pub use Rattle.uc_text.specs.ValueParts.{item_values, member_pairs, number_in, list_in, object_in}
+pub use Rattle.uc_text.specs.ValueParts.{item_values, member_pairs, list_in, object_in}
 pub use Rattle.uc_text.specs.Files.{IsFile}
 pub use Rattle.uc_text.specs.FileLaws.{SomeFile, OneFile}
 pub use Rattle.uc_text.specs.declared.object.Member.{Member}

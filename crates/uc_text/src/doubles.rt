@@ -6,7 +6,7 @@ ghost use Rattle.std.specs.Prelude.{take, Contains, IfOk, slice_index_or};
 ghost use Rattle.std.specs.List.Sorted.{IsNonDecreasing};
 ghost use Rattle.uc_text.specs.Known.{names_said, AreDifferent, IsFirst, AreKeys};
 
-use crate::names::{Name, above, is_among, name_hash, says_same};
+use crate::names::{Name, is_among, name_hash, plain_name_above, says_same};
 use std::alloc::{AllocError, Global};
 
 /// So many names are compared one after the other.
@@ -16,12 +16,12 @@ const FEW: usize = 8;
 const SPAN: u64 = 16_777_216;
 
 /// Whether each name is above the one before it.
-fn ascend(names: &[Name<'_>]) -> bool
+fn names_ascend(names: &[Name<'_>]) -> bool
     ensures { result ≡ true → AreDifferent (names_said names.now) }
 {
     let mut last: &[u8] = b"";
     for name in names {
-        let Some(text) = above(last, name.quoted) else {
+        let Some(text) = plain_name_above(last, name.quoted) else {
             return false;
         };
         last = text;
@@ -119,7 +119,7 @@ fn first_of_many(alloc: Global, names: &[Name<'_>]) -> Result<usize, AllocError>
 pub fn first_double(alloc: Global, names: &[Name<'_>]) -> Result<usize, AllocError>
     ensures { IfOk result (λ n. IsFirst (names_said names.now) n) }
 {
-    if ascend(names) {
+    if names_ascend(names) {
         return Ok(names.len());
     }
     // No text has more names than keys can tell.

@@ -41,7 +41,7 @@ pub struct TextFault {
     pub offset: u32,
 }
 
-/// Why there is no tree: the first fault of the text, or want of memory, which may come wherever
+/// Why there is no tree: the first fault of the text, or a lack of memory, which may come wherever
 /// memory is taken.
 #[derive(Clone, Copy, Debug, PartialEq, Eq, Drop, Error)]
 pub enum TextError {

@@ -10,7 +10,7 @@ use text_tokens::{Decimal, is_whole, whole};
 
 /// The value under a key.
 #[tactic(auto, using(crate::proofs::Finds::value_step), unfolding(crate::specs::Inside::value_under))]
-pub fn find<'a>(members: &[Member<'a>], key: &str) -> Option<Branch<'a>>
+pub fn find_member<'a>(members: &[Member<'a>], key: &str) -> Option<Branch<'a>>
     ensures { option_map view result ≡ value_under key.now (member_views members.now) }
 {
     for member in members {
@@ -22,7 +22,7 @@ pub fn find<'a>(members: &[Member<'a>], key: &str) -> Option<Branch<'a>>
 }
 
 /// No for a number with value 0, yes for one with value 1, however it is written.
-pub fn bit(d: Decimal) -> Option<bool>
+pub fn flag_of_number(d: Decimal) -> Option<bool>
     ensures { result ≡ bit_of d }
 {
     if !is_whole(d) {

@@ -2,7 +2,7 @@
 ghost use Rattle.std.specs.Prelude.{◌≡◌, ◌<◌, ◌^◌, length, IfOk};
 
 use crate::branch::Branch;
-use crate::node::{Node, skip};
+use crate::node::{Node, skip_value};
 use std::alloc::{AllocError, Global};
 
 /// A list within a tree: its items are the first of these nodes.
@@ -41,7 +41,7 @@ impl<'a> ListBranch<'a> {
                 bytes: self.bytes,
                 nodes: rest,
             })?;
-            rest = skip(rest);
+            rest = skip_value(rest);
         }
         Ok(items)
     }

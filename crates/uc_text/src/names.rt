@@ -77,7 +77,7 @@ pub fn says_same(alloc: Global, name: Quoted<'_>, other: Quoted<'_>) -> Result<b
 }
 
 /// What a name says, where no byte of it is an escape and it's above the last one.
-pub fn above<'a>(last: &[u8], name: Quoted<'a>) -> Option<&'a [u8]>
+pub fn plain_name_above<'a>(last: &[u8], name: Quoted<'a>) -> Option<&'a [u8]>
     ensures says { IfSome result (λ text. text.now ≡ said name.entry.bytes.now) }
     ensures above { IfSome result (λ text. slice_cmp nat_cmp last.now text.now ≡ Less) }
 {

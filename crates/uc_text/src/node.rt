@@ -31,7 +31,7 @@ pub enum Node {
 }
 
 /// How many of the nodes behind a node are inside its value.
-fn own(node: Node) -> usize
+fn nodes_inside(node: Node) -> usize
     ensures { result ≡ own_spec node }
 {
     match node {
@@ -54,12 +54,12 @@ fn nodes_from(nodes: &[Node], count: usize) -> &[Node]
 
 /// The nodes behind the first value, and none where there is none.
 #[tactic(auto, using(crate::proofs::Passed::leaf_passed))]
-pub fn skip(nodes: &[Node]) -> &[Node]
+pub fn skip_value(nodes: &[Node]) -> &[Node]
     ensures { (bytes : List ℕ) → values bytes result.now ≡ drop 1 (values bytes nodes.now) }
 {
     match nodes {
         [node, behind @ ..] => {
-            let inside = own(*node);
+            let inside = nodes_inside(*node);
             if inside == 0 {
                 behind
             } else {

@@ -2,7 +2,7 @@
 ghost use Rattle.std.specs.Prelude.{◌≡◌, ◌<◌, ◌^◌, length, IfOk};
 
 use crate::branch::Branch;
-use crate::node::{Node, skip};
+use crate::node::{Node, skip_value};
 use std::alloc::{AllocError, Global};
 use text_tokens::Quoted;
 
@@ -53,13 +53,13 @@ impl<'a> ObjectBranch<'a> {
             };
             let value = Branch {
                 bytes: self.bytes,
-                nodes: skip(rest),
+                nodes: skip_value(rest),
             };
             members.push(Member {
                 name: name.text(),
                 value,
             })?;
-            rest = skip(value.nodes);
+            rest = skip_value(value.nodes);
         }
         Ok(members)
     }

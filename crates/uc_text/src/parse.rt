@@ -32,7 +32,7 @@ use text_tokens::{Lexeme, Reader, Token, Word};
 /// How many lists and objects may stand within one another.
 const LEVELS: u32 = 32;
 
-fn fault(code: TextCode, offset: u32) -> TextError
+fn text_error(code: TextCode, offset: u32) -> TextError
     ensures { result ≡ TextError.Fault (record { code = code; offset = offset }) }
 {
     TextError::Fault(TextFault { code, offset })
@@ -52,7 +52,7 @@ fn word_node(word: Word<'_>, offset: u32) -> Result<Node, TextError>
         Word::Flag(flag) => Ok(Node::Flag(flag)),
         Word::Number(small) => Ok(Node::Number(small)),
         Word::LargeNumber(_) => Ok(Node::LargeNumber(offset)),
-        Word::LongNumber => Err(fault(TextCode::NumberTooLong, offset)),
+        Word::LongNumber => Err(text_error(TextCode::NumberTooLong, offset)),
     }
 }
 
@@ -71,7 +71,7 @@ fn parts_of(count: u32, at: usize, nodes: usize) -> Parts
 
 /// The value that begins with a token, where so many levels are left.
 #[cycle(read)]
-fn value<'a>(
+fn read_value<'a>(
     alloc: Global,
     reader: &mut Reader<'a>,
     first: Lexeme<'a>,
@@ -99,27 +99,27 @@ fn value<'a>(
         Token::Text(_) => Ok(nodes.push(Node::Text(first.offset))?),
         Token::OpenList => {
             if left == 0 {
-                return Err(fault(TextCode::TooDeep, first.offset));
+                return Err(text_error(TextCode::TooDeep, first.offset));
             }
             let at = nodes.len();
             // (it keeps the place of the list's node)
             nodes.push(Node::Null)?;
-            let count = items(alloc, reader, left, nodes)?;
+            let count = read_items(alloc, reader, left, nodes)?;
             nodes[at] = Node::List(parts_of(count, at, nodes.len()));
             Ok(())
         }
         Token::OpenObject => {
             if left == 0 {
-                return Err(fault(TextCode::TooDeep, first.offset));
+                return Err(text_error(TextCode::TooDeep, first.offset));
             }
             let at = nodes.len();
             // (it keeps the place of the object's node)
             nodes.push(Node::Null)?;
-            let count = members(alloc, reader, left, nodes)?;
+            let count = read_members(alloc, reader, left, nodes)?;
             nodes[at] = Node::Object(parts_of(count, at, nodes.len()));
             Ok(())
         }
-        _ => Err(fault(TextCode::NotJson, first.offset)),
+        _ => Err(text_error(TextCode::NotJson, first.offset)),
     }
 }
 
@@ -146,7 +146,7 @@ fn pass_numbers(reader: &mut Reader<'_>, nodes: &mut Vec<Node>) -> Result<u32, A
 
 /// The items behind an opening bracket, and the closing bracket: how many items.
 #[cycle(read)]
-fn items<'a>(
+fn read_items<'a>(
     alloc: Global,
     reader: &mut Reader<'a>,
     left: u32,
@@ -168,7 +168,7 @@ fn items<'a>(
         return Ok(count);
     }
     'items: loop {
-        value(alloc, reader, first, left - 1, nodes)?;
+        read_value(alloc, reader, first, left - 1, nodes)?;
         count += 1;
         let behind = reader.next();
         match behind.token {
@@ -177,7 +177,7 @@ fn items<'a>(
                 first = reader.next();
             }
             Token::CloseList => return Ok(count),
-            _ => return Err(fault(TextCode::NotJson, behind.offset)),
+            _ => return Err(text_error(TextCode::NotJson, behind.offset)),
         }
     }
 }
@@ -187,7 +187,7 @@ fn items<'a>(
 /// Which name is the first double one is asked once the object ends or has a fault: a double name
 /// stands before any fault that was met, and so goes first.
 #[cycle(read)]
-fn members<'a>(
+fn read_members<'a>(
     alloc: Global,
     reader: &mut Reader<'a>,
     left: u32,
@@ -207,7 +207,7 @@ fn members<'a>(
     let read = noted_members(alloc, reader, left, nodes, &mut names);
     let double = first_double(alloc, &names)?;
     if double < names.len() {
-        return Err(fault(TextCode::DoubleKey, names[double].offset));
+        return Err(text_error(TextCode::DoubleKey, names[double].offset));
     }
     read
 }
@@ -242,23 +242,23 @@ fn noted_members<'a>(
     }
     'members: loop {
         let Token::Text(quoted) = first.token else {
-            return Err(fault(TextCode::NotJson, first.offset));
+            return Err(text_error(TextCode::NotJson, first.offset));
         };
         let offset = first.offset;
         names.push(Name { quoted, offset })?;
         nodes.push(Node::Text(offset))?;
         let between = reader.next();
         let Token::Colon = between.token else {
-            return Err(fault(TextCode::NotJson, between.offset));
+            return Err(text_error(TextCode::NotJson, between.offset));
         };
         let start = reader.next();
-        value(alloc, reader, start, left - 1, nodes)?;
+        read_value(alloc, reader, start, left - 1, nodes)?;
         count += 1;
         let behind = reader.next();
         match behind.token {
             Token::Comma => first = reader.next(),
             Token::CloseObject => return Ok(count),
-            _ => return Err(fault(TextCode::NotJson, behind.offset)),
+            _ => return Err(text_error(TextCode::NotJson, behind.offset)),
         }
     }
 }
@@ -292,10 +292,10 @@ fn read_all(alloc: Global, bytes: &[u8]) -> Result<Tree<'_>, TextError>
     let mut reader = Reader { bytes, at: 0 };
     let mut nodes = Vec::new(alloc);
     let first = reader.next();
-    value(alloc, &mut reader, first, LEVELS, &mut nodes)?;
+    read_value(alloc, &mut reader, first, LEVELS, &mut nodes)?;
     let behind = reader.next();
     match behind.token {
         Token::End => Ok(Tree { bytes, nodes }),
-        _ => Err(fault(TextCode::NotJson, behind.offset)),
+        _ => Err(text_error(TextCode::NotJson, behind.offset)),
     }
 }

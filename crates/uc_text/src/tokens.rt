@@ -7,7 +7,7 @@ ghost use Rattle.text_tokens.specs.Strings.{said};
 use text_tokens::{Decimal, Quoted, decimal_at, quoted_or_empty};
 
 /// The bytes from an offset on, and none past the end.
-fn rest_from(bytes: &[u8], offset: usize) -> &[u8]
+fn bytes_from_or_none(bytes: &[u8], offset: usize) -> &[u8]
     ensures { result.now ≡ drop offset bytes.now }
 {
     if offset < bytes.len() {
@@ -24,7 +24,7 @@ pub fn number_from(bytes: &[u8], offset: u32) -> Decimal
     requires { length bytes.now < 2 ^ 30 }
     ensures { result ≡ decimal_in (number_at (drop offset bytes.now)).0 }
 {
-    decimal_at(rest_from(bytes, offset as usize))
+    decimal_at(bytes_from_or_none(bytes, offset as usize))
 }
 
 /// The string whose opening quote is this byte, and the empty string where none is closed there.
@@ -32,5 +32,5 @@ pub fn string_from(bytes: &[u8], offset: u32) -> Quoted<'_>
     requires { length bytes.now < 2 ^ 30 }
     ensures { said result.bytes.now ≡ said (drop (offset + 1) bytes.now) }
 {
-    quoted_or_empty(rest_from(bytes, offset as usize + 1))
+    quoted_or_empty(bytes_from_or_none(bytes, offset as usize + 1))
 }

@@ -1,10 +1,10 @@
 -- What a bench is made for stays.
 use Rattle.unit_program.proofs.Common.{◌≡◌, ℕ, zero, suc, ◌+◌, ◌-◌, ◌*◌, ◌≤◌, ◌⊎◌, inl, inr, Some, List, [], ◌∷◌, ◌++◌}
 use Rattle.unit_program.proofs.Common.{length, sym, ap, ◌∙◌, subst, arith, slice_get, mul-le-mul_left, Runner}
-use Rattle.unit_program.proofs.Common.{AreTrails, HaveRoom, room_of, space_of}
+use Rattle.unit_program.proofs.Common.{AreTraces, HaveRoom, room_of, space_of}
 use Rattle.unit_program.specs.declared.bench.Bench.{Bench}
 use Rattle.unit_program.proofs.Common.{◌<◌, Option, None, IfSome, ThermalUnit, PriceLists, Entry, IsEndWithin}
-use Rattle.unit_program.proofs.Common.{HaveWays, cost_at, first_at, left_at}
+use Rattle.unit_program.proofs.Common.{CanBacktrack, cost_at, first_at, left_at}
 use Rattle.unit_program.specs.Benches.{IsBenchFor, HasWayFrom}
 
 -- a curve of so many points asks for no more
@@ -35,17 +35,17 @@ bench_kept periods points old new curve count keeps spare log rows list firsts e
       limits = omega (arith, each);
     }
 
--- ---- the way back from an end that is found
+-- ---- backtracking from an end that is found
 
 pub way_found : (u : ThermalUnit) (π : PriceLists) (b : Bench) (found : Option Entry) →
     IfSome found (λ e. IsEndWithin u π b.table.items e.last e.cost) →
-    HaveWays u π (length π.energy) (cost_at b.table.items) (first_at b.table.items)
-    (left_at b.shared.log.items b.runners.items) → AreTrails b.shared.log.items b.runners.items →
+    CanBacktrack u π (length π.energy) (cost_at b.table.items) (first_at b.table.items)
+    (left_at b.shared.log.items b.runners.items) → AreTraces b.shared.log.items b.runners.items →
     length π.energy < length b.table.items → length π.energy < length b.runners.items →
     IfSome found (λ e. HasWayFrom u π e b)
-way_found u π b None least ways trails rows runners = tt
-way_found u π b (Some e) least ways trails rows runners =
-    record { least = least; ways = ways; trails = trails; rows = rows; runners = runners }
+way_found u π b None least backtracks traces rows runners = tt
+way_found u π b (Some e) least backtracks traces rows runners =
+    record { least = least; backtracks = backtracks; traces = traces; rows = rows; runners = runners }
 
 -- ---- runners made one by one
 

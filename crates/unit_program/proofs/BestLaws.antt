@@ -1,4 +1,4 @@
--- What the way back has written from the least end is a best schedule.
+-- What backtracking has written from the least end is a best schedule.
 use Rattle.unit_program.proofs.Common.{◌≡◌, ℕ, suc, ◌<◌, ◌≤◌, false, ap, Option, Some, ℤ, pos, neg_ℤ, ◌≤ℤ◌}
 use Rattle.unit_program.proofs.Common.{length, arith, signed, slice_index, slice_index_or, IsFalse, ThermalUnit}
 use Rattle.unit_program.proofs.Common.{Thermal, PriceLists, Schedule, IsSchedule, on_in, power_in, reserve_in, earnings}

@@ -2,7 +2,7 @@
 pub use Rattle.std.proofs.Common.{◌≡◌, ℕ, zero, suc, ◌+◌, ◌-◌, ◌<◌, ◌≤◌, ◌⊎◌, inl, inr, Option, Some, None, ℤ, pos}
 pub use Rattle.std.proofs.Common.{◌+ℤ◌, ◌-ℤ◌, ◌*ℤ◌, ◌≤ℤ◌, List, length, refl, sym, ap, ◌∙◌, subst, arith, Bool, true}
 pub use Rattle.std.proofs.Common.{false, cond, [], ◌∷◌, ◌++◌, map, reverse, append_assoc, length-append, ◌*◌, neg_ℤ}
-pub use Rattle.std.proofs.Common.{not, ◌&&◌, get_or, rules, vec_capacity, take, Less, Equal, Greater}
+pub use Rattle.std.proofs.Common.{not, get_or, rules, vec_capacity, take, Less, Equal, Greater}
 pub use Rattle.std.proofs.Math.IntN.{*ℤ-zero}
 pub use Rattle.std.proofs.Math.Nat.{mul-le-mul_left, mul-le-mul_right}
 pub use Rattle.std.proofs.lemmas.Bool.{cases_lt, cases_Bool, and_parts, and_from, not-true, not-false}
@@ -15,9 +15,9 @@ pub use Rattle.std.specs.Prelude.{IsTrue, IsFalse, IfSome, slice_index, slice_in
 pub use Rattle.unit_table.specs.Laws.{CappedRowsAreRows, StartsAreWithinLimits, LimitsAreAboveTheAmount}
 pub use Rattle.unit_rows.specs.Limits.{capped}
 pub use Rattle.unit_table.specs.Limits.{IsRowWithin, IsFilledWithin, IsEndWithin, EachCostsMore}
-pub use Rattle.unit_table.specs.Live.{HaveRoom, AreTrails, left_of, left_at}
+pub use Rattle.unit_table.specs.Live.{HaveRoom, AreTraces, left_of, left_at}
 pub use Rattle.unit_rows.specs.Rows.{row_at, cost_at, first_at, before_at, HasEntryAtMost, IsWithinTimes}
-pub use Rattle.unit_table.specs.Runners.{HaveWays, since}
+pub use Rattle.unit_table.specs.Runners.{CanBacktrack, since}
 pub use Rattle.unit_rows.specs.Spells.{IsSpell, start_cost_after, IsOffRun, paid, on_time, off_time, IsGap}
 pub use Rattle.unit_rows.specs.Spells.{period_cost}
 pub use Rattle.unit_table.specs.Tables.{IsEnded, IsLatest, IsComplete}

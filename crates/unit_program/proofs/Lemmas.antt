@@ -7,5 +7,5 @@ pub use Rattle.unit_program.proofs.LimitLaws.{end_capped, end_earliest, end_low,
 pub use Rattle.unit_program.proofs.LimitLaws.{found_within, none_found}
 pub use Rattle.unit_table.proofs.RowLaws.{cost-is, first-is}
 pub use Rattle.unit_program.proofs.TopLaws.{can_answer, answer_top, tops_pushed, AreTopsTo}
-pub use Rattle.unit_program.proofs.Units.{serves_all, some_at, bench_at, case_bench_kept, found}
+pub use Rattle.unit_program.proofs.Units.{serves_all, some_at, bench_at, case_bench_kept, found, answer_long}
 pub use Rattle.unit_program.proofs.MostPoints.{greater, greater_within, few_more, all_few, HaveFew}

@@ -12,7 +12,7 @@ pub mod BackLaws
 pub mod BackwardOrder
 -- what a bench is made for stays
 pub mod BenchLaws
--- what the way back has written from the least end is a best schedule
+-- what backtracking has written from the least end is a best schedule
 pub mod BestLaws
 -- spells and times off, one after another, make a feasible schedule, whose cost is the sum of theirs
 pub mod BuildLaws
@@ -22,7 +22,7 @@ pub mod CommitLaws
 pub mod CostLaws
 -- the least of the ends after which the unit may be off to the last period
 pub mod EndLaws
--- one spell of the way back, where the rows are those of the table as far as they are within the limits
+-- one spell of backtracking, where the rows are those of the table as far as they are within the limits
 pub mod LimitBackLaws
 -- the rows and the ends as far as they are within the limits
 pub mod LimitLaws
@@ -36,7 +36,7 @@ pub mod RunLaws
 pub mod ShapeLaws
 -- runs of on periods and times off of a schedule, by single steps: their dispatch, costs and times
 pub mod SpellLaws
--- of all schedules that cost the same, what the way back writes is the first
+-- of all schedules that cost the same, what backtracking writes is the first
 pub mod TieLaws
 -- The lemmas that answers cite.
 pub mod Lemmas

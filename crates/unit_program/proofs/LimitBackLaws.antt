@@ -1,4 +1,4 @@
--- One spell of the way back, where the rows are those of the table as far as they are within the limits.
+-- One spell of backtracking, where the rows are those of the table as far as they are within the limits.
 use Rattle.unit_program.proofs.Common.{◌≡◌, ℕ, suc, ◌<◌, ◌≤◌, inl, inr, Option, Some, ℤ, pos, ◌≤ℤ◌, List, length, ◌∙◌}
 use Rattle.unit_program.proofs.Common.{arith, signed, IsTrue, IsFalse, StartCostsAreWithin, ThermalUnit, PriceLists}
 use Rattle.unit_program.proofs.Common.{Schedule, power_in, reserve_in, IsThermalUnit, Ended, IsIdle}
@@ -12,7 +12,7 @@ use Rattle.unit_program.proofs.LimitLaws.{row_here, row_real}
 use Rattle.unit_program.proofs.TieLaws.{first_alone, first_after}
 use Rattle.unit_table.proofs.RowLaws.{cost-is, first-is, before-is}
 
--- what the way back needs to know of a row that names a spell
+-- what backtracking needs to know of a row that names a spell
 pub record IsRowBack (g : ThermalUnit) (π : PriceLists) (rows : List (Option Ended)) (l : ℕ) (e : Ended) : Type 0 where
   pub order : e.first ≤ l
   pub only : (a b : Schedule) → e.first ≡ 0 → IsWritten g π (length π.energy) e.first l a b →

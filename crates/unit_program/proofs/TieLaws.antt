@@ -1,4 +1,4 @@
--- Of all schedules that cost the same, what the way back writes is the first: the table names the earliest end, the
+-- Of all schedules that cost the same, what backtracking writes is the first: the table names the earliest end, the
 -- latest first period of a spell and the earliest on period before it, and each spell is written first by powers and
 -- reserves.
 use Rattle.unit_program.proofs.Common.{◌≡◌, ℕ, zero, suc, ◌<◌, ◌≤◌, false, inl, inr, Option, Some, ℤ, pos, ◌+ℤ◌}

@@ -1,4 +1,4 @@
--- What the way back writes, period by period (this project's profile).
+-- What backtracking writes, period by period (this project's profile).
 use Rattle.std.specs.Prelude.{◌≡◌, ℕ, ◌<◌, ◌≤◌, ℤ, pos, IsTrue, IsFalse, List, length, ◌⊎◌, Option}
 use Rattle.std.specs.Prelude.{Some}
 use Rattle.uc_model.specs.Data.{ThermalUnit, PriceLists, Schedule}

@@ -5,9 +5,9 @@ use Rattle.slope_list.specs.Slopes.{space_of}
 use Rattle.uc_model.specs.Data.{ThermalUnit, PriceLists}
 use Rattle.unit_program.specs.declared.bench.Bench.{Bench}
 use Rattle.unit_table.specs.Limits.{IsEndWithin}
-use Rattle.unit_table.specs.Live.{HaveRoom, HasRoomFor, AreTrails, left_at}
+use Rattle.unit_table.specs.Live.{HaveRoom, HasRoomFor, AreTraces, left_at}
 use Rattle.unit_rows.specs.Rows.{cost_at, first_at}
-use Rattle.unit_table.specs.Runners.{HaveWays}
+use Rattle.unit_table.specs.Runners.{CanBacktrack}
 use Rattle.unit_rows.specs.declared.table.Entry.{Entry}
 
 -- its parts suffice for the answers of a unit with so many cost points over so many periods
@@ -28,12 +28,12 @@ BenchesServeLess =
     (periods points fewer less : ℕ) (b : Bench) → fewer ≤ periods → less ≤ points →
     IsBenchFor periods points b → IsBenchFor fewer less b
 
--- its table has this end as the least, and its log has what the way back needs
+-- its table has this end as the least, and its log has what backtracking needs
 pub record HasWayFrom (u : ThermalUnit) (π : PriceLists) (end : Entry) (b : Bench) : Type 0 where
   pub least : IsEndWithin u π b.table.items end.last end.cost
-  pub ways :
-      HaveWays u π (length π.energy) (cost_at b.table.items) (first_at b.table.items)
+  pub backtracks :
+      CanBacktrack u π (length π.energy) (cost_at b.table.items) (first_at b.table.items)
       (left_at b.shared.log.items b.runners.items)
-  pub trails : AreTrails b.shared.log.items b.runners.items
+  pub traces : AreTraces b.shared.log.items b.runners.items
   pub rows : length π.energy < length b.table.items
   pub runners : length π.energy < length b.runners.items

@@ -1,4 +1,4 @@
--- A schedule that keeps the rules of pglib-uc up to a last on period: what the way back has at hand
+-- A schedule that keeps the rules of pglib-uc up to a last on period: what backtracking has at hand
 -- after each spell that it writes.
 use Rattle.std.specs.Prelude.{◌≡◌, ℕ, suc, ◌<◌, ◌≤◌, ℤ, pos, ◌+ℤ◌, ◌-ℤ◌, ◌≤ℤ◌, IsTrue, IsFalse}
 use Rattle.std.specs.Prelude.{true, false}

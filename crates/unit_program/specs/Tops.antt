@@ -6,6 +6,7 @@ use Rattle.uc_model.specs.declared.units.Point.{Point}
 use Rattle.uc_model.specs.Data.{NamedThermalUnit, AnyUnit, PriceLists, Schedule, Market, units}
 use Rattle.uc_model.specs.Earnings.{IsTop}
 use Rattle.uc_model.specs.Schedules.{IsFeasible}
+use Rattle.unit_program.specs.Answers.{CanBeAnswered}
 use Rattle.unit_program.specs.Benches.{IsBenchFor}
 use Rattle.unit_program.specs.declared.bench.Bench.{Bench}
 
@@ -18,8 +19,7 @@ HasSchedules m =
 -- no unit or bid is without a feasible schedule
 abbrev pub CanAnswer : Market → Type 0
 CanAnswer m =
-    (k : ℕ) (u : AnyUnit) → slice_get (units m) k ≡ Some u →
-    ((s : Schedule) → IsFeasible u m.periods s → ⊥) → ⊥
+    (k : ℕ) (u : AnyUnit) → slice_get (units m) k ≡ Some u → CanBeAnswered u m.periods
 
 -- the cost points of each thermal unit
 abbrev pub points_of : Market → List (List Point)

@@ -5,18 +5,18 @@ ghost use Rattle.plain_lists.specs.Ranges.{IsFrom};
 ghost use Rattle.uc_model.specs.PlainUnits.{thermal_of, prices_of};
 ghost use Rattle.unit_program.specs.Benches.{IsBenchFor, HasWayFrom};
 ghost use Rattle.unit_table.specs.Limits.{IsFilledWithin, EachCostsMore};
-ghost use Rattle.unit_table.specs.Live.{left_at, AreTrails, HaveRoom};
+ghost use Rattle.unit_table.specs.Live.{left_at, AreTraces, HaveRoom};
 ghost use Rattle.unit_rows.specs.Rows.{cost_at, first_at};
-ghost use Rattle.unit_table.specs.Runners.{HaveWays};
+ghost use Rattle.unit_table.specs.Runners.{CanBacktrack};
 
+use crate::backtrack::{Backtracks, write_noted};
 use crate::kept::{Kept, NO_BOUND};
 use crate::last::LastAnswers;
 use crate::least_end::least_end;
-use crate::way::{Ways, write_noted};
 use cost_curve::curves::curve_into;
 use plain_lists::lists::Numbers;
 use slope_list::Slopes;
-use spell_run::Trail;
+use spell_run::Trace;
 use std::alloc::{AllocError, Global};
 use uc_model::laws::earnings_are_within;
 use uc_model::units::{Answered, Blocks, Curve, Prices, Unit};
@@ -49,7 +49,7 @@ pub struct Bench {
     kept: Kept,
 }
 
-// Written out, so that a drop of it is a call, and not one for each list.
+// By hand, so that dropping it is one call.
 impl Drop for Bench {
     fn drop(self) {
         let Bench {
@@ -78,7 +78,7 @@ fn make_runners(alloc: Global, count: u32, pieces: usize) -> Result<Vec<Runner>,
             cost: 0,
             before: 0,
             running,
-            trail: Trail::none(),
+            trace: Trace::none(),
         };
         runners.push_reserved(runner);
     }
@@ -93,11 +93,11 @@ fn fill_bench(bench: &mut Bench, unit: &Unit, prices: &Prices, most: i64)
         (length (thermal_of unit.now).points) bench.old }
     ensures filled { IsFilledWithin (thermal_of unit.now) (prices_of prices.now) most
         bench.new.table.items }
-    ensures ways { HaveWays (thermal_of unit.now) (prices_of prices.now)
+    ensures backtracks { CanBacktrack (thermal_of unit.now) (prices_of prices.now)
         (length (prices_of prices.now).energy) (cost_at bench.new.table.items)
         (first_at bench.new.table.items)
         (left_at bench.new.shared.log.items bench.new.runners.items) }
-    ensures trails { AreTrails bench.new.shared.log.items bench.new.runners.items }
+    ensures traces { AreTraces bench.new.shared.log.items bench.new.runners.items }
     ensures bench { (periods points : ℕ) → IsBenchFor periods points bench.old
         → IsBenchFor periods points bench.new }
 {
@@ -166,7 +166,7 @@ impl Bench {
     ///
     /// # Errors
     ///
-    /// `AllocError` for want of memory.
+    /// `AllocError` if memory runs out.
     pub fn make(alloc: Global, periods: u32, points: u32) -> Result<Bench, AllocError>
         requires periods { periods ≤ MOST_PERIODS }
         requires points { points ≤ MOST_POINTS }
@@ -234,7 +234,7 @@ impl Bench {
         find_within(self, unit, prices, NO_BOUND)
     }
 
-    /// Leaves in `into` the least best response, by the way back from its end, and what it earns.
+    /// Leaves in `into` the least best response, by backtracking from its end, and what it earns.
     /// Unit, prices and `into` are over the same periods. Takes no memory.
     pub fn write_answer(&self, unit: &Unit, prices: &Prices, end: &Entry, into: &mut Answered)
         requires way { HasWayFrom (thermal_of unit.now) (prices_of prices.now) end.now self.now }
@@ -249,8 +249,8 @@ impl Bench {
     {
         let runners = self.runners.as_slice();
         let log = self.shared.log.as_slice();
-        let ways = Ways { runners, log };
-        write_noted(unit, prices, self.table.as_slice(), ways, end, into);
+        let backtracks = Backtracks { runners, log };
+        write_noted(unit, prices, self.table.as_slice(), backtracks, end, into);
     }
 
     /// Keeps the answer to prices of the unit of a number for the next time, if it can.

@@ -22,7 +22,7 @@ pub struct Kept {
     reserve: Powers,
 }
 
-// Written out, so that a drop of it is a call, and not one for each list.
+// By hand, so that dropping it is one call.
 impl Drop for Kept {
     fn drop(self) {
         let Kept {
@@ -41,9 +41,9 @@ fn paid_for(prices: &Prices, power: &[u32], reserve: &[u32]) -> i64 {
     let held = prices.reserve.as_slice();
     let mut paid: i64 = 0;
     for place in 0..both.min(energy.len()).min(held.len()) {
-        let for_power = energy[place].wrapping_mul(i64::from(power[place]));
-        let for_reserve = held[place].wrapping_mul(i64::from(reserve[place]));
-        paid = paid.wrapping_add(for_power.wrapping_add(for_reserve));
+        let for_power = energy[place].saturating_mul(i64::from(power[place]));
+        let for_reserve = held[place].saturating_mul(i64::from(reserve[place]));
+        paid = paid.saturating_add(for_power.saturating_add(for_reserve));
     }
     paid
 }
@@ -81,7 +81,7 @@ impl Kept {
             return NO_BOUND;
         }
         let paid = paid_for(prices, self.power.as_slice(), self.reserve.as_slice());
-        self.cost.wrapping_sub(paid).clamp(-NO_BOUND, NO_BOUND)
+        self.cost.saturating_sub(paid).clamp(-NO_BOUND, NO_BOUND)
     }
 
     /// Keeps an answer to prices.
@@ -90,7 +90,7 @@ impl Kept {
         copy_powers(response.power.as_slice(), &mut self.power);
         copy_powers(response.reserve.as_slice(), &mut self.reserve);
         let paid = paid_for(prices, self.power.as_slice(), self.reserve.as_slice());
-        self.cost = paid.wrapping_sub(answered.earned);
+        self.cost = paid.saturating_sub(answered.earned);
         self.is_some = true;
     }
 }

@@ -17,7 +17,7 @@ impl LastAnswers {
     ///
     /// # Errors
     ///
-    /// `AllocError` for want of memory.
+    /// `AllocError` if memory runs out.
     pub fn make(alloc: Global, units: u32, periods: u32) -> Result<LastAnswers, AllocError> {
         let mut last = Vec::with_capacity(alloc, units as usize)?;
         for _ in 0..units {

@@ -1,4 +1,4 @@
-//! The least end of the table, and what the way back from it needs.
+//! The least end of the table, and what backtracking from it needs.
 ghost use Rattle.std.specs.Prelude.{◌≡◌, ℕ, ◌<◌, ◌≤◌, neg_ℤ, false, IsTrue, IsFalse, IfSome};
 ghost use Rattle.std.specs.Prelude.{IfNone};
 ghost use Rattle.std.specs.Prelude.{ℤ, Some, length, slice_index, slice_index_or};
@@ -9,7 +9,7 @@ ghost use Rattle.unit_rows.specs.Ends.{IsLeastEnd};
 
 use uc_model::units::{Answered, Unit};
 use unit_rows::commitment::off_from;
-use unit_rows::table::{Ended, Entry, lesser};
+use unit_rows::table::{Ended, Entry, lesser_entry};
 
 // The cost of all, where `last` is the last on period.
 fn end_at(rows: &[Option<Ended>], last: u32) -> Option<i64>
@@ -36,7 +36,7 @@ pub fn least_end(unit: &Unit, periods: u32, rows: &[Option<Ended>]) -> Option<En
 {
     let mut least: Option<Entry> = None;
     for last in off_from(unit, periods)..periods + 1 {
-        least = lesser(least, end_at(rows, last), last);
+        least = lesser_entry(least, end_at(rows, last), last);
     }
     least
 }
@@ -50,7 +50,7 @@ pub fn is_all_off(unit: &Unit, last: u32) -> bool
 }
 
 /// Turns every period off.
-pub fn clear(into: &mut Answered)
+pub fn turn_all_off(into: &mut Answered)
     ensures off { (k : ℕ) → slice_index_or (schedule_of into.new.response).on k false ≡ false }
     ensures power { (k : ℕ) → slice_index (schedule_of into.new.response).power k ≡ 0 }
     ensures reserve { (k : ℕ) → slice_index (schedule_of into.new.response).reserve k ≡ 0 }
@@ -65,7 +65,7 @@ pub fn clear(into: &mut Answered)
 }
 
 /// What a cost within bounds earns.
-pub fn negated(cost: i64) -> i64
+pub fn earnings_of_cost(cost: i64) -> i64
     requires { IsWithinTimes 400 cost }
     ensures { result ≡ neg_ℤ cost }
 {

@@ -15,6 +15,7 @@
 //! leaves its own in place of that.
 #![tactic(auto)]
 
+pub mod backtrack;
 pub mod bench;
 mod case_bench;
 pub mod case_laws;
@@ -25,11 +26,10 @@ mod last;
 pub mod laws;
 pub mod least_end;
 mod unit_answer;
-pub mod way;
 
 pub use bench::Bench;
 pub use case_bench::{bench_for, most_points};
 pub use choice::least_on_bench;
 pub use earn::earn_all;
 pub use last::LastAnswers;
-pub use unit_answer::answer_at;
+pub use unit_answer::{answer_at, answer_unit};

@@ -1,49 +1,63 @@
-//! The answer of the unit of a number.
-ghost use Rattle.std.specs.Prelude.{◌≡◌, ℕ, ◌<◌, length};
-ghost use Rattle.uc_model.specs.Data.{Thermal, Schedule, unit_count};
-ghost use Rattle.uc_model.specs.Earnings.{earnings};
-ghost use Rattle.uc_model.specs.PlainCases.{market_of};
-ghost use Rattle.uc_model.specs.PlainUnits.{thermal_of, prices_of, schedule_of};
-ghost use Rattle.uc_model.specs.Runs.{Fits};
-ghost use Rattle.uc_model.specs.Schedules.{IsThermalFeasible};
+//! The answer of a unit of any kind.
+ghost use Rattle.std.specs.Prelude.{◌≡◌, ℕ, ◌<◌, suc, length, slice_index};
+ghost use Rattle.uc_model.specs.Data.{Schedule, horizon_of, unit_count};
+ghost use Rattle.uc_model.specs.Earnings.{amount_of, supply_in};
+ghost use Rattle.uc_model.specs.PlainCases.{market_of, unit_of};
+ghost use Rattle.uc_model.specs.PlainUnits.{prices_of, schedule_of};
+ghost use Rattle.unit_program.specs.Answers.{CanBeAnswered, Suffices, IsResponse, IsAnswerAt};
 ghost use Rattle.unit_program.specs.Benches.{IsBenchFor};
+ghost use Rattle.unit_program.specs.Tops.{CanAnswer, IsBenchOver};
 
 use crate::bench::Bench;
 use crate::last::LastAnswers;
 use crate::least_on_bench;
 use flat_answer::{best_bid, best_flat};
 use uc_model::cases::{Case, UnitRef};
-use uc_model::units::{Answered, Flow, Prices, Unit};
+use uc_model::units::{Answered, Flow, Prices};
 
-// Answers the thermal unit of a number, which isn't without a feasible schedule.
-fn answer_thermal(
+/// Leaves in `into` the least best response of a unit to the prices, and what it earns in money.
+/// The unit isn't without a feasible schedule, and the bench suffices for it; it suffices
+/// afterwards for all that it sufficed for before. The unit, the prices and `into` are over the
+/// same periods. The answer is the same whatever the unit's number and the last answers are. Takes
+/// no memory.
+pub fn answer_unit(
     bench: &mut Bench,
     last: &LastAnswers,
     number: u32,
-    unit: &Unit,
+    unit: UnitRef<'_>,
     prices: &Prices,
     into: &mut Answered,
 )
-    requires horizon { length (thermal_of unit.now).window ≡ length (prices_of prices.now).energy }
-    requires some { ((s : Schedule) → IsThermalFeasible (thermal_of unit.now)
-        (length (prices_of prices.now).energy) s → ⊥) → ⊥ }
-    requires bench { IsBenchFor (length (prices_of prices.now).energy)
-        (length (thermal_of unit.now).points) bench.old }
+    requires horizon { horizon_of (unit_of unit) ≡ length (prices_of prices.now).energy }
+    requires some { CanBeAnswered (unit_of unit) (length (prices_of prices.now).energy) }
+    requires bench { Suffices (length (prices_of prices.now).energy) (unit_of unit) bench.old }
     requires into { length (schedule_of into.old.response).on
         ≡ length (prices_of prices.now).energy }
-    ensures fit { Fits (Thermal (thermal_of unit.now)) (prices_of prices.now)
-        (schedule_of into.new.response) }
-    ensures earned { into.new.earned ≡ earnings (Thermal (thermal_of unit.now))
-        (prices_of prices.now) (schedule_of into.new.response) }
+    ensures response { IsResponse (unit_of unit.entry) (prices_of prices.now) into.new }
     ensures bench { (periods points : ℕ) → IsBenchFor periods points bench.old
         → IsBenchFor periods points bench.new }
 {
-    // It is found, since some schedule is feasible.
-    let _ = least_on_bench(bench, last, number, unit, prices, into);
+    match unit {
+        UnitRef::Thermal(unit) => {
+            // It is found, since some schedule is feasible.
+            let _ = least_on_bench(bench, last, number, unit, prices, into);
+        }
+        UnitRef::Renewable(flat) => best_flat(flat, prices, into),
+        UnitRef::Bid(bid) => best_bid(bid, prices, into),
+    }
 }
 
-ghost use Rattle.unit_program.specs.Answers.{IsAnswerAt};
-ghost use Rattle.unit_program.specs.Tops.{CanAnswer, IsBenchOver};
+// Which way the unit's powers count.
+fn flow_of(unit: UnitRef<'_>) -> Flow
+    ensures { (s : Schedule) (k : ℕ) → supply_in (unit_of unit.entry) s (suc k)
+        ≡ amount_of result (slice_index s.power k) }
+{
+    match unit {
+        UnitRef::Thermal(_) => Flow::Gives,
+        UnitRef::Renewable(_) => Flow::Gives,
+        UnitRef::Bid(_) => Flow::Takes,
+    }
+}
 
 /// Leaves in `into` the least best response of the unit of a number at the prices, and what it
 /// earns in money. Tells which way its powers count. No unit is without a feasible schedule; the
@@ -67,18 +81,7 @@ pub fn answer_at(
     ensures bench { IsBenchOver (market_of case.now) bench.new }
     ensures into { length (schedule_of into.new.response).on ≡ (market_of case.now).periods }
 {
-    match case.unit_at(number).unit {
-        UnitRef::Thermal(unit) => {
-            answer_thermal(bench, last, number as u32, unit, prices, into);
-            Flow::Gives
-        }
-        UnitRef::Renewable(flat) => {
-            best_flat(flat, prices, into);
-            Flow::Gives
-        }
-        UnitRef::Bid(bid) => {
-            best_bid(bid, prices, into);
-            Flow::Takes
-        }
-    }
+    let unit = case.unit_at(number).unit;
+    answer_unit(bench, last, number as u32, unit, prices, into);
+    flow_of(unit)
 }

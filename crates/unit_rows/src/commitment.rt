@@ -80,7 +80,7 @@ pub fn time_off(unit: &Unit, last: u32, period: u32) -> u64
 
 /// The last on period since which the unit has been off for long enough at the end of a period, and
 /// a period before it hadn't been.
-pub fn ripened(unit: &Unit, period: u32) -> Option<u32>
+pub fn stop_just_released(unit: &Unit, period: u32) -> Option<u32>
     requires { period ≤ MOST_PERIODS }
     ensures some { IfSome result (IsRipe (thermal_of unit.now) period) }
     ensures only { (last : ℕ) → IsRipe (thermal_of unit.now) period last → result ≡ Some last }

@@ -13,8 +13,8 @@ ghost use Rattle.unit_rows.specs.Origins.{AreRight, AreInOrder, AreOrigins, AreO
 ghost use Rattle.unit_rows.specs.Rows.{cost_at, IsWithinTimes};
 ghost use Rattle.unit_rows.specs.Ends.{IsEntry, IsLeastEntry};
 
-use crate::commitment::{must_be_on, ripened};
-use crate::table::{Ended, Entry, lesser, start_after, sum_of};
+use crate::commitment::{must_be_on, stop_just_released};
+use crate::table::{Ended, Entry, lesser_entry, start_after, sum_of};
 use plain_lists::lists::ReservedList;
 use std::alloc::{AllocError, Global};
 use uc_model::units::{Lag, Unit};
@@ -40,7 +40,7 @@ pub struct Origins {
     pub is_rising: bool,
 }
 
-// Written out, so that a drop of it is a call, and not one for each list.
+// By hand, so that dropping it is one call.
 impl Drop for Origins {
     fn drop(self) {
         let Origins {
@@ -130,7 +130,7 @@ impl Origins {
         ensures origins { AreOrigins (thermal_of unit.now) (cost_at rows.now) period self.new }
         ensures length { length self.new.list.items ≡ length self.old.list.items }
     {
-        let Some(last) = ripened(unit, period) else {
+        let Some(last) = stop_just_released(unit, period) else {
             return;
         };
         if last < self.off_from {
@@ -206,7 +206,7 @@ impl Origins {
         for place in 0..self.count {
             let origin = *self.list.get(place as usize);
             let cost = sum_of(origin.cost, start_after(unit, origin.last, period));
-            least = lesser(least, Some(cost), origin.last);
+            least = lesser_entry(least, Some(cost), origin.last);
         }
         least
     }

@@ -54,7 +54,7 @@ pub fn sum_of(a: i64, b: i64) -> i64
 }
 
 /// The lesser of two, and the first where they are equal.
-pub fn lesser(least: Option<Entry>, cost: Option<i64>, last: u32) -> Option<Entry>
+pub fn lesser_entry(least: Option<Entry>, cost: Option<i64>, last: u32) -> Option<Entry>
     ensures from { IfSome result
         (λ r. (least ≡ Some r) ⊎ ((cost ≡ Some r.cost) × (r.last ≡ last))) }
     ensures old { (r : Entry) → least ≡ Some r → HasEntryAtMost result r.cost }
@@ -90,7 +90,7 @@ fn is_taken(row: Option<Ended>, cost: i64) -> bool
 }
 
 /// Puts what ends with period `last` into the table, if its cost is at most the cost there.
-pub fn put(table: &mut Table, last: u32, ended: Ended)
+pub fn put_ended(table: &mut Table, last: u32, ended: Ended)
     requires room { last < length table.old.items }
     requires within { AreWithin table.old.items }
     requires bound { IsWithinTimes (2 * last + 2) ended.cost }
@@ -133,7 +133,7 @@ pub fn put_end(table: &mut Table, last: u32, first: u32, entry: &Entry, net: Opt
             first,
             before: entry.last,
         };
-        put(table, last, ended);
+        put_ended(table, last, ended);
     }
 }
 

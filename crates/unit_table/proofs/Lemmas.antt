@@ -21,5 +21,5 @@ pub use Rattle.unit_table.proofs.RunnerRowLaws.{row_end}
 pub use Rattle.unit_table.proofs.StandInLaws.{may_next, beyond_goes, early_goes, none_starts, start_undercut}
 pub use Rattle.unit_table.proofs.StandInLaws.{starts_beyond, start_beyond}
 pub use Rattle.unit_table.proofs.StartLaws.{started, none_goes_on, one_goes_on}
-pub use Rattle.unit_table.proofs.WaysLaws.{always, end_some, end_left, ways_same, ways_none, ways_more}
-pub use Rattle.unit_table.proofs.WaysLaws.{noted_fewer, noted_start, noted_all}
+pub use Rattle.unit_table.proofs.BacktrackLaws.{always, end_some, end_left, ways_same, ways_none, ways_more}
+pub use Rattle.unit_table.proofs.BacktrackLaws.{noted_fewer, noted_start, noted_all}

@@ -30,7 +30,7 @@ pub mod StandInLaws
 pub mod StartLaws
 -- sums from a place to a place
 pub mod SumLaws
--- what the runners left for the way back from each row
-pub mod WaysLaws
+-- what the runners left for backtracking from each row
+pub mod BacktrackLaws
 -- The lemmas that answers cite.
 pub mod Lemmas

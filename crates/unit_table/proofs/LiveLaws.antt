@@ -4,8 +4,8 @@ use Rattle.unit_table.proofs.Common.{count_of, room_of}
 use Rattle.unit_table.proofs.Common.{◌≡◌, ◌≢◌, ℕ, zero, suc, ◌+◌, ◌-◌, ◌*◌, ◌<◌, ◌≤◌, inl, inr, Bool, true, false, cond}
 use Rattle.unit_table.proofs.Common.{Option, Some, None, ℤ, pos, ◌+ℤ◌, ◌-ℤ◌, ◌≤ℤ◌, ◌<ℤ◌, List, [], ◌∷◌, length, refl}
 use Rattle.unit_table.proofs.Common.{sym, ap, ◌∙◌, subst, arith, slice_get, slice_set, ints}
-use Rattle.unit_table.proofs.Common.{cases_eq, Table, value_of, ThermalUnit, PriceLists, Runner, Logged, Trail}
-use Rattle.unit_table.proofs.Common.{HaveSameRooms, left_by, IsTrail, AreTrails, ◌⊎◌}
+use Rattle.unit_table.proofs.Common.{cases_eq, Table, value_of, ThermalUnit, PriceLists, Runner, Logged, Trace}
+use Rattle.unit_table.proofs.Common.{HaveSameRooms, left_by, IsTrace, AreTraces, ◌⊎◌}
 use Rattle.spell_run.specs.Logs.{AreLogged}
 use Rattle.unit_table.proofs.Common.{going_of, live_at, left_of, left_at, AreRoomy, AreSmall, IsUnder, IsBeyond}
 use Rattle.unit_table.proofs.Common.{IsBelow, HaveRoom, Going, AreRunners, AreFewer, IsKeptFrom, AreKept, length-set}
@@ -132,15 +132,15 @@ slice_get_none (x ∷ xs) (suc f) h = (let e = slice_get_none xs f h in omega ar
 -- ---- the same runners, of which some were stopped or begun
 
 kept_one : (r : Runner) → IsKeptFrom r r
-kept_one r = record { room_same = refl; trail = refl; pieces = λ on. inr (on, refl) }
+kept_one r = record { room_same = refl; trace = refl; pieces = λ on. inr (on, refl) }
 
-pub stopped_one : (old a : Runner) → a.is_on ≡ false → a.running ≡ old.running → a.trail ≡ old.trail →
+pub stopped_one : (old a : Runner) → a.is_on ≡ false → a.running ≡ old.running → a.trace ≡ old.trace →
     IsKeptFrom old a
-stopped_one old a off same trail = record { room_same = ap room_of same; trail = trail; pieces = λ on. absurd (cc) }
+stopped_one old a off same trace = record { room_same = ap room_of same; trace = trace; pieces = λ on. absurd (cc) }
 
 pub begun_one : (old a : Runner) → count_of a.running ≡ 0 → room_of a.running ≡ room_of old.running →
-    a.trail ≡ old.trail → IsKeptFrom old a
-begun_one old a none same trail = record { room_same = same; trail = trail; pieces = λ on. inl none }
+    a.trace ≡ old.trace → IsKeptFrom old a
+begun_one old a none same trace = record { room_same = same; trace = trace; pieces = λ on. inl none }
 
 pub kept_none : (runners : List Runner) → AreKept runners runners
 kept_none runners = record { count_same = refl; each = λ f r is. (r, is, kept_one r) }
@@ -155,7 +155,7 @@ kept_then a b d early late = record {
         o.1,
         record {
           room_same = cc;
-          trail = n.2.trail ∙ o.2.trail;
+          trace = n.2.trace ∙ o.2.trace;
           pieces = λ on. elim (n.2.pieces on) [
             | inl none ↦ inl none
             | inr h ↦ elim (o.2.pieces h.0) [
@@ -195,7 +195,7 @@ module _ (old new : List Runner) (kept : AreKept old new) where
       let o = roomy f k.0 k.1 in
       let whole = o.whole in
       let same = k.2.room_same in
-      let count_same = ap (λ (x : Trail). x.count) k.2.trail in
+      let count_same = ap (λ (x : Trace). x.count) k.2.trace in
       record {
         whole = omega arith;
         rest = λ on. elim (k.2.pieces on) [
@@ -222,18 +222,18 @@ module _ (old new : List Runner) (kept : AreKept old new) where
         let past = kept.count_same in
         let end = slice_get_none new f is in
         sym (ap (λ o. left_of log o k) (slice_get_past old f (omega arith))))
-    | Some r ↦ λ is. (let o = kept.each f r is in ap (λ (t : Trail). left_by log t k) o.2.trail ∙
+    | Some r ↦ λ is. (let o = kept.each f r is in ap (λ (t : Trace). left_by log t k) o.2.trace ∙
         sym (ap (λ o. left_of log o k) o.1))
   ] refl
 
-  pub kept_trails : (log : List Logged) → AreTrails log old → AreTrails log new
-  kept_trails log trails f r is =
-      (let k = kept.each f r is in subst (IsTrail log) (sym k.2.trail) (trails f k.0 k.1))
+  pub kept_trails : (log : List Logged) → AreTraces log old → AreTraces log new
+  kept_trails log traces f r is =
+      (let k = kept.each f r is in subst (IsTrace log) (sym k.2.trace) (traces f k.0 k.1))
 
 -- nothing is left yet
 pub none_trails : (log : List Logged) (runners : List Runner) →
-    ((f : ℕ) (r : Runner) → slice_get runners f ≡ Some r → r.trail.count ≡ 0) → AreTrails log runners
-none_trails log runners none f r is = subst (AreLogged log r.trail.last) (sym (none f r is)) tt
+    ((f : ℕ) (r : Runner) → slice_get runners f ≡ Some r → r.trace.count ≡ 0) → AreTraces log runners
+none_trails log runners none f r is = subst (AreLogged log r.trace.last) (sym (none f r is)) tt
 
 -- ---- rooms
 
@@ -258,7 +258,7 @@ rooms_written runners runners' i a old low set was same = record {
 -- where none is on, the room of each is all its own
 pub off_roomy : (room periods t charge : ℕ) (runners : List Runner) →
     ((f : ℕ) → live_at runners f ≡ None) →
-    ((f : ℕ) (r : Runner) → slice_get runners f ≡ Some r → r.trail.count ≡ 0) →
+    ((f : ℕ) (r : Runner) → slice_get runners f ≡ Some r → r.trace.count ≡ 0) →
     periods * charge ≤ room → HaveRoom room runners → AreRoomy periods t charge runners
 off_roomy room periods t charge runners off none fits have f r is = record {
   whole = (let same = have f r is in omega arith);

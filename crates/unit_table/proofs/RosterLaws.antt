@@ -3,6 +3,7 @@ use Rattle.unit_table.proofs.Common.{◌≡◌, ◌≢◌, ℕ, suc, ◌+◌, �
 use Rattle.unit_table.proofs.Common.{length, refl, sym, ap, ◌∙◌, subst, arith, slice_get, slice_set}
 use Rattle.unit_table.proofs.Common.{cases_lt, cases_eq, ThermalUnit, PriceLists, Runner, Ended, going_of}
 use Rattle.unit_table.proofs.Common.{live_at, AreRoomy, IsRoster, Going, IsRowOf, IsOneRun, Logged, Reserved}
+use Rattle.unit_table.proofs.Common.{Asked, periods_of}
 use Rattle.unit_table.specs.declared.roster.Roster.{Roster}
 use Rattle.unit_table.proofs.LiveLaws.{going_on}
 use Rattle.plain_lists.proofs.ListLaws.{get_set_same, get_set_other}
@@ -220,7 +221,7 @@ row_further g π periods live n m l end first before more off row = record {
   sound = λ v is. (let h = row.sound v is in let low = h.2 in (h.0, h.1, omega arith, h.3, h.4, h.5));
 }
 
-module _ (g : ThermalUnit) (π : PriceLists) (t charge : ℕ) (rows₀ : List (Option Ended)) (runners₀ : List Runner)
+module _ (a : Asked) (rows₀ : List (Option Ended)) (runners₀ : List Runner)
     (log₀ : Reserved Logged)
   where
     -- the first i of the list have run
@@ -229,11 +230,11 @@ module _ (g : ThermalUnit) (π : PriceLists) (t charge : ℕ) (rows₀ : List (O
       where
         pub until : ℕ
         pub most : until ≤ bound
-        pub run : IsRunTo g π t charge rows₀ runners₀ log₀ until rows runners log
+        pub run : IsRunTo a rows₀ runners₀ log₀ until rows runners log
         pub done : (j f : ℕ) → j < i → slice_get roster.firsts.items j ≡ Some f → f < until
         pub left : (j f : ℕ) → i ≤ j → j < roster.count → slice_get roster.firsts.items j ≡ Some f → until ≤ f
 
-    pub none_run : (roster : Roster) (bound : ℕ) → IsRunTo g π t charge rows₀ runners₀ log₀ 0 rows₀
+    pub none_run : (roster : Roster) (bound : ℕ) → IsRunTo a rows₀ runners₀ log₀ 0 rows₀
         runners₀ log₀ → IsListRun roster bound 0 rows₀ runners₀ log₀
     none_run roster bound run = record {
       until = 0;
@@ -243,13 +244,13 @@ module _ (g : ThermalUnit) (π : PriceLists) (t charge : ℕ) (rows₀ : List (O
       left = λ j f from low is. omega arith;
     }
 
-    module _ (roomy₀ : AreRoomy (length π.energy) t charge runners₀) where
+    module _ (roomy₀ : AreRoomy (periods_of a) a.place a.charge runners₀) where
       run_skip : (n m : ℕ) (rows : List (Option Ended)) (runners : List Runner) (log : Reserved Logged) → n ≤ m →
           ((f : ℕ) → n ≤ f → f < m → live_at runners₀ f ≡ None) →
-          IsRunTo g π t charge rows₀ runners₀ log₀ n rows runners log →
-          IsRunTo g π t charge rows₀ runners₀ log₀ m rows runners log
+          IsRunTo a rows₀ runners₀ log₀ n rows runners log →
+          IsRunTo a rows₀ runners₀ log₀ m rows runners log
       run_skip n m rows runners log more none run = record {
-        row = row_further g π (length π.energy) (live_at runners₀) n m (suc t) _ _ _ more none run.row;
+        row = row_further a.unit a.prices (periods_of a) (live_at runners₀) n m (suc a.place) _ _ _ more none run.row;
         others = run.others;
         within = run.within;
         rows_length = run.rows_length;
@@ -281,7 +282,7 @@ module _ (g : ThermalUnit) (π : PriceLists) (t charge : ℕ) (rows₀ : List (O
           | inr from ↦ (let off = none f from low in absurd (cc))
         ];
         left = run.left;
-        trails = run.trails;
+        traces = run.traces;
         entries = (let few = run.entries in omega arith);
         log_same = run.log_same;
         keeps = run.keeps;
@@ -311,18 +312,18 @@ module _ (g : ThermalUnit) (π : PriceLists) (t charge : ℕ) (rows₀ : List (O
                     absurd contradiction
               ] refl
 
-          pub run_before : IsRunTo g π t charge rows₀ runners₀ log₀ first rows runners log
+          pub run_before : IsRunTo a rows₀ runners₀ log₀ first rows runners log
           run_before = run_skip so_far.until first rows runners log
               (so_far.left i first (omega arith) inside is) off_between
               so_far.run
 
           pub one_run : (rows' : List (Option Ended)) (runners' : List Runner) (log' : Reserved Logged) →
-              IsOneRun g π t charge first rows rows' runners runners' log log' →
+              IsOneRun a first rows rows' runners runners' log log' →
               IsListRun roster bound (i + 1) rows' runners' log'
           one_run rows' runners' log' one = record {
             until = first + 1;
             most = (let below = list.below i first inside is in omega arith);
-            run = run_more g π t charge rows₀ runners₀ log₀ first rows rows' runners runners' log log' run_before
+            run = run_more a rows₀ runners₀ log₀ first rows rows' runners runners' log log' run_before
                 one;
             done = λ j f low there. elim (cases_eq j i) [
               | inl z ↦ (let e = ap (slice_get roster.firsts.items) z in let same : f ≡ first = (cc) in omega arith)
@@ -337,7 +338,7 @@ module _ (g : ThermalUnit) (π : PriceLists) (t charge : ℕ) (rows₀ : List (O
           pub none_later : (f : ℕ) (r : Going) → live_at runners₀ f ≡ Some r → f < all.until
           none_later f r on = (let h = list.all f r on in all.done h.0 f (omega arith) h.2)
 
-          pub run_whole : IsRunTo g π t charge rows₀ runners₀ log₀ bound rows runners log
+          pub run_whole : IsRunTo a rows₀ runners₀ log₀ bound rows runners log
           run_whole = run_skip all.until bound rows runners log all.most
               (λ f from low. elim (live_at runners₀ f) as (λ o. live_at runners₀ f ≡ o → o ≡ None) [
                 | None ↦ λ e. refl

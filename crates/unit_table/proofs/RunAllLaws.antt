@@ -2,9 +2,9 @@
 use Rattle.unit_table.proofs.Common.{room_of, since}
 use Rattle.unit_table.proofs.Common.{◌≡◌, ◌≢◌, ℕ, suc, ◌+◌, ◌-◌, ◌<◌, ◌≤◌, ◌⊎◌, ℤ, inl, inr, true, get_or}
 use Rattle.unit_table.proofs.Common.{Option, Some, None, List, length, refl, sym, ap, ◌∙◌, subst, arith, slice_get}
-use Rattle.unit_table.proofs.Common.{slice_set, slice_get-get_or, slice_get_within, cases_lt, cases_eq, ThermalUnit}
-use Rattle.unit_table.proofs.Common.{PriceLists}
-use Rattle.unit_table.proofs.Common.{shown, value_of, state_of, Logged, Reserved, IsTrail, AreTrails, IsOnNoted}
+use Rattle.unit_table.proofs.Common.{slice_set, slice_get-get_or, slice_get_within, cases_lt, cases_eq}
+use Rattle.unit_table.proofs.Common.{Asked, periods_of}
+use Rattle.unit_table.proofs.Common.{shown, value_of, state_of, Logged, Reserved, IsTrace, AreTraces, IsOnNoted}
 use Rattle.unit_table.proofs.Common.{IsEntryMore, left_by, Runner, Ended, going_of, live_at, left_of, left_at}
 use Rattle.unit_table.proofs.Common.{IsRoomy, AreRoomy}
 use Rattle.unit_table.proofs.Common.{HaveRoom, row_at, cost_at, first_at, before_at, AreWithin, Going, IsGoneOn}
@@ -14,38 +14,39 @@ use Rattle.plain_lists.proofs.ListLaws.{get_set_same, get_set_other}
 use Rattle.unit_table.proofs.RowLaws.{cost-same, first-same}
 use Rattle.unit_table.proofs.RunnerRowLaws.{row_none, row_skip}
 
-module _ (g : ThermalUnit) (π : PriceLists) (t charge : ℕ) where
+module _ (a : Asked) where
   module _ (rows₀ : List (Option Ended)) (runners₀ : List Runner) (log₀ : Reserved Logged) where
     -- what those before n have changed
     pub record IsRunTo (n : ℕ) (rows : List (Option Ended)) (runners : List Runner) (log : Reserved Logged) :
         Type 0 where
-      pub row : IsRowTo g π t (live_at runners₀) n rows
-      pub others : (l : ℕ) → l ≢ suc t → row_at rows l ≡ row_at rows₀ l
+      pub row : IsRowTo a (live_at runners₀) n rows
+      pub others : (l : ℕ) → l ≢ suc a.place → row_at rows l ≡ row_at rows₀ l
       pub within : AreWithin rows
       pub rows_length : length rows ≡ length rows₀
       pub goes : (f : ℕ) (r : Going) → f < n → live_at runners₀ f ≡ Some r →
-          IsGoneOn g π t f r (live_at runners f)
+          IsGoneOn a.unit a.prices a.place f r (live_at runners f)
       pub off : (f : ℕ) → f < n → live_at runners₀ f ≡ None → live_at runners f ≡ None
       pub rest : (f : ℕ) → n ≤ f → slice_get runners f ≡ slice_get runners₀ f
       pub roomy : (f : ℕ) (r : Runner) → f < n → slice_get runners f ≡ Some r →
-          IsRoomy (length π.energy) (suc t) charge f r
-      pub ends : (v : ℤ) → cost_at rows (suc t) ≡ Some v →
-          IsEndLeft g π (first_at rows (suc t)) t
-          (since (first_at rows (suc t)) (left_at log.items runners (first_at rows (suc t))) t)
+          IsRoomy (periods_of a) (suc a.place) a.charge f r
+      pub ends : (v : ℤ) → cost_at rows (suc a.place) ≡ Some v →
+          IsEndLeft a.unit a.prices (first_at rows (suc a.place)) a.place
+          (since (first_at rows (suc a.place)) (left_at log.items runners (first_at rows (suc a.place))) a.place)
       pub noted : (f : ℕ) (r : Going) (x v : ℤ) → f < n → live_at runners₀ f ≡ Some r →
-          value_of r.function x ≡ Some v → IsOnNoted g π f t (since f (left_at log.items runners f) t).note
-      pub left : (f k : ℕ) → k ≢ t - (f - 1) → left_at log.items runners f k ≡ left_at log₀.items runners₀ f k
-      pub trails : AreTrails log.items runners
+          value_of r.function x ≡ Some v → IsOnNoted a.unit a.prices f a.place
+          (since f (left_at log.items runners f) a.place).note
+      pub left : (f k : ℕ) → k ≢ a.place - (f - 1) → left_at log.items runners f k ≡ left_at log₀.items runners₀ f k
+      pub traces : AreTraces log.items runners
       pub entries : length log.items ≤ length log₀.items + n
       pub log_same : length log.items + log.spare ≡ length log₀.items + log₀.spare
       pub keeps : (room : ℕ) → HaveRoom room runners₀ → HaveRoom room runners
       pub count_same : length runners ≡ length runners₀
 
-    pub run_begins : AreWithin rows₀ → cost_at rows₀ (suc t) ≡ None → AreTrails log₀.items runners₀ →
+    pub run_begins : AreWithin rows₀ → cost_at rows₀ (suc a.place) ≡ None → AreTraces log₀.items runners₀ →
         IsRunTo 0 rows₀ runners₀ log₀
-    run_begins within none trails = record {
-      row = row_none g π (length π.energy) (live_at runners₀) 0 (suc t) (cost_at rows₀ (suc t))
-          (first_at rows₀ (suc t)) (before_at rows₀ (suc t)) none;
+    run_begins within none traces = record {
+      row = row_none a.unit a.prices (periods_of a) (live_at runners₀) 0 (suc a.place) (cost_at rows₀ (suc a.place))
+          (first_at rows₀ (suc a.place)) (before_at rows₀ (suc a.place)) none;
       others = λ l other. refl;
       within = within;
       rows_length = refl;
@@ -56,7 +57,7 @@ module _ (g : ThermalUnit) (π : PriceLists) (t charge : ℕ) where
       ends = λ v is. cc;
       noted = λ f r x v low is. absurd (omega arith);
       left = λ f k other. refl;
-      trails = trails;
+      traces = traces;
       entries = omega arith;
       log_same = refl;
       keeps = λ room have. have;
@@ -71,7 +72,7 @@ module _ (g : ThermalUnit) (π : PriceLists) (t charge : ℕ) where
 
     pub run_more : (n : ℕ) (rows rows' : List (Option Ended)) (runners runners' : List Runner)
         (log log' : Reserved Logged) →
-        IsRunTo n rows runners log → IsOneRun g π t charge n rows rows' runners runners' log log' →
+        IsRunTo n rows runners log → IsOneRun a n rows rows' runners runners' log log' →
         IsRunTo (n + 1) rows' runners' log'
     run_more n rows rows' runners runners' log log' so_far one =
         let here : live_at runners n ≡ live_at runners₀ n = ap going_of
@@ -85,8 +86,8 @@ module _ (g : ThermalUnit) (π : PriceLists) (t charge : ℕ) where
           within = one.more.within;
           rows_length = one.more.rows_length ∙ so_far.rows_length;
           goes = λ f r low. at_last (λ (f : ℕ). live_at runners₀ f ≡ Some r →
-              IsGoneOn g π t f r (live_at runners' f)) n f low
-              (λ less is. subst (IsGoneOn g π t f r) (sym (ap going_of (same f less)))
+              IsGoneOn a.unit a.prices a.place f r (live_at runners' f)) n f low
+              (λ less is. subst (IsGoneOn a.unit a.prices a.place f r) (sym (ap going_of (same f less)))
               (so_far.goes f r less is))
               (λ is. one.goes r (here ∙ is));
           off = λ f low. at_last (λ (f : ℕ). live_at runners₀ f ≡ None →
@@ -95,34 +96,38 @@ module _ (g : ThermalUnit) (π : PriceLists) (t charge : ℕ) where
               (λ is. one.off (here ∙ is));
           rest = λ f from. one.rest f (λ z. omega arith) ∙ so_far.rest f (omega arith);
           roomy = λ f r low. at_last (λ (f : ℕ). slice_get runners' f ≡ Some r →
-              IsRoomy (length π.energy) (suc t) charge f r) n f low
+              IsRoomy (periods_of a) (suc a.place) a.charge f r) n f low
               (λ less is. so_far.roomy f r less (sym (same f less) ∙ is))
               (λ is. one.roomy r is);
           ends = λ v is. elim (one.ends) [
             | inl kept ↦
-                let was : cost_at rows (suc t) ≡ Some v = sym (cost-same rows' rows (suc t) (suc t) kept) ∙ is in
-                let first : first_at rows' (suc t) ≡ first_at rows (suc t) = first-same rows' rows (suc t) (suc t) kept
+                let was : cost_at rows (suc a.place) ≡ Some v = sym
+                (cost-same rows' rows (suc a.place) (suc a.place) kept) ∙ is in
+                let first : first_at rows' (suc a.place) ≡ first_at rows (suc a.place) = first-same rows' rows
+                (suc a.place) (suc a.place) kept
                 in
                 let before = (so_far.row.sound v was).2 in
-                let left = one.left_others (first_at rows (suc t)) (t - (first_at rows (suc t) - 1))
+                let left = one.left_others (first_at rows (suc a.place)) (a.place - (first_at rows (suc a.place) - 1))
                 (λ z. omega arith) in
-                subst (λ (f : ℕ). IsEndLeft g π f t (since f (left_at log'.items runners' f) t)) (sym first)
-                (subst (IsEndLeft g π (first_at rows (suc t)) t) (sym left) (so_far.ends v was))
-            | inr named ↦ subst (λ (f : ℕ). IsEndLeft g π f t (since f (left_at log'.items runners' f) t)) (sym named.0)
+                subst (λ (f : ℕ). IsEndLeft a.unit a.prices f a.place
+                (since f (left_at log'.items runners' f) a.place)) (sym first)
+                (subst (IsEndLeft a.unit a.prices (first_at rows (suc a.place)) a.place) (sym left) (so_far.ends v was))
+            | inr named ↦ subst (λ (f : ℕ). IsEndLeft a.unit a.prices f a.place
+                (since f (left_at log'.items runners' f) a.place)) (sym named.0)
                 named.1
           ];
           noted = λ f r x v low. at_last (λ (f : ℕ). live_at runners₀ f ≡ Some r → value_of r.function x ≡ Some v →
-              IsOnNoted g π f t (since f (left_at log'.items runners' f) t).note) n f low
-              (λ less is there. rw (one.left_others f (t - (f - 1)) (λ z. omega arith))
+              IsOnNoted a.unit a.prices f a.place (since f (left_at log'.items runners' f) a.place).note) n f low
+              (λ less is there. rw (one.left_others f (a.place - (f - 1)) (λ z. omega arith))
               (so_far.noted f r x v less is there))
               (λ is there. one.noted r x v (here ∙ is) there);
           left = λ f k other. elim (cases_eq f n) [
             | inl z ↦ ap (λ (f : ℕ). left_at log'.items runners' f k) z ∙
-                one.left k (λ y. other (y ∙ ap (λ f. t - (f - 1)) (sym z))) ∙
+                one.left k (λ y. other (y ∙ ap (λ f. a.place - (f - 1)) (sym z))) ∙
                 sym (ap (λ (f : ℕ). left_at log.items runners f k) z) ∙ so_far.left f k other
             | inr apart ↦ one.left_others f k apart ∙ so_far.left f k other
           ];
-          trails = one.trails;
+          traces = one.traces;
           entries = (let before = so_far.entries in let more = one.entries in omega arith);
           log_same = one.log_same ∙ so_far.log_same;
           keeps = λ room have. one.keeps room (so_far.keeps room have);
@@ -131,11 +136,11 @@ module _ (g : ThermalUnit) (π : PriceLists) (t charge : ℕ) where
 
     -- none begins later
     module _ (rows : List (Option Ended)) (runners : List Runner) (log : Reserved Logged)
-        (all : IsRunTo (suc (suc t)) rows runners log)
-        (none : (f : ℕ) (r : Going) → live_at runners₀ f ≡ Some r → f < suc (suc t))
-        (roomy₀ : AreRoomy (length π.energy) t charge runners₀) where
-      all_roomy : AreRoomy (length π.energy) (suc t) charge runners
-      all_roomy f r is = elim (cases_lt f (suc (suc t))) [
+        (all : IsRunTo (suc (suc a.place)) rows runners log)
+        (none : (f : ℕ) (r : Going) → live_at runners₀ f ≡ Some r → f < suc (suc a.place))
+        (roomy₀ : AreRoomy (periods_of a) a.place a.charge runners₀) where
+      all_roomy : AreRoomy (periods_of a) (suc a.place) a.charge runners
+      all_roomy f r is = elim (cases_lt f (suc (suc a.place))) [
         | inl less ↦ all.roomy f r less is
         | inr from ↦
             let before : slice_get runners₀ f ≡ Some r = sym (all.rest f from) ∙ is in
@@ -151,21 +156,21 @@ module _ (g : ThermalUnit) (π : PriceLists) (t charge : ℕ) where
             }
       ]
 
-      pub run_over : IsRunOver g π t charge rows₀ rows runners₀ runners log₀ log
+      pub run_over : IsRunOver a rows₀ rows runners₀ runners log₀ log
       run_over = record {
         row = all.row;
         others = all.others;
         within = all.within;
         rows_length = all.rows_length;
         goes = λ f r is. all.goes f r (none f r is) is;
-        off = λ f is. elim (cases_lt f (suc (suc t))) [
+        off = λ f is. elim (cases_lt f (suc (suc a.place))) [
           | inl less ↦ all.off f less is
           | inr from ↦ ap going_of (all.rest f from) ∙ is
         ];
         ends = all.ends;
         noted = λ f r x v is there. all.noted f r x v (none f r is) is there;
         left = all.left;
-        trails = all.trails;
+        traces = all.traces;
         entries = all.entries;
         log_same = all.log_same;
         roomy = all_roomy;
@@ -179,37 +184,37 @@ pub item_at : (runners : List Runner) (i : ℕ) → i < length runners → (d : 
     slice_get runners i ≡ Some (get_or runners i d)
 item_at runners i low d = slice_get-get_or runners i d low
 
-module _ (g : ThermalUnit) (π : PriceLists) (t charge : ℕ) (rows rows' : List (Option Ended)) (runners : List Runner)
-    (i : ℕ) (log : Reserved Logged) where
+module _ (a : Asked) (rows rows' : List (Option Ended)) (runners : List Runner) (i : ℕ) (log : Reserved Logged) where
   -- the runner at i is on, and goes to b
   module _ (old b : Runner) (at : slice_get runners i ≡ Some old) (on : old.is_on ≡ true) (log' : Reserved Logged) where
     here : slice_get (slice_set runners i b) i ≡ Some b
     here = get_set_same runners i b (slice_get_within runners i old at)
 
-    same_left : (k : ℕ) → left_at log'.items (slice_set runners i b) i k ≡ left_by log'.items b.trail k
+    same_left : (k : ℕ) → left_at log'.items (slice_set runners i b) i k ≡ left_by log'.items b.trace k
     same_left k = ap (λ o. left_of log'.items o k) here
 
     -- what the others left
-    others_left : AreTrails log.items runners → IsEntryMore log log' old.trail b.trail → (f k : ℕ) → f ≢ i →
+    others_left : AreTraces log.items runners → IsEntryMore log log' old.trace b.trace → (f k : ℕ) → f ≢ i →
         left_at log'.items (slice_set runners i b) f k ≡ left_at log.items runners f k
-    others_left trails entry f k other =
+    others_left traces entry f k other =
         ap (λ o. left_of log'.items o k) (get_set_other runners i f b other) ∙
         (elim (slice_get runners f) as (λ o. slice_get runners f ≡ o →
         left_of log'.items o k ≡ left_of log.items o k) [
           | None ↦ λ is. refl
-          | Some r ↦ λ is. (entry.others r.trail (trails f r is)).1 k
+          | Some r ↦ λ is. (entry.others r.trace (traces f r is)).1 k
         ] refl)
 
-    pub run_written : IsRowMore g π t i (going_of (Some old)) rows rows' →
-        ((r : Going) → going_of (Some old) ≡ Some r → IsGoneOn g π t i r (going_of (Some b))) →
-        (row_at rows' (suc t) ≡ row_at rows (suc t)) ⊎
-        ((first_at rows' (suc t) ≡ i) × IsEndLeft g π i t (since i (left_by log'.items b.trail) t)) →
+    pub run_written : IsRowMore a i (going_of (Some old)) rows rows' →
+        ((r : Going) → going_of (Some old) ≡ Some r → IsGoneOn a.unit a.prices a.place i r (going_of (Some b))) →
+        (row_at rows' (suc a.place) ≡ row_at rows (suc a.place)) ⊎
+        ((first_at rows' (suc a.place) ≡ i) × IsEndLeft a.unit a.prices i a.place
+        (since i (left_by log'.items b.trace) a.place)) →
         ((x v : ℤ) → value_of (shown old.running) x ≡ Some v →
-        IsOnNoted g π i t (since i (left_by log'.items b.trail) t).note) →
-        AreTrails log.items runners → IsEntryMore log log' old.trail b.trail → old.trail.count ≡ t - (i - 1) →
-        IsRoomy (length π.energy) (suc t) charge i b → room_of b.running ≡ room_of old.running →
-        IsOneRun g π t charge i rows rows' runners (slice_set runners i b) log log'
-    run_written more goes ends noted trails entry count roomy same =
+        IsOnNoted a.unit a.prices i a.place (since i (left_by log'.items b.trace) a.place).note) →
+        AreTraces log.items runners → IsEntryMore log log' old.trace b.trace → old.trace.count ≡ a.place - (i - 1) →
+        IsRoomy (periods_of a) (suc a.place) a.charge i b → room_of b.running ≡ room_of old.running →
+        IsOneRun a i rows rows' runners (slice_set runners i b) log log'
+    run_written more goes ends noted traces entry count roomy same =
         let live = ap going_of at in
         record {
           more = rw live more;
@@ -219,18 +224,18 @@ module _ (g : ThermalUnit) (π : PriceLists) (t charge : ℕ) (rows rows' : List
           roomy = λ r is. (let same : b ≡ r = (let h = here in cc) in rw same at roomy);
           ends = elim ends [
             | inl kept ↦ inl kept
-            | inr named ↦ inr (named.0, rw (same_left (t - (i - 1))) named.1)
+            | inr named ↦ inr (named.0, rw (same_left (a.place - (i - 1))) named.1)
           ];
           noted = λ r x v is there.
               let same_state : state_of old ≡ r = (let live = live_from runners i old at on in cc) in
-              rw (same_left (t - (i - 1)))
+              rw (same_left (a.place - (i - 1)))
               (noted x v (ap (λ (r : Going). value_of r.function x) same_state ∙ there));
           left = λ k other. same_left k ∙ entry.earlier k (λ z. other (z ∙ count)) ∙
               sym (ap (λ o. left_of log.items o k) at);
-          left_others = others_left trails entry;
-          trails =
+          left_others = others_left traces entry;
+          traces =
               each_written runners (slice_set runners i b) i b (slice_get_within runners i old at) refl
-              (λ r. IsTrail log'.items r.trail) entry.there (λ j r is. (entry.others r.trail (trails j r is)).0);
+              (λ r. IsTrace log'.items r.trace) entry.there (λ j r is. (entry.others r.trace (traces j r is)).0);
           entries = (let more = entry.entries in omega arith);
           log_same = (let more = entry.entries in let spare = entry.spare in omega arith);
           keeps = λ room have.
@@ -241,11 +246,11 @@ module _ (g : ThermalUnit) (π : PriceLists) (t charge : ℕ) (rows rows' : List
 
   -- it is off
   pub run_skipped : live_at runners i ≡ None → AreWithin rows →
-      ((r : Runner) → slice_get runners i ≡ Some r → IsRoomy (length π.energy) t charge i r) →
-      AreTrails log.items runners → IsOneRun g π t charge i rows rows runners runners log log
-  run_skipped off within roomy trails = record {
+      ((r : Runner) → slice_get runners i ≡ Some r → IsRoomy (periods_of a) a.place a.charge i r) →
+      AreTraces log.items runners → IsOneRun a i rows rows runners runners log log
+  run_skipped off within roomy traces = record {
     more = record {
-      row = λ live is row. row_skip g π (length π.energy) live i (suc t) _ _ _ row
+      row = λ live is row. row_skip a.unit a.prices (periods_of a) live i (suc a.place) _ _ _ row
           (λ r d on spell dispatch. (let none = is ∙ off in cc));
       others = λ l other. refl;
       within = within;
@@ -266,7 +271,7 @@ module _ (g : ThermalUnit) (π : PriceLists) (t charge : ℕ) (rows rows' : List
     noted = λ r x v is. absurd (cc);
     left = λ k other. refl;
     left_others = λ f k other. refl;
-    trails = trails;
+    traces = traces;
     entries = omega arith;
     log_same = refl;
     keeps = λ room have. have;

@@ -8,7 +8,7 @@ use Rattle.slope_list.specs.Slopes.{shown, count_of, room_of}
 use Rattle.uc_model.specs.Data.{ThermalUnit, PriceLists}
 use Rattle.spell_run.specs.declared.notes.Logged.{Logged}
 use Rattle.spell_run.specs.declared.notes.Passed.{Passed}
-use Rattle.spell_run.specs.Logs.{left_by, IsTrail}
+use Rattle.spell_run.specs.Logs.{left_by, IsTrace}
 use Rattle.spell_run.specs.Notes.{passed_at}
 use Rattle.unit_table.specs.declared.runner.Runner.{Runner}
 use Rattle.unit_rows.specs.declared.table.Ended.{Ended}
@@ -32,7 +32,7 @@ live_at runners first = going_of (slice_get runners first)
 
 abbrev pub left_of : List Logged → Option Runner → ℕ → Passed
 left_of log None k = passed_at [] k
-left_of log (Some r) k = left_by log r.trail k
+left_of log (Some r) k = left_by log r.trace k
 
 -- what the runner that begins with `first` left of each period from there on, whether it is on or
 -- not
@@ -40,9 +40,9 @@ abbrev pub left_at : List Logged → List Runner → ℕ → ℕ → Passed
 left_at log runners first = left_of log (slice_get runners first)
 
 -- the log has what each runner left
-abbrev pub AreTrails : List Logged → List Runner → Type 0
-AreTrails log runners =
-    (first : ℕ) (r : Runner) → slice_get runners first ≡ Some r → IsTrail log r.trail
+abbrev pub AreTraces : List Logged → List Runner → Type 0
+AreTraces log runners =
+    (first : ℕ) (r : Runner) → slice_get runners first ≡ Some r → IsTrace log r.trace
 
 -- a runner has room for all periods, and for those after period t where it is on; each asks for as
 -- many pieces as `charge`. Where it is on, it left what it did of each period up to t, and nothing
@@ -50,8 +50,8 @@ AreTrails log runners =
 pub record IsRoomy (periods t charge first : ℕ) (r : Runner) : Type 0 where
   pub whole : periods * charge ≤ room_of r.running
   pub rest : IsTrue r.is_on → count_of r.running + (periods - t) * charge ≤ room_of r.running
-  pub count : IsTrue r.is_on → r.trail.count ≡ t - (first - 1)
-  pub none : t ≤ first - 1 → r.trail.count ≡ 0
+  pub count : IsTrue r.is_on → r.trace.count ≡ t - (first - 1)
+  pub none : t ≤ first - 1 → r.trace.count ≡ 0
 
 abbrev pub AreRoomy : ℕ → ℕ → ℕ → List Runner → Type 0
 AreRoomy periods t charge runners =

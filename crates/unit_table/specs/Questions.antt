@@ -4,6 +4,7 @@ use Rattle.plain_lists.specs.Sums.{int_at}
 use Rattle.uc_model.specs.Data.{ThermalUnit, PriceLists}
 use Rattle.uc_model.specs.PlainUnits.{thermal_of, prices_of}
 use Rattle.unit_table.specs.declared.question.Question.{Question}
+use Rattle.unit_table.specs.declared.question.Period.{Period}
 
 abbrev pub unit_of : Question → ThermalUnit
 unit_of q = thermal_of q.unit.now
@@ -21,3 +22,27 @@ charge_of q = length q.curve.now.blocks.items + 3
 -- what all up to a period may cost
 abbrev pub limits_in : Question → ℕ → ℤ
 limits_in q = int_at q.limits.now.items
+
+-- what is asked at a place of the horizon: of which unit, at which prices, within which limits, and
+-- with how many pieces more for a period
+pub record Asked : Type 0 where
+  pub unit : ThermalUnit
+  pub prices : PriceLists
+  pub limits : ℕ → ℤ
+  pub charge : ℕ
+  pub place : ℕ
+
+abbrev pub periods_of : Asked → ℕ
+periods_of a = length a.prices.energy
+
+abbrev pub asked_at : Question → ℕ → Asked
+asked_at q t = record {
+  unit = unit_of q;
+  prices = prices_in q;
+  limits = limits_in q;
+  charge = charge_of q;
+  place = t;
+}
+
+abbrev pub asked : Period → Asked
+asked p = asked_at p.question.now p.place

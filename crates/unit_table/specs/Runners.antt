@@ -102,10 +102,10 @@ pub record IsGoneOn (g : ThermalUnit) (π : PriceLists) (t first : ℕ) (r : Goi
 abbrev pub IsEndLeft : ThermalUnit → PriceLists → ℕ → ℕ → Passed → Type 0
 IsEndLeft g π first k p = (e : Lowest) × (p.end ≡ Some e) × IsEndNoted g π first k p.note e
 
--- each row up to period t names a spell that left what the way back needs
-abbrev pub HaveWays : ThermalUnit → PriceLists → ℕ → (ℕ → Option ℤ) → (ℕ → ℕ) → (ℕ → ℕ → Passed) →
+-- each row up to period t names a spell that left what backtracking needs
+abbrev pub CanBacktrack : ThermalUnit → PriceLists → ℕ → (ℕ → Option ℤ) → (ℕ → ℕ) → (ℕ → ℕ → Passed) →
     Type 0
-HaveWays g π t ends firsts left =
+CanBacktrack g π t ends firsts left =
     (l : ℕ) (v : ℤ) → 1 ≤ l → l ≤ t → ends l ≡ Some v →
     (firsts l ≤ l) × IsSpellNoted g π (firsts l) l (since (firsts l) (left (firsts l)))
 

@@ -2,7 +2,7 @@
 //!
 //! The spells of all first periods go forward together, each as a convex function of its power at
 //! the end of a period, until another one stands for all that it may become, or until it costs more
-//! than a limit. Each leaves of its periods what the way back from a row needs.
+//! than a limit. Each leaves of its periods what backtracking from a row needs.
 #![tactic(auto)]
 
 pub mod laws;

@@ -13,21 +13,22 @@ ghost use Rattle.uc_model.specs.PlainUnits.{thermal_of};
 ghost use Rattle.uc_model.specs.declared.limits.TheConstants.{MOST_PERIODS};
 ghost use Rattle.unit_rows.specs.Limits.{AreLimits};
 ghost use Rattle.unit_table.specs.Limits.{IsFilledWithin};
-ghost use Rattle.unit_table.specs.Live.{live_at, left_at, AreTrails, AreRoomy, AreSmall, HaveRoom};
+ghost use Rattle.unit_table.specs.Live.{live_at, left_at, AreTraces, AreRoomy, AreSmall, HaveRoom};
 ghost use Rattle.unit_table.specs.Live.{IsFilledTo};
 ghost use Rattle.unit_table.specs.Questions.{unit_of, prices_in, periods_in, charge_of};
-ghost use Rattle.unit_table.specs.Questions.{limits_in};
+ghost use Rattle.unit_table.specs.Questions.{limits_in, asked, asked_at, periods_of};
 ghost use Rattle.unit_table.specs.Taken.{AreKept, IsSweptTo, AreLonger, AreAsLong};
 ghost use Rattle.unit_rows.specs.Origins.{AreInOrder, AreOrigins, AreOriginsWithin};
 ghost use Rattle.unit_table.specs.Rosters.{IsRoster};
 ghost use Rattle.unit_rows.specs.Rows.{row_at, cost_at, first_at, IsWithinTimes};
-ghost use Rattle.unit_table.specs.Runners.{AreRunners, HaveWays};
+ghost use Rattle.unit_table.specs.Runners.{AreRunners, CanBacktrack};
 ghost use Rattle.unit_rows.specs.Ends.{IsLeastEntry};
 
 use crate::question::{Period, Question};
 use crate::roster::Roster;
 use crate::runner::{
-    Runner, begin_at, drop_beyond, forget_all, is_less, is_undercut, prune, run_all, stop_all,
+    Runner, begin_at, drop_beyond, forget_all, is_less, is_undercut, prune_runners, run_runners,
+    stop_all,
 };
 use crate::shared::Shared;
 use spell_run::Log;
@@ -77,7 +78,7 @@ fn start_after(
 
 // Begins the runner of the period after the one at a place, if a spell may begin there within the
 // limit and no runner undercuts it.
-fn start(
+fn start_runner(
     unit: &Unit,
     place: u32,
     limit: i64,
@@ -123,22 +124,17 @@ fn take_period(
     table: &mut Table,
     shared: &mut Shared,
 )
-    requires long { AreLonger (periods_in period.now.question.now) table.old.items runners.old roster.old
+    requires long { AreLonger (periods_of (asked period.now)) table.old.items runners.old roster.old
         origins.now shared.old.log }
     requires have { HaveRoom (space_of shared.old.spare) runners.old }
-    requires limits { (most : ℤ)
-        × AreLimits (unit_of period.now.question.now) (prices_in period.now.question.now) most
-        (limits_in period.now.question.now) }
-    requires now { IsSweptTo (unit_of period.now.question.now) (prices_in period.now.question.now)
-        (limits_in period.now.question.now) period.now.place (charge_of period.now.question.now)
-        table.old.items runners.old
-        roster.old shared.old.log.items }
-    requires origins { AreOrigins (unit_of period.now.question.now) (cost_at table.old.items)
-        period.now.place origins.now }
-    ensures now { IsSweptTo (unit_of period.now.question.now) (prices_in period.now.question.now)
-        (limits_in period.now.question.now) (suc period.now.place) (charge_of period.now.question.now)
-        table.new.items runners.new
-        roster.new shared.new.log.items }
+    requires limits { (most : ℤ) × AreLimits (asked period.now).unit (asked period.now).prices most
+        (asked period.now).limits }
+    requires now { IsSweptTo (asked period.now) table.old.items runners.old roster.old
+        shared.old.log.items }
+    requires origins { AreOrigins (asked period.now).unit (cost_at table.old.items) period.now.place
+        origins.now }
+    ensures now { IsSweptTo (asked_at period.now.question.now (suc period.now.place))
+        table.new.items runners.new roster.new shared.new.log.items }
     ensures others { (l : ℕ) → l ≢ suc period.now.place → row_at table.new.items l ≡ row_at table.old.items l }
     ensures spare { space_of shared.new.spare ≡ space_of shared.old.spare }
     ensures same { AreAsLong table.old.items table.new.items runners.old runners.new
@@ -155,8 +151,8 @@ fn take_period(
     dispatches_go_on();
     dispatches_are_runs();
     let limit = *question.limits.get(place as usize);
-    start(question.unit, place, limit, origins, roster, runners);
-    run_all(
+    start_runner(question.unit, place, limit, origins, roster, runners);
+    run_runners(
         period,
         roster,
         runners,
@@ -170,7 +166,7 @@ fn take_period(
         roster,
         runners,
     );
-    prune(question.unit, place + 1, roster, runners);
+    prune_runners(question.unit, place + 1, roster, runners);
     roster.keep(runners);
 }
 
@@ -208,7 +204,7 @@ fn begin_all(
         (live_at runners.new) }
     ensures room { (room periods charge : ℕ) → periods * charge ≤ room
         → HaveRoom room runners.old → AreRoomy periods 0 charge runners.new }
-    ensures trails { AreTrails log.new.items runners.new }
+    ensures traces { AreTraces log.new.items runners.new }
     ensures log { log.new.items ≡ [] }
     ensures roster { IsRoster (live_at runners.new) 1 roster.new }
     ensures same { AreAsLong table.old.items table.new.items runners.old runners.new
@@ -225,7 +221,7 @@ fn begin_all(
 /// amount; the other rows are open. There are at least T + 1 runners, each with room for as many
 /// pieces as `shared`, T (B + 3) at least where the curve has B blocks; `origins`, `roster` and the
 /// log of `shared` have room for T periods, and `table` has at least T + 1 rows. Leaves in the log
-/// what the way back from each row needs. Takes no memory.
+/// what backtracking from each row needs. Takes no memory.
 pub fn fill_by_periods(
     question: &Question,
     origins: &mut Origins,
@@ -244,10 +240,10 @@ pub fn fill_by_periods(
     ensures filled { (most : ℤ)
         → AreLimits (unit_of question.now) (prices_in question.now) most (limits_in question.now)
         → IsFilledWithin (unit_of question.now) (prices_in question.now) most table.new.items }
-    ensures ways { HaveWays (unit_of question.now) (prices_in question.now)
+    ensures backtracks { CanBacktrack (unit_of question.now) (prices_in question.now)
         (periods_in question.now) (cost_at table.new.items) (first_at table.new.items)
         (left_at shared.new.log.items runners.new) }
-    ensures trails { AreTrails shared.new.log.items runners.new }
+    ensures traces { AreTraces shared.new.log.items runners.new }
     ensures spare { space_of shared.new.spare ≡ space_of shared.old.spare }
     ensures same { AreAsLong table.old.items table.new.items runners.old runners.new
         roster.old roster.new shared.old.log shared.new.log }

@@ -15,7 +15,7 @@ pub struct Roster {
     pub count: u32,
 }
 
-// Written out, so that a drop of it is a call, and not one for each list.
+// By hand, so that dropping it is one call.
 impl Drop for Roster {
     fn drop(self) {
         let Roster {

@@ -7,7 +7,7 @@ ghost use Rattle.std.specs.Bool.{OnTrue};
 ghost use Rattle.slope_list.specs.Table.{Table, value_of, IsEmpty};
 ghost use Rattle.slope_list.specs.Slopes.{shown, count_of, room_of, space_of, MayGrow, IsGrown};
 ghost use Rattle.spell_run.specs.Frontier.{IsFrontier};
-ghost use Rattle.spell_run.specs.Logs.{left_by, IsTrail};
+ghost use Rattle.spell_run.specs.Logs.{left_by, IsTrace};
 ghost use Rattle.spell_run.specs.Notes.{IsOnNoted, IsEndNoted, end_cost};
 ghost use Rattle.spell_run.specs.Spells.{IsSpellAnswer, IsSpellWithin};
 ghost use Rattle.uc_model.specs.declared.units.Mark.TheVariants.{MustOff};
@@ -17,7 +17,7 @@ ghost use Rattle.uc_model.specs.Schedules.{mark_in};
 ghost use Rattle.uc_model.specs.declared.limits.TheConstants.{MOST_PERIODS};
 ghost use Rattle.unit_table.specs.Live.{state_of, going_of, live_at, IsRoomy, AreRoomy};
 ghost use Rattle.unit_table.specs.Live.{AreSmall, IsUnder, IsBeyond, IsBelow, HaveRoom};
-ghost use Rattle.unit_table.specs.Questions.{unit_of, prices_in, periods_in, charge_of};
+ghost use Rattle.unit_table.specs.Questions.{asked, periods_of};
 ghost use Rattle.unit_table.specs.Rosters.{IsRoster};
 ghost use Rattle.unit_rows.specs.Rows.{row_at, cost_at, first_at, IsWithinTimes};
 ghost use Rattle.unit_rows.specs.Rows.{AreWithin};
@@ -31,8 +31,8 @@ ghost use Rattle.unit_table.specs.Taken.{IsRunOver};
 use crate::question::Period;
 use crate::roster::Roster;
 use slope_list::{Lowest, Slopes, Spare};
-use spell_run::notes::leave;
-use spell_run::{Log, Passage, Passed, Trail, begin, end_and_run, run_over};
+use spell_run::notes::leave_entry;
+use spell_run::{Log, Passage, Passed, Trace, begin_spell, end_and_run, run_over};
 use uc_model::units::Unit;
 use unit_rows::commitment::{is_long_enough, may_end};
 use unit_rows::table::{Entry, Table, put_end, sum_of};
@@ -48,10 +48,10 @@ pub struct Runner {
     /// The least net costs by the power at the end of a period.
     pub running: Slopes,
     /// What it left in the log of the periods that it was taken over, whether it is on or not.
-    pub trail: Trail,
+    pub trace: Trace,
 }
 
-// Written out, so that a drop of it is a call, and not one for each list.
+// By hand, so that dropping it is one call.
 impl Drop for Runner {
     fn drop(self) {
         let Runner {
@@ -59,7 +59,7 @@ impl Drop for Runner {
             cost: _,
             before: _,
             running: _,
-            trail: _,
+            trace: _,
         } = self;
     }
 }
@@ -73,19 +73,19 @@ fn begin_runner(unit: &Unit, first: u32, entry: &Entry, runner: &mut Runner)
         → IsFrontier (thermal_of unit.now) π first (first - 1) (shown runner.new.running) }
     ensures count { count_of runner.new.running ≡ 0 }
     ensures room { room_of runner.new.running ≡ room_of runner.old.running }
-    ensures trail { runner.new.trail ≡ runner.old.trail }
+    ensures trace { runner.new.trace ≡ runner.old.trace }
 {
     runner.is_on = true;
     runner.cost = entry.cost;
     runner.before = entry.last;
-    begin(unit, first, &mut runner.running);
+    begin_spell(unit, first, &mut runner.running);
 }
 
 /// Stops a runner.
-fn stop(runner: &mut Runner)
+fn stop_runner(runner: &mut Runner)
     ensures off { runner.new.is_on ≡ false }
     ensures running { runner.new.running ≡ runner.old.running }
-    ensures trail { runner.new.trail ≡ runner.old.trail }
+    ensures trace { runner.new.trace ≡ runner.old.trace }
 {
     runner.is_on = false;
 }
@@ -141,34 +141,34 @@ fn stop_at(runners: &mut [Runner], place: usize)
     ensures fewer { AreFewer (live_at runners.old) (live_at runners.new) }
     ensures kept { AreKept runners.old runners.new }
 {
-    stop(&mut runners[place]);
+    stop_runner(&mut runners[place]);
 }
 
 // Stops a runner, and forgets what it left.
-fn forget(runner: &mut Runner)
+fn forget_runner(runner: &mut Runner)
     ensures off { runner.new.is_on ≡ false }
     ensures running { runner.new.running ≡ runner.old.running }
-    ensures trail { runner.new.trail.count ≡ 0 }
+    ensures trace { runner.new.trace.count ≡ 0 }
 {
-    stop(runner);
-    runner.trail = Trail::none();
+    stop_runner(runner);
+    runner.trace = Trace::none();
 }
 
 // Stops the runner at a place, and forgets what it left.
 fn forget_at(runners: &mut [Runner], place: usize)
     requires { place < length runners.old }
     ensures off { live_at runners.new place ≡ None }
-    ensures none { (r : Runner) → slice_get runners.new place ≡ Some r → r.trail.count ≡ 0 }
+    ensures none { (r : Runner) → slice_get runners.new place ≡ Some r → r.trace.count ≡ 0 }
     ensures others { (f : ℕ) → f ≢ place → slice_get runners.new f ≡ slice_get runners.old f }
     ensures rooms { HaveSameRooms runners.old runners.new }
 {
-    forget(&mut runners[place]);
+    forget_runner(&mut runners[place]);
 }
 
 /// Stops all runners, and forgets what they left.
 pub fn forget_all(runners: &mut [Runner])
     ensures off { (first : ℕ) → live_at runners.new first ≡ None }
-    ensures none { (first : ℕ) (r : Runner) → slice_get runners.new first ≡ Some r → r.trail.count ≡ 0 }
+    ensures none { (first : ℕ) (r : Runner) → slice_get runners.new first ≡ Some r → r.trace.count ≡ 0 }
     ensures rooms { HaveSameRooms runners.old runners.new }
 {
     for place in 0..runners.len() {
@@ -209,7 +209,7 @@ pub(crate) fn is_less(a: i64, b: i64) -> bool
 }
 
 // Whether a runner that is on is at a power, its first, for less than a cost.
-fn undercuts(runner: &Runner, power: i64, cost: i64) -> bool
+fn undercuts_start(runner: &Runner, power: i64, cost: i64) -> bool
     requires bound { IsWithinTimes 400 runner.now.cost }
     requires values { (x v : ℤ) → value_of (shown runner.now.running) x ≡ Some v
         → IsWithinTimes 400 v }
@@ -233,7 +233,7 @@ fn undercuts_from(runners: &[Runner], first: u32, power: i64, cost: i64) -> bool
     if !runner.is_on {
         return false;
     }
-    undercuts(runner, power, cost)
+    undercuts_start(runner, power, cost)
 }
 
 /// Whether one of the runners of a roster is at a power, its first, for less than a cost.
@@ -251,36 +251,29 @@ pub fn is_undercut(runners: &[Runner], roster: &Roster, power: i64, cost: i64) -
     false
 }
 
-// Takes a runner over the period at a place, and answers what is left for the way back, with the
+// Takes a runner over the period at a place, and answers what is left for backtracking, with the
 // least net cost of the spells that end with the period, where the unit may stop after it.
 fn run_one(period: &Period, first: u32, running: &mut Slopes, spare: &mut Spare) -> Passed
     requires order { first ≤ suc period.now.place }
-    requires frontier { IsFrontier (unit_of period.now.question.now) (prices_in period.now.question.now)
-        first period.now.place
-        (shown running.old) }
-    requires room { MayGrow (charge_of period.now.question.now) running.old spare.old }
-    ensures answer { (suc period.now.place < periods_in period.now.question.now
-        → (unit_of period.now.question.now).min_up ≤ on_time (unit_of period.now.question.now) first
-        (suc period.now.place)) →
-        IsSpellAnswer (unit_of period.now.question.now) (prices_in period.now.question.now) (periods_in
-        period.now.question.now)
-        first
-        (suc period.now.place) (end_cost result.end) }
-    ensures may { IfSome result.end (λ _. suc period.now.place < periods_in period.now.question.now
-        → (unit_of period.now.question.now).min_up ≤ on_time (unit_of period.now.question.now) first
+    requires frontier { IsFrontier (asked period.now).unit (asked period.now).prices first
+        period.now.place (shown running.old) }
+    requires room { MayGrow (asked period.now).charge running.old spare.old }
+    ensures answer { (suc period.now.place < periods_of (asked period.now) →
+        (asked period.now).unit.min_up ≤ on_time (asked period.now).unit first
+        (suc period.now.place)) → IsSpellAnswer (asked period.now).unit (asked period.now).prices
+        (periods_of (asked period.now)) first (suc period.now.place) (end_cost result.end) }
+    ensures may { IfSome result.end (λ _. suc period.now.place < periods_of (asked period.now) →
+        (asked period.now).unit.min_up ≤ on_time (asked period.now).unit first
         (suc period.now.place)) }
     ensures within { IfSome result.end (λ e. IsSpellWithin first (suc period.now.place) e.value) }
-    ensures ended { IfSome result.end
-        (IsEndNoted (unit_of period.now.question.now) (prices_in period.now.question.now) first
-        period.now.place result.note) }
+    ensures ended { IfSome result.end (IsEndNoted (asked period.now).unit (asked period.now).prices
+        first period.now.place result.note) }
     ensures noted { (x v : ℤ) → value_of (shown running.old) x ≡ Some v
-        → IsOnNoted (unit_of period.now.question.now) (prices_in period.now.question.now) first
-        period.now.place result.note }
-    ensures frontier { IsFrontier (unit_of period.now.question.now) (prices_in period.now.question.now)
-        first (suc period.now.place)
-        (shown running.new) }
-    ensures grown { IsGrown (charge_of period.now.question.now) running.old running.new spare.old
-        spare.new }
+        → IsOnNoted (asked period.now).unit (asked period.now).prices first period.now.place
+        result.note }
+    ensures frontier { IsFrontier (asked period.now).unit (asked period.now).prices first
+        (suc period.now.place) (shown running.new) }
+    ensures grown { IsGrown (asked period.now).charge running.old running.new spare.old spare.new }
 {
     let question = period.question;
     let place = period.place;
@@ -310,20 +303,20 @@ fn cost_of(end: Option<Lowest>) -> Option<i64>
 }
 
 // Stops a runner where no run is left.
-fn retire(runner: &mut Runner)
+fn stop_if_ended(runner: &mut Runner)
     requires { runner.old.is_on ≡ true }
     ensures running { runner.new.running ≡ runner.old.running }
-    ensures trail { runner.new.trail ≡ runner.old.trail }
+    ensures trace { runner.new.trace ≡ runner.old.trace }
     ensures next { (going_of (Some runner.new) ≡ going_of (Some runner.old))
         ⊎ ((going_of (Some runner.new) ≡ None)
         × IsEmpty (shown runner.old.running)) }
 {
     if runner.running.is_empty() {
-        stop(runner);
+        stop_runner(runner);
     }
 }
 
-// Takes a runner that is on over the period at a place, leaves in the log what its way back needs,
+// Takes a runner that is on over the period at a place, leaves in the log what its backtracking needs,
 // and puts the spells that end with the period into the table.
 fn take_runner(
     period: &Period,
@@ -334,37 +327,31 @@ fn take_runner(
     log: &mut Log,
 )
     requires on { runner.old.is_on ≡ true }
-    requires ready { IsReady (unit_of period.now.question.now) (prices_in period.now.question.now)
-        period.now.place first
-        (state_of runner.old) }
-    requires room { IsRoomy (periods_in period.now.question.now) period.now.place
-        (charge_of period.now.question.now)
-        first runner.old }
+    requires ready { IsReady (asked period.now) first (state_of runner.old) }
+    requires room { IsRoomy (periods_of (asked period.now)) period.now.place
+        (asked period.now).charge first runner.old }
     requires alike { space_of spare.old ≡ room_of runner.old.running }
-    requires rows { periods_in period.now.question.now < length table.old.items }
+    requires rows { periods_of (asked period.now) < length table.old.items }
     requires within { AreWithin table.old.items }
-    requires trail { IsTrail log.old.items runner.old.trail }
+    requires trace { IsTrace log.old.items runner.old.trace }
     requires entry { 1 ≤ log.old.spare }
     requires small_log { length log.old.items < 2 ^ 32 }
-    ensures more { IsRowMore (unit_of period.now.question.now) (prices_in period.now.question.now)
-        period.now.place first
-        (going_of (Some runner.old)) table.old.items table.new.items }
+    ensures more { IsRowMore (asked period.now) first (going_of (Some runner.old)) table.old.items
+        table.new.items }
     ensures goes { (r : Going) → going_of (Some runner.old) ≡ Some r
-        → IsGoneOn (unit_of period.now.question.now) (prices_in period.now.question.now) period.now.place first r
+        → IsGoneOn (asked period.now).unit (asked period.now).prices period.now.place first r
         (going_of (Some runner.new)) }
-    ensures ends { (row_at table.new.items (suc period.now.place) ≡ row_at table.old.items (suc
-        period.now.place)) ⊎
-        ((first_at table.new.items (suc period.now.place) ≡ first)
-        × IsEndLeft (unit_of period.now.question.now) (prices_in period.now.question.now) first period.now.place
-        (since first (left_by log.new.items runner.new.trail) period.now.place)) }
+    ensures ends { (row_at table.new.items (suc period.now.place)
+        ≡ row_at table.old.items (suc period.now.place))
+        ⊎ ((first_at table.new.items (suc period.now.place) ≡ first)
+        × IsEndLeft (asked period.now).unit (asked period.now).prices first period.now.place (since
+        first (left_by log.new.items runner.new.trace) period.now.place)) }
     ensures noted { (x v : ℤ) → value_of (shown runner.old.running) x ≡ Some v
-        → IsOnNoted (unit_of period.now.question.now) (prices_in period.now.question.now) first
-        period.now.place
-        (since first (left_by log.new.items runner.new.trail) period.now.place).note }
-    ensures entry { IsEntryMore log.old log.new runner.old.trail runner.new.trail }
-    ensures room { IsRoomy (periods_in period.now.question.now) (suc period.now.place)
-        (charge_of period.now.question.now)
-        first runner.new }
+        → IsOnNoted (asked period.now).unit (asked period.now).prices first period.now.place (since
+        first (left_by log.new.items runner.new.trace) period.now.place).note }
+    ensures entry { IsEntryMore log.old log.new runner.old.trace runner.new.trace }
+    ensures room { IsRoomy (periods_of (asked period.now)) (suc period.now.place)
+        (asked period.now).charge first runner.new }
     ensures same { room_of runner.new.running ≡ room_of runner.old.running }
     ensures spare { space_of spare.new ≡ space_of spare.old }
 {
@@ -374,9 +361,9 @@ fn take_runner(
     };
     let passed = run_one(period, first, &mut runner.running, spare);
     let place = period.place;
-    runner.trail = leave(log, runner.trail, passed);
+    runner.trace = leave_entry(log, runner.trace, passed);
     put_end(table, place + 1, first, &entry, cost_of(passed.end));
-    retire(runner);
+    stop_if_ended(runner);
 }
 
 // Takes the runner that begins with a period over the period at a place, if it is on.
@@ -390,18 +377,16 @@ fn run_at(
 )
     requires runners { first < length runners.old }
     requires ready { (r : Going) → live_at runners.old first ≡ Some r
-        → IsReady (unit_of period.now.question.now) (prices_in period.now.question.now) period.now.place first r }
+        → IsReady (asked period.now) first r }
     requires room { (r : Runner) → slice_get runners.old first ≡ Some r
-        → IsRoomy (periods_in period.now.question.now) period.now.place (charge_of period.now.question.now)
-        first r }
+        → IsRoomy (periods_of (asked period.now)) period.now.place (asked period.now).charge first r }
     requires alike { (r : Runner) → slice_get runners.old first ≡ Some r
         → space_of spare.old ≡ room_of r.running }
-    requires rows { periods_in period.now.question.now < length table.old.items }
+    requires rows { periods_of (asked period.now) < length table.old.items }
     requires within { AreWithin table.old.items }
     requires log { IsLogFor 1 log.old runners.old }
-    ensures run { IsOneRun (unit_of period.now.question.now) (prices_in period.now.question.now) period.now.place
-        (charge_of period.now.question.now) first table.old.items table.new.items runners.old runners.new
-        log.old log.new }
+    ensures run { IsOneRun (asked period.now) first table.old.items table.new.items runners.old
+        runners.new log.old log.new }
     ensures spare { space_of spare.new ≡ space_of spare.old }
 {
     if runner_at(runners, first).is_on {
@@ -418,7 +403,7 @@ fn run_at(
 
 /// Takes all runners that begin up to the period at a place over it, and fills its row. The roster
 /// has all that are on.
-pub fn run_all(
+pub fn run_runners(
     period: &Period,
     roster: &Roster,
     runners: &mut [Runner],
@@ -426,24 +411,21 @@ pub fn run_all(
     spare: &mut Spare,
     log: &mut Log,
 )
-    requires open { mark_in (unit_of period.now.question.now).window (suc period.now.place) ≡ MustOff → ⊥ }
-    requires runners { periods_in period.now.question.now < length runners.old }
-    requires now { (limits : ℕ → ℤ)
-        × AreRunners (unit_of period.now.question.now) (prices_in period.now.question.now) limits
-        (cost_at table.old.items)
-        (live_at runners.old) period.now.place (suc (suc period.now.place)) }
+    requires open { mark_in (asked period.now).unit.window (suc period.now.place) ≡ MustOff → ⊥ }
+    requires runners { periods_of (asked period.now) < length runners.old }
+    requires now { (limits : ℕ → ℤ) × AreRunners (asked period.now).unit (asked period.now).prices
+        limits (cost_at table.old.items) (live_at runners.old) period.now.place (suc
+        (suc period.now.place)) }
     requires roster { IsRoster (live_at runners.old) (suc (suc period.now.place)) roster.now }
-    requires room { AreRoomy (periods_in period.now.question.now) period.now.place
-        (charge_of period.now.question.now)
-        runners.old }
+    requires room { AreRoomy (periods_of (asked period.now)) period.now.place
+        (asked period.now).charge runners.old }
     requires have { HaveRoom (space_of spare.old) runners.old }
     requires log { IsLogFor (suc (suc period.now.place)) log.old runners.old }
-    requires rows { periods_in period.now.question.now < length table.old.items }
+    requires rows { periods_of (asked period.now) < length table.old.items }
     requires within { AreWithin table.old.items }
     requires none { cost_at table.old.items (suc period.now.place) ≡ None }
-    ensures run { IsRunOver (unit_of period.now.question.now) (prices_in period.now.question.now) period.now.place
-        (charge_of period.now.question.now) table.old.items table.new.items runners.old runners.new
-        log.old log.new }
+    ensures run { IsRunOver (asked period.now) table.old.items table.new.items runners.old
+        runners.new log.old log.new }
     ensures spare { space_of spare.new ≡ space_of spare.old }
 {
     for index in 0..roster.count {
@@ -453,7 +435,7 @@ pub fn run_all(
 }
 
 // The difference of two costs within bounds.
-fn difference(a: i64, b: i64) -> i64
+fn cost_difference(a: i64, b: i64) -> i64
     requires a { IsWithinTimes 400 a }
     requires b { IsWithinTimes 400 b }
     ensures value { result ≡ a -ℤ b }
@@ -464,7 +446,7 @@ fn difference(a: i64, b: i64) -> i64
 
 // Whether a later runner may stop in each period after the next as an earlier one may, and is
 // nowhere above it.
-fn goes(unit: &Unit, period: u32, first: u32, late: &Runner, early: &Runner) -> bool
+fn is_dominated(unit: &Unit, period: u32, first: u32, late: &Runner, early: &Runner) -> bool
     requires small { period ≤ MOST_PERIODS }
     requires order { first ≤ period }
     requires late { IsWithinTimes 400 late.now.cost }
@@ -478,7 +460,7 @@ fn goes(unit: &Unit, period: u32, first: u32, late: &Runner, early: &Runner) -> 
     is_long_enough(unit, first, period + 1)
         && late
             .running
-            .is_below(&early.running, difference(late.cost, early.cost))
+            .is_below(&early.running, cost_difference(late.cost, early.cost))
 }
 
 // Stops a runner where a later one stands for it, and answers the earliest one that is on then.
@@ -508,7 +490,7 @@ fn prune_one(
         return late;
     }
     if let Some(first) = late {
-        if goes(unit, period, first, runner_at(runners, first), runner) {
+        if is_dominated(unit, period, first, runner_at(runners, first), runner) {
             stop_at(runners, early as usize);
             return Some(first);
         }
@@ -518,7 +500,7 @@ fn prune_one(
 
 /// Stops each runner that a later one stands for at the end of a period. The roster has all that
 /// are on.
-pub fn prune(unit: &Unit, period: u32, roster: &Roster, runners: &mut [Runner])
+pub fn prune_runners(unit: &Unit, period: u32, roster: &Roster, runners: &mut [Runner])
     requires periods { period ≤ MOST_PERIODS }
     requires end { period < length runners.old }
     requires small { AreSmall (live_at runners.old) }

@@ -12,11 +12,11 @@ use std::alloc::{AllocError, Global};
 pub struct Shared {
     /// Room for the next step of one of them.
     pub spare: Spare,
-    /// What they leave for the way back.
+    /// What they leave for backtracking.
     pub log: Log,
 }
 
-// Written out, so that a drop of it is a call, and not one for each list.
+// By hand, so that dropping it is one call.
 impl Drop for Shared {
     fn drop(self) {
         let Shared { spare: _, log: _ } = self;

@@ -9,12 +9,12 @@ ghost use Rattle.uc_model.specs.PlainUnits.{schedule_of};
 ghost use Rattle.uc_model.specs.PriceRule.{chosen_number};
 ghost use Rattle.board_core.specs.Boards.{kept_answer};
 ghost use Rattle.board_core.specs.Setups.{IsSetup, setup_of};
-ghost use Rattle.board_core.specs.Stored.{answer_of};
+ghost use Rattle.board_store.specs.Answers.{answer_of};
 
 use super::Board;
 use crate::terms::Terms;
 use board_store::entries::Entry;
-use price_space::greatest;
+use price_space::greatest_row;
 use std::marker::Model;
 use uc_model::cases::{Case, Plan, Row};
 use uc_model::units::Answered;
@@ -111,7 +111,7 @@ impl Closed {
         requires { 1 ≤ length (own_rows self.now) }
         ensures { result ≡ chosen_number (own_rows self.now) }
     {
-        greatest(self.board.rows()) as u32 + 1
+        greatest_row(self.board.rows()) as u32 + 1
     }
 
     /// What the answer kept for a unit earns at the prices of a row, in money. Rows count from 1,

@@ -1,23 +1,31 @@
 use Rattle.hull_engine.proofs.Common.{◌≡◌, subst, texts, words_of, command_for, planned_run, rest_of, Gains, FallsShort}
 use Rattle.hull_io.specs.Edge.{Rose}
-use Rattle.hull_command.specs.Rest.{IsBefore, IsUntouched, EndsIn}
+use Rattle.hull_command.specs.Rest.{IsBefore, IsUntouched, nothing_read}
+use Rattle.hull_command.specs.Outcome.{Ends}
 use Rattle.hull_command.specs.declared.ready.Before.{Before}
 use Rattle.hull_engine.proofs.Lemmas.{ends_of_rest}
 use Rattle.hull_engine.proofs.hull_run.Goals as goal
 
 pub returns-in-Ended-clause-outcome : goal.returns-in-Ended-clause-outcome
 returns-in-Ended-clause-outcome g c =
-    subst (λ (b : Before). IsBefore (texts c.args.words.now) (g.F.Shelf.told c.args.shelf.now)
+    let before = subst (λ (b : Before). IsBefore (words_of (texts c.args.words.now)) (g.F.Shelf.told c.args.shelf.now)
     (λ name. Rose g.F.Shelf.last (g.F.Shelf.faults c.args.shelf.now name)
     (g.F.Shelf.faults c.hull_before_run.new.shelf name))
     (Gains g.S.Sink.held g.S.Sink.faults c.args.out.now c.hull_before_run.new.out)
     (FallsShort g.S.Sink.held g.S.Sink.faults g.S.Sink.last c.args.out.now c.hull_before_run.new.out) b)
-    c.in-Ended.is c.hull_before_run.ensures.before
+    c.in-Ended.is c.hull_before_run.ensures.before in
+    record {
+      reads = before.0;
+      are_reads = before.1;
+      end = c.in-Ended.end;
+      ends = before.2;
+      status_is = c.status.ensures;
+    }
 
 pub returns-in-Ready-clause-outcome : goal.returns-in-Ready-clause-outcome
 returns-in-Ready-clause-outcome g c =
     let ready = c.in-Ready.ready in
-    let before = subst (λ (b : Before). IsBefore (texts c.args.words.now) (g.F.Shelf.told c.args.shelf.now)
+    let before = subst (λ (b : Before). IsBefore (words_of (texts c.args.words.now)) (g.F.Shelf.told c.args.shelf.now)
     (λ name. Rose g.F.Shelf.last (g.F.Shelf.faults c.args.shelf.now name)
     (g.F.Shelf.faults c.hull_before_run.new.shelf name))
     (Gains g.S.Sink.held g.S.Sink.faults c.args.out.now c.hull_before_run.new.out)
@@ -25,14 +33,15 @@ returns-in-Ready-clause-outcome g c =
     c.in-Ready.is c.hull_before_run.ensures.before in
     let untouched = subst (λ (b : Before). IsUntouched b (c.hull_before_run.new.out ≡ c.args.out.now)) c.in-Ready.is
     c.hull_before_run.ensures.unwritten in
-    let end = subst (λ out. EndsIn (rest_of ready) (Gains g.S.Sink.held g.S.Sink.faults out c.finish_ready.new.out)
-    (FallsShort g.S.Sink.held g.S.Sink.faults g.S.Sink.last out c.finish_ready.new.out) c.finish_ready.result) untouched
-    c.finish_ready.ensures.ends in
+    let ends = subst (λ out. Ends (rest_of ready) nothing_read
+    (Gains g.S.Sink.held g.S.Sink.faults out c.end_ready.new.out)
+    (FallsShort g.S.Sink.held g.S.Sink.faults g.S.Sink.last out c.end_ready.new.out) c.end_ready.result) untouched
+    c.end_ready.ensures.ends in
     record {
       reads = before.2.0;
       are_reads = before.2.1;
-      end = end.end;
+      end = c.end_ready.result;
       ends = ends_of_rest (command_for (words_of (texts c.args.words.now))) ready.purpose (planned_run ready.terms)
-          ready.terms.budget ready.terms.ahead before.2.0 before.2.2 _ _ end.end end.ends;
-      status_is = end.status_is;
+          ready.terms.budget ready.terms.ahead before.2.0 before.2.2 _ _ c.end_ready.result ends;
+      status_is = c.status-in-Ready.ensures;
     }

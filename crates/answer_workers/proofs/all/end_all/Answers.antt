@@ -6,13 +6,13 @@ pub loop-k-preserved : goal.loop-k-preserved
 loop-k-preserved g c =
     let l = c.loop-k in
     let now = l.workers in
-    let y = c.work.new.worker in
+    let y = c.work_to_the_end.new.worker in
     let below = c.loop-k-test.true in
     let same = l.invariant.count in
     let inside : l.k < length now = omega (arith, below, same) in
     record {
       count = length-set now l.k y ∙ l.invariant.count;
-      worked = one_works c.args.workers.now now l.k y inside c.index-workers-k.result c.work.ensures.worked
+      worked = one_works c.args.workers.now now l.k y inside c.index-workers-k.result c.work_to_the_end.ensures.worked
           l.invariant.worked;
       finished = one_finishes c.args.workers.now now l.k y inside c.in-Finished.ensures.ended l.invariant.finished;
     }
@@ -21,17 +21,18 @@ pub returns-in-Halted-clause-worked : goal.returns-in-Halted-clause-worked
 returns-in-Halted-clause-worked g c =
     let l = c.loop-k in
     let now = l.workers in
-    let y = c.work.new.worker in
+    let y = c.work_to_the_end.new.worker in
     let below = c.loop-k-test.true in
     let same = l.invariant.count in
     let inside : l.k < length now = omega (arith, below, same) in
     zip_worked c.args.workers.now _ (length-set now l.k y ∙ l.invariant.count)
-    (one_works c.args.workers.now now l.k y inside c.index-workers-k.result c.work.ensures.worked l.invariant.worked)
+    (one_works c.args.workers.now now l.k y inside c.index-workers-k.result c.work_to_the_end.ensures.worked
+    l.invariant.worked)
 
 pub returns-in-Halted-clause-ended : goal.returns-in-Halted-clause-ended
 returns-in-Halted-clause-ended g c =
     let l = c.loop-k in
-    let y = c.work.new.worker in
+    let y = c.work_to_the_end.new.worker in
     let below = c.loop-k-test.true in
     let same = l.invariant.count in
     let inside : l.k < length l.workers = omega (arith, below, same) in

@@ -4,43 +4,43 @@ use Rattle.answer_workers.proofs.Lemmas.{works_on, still_of, seat_stays, parts_g
 use Rattle.answer_workers.proofs.visit.claim_share.Goals as goal
 
 pub returns-in_default-clause-worked : goal.returns-in_default-clause-worked
-returns-in_default-clause-worked g c = works_on c.args.worker.now c.loop-k.worker c.claim-end.new.worker
-    c.loop-k.invariant.worked c.claim-end.ensures.worked
+returns-in_default-clause-worked g c = works_on c.args.worker.now c.loop-k.worker c.claim_task-end.new.worker
+    c.loop-k.invariant.worked c.claim_task-end.ensures.worked
 
 pub returns-in_default-clause-given : goal.returns-in_default-clause-given
-returns-in_default-clause-given g c = given_kept c.loop-k.worker c.claim-end.new.worker c.loop-k.k
-    c.claim-end.ensures.worked c.claim-end.ensures.held c.loop-k.invariant.given
+returns-in_default-clause-given g c = given_kept c.loop-k.worker c.claim_task-end.new.worker c.loop-k.k
+    c.claim_task-end.ensures.worked c.claim_task-end.ensures.held c.loop-k.invariant.given
 
 pub returns-then-is_share-clause-worked : goal.returns-then-is_share-clause-worked
 returns-then-is_share-clause-worked g c =
-    let now = c.claim-end.new.worker in
+    let now = c.claim_task-end.new.worker in
     works_on c.args.worker.now now _
-    (works_on c.args.worker.now c.loop-k.worker now c.loop-k.invariant.worked c.claim-end.ensures.worked)
+    (works_on c.args.worker.now c.loop-k.worker now c.loop-k.invariant.worked c.claim_task-end.ensures.worked)
     (seat_stays now _ refl
     (parts_given (market_at now.seat) now c.loop-k.k c.index_mut.result.now c.loop-k-test.true c.index_mut.ensures.value
-    c.claim-end.ensures.worked.parts c.swap.new.x c.swap.new.y c.swap.ensures.x_after c.swap.ensures.y_after))
+    c.claim_task-end.ensures.worked.parts c.swap.new.x c.swap.new.y c.swap.ensures.x_after c.swap.ensures.y_after))
 
 pub returns-then-is_share-clause-given : goal.returns-then-is_share-clause-given
 returns-then-is_share-clause-given g c =
-    let now = c.claim-end.new.worker in
+    let now = c.claim_task-end.new.worker in
     let test = c.loop-k-test.true in
-    let given = given_kept c.loop-k.worker now c.loop-k.k c.claim-end.ensures.worked c.claim-end.ensures.held
+    let given = given_kept c.loop-k.worker now c.loop-k.k c.claim_task-end.ensures.worked c.claim_task-end.ensures.held
     c.loop-k.invariant.given in (
       omega (arith, test),
       given_more (market_at now.seat) now c.loop-k.k c.index_mut.result.now c.swap.new.y test
-          c.claim-end.ensures.worked.parts c.swap.ensures.y_after
-          (subst (λ (r : Claim). IsTold r now) c.in-Given.is c.claim-end.ensures.told) given.1,
+          c.claim_task-end.ensures.worked.parts c.swap.ensures.y_after
+          (subst (λ (r : Claim). IsTold r now) c.in-Given.is c.claim_task-end.ensures.told) given.1,
     )
 
 pub loop-k-preserved : goal.loop-k-preserved
 loop-k-preserved g c =
-    let now = c.claim-end.new.worker in
+    let now = c.claim_task-end.new.worker in
     let test = c.loop-k-test.true in
     let a = c.loop-k.invariant in
-    let claimed = c.claim-end.ensures.worked in
+    let claimed = c.claim_task-end.ensures.worked in
     let parts = parts_given (market_at now.seat) now c.loop-k.k c.index_mut.result.now test c.index_mut.ensures.value
     claimed.parts c.swap.new.x c.swap.new.y c.swap.ensures.x_after c.swap.ensures.y_after in
-    let given = given_kept c.loop-k.worker now c.loop-k.k claimed c.claim-end.ensures.held a.given in record {
+    let given = given_kept c.loop-k.worker now c.loop-k.k claimed c.claim_task-end.ensures.held a.given in record {
       own = still_of c.args.board.now now _ (still_of c.args.board.now c.loop-k.worker now a.own claimed)
           (seat_stays now _ refl parts);
       worked = works_on c.args.worker.now now _ (works_on c.args.worker.now c.loop-k.worker now a.worked claimed)
@@ -48,7 +48,8 @@ loop-k-preserved g c =
       given = (
         omega (arith, test),
         given_more (market_at now.seat) now c.loop-k.k c.index_mut.result.now c.swap.new.y test claimed.parts
-            c.swap.ensures.y_after (subst (λ (r : Claim). IsTold r now) c.in-Given.is c.claim-end.ensures.told) given.1,
+            c.swap.ensures.y_after (subst (λ (r : Claim). IsTold r now) c.in-Given.is c.claim_task-end.ensures.told)
+            given.1,
       );
     }
 

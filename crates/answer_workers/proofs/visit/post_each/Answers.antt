@@ -1,5 +1,5 @@
 use Rattle.answer_workers.proofs.Common.{◌≡◌, task_unit, prices_of, view_of, HasWorked}
-use Rattle.board_core.specs.Stored.{answer_of}
+use Rattle.board_store.specs.Answers.{answer_of}
 use Rattle.answer_workers.proofs.Lemmas.{answered_at, post_goes, parts_posted, works_on, still_of}
 use Rattle.answer_workers.proofs.visit.post_each.Goals as goal
 

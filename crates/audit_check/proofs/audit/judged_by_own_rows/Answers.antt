@@ -28,16 +28,16 @@ right_rows-requires-clause-ahead g c = λ κs out. (c.requires.bounds.ahead_at_l
 pub make-requires-2 : goal.make-requires-2
 make-requires-2 g c = c.last_bench.ensures (market_of c.args.case.now) c.right_rows.ensures.jobs
 
-pub judged-audit-requires-clause-run : goal.judged-audit-requires-clause-run
+pub verdict_of_rows-audit-requires-clause-run : goal.verdict_of_rows-audit-requires-clause-run
 unfolding report_of
-judged-audit-requires-clause-run g c =
+verdict_of_rows-audit-requires-clause-run g c =
     let r = c.args.report.now in
     let wide = length-map r.rows.items proposal_of in
     let most = c.enough_rows-most.ensures ∙ ap (λ (n : ℕ). min r.budget (n + 1)) (sym wide) in
     rw (c.as_slice.ensures, sym most) c.in_ok-rows.ensures.run
 
-pub judged-audit-requires-clause-opening : goal.judged-audit-requires-clause-opening
-judged-audit-requires-clause-opening g c = rw (to_z-of_z w128 c.args.cost c.ranges.cost) c.requires.opening
+pub verdict_of_rows-audit-requires-clause-opening : goal.verdict_of_rows-audit-requires-clause-opening
+verdict_of_rows-audit-requires-clause-opening g c = rw (to_z-of_z w128 c.args.cost c.ranges.cost) c.requires.opening
 
 pub jobs_for-requires-clause-benches : goal.jobs_for-requires-clause-benches
 jobs_for-requires-clause-benches g c = c.requires.benches
@@ -52,23 +52,23 @@ right_rows-requires-clause-count g c = λ κs out.
 pub right_rows-requires-clause-jobs : goal.right_rows-requires-clause-jobs
 right_rows-requires-clause-jobs g c = λ κs out. c.in_ok-jobs.ensures.jobs
 
-pub judged-audit-requires-clause-feasible : goal.judged-audit-requires-clause-feasible
-judged-audit-requires-clause-feasible g c = c.requires.feasible
+pub verdict_of_rows-audit-requires-clause-feasible : goal.verdict_of_rows-audit-requires-clause-feasible
+verdict_of_rows-audit-requires-clause-feasible g c = c.requires.feasible
 
-pub judged-audit-requires-clause-cost : goal.judged-audit-requires-clause-cost
-judged-audit-requires-clause-cost g c = rw (to_z-of_z w128 c.args.cost c.ranges.cost) c.requires.cost
+pub verdict_of_rows-audit-requires-clause-cost : goal.verdict_of_rows-audit-requires-clause-cost
+verdict_of_rows-audit-requires-clause-cost g c = rw (to_z-of_z w128 c.args.cost c.ranges.cost) c.requires.cost
 
-pub judged-audit-requires-clause-bounds : goal.judged-audit-requires-clause-bounds
-judged-audit-requires-clause-bounds g c = c.requires.bounds
+pub verdict_of_rows-audit-requires-clause-bounds : goal.verdict_of_rows-audit-requires-clause-bounds
+verdict_of_rows-audit-requires-clause-bounds g c = c.requires.bounds
 
-pub judged-audit-requires-clause-order : goal.judged-audit-requires-clause-order
-judged-audit-requires-clause-order g c = c.requires.order
+pub verdict_of_rows-audit-requires-clause-order : goal.verdict_of_rows-audit-requires-clause-order
+verdict_of_rows-audit-requires-clause-order g c = c.requires.order
 
-pub judged-audit-requires-clause-desk : goal.judged-audit-requires-clause-desk
-judged-audit-requires-clause-desk g c = c.in_ok-desk.ensures
+pub verdict_of_rows-audit-requires-clause-compare_room : goal.verdict_of_rows-audit-requires-clause-compare_room
+verdict_of_rows-audit-requires-clause-compare_room g c = c.in_ok-compare_room.ensures
 
 pub returns-clause-right : goal.returns-clause-right
-returns-clause-right g c = c.judged-audit.ensures.right
+returns-clause-right g c = c.verdict_of_rows-audit.ensures.right
 
 pub returns-clause-wrong : goal.returns-clause-wrong
-returns-clause-wrong g c = c.judged-audit.ensures.wrong
+returns-clause-wrong g c = c.verdict_of_rows-audit.ensures.wrong

@@ -16,8 +16,8 @@ returns-then-number-ahead-clause-horizon c =
     (length-map c.args.start.now.items _ ∙
     as_long m.periods (start_price m) c.args.start.now.items c.requires.start)
 
-pub propose-requires-clause-some : goal.propose-requires-clause-some
-propose-requires-clause-some c =
+pub propose_prices-requires-clause-some : goal.propose_prices-requires-clause-some
+propose_prices-requires-clause-some c =
     let long = length-map c.args.rows.now proposal_of in
     let past = length-map c.first_rows-past.result.now proposal_of in
     let late = c.if-number-ahead.false in
@@ -26,8 +26,8 @@ propose-requires-clause-some c =
     c.first_rows-past.ensures (omega (arith, long, late, some)) in
     omega (arith, count, past, late)
 
-pub propose-requires-clause-count : goal.propose-requires-clause-count
-propose-requires-clause-count c =
+pub propose_prices-requires-clause-count : goal.propose_prices-requires-clause-count
+propose_prices-requires-clause-count c =
     let long = length-map c.args.rows.now proposal_of in
     let past = length-map c.first_rows-past.result.now proposal_of in
     let late = c.if-number-ahead.false in
@@ -37,8 +37,8 @@ propose-requires-clause-count c =
     c.first_rows-past.ensures (omega (arith, long, late, some)) in
     omega (arith, count, past, few)
 
-pub propose-requires-clause-rows : goal.propose-requires-clause-rows
-propose-requires-clause-rows c =
+pub propose_prices-requires-clause-rows : goal.propose_prices-requires-clause-rows
+propose_prices-requires-clause-rows c =
     let m = market_of c.args.case.now in
     rw (to_z-of_z w128 c.args.cost c.ranges.cost)
     (subst (All (IsRowBelow m c.args.cost)) (sym c.first_rows-past.ensures)
@@ -52,9 +52,9 @@ returns-clause-next c = λ yes.
     let late = c.if-number-ahead.false in
     next_is m c.args.cost c.args.ahead c.requires.some rows (map proposal_of c.first_rows-past.result.now)
     (c.first_rows-past.ensures ∙ ap (λ n. take n rows) (omega (arith, long, late))) (omega (arith, long, late))
-    (prices_of c.propose.new.into) c.propose.result
-    (rw (to_z-of_z w128 c.args.cost c.ranges.cost) at c.propose.ensures.settled)
-    (rw (to_z-of_z w128 c.args.cost c.ranges.cost) at c.propose.ensures.prices) yes
+    (prices_of c.propose_prices.new.into) c.propose_prices.result
+    (rw (to_z-of_z w128 c.args.cost c.ranges.cost) at c.propose_prices.ensures.settled)
+    (rw (to_z-of_z w128 c.args.cost c.ranges.cost) at c.propose_prices.ensures.prices) yes
 
 pub returns-clause-last : goal.returns-clause-last
 returns-clause-last c = λ no.
@@ -64,4 +64,4 @@ returns-clause-last c = λ no.
     let late = c.if-number-ahead.false in
     last_is m c.args.cost c.args.ahead c.requires.some rows (map proposal_of c.first_rows-past.result.now)
     (c.first_rows-past.ensures ∙ ap (λ n. take n rows) (omega (arith, long, late))) (omega (arith, long, late))
-    c.propose.result (rw (to_z-of_z w128 c.args.cost c.ranges.cost) at c.propose.ensures.settled) no
+    c.propose_prices.result (rw (to_z-of_z w128 c.args.cost c.ranges.cost) at c.propose_prices.ensures.settled) no

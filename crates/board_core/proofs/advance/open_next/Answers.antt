@@ -31,20 +31,20 @@ pub best-requires-clause-within : goal.best-requires-clause-within
 best-requires-clause-within c =
     subst (λ (n : ℕ). c.args.ledger.now.closed ≤ n) (sym c.requires.ledger.count) c.requires.ledger.closed
 
-pub propose-requires-clause-setup : goal.propose-requires-clause-setup
-propose-requires-clause-setup c = c.requires.setup
+pub propose_prices-requires-clause-setup : goal.propose_prices-requires-clause-setup
+propose_prices-requires-clause-setup c = c.requires.setup
 
-pub propose-requires-clause-horizon : goal.propose-requires-clause-horizon
-propose-requires-clause-horizon c = c.requires.horizon
+pub propose_prices-requires-clause-horizon : goal.propose_prices-requires-clause-horizon
+propose_prices-requires-clause-horizon c = c.requires.horizon
 
-pub returns-then-not-propose-clause-ledger : goal.returns-then-not-propose-clause-ledger
-returns-then-not-propose-clause-ledger c = c.requires.ledger
+pub returns-then-not-propose_prices-clause-ledger : goal.returns-then-not-propose_prices-clause-ledger
+returns-then-not-propose_prices-clause-ledger c = c.requires.ledger
 
-pub returns-then-not-propose-clause-horizon : goal.returns-then-not-propose-clause-horizon
-returns-then-not-propose-clause-horizon c = c.propose.ensures.horizon
+pub returns-then-not-propose_prices-clause-horizon : goal.returns-then-not-propose_prices-clause-horizon
+returns-then-not-propose_prices-clause-horizon c = c.propose_prices.ensures.horizon
 
-pub propose-requires-clause-best : goal.propose-requires-clause-best
-propose-requires-clause-best c =
+pub propose_prices-requires-clause-best : goal.propose_prices-requires-clause-best
+propose_prices-requires-clause-best c =
     let l = c.args.ledger.now in
     let within = c.requires.ledger.closed in
     let counted = c.requires.ledger.count in
@@ -69,18 +69,18 @@ returns-then-not-is_due-clause-fronts c =
     let l = c.args.ledger.now in
     with_none b (fronts_of l) (is_early b l c.requires.ledger (sym c.is_due.ensures ∙ c.if-not-is_due.true))
 
-pub propose-requires-clause-rows : goal.propose-requires-clause-rows
-propose-requires-clause-rows c =
+pub propose_prices-requires-clause-rows : goal.propose_prices-requires-clause-rows
+propose_prices-requires-clause-rows c =
     let b = setup_of c.args.terms.now in
     subst (λ (ps : List Proposal). All (IsRowBelow b.market b.cost) ps) (sym c.rows.ensures) c.requires.rows
 
-pub returns-then-not-propose-clause-fronts : goal.returns-then-not-propose-clause-fronts
-returns-then-not-propose-clause-fronts c =
+pub returns-then-not-propose_prices-clause-fronts : goal.returns-then-not-propose_prices-clause-fronts
+returns-then-not-propose_prices-clause-fronts c =
     let b = setup_of c.args.terms.now in
     let l = c.args.ledger.now in
     let due : is_due b l.closed l.opened ≡ true = sym c.is_due.ensures ∙ c.if-not-is_due.false in
     let settled = ap (λ (xs : List Proposal). not (is_last_settled b.market b.cost xs)) (sym c.rows.ensures) ∙
-    sym c.propose.ensures.settled ∙ c.if-not-propose.true in
+    sym c.propose_prices.ensures.settled ∙ c.if-not-propose_prices.true in
     with_none b (fronts_of l) (is_over b l c.requires.ledger due settled)
 
 pub open-requires-clause-place : goal.open-requires-clause-place
@@ -97,7 +97,7 @@ open-requires-clause-horizon c = λ d.
     let l = c.args.ledger.now in
     let due : is_due b l.closed l.opened ≡ true = sym c.is_due.ensures ∙ c.if-not-is_due.false in
     let counted = c.requires.ledger.count in
-    c.propose.ensures.horizon ∙
+    c.propose_prices.ensures.horizon ∙
     sym (c.requires.ledger.horizon l.opened d (omega (arith, (due_says b l.closed l.opened due).1, counted)))
 
 pub returns : goal.returns
@@ -106,7 +106,7 @@ returns c =
     let l = c.args.ledger.now in
     let l2 = c.open.new.self in
     let d = blank 0 in
-    let π = prices_of c.propose.new.into in
+    let π = prices_of c.propose_prices.new.into in
     let due : is_due b l.closed l.opened ≡ true = sym c.is_due.ensures ∙ c.if-not-is_due.false in
     let say = due_says b l.closed l.opened due in
     let more = say.0 in
@@ -114,19 +114,20 @@ returns c =
     let before : l.closed ≤ l.opened = omega (arith, more, some) in
     let W : IsWritten l l2 l.opened (with_prices (get_or l.proposals l.opened d) π) =
     record { proposals = c.open.ensures.proposals d; earned = c.open.ensures.earned } in
-    let settled = sym c.propose.ensures.settled ∙ c.if-not-propose.false in
+    let settled = sym c.propose_prices.ensures.settled ∙ c.if-not-propose_prices.false in
     let free = ap (λ (xs : List Proposal). not (is_last_settled b.market b.cost xs)) (sym c.rows.ensures) ∙ settled in
-    let next = c.propose.ensures.prices c.if-not-propose.false ∙ ap (next_prices b.market b.cost) c.rows.ensures in
+    let next = c.propose_prices.ensures.prices c.if-not-propose_prices.false ∙ ap (next_prices b.market b.cost)
+    c.rows.ensures in
     let opened = c.open.ensures.opened in
     record {
       fronts = opened_fronts b l l2 c.requires.ledger π d say.1 before W c.open.ensures.closed opened
-          c.propose.ensures.horizon
+          c.propose_prices.ensures.horizon
           ∙ with_one b (fronts_of l) π (opens_it b l c.requires.ledger due free) next;
       sums = opened_sums b l l2 c.requires.ledger π d say.1 before W c.open.ensures.closed opened
-          c.propose.ensures.horizon;
+          c.propose_prices.ensures.horizon;
       ledger = opened_ledger b l l2 c.requires.ledger π d say.1 before W c.open.ensures.closed opened
-          c.propose.ensures.horizon;
+          c.propose_prices.ensures.horizon;
       closed = c.open.ensures.closed;
       opened = omega (arith, opened);
-      horizon = c.propose.ensures.horizon;
+      horizon = c.propose_prices.ensures.horizon;
     }

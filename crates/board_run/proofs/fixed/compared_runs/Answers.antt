@@ -2,8 +2,8 @@ use Rattle.board_run.proofs.Common.{rules, sym, ap, ◌∙◌, subst, Setup, IsS
 use Rattle.board_run.proofs.Lemmas.{held_setup_is, held_feasible, held_market, fixed_side_is}
 use Rattle.board_run.proofs.fixed.compared_runs.Goals as goal
 
-pub hold-requires : goal.hold-requires
-hold-requires g c = subst IsSetup (sym c.in_ok-hull.ensures.terms) c.requires
+pub hold_commitments-requires : goal.hold_commitments-requires
+hold_commitments-requires g c = subst IsSetup (sym c.in_ok-hull.ensures.terms) c.requires
 
 pub fixed_side-requires-clause-setup : goal.fixed_side-requires-clause-setup
 fixed_side-requires-clause-setup g c κs lives =

@@ -1,6 +1,6 @@
 use Rattle.board_run.proofs.Common.{◌≡◌, sym, ◌∙◌, subst, Setup, market_of, IsFeasiblePlan}
-use Rattle.price_settle.specs.FixedCase.{fixed_market}
-use Rattle.price_settle.specs.Compared.{IsPaidSide}
+use Rattle.plan_settle.specs.FixedCase.{fixed_market}
+use Rattle.plan_settle.specs.Compared.{IsPaidSide}
 use Rattle.board_run.proofs.fixed.fixed_side.Goals as goal
 
 pub settled_side-requires-clause-feasible : goal.settled_side-requires-clause-feasible

@@ -1,5 +1,5 @@
 use Rattle.board_run.proofs.Common.{◌∙◌, ap, sym, length, length-replicate, subst, Setup}
-use Rattle.price_settle.specs.Compared.{IsOwnSide}
+use Rattle.plan_settle.specs.Compared.{IsOwnSide}
 use Rattle.board_run.proofs.fixed.hull_side.Goals as goal
 
 pub returns-clause-side : goal.returns-clause-side

@@ -1,5 +1,5 @@
 use Rattle.board_run.proofs.Common.{◌+◌, sym, length, subst, Setup, IsCrew, setup_of}
-use Rattle.price_settle.specs.RunRooms.{HasRunRoom}
+use Rattle.plan_settle.specs.RunRooms.{HasRunRoom}
 use Rattle.board_run.proofs.Lemmas.{crew_names}
 use Rattle.board_run.proofs.run.open_run.Goals as goal
 

@@ -24,8 +24,8 @@ returns-then-is_row-2-clause-there g c =
     c.args.row.now 0 c.requires.pairs c.requires.first c.as_slice-3.ensures.value c.as_slice-4.ensures.value
     (c.if-is_row-2.ensures.0 refl)
 
-pub append-requires-clause-some : goal.append-requires-clause-some
-append-requires-clause-some g c =
+pub append_row-requires-clause-some : goal.append_row-requires-clause-some
+append_row-requires-clause-some g c =
     some_cell 0 c.as_slice-3.result.now c.as_slice-4.result.now c.args.row.now
     (λ is. let yes = c.if-is_row-2.ensures.1 is in cc (yes))
 
@@ -33,5 +33,6 @@ pub returns-clause-there : goal.returns-clause-there
 returns-clause-there g c =
     let n : c.len-behind.result ≡ length c.args.lengths.now.items =
     omega (arith, c.len-behind.ensures, c.args.values.now.ok.0, c.requires.pairs) in
-    at_added c.args.lengths.now.items c.args.values.now.items c.append.new.lengths.items c.append.new.values.items
-    c.args.row.now c.len-behind.result c.requires.pairs c.append.ensures.added n
+    at_added c.args.lengths.now.items c.args.values.now.items c.append_row.new.lengths.items
+    c.append_row.new.values.items
+    c.args.row.now c.len-behind.result c.requires.pairs c.append_row.ensures.added n

@@ -3,8 +3,7 @@ use Rattle.bundle_columns.proofs.Common.{schedules_of, schedule_of, named_therma
 use Rattle.bundle_columns.proofs.Common.{refl, take_all, map_push, Some, slice_get, AllZip, Market, Schedule}
 use Rattle.bundle_columns.proofs.Common.{NamedThermalUnit, IsFeasiblePlan, IsThermalFeasible}
 use Rattle.bundle_columns.proofs.Keeping.{AreKeptOf, kept_more, kept_of_one, feasible_at, some_item}
-use Rattle.price_settle.proofs.Fixing.{others, plan_apart}
-use Rattle.price_settle.proofs.Items.{plan_count}
+use Rattle.plan_check.proofs.UnitsApart.{others, plan_apart, plan_count}
 use Rattle.bundle_columns.proofs.plans.plan_mixture.Goals as goal
 
 pub get-requires : goal.get-requires

@@ -23,26 +23,27 @@ get_mut-requires c =
     let lt = c.requires.number in
     omega (arith, count, lt)
 
-pub deal-requires-clause-some : goal.deal-requires-clause-some
-deal-requires-clause-some c =
+pub deal_weights-requires-clause-some : goal.deal_weights-requires-clause-some
+deal_weights-requires-clause-some c =
     let m = market_of c.args.case.now in
     let some = some_item m.thermal c.args.number c.requires.number in
     let long = entry_count m.periods (places_in c.args.pool.now) some.0.unit c.get_mut.result.now
-    (kept (goal.at.deal-requires-clause-some c).After-get_mut) in
+    (kept (goal.at.deal_weights-requires-clause-some c).After-get_mut) in
     let least = c.requires.pool.some in
     omega (arith, long, least)
 
-pub deal-requires-clause-wanted : goal.deal-requires-clause-wanted
-deal-requires-clause-wanted c =
+pub deal_weights-requires-clause-wanted : goal.deal_weights-requires-clause-wanted
+deal_weights-requires-clause-wanted c =
     let m = market_of c.args.case.now in
     let some = some_item m.thermal c.args.number c.requires.number in
     let long = entry_count m.periods (places_in c.args.pool.now) some.0.unit c.get_mut.result.now
-    (kept (goal.at.deal-requires-clause-wanted c).After-get_mut) in
+    (kept (goal.at.deal_weights-requires-clause-wanted c).After-get_mut) in
     let read = c.read_shares.ensures in
     omega (arith, long, read)
 
-pub deal-requires-clause-shares : goal.deal-requires-clause-shares
-deal-requires-clause-shares c = (kept (goal.at.deal-requires-clause-shares c).After-get_mut).mixed.shares
+pub deal_weights-requires-clause-shares : goal.deal_weights-requires-clause-shares
+deal_weights-requires-clause-shares c = (kept (goal.at.deal_weights-requires-clause-shares
+    c).After-get_mut).mixed.shares
 
 pub returns : goal.returns
 returns c =
@@ -55,8 +56,8 @@ returns c =
       some = c.requires.pool.some;
       most = c.requires.pool.most;
       columns = kept_set m places c.args.pool.now.columns.weight c.args.pool.now.columns.thermal.items c.args.number
-          some.0 c.deal.new.entries c.requires.pool.columns some.1
-          (c.deal.ensures.stays m.periods places some.0.unit was);
+          some.0 c.deal_weights.new.entries c.requires.pool.columns some.1
+          (c.deal_weights.ensures.stays m.periods places some.0.unit was);
       periods = c.requires.pool.periods;
       thermal = c.requires.pool.thermal;
       places_are = c.requires.pool.places_are;

@@ -11,35 +11,35 @@ pub returns-clause-draws : goal.returns-clause-draws
 unfolding unit_draws
 returns-clause-draws c =
     let g = c.args.random.now in
-    let m1 = c.draw.ensures.moved in
-    let m2 = one_more 1 g _ _ m1 c.draw-2.ensures.moved in
-    let m3 = one_more 2 g _ _ m2 c.draw-3.ensures.moved in
-    let m4 = one_more 3 g _ _ m3 c.draw-4.ensures.moved in
-    let m5 = one_more 4 g _ _ m4 c.draw-5.ensures.moved in
-    let m6 = one_more 5 g _ _ m5 c.draw-6.ensures.moved in
-    let m7 = one_more 6 g _ _ m6 c.draw-7.ensures.moved in
-    let m8 = one_more 7 g _ _ m7 c.draw-8.ensures.moved in
+    let m1 = c.draw_number.ensures.moved in
+    let m2 = one_more 1 g _ _ m1 c.draw_number-2.ensures.moved in
+    let m3 = one_more 2 g _ _ m2 c.draw_number-3.ensures.moved in
+    let m4 = one_more 3 g _ _ m3 c.draw_number-4.ensures.moved in
+    let m5 = one_more 4 g _ _ m4 c.draw_number-5.ensures.moved in
+    let m6 = one_more 5 g _ _ m5 c.draw_number-6.ensures.moved in
+    let m7 = one_more 6 g _ _ m6 c.draw_number-7.ensures.moved in
+    let m8 = one_more 7 g _ _ m7 c.draw_number-8.ensures.moved in
     cc (
-      c.draw.ensures.value,
-      later 20 50 1 _ g _ m1 c.draw-2.ensures.value,
-      later 2 6 2 _ g _ m2 c.draw-3.ensures.value,
-      later 1 8 3 _ g _ m3 c.draw-4.ensures.value,
-      later 1 8 4 _ g _ m4 c.draw-5.ensures.value,
-      later 0 2 5 _ g _ m5 c.draw-6.ensures.value,
-      later 15 60 6 _ g _ m6 c.draw-7.ensures.value,
-      later 1 50 7 _ g _ m7 c.draw-8.ensures.value,
-      later 0 100 8 _ g _ m8 c.draw-9.ensures.value,
+      c.draw_number.ensures.value,
+      later 20 50 1 _ g _ m1 c.draw_number-2.ensures.value,
+      later 2 6 2 _ g _ m2 c.draw_number-3.ensures.value,
+      later 1 8 3 _ g _ m3 c.draw_number-4.ensures.value,
+      later 1 8 4 _ g _ m4 c.draw_number-5.ensures.value,
+      later 0 2 5 _ g _ m5 c.draw_number-6.ensures.value,
+      later 15 60 6 _ g _ m6 c.draw_number-7.ensures.value,
+      later 1 50 7 _ g _ m7 c.draw_number-8.ensures.value,
+      later 0 100 8 _ g _ m8 c.draw_number-9.ensures.value,
     )
 
 pub returns-clause-moved : goal.returns-clause-moved
 returns-clause-moved c =
     let g = c.args.random.now in
-    let m1 = c.draw.ensures.moved in
-    let m2 = one_more 1 g _ _ m1 c.draw-2.ensures.moved in
-    let m3 = one_more 2 g _ _ m2 c.draw-3.ensures.moved in
-    let m4 = one_more 3 g _ _ m3 c.draw-4.ensures.moved in
-    let m5 = one_more 4 g _ _ m4 c.draw-5.ensures.moved in
-    let m6 = one_more 5 g _ _ m5 c.draw-6.ensures.moved in
-    let m7 = one_more 6 g _ _ m6 c.draw-7.ensures.moved in
-    let m8 = one_more 7 g _ _ m7 c.draw-8.ensures.moved in
-    one_more 8 g _ _ m8 c.draw-9.ensures.moved
+    let m1 = c.draw_number.ensures.moved in
+    let m2 = one_more 1 g _ _ m1 c.draw_number-2.ensures.moved in
+    let m3 = one_more 2 g _ _ m2 c.draw_number-3.ensures.moved in
+    let m4 = one_more 3 g _ _ m3 c.draw_number-4.ensures.moved in
+    let m5 = one_more 4 g _ _ m4 c.draw_number-5.ensures.moved in
+    let m6 = one_more 5 g _ _ m5 c.draw_number-6.ensures.moved in
+    let m7 = one_more 6 g _ _ m6 c.draw_number-7.ensures.moved in
+    let m8 = one_more 7 g _ _ m7 c.draw_number-8.ensures.moved in
+    one_more 8 g _ _ m8 c.draw_number-9.ensures.moved

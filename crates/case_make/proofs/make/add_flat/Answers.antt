@@ -3,5 +3,5 @@ use Rattle.case_make.proofs.Lemmas.{full_within}
 use Rattle.case_make.proofs.make.add_flat.Goals as goal
 
 pub push-requires-clause-steady : goal.push-requires-clause-steady
-push-requires-clause-steady c = subst IsSteady (sym c.in_ok-full.ensures)
+push-requires-clause-steady c = subst IsSteady (sym c.in_ok-full_response.ensures)
     (full_within c.in_ok-powers.powers.items c.in_ok-powers.ensures.sizes).steady

@@ -19,8 +19,9 @@ loop-preserved c =
     let one : 1 + k + 1 ≡ 1 + (k + 1) = omega arith in
     record {
       so_far = pushed (most_at g 0) k _ _ _ c.push.ensures.items c.loop.invariant.so_far
-          (most_is g _ k _ _ c.draw-capacity.ensures.value c.loop.invariant.moved c.draw.ensures.value);
-      moved = one_more (1 + k) g _ _ c.loop.invariant.moved c.draw.ensures.moved ∙ ap (λ (n : ℕ). moved_on n g) one;
+          (most_is g _ k _ _ c.draw_number-capacity.ensures.value c.loop.invariant.moved c.draw_number.ensures.value);
+      moved = one_more (1 + k) g _ _ c.loop.invariant.moved c.draw_number.ensures.moved ∙ ap (λ (n : ℕ). moved_on n g)
+          one;
       room = omega (arith, c.push.ensures.spare, c.loop.invariant.room);
     }
 

@@ -1,8 +1,7 @@
 use Rattle.convex_search.proofs.Common.{◌<◌, length, arith, market_of, schedules_of, schedule_of, named_thermal_of}
 use Rattle.convex_search.proofs.Common.{length-map, map_item}
 use Rattle.bundle_columns.proofs.Keeping.{some_item, feasible_at}
-use Rattle.price_settle.proofs.Fixing.{others, plan_apart}
-use Rattle.price_settle.proofs.Items.{plan_count}
+use Rattle.plan_check.proofs.UnitsApart.{others, plan_apart, plan_count}
 use Rattle.convex_search.proofs.start.keep_plan.Goals as goal
 
 pub get-requires : goal.get-requires
@@ -16,8 +15,8 @@ get-requires c =
     let lt : c.loop-number.number < length c.args.case.now.thermal.items = omega arith in
     omega (arith, count, units, responses, lt)
 
-pub keep-requires-clause-fit : goal.keep-requires-clause-fit
-keep-requires-clause-fit c =
+pub keep_column-requires-clause-fit : goal.keep_column-requires-clause-fit
+keep_column-requires-clause-fit c =
     let m = market_of c.args.case.now in
     let plan = schedules_of c.args.plan.now in
     let units = length-map c.args.case.now.thermal.items named_thermal_of in

@@ -8,8 +8,9 @@ loop-k-preserved c =
     (bid_earns (bid_of c.args.bid.now) (prices_of c.args.prices.now)) c.loop-k.k
     (schedule_of c.loop-k.into.response) c.loop-k.into.earned c.choice_in-choice.result.power
     c.choice_in-choice.result.earned
-    (schedule_of c.keep.new.into.response) c.keep.new.into.earned
-    c.loop-k.invariant (omega arith) c.choice_in-choice.ensures c.keep.ensures.schedule c.keep.ensures.earned
+    (schedule_of c.keep_choice.new.into.response) c.keep_choice.new.into.earned
+    c.loop-k.invariant (omega arith) c.choice_in-choice.ensures c.keep_choice.ensures.schedule
+    c.keep_choice.ensures.earned
 
 pub returns-clause-least : goal.returns-clause-least
 returns-clause-least c =
@@ -27,8 +28,8 @@ returns-clause-earned c =
     (bid_by_place (bid_of c.args.bid.now) (prices_of c.args.prices.now))
     (omega arith) c.loop-k.invariant).earned_is
 
-pub keep-requires-clause-so_far : goal.keep-requires-clause-so_far
-keep-requires-clause-so_far c =
+pub keep_choice-requires-clause-so_far : goal.keep_choice-requires-clause-so_far
+keep_choice-requires-clause-so_far c =
     let few = c.args.prices.now.valid.horizon.at_most in
     let turn = c.loop-k-test.true in
     let end = c.len-k-end.ensures in

@@ -22,8 +22,8 @@ get-requires-in-loop-number c =
     let lt = c.requires.place in
     omega (arith, long, mapped, lt)
 
-pub bought-requires-clause-blocks : goal.bought-requires-clause-blocks
-bought-requires-clause-blocks c =
+pub bid_earnings-requires-clause-blocks : goal.bid_earnings-requires-clause-blocks
+bid_earnings-requires-clause-blocks c =
     subst IsBlockList (sym c.as_slice-blocks.ensures)
     (item_of IsBlockList (bid_of c.get.result.now.bid).blocks c.args.place (items_in c.get-in-loop-number.result.now)
     c.get.result.now.bid.valid.blocks
@@ -36,7 +36,7 @@ loop-number-preserved c =
     let k = c.args.place in
     let i = c.loop-number.number in
     let q = c.ranges.price in
-    let s : FitsSigned w64 c.bought.result = search rules in
+    let s : FitsSigned w64 c.bid_earnings.result = search rules in
     let f : FitsSigned w128 c.from-sum.result = search rules in
     let bid = named_bid_of c.get.result.now in
     let at = map_item named_bid_of c.args.case.now.bids.items i c.get.result.now c.get.ensures.item in
@@ -49,12 +49,12 @@ loop-number-preserved c =
     let so_far : cast_signed w128 c.loop-number.sum-bits ≡ total
     (map (λ (n : NamedBidUnit). best_bought (blocks_at n.unit k) c.args.price) (take i m.bids)) =
     simp to_z-of_z at c.loop-number.invariant.is in
-    let value = simp to_z-of_z at c.bought.ensures.value in
+    let value = simp to_z-of_z at c.bid_earnings.ensures.value in
     let from = simp to_z-of_z at c.from-sum.ensures in
     let a = c.loop-number.invariant.limit.at_least in
     let b = c.loop-number.invariant.limit.at_most in
-    let x = c.bought.ensures.limit.at_least in
-    let y = c.bought.ensures.limit.at_most in
+    let x = c.bid_earnings.ensures.limit.at_least in
+    let y = c.bid_earnings.ensures.limit.at_most in
     let few = c.args.case.now.valid.bid_count in
     let mapped = length-map c.args.case.now.bids.items named_bid_of in
     let test = c.loop-number-test.true in

@@ -8,8 +8,8 @@ use Rattle.uc_model.specs.PlainUnits.{named_renewable_of}
 use Rattle.gap_proof.proofs.MixtureSumLaws.{total_more}
 use Rattle.gap_proof.proofs.flat.renewables_at.Goals as goal
 
-pub sold-requires-clause-place : goal.sold-requires-clause-place
-sold-requires-clause-place c =
+pub renewable_earnings-requires-clause-place : goal.renewable_earnings-requires-clause-place
+renewable_earnings-requires-clause-place c =
     let m = market_of c.args.case.now in
     let at = map_item named_renewable_of c.args.case.now.flat.items c.loop-number.number c.get.result.now
     c.get.ensures.item in
@@ -26,7 +26,7 @@ loop-number-preserved c =
     let k = c.args.place in
     let i = c.loop-number.number in
     let q = c.ranges.price in
-    let s : FitsSigned w64 c.sold.result = search rules in
+    let s : FitsSigned w64 c.renewable_earnings.result = search rules in
     let f : FitsSigned w128 c.from-sum.result = search rules in
     let at = map_item named_renewable_of c.args.case.now.flat.items i c.get.result.now c.get.ensures.item in
     let more = total_more (λ (n : NamedRenewableUnit). best_sold n.unit k c.args.price) m.flat i
@@ -34,12 +34,12 @@ loop-number-preserved c =
     let so_far : cast_signed w128 c.loop-number.sum-bits ≡ total
     (map (λ (n : NamedRenewableUnit). best_sold n.unit k c.args.price) (take i m.flat)) =
     simp to_z-of_z at c.loop-number.invariant.is in
-    let value = simp to_z-of_z at c.sold.ensures.value in
+    let value = simp to_z-of_z at c.renewable_earnings.ensures.value in
     let from = simp to_z-of_z at c.from-sum.ensures in
     let a = c.loop-number.invariant.limit.at_least in
     let b = c.loop-number.invariant.limit.at_most in
-    let x = c.sold.ensures.limit.at_least in
-    let y = c.sold.ensures.limit.at_most in
+    let x = c.renewable_earnings.ensures.limit.at_least in
+    let y = c.renewable_earnings.ensures.limit.at_most in
     let few = c.args.case.now.valid.flat_count in
     let mapped = length-map c.args.case.now.flat.items named_renewable_of in
     let test = c.loop-number-test.true in

@@ -87,15 +87,16 @@ loop-place-preserved c =
     (cast_signed w128 c.loop-place.sum-bits +ℤ c.most_at-sum.result) within (omega arith) in
     record { is = simp to_z-of_z sum; limit = simp to_z-of_z limit }
 
-pub quotient-requires-clause-sum : goal.quotient-requires-clause-sum
-quotient-requires-clause-sum c =
+pub returns-clause-limit : goal.returns-clause-limit
+returns-clause-limit c =
     let few = c.args.case.now.valid.horizon.at_most in
     let end = c.loop-place.auto.place-end in
     let a = c.loop-place.invariant.limit.at_least in
     let b = c.loop-place.invariant.limit.at_most in
     let within : IsWithin 100000000000000000000000000000000000 (cast_signed w128 c.loop-place.sum-bits) =
     record { at_least = omega (arith, ints, a, few, end); at_most = omega (arith, ints, b, few, end) } in
-    within
+    let f : FitsSigned w128 c.quotient_of.result = search rules in
+    simp to_z-of_z (c.quotient_of.ensures.limit 100000000000000000000000000000000000 within)
 
 pub returns-clause-bound : goal.returns-clause-bound
 returns-clause-bound c =
@@ -105,15 +106,15 @@ returns-clause-bound c =
     let q = c.args.radius in
     let rq = c.ranges.radius in
     let k = c.loop-place.place in
-    let f : FitsSigned w128 c.quotient.result = search rules in
+    let f : FitsSigned w128 c.quotient_of.result = search rules in
     let qw : FitsSigned w64 c.args.mixture.now.weight = search rules in
     let term : ℕ → ℤ = λ j. most_energy m x π q j +ℤ most_reserve m x π q j in
     let so_far : cast_signed w128 c.loop-place.sum-bits ≡ mixture_cost m x +ℤ sum_below k term =
     simp to_z-of_z at c.loop-place.invariant.is in
-    let value = simp to_z-of_z at c.quotient.ensures.value in
+    let value = simp to_z-of_z at c.quotient_of.ensures.value in
     let test = c.loop-place-test.false in
     let end = c.loop-place.auto.place-end in
     let all : k ≡ m.periods = omega (arith, test, end) in
-    let bound : c.quotient.result ≡ mixture_bound m x π q =
+    let bound : c.quotient_of.result ≡ mixture_bound m x π q =
     value ∙ ap (λ (z : ℤ). floor_div z (unsigned_abs x.whole)) so_far ∙ bound_is m x π q k all in
     simp to_z-of_z bound

@@ -1,25 +1,20 @@
-use Rattle.gap_proof.proofs.Common.{◌≡◌, ℕ, suc, ◌+◌, ◌<◌, Some, List, [], ◌∷◌, ◌++◌, map, drop, length, get_or, ap}
-use Rattle.gap_proof.proofs.Common.{sym, ◌∙◌, arith, slice_get, slice_get-get_or, thermal_of, WeighedSchedule}
+use Rattle.gap_proof.proofs.Common.{◌≡◌, ℕ, suc, ◌+◌, List, [], ◌∷◌, ◌++◌, map, drop, length, ap}
+use Rattle.gap_proof.proofs.Common.{◌∙◌, arith, slice_get, thermal_of, WeighedSchedule}
 use Rattle.plan_check.proofs.Common.{err_from_is_err_and}
 use Rattle.plan_check.proofs.ToldLaws.{first_left}
-use Rattle.plain_lists.proofs.ListLaws.{item_of, map_item}
+use Rattle.plain_lists.proofs.ListLaws.{item_of}
 use Rattle.gap_proof.specs.Mixtures.{entry_of, IsOver}
 use Rattle.gap_proof.specs.MixtureRefused.{EntryRefusal, entry_refusals}
-use Rattle.gap_proof.specs.declared.mixtures.Entry.{Entry}
+use Rattle.gap_proof.proofs.MixtureSumLaws.{entry_at}
 use Rattle.gap_proof.proofs.RefusedLaws.{drop_from, refusals_split}
 use Rattle.gap_proof.proofs.mixture_check.check_entries.Goals as goal
-
--- an entry as a weighed schedule
-item_at : (xs : List Entry) (i : ℕ) (x : Entry) → i < length xs → x ≡ get_or xs i x →
-    slice_get (map entry_of xs) i ≡ Some (entry_of x)
-item_at xs i x lt is = map_item entry_of xs i x (slice_get-get_or xs i x lt ∙ ap Some (sym is))
 
 pub check_entry-requires : goal.check_entry-requires
 check_entry-requires c =
     record {
       over = item_of (λ (e : WeighedSchedule). IsOver (length c.args.unit.now.window.items) e.schedule)
           (map entry_of c.args.entries.now) c.loop-place.place (entry_of c.index-entries-place.result) c.requires.over
-          (item_at c.args.entries.now c.loop-place.place c.index-entries-place.result c.loop-place-test.true
+          (entry_at c.args.entries.now c.loop-place.place c.index-entries-place.result c.loop-place-test.true
           c.index-entries-place.is);
     }
 
@@ -30,7 +25,7 @@ returns-in_err-check_entry c =
     let k = c.loop-place.place in
     let es = map entry_of c.args.entries.now in
     let x = entry_of c.index-entries-place.result in
-    let at = item_at c.args.entries.now k c.index-entries-place.result c.loop-place-test.true
+    let at = entry_at c.args.entries.now k c.index-entries-place.result c.loop-place-test.true
     c.index-entries-place.is in
     let p = err_from_is_err_and c.from_residual.result c.from_residual.ensures.1 in
     rw (p.1, p.2)
@@ -47,7 +42,7 @@ loop-place-preserved c =
     let k = c.loop-place.place in
     let es = map entry_of c.args.entries.now in
     let x = entry_of c.index-entries-place.result in
-    let at = item_at c.args.entries.now k c.index-entries-place.result c.loop-place-test.true
+    let at = entry_at c.args.entries.now k c.index-entries-place.result c.loop-place-test.true
     c.index-entries-place.is in
     let next : suc (k + 1) ≡ k + 1 + 1 = omega arith in
     c.loop-place.invariant ∙ ap (λ (l : List WeighedSchedule). entry_refusals T c.args.number g (k + 1) l)

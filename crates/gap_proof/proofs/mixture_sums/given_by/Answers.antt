@@ -1,26 +1,20 @@
-use Rattle.gap_proof.proofs.Common.{◌≡◌, ℕ, suc, ◌<◌, Some, ℤ, pos, ◌*ℤ◌, List, map, take, length, get_or, ap, sym}
-use Rattle.gap_proof.proofs.Common.{◌∙◌, arith, ints, slice_get, slice_get-get_or, total, power_in, reserve_in}
+use Rattle.gap_proof.proofs.Common.{suc, ◌<◌, ℤ, pos, ◌*ℤ◌, map, take, length, ap}
+use Rattle.gap_proof.proofs.Common.{arith, ints, total, power_in, reserve_in}
 use Rattle.gap_proof.proofs.Common.{mul-add, WeighedSchedule}
-use Rattle.plain_lists.proofs.ListLaws.{item_of, map_item}
+use Rattle.plain_lists.proofs.ListLaws.{item_of}
 use Rattle.gap_proof.specs.Mixtures.{entry_of}
-use Rattle.gap_proof.specs.declared.mixtures.Entry.{Entry}
-use Rattle.gap_proof.proofs.MixtureSumLaws.{total_more, weight_of, one_weight, share_limit}
+use Rattle.gap_proof.proofs.MixtureSumLaws.{entry_at, total_more, weight_of, one_weight, share_limit}
 use Rattle.gap_proof.proofs.mixture_sums.given_by.Goals as goal
-
--- an entry as a weighed schedule
-item_at : (xs : List Entry) (i : ℕ) (x : Entry) → i < length xs → x ≡ get_or xs i x →
-    slice_get (map entry_of xs) i ≡ Some (entry_of x)
-item_at xs i x lt is = map_item entry_of xs i x (slice_get-get_or xs i x lt ∙ ap Some (sym is))
 
 pub with_entry-given-requires-clause-place : goal.with_entry-given-requires-clause-place
 with_entry-given-requires-clause-place c =
     item_of (λ (e : WeighedSchedule). c.args.place < length e.schedule.on) (map entry_of c.args.entries.now)
     c.loop-entry.entry-index (entry_of c.entry-item.result) c.requires.place
-    (item_at c.args.entries.now c.loop-entry.entry-index c.entry-item.result c.loop-entry-test.true c.entry-item.is)
+    (entry_at c.args.entries.now c.loop-entry.entry-index c.entry-item.result c.loop-entry-test.true c.entry-item.is)
 
 pub with_entry-given-requires-clause-weight : goal.with_entry-given-requires-clause-weight
 with_entry-given-requires-clause-weight c =
-    let at = item_at c.args.entries.now c.loop-entry.entry-index c.entry-item.result c.loop-entry-test.true
+    let at = entry_at c.args.entries.now c.loop-entry.entry-index c.entry-item.result c.loop-entry-test.true
     c.entry-item.is in
     let one = one_weight c.loop-entry.entry-index (map entry_of c.args.entries.now) (entry_of c.entry-item.result)
     c.requires.weights.from_zero at in
@@ -51,7 +45,7 @@ loop-entry-preserved c =
     let i = c.loop-entry.entry-index in
     let k = c.args.place in
     let x = entry_of c.entry-item.result in
-    let at = item_at c.args.entries.now i c.entry-item.result c.loop-entry-test.true c.entry-item.is in
+    let at = entry_at c.args.entries.now i c.entry-item.result c.loop-entry-test.true c.entry-item.is in
     let called = c.with_entry-given.ensures in
     let powers = total_more (λ (e : WeighedSchedule). e.weight *ℤ power_in e.schedule (suc k)) es i x at in
     let reserves = total_more (λ (e : WeighedSchedule). e.weight *ℤ reserve_in e.schedule (suc k)) es i x at in

@@ -8,11 +8,11 @@ returns-clause-power c =
     let x = c.args.mixture.now.weight in
     let k = c.args.place in
     let demand = c.args.case.now.demand.items in
-    let f : FitsSigned w128 c.lacking.result = search rules in
+    let f : FitsSigned w128 c.weighted_lack.result = search rules in
     let fx : FitsSigned w64 x = search rules in
     let fd : FitsSigned w64 c.get.result.now = search rules in
     let fg : FitsSigned w128 c.given_at-given.result.power = search rules in
-    let is = simp to_z-of_z at c.lacking.ensures.value in
+    let is = simp to_z-of_z at c.weighted_lack.ensures.value in
     let at = get_or_from_slice_get demand k c.get.result.now (pos 0) c.get.ensures.item in
     simp to_z-of_z
     (is ∙ ap (λ (z : ℤ). (x *ℤ z) -ℤ c.given_at-given.result.power) (sym at)
@@ -23,41 +23,41 @@ returns-clause-reserve c =
     let x = c.args.mixture.now.weight in
     let k = c.args.place in
     let reserves = c.args.case.now.reserves.items in
-    let f : FitsSigned w128 c.lacking-2.result = search rules in
+    let f : FitsSigned w128 c.weighted_lack-2.result = search rules in
     let fx : FitsSigned w64 x = search rules in
     let fd : FitsSigned w64 c.get-2.result.now = search rules in
     let fg : FitsSigned w128 c.given_at-given.result.reserve = search rules in
-    let is = simp to_z-of_z at c.lacking-2.ensures.value in
+    let is = simp to_z-of_z at c.weighted_lack-2.ensures.value in
     let at = get_or_from_slice_get reserves k c.get-2.result.now (pos 0) c.get-2.ensures.item in
     simp to_z-of_z
     (is ∙ ap (λ (z : ℤ). (x *ℤ z) -ℤ c.given_at-given.result.reserve) (sym at)
     ∙ ap (λ (z : ℤ). (x *ℤ int_at reserves k) -ℤ z) c.given_at-given.ensures.reserve)
 
 -- (found by what is tried without an answer too, but slowly)
-pub lacking-requires-clause-weight : goal.lacking-requires-clause-weight
-lacking-requires-clause-weight c =
+pub weighted_lack-requires-clause-weight : goal.weighted_lack-requires-clause-weight
+weighted_lack-requires-clause-weight c =
     let fx : FitsSigned w64 c.args.mixture.now.weight = search rules in
     let a = c.requires.shape.whole.at_least in
     let weight : IsFrom (pos 0) (pos 1000000000000) c.args.mixture.now.weight =
     record { at_least = omega (arith, ints, a); at_most = c.requires.shape.whole.at_most } in
     simp to_z-of_z weight
 
-pub lacking-requires-2-clause-weight : goal.lacking-requires-2-clause-weight
-lacking-requires-2-clause-weight c =
+pub weighted_lack-requires-2-clause-weight : goal.weighted_lack-requires-2-clause-weight
+weighted_lack-requires-2-clause-weight c =
     let fx : FitsSigned w64 c.args.mixture.now.weight = search rules in
     let a = c.requires.shape.whole.at_least in
     let weight : IsFrom (pos 0) (pos 1000000000000) c.args.mixture.now.weight =
     record { at_least = omega (arith, ints, a); at_most = c.requires.shape.whole.at_most } in
     simp to_z-of_z weight
 
-pub lacking-requires-clause-required : goal.lacking-requires-clause-required
-lacking-requires-clause-required c =
+pub weighted_lack-requires-clause-required : goal.weighted_lack-requires-clause-required
+weighted_lack-requires-clause-required c =
     let fd : FitsSigned w64 c.get.result.now = search rules in
     simp to_z-of_z (item_of IsPower c.args.case.now.demand.items c.args.place c.get.result.now
     c.args.case.now.valid.demand c.get.ensures.item)
 
-pub lacking-requires-2-clause-required : goal.lacking-requires-2-clause-required
-lacking-requires-2-clause-required c =
+pub weighted_lack-requires-2-clause-required : goal.weighted_lack-requires-2-clause-required
+weighted_lack-requires-2-clause-required c =
     let fd : FitsSigned w64 c.get-2.result.now = search rules in
     simp to_z-of_z (item_of IsPower c.args.case.now.reserves.items c.args.place c.get-2.result.now
     c.args.case.now.valid.reserves c.get-2.ensures.item)

@@ -32,9 +32,9 @@ overflow_add-result c =
     let qe : FitsSigned w64 c.args.entry.now.weight = search rules in
     let qp : FitsSigned w64 c.power_at.result = search rules in
     let qq : FitsSigned w128 c.args.given.power = search rules in
-    let f : FitsSigned w128 c.times.result = search rules in
-    let t = simp to_z-of_z at c.times.ensures in
-    let fits = (grown c.args.given.power c.args.entry.now.weight c.power_at.result c.times.result c.requires.weight
+    let f : FitsSigned w128 c.product_of.result = search rules in
+    let t = simp to_z-of_z at c.product_of.ensures in
+    let fits = (grown c.args.given.power c.args.entry.now.weight c.power_at.result c.product_of.result c.requires.weight
     c.requires.power c.power_at.ensures.limit t).fits in
     simp to_z-of_z fits
 
@@ -43,9 +43,9 @@ overflow_add-result-2 c =
     let qe : FitsSigned w64 c.args.entry.now.weight = search rules in
     let qp : FitsSigned w64 c.reserve_at.result = search rules in
     let qq : FitsSigned w128 c.args.given.reserve = search rules in
-    let f : FitsSigned w128 c.times-2.result = search rules in
-    let t = simp to_z-of_z at c.times-2.ensures in
-    let fits = (grown c.args.given.reserve c.args.entry.now.weight c.reserve_at.result c.times-2.result
+    let f : FitsSigned w128 c.product_of-2.result = search rules in
+    let t = simp to_z-of_z at c.product_of-2.ensures in
+    let fits = (grown c.args.given.reserve c.args.entry.now.weight c.reserve_at.result c.product_of-2.result
     c.requires.weight c.requires.reserve c.reserve_at.ensures.limit t).fits in
     simp to_z-of_z fits
 
@@ -57,15 +57,15 @@ returns c =
     let qr : FitsSigned w64 c.reserve_at.result = search rules in
     let qs : FitsSigned w128 c.args.given.power = search rules in
     let qt : FitsSigned w128 c.args.given.reserve = search rules in
-    let f : FitsSigned w128 c.times.result = search rules in
-    let g : FitsSigned w128 c.times-2.result = search rules in
+    let f : FitsSigned w128 c.product_of.result = search rules in
+    let g : FitsSigned w128 c.product_of-2.result = search rules in
     let p = c.power_at.ensures in
     let r = c.reserve_at.ensures in
-    let t = simp to_z-of_z at c.times.ensures in
-    let u = simp to_z-of_z at c.times-2.ensures in
-    let power = grown c.args.given.power weight c.power_at.result c.times.result c.requires.weight
+    let t = simp to_z-of_z at c.product_of.ensures in
+    let u = simp to_z-of_z at c.product_of-2.ensures in
+    let power = grown c.args.given.power weight c.power_at.result c.product_of.result c.requires.weight
     c.requires.power p.limit t in
-    let reserve = grown c.args.given.reserve weight c.reserve_at.result c.times-2.result c.requires.weight
+    let reserve = grown c.args.given.reserve weight c.reserve_at.result c.product_of-2.result c.requires.weight
     c.requires.reserve r.limit u in
     let fits_power = power.fits in
     let fits_reserve = reserve.fits in

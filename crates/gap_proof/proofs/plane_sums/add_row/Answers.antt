@@ -6,11 +6,12 @@ pub overflow_add-result : goal.overflow_add-result
 overflow_add-result c =
     let w = c.ranges.weight in
     let a : FitsSigned w128 c.args.sums.height = search rules in
-    let b : FitsSigned w128 c.height.result = search rules in
-    let d : FitsSigned w128 c.lifted.result = search rules in
+    let b : FitsSigned w128 c.height_of_row.result = search rules in
+    let d : FitsSigned w128 c.weighted_height.result = search rules in
     let within = sum_within 30000000000000000000000000000000000 2000000000000000000000000000000 c.args.sums.height
-    c.lifted.result c.requires.heights c.lifted.ensures.bound in
-    let fits = fits_within w128 30002000000000000000000000000000000 (c.args.sums.height +ℤ c.lifted.result) within
+    c.weighted_height.result c.requires.heights c.weighted_height.ensures.bound in
+    let fits = fits_within w128 30002000000000000000000000000000000 (c.args.sums.height +ℤ c.weighted_height.result)
+    within
     (omega arith) in
     simp to_z-of_z fits
 
@@ -18,15 +19,16 @@ pub returns-clause-height : goal.returns-clause-height
 returns-clause-height c =
     let w = c.ranges.weight in
     let a : FitsSigned w128 c.args.sums.height = search rules in
-    let b : FitsSigned w128 c.height.result = search rules in
-    let d : FitsSigned w128 c.lifted.result = search rules in
+    let b : FitsSigned w128 c.height_of_row.result = search rules in
+    let d : FitsSigned w128 c.weighted_height.result = search rules in
     let within = sum_within 30000000000000000000000000000000000 2000000000000000000000000000000 c.args.sums.height
-    c.lifted.result c.requires.heights c.lifted.ensures.bound in
-    let fits = fits_within w128 30002000000000000000000000000000000 (c.args.sums.height +ℤ c.lifted.result) within
+    c.weighted_height.result c.requires.heights c.weighted_height.ensures.bound in
+    let fits = fits_within w128 30002000000000000000000000000000000 (c.args.sums.height +ℤ c.weighted_height.result)
+    within
     (omega arith) in
-    let value = simp to_z-of_z at c.lifted.ensures.value in
+    let value = simp to_z-of_z at c.weighted_height.ensures.value in
     simp to_z-of_z (ap (λ (z : ℤ). c.args.sums.height +ℤ z)
-    (value ∙ ap (λ (z : ℤ). c.args.weight *ℤ z) c.height.ensures.value))
+    (value ∙ ap (λ (z : ℤ). c.args.weight *ℤ z) c.height_of_row.ensures.value))
 
 pub returns-clause-slopes : goal.returns-clause-slopes
 returns-clause-slopes c =

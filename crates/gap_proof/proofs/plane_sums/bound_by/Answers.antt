@@ -7,12 +7,25 @@ returns-clause-value c =
     let rq = c.ranges.radius in
     let a : FitsSigned w128 c.args.sums.height = search rules in
     let b : FitsSigned w64 c.args.sums.weight = search rules in
-    let d : FitsSigned w128 c.most.result = search rules in
-    let f : FitsSigned w128 c.quotient.result = search rules in
+    let d : FitsSigned w128 c.most_of_slopes.result = search rules in
+    let f : FitsSigned w128 c.quotient_of.result = search rules in
     let within = sum_within 30000000000000000000000000000000000 4000000000000000000000000000000000 c.args.sums.height
-    c.most.result c.requires.heights c.most.ensures.bound in
-    let fits = fits_within w128 34000000000000000000000000000000000 (c.args.sums.height +ℤ c.most.result) within
+    c.most_of_slopes.result c.requires.heights c.most_of_slopes.ensures.bound in
+    let fits = fits_within w128 34000000000000000000000000000000000 (c.args.sums.height +ℤ c.most_of_slopes.result)
+    within
     (omega arith) in
-    let value = simp to_z-of_z at c.most.ensures.value in
-    let e = simp to_z-of_z at c.quotient.ensures.value in
+    let value = simp to_z-of_z at c.most_of_slopes.ensures.value in
+    let e = simp to_z-of_z at c.quotient_of.ensures.value in
     simp to_z-of_z (e ∙ ap (λ (z : ℤ). floor_div (c.args.sums.height +ℤ z) (unsigned_abs c.args.sums.weight)) value)
+
+pub returns-clause-limits : goal.returns-clause-limits
+returns-clause-limits c =
+    let a : FitsSigned w128 c.args.sums.height = search rules in
+    let d : FitsSigned w128 c.most_of_slopes.result = search rules in
+    let f : FitsSigned w128 c.quotient_of.result = search rules in
+    let within = sum_within 30000000000000000000000000000000000 4000000000000000000000000000000000 c.args.sums.height
+    c.most_of_slopes.result c.requires.heights c.most_of_slopes.ensures.bound in
+    let fits = fits_within w128 34000000000000000000000000000000000 (c.args.sums.height +ℤ c.most_of_slopes.result)
+    within
+    (omega arith) in
+    simp to_z-of_z (c.quotient_of.ensures.limit 34000000000000000000000000000000000 (simp to_z-of_z within))

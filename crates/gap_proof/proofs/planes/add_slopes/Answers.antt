@@ -22,15 +22,15 @@ loop-place-preserved c =
     let k = c.loop-place.place in
     let w = c.ranges.weight in
     let f : FitsSigned w128 c.get.result.now = search rules in
-    let d : FitsSigned w64 c.slope.result = search rules in
+    let d : FitsSigned w64 c.slope_of_row.result = search rules in
     let g : FitsSigned w128 c.sum_with.result = search rules in
     let known = simp to_z-of_z at c.loop-place.invariant.added in
     let is = simp to_z-of_z at c.set.ensures.items in
     let called = simp to_z-of_z at c.sum_with.ensures in
     let value : c.sum_with.result ≡ int_at c.args.slopes.now.items k +ℤ (c.args.weight *ℤ slope_at m r k) =
-    called ∙ ap (λ (z : ℤ). z +ℤ (c.args.weight *ℤ c.slope.result))
+    called ∙ ap (λ (z : ℤ). z +ℤ (c.args.weight *ℤ c.slope_of_row.result))
     (before_turn c.args.slopes.now.items c.loop-place.slopes.items _ k c.get.result.now known c.get.ensures.item) ∙
-    ap (λ (z : ℤ). int_at c.args.slopes.now.items k +ℤ (c.args.weight *ℤ z)) c.slope.ensures.value in
+    ap (λ (z : ℤ). int_at c.args.slopes.now.items k +ℤ (c.args.weight *ℤ z)) c.slope_of_row.ensures.value in
     let test = c.loop-place-test.true in
     let length_is = c.requires.length in
     let same = known.same_length in

@@ -1,23 +1,32 @@
-use Rattle.gap_proof.proofs.Common.{ℤ, ◌+ℤ◌, ap, arith, to_z-of_z, w128, fits_within, sum_within}
+use Rattle.gap_proof.proofs.Common.{rules, ◌≡◌, ℤ, ◌+ℤ◌, ◌*ℤ◌, ap, sym, subst, arith, FitsSigned, to_z-of_z, w128}
+use Rattle.gap_proof.proofs.Common.{IsWithin, fits_within, sum_within}
+use Rattle.gap_proof.proofs.Lemmas.{signed_product_within, within_both}
 use Rattle.gap_proof.proofs.planes.sum_with.Goals as goal
+
+product_is : (c : goal.After-product_of) → c.product_of.result ≡ c.args.weight *ℤ c.args.slope
+product_is c =
+    let p = c.ranges.weight in
+    let q = c.ranges.slope in
+    simp to_z-of_z at c.product_of.ensures
+
+fits : (c : goal.After-product_of) → FitsSigned w128 (c.args.sum +ℤ c.product_of.result)
+fits c =
+    let product = subst (IsWithin 20000000000000000000) (sym (product_is c))
+    (signed_product_within 1000000 20000000000000 c.args.weight c.args.slope
+    (within_both 1000000 c.args.weight c.requires.weight) c.requires.slope) in
+    fits_within w128 1000020000000000000000000 (c.args.sum +ℤ c.product_of.result)
+    (sum_within 1000000000000000000000000 20000000000000000000 c.args.sum c.product_of.result c.requires.sum product)
+    (omega arith)
 
 pub overflow_add-result : goal.overflow_add-result
 overflow_add-result c =
     let s = fits_within w128 1000000000000000000000000 c.args.sum c.requires.sum (omega arith) in
-    let t = fits_within w128 20000000000000000000 c.times.result c.times.ensures.bound (omega arith) in
-    let within = sum_within 1000000000000000000000000 20000000000000000000 c.args.sum c.times.result c.requires.sum
-    c.times.ensures.bound in
-    let fits = fits_within w128 1000020000000000000000000 (c.args.sum +ℤ c.times.result) within (omega arith) in
-    simp to_z-of_z fits
+    let t : FitsSigned w128 c.product_of.result = search rules in
+    simp to_z-of_z (fits c)
 
 pub returns : goal.returns
 returns c =
-    let p = c.ranges.weight in
-    let q = c.ranges.slope in
     let s = fits_within w128 1000000000000000000000000 c.args.sum c.requires.sum (omega arith) in
-    let t = fits_within w128 20000000000000000000 c.times.result c.times.ensures.bound (omega arith) in
-    let within = sum_within 1000000000000000000000000 20000000000000000000 c.args.sum c.times.result c.requires.sum
-    c.times.ensures.bound in
-    let fits = fits_within w128 1000020000000000000000000 (c.args.sum +ℤ c.times.result) within (omega arith) in
-    let e = simp to_z-of_z at c.times.ensures.value in
-    simp to_z-of_z (ap (λ (z : ℤ). c.args.sum +ℤ z) e)
+    let t : FitsSigned w128 c.product_of.result = search rules in
+    let f = fits c in
+    simp to_z-of_z (ap (λ (z : ℤ). c.args.sum +ℤ z) (product_is c))

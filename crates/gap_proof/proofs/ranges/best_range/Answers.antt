@@ -9,19 +9,21 @@ returns-then-trailing-alone-clause-best c =
     let rows = map proposal_of c.args.rows.now in
     let r = proposal_of c.row_at-middle.result.now in
     let q = c.ranges.radius in
-    let f : FitsSigned w128 c.trailing-trailing.result.bound = search rules in
-    let g : FitsSigned w128 c.alone-alone.result.bound = search rules in
-    let there = simp to_z-of_z at c.alone-alone.ensures.bound in
-    let is = simp to_z-of_z at c.trailing-trailing.ensures.bound in
-    let least = simp to_z-of_z at c.trailing-trailing.ensures.least in
-    let earlier = simp to_z-of_z at c.trailing-trailing.ensures.earlier in
+    let f : FitsSigned w128 c.best_suffix_bound-trailing.result.bound = search rules in
+    let g : FitsSigned w128 c.bound_by_one_row-alone.result.bound = search rules in
+    let there = simp to_z-of_z at c.bound_by_one_row-alone.ensures.bound in
+    let is = simp to_z-of_z at c.best_suffix_bound-trailing.ensures.bound in
+    let least = simp to_z-of_z at c.best_suffix_bound-trailing.ensures.least in
+    let earlier = simp to_z-of_z at c.best_suffix_bound-trailing.ensures.earlier in
     let better = simp to_z-of_z at c.if-trailing-alone.true in
     back_chosen m rows c.args.centre c.args.radius r.prices (length c.args.rows.now)
     (row_prices rows c.args.centre r c.row_at-middle.ensures) (length-map c.args.rows.now proposal_of)
-    c.trailing-trailing.result.first c.trailing-trailing.result.last c.trailing-trailing.result.bound
-    c.alone-alone.result.bound there
-    c.trailing-trailing.ensures.from_one c.trailing-trailing.ensures.to_last c.trailing-trailing.ensures.last is least
-    earlier (less_from_test c.trailing-trailing.result.bound c.alone-alone.result.bound better)
+    c.best_suffix_bound-trailing.result.first c.best_suffix_bound-trailing.result.last
+    c.best_suffix_bound-trailing.result.bound
+    c.bound_by_one_row-alone.result.bound there
+    c.best_suffix_bound-trailing.ensures.from_one c.best_suffix_bound-trailing.ensures.to_last
+    c.best_suffix_bound-trailing.ensures.last is least
+    earlier (less_from_test c.best_suffix_bound-trailing.result.bound c.bound_by_one_row-alone.result.bound better)
 
 pub returns-clause-best : goal.returns-clause-best
 returns-clause-best c =
@@ -29,13 +31,14 @@ returns-clause-best c =
     let rows = map proposal_of c.args.rows.now in
     let r = proposal_of c.row_at-middle.result.now in
     let q = c.ranges.radius in
-    let f : FitsSigned w128 c.trailing-trailing.result.bound = search rules in
-    let g : FitsSigned w128 c.alone-alone.result.bound = search rules in
-    let is = simp to_z-of_z at c.alone-alone.ensures.bound in
-    let least = simp to_z-of_z at c.trailing-trailing.ensures.least in
+    let f : FitsSigned w128 c.best_suffix_bound-trailing.result.bound = search rules in
+    let g : FitsSigned w128 c.bound_by_one_row-alone.result.bound = search rules in
+    let is = simp to_z-of_z at c.bound_by_one_row-alone.ensures.bound in
+    let least = simp to_z-of_z at c.best_suffix_bound-trailing.ensures.least in
     let low = simp to_z-of_z at c.if-trailing-alone.false in
     centre_chosen m rows c.args.centre c.args.radius r.prices (length c.args.rows.now)
     (row_prices rows c.args.centre r c.row_at-middle.ensures) (length-map c.args.rows.now proposal_of)
-    c.alone-alone.result.first c.alone-alone.result.last c.alone-alone.result.bound c.trailing-trailing.result.bound
-    c.alone-alone.ensures.first c.alone-alone.ensures.last is least
-    (least_from_test c.trailing-trailing.result.bound c.alone-alone.result.bound low)
+    c.bound_by_one_row-alone.result.first c.bound_by_one_row-alone.result.last c.bound_by_one_row-alone.result.bound
+    c.best_suffix_bound-trailing.result.bound
+    c.bound_by_one_row-alone.ensures.first c.bound_by_one_row-alone.ensures.last is least
+    (least_from_test c.best_suffix_bound-trailing.result.bound c.bound_by_one_row-alone.result.bound low)

@@ -7,15 +7,23 @@ use Rattle.hull_report.specs.BoundText.{bound_text}
 use Rattle.hull_report.specs.CertifiedText.{certificate_of}
 use Rattle.hull_report.specs.CheckText.{check_text}
 use Rattle.report_form.specs.CertificateText.{certificate_text}
+use Rattle.report_form.specs.ReportText.{report_text}
 use Rattle.hull_report.specs.SettledText.{settlement_of}
 use Rattle.report_form.specs.SettlementText.{settlement_text}
-use Rattle.plan_check.specs.Settled.{settled_of}
+use Rattle.price_settle.specs.Settled.{settled_of}
 use Rattle.right_report.specs.RecordReport.{report_of, chosen_of, value_of}
 use Rattle.hull_command.specs.Answers.{IsAnswered, found_text}
-use Rattle.hull_command.specs.declared.answer.Answer.TheVariants.{Check, Settle, Certify, Convex, Try, Bound, Fixed}
-use Rattle.hull_command.specs.declared.answer.Answer.TheVariants.{Audit}
+use Rattle.hull_command.specs.declared.answer.Answer.TheVariants.{Price, Check, Settle, Certify, Convex, Try, Bound}
+use Rattle.hull_command.specs.declared.answer.Answer.TheVariants.{Fixed, Audit}
 use Rattle.hull_command.proofs.Lemmas.{run_text, written_bound, bound_written, written_as, at_number}
 use Rattle.hull_command.proofs.end.write_answer.Goals as goal
+
+pub returns-in-Price : goal.returns-in-Price
+returns-in-Price g c =
+    let done = c.in-Price.done in
+    written_as c.args.answer.now (Price done) c.in-Price.is (report_text (report_of done.closed done.settlement))
+    (run_text c.record_report_is_right.ensures report_text done (subst IsAnswered c.in-Price.is c.requires))
+    c.write_done.ensures.text
 
 pub returns-in-Check : goal.returns-in-Check
 returns-in-Check g c =

@@ -1,7 +1,7 @@
 use Rattle.hull_command.proofs.Common.{sym, subst, market_of, schedules_of}
 use Rattle.uc_model.specs.Limits.{IsSum}
 use Rattle.uc_model.specs.PlainUnits.{prices_of}
-use Rattle.plan_check.specs.Settled.{settled_of}
+use Rattle.price_settle.specs.Settled.{settled_of}
 use Rattle.hull_command.proofs.settle.settled_input.Goals as goal
 
 pub returns-clause-told : goal.returns-clause-told

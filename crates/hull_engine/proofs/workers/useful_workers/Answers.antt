@@ -5,4 +5,4 @@ pub returns-then-asked-le-FEW_WORKERS-clause-useful : goal.returns-then-asked-le
 returns-then-asked-le-FEW_WORKERS-clause-useful g c = (0, omega arith)
 
 pub returns-clause-useful : goal.returns-clause-useful
-returns-clause-useful g c = (c.processors.result, omega arith)
+returns-clause-useful g c = (c.processor_count.result, omega arith)

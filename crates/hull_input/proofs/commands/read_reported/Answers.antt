@@ -10,8 +10,8 @@ within_work-requires-clause-size g c =
     let r = c.in_ok-report.ensures.bounds in
     record {
       budget_in = record { at_least = r.budget_at_least; at_most = r.budget_at_most };
-      workers_in = c.requires;
       ahead_in = record { at_least = r.ahead_at_least; at_most = r.ahead_at_most };
+      callers_in = c.requires;
     }
 
 pub returns-in_err-input-clause-answers : goal.returns-in_err-input-clause-answers

@@ -1,5 +1,5 @@
-use Rattle.hull_input.proofs.Common.{err_from_is_err_and, market_of, CaseFile, IsBytes, IsCase}
-use Rattle.hull_input.proofs.Lemmas.{refused_then, answer_then}
+use Rattle.hull_input.proofs.Common.{err_from_is_err_and, Ok, refl, market_of, CaseFile, IsBytes, IsCase}
+use Rattle.hull_input.proofs.Lemmas.{refused_then, fault_then, case_refuses}
 use Rattle.hull_input.proofs.files.read_case_file.Goals as goal
 
 pub returns-in_err-bytes-clause-answers : goal.returns-in_err-bytes-clause-answers
@@ -8,11 +8,22 @@ returns-in_err-bytes-clause-answers g c =
     let h = c.in_err-bytes.ensures.answers in
     rw (p.1, p.2) (h.0, h.1, refused_then (IsBytes CaseFile h.0) IsCase _ h.2)
 
-pub returns-clause-answers : goal.returns-clause-answers
-returns-clause-answers g c =
-    let h = c.in_ok-bytes.ensures.answers in (
+pub returns-in_err-read_case-clause-answers : goal.returns-in_err-read_case-clause-answers
+returns-in_err-read_case-clause-answers g c =
+    let r = c.from_residual-in_err-read_case in
+    let p = err_from_is_err_and r.result r.ensures.1 in
+    let h = c.in_ok-bytes.ensures.answers in
+    let bytes = c.in_ok-bytes.bytes.items in
+    rw (p.1, p.2) (
       h.0,
       h.1,
-      answer_then (IsBytes CaseFile h.0) IsCase c.in_ok-bytes.bytes.items market_of c.case_in.result h.2
-          (rw c.as_slice.ensures.value at c.case_in.ensures),
+      fault_then (IsBytes CaseFile h.0) IsCase bytes _ h.2
+          (case_refuses bytes c.in_err-read_case.field-0.0
+          (rw c.as_slice.ensures.value at c.in_err-read_case.ensures.answer)),
     )
+
+pub returns-clause-answers : goal.returns-clause-answers
+returns-clause-answers g c =
+    let h = c.in_ok-bytes.ensures.answers in
+    let is = rw c.as_slice.ensures.value at c.in_ok-read_case.ensures.answer in
+    (h.0, h.1, (Ok c.in_ok-bytes.bytes.items, h.2, (Ok (market_of c.in_ok-read_case.field-0), is, refl)))

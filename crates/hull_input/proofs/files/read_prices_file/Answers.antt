@@ -1,20 +1,32 @@
-use Rattle.hull_input.proofs.Common.{err_from_is_err_and, market_of, PricesFile, IsBytes, IsPrices}
-use Rattle.uc_model.specs.PlainUnits.{prices_of}
-use Rattle.hull_input.proofs.Lemmas.{refused_then, answer_then}
+use Rattle.hull_input.proofs.Common.{err_from_is_err_and, Ok, refl, market_of, prices_of, PricesFile, IsBytes}
+use Rattle.hull_input.proofs.Common.{IsPrices}
+use Rattle.hull_input.proofs.Lemmas.{refused_then, fault_then, prices_refuse}
 use Rattle.hull_input.proofs.files.read_prices_file.Goals as goal
 
 pub returns-in_err-bytes-clause-answers : goal.returns-in_err-bytes-clause-answers
 returns-in_err-bytes-clause-answers g c =
     let p = err_from_is_err_and c.from_residual.result c.from_residual.ensures.1 in
     let h = c.in_err-bytes.ensures.answers in
-    rw (p.1, p.2) (h.0, h.1, refused_then (IsBytes PricesFile h.0) (IsPrices (market_of c.args.case.now).periods) _ h.2)
+    let periods = (market_of c.args.case.now).periods in
+    rw (p.1, p.2) (h.0, h.1, refused_then (IsBytes PricesFile h.0) (IsPrices periods) _ h.2)
+
+pub returns-in_err-read_prices-clause-answers : goal.returns-in_err-read_prices-clause-answers
+returns-in_err-read_prices-clause-answers g c =
+    let r = c.from_residual-in_err-read_prices in
+    let p = err_from_is_err_and r.result r.ensures.1 in
+    let h = c.in_ok-bytes.ensures.answers in
+    let bytes = c.in_ok-bytes.bytes.items in
+    let periods = (market_of c.args.case.now).periods in
+    rw (p.1, p.2) (
+      h.0,
+      h.1,
+      fault_then (IsBytes PricesFile h.0) (IsPrices periods) bytes _ h.2
+          (prices_refuse periods bytes c.in_err-read_prices.field-0.0
+          (rw c.as_slice.ensures.value at c.in_err-read_prices.ensures.answer)),
+    )
 
 pub returns-clause-answers : goal.returns-clause-answers
 returns-clause-answers g c =
-    let h = c.in_ok-bytes.ensures.answers in (
-      h.0,
-      h.1,
-      answer_then (IsBytes PricesFile h.0) (IsPrices (market_of c.args.case.now).periods) c.in_ok-bytes.bytes.items
-          prices_of c.prices_in.result h.2
-          (rw c.as_slice.ensures.value at c.prices_in.ensures.answers),
-    )
+    let h = c.in_ok-bytes.ensures.answers in
+    let is = rw c.as_slice.ensures.value at c.in_ok-read_prices.ensures.answer in
+    (h.0, h.1, (Ok c.in_ok-bytes.bytes.items, h.2, (Ok (prices_of c.in_ok-read_prices.field-0), is, refl)))

@@ -49,8 +49,8 @@ returns g c =
       to_z-of_z w128 c.args.bound (search rules),
       to_z-of_z w128 value (search rules),
       to_z-of_z w128 (c.args.bound -ℤ value) (search rules),
-      to_z-of_z w128 c.least-least.result (search rules),
-      c.least-least.ensures,
+      to_z-of_z w128 c.least_uplift-least.result (search rules),
+      c.least_uplift-least.ensures,
       to_z-of_z w128 c.args.cost (search rules),
       to_z-of_z w128 c.args.bound (search rules),
     ) at c.write_bounded.ensures in

@@ -11,7 +11,7 @@ returns-in-Some c =
     let lt : c.loop-place.place < length c.args.response.now.on.items = search rules in
     told_first BidRange kinds.Bid c.args.number (length c.args.response.now.on.items) 1 (bid_broken r s)
     c.loop-place.place (c.in-Some.sides.left, c.in-Some.sides.right) lt c.loop-place.invariant (sym c.in-Some.ensures) ∙
-    ap Some (sym c.fault.ensures)
+    ap Some (sym c.fault_of_rule.ensures)
 
 pub returns : goal.returns
 returns c =

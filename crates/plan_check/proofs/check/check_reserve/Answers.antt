@@ -10,7 +10,7 @@ returns-in-Some c =
     told_first Reserve kinds.Case 0 c.args.case.now.periods 1
     (reserve_broken (market_of c.args.case.now) (schedules_of c.args.plan.now))
     c.loop-place.place (c.in-Some.sides.left, c.in-Some.sides.right) lt c.loop-place.invariant (sym c.in-Some.ensures) ∙
-    ap Some (sym c.fault.ensures)
+    ap Some (sym c.fault_of_rule.ensures)
 
 pub returns : goal.returns
 returns c =

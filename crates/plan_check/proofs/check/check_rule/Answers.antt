@@ -13,7 +13,7 @@ returns-in-Some c =
     (thermal_broken c.args.rule g s)
     c.loop-place.place (c.in-Some.sides.left, c.in-Some.sides.right) lt c.loop-place.invariant (sym c.in-Some.ensures)
     ∙ ap Some
-    (sym (c.fault.ensures ∙
+    (sym (c.fault_of_rule.ensures ∙
     ap (λ (shift : ℕ). record {
       rule = c.args.rule;
       kind = kinds.Thermal;

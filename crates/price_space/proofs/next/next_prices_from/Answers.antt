@@ -18,13 +18,14 @@ below m rows best r cost first rows_below at =
 pub gap_of-gap-requires-clause-row : goal.gap_of-gap-requires-clause-row
 gap_of-gap-requires-clause-row c =
     let cost = c.ranges.cost in
-    simp to_z-of_z (below (market_of c.args.case.now) c.args.rows.now c.args.best (proposal_of c.last-row.result.now)
-    c.args.cost c.requires.best c.requires.rows c.last-row.ensures)
+    simp to_z-of_z (below (market_of c.args.case.now) c.args.rows.now c.args.best
+    (proposal_of c.last_row-row.result.now)
+    c.args.cost c.requires.best c.requires.rows c.last_row-row.ensures)
 
 pub norm_of-norm-requires : goal.norm_of-norm-requires
 norm_of-norm-requires c =
-    (below (market_of c.args.case.now) c.args.rows.now c.args.best (proposal_of c.last-row.result.now) c.args.cost
-    c.requires.best c.requires.rows c.last-row.ensures).row
+    (below (market_of c.args.case.now) c.args.rows.now c.args.best (proposal_of c.last_row-row.result.now) c.args.cost
+    c.requires.best c.requires.rows c.last_row-row.ensures).row
 
 pub scale_of-scale-requires : goal.scale_of-scale-requires
 scale_of-scale-requires c = search rules
@@ -37,18 +38,18 @@ returns-clause-settled c = search rules
 
 pub take_step-requires-clause-row : goal.take_step-requires-clause-row
 take_step-requires-clause-row c =
-    (below (market_of c.args.case.now) c.args.rows.now c.args.best (proposal_of c.last-row.result.now) c.args.cost
-    c.requires.best c.requires.rows c.last-row.ensures).row
+    (below (market_of c.args.case.now) c.args.rows.now c.args.best (proposal_of c.last_row-row.result.now) c.args.cost
+    c.requires.best c.requires.rows c.last_row-row.ensures).row
 
 pub take_step-requires-2-clause-row : goal.take_step-requires-2-clause-row
 take_step-requires-2-clause-row c =
-    (below (market_of c.args.case.now) c.args.rows.now c.args.best (proposal_of c.last-row.result.now) c.args.cost
-    c.requires.best c.requires.rows c.last-row.ensures).row
+    (below (market_of c.args.case.now) c.args.rows.now c.args.best (proposal_of c.last_row-row.result.now) c.args.cost
+    c.requires.best c.requires.rows c.last_row-row.ensures).row
 
 pub returns-clause-made : goal.returns-clause-made
 returns-clause-made c = λ _.
     let m = market_of c.args.case.now in
-    let r = proposal_of c.last-row.result.now in
+    let r = proposal_of c.last_row-row.result.now in
     let rows = map proposal_of c.args.rows.now in
     let cost = c.ranges.cost in
     let a : FitsSigned w128 c.gap_of-gap.result = search rules in
@@ -59,7 +60,7 @@ returns-clause-made c = λ _.
     let e = simp to_z-of_z at c.take_step.ensures.prices in
     let f = simp to_z-of_z at c.take_step-2.ensures.prices in
     stepped_is m rows r c.args.cost c.gap_of-gap.result c.scale_of-scale.result c.take_step.new.into.items
-    c.take_step-2.new.into.items c.last-row.ensures gap_is
+    c.take_step-2.new.into.items c.last_row-row.ensures gap_is
     (scale_is
     ∙ ap (λ (z : ℤ). z *ℤ pos (2 ^ min 20 (c.age_of.result / 10))) c.norm_of-norm.ensures.value
     ∙ ap (λ (n : ℕ). squared_length m r *ℤ pos (2 ^ min 20 (n / 10))) c.age_of.ensures)

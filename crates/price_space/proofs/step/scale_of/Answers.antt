@@ -6,11 +6,11 @@ pub returns-clause-bound : goal.returns-clause-bound
 returns-clause-bound c =
     let low = c.requires.at_least in
     let high = c.requires.at_most in
-    let few = c.doublings.ensures.low in
-    let many = c.doublings.ensures.high in
+    let few = c.step_doublings.ensures.low in
+    let many = c.step_doublings.ensures.high in
     let f = c.ranges.norm in
     let g : FitsSigned w128 c.from.result = search rules in
-    let is : c.from.result ≡ pos c.doublings.result = c.from.ensures in
+    let is : c.from.result ≡ pos c.step_doublings.result = c.from.ensures in
     let norm : IsWithin 134400000000000000000000000000 c.args.norm =
     record { at_least = omega (arith, ints, low); at_most = high } in
     let times : IsFrom (pos 0) (pos 1048576) c.from.result =

@@ -7,33 +7,35 @@ use Rattle.plain_lists.specs.Sums.{int_at, sum_below}
 use Rattle.plain_lists.proofs.SignedLaws.{sum_within, product_within, fits_within, IsWithin}
 use Rattle.price_space.proofs.value.dual_value.Goals as goal
 
-energy_is : (c : goal.After-worth-reserve) →
-    c.worth-energy.result ≡ int_at c.args.prices.now.energy.items c.loop-k.k *ℤ int_at c.args.case.now.demand.items
+energy_is : (c : goal.After-worth_at_price-reserve) →
+    c.worth_at_price-energy.result ≡ int_at c.args.prices.now.energy.items c.loop-k.k *ℤ int_at
+    c.args.case.now.demand.items
     c.loop-k.k
 energy_is c =
     let a : FitsSigned w64 c.get.result.now = search rules in
     let b : FitsSigned w64 c.get-in-loop-k.result.now = search rules in
-    let e = simp to_z-of_z at c.worth-energy.ensures in
+    let e = simp to_z-of_z at c.worth_at_price-energy.ensures in
     let x = get_or_from_slice_get c.args.prices.now.energy.items c.loop-k.k c.get.result.now (pos 0)
     c.get.ensures.item in
     let y = get_or_from_slice_get c.args.case.now.demand.items c.loop-k.k c.get-in-loop-k.result.now (pos 0)
     c.get-in-loop-k.ensures.item in
     rw (x, y) e
 
-reserve_is : (c : goal.After-worth-reserve) →
-    c.worth-reserve.result ≡ int_at c.args.prices.now.reserve.items c.loop-k.k *ℤ int_at c.args.case.now.reserves.items
+reserve_is : (c : goal.After-worth_at_price-reserve) →
+    c.worth_at_price-reserve.result ≡ int_at c.args.prices.now.reserve.items c.loop-k.k *ℤ int_at
+    c.args.case.now.reserves.items
     c.loop-k.k
 reserve_is c =
     let a : FitsSigned w64 c.get-in-loop-k-2.result.now = search rules in
     let b : FitsSigned w64 c.get-in-loop-k-3.result.now = search rules in
-    let e = simp to_z-of_z at c.worth-reserve.ensures in
+    let e = simp to_z-of_z at c.worth_at_price-reserve.ensures in
     let x = get_or_from_slice_get c.args.prices.now.reserve.items c.loop-k.k c.get-in-loop-k-2.result.now (pos 0)
     c.get-in-loop-k-2.ensures.item in
     let y = get_or_from_slice_get c.args.case.now.reserves.items c.loop-k.k c.get-in-loop-k-3.result.now (pos 0)
     c.get-in-loop-k-3.ensures.item in
     rw (x, y) e
 
-energy_within : (c : goal.After-worth-reserve) → IsWithin 10000000000000000 c.worth-energy.result
+energy_within : (c : goal.After-worth_at_price-reserve) → IsWithin 10000000000000000 c.worth_at_price-energy.result
 energy_within c =
     let turn = c.loop-k-test.true in
     let prices = c.args.prices.now.valid in
@@ -45,7 +47,7 @@ energy_within c =
     (prices.energy c.loop-k.k (pos 0) (omega (arith, turn, long)))
     (demand.demand c.loop-k.k (pos 0) (omega (arith, turn, many))))
 
-reserve_within : (c : goal.After-worth-reserve) → IsWithin 10000000000000000 c.worth-reserve.result
+reserve_within : (c : goal.After-worth_at_price-reserve) → IsWithin 10000000000000000 c.worth_at_price-reserve.result
 reserve_within c =
     let turn = c.loop-k-test.true in
     let prices = c.args.prices.now.valid in
@@ -62,33 +64,37 @@ reserve_within c =
 
 pub overflow_add-total : goal.overflow_add-total
 overflow_add-total c =
-    let a : FitsSigned w128 c.worth-energy.result = search rules in
-    let b : FitsSigned w128 c.worth-reserve.result = search rules in
+    let a : FitsSigned w128 c.worth_at_price-energy.result = search rules in
+    let b : FitsSigned w128 c.worth_at_price-reserve.result = search rules in
     let within = sum_within 10000000000000000 10000000000000000 _ _ (energy_within c) (reserve_within c) in
-    simp to_z-of_z (fits_within w128 20000000000000000 (c.worth-energy.result +ℤ c.worth-reserve.result) within
+    simp to_z-of_z (fits_within w128 20000000000000000 (c.worth_at_price-energy.result +ℤ
+    c.worth_at_price-reserve.result) within
     (omega arith))
 
 -- what a turn adds
-both : (c : goal.After-worth-reserve) →
+both : (c : goal.After-worth_at_price-reserve) →
     cast_signed w128
-    (cast_unsigned w128 (cast_signed w128 (cast_unsigned w128 c.worth-energy.result) +ℤ cast_signed w128
-    (cast_unsigned w128 c.worth-reserve.result))) ≡ c.worth-energy.result +ℤ c.worth-reserve.result
+    (cast_unsigned w128 (cast_signed w128 (cast_unsigned w128 c.worth_at_price-energy.result) +ℤ cast_signed w128
+    (cast_unsigned w128 c.worth_at_price-reserve.result))) ≡ c.worth_at_price-energy.result +ℤ
+    c.worth_at_price-reserve.result
 both c =
-    let a : FitsSigned w128 c.worth-energy.result = search rules in
-    let b : FitsSigned w128 c.worth-reserve.result = search rules in
+    let a : FitsSigned w128 c.worth_at_price-energy.result = search rules in
+    let b : FitsSigned w128 c.worth_at_price-reserve.result = search rules in
     let within = sum_within 10000000000000000 10000000000000000 _ _ (energy_within c) (reserve_within c) in
-    let f = fits_within w128 20000000000000000 (c.worth-energy.result +ℤ c.worth-reserve.result) within (omega arith) in
+    let f = fits_within w128 20000000000000000 (c.worth_at_price-energy.result +ℤ c.worth_at_price-reserve.result)
+    within (omega arith) in
     simp to_z-of_z
 
-within_next : (c : goal.After-worth-reserve) →
+within_next : (c : goal.After-worth_at_price-reserve) →
     IsWithin (c.loop-k.k * 20000000000000000 + 20000000000000000)
-    (cast_signed w128 c.loop-k.total-bits +ℤ (c.worth-energy.result +ℤ c.worth-reserve.result))
+    (cast_signed w128 c.loop-k.total-bits +ℤ (c.worth_at_price-energy.result +ℤ c.worth_at_price-reserve.result))
 within_next c =
     sum_within (c.loop-k.k * 20000000000000000) 20000000000000000 _ _ c.loop-k.invariant.bound
     (sum_within 10000000000000000 10000000000000000 _ _ (energy_within c) (reserve_within c))
 
-fits_next : (c : goal.After-worth-reserve) →
-    FitsSigned w128 (cast_signed w128 c.loop-k.total-bits +ℤ (c.worth-energy.result +ℤ c.worth-reserve.result))
+fits_next : (c : goal.After-worth_at_price-reserve) →
+    FitsSigned w128 (cast_signed w128 c.loop-k.total-bits +ℤ (c.worth_at_price-energy.result +ℤ
+    c.worth_at_price-reserve.result))
 fits_next c =
     let few = c.args.case.now.valid.horizon.at_most in
     let turn = c.loop-k-test.true in
@@ -97,12 +103,12 @@ fits_next c =
 pub overflow_add-total-in-loop-k : goal.overflow_add-total-in-loop-k
 overflow_add-total-in-loop-k c = rw (both c) (fits_next c)
 
-after : (c : goal.After-worth-reserve) →
+after : (c : goal.After-worth_at_price-reserve) →
     cast_signed w128
     (cast_unsigned w128 (cast_signed w128 c.loop-k.total-bits +ℤ cast_signed w128
-    (cast_unsigned w128 (cast_signed w128 (cast_unsigned w128 c.worth-energy.result) +ℤ cast_signed w128
-    (cast_unsigned w128 c.worth-reserve.result))))) ≡ cast_signed w128
-    c.loop-k.total-bits +ℤ (c.worth-energy.result +ℤ c.worth-reserve.result)
+    (cast_unsigned w128 (cast_signed w128 (cast_unsigned w128 c.worth_at_price-energy.result) +ℤ cast_signed w128
+    (cast_unsigned w128 c.worth_at_price-reserve.result))))) ≡ cast_signed w128
+    c.loop-k.total-bits +ℤ (c.worth_at_price-energy.result +ℤ c.worth_at_price-reserve.result)
 after c = rw (both c) (to_z-of_z w128 _ (fits_next c))
 
 pub loop-k-preserved : goal.loop-k-preserved

@@ -9,7 +9,7 @@ use Rattle.report_compare.proofs.RightReports.{right_is, counted, count_zipped}
 use Rattle.report_compare.proofs.Lemmas.{read_item, row_made, row_long, mine_whole, right_whole, compared_as}
 use Rattle.report_compare.proofs.Lemmas.{number_behind, sum_is_worth, all_right, first_wrong, not_right, IsMade}
 use Rattle.report_compare.proofs.report.first_difference.Goals as goal
-use Rattle.plan_check.specs.declared.settlement.Settlement.{Settlement}
+use Rattle.price_settle.specs.declared.settlement.Settlement.{Settlement}
 use Rattle.report_compare.proofs.report.first_difference.Goals.{After-index-rows-chosen}
 
 -- the chosen row of the run
@@ -27,13 +27,13 @@ module _ (c : After-index-rows-chosen) where
   rows = map proposal_of c.args.rows.now
 
   abbrev k : ℕ
-  k = c.greatest-chosen.result
+  k = c.greatest_row-chosen.result
 
   abbrev row : Proposal
   row = proposal_of c.index-rows-chosen.result
 
   at : slice_get rows k ≡ Some row
-  at = read_item proposal_of c.args.rows.now k c.index-rows-chosen.result c.greatest-chosen.ensures.place
+  at = read_item proposal_of c.args.rows.now k c.index-rows-chosen.result c.greatest_row-chosen.ensures.place
       c.index-rows-chosen.is
 
   made : IsMade m row
@@ -56,7 +56,7 @@ module _ (c : After-index-rows-chosen) where
         let counts = c.settlements_are_of_all_units.ensures m plan row.prices s.scheduled.items s.payments.items
         s.surplus s.total c.requires.feasible settled in
         right_is m plan r.budget r.ahead c.args.cost rows row (k + 1) a s.surplus s.total c.requires.cost c.requires.run
-        c.greatest-chosen.ensures.number (number_behind rows k row at)
+        c.greatest_row-chosen.ensures.number (number_behind rows k row at)
         made.fit made.totals tops counts.0 counts.1 settled
 
     lined : (o : Result ℕ WrongLine) →
@@ -67,8 +67,8 @@ module _ (c : After-index-rows-chosen) where
         compared_as o _ (report_lines r) _ (report_lines right) (mine_whole c.args.report.now c.requires.order)
         (right_whole m a r.budget r.ahead c.args.cost rows (k + 1) row.value s.surplus s.total) told
 
-pub greatest-chosen-requires : goal.greatest-chosen-requires
-greatest-chosen-requires c =
+pub greatest_row-chosen-requires : goal.greatest_row-chosen-requires
+greatest_row-chosen-requires c =
     let long = length-map c.args.rows.now proposal_of in
     let least = c.requires.bounds.budget_at_least in
     elim c.requires.run.whole [
@@ -77,19 +77,19 @@ greatest-chosen-requires c =
     ]
 
 pub bounds-rows-chosen : goal.bounds-rows-chosen
-bounds-rows-chosen c = c.greatest-chosen.ensures.place
+bounds-rows-chosen c = c.greatest_row-chosen.ensures.place
 
 pub earn_all-requires-clause-some : goal.earn_all-requires-clause-some
 earn_all-requires-clause-some c = (schedules_of c.args.plan.now, c.requires.feasible.feasible)
 
 pub earn_all-requires-clause-bench : goal.earn_all-requires-clause-bench
-earn_all-requires-clause-bench c = c.requires.desk.bench
+earn_all-requires-clause-bench c = c.requires.compare_room.bench
 
 pub earn_all-requires-clause-buffer : goal.earn_all-requires-clause-buffer
-earn_all-requires-clause-buffer c = c.requires.desk.answer
+earn_all-requires-clause-buffer c = c.requires.compare_room.answer
 
 pub earn_all-requires-clause-room : goal.earn_all-requires-clause-room
-earn_all-requires-clause-room c = c.requires.desk.earned
+earn_all-requires-clause-room c = c.requires.compare_room.earned
 
 pub settle-requires-clause-feasible : goal.settle-requires-clause-feasible
 settle-requires-clause-feasible c = c.requires.feasible
@@ -102,24 +102,24 @@ settle-requires-clause-best c =
     (sym c.as_slice.ensures) c.earn_all.ensures.tops
 
 pub settle-requires-clause-scheduled : goal.settle-requires-clause-scheduled
-settle-requires-clause-scheduled c = c.requires.desk.scheduled
+settle-requires-clause-scheduled c = c.requires.compare_room.scheduled
 
 pub settle-requires-clause-payments : goal.settle-requires-clause-payments
-settle-requires-clause-payments c = c.requires.desk.payments
+settle-requires-clause-payments c = c.requires.compare_room.payments
 
-pub report_same-requires-clause-rows : goal.report_same-requires-clause-rows
-report_same-requires-clause-rows c =
+pub compare_report-requires-clause-rows : goal.compare_report-requires-clause-rows
+compare_report-requires-clause-rows c =
     let long = length-map c.args.rows.now proposal_of in
     let within = c.requires.run.within in
     let most = c.requires.bounds.budget_at_most in
     omega (arith, long, within, most)
 
-pub report_same-requires-clause-chosen : goal.report_same-requires-clause-chosen
-report_same-requires-clause-chosen c =
+pub compare_report-requires-clause-chosen : goal.compare_report-requires-clause-chosen
+compare_report-requires-clause-chosen c =
     let long = length-map c.args.rows.now proposal_of in
     let within = c.requires.run.within in
     let most = c.requires.bounds.budget_at_most in
-    let place = c.greatest-chosen.ensures.place in
+    let place = c.greatest_row-chosen.ensures.place in
     omega (arith, long, within, most, place)
 
 pub earn_all-requires-clause-horizon : goal.earn_all-requires-clause-horizon
@@ -128,18 +128,19 @@ earn_all-requires-clause-horizon c = long (goal.at.earn_all-requires-clause-hori
 pub settle-requires-clause-horizon : goal.settle-requires-clause-horizon
 settle-requires-clause-horizon c = long (goal.at.settle-requires-clause-horizon c).After-index-rows-chosen
 
-pub report_same-requires-clause-horizon : goal.report_same-requires-clause-horizon
-report_same-requires-clause-horizon c = long (goal.at.report_same-requires-clause-horizon c).After-index-rows-chosen
+pub compare_report-requires-clause-horizon : goal.compare_report-requires-clause-horizon
+compare_report-requires-clause-horizon c = long (goal.at.compare_report-requires-clause-horizon
+    c).After-index-rows-chosen
 
-pub report_same-requires-clause-some : goal.report_same-requires-clause-some
-report_same-requires-clause-some c = (schedules_of c.args.plan.now, c.requires.feasible.feasible)
+pub compare_report-requires-clause-some : goal.compare_report-requires-clause-some
+compare_report-requires-clause-some c = (schedules_of c.args.plan.now, c.requires.feasible.feasible)
 
-pub report_same-requires-clause-earned : goal.report_same-requires-clause-earned
-report_same-requires-clause-earned c =
+pub compare_report-requires-clause-earned : goal.compare_report-requires-clause-earned
+compare_report-requires-clause-earned c =
     count_zipped _ (market_of c.args.case.now) c.earn_all.new.into.items c.earn_all.ensures.tops
 
-pub report_same-requires-clause-desk : goal.report_same-requires-clause-desk
-report_same-requires-clause-desk c =
+pub compare_report-requires-clause-compare_room : goal.compare_report-requires-clause-compare_room
+compare_report-requires-clause-compare_room c =
     let m = market_of c.args.case.now in
     let plan = schedules_of c.args.plan.now in
     let row = proposal_of c.index-rows-chosen.result in
@@ -156,26 +157,26 @@ report_same-requires-clause-desk c =
       payments = counts.1;
     }
 
-pub report_same-requires-clause-cost : goal.report_same-requires-clause-cost
-report_same-requires-clause-cost c =
+pub compare_report-requires-clause-cost : goal.compare_report-requires-clause-cost
+compare_report-requires-clause-cost c =
     let worth = c.plan_costs_are_within.ensures (market_of c.args.case.now) (schedules_of c.args.plan.now)
     c.args.case.now.valid c.requires.feasible in
     let known = sum_is_worth _ worth in
     rw (to_z-of_z w128 c.args.cost c.ranges.cost) (subst IsWorth (sym c.requires.cost) known)
 
-pub report_same-requires-clause-value : goal.report_same-requires-clause-value
-report_same-requires-clause-value c =
-    let d = (goal.at.report_same-requires-clause-value c).After-index-rows-chosen in
+pub compare_report-requires-clause-value : goal.compare_report-requires-clause-value
+compare_report-requires-clause-value c =
+    let d = (goal.at.compare_report-requires-clause-value c).After-index-rows-chosen in
     c.dual_values_are_within.ensures (m d) (row d).prices (row d).value c.args.case.now.valid
     c.index-rows-chosen.result.prices.valid (long d) (made d).value
 
-pub report_same-requires-clause-units : goal.report_same-requires-clause-units
+pub compare_report-requires-clause-units : goal.compare_report-requires-clause-units
 unfolding report_of
-report_same-requires-clause-units c = c.requires.bounds.units_at_most
+compare_report-requires-clause-units c = c.requires.bounds.units_at_most
 
-pub report_same-requires-clause-lines : goal.report_same-requires-clause-lines
+pub compare_report-requires-clause-lines : goal.compare_report-requires-clause-lines
 unfolding report_of
-report_same-requires-clause-lines c =
+compare_report-requires-clause-lines c =
     let tolds = map told_of c.args.report.now.lines.items in
     let n = counted 0 tolds c.requires.order in
     let long = length-map c.args.report.now.lines.items told_of in

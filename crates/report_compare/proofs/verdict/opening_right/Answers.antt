@@ -6,8 +6,9 @@ use Rattle.report_compare.proofs.verdict.opening_right.Goals as goal
 pub returns-clause-right : goal.returns-clause-right
 returns-clause-right c =
     let r = report_of c.args.report.now in
-    let told = rw (to_z-of_z w128 c.args.cost c.ranges.cost) at c.opening_same.ensures.lines in
-    opening_told c.opening_same.result (opening_lines r) (right_opening (market_of c.args.case.now) c.args.cost r) told
+    let told = rw (to_z-of_z w128 c.args.cost c.ranges.cost) at c.compare_opening.ensures.lines in
+    opening_told c.compare_opening.result (opening_lines r) (right_opening (market_of c.args.case.now) c.args.cost r)
+    told
 
 pub returns-clause-wrong : goal.returns-clause-wrong
 returns-clause-wrong c =
@@ -16,8 +17,8 @@ returns-clause-wrong c =
     let r = report_of c.args.report.now in
     let q = c.right_reports_exist.ensures m plan r.budget r.ahead c.requires.feasible c.requires.bounds.budget_at_least
     c.requires.bounds.ahead_at_least in
-    let told = rw (to_z-of_z w128 c.args.cost c.ranges.cost) at c.opening_same.ensures.lines in
-    let lines = subst (λ (x : ℤ). Compares 1 c.opening_same.result (opening_lines r) (right_opening m x r))
+    let told = rw (to_z-of_z w128 c.args.cost c.ranges.cost) at c.compare_opening.ensures.lines in
+    let lines = subst (λ (x : ℤ). Compares 1 c.compare_opening.result (opening_lines r) (right_opening m x r))
     c.requires.cost told in
     opening_fails c.text_determines_the_report.ensures c.one_report_is_right.ensures m plan r q.0 q.1
-    c.opening_same.result lines
+    c.compare_opening.result lines

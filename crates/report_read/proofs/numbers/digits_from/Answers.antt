@@ -8,9 +8,9 @@ pub returns-then-not-is_ascii_digit : goal.returns-then-not-is_ascii_digit
 returns-then-not-is_ascii_digit c =
     let stop = digits_stop c.loop-offset.number c.args.bytes.now c.loop-offset.offset c.loop-offset-test.true
     (sym c.if-not-is_ascii_digit.ensures.value) in
-    let whole : digits_spec c.args.first c.args.bytes.now ≡ (c.loop-offset.number, c.rest_from.result.now) =
-    c.loop-offset.invariant ∙ stop ∙ ap (λ (z : List ℕ). (c.loop-offset.number, z)) (sym c.rest_from.ensures) in
-    rw whole c.within.ensures
+    let whole : digits_spec c.args.first c.args.bytes.now ≡ (c.loop-offset.number, c.bytes_from.result.now) =
+    c.loop-offset.invariant ∙ stop ∙ ap (λ (z : List ℕ). (c.loop-offset.number, z)) (sym c.bytes_from.ensures) in
+    rw whole c.number_and_rest.ensures
 
 pub returns-then-number-gt-MOST_BEFORE_LAST : goal.returns-then-number-gt-MOST_BEFORE_LAST
 returns-then-number-gt-MOST_BEFORE_LAST c =
@@ -28,7 +28,7 @@ returns c =
     let stop = digits_end c.loop-offset.number c.args.bytes.now c.loop-offset.offset c.loop-offset-test.false in
     let same : drop c.loop-offset.offset c.args.bytes.now ≡ drop (length c.args.bytes.now) c.args.bytes.now =
     drop_of_length-le c.args.bytes.now c.loop-offset-test.false ∙ sym (drop-length c.args.bytes.now) in
-    let whole : digits_spec c.args.first c.args.bytes.now ≡ (c.loop-offset.number, c.rest_from-2.result.now) =
+    let whole : digits_spec c.args.first c.args.bytes.now ≡ (c.loop-offset.number, c.bytes_from-2.result.now) =
     c.loop-offset.invariant ∙ stop ∙ ap (λ (z : List ℕ). (c.loop-offset.number, z))
-    (same ∙ sym c.rest_from-2.ensures) in
-    rw whole c.within-2.ensures
+    (same ∙ sym c.bytes_from-2.ensures) in
+    rw whole c.number_and_rest-2.ensures

@@ -10,8 +10,8 @@ pub returns-then-magnitude-eq0 : goal.returns-then-magnitude-eq0
 returns-then-magnitude-eq0 c = minus_zero MOST (pos 170141183460469231731687303715884105727) c.args.bytes.now
     c.in_ok-magnitude.magnitude c.in_ok-magnitude.rest.now c.in_ok-magnitude.ensures c.if-magnitude-eq0.true
 
-pub negated-requires-clause-most : goal.negated-requires-clause-most
-negated-requires-clause-most c =
+pub negative_number-requires-clause-most : goal.negative_number-requires-clause-most
+negative_number-requires-clause-most c =
     count_most MOST c.args.bytes.now (c.in_ok-magnitude.magnitude, c.in_ok-magnitude.rest.now)
     c.in_ok-magnitude.ensures
 
@@ -20,4 +20,4 @@ returns c =
     minus_some MOST 170141183460469231731687303715884105727 c.args.bytes.now c.in_ok-magnitude.magnitude
     c.in_ok-magnitude.rest.now c.in_ok-magnitude.ensures c.if-magnitude-eq0.false
     ∙ ap (λ (z : ℤ). Some (z, c.in_ok-magnitude.rest.now))
-    (sym c.negated.ensures ∙ sym (to_z-of_z w128 c.negated.result (search rules)))
+    (sym c.negative_number.ensures ∙ sym (to_z-of_z w128 c.negative_number.result (search rules)))

@@ -5,17 +5,17 @@ use Rattle.slope_list.proofs.Lemmas.{shown_under}
 use Rattle.slope_list.proofs.below.is_below.Goals as goal
 use Rattle.slope_list.proofs.below.is_below.Goals.{In-loop-there}
 
-pub seek-here-requires-clause-to : goal.seek-here-requires-clause-to
-seek-here-requires-clause-to c =
+pub seek_power-here-requires-clause-to : goal.seek_power-here-requires-clause-to
+seek_power-here-requires-clause-to c =
     let f : FitsSigned w64 c.args.other.first = search rules in
     let e = to_z-of_z w64 c.args.other.first f in
     let low = ends_rise_to c.args.other.first c.args.others.now c.requires.other_slopes 0 (length c.args.others.now)
     (omega arith) (omega arith) in
-    let l = c.if-not-covers.ensures.last in
+    let l = c.if-not-domain_covers.ensures.last in
     omega (arith, ints)
 
-pub seek-there-requires-clause-to : goal.seek-there-requires-clause-to
-seek-there-requires-clause-to c =
+pub seek_power-there-requires-clause-to : goal.seek_power-there-requires-clause-to
+seek_power-there-requires-clause-to c =
     let f : FitsSigned w64 c.args.other.first = search rules in
     let e = to_z-of_z w64 c.args.other.first f in
     let low = ends_rise_to c.args.other.first c.args.others.now c.requires.other_slopes 0 (length c.args.others.now)
@@ -24,26 +24,26 @@ seek-there-requires-clause-to c =
 
 pub is_over-requires-clause-value : goal.is_over-requires-clause-value
 is_over-requires-clause-value c =
-    let fv : FitsSigned w64 c.seek-here.result.value = search rules in
-    rw (to_z-of_z w64 c.seek-here.result.value fv)
+    let fv : FitsSigned w64 c.seek_power-here.result.value = search rules in
+    rw (to_z-of_z w64 c.seek_power-here.result.value fv)
     (reached_amount c.args.start c.args.pieces.now c.requires.slopes c.requires.within
-    (to_z w64 (of_z w64 c.args.other.first)) c.seek-here.result
-    (record { value = c.seek-here.ensures.value; placed = c.seek-here.ensures.placed }))
+    (to_z w64 (of_z w64 c.args.other.first)) c.seek_power-here.result
+    (record { value = c.seek_power-here.ensures.value; placed = c.seek_power-here.ensures.placed }))
 
 pub loop-there-init : goal.loop-there-init
 loop-there-init c =
     let f : FitsSigned w64 c.args.other.first = search rules in
     let e = to_z-of_z w64 c.args.other.first f in
-    let fv : FitsSigned w64 c.seek-here.result.value = search rules in
-    let fw : FitsSigned w64 c.seek-there.result.value = search rules in
-    let ev = to_z-of_z w64 c.seek-here.result.value fv in
-    let ew = to_z-of_z w64 c.seek-there.result.value fw in
+    let fv : FitsSigned w64 c.seek_power-here.result.value = search rules in
+    let fw : FitsSigned w64 c.seek_power-there.result.value = search rules in
+    let ev = to_z-of_z w64 c.seek_power-here.result.value fv in
+    let ew = to_z-of_z w64 c.seek_power-there.result.value fw in
     let es = to_z-of_z w64 c.args.shift c.ranges.shift in
     let at = to_z w64 (of_z w64 c.args.other.first) in
     record {
       from = omega (arith, ints);
-      here = record { value = c.seek-here.ensures.value; placed = c.seek-here.ensures.placed };
-      there = record { value = c.seek-there.ensures.value; placed = c.seek-there.ensures.placed };
+      here = record { value = c.seek_power-here.ensures.value; placed = c.seek_power-here.ensures.placed };
+      there = record { value = c.seek_power-there.ensures.value; placed = c.seek_power-there.ensures.placed };
       under = λ x low high.
           let is : x ≡ at = omega (arith, ints) in
           let fx : function_of c.args.start c.args.pieces.now x ≡ function_of c.args.start c.args.pieces.now at =
@@ -55,7 +55,7 @@ loop-there-init c =
 
 inside : (c : In-loop-there) → c.loop-there.here.next < length c.args.pieces.now
 inside c = goes_on c.args.start c.args.pieces.now c.args.other c.args.others.now c.requires.other_slopes
-    c.if-not-covers.ensures.last (to_z w64 c.loop-there.at-bits) c.loop-there.here c.loop-there.invariant.here
+    c.if-not-domain_covers.ensures.last (to_z w64 c.loop-there.at-bits) c.loop-there.here c.loop-there.invariant.here
     c.loop-there.there c.loop-there.invariant.there c.loop-there-test.true
 
 pub bounds-pieces-here : goal.bounds-pieces-here
@@ -68,7 +68,7 @@ pub go_on-here-requires-clause-rise : goal.go_on-here-requires-clause-rise
 go_on-here-requires-clause-rise c =
     let was = c.loop-there.invariant in
     end_ahead c.args.start c.args.pieces.now c.args.other c.args.others.now c.requires.other_slopes
-    c.if-not-covers.ensures.last (to_z w64 c.loop-there.at-bits) c.loop-there.here was.here c.loop-there.there
+    c.if-not-domain_covers.ensures.last (to_z w64 c.loop-there.at-bits) c.loop-there.here was.here c.loop-there.there
     was.there c.loop-there-test.true
     (to_z w64 (of_z w64 c.min-end.result)) (omega (arith, ints, clamps))
 
@@ -119,8 +119,8 @@ returns c =
     let es = to_z-of_z w64 c.args.shift c.ranges.shift in
     let some = was.there.placed.some in
     let last = was.there.placed.last (omega arith) in
-    let l = c.if-not-covers.ensures.last in
-    let f = c.if-not-covers.ensures.first in
+    let l = c.if-not-domain_covers.ensures.last in
+    let f = c.if-not-domain_covers.ensures.first in
     shown_under c.args.start c.args.pieces.now c.args.other c.args.others.now c.args.shift
     (λ x low high. (
       omega (arith, ints),

@@ -3,11 +3,11 @@ use Rattle.slope_list.proofs.Common.{IsInBlock, cost_at, with_cost}
 use Rattle.slope_list.proofs.Lemmas.{same_le, line_part, line_sum, cost_in, price_within, in_block_at, drawn_same}
 use Rattle.slope_list.proofs.draw.end_block.Goals as goal
 
-pub write-written-requires-clause-total : goal.write-written-requires-clause-total
-write-written-requires-clause-total c = rw (to_z-of_z w64 c.args.slope c.ranges.slope) c.requires.total
+pub write_piece-written-requires-clause-total : goal.write_piece-written-requires-clause-total
+write_piece-written-requires-clause-total c = rw (to_z-of_z w64 c.args.slope c.ranges.slope) c.requires.total
 
-pub write-written-requires-clause-price : goal.write-written-requires-clause-price
-write-written-requires-clause-price c =
+pub write_piece-written-requires-clause-price : goal.write_piece-written-requires-clause-price
+write_piece-written-requires-clause-price c =
     let span = c.args.pen.span in
     price_within c.args.curve.now c.requires.limited c.args.pen.at span.end span (omega (arith, ints)) c.requires.block
     (same_le span.end) c.requires.costs
@@ -16,19 +16,19 @@ pub next_block-requires-clause-block : goal.next_block-requires-clause-block
 next_block-requires-clause-block c =
     let cv = c.args.curve.now in
     let f : FitsSigned w64 c.args.pen.span.end = search rules in
-    let written = c.write-written.result in
-    subst (λ (z : Span). IsInBlock cv written.at z) (sym c.write-written.ensures.span)
+    let written = c.write_piece-written.result in
+    subst (λ (z : Span). IsInBlock cv written.at z) (sym c.write_piece-written.ensures.span)
     (in_block_at cv c.args.pen.at c.args.pen.span c.requires.block written.at (omega (arith, ints)))
 
 pub next_block-requires-clause-passed : goal.next_block-requires-clause-passed
 next_block-requires-clause-passed c =
     let f : FitsSigned w64 c.args.pen.span.end = search rules in
-    let e = ap (λ (z : Span). z.end) c.write-written.ensures.span in
+    let e = ap (λ (z : Span). z.end) c.write_piece-written.ensures.span in
     omega (arith, ints, e)
 
 pub next_block-requires-clause-more : goal.next_block-requires-clause-more
 next_block-requires-clause-more c =
-    let e = ap (λ (z : Span). z.index) c.write-written.ensures.span in
+    let e = ap (λ (z : Span). z.index) c.write_piece-written.ensures.span in
     let m = c.requires.more in
     omega (arith, e, m)
 
@@ -45,8 +45,9 @@ returns-then-pen-clause-drawn c = λ f lo end short line d.
     let sum = line_sum f (cost_at cv) pen.at stop c.args.slope pen.span.price part
     (cost_in cv c.requires.limited pen.at stop pen.span (omega (arith, ints)) c.requires.block (same_le stop))
     in
-    let w = (rw (es, eb) at c.write-written.ensures.drawn) (with_cost f cv) lo sum d in
-    drawn_same (with_cost f cv) lo _ c.write-written.result _ w c.next_block.ensures.same.1 c.next_block.ensures.same.0
+    let w = (rw (es, eb) at c.write_piece-written.ensures.drawn) (with_cost f cv) lo sum d in
+    drawn_same (with_cost f cv) lo _ c.write_piece-written.result _ w c.next_block.ensures.same.1
+    c.next_block.ensures.same.0
 
 pub returns-then-pen-clause-block : goal.returns-then-pen-clause-block
 returns-then-pen-clause-block c = rw (c.next_block.ensures.same.0) c.next_block.ensures.block
@@ -54,13 +55,13 @@ returns-then-pen-clause-block c = rw (c.next_block.ensures.same.0) c.next_block.
 pub returns-then-pen-clause-next : goal.returns-then-pen-clause-next
 returns-then-pen-clause-next c =
     let a = c.next_block.ensures.next in
-    let b = ap (λ (z : Span). z.index) c.write-written.ensures.span in
+    let b = ap (λ (z : Span). z.index) c.write_piece-written.ensures.span in
     omega (arith, a, b)
 
 pub returns-then-pen-clause-used : goal.returns-then-pen-clause-used
 returns-then-pen-clause-used c =
     let a = c.next_block.ensures.same.1 in
-    let b = c.write-written.ensures.used in
+    let b = c.write_piece-written.ensures.used in
     omega (arith, a, b)
 
 pub returns-then-pen-clause-at : goal.returns-then-pen-clause-at

@@ -5,22 +5,22 @@ use Rattle.slope_list.proofs.kink.part_at.Goals.{then-piece-whole, else-piece-wh
 
 pub returns-clause-line : goal.returns-clause-line
 returns-clause-line c = λ start slopes placed.
-    let q = c.lowered-piece.result in
+    let q = c.piece_less_reserve-piece.result in
     let ps = c.args.pieces.now in
     let fe : FitsSigned w64 q.end = search rules in
     let fs : FitsSigned w64 q.slope = search rules in
     let l = left c.args.step c.requires.fair c.args.cursor.at (piece ps c.args.cursor.next) q c.requires.to
-    c.lowered-piece.ensures in
+    c.piece_less_reserve-piece.ensures in
     rw (to_z-of_z w64 q.end fe, to_z-of_z w64 q.slope fs)
     (part_line ps c.args.step c.args.cursor q c.requires.next l start slopes placed)
 
 pub returns-clause-placed : goal.returns-clause-placed
 returns-clause-placed c = λ first slopes placed.
-    let q = c.lowered-piece.result in
+    let q = c.piece_less_reserve-piece.result in
     let ps = c.args.pieces.now in
     let fe : FitsSigned w64 q.end = search rules in
     let l = left c.args.step c.requires.fair c.args.cursor.at (piece ps c.args.cursor.next) q c.requires.to
-    c.lowered-piece.ensures in
+    c.piece_less_reserve-piece.ensures in
     part_placed ps c.args.step c.args.cursor (record { at = to_z w64 (of_z w64 q.end); next = c.if-piece-whole.next }) q
     c.requires.next l (to_z-of_z w64 q.end fe)
     (λ h. elim c.if-piece-whole.branch [
@@ -37,11 +37,11 @@ returns-clause-placed c = λ first slopes placed.
 
 pub returns-clause-fewer : goal.returns-clause-fewer
 returns-clause-fewer c =
-    let q = c.lowered-piece.result in
+    let q = c.piece_less_reserve-piece.result in
     let ps = c.args.pieces.now in
     let fe : FitsSigned w64 q.end = search rules in
     let l = left c.args.step c.requires.fair c.args.cursor.at (piece ps c.args.cursor.next) q c.requires.to
-    c.lowered-piece.ensures in
+    c.piece_less_reserve-piece.ensures in
     part_fewer ps c.args.step c.args.cursor (record { at = to_z w64 (of_z w64 q.end); next = c.if-piece-whole.next }) q
     c.requires.next l (to_z-of_z w64 q.end fe)
     (λ h. elim c.if-piece-whole.branch [
@@ -57,9 +57,9 @@ returns-clause-fewer c =
 
 pub returns-clause-steep : goal.returns-clause-steep
 returns-clause-steep c =
-    let q = c.lowered-piece.result in
+    let q = c.piece_less_reserve-piece.result in
     let ps = c.args.pieces.now in
     let fs : FitsSigned w64 q.slope = search rules in
     let s = left_steep c.args.step c.requires.fair c.args.cursor.at (piece ps c.args.cursor.next) q c.requires.to
-    c.lowered-piece.ensures (c.requires.gentle c.args.cursor.next c.requires.next) in
+    c.piece_less_reserve-piece.ensures (c.requires.gentle c.args.cursor.next c.requires.next) in
     rw (to_z-of_z w64 q.slope fs) s

@@ -10,8 +10,8 @@ loop-piece-init c =
     rw (to_z-of_z w64 c.args.start.first f, to_z-of_z w64 c.args.start.level g)
     (fallen_none c.args.start c.args.pieces.now c.requires.slopes)
 
-pub along-value-requires : goal.along-value-requires
-along-value-requires c =
+pub level_along-value-requires : goal.level_along-value-requires
+level_along-value-requires c =
     let end = (piece c.args.pieces.now c.loop-piece.piece-index).end in
     let fe : FitsSigned w64 end = search rules in
     rw (to_z-of_z w64 end fe) (fallen_goes c.args.start c.args.pieces.now c.requires.slopes c.loop-piece.piece-index _ _
@@ -21,19 +21,19 @@ pub loop-piece-preserved : goal.loop-piece-preserved
 loop-piece-preserved c =
     let end = (piece c.args.pieces.now c.loop-piece.piece-index).end in
     let fe : FitsSigned w64 end = search rules in
-    let fr : FitsSigned w64 c.along-value.result = search rules in
+    let fr : FitsSigned w64 c.level_along-value.result = search rules in
     let ee = to_z-of_z w64 end fe in
-    rw (ee, to_z-of_z w64 c.along-value.result fr)
+    rw (ee, to_z-of_z w64 c.level_along-value.result fr)
     (fallen_on c.args.start c.args.pieces.now c.requires.slopes c.loop-piece.piece-index _ _ c.loop-piece.invariant
-    c.requires.within c.loop-piece-test.true c.along-value.result (rw ee at c.along-value.ensures)
+    c.requires.within c.loop-piece-test.true c.level_along-value.result (rw ee at c.level_along-value.ensures)
     (omega (arith, ints)))
 
-pub exceeds-requires-clause-value : goal.exceeds-requires-clause-value
-exceeds-requires-clause-value c = fallen_amount c.args.start c.args.pieces.now c.requires.slopes
+pub exceeds_limit-requires-clause-value : goal.exceeds_limit-requires-clause-value
+exceeds_limit-requires-clause-value c = fallen_amount c.args.start c.args.pieces.now c.requires.slopes
     c.loop-piece.piece-index _ _ c.loop-piece.invariant c.requires.within (omega arith)
 
-pub exceeds-requires-2-clause-value : goal.exceeds-requires-2-clause-value
-exceeds-requires-2-clause-value c = fallen_amount c.args.start c.args.pieces.now c.requires.slopes
+pub exceeds_limit-requires-2-clause-value : goal.exceeds_limit-requires-2-clause-value
+exceeds_limit-requires-2-clause-value c = fallen_amount c.args.start c.args.pieces.now c.requires.slopes
     c.loop-piece.piece-index _ _ c.loop-piece.invariant c.requires.within (omega arith)
 
 pub returns-then-piece-ge0 : goal.returns-then-piece-ge0
@@ -42,7 +42,7 @@ returns-then-piece-ge0 c =
     c.loop-piece.invariant (omega arith) (λ h. omega (arith, ints)) in
     let over : c.args.limit <ℤ (to_z w64 c.loop-piece.value-bits +ℤ c.args.shift) =
     rw (to_z-of_z w64 c.args.shift c.ranges.shift, to_z-of_z w64 c.args.limit c.ranges.limit) at
-    (c.exceeds.ensures (search rules)) in
+    (c.exceeds_limit.ensures (search rules)) in
     above_all (function_of c.args.start c.args.pieces.now) c.args.start.first
     (last_power c.args.start.first c.args.pieces.now) (to_z w64 c.loop-piece.at-bits) v c.args.shift c.args.limit
     (omega (arith, ints))
@@ -51,11 +51,11 @@ pub returns : goal.returns
 returns c =
     let v = fallen_valley c.args.start c.args.pieces.now c.requires.slopes c.loop-piece.piece-index _ _
     c.loop-piece.invariant (omega arith) (λ h. absurd (omega arith)) in
-    OnTrue_from c.exceeds-2.result (IsAbove (table_of c.args.start c.args.pieces.now) c.args.shift c.args.limit)
+    OnTrue_from c.exceeds_limit-2.result (IsAbove (table_of c.args.start c.args.pieces.now) c.args.shift c.args.limit)
     (λ t.
     let over : c.args.limit <ℤ (to_z w64 c.loop-piece.value-bits +ℤ c.args.shift) =
     rw (to_z-of_z w64 c.args.shift c.ranges.shift, to_z-of_z w64 c.args.limit c.ranges.limit) at
-    (c.exceeds-2.ensures t) in
+    (c.exceeds_limit-2.ensures t) in
     above_all (function_of c.args.start c.args.pieces.now) c.args.start.first
     (last_power c.args.start.first c.args.pieces.now) (to_z w64 c.loop-piece.at-bits) v c.args.shift c.args.limit
     (omega (arith, ints)))

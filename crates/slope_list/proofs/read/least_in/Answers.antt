@@ -31,7 +31,7 @@ spot_at-requires-clause-within c = c.requires.within
 pub returns : goal.returns
 returns c =
     let f = function_of c.args.start c.args.pieces.now in
-    let v = c.fall.ensures.valley in
+    let v = c.end_of_fall.ensures.valley in
     let ff : FitsSigned w64 c.args.start.first = search rules in
     let last : c.last_power.result ≡ last_power c.args.start.first c.args.pieces.now =
     rw (to_z-of_z w64 c.args.start.first ff) at c.last_power.ensures in
@@ -40,12 +40,12 @@ returns c =
     let low : c.max-low.result ≡ int_max c.args.lo c.args.start.first = omega (arith, ints, clamps) in
     let high : c.min-high.result ≡ int_min c.args.hi (last_power c.args.start.first c.args.pieces.now) =
     omega (arith, ints, clamps) in
-    let at : c.max-at.result ≡ int_max c.max-low.result (int_min c.min-high.result c.fall.result.at) =
+    let at : c.max-at.result ≡ int_max c.max-low.result (int_min c.min-high.result c.end_of_fall.result.at) =
     omega (arith, ints, clamps) in
     let is : c.spot_at.result.at ≡ c.max-at.result = c.spot_at.ensures.at ∙ e in
     let value : c.spot_at.result.value ≡ f c.max-at.result = c.spot_at.ensures.value ∙ ap f e in
     subst (λ (z : ℤ). IsLeastIn c.args.lo c.args.hi (table_of c.args.start c.args.pieces.now) c.spot_at.result.value z)
     (sym is)
-    (IsLeastIn-valley f c.args.start.first (last_power c.args.start.first c.args.pieces.now) c.fall.result.at v
+    (IsLeastIn-valley f c.args.start.first (last_power c.args.start.first c.args.pieces.now) c.end_of_fall.result.at v
     c.args.lo c.args.hi c.max-low.result c.min-high.result c.max-at.result low high (omega (arith, ints)) at
     c.spot_at.result.value value)

@@ -17,7 +17,7 @@ returns-then-cursor-window-clause-down c = λ falls.
     let w = c.args.window.now in
     let most = w.valid.fair.ramp_down.at_most in
     let least = w.valid.fair.ramp_down.at_least in
-    let e = c.bent.ensures.shift in
+    let e = c.run_less_reserve.ensures.shift in
     omega (arith, ints)
 
 pub returns-then-cursor-window-clause-run : goal.returns-then-cursor-window-clause-run
@@ -31,8 +31,9 @@ returns-then-cursor-window-clause-run c =
     let g : FitsSigned w64 w.step.slope = search rules in
     let high = last_coded w c.args.cursor c.requires.placed (omega (arith, ints)) in
     let is = to_z-of_z w64 c.min.result f ∙ (rw (high, t) at c.min.ensures.value) in
-    run_falls w c.args.cursor.at (to_z w64 (of_z w64 c.min.result)) c.bent.result
-    (rw (to_z-of_z w64 w.step.slope g) at c.bent.ensures.lowered) (before_both _ _ _ _ short falls is) falls is
+    run_falls w c.args.cursor.at (to_z w64 (of_z w64 c.min.result)) c.run_less_reserve.result
+    (rw (to_z-of_z w64 w.step.slope g) at c.run_less_reserve.ensures.lowered) (before_both _ _ _ _ short falls is) falls
+    is
     (returns-then-cursor-window-clause-down c falls)
 
 pub overflow_sub-rising : goal.overflow_sub-rising
@@ -59,8 +60,10 @@ returns-clause-run c =
     let h = high_near w c.args.cursor c.requires.placed (omega (arith, ints)) in
     let until = to_z w64 (of_z w64 (to_z w64 (of_z w64 w.high) -ℤ to_z w64 (of_z w64 w.step.ramp_up))) in
     let is : until ≡ w.high -ℤ w.step.ramp_up = omega (arith, ints) in
-    let shift : c.bent-2.result.shift ≡ w.step.ramp_up = (let e = c.bent-2.ensures.shift in omega (arith, ints)) in
+    let shift : c.run_less_reserve-2.result.shift ≡ w.step.ramp_up =
+    (let e = c.run_less_reserve-2.ensures.shift in omega (arith, ints)) in
     let es : to_z w64 (of_z w64 w.step.slope) ≡ w.step.slope =
     (let f : FitsSigned w64 w.step.slope = search rules in to_z-of_z w64 w.step.slope f) in
-    run_rises w c.args.cursor.at until c.bent-2.result (rw es at c.bent-2.ensures.lowered) (omega (arith, ints)) rises
+    run_rises w c.args.cursor.at until c.run_less_reserve-2.result (rw es at c.run_less_reserve-2.ensures.lowered)
+    (omega (arith, ints)) rises
     is shift

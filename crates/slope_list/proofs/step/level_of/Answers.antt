@@ -1,12 +1,12 @@
 use Rattle.slope_list.proofs.Common.{◌≡◌, ◌+ℤ◌, int_min}
-use Rattle.slope_list.proofs.Lemmas.{coded_is, output_near, coded_up, fits_up}
+use Rattle.slope_list.proofs.Lemmas.{coded_is, output_total, coded_up, fits_up}
 use Rattle.slope_list.proofs.LevelLaws.{fits_worth, fits_kinked, fits_pay, fits_paid, fits_all, level_is}
 use Rattle.slope_list.proofs.step.level_of.Goals as goal
 use Rattle.slope_list.proofs.step.level_of.Goals.{After-min-most}
 
 most : (c : After-min-most) → c.min-most.result ≡ int_min c.args.step.cap (c.args.step.ramp_up +ℤ c.args.near)
 most c = rw (
-  coded_is c.args.step.cap (output_near c.args.step.cap c.requires.fair.cap),
+  coded_is c.args.step.cap (output_total c.args.step.cap c.requires.fair.cap),
   coded_up c.args.step c.requires.fair c.args.near c.requires.near,
 ) at c.min-most.ensures.value
 

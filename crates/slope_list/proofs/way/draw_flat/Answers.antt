@@ -51,20 +51,20 @@ stop c =
       rise = omega (arith, ints, clamps);
     }
 
-pub put-requires-clause-rise : goal.put-requires-clause-rise
-put-requires-clause-rise c =
-    let s = stop (goal.at.put-requires-clause-rise c).After-min-end in
+pub put_pieces-requires-clause-rise : goal.put_pieces-requires-clause-rise
+put_pieces-requires-clause-rise c =
+    let s = stop (goal.at.put_pieces-requires-clause-rise c).After-min-end in
     rw s.coded s.rise
 
-pub put-requires-clause-costs : goal.put-requires-clause-costs
-put-requires-clause-costs c = λ x from to.
-    let s = stop (goal.at.put-requires-clause-costs c).After-min-end in
+pub put_pieces-requires-clause-costs : goal.put_pieces-requires-clause-costs
+put_pieces-requires-clause-costs c = λ x from to.
+    let s = stop (goal.at.put_pieces-requires-clause-costs c).After-min-end in
     let coded = s.coded in
     let is = s.is in
     c.requires.costs x from (omega (arith, ints, clamps))
 
-pub put-requires-clause-total : goal.put-requires-clause-total
-put-requires-clause-total c =
+pub put_pieces-requires-clause-total : goal.put_pieces-requires-clause-total
+put_pieces-requires-clause-total c =
     let g = gentle_slope c.args.window.now in
     record { at_least = omega (arith, ints); at_most = omega (arith, ints) }
 
@@ -82,7 +82,7 @@ returns c =
     let turn = s.turn in
     let up = w.valid.fair.ramp_up.at_least in
     let down = w.valid.fair.ramp_down.at_least in
-    let at : c.put.result.at ≡ end = rw s.coded at c.put.ensures.at in
+    let at : c.put_pieces.result.at ≡ end = rw s.coded at c.put_pieces.ensures.at in
     let slope : to_z w64 (of_z w64 w.step.slope) ≡ w.step.slope =
     (let f : FitsSigned w64 w.step.slope = search rules in to_z-of_z w64 w.step.slope f) in
     let level = line_level_to (kinked w.start w.pieces.now w.step) w.turn w.step.ramp_up w.step.ramp_down from.pen.at
@@ -91,15 +91,17 @@ returns c =
     let line = line_sum (moved w.start w.pieces.now w.step w.turn) (λ x. w.step.slope *ℤ x) from.pen.at end (pos 0)
     w.step.slope level (line_product w.step.slope from.pen.at end rise) in
     record {
-      drawn = λ lo d. (rw (s.coded, slope) at c.put.ensures.drawn) (paid w.start w.pieces.now w.step w.turn) lo
+      drawn = λ lo d. (rw (s.coded, slope) at c.put_pieces.ensures.drawn) (paid w.start w.pieces.now w.step w.turn) lo
           (same_line (paid w.start w.pieces.now w.step w.turn) from.pen.at end (pos 0 +ℤ w.step.slope) from.pen.at end
           w.step.slope refl refl (omega (arith, ints)) line) d;
       placed = c.past_flat-cursor.ensures.placed;
       near = λ h. omega (arith, ints, clamps);
       rise = omega (arith, ints);
       high = omega (arith, ints, clamps);
-      block = subst (λ (z : ℤ). IsInBlock cv z c.put.result.span) (sym at) (rw s.coded at c.put.ensures.block);
-      used = (let u = c.put.ensures.used in let n = c.past_flat-cursor.ensures.next in omega arith);
-      fewer = λ h. fewer_flat w.step w.turn from.cursor.at from.pen.at then.at c.put.result.at later c.requires.short
+      block = subst (λ (z : ℤ). IsInBlock cv z c.put_pieces.result.span) (sym at)
+          (rw s.coded at c.put_pieces.ensures.block);
+      used = (let u = c.put_pieces.ensures.used in let n = c.past_flat-cursor.ensures.next in omega arith);
+      fewer = λ h. fewer_flat w.step w.turn from.cursor.at from.pen.at then.at c.put_pieces.result.at later
+          c.requires.short
           (omega (arith, ints, clamps));
     }

@@ -1,8 +1,8 @@
 use Rattle.slope_list.proofs.Common.{◌≡◌, arith, to_z, of_z, ◌+ℤ◌, w64, ints}
 use Rattle.slope_list.proofs.way.put_piece.Goals as goal
 
-pub put-requires-clause-costs : goal.put-requires-clause-costs
-put-requires-clause-costs c = λ x from to. c.requires.costs x from (omega (arith, ints))
+pub put_pieces-requires-clause-costs : goal.put_pieces-requires-clause-costs
+put_pieces-requires-clause-costs c = λ x from to. c.requires.costs x from (omega (arith, ints))
 
 pub returns-clause-drawn : goal.returns-clause-drawn
 returns-clause-drawn c =
@@ -12,4 +12,4 @@ returns-clause-drawn c =
     +ℤ run.shift = omega (arith, ints) in
     let slope : to_z w64 (of_z w64 (to_z w64 (of_z w64 piece.slope) +ℤ to_z w64 (of_z w64 run.slope))) ≡ piece.slope
     +ℤ run.slope = omega (arith, ints) in
-    rw (end, slope) at c.put.ensures.drawn
+    rw (end, slope) at c.put_pieces.ensures.drawn

@@ -3,7 +3,7 @@ use Rattle.spell_run.proofs.notes.first_of.Given as goal
 
 abbrev pub invariant-loop : goal.invariant-loop
 invariant-loop l = record {
-  there : AreLogged l.log l.last (l.fn.trail.count - l.counter);
-  same : (k : ℕ) → k < l.fn.trail.count - l.counter →
-      left_from l.log l.last (l.fn.trail.count - l.counter) k ≡ left_by l.log l.fn.trail k;
+  there : AreLogged l.log l.last (l.fn.trace.count - l.counter);
+  same : (k : ℕ) → k < l.fn.trace.count - l.counter →
+      left_from l.log l.last (l.fn.trace.count - l.counter) k ≡ left_by l.log l.fn.trace k;
 }

@@ -6,4 +6,4 @@ pub returns-clause-written : goal.returns-clause-written
 returns-clause-written c =
     written_cast c.requires.power c.reserve_of-reserve.ensures.bound
     (c.reserve_of-reserve.ensures.best ∙ best_stored c.args.step c.requires.before c.requires.power)
-    c.write.ensures.written
+    c.write_on_period.ensures.written

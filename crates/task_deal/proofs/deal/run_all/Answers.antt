@@ -139,9 +139,9 @@ take_apart-requires-clause-purses g c =
       c.args.hands.purses.ok.1,
     )
 
-pub settle-requires-clause-count : goal.settle-requires-clause-count
-settle-requires-clause-count g c =
-    let d = (goal.at.settle-requires-clause-count g c).After-work_all in
+pub settle_purses-requires-clause-count : goal.settle_purses-requires-clause-count
+settle_purses-requires-clause-count g c =
+    let d = (goal.at.settle_purses-requires-clause-count g c).After-work_all in
     let then : AreOf (ts g d) c.take_apart.new.jobs.items c.take_apart.new.owns.items c.take_apart.new.purses.items =
     made_of _ (ts g d) c.take_apart.new.jobs.items c.take_apart.new.owns.items c.take_apart.new.purses.items
     (all g d) c.take_apart.ensures.jobs c.take_apart.ensures.owns c.take_apart.ensures.purses in
@@ -149,9 +149,9 @@ settle-requires-clause-count g c =
     c.take_apart.new.purses.items then in
     omega (arith, are.1, count g d, (were g d).1, c.requires.hands.owns_count)
 
-pub settle-requires-clause-purses : goal.settle-requires-clause-purses
-settle-requires-clause-purses g c =
-    let d = (goal.at.settle-requires-clause-purses g c).After-work_all in
+pub settle_purses-requires-clause-purses : goal.settle_purses-requires-clause-purses
+settle_purses-requires-clause-purses g c =
+    let d = (goal.at.settle_purses-requires-clause-purses g c).After-work_all in
     let then : AreOf (ts g d) c.take_apart.new.jobs.items c.take_apart.new.owns.items c.take_apart.new.purses.items =
     made_of _ (ts g d) c.take_apart.new.jobs.items c.take_apart.new.owns.items c.take_apart.new.purses.items
     (all g d) c.take_apart.ensures.jobs c.take_apart.ensures.owns c.take_apart.ensures.purses in
@@ -159,9 +159,9 @@ settle-requires-clause-purses g c =
     c.take_apart.new.jobs.items c.args.hands.owns.items c.take_apart.new.owns.items c.args.hands.purses.items
     c.take_apart.new.purses.items (first g d) then (zip g d)
 
-pub settle-requires-clause-owns : goal.settle-requires-clause-owns
-settle-requires-clause-owns g c =
-    let d = (goal.at.settle-requires-clause-owns g c).After-work_all in
+pub settle_purses-requires-clause-owns : goal.settle_purses-requires-clause-owns
+settle_purses-requires-clause-owns g c =
+    let d = (goal.at.settle_purses-requires-clause-owns g c).After-work_all in
     let then : AreOf (ts g d) c.take_apart.new.jobs.items c.take_apart.new.owns.items c.take_apart.new.purses.items =
     made_of _ (ts g d) c.take_apart.new.jobs.items c.take_apart.new.owns.items c.take_apart.new.purses.items
     (all g d) c.take_apart.ensures.jobs c.take_apart.ensures.owns c.take_apart.ensures.purses in
@@ -179,8 +179,8 @@ settle-requires-clause-owns g c =
 pub check_all-requires : goal.check_all-requires
 check_all-requires g c =
     record {
-      stands = subst (λ k. Each (Stands c.args.shared.now.thieves.items 0) 0 k c.settle.new.owns.items)
-          (sym c.settle.ensures.count) c.settle.ensures.owns;
+      stands = subst (λ k. Each (Stands c.args.shared.now.thieves.items 0) 0 k c.settle_purses.new.owns.items)
+          (sym c.settle_purses.ensures.count) c.settle_purses.ensures.owns;
     }
 
 pub drain_all-requires-clause-some : goal.drain_all-requires-clause-some
@@ -202,7 +202,7 @@ drain_all-requires-clause-ledger g c =
       c.args.jobs.now.items,
       ledger_begins (shared g d) g.J.Job.work g.J.Job.runs g.J.Job.spare (ss g d) (ts g d) c.args.jobs.now.items
           c.take_apart.new.jobs.items c.args.hands.owns.items c.take_apart.new.owns.items c.args.hands.purses.items
-          c.take_apart.new.purses.items (first g d) then (zip g d) c.args.tasks c.settle.new.owns.items
+          c.take_apart.new.purses.items (first g d) then (zip g d) c.args.tasks c.settle_purses.new.owns.items
           c.check_all.new.owns.items (injector_view c.take_apart.new.owner)
           c.take_apart.ensures.owner.2
           (c.take_apart.ensures.owner.3 ∙ (ap (λ (v : Account). v.put) c.put_together.ensures.owner.2 ∙
@@ -218,7 +218,7 @@ drain_all-requires-clause-ledger g c =
           c.put_together.ensures.members.1
           c.requires.hands.fresh
           c.requires.hands.idle
-          c.settle.ensures.books
+          c.settle_purses.ensures.books
           c.check_all.ensures.books
           c.check_all.ensures.stands
           c.check_all.ensures.fits
@@ -234,7 +234,7 @@ returns g c =
     c.drain_all.ensures c.args.jobs.now.items
     (ledger_begins (shared g d) g.J.Job.work g.J.Job.runs g.J.Job.spare (ss g d) (ts g d) c.args.jobs.now.items
     c.take_apart.new.jobs.items c.args.hands.owns.items c.take_apart.new.owns.items c.args.hands.purses.items
-    c.take_apart.new.purses.items (first g d) then (zip g d) c.args.tasks c.settle.new.owns.items
+    c.take_apart.new.purses.items (first g d) then (zip g d) c.args.tasks c.settle_purses.new.owns.items
     c.check_all.new.owns.items (injector_view c.take_apart.new.owner)
     c.take_apart.ensures.owner.2
     (c.take_apart.ensures.owner.3 ∙ (ap (λ (v : Account). v.put) c.put_together.ensures.owner.2 ∙
@@ -250,7 +250,7 @@ returns g c =
     c.put_together.ensures.members.1
     c.requires.hands.fresh
     c.requires.hands.idle
-    c.settle.ensures.books
+    c.settle_purses.ensures.books
     c.check_all.ensures.books
     c.check_all.ensures.stands
     c.check_all.ensures.fits

@@ -36,11 +36,11 @@ loop-out-init c = let none = c.new-purses.ensures.items in (
   (λ h. ap (sum_of (λ p. taken_by h p.items)) none),
 )
 
-pub fill-requires-clause-count : goal.fill-requires-clause-count
-fill-requires-clause-count c = c.loop-out.invariant.0
+pub fill_purse-requires-clause-count : goal.fill_purse-requires-clause-count
+fill_purse-requires-clause-count c = c.loop-out.invariant.0
 
-pub fill-requires-clause-owns : goal.fill-requires-clause-owns
-fill-requires-clause-owns c = c.loop-out.invariant.1
+pub fill_purse-requires-clause-owns : goal.fill_purse-requires-clause-owns
+fill_purse-requires-clause-owns c = c.loop-out.invariant.1
 
 pub returns-clause-count : goal.returns-clause-count
 returns-clause-count c = c.loop-out.invariant.0

@@ -2,10 +2,10 @@ use Rattle.text_tokens.proofs.Common.{sym, ◌∙◌}
 use Rattle.text_tokens.proofs.Lemmas.{cut_up, cut_down}
 use Rattle.text_tokens.proofs.decimal.nearest_quotient.Goals as goal
 
-pub returns-then-counts : goal.returns-then-counts
-returns-then-counts c = cut_up c.args.negative c.args.digits c.args.unit c.requires.some
-    (sym c.counts.ensures ∙ c.if-counts.true)
+pub returns-then-rounds_up : goal.returns-then-rounds_up
+returns-then-rounds_up c = cut_up c.args.negative c.args.digits c.args.unit c.requires.some
+    (sym c.rounds_up.ensures ∙ c.if-rounds_up.true)
 
-pub returns-else-counts : goal.returns-else-counts
-returns-else-counts c = cut_down c.args.negative c.args.digits c.args.unit c.requires.some
-    (sym c.counts.ensures ∙ c.if-counts.false)
+pub returns-else-rounds_up : goal.returns-else-rounds_up
+returns-else-rounds_up c = cut_down c.args.negative c.args.digits c.args.unit c.requires.some
+    (sym c.rounds_up.ensures ∙ c.if-rounds_up.false)

@@ -20,11 +20,13 @@ returns-in_default-value_within c = too_far c.args.negative c.args.whole.now c.a
 
 pub returns : goal.returns
 returns c =
-    let fits : FitsSigned w32 c.exponent-exponent.result = search rules in
+    let fits : FitsSigned w32 c.exponent_behind_point-exponent.result = search rules in
     let near = c.in-Some-value_within.ensures.some in
     short_enough c.args.negative c.args.whole.now c.args.fraction.now c.args.lowers c.args.power.now
     c.in-Some-digits_after.digits _ c.requires.whole c.requires.fraction
     (c.in-Some-digits_after.ensures.some.0 ∙ ap (λ (n : ℕ). value_from n c.args.fraction.now) c.in-Some.ensures.some.0)
     c.in-Some-digits_after.ensures.some.1 (omega (arith, near.0, near.1))
-    (to_z-of_z w32 c.exponent-exponent.result fits ∙ exponent_is c.args.lowers c.args.power.now c.args.fraction.now
-    c.in-Some-value_within.written c.exponent-exponent.result near.0 c.exponent-exponent.ensures)
+    (to_z-of_z w32 c.exponent_behind_point-exponent.result fits ∙ exponent_is c.args.lowers c.args.power.now
+    c.args.fraction.now
+    c.in-Some-value_within.written c.exponent_behind_point-exponent.result near.0
+    c.exponent_behind_point-exponent.ensures)

@@ -15,18 +15,18 @@ as_read negative n e len = (word (number (record { negative = negative; digits =
 pub returns-then-begins_with-clause-is : goal.returns-then-begins_with-clause-is
 returns-then-begins_with-clause-is c =
     let bs = c.args.bytes.now in
-    let tail = c.rest_from.result.now in
+    let tail = c.bytes_from.result.now in
     let len = c.in_ok-digits.len in
     let fraction_len = c.in_ok-small.fraction_len in
     let s = c.in_ok-small.small in
     let known = c.in_ok-small.ensures in
     let whole = front_at bs len c.in_ok-digits.ensures.len
     (sym c.is_whole_part.ensures ∙ c.if-not-is_whole_part.false) in
-    let point = ap (begins_with 46) (sym c.rest_from-others.ensures) ∙ sym c.begins_with.ensures ∙
+    let point = ap (begins_with 46) (sym c.bytes_from-others.ensures) ∙ sym c.begins_with.ensures ∙
     c.if-begins_with.true in
     ap (λ (b : Bool). as_read b s.digits s.exponent (len + 1 + fraction_len)) known.others.1
     ∙ fraction_number bs tail s.digits len fraction_len s.exponent c.in_ok-digits.ensures.len whole point
-    (c.rest_from.ensures ∙ ap (drop 1) c.rest_from-others.ensures)
+    (c.bytes_from.ensures ∙ ap (drop 1) c.bytes_from-others.ensures)
     known.some.0 known.some.1 known.ends (known.digits.0 ∙
     ap (λ (n : ℕ). value_from n (front tail)) c.in_ok-digits.ensures.value) known.digits.1 known.others.0
 
@@ -38,7 +38,7 @@ returns-clause-is c =
     let whole = front_at bs len c.in_ok-digits.ensures.len
     (sym c.is_whole_part.ensures ∙ c.if-not-is_whole_part.false) in
     let ends = ap (λ (k : ℕ). prefix_len is_number_byte (drop k bs)) (sym c.in_ok-digits.ensures.len) ∙
-    ap (prefix_len is_number_byte) (sym c.rest_from-others.ensures) ∙
+    ap (prefix_len is_number_byte) (sym c.bytes_from-others.ensures) ∙
     c.ends_number.ensures c.if-not-ends_number.false in
     ap (λ (k : ℕ). as_read false n (pos 0) k) c.in_ok-digits.ensures.len ∙
     whole_number bs n whole ends c.in_ok-digits.ensures.value c.in_ok-digits.ensures.small

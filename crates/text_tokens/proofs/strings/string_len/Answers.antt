@@ -11,8 +11,8 @@ pub returns-in_err-piece-clause-is : goal.returns-in_err-piece-clause-is
 returns-in_err-piece-clause-is c =
     c.from_residual.ensures ∙
     sym (c.pieces.invariant.rest ∙ ap (λ (s : Option Piece). option_map (λ q. c.pieces.at + q.1) s)
-    (is_none c.args.bytes.now c.rest_from.result.now c.pieces.at c.pieces-test.true c.if-bytes-at-eq34.false
-    c.rest_from.ensures c.in_err-piece.ensures.is))
+    (is_none c.args.bytes.now c.bytes_from.result.now c.pieces.at c.pieces-test.true c.if-bytes-at-eq34.false
+    c.bytes_from.ensures c.in_err-piece.ensures.is))
 
 pub returns-clause-is : goal.returns-clause-is
 returns-clause-is c =
@@ -25,8 +25,8 @@ pieces-preserved c =
     let p = piece_of c.in_ok-piece.piece in
     record {
       rest = c.pieces.invariant.rest ∙ ap (λ (s : Option Piece). option_map (λ q. c.pieces.at + q.1) s)
-          (goes_on c.args.bytes.now c.rest_from.result.now c.pieces.at p c.pieces-test.true c.if-bytes-at-eq34.false
-          c.rest_from.ensures c.in_ok-piece.ensures.is len.0)
+          (goes_on c.args.bytes.now c.bytes_from.result.now c.pieces.at p c.pieces-test.true c.if-bytes-at-eq34.false
+          c.bytes_from.ensures c.in_ok-piece.ensures.is len.0)
           ∙ len_goes_on c.pieces.at p (string_from 0 (drop (c.pieces.at + p.1) c.args.bytes.now));
       near = omega (arith, len.1);
     }

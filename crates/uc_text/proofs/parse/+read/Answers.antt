@@ -22,8 +22,8 @@ some_items (w ∷ vs) v us e = cc
 
 -- ---- items
 
-pub items-returns-in-CloseList-clause-ok : goal.items-returns-in-CloseList-clause-ok
-items-returns-in-CloseList-clause-ok t c = (
+pub read_items-returns-in-CloseList-clause-ok : goal.read_items-returns-in-CloseList-clause-ok
+read_items-returns-in-CloseList-clause-ok t c = (
   [],
   refl,
   items_empty c.args.left (rest c.args.reader.now) (seen c.next-first.result) (rest c.next-first.new.self)
@@ -31,8 +31,8 @@ items-returns-in-CloseList-clause-ok t c = (
   adds_none c.args.reader.now.bytes.now c.args.nodes.now.items,
 )
 
-pub items-items-init : goal.items-items-init
-items-items-init t c = record {
+pub read_items-items-init : goal.read_items-items-init
+read_items-items-init t c = record {
   inside = (
     [],
     items_begin c.args.left (rest c.args.reader.now) (seen c.next-first.result) (rest c.next-first.new.self)
@@ -48,35 +48,37 @@ items-items-init t c = record {
   room = omega arith;
 }
 
-pub items-returns-in_err-value : goal.items-returns-in_err-value
-items-returns-in_err-value t c =
+pub read_items-returns-in_err-read_value : goal.read_items-returns-in_err-read_value
+read_items-returns-in_err-read_value t c =
     let p = err_from_is_err_and c.from_residual.result c.from_residual.ensures.1 in
     let i = c.items.invariant.inside in
     rw (p.1, p.2) (record {
       ok = tt;
-      fault = passes_on c.in_err-value.field-0.0 _ _
-          (λ f s. items_stop c.args.left (rest c.args.reader.now) i.0 (seen c.items.first) (rest c.items.reader) f
-          c.items.invariant.room i.1 (s i.1.ahead i.1.next)) c.in_err-value.ensures.fault;
+      fault = passes_on c.in_err-read_value.field-0.0 _ _
+          (λ f s. items_stop c.args.left (rest c.args.reader.now) i.0 (seen c.items.first)
+          (rest c.items.reader) f
+          c.items.invariant.room i.1 (s i.1.ahead i.1.next)) c.in_err-read_value.ensures.fault;
       ahead = tt;
       fewer = tt;
       same = tt;
     })
 
-pub items-items-preserved : goal.items-items-preserved
-items-items-preserved t c =
+pub read_items-items-preserved : goal.read_items-items-preserved
+read_items-items-preserved t c =
     let i = c.items.invariant.inside in
-    let r = c.in_ok-value.ensures.ok i.1.ahead i.1.next in
+    let r = c.in_ok-read_value.ensures.ok i.1.ahead i.1.next in
     let vs = i.0 ++ r.0 ∷ [] in
     let at : AtItem c.args.left (rest c.args.reader.now) vs (rest c.next-behind.new.self) =
     at_next c.args.left (rest c.args.reader.now) i.0 (seen c.items.first) (rest c.items.reader) r.0
-    (rest c.value.new.reader) (seen c.next-behind.result) (rest c.next-behind.new.self) i.1 r.1.takes r.1.pass
+    (rest c.read_value.new.reader) (seen c.next-behind.result) (rest c.next-behind.new.self) i.1 r.1.takes r.1.pass
     c.next-behind.ensures.next (ap token_of c.in-Comma.is) in
     let more = c.in_ok-count-in-Comma.ensures.passed in
     let bytes = c.args.reader.now.bytes.now in
-    let here = c.next-behind.ensures.same ∙ c.in_ok-value.ensures.same ∙ c.items.invariant.same in
-    let one = subst (λ (bs : List ℕ). Adds bs c.items.nodes.items c.value.new.nodes.items (r.0 ∷ []))
+    let here = c.next-behind.ensures.same ∙ c.in_ok-read_value.ensures.same ∙ c.items.invariant.same in
+    let one = subst (λ (bs : List ℕ). Adds bs c.items.nodes.items c.read_value.new.nodes.items (r.0 ∷ []))
     c.items.invariant.same r.2 in
-    let others = subst (λ (bs : List ℕ). Adds bs c.value.new.nodes.items c.pass_numbers.new.nodes.items more.0) here
+    let others = subst (λ (bs : List ℕ). Adds bs c.read_value.new.nodes.items c.pass_numbers.new.nodes.items more.0)
+    here
     more.2 in
     record {
       inside = (
@@ -86,8 +88,9 @@ items-items-preserved t c =
             (more.3 c.args.left (rest c.args.reader.now) vs at) c.next-first-in-Comma.ensures.next
             (some_items i.0 r.0 more.0),
         omega (arith, i.2, more.1, length-append i.0 (r.0 ∷ []), length-append vs more.0),
-        adds_then bytes c.args.nodes.now.items c.value.new.nodes.items c.pass_numbers.new.nodes.items vs more.0
-            (adds_then bytes c.args.nodes.now.items c.items.nodes.items c.value.new.nodes.items i.0 (r.0 ∷ []) i.3 one)
+        adds_then bytes c.args.nodes.now.items c.read_value.new.nodes.items c.pass_numbers.new.nodes.items vs more.0
+            (adds_then bytes c.args.nodes.now.items c.items.nodes.items c.read_value.new.nodes.items i.0 (r.0 ∷ [])
+            i.3 one)
             others,
       );
       stands = subst (λ (bs : List ℕ). StandsAt bs c.next-first-in-Comma.result.offset
@@ -97,7 +100,7 @@ items-items-preserved t c =
       few = omega (
         arith,
         c.items.invariant.few,
-        c.in_ok-value.ensures.ahead,
+        c.in_ok-read_value.ensures.ahead,
         c.next-behind.ensures.less (λ e. not_end_comma c.next-behind.result.token c.in-Comma.is e),
         c.in_ok-count-in-Comma.ensures.few,
         c.next-first-in-Comma.ensures.ahead,
@@ -105,7 +108,7 @@ items-items-preserved t c =
       fewer = omega (
         arith,
         c.items.invariant.fewer,
-        c.in_ok-value.ensures.fewer,
+        c.in_ok-read_value.ensures.fewer,
         c.next-behind.ensures.less (λ e. not_end_comma c.next-behind.result.token c.in-Comma.is e),
         c.in_ok-count-in-Comma.ensures.fewer,
         c.next-first-in-Comma.ensures.ahead,
@@ -113,44 +116,46 @@ items-items-preserved t c =
       room = c.items.invariant.room;
     }
 
-pub items-returns-in-CloseList-token : goal.items-returns-in-CloseList-token
-items-returns-in-CloseList-token t c =
+pub read_items-returns-in-CloseList-token : goal.read_items-returns-in-CloseList-token
+read_items-returns-in-CloseList-token t c =
     let i = c.items.invariant.inside in
-    let r = c.in_ok-value.ensures.ok i.1.ahead i.1.next in
+    let r = c.in_ok-read_value.ensures.ok i.1.ahead i.1.next in
     let bytes = c.args.reader.now.bytes.now in
-    let one = subst (λ (bs : List ℕ). Adds bs c.items.nodes.items c.value.new.nodes.items (r.0 ∷ []))
+    let one = subst (λ (bs : List ℕ). Adds bs c.items.nodes.items c.read_value.new.nodes.items (r.0 ∷ []))
     c.items.invariant.same r.2 in
     record {
       ok = (
         i.0 ++ r.0 ∷ [],
         omega (arith, i.2, length-append i.0 (r.0 ∷ [])),
         items_end c.args.left (rest c.args.reader.now) i.0 (seen c.items.first) (rest c.items.reader) r.0
-            (rest c.value.new.reader) (seen c.next-behind.result) (rest c.next-behind.new.self)
+            (rest c.read_value.new.reader) (seen c.next-behind.result) (rest c.next-behind.new.self)
             i.1 r.1.takes r.1.pass c.next-behind.ensures.next (ap token_of c.in-CloseList-token.is),
-        adds_then bytes c.args.nodes.now.items c.items.nodes.items c.value.new.nodes.items i.0 (r.0 ∷ []) i.3 one,
+        adds_then bytes c.args.nodes.now.items c.items.nodes.items c.read_value.new.nodes.items i.0 (r.0 ∷ []) i.3
+            one,
       );
       fault = tt;
-      ahead = omega (arith, c.next-behind.ensures.ahead, c.in_ok-value.ensures.ahead, c.items.invariant.few);
+      ahead = omega (arith, c.next-behind.ensures.ahead, c.in_ok-read_value.ensures.ahead, c.items.invariant.few);
       fewer = omega (
         arith,
         c.items.invariant.fewer,
-        c.in_ok-value.ensures.fewer,
+        c.in_ok-read_value.ensures.fewer,
         c.next-behind.ensures.less
             (λ e. not_end_close_list c.next-behind.result.token c.in-CloseList-token.is e),
       );
-      same = c.next-behind.ensures.same ∙ c.in_ok-value.ensures.same ∙ c.items.invariant.same;
+      same = c.next-behind.ensures.same ∙ c.in_ok-read_value.ensures.same ∙ c.items.invariant.same;
     }
 
-pub items-returns-in_default-token : goal.items-returns-in_default-token
-items-returns-in_default-token t c =
+pub read_items-returns-in_default-token : goal.read_items-returns-in_default-token
+read_items-returns-in_default-token t c =
     let i = c.items.invariant.inside in
-    let r = c.in_ok-value.ensures.ok i.1.ahead i.1.next in
+    let r = c.in_ok-read_value.ensures.ok i.1.ahead i.1.next in
     record {
       ok = tt;
       fault = subst (λ (e : TextError). FaultIs e
-          (λ f. StuckAt c.args.left (open_list ∷ []) (rest c.args.reader.now) f)) (sym c.fault.ensures)
-          (items_stop_behind c.args.left (rest c.args.reader.now) i.0 (seen c.items.first) (rest c.items.reader) r.0
-          (rest c.value.new.reader) (seen c.next-behind.result) (rest c.next-behind.new.self) _
+          (λ f. StuckAt c.args.left (open_list ∷ []) (rest c.args.reader.now) f)) (sym c.text_error.ensures)
+          (items_stop_behind c.args.left (rest c.args.reader.now) i.0 (seen c.items.first)
+          (rest c.items.reader) r.0
+          (rest c.read_value.new.reader) (seen c.next-behind.result) (rest c.next-behind.new.self) _
           c.items.invariant.room i.1 r.1.takes r.1.pass c.next-behind.ensures.next
           (not_comma c.next-behind.result.token c.in_default-token.not-Comma)
           (not_close_list c.next-behind.result.token c.in_default-token.not-CloseList) refl refl);
@@ -202,8 +207,9 @@ noted_members-returns-in_default-token t c =
     record {
       ok = tt;
       fault = subst (λ (e : TextError). FaultIs e (λ f. AreDifferent (names_said c.members.names.items) →
-          StuckAt c.args.left (open_object ∷ []) (rest c.args.reader.now) f)) (sym c.fault.ensures)
-          (λ d. name_stops c.args.left (rest c.args.reader.now) i.0 (seen c.members.first) (rest c.members.reader) _
+          StuckAt c.args.left (open_object ∷ []) (rest c.args.reader.now) f)) (sym c.text_error.ensures)
+          (λ d. name_stops c.args.left (rest c.args.reader.now) i.0 (seen c.members.first)
+          (rest c.members.reader) _
           c.members.invariant.room (i.1 (subst AreDifferent i.4 d))
           (not_text c.members.first.token c.in_default-token.not-Text) refl refl);
       doubles = c.members.invariant.doubles;
@@ -224,40 +230,47 @@ pub noted_members-returns-in_default-token-2 : goal.noted_members-returns-in_def
 noted_members-returns-in_default-token-2 t c =
     let i = c.members.invariant.inside in
     let k = said c.in-Text.quoted.bytes.now in
-    let pushed = after_push c.members.names.items c.push.new.self.items _ i.0 k c.in_ok-push.ensures.items i.4 refl in
+    let pushed = after_push c.members.names.items c.push.new.self.items _ i.0 k c.in_ok-push.ensures.items i.4 refl
+    in
     record {
       ok = tt;
       fault = subst (λ (e : TextError). FaultIs e (λ f. AreDifferent (names_said c.push.new.self.items) →
-          StuckAt c.args.left (open_object ∷ []) (rest c.args.reader.now) f)) (sym c.fault-in_default-token-2.ensures)
+          StuckAt c.args.left (open_object ∷ []) (rest c.args.reader.now) f))
+          (sym c.text_error-in_default-token-2.ensures)
           (λ d. let s = split_pushed (names i.0) _ k pushed d in
-          colon_stops c.args.left (rest c.args.reader.now) i.0 (seen c.members.first) (rest c.members.reader) k
+          colon_stops c.args.left (rest c.args.reader.now) i.0 (seen c.members.first) (rest c.members.reader)
+          k
           (seen c.next-between.result) (rest c.next-between.new.self) _
           c.members.invariant.room (i.1 s.0) (ap token_of c.in-Text.is) s.1 c.next-between.ensures.next
           (not_colon c.next-between.result.token c.in_default-token-2.not-Colon) refl refl);
       doubles = doubles_push c.args.left (rest c.args.reader.now) c.members.names.items c.push.new.self.items _ i.0
-          (seen c.members.first) (rest c.members.reader) k c.in_ok-push.ensures.items c.members.invariant.room
+          (seen c.members.first) (rest c.members.reader) k c.in_ok-push.ensures.items
+          c.members.invariant.room
           c.members.invariant.doubles i.4 i.1 (ap token_of c.in-Text.is) refl refl;
       ahead = tt;
       fewer = tt;
       same = tt;
     }
 
-pub noted_members-returns-in_err-value : goal.noted_members-returns-in_err-value
-noted_members-returns-in_err-value t c =
-    let q = err_from_is_err_and c.from_residual-in_err-value.result c.from_residual-in_err-value.ensures.1 in
+pub noted_members-returns-in_err-read_value : goal.noted_members-returns-in_err-read_value
+noted_members-returns-in_err-read_value t c =
+    let q = err_from_is_err_and c.from_residual-in_err-read_value.result c.from_residual-in_err-read_value.ensures.1 in
     let i = c.members.invariant.inside in
     let k = said c.in-Text.quoted.bytes.now in
-    let pushed = after_push c.members.names.items c.push.new.self.items _ i.0 k c.in_ok-push.ensures.items i.4 refl in
+    let pushed = after_push c.members.names.items c.push.new.self.items _ i.0 k c.in_ok-push.ensures.items i.4 refl
+    in
     rw (q.1, q.2) (record {
       ok = tt;
-      fault = passes_on c.in_err-value.field-0.0 _ _ (λ f s d.
+      fault = passes_on c.in_err-read_value.field-0.0 _ _ (λ f s d.
           let p = split_pushed (names i.0) _ k pushed d in
-          value_stops c.args.left (rest c.args.reader.now) i.0 (seen c.members.first) (rest c.members.reader) k
+          value_stops c.args.left (rest c.args.reader.now) i.0 (seen c.members.first) (rest c.members.reader)
+          k
           (seen c.next-between.result) (rest c.next-between.new.self) f c.members.invariant.room (i.1 p.0)
           (ap token_of c.in-Text.is) p.1 c.next-between.ensures.next (ap token_of c.in-Colon.is)
-          (s (rest c.next-between.new.self) c.next-start.ensures.next)) c.in_err-value.ensures.fault;
+          (s (rest c.next-between.new.self) c.next-start.ensures.next)) c.in_err-read_value.ensures.fault;
       doubles = doubles_push c.args.left (rest c.args.reader.now) c.members.names.items c.push.new.self.items _ i.0
-          (seen c.members.first) (rest c.members.reader) k c.in_ok-push.ensures.items c.members.invariant.room
+          (seen c.members.first) (rest c.members.reader) k c.in_ok-push.ensures.items
+          c.members.invariant.room
           c.members.invariant.doubles i.4 i.1 (ap token_of c.in-Text.is) refl refl;
       ahead = tt;
       fewer = tt;
@@ -268,29 +281,35 @@ pub noted_members-members-preserved : goal.noted_members-members-preserved
 noted_members-members-preserved t c =
     let i = c.members.invariant.inside in
     let k = said c.in-Text.quoted.bytes.now in
-    let pushed = after_push c.members.names.items c.push.new.self.items _ i.0 k c.in_ok-push.ensures.items i.4 refl in
-    let r = c.in_ok-value.ensures.ok (rest c.next-between.new.self) c.next-start.ensures.next in
+    let pushed = after_push c.members.names.items c.push.new.self.items _ i.0 k c.in_ok-push.ensures.items i.4 refl
+    in
+    let r = c.in_ok-read_value.ensures.ok (rest c.next-between.new.self) c.next-start.ensures.next in
     let bytes = c.args.reader.now.bytes.now in
     let p = of_member k r.0 in
     let stands = subst (StandsAt bytes c.members.first.offset) c.in-Text.is
-    (subst (λ (bs : List ℕ). StandsAt bs c.members.first.offset c.members.first.token) c.members.invariant.same
+    (subst (λ (bs : List ℕ). StandsAt bs c.members.first.offset c.members.first.token)
+    c.members.invariant.same
     c.members.invariant.stands) in
-    let named = adds_one bytes c.members.nodes.items c.push-in-members.new.self.items (TextNode c.members.first.offset)
+    let named = adds_one bytes c.members.nodes.items c.push-in-members.new.self.items
+    (TextNode c.members.first.offset)
     (scalar (text k)) c.in_ok-push-2.ensures.items
     (text_node bytes c.in-Text.quoted.bytes.now c.members.first.offset stands) in
     let start = c.next-start.ensures.same ∙ c.next-between.ensures.same ∙ c.members.invariant.same in
-    let valued = subst (λ (bs : List ℕ). Adds bs c.push-in-members.new.self.items c.value.new.nodes.items (r.0 ∷ []))
+    let valued = subst (λ (bs : List ℕ). Adds bs c.push-in-members.new.self.items c.read_value.new.nodes.items
+    (r.0 ∷ []))
     start r.2 in
-    let added = adds_member bytes c.args.nodes.now.items c.members.nodes.items c.push-in-members.new.self.items
-    c.value.new.nodes.items i.0 p i.3 named valued in
-    let behind = c.next-behind.ensures.same ∙ c.in_ok-value.ensures.same ∙ start in
+    let added = adds_member bytes c.args.nodes.now.items c.members.nodes.items
+    c.push-in-members.new.self.items
+    c.read_value.new.nodes.items i.0 p i.3 named valued in
+    let behind = c.next-behind.ensures.same ∙ c.in_ok-read_value.ensures.same ∙ start in
     record {
       inside = (
         i.0 ++ p ∷ [],
         λ d.
             let s = split_pushed (names i.0) _ k (names_push i.0 p) d in
-            members_go_on c.args.left (rest c.args.reader.now) i.0 (seen c.members.first) (rest c.members.reader) k
-            (seen c.next-between.result) (rest c.next-between.new.self) r.0 (rest c.value.new.reader)
+            members_go_on c.args.left (rest c.args.reader.now) i.0 (seen c.members.first)
+            (rest c.members.reader) k
+            (seen c.next-between.result) (rest c.next-between.new.self) r.0 (rest c.read_value.new.reader)
             (seen c.next-behind.result) (rest c.next-behind.new.self) (seen c.next-first-in-Comma.result)
             (rest c.next-first-in-Comma.new.self)
             (i.1 s.0) (ap token_of c.in-Text.is) s.1 c.next-between.ensures.next (ap token_of c.in-Colon.is) r.1.takes
@@ -300,7 +319,8 @@ noted_members-members-preserved t c =
         pushed ∙ sym (names_push i.0 p),
       );
       doubles = doubles_push c.args.left (rest c.args.reader.now) c.members.names.items c.push.new.self.items _ i.0
-          (seen c.members.first) (rest c.members.reader) k c.in_ok-push.ensures.items c.members.invariant.room
+          (seen c.members.first) (rest c.members.reader) k c.in_ok-push.ensures.items
+          c.members.invariant.room
           c.members.invariant.doubles i.4 i.1 (ap token_of c.in-Text.is) refl refl;
       stands = subst (λ (bs : List ℕ). StandsAt bs c.next-first-in-Comma.result.offset
           c.next-first-in-Comma.result.token) (sym c.next-first-in-Comma.ensures.same)
@@ -311,7 +331,7 @@ noted_members-members-preserved t c =
         c.members.invariant.few,
         c.next-between.ensures.ahead,
         c.next-start.ensures.ahead,
-        c.in_ok-value.ensures.ahead,
+        c.in_ok-read_value.ensures.ahead,
         c.next-behind.ensures.less
             (λ e. not_end_comma c.next-behind.result.token c.in-Comma.is e),
         c.next-first-in-Comma.ensures.ahead,
@@ -322,7 +342,7 @@ noted_members-members-preserved t c =
         one_node c.members.nodes.items c.push-in-members.new.self.items _ c.in_ok-push-2.ensures.items,
         c.next-between.ensures.less (λ e. not_end_colon c.next-between.result.token c.in-Colon.is e),
         c.next-start.ensures.ahead,
-        c.in_ok-value.ensures.fewer,
+        c.in_ok-read_value.ensures.fewer,
         c.next-behind.ensures.less
             (λ e. not_end_comma c.next-behind.result.token c.in-Comma.is e),
         c.next-first-in-Comma.ensures.ahead,
@@ -334,22 +354,27 @@ pub noted_members-returns-in-CloseObject-token : goal.noted_members-returns-in-C
 noted_members-returns-in-CloseObject-token t c =
     let i = c.members.invariant.inside in
     let k = said c.in-Text.quoted.bytes.now in
-    let pushed = after_push c.members.names.items c.push.new.self.items _ i.0 k c.in_ok-push.ensures.items i.4 refl in
-    let r = c.in_ok-value.ensures.ok (rest c.next-between.new.self) c.next-start.ensures.next in
+    let pushed = after_push c.members.names.items c.push.new.self.items _ i.0 k c.in_ok-push.ensures.items i.4 refl
+    in
+    let r = c.in_ok-read_value.ensures.ok (rest c.next-between.new.self) c.next-start.ensures.next in
     let bytes = c.args.reader.now.bytes.now in
     let p = of_member k r.0 in
     let stands = subst (StandsAt bytes c.members.first.offset) c.in-Text.is
-    (subst (λ (bs : List ℕ). StandsAt bs c.members.first.offset c.members.first.token) c.members.invariant.same
+    (subst (λ (bs : List ℕ). StandsAt bs c.members.first.offset c.members.first.token)
+    c.members.invariant.same
     c.members.invariant.stands) in
-    let named = adds_one bytes c.members.nodes.items c.push-in-members.new.self.items (TextNode c.members.first.offset)
+    let named = adds_one bytes c.members.nodes.items c.push-in-members.new.self.items
+    (TextNode c.members.first.offset)
     (scalar (text k)) c.in_ok-push-2.ensures.items
     (text_node bytes c.in-Text.quoted.bytes.now c.members.first.offset stands) in
     let start = c.next-start.ensures.same ∙ c.next-between.ensures.same ∙ c.members.invariant.same in
-    let valued = subst (λ (bs : List ℕ). Adds bs c.push-in-members.new.self.items c.value.new.nodes.items (r.0 ∷ []))
+    let valued = subst (λ (bs : List ℕ). Adds bs c.push-in-members.new.self.items c.read_value.new.nodes.items
+    (r.0 ∷ []))
     start r.2 in
-    let added = adds_member bytes c.args.nodes.now.items c.members.nodes.items c.push-in-members.new.self.items
-    c.value.new.nodes.items i.0 p i.3 named valued in
-    let behind = c.next-behind.ensures.same ∙ c.in_ok-value.ensures.same ∙ start in
+    let added = adds_member bytes c.args.nodes.now.items c.members.nodes.items
+    c.push-in-members.new.self.items
+    c.read_value.new.nodes.items i.0 p i.3 named valued in
+    let behind = c.next-behind.ensures.same ∙ c.in_ok-read_value.ensures.same ∙ start in
     record {
       ok = (
         i.0 ++ p ∷ [],
@@ -357,8 +382,9 @@ noted_members-returns-in-CloseObject-token t c =
         pushed ∙ sym (names_push i.0 p),
         λ d.
             let s = split_pushed (names i.0) _ k (names_push i.0 p) d in
-            members_end c.args.left (rest c.args.reader.now) i.0 (seen c.members.first) (rest c.members.reader) k
-            (seen c.next-between.result) (rest c.next-between.new.self) r.0 (rest c.value.new.reader)
+            members_end c.args.left (rest c.args.reader.now) i.0 (seen c.members.first)
+            (rest c.members.reader) k
+            (seen c.next-between.result) (rest c.next-between.new.self) r.0 (rest c.read_value.new.reader)
             (seen c.next-behind.result) (rest c.next-behind.new.self)
             (i.1 s.0) (ap token_of c.in-Text.is) s.1 c.next-between.ensures.next (ap token_of c.in-Colon.is) r.1.takes
             r.1.pass c.next-behind.ensures.next (ap token_of c.in-CloseObject-token.is),
@@ -366,14 +392,15 @@ noted_members-returns-in-CloseObject-token t c =
       );
       fault = tt;
       doubles = doubles_push c.args.left (rest c.args.reader.now) c.members.names.items c.push.new.self.items _ i.0
-          (seen c.members.first) (rest c.members.reader) k c.in_ok-push.ensures.items c.members.invariant.room
+          (seen c.members.first) (rest c.members.reader) k c.in_ok-push.ensures.items
+          c.members.invariant.room
           c.members.invariant.doubles i.4 i.1 (ap token_of c.in-Text.is) refl refl;
       ahead = omega (
         arith,
         c.members.invariant.few,
         c.next-between.ensures.ahead,
         c.next-start.ensures.ahead,
-        c.in_ok-value.ensures.ahead,
+        c.in_ok-read_value.ensures.ahead,
         c.next-behind.ensures.ahead,
       );
       fewer = omega (
@@ -382,7 +409,7 @@ noted_members-returns-in-CloseObject-token t c =
         one_node c.members.nodes.items c.push-in-members.new.self.items _ c.in_ok-push-2.ensures.items,
         c.next-between.ensures.less (λ e. not_end_colon c.next-between.result.token c.in-Colon.is e),
         c.next-start.ensures.ahead,
-        c.in_ok-value.ensures.fewer,
+        c.in_ok-read_value.ensures.fewer,
         c.next-behind.ensures.less
             (λ e. not_end_close_object c.next-behind.result.token c.in-CloseObject-token.is e),
       );
@@ -393,30 +420,34 @@ pub noted_members-returns-in_default-token-3 : goal.noted_members-returns-in_def
 noted_members-returns-in_default-token-3 t c =
     let i = c.members.invariant.inside in
     let k = said c.in-Text.quoted.bytes.now in
-    let pushed = after_push c.members.names.items c.push.new.self.items _ i.0 k c.in_ok-push.ensures.items i.4 refl in
-    let r = c.in_ok-value.ensures.ok (rest c.next-between.new.self) c.next-start.ensures.next in
+    let pushed = after_push c.members.names.items c.push.new.self.items _ i.0 k c.in_ok-push.ensures.items i.4 refl
+    in
+    let r = c.in_ok-read_value.ensures.ok (rest c.next-between.new.self) c.next-start.ensures.next in
     record {
       ok = tt;
       fault = subst (λ (e : TextError). FaultIs e (λ f. AreDifferent (names_said c.push.new.self.items) →
-          StuckAt c.args.left (open_object ∷ []) (rest c.args.reader.now) f)) (sym c.fault-in_default-token-3.ensures)
+          StuckAt c.args.left (open_object ∷ []) (rest c.args.reader.now) f))
+          (sym c.text_error-in_default-token-3.ensures)
           (λ d. let s = split_pushed (names i.0) _ k pushed d in
-          member_stops_behind c.args.left (rest c.args.reader.now) i.0 (seen c.members.first) (rest c.members.reader) k
-          (seen c.next-between.result) (rest c.next-between.new.self) r.0 (rest c.value.new.reader)
+          member_stops_behind c.args.left (rest c.args.reader.now) i.0 (seen c.members.first)
+          (rest c.members.reader) k
+          (seen c.next-between.result) (rest c.next-between.new.self) r.0 (rest c.read_value.new.reader)
           (seen c.next-behind.result) (rest c.next-behind.new.self) _
           c.members.invariant.room (i.1 s.0) (ap token_of c.in-Text.is) s.1 c.next-between.ensures.next
           (ap token_of c.in-Colon.is) r.1.takes r.1.pass c.next-behind.ensures.next
           (not_comma c.next-behind.result.token c.in_default-token-3.not-Comma)
           (not_close_object c.next-behind.result.token c.in_default-token-3.not-CloseObject) refl refl);
       doubles = doubles_push c.args.left (rest c.args.reader.now) c.members.names.items c.push.new.self.items _ i.0
-          (seen c.members.first) (rest c.members.reader) k c.in_ok-push.ensures.items c.members.invariant.room
+          (seen c.members.first) (rest c.members.reader) k c.in_ok-push.ensures.items
+          c.members.invariant.room
           c.members.invariant.doubles i.4 i.1 (ap token_of c.in-Text.is) refl refl;
       ahead = tt;
       fewer = tt;
       same = tt;
     }
 
-pub members-returns-clause-fault : goal.members-returns-clause-fault
-members-returns-clause-fault t c =
+pub read_members-returns-clause-fault : goal.read_members-returns-clause-fault
+read_members-returns-clause-fault t c =
     let ns = c.noted_members-read.new.names.items in
     let double = c.in_ok-double.double in
     let told : IsFirst (names_said c.deref.result.now) double = c.in_ok-double.ensures in
@@ -428,15 +459,15 @@ members-returns-clause-fault t c =
 
 -- ---- a value
 
-pub value-returns-in_err-node-in-Word-clause-fault : goal.value-returns-in_err-node-in-Word-clause-fault
-value-returns-in_err-node-in-Word-clause-fault t c =
+pub read_value-returns-in_err-node-in-Word-clause-fault : goal.read_value-returns-in_err-node-in-Word-clause-fault
+read_value-returns-in_err-node-in-Word-clause-fault t c =
     let p = err_from_is_err_and c.from_residual.result c.from_residual.ensures.1 in
     rw (p.1, p.2) (passes_on c.in_err-node-in-Word.field-0.0 _ _
     (λ f s ts n. word_stops c.args.left (seen c.args.first) (rest c.args.reader.now) ts (scalar_of c.in-Word.word) f
     (ap token_of c.in-Word.is) s.0 s.1 n) c.in_err-node-in-Word.ensures.fault)
 
-pub value-returns-in_ok-push-in-Word-clause-ok : goal.value-returns-in_ok-push-in-Word-clause-ok
-value-returns-in_ok-push-in-Word-clause-ok t c = λ ts n.
+pub read_value-returns-in_ok-push-in-Word-clause-ok : goal.read_value-returns-in_ok-push-in-Word-clause-ok
+read_value-returns-in_ok-push-in-Word-clause-ok t c = λ ts n.
     let bytes = c.args.reader.now.bytes.now in
     let s = scalar_of c.in-Word.word in
     let stands = subst (StandsAt bytes c.args.first.offset) c.in-Word.is c.requires in (
@@ -447,8 +478,8 @@ value-returns-in_ok-push-in-Word-clause-ok t c = λ ts n.
           c.in_ok-push-in-Word.ensures.items (c.in_ok-node-in-Word.ensures.ok bytes stands),
     )
 
-pub value-returns-in_ok-push-in-Text-clause-ok : goal.value-returns-in_ok-push-in-Text-clause-ok
-value-returns-in_ok-push-in-Text-clause-ok t c = λ ts n.
+pub read_value-returns-in_ok-push-in-Text-clause-ok : goal.read_value-returns-in_ok-push-in-Text-clause-ok
+read_value-returns-in_ok-push-in-Text-clause-ok t c = λ ts n.
     let bytes = c.args.reader.now.bytes.now in
     let k = said c.in-Text.field-0.bytes.now in
     let stands = subst (StandsAt bytes c.args.first.offset) c.in-Text.is c.requires in (
@@ -460,106 +491,118 @@ value-returns-in_ok-push-in-Text-clause-ok t c = λ ts n.
           (text_node bytes c.in-Text.field-0.bytes.now c.args.first.offset stands),
     )
 
-pub value-returns-in_ok-count-in-OpenList-clause-ok : goal.value-returns-in_ok-count-in-OpenList-clause-ok
-value-returns-in_ok-count-in-OpenList-clause-ok t c = λ ts n.
+pub read_value-returns-in_ok-count-in-OpenList-clause-ok : goal.read_value-returns-in_ok-count-in-OpenList-clause-ok
+read_value-returns-in_ok-count-in-OpenList-clause-ok t c = λ ts n.
     let bytes = c.args.reader.now.bytes.now in
     let r = c.in_ok-count-in-OpenList.ensures.ok in
     let parts = c.parts_of.result in
-    let all : parts.nodes + (c.len-at.result + 1) ≡ length c.items.new.nodes.items =
-    omega (arith, c.parts_of.ensures.nodes, c.len.ensures, c.items.new.nodes.ok.0) in (
+    let all : parts.nodes + (c.len-at.result + 1) ≡ length c.read_items.new.nodes.items =
+    omega (arith, c.parts_of.ensures.nodes, c.len.ensures, c.read_items.new.nodes.ok.0) in (
       list (items_of r.0),
-      first.reads_list c.args.left ts (seen c.args.first) (rest c.args.reader.now) r.0 (rest c.items.new.reader)
+      first.reads_list c.args.left ts (seen c.args.first) (rest c.args.reader.now) r.0 (rest c.read_items.new.reader)
           (omega (arith, c.if-left-eq0.false)) n (ap token_of c.in-OpenList.is) r.2,
-      adds_anew bytes c.args.nodes.now.items c.push-in-OpenList.new.self.items c.items.new.nodes.items _ NullNode
+      adds_anew bytes c.args.nodes.now.items c.push-in-OpenList.new.self.items c.read_items.new.nodes.items _ NullNode
           (ListNode parts) r.0 (list (items_of r.0)) c.len-at.result c.in_ok-push-in-OpenList.ensures.items
           (omega (arith, c.len-at.ensures, c.args.nodes.now.ok.0)) refl
           all (says_list parts.count r.0 (c.parts_of.ensures.count ∙ r.1)) r.3,
     )
 
-pub value-returns-in_ok-count-in-OpenList-clause-fewer : goal.value-returns-in_ok-count-in-OpenList-clause-fewer
-value-returns-in_ok-count-in-OpenList-clause-fewer t c =
+pub read_value-returns-in_ok-count-in-OpenList-clause-fewer :
+    goal.read_value-returns-in_ok-count-in-OpenList-clause-fewer
+read_value-returns-in_ok-count-in-OpenList-clause-fewer t c =
     omega (
       arith,
       c.in_ok-count-in-OpenList.ensures.fewer,
       one_node c.args.nodes.now.items c.push-in-OpenList.new.self.items _ c.in_ok-push-in-OpenList.ensures.items,
-      length-set c.items.new.nodes.items c.len-at.result (ListNode c.parts_of.result),
+      length-set c.read_items.new.nodes.items c.len-at.result (ListNode c.parts_of.result),
     )
 
-pub value-returns-in_ok-count-in-OpenObject-clause-ok : goal.value-returns-in_ok-count-in-OpenObject-clause-ok
-value-returns-in_ok-count-in-OpenObject-clause-ok t c = λ ts n.
+pub read_value-returns-in_ok-count-in-OpenObject-clause-ok : goal.read_value-returns-in_ok-count-in-OpenObject-clause-ok
+read_value-returns-in_ok-count-in-OpenObject-clause-ok t c = λ ts n.
     let bytes = c.args.reader.now.bytes.now in
     let r = c.in_ok-count-in-OpenObject.ensures.ok in
     let parts = c.parts_of-in-OpenObject.result in
-    let all : parts.nodes + (c.len-at-in-OpenObject.result + 1) ≡ length c.members.new.nodes.items =
-    omega (arith, c.parts_of-in-OpenObject.ensures.nodes, c.len-in-OpenObject.ensures, c.members.new.nodes.ok.0) in (
+    let all : parts.nodes + (c.len-at-in-OpenObject.result + 1) ≡ length c.read_members.new.nodes.items =
+    omega (
+      arith,
+      c.parts_of-in-OpenObject.ensures.nodes,
+      c.len-in-OpenObject.ensures,
+      c.read_members.new.nodes.ok.0,
+    ) in (
       object (members_of r.0),
-      first.reads_object c.args.left ts (seen c.args.first) (rest c.args.reader.now) r.0 (rest c.members.new.reader)
+      first.reads_object c.args.left ts (seen c.args.first) (rest c.args.reader.now) r.0
+          (rest c.read_members.new.reader)
           (omega (arith, c.if-left-eq0-2.false)) n (ap token_of c.in-OpenObject.is) r.2,
-      adds_anew bytes c.args.nodes.now.items c.push-in-OpenObject.new.self.items c.members.new.nodes.items _ NullNode
+      adds_anew bytes c.args.nodes.now.items c.push-in-OpenObject.new.self.items c.read_members.new.nodes.items _
+          NullNode
           (ObjectNode parts) (in_turn r.0) (object (members_of r.0)) c.len-at-in-OpenObject.result
           c.in_ok-push-in-OpenObject.ensures.items
           (omega (arith, c.len-at-in-OpenObject.ensures, c.args.nodes.now.ok.0)) refl
           all (says_object parts.count r.0 (c.parts_of-in-OpenObject.ensures.count ∙ r.1)) r.3,
     )
 
-pub value-returns-in_ok-count-in-OpenObject-clause-fewer : goal.value-returns-in_ok-count-in-OpenObject-clause-fewer
-value-returns-in_ok-count-in-OpenObject-clause-fewer t c =
+pub read_value-returns-in_ok-count-in-OpenObject-clause-fewer :
+    goal.read_value-returns-in_ok-count-in-OpenObject-clause-fewer
+read_value-returns-in_ok-count-in-OpenObject-clause-fewer t c =
     omega (
       arith,
       c.in_ok-count-in-OpenObject.ensures.fewer,
       one_node c.args.nodes.now.items c.push-in-OpenObject.new.self.items _ c.in_ok-push-in-OpenObject.ensures.items,
-      length-set c.members.new.nodes.items c.len-at-in-OpenObject.result (ObjectNode c.parts_of-in-OpenObject.result),
+      length-set c.read_members.new.nodes.items c.len-at-in-OpenObject.result
+          (ObjectNode c.parts_of-in-OpenObject.result),
     )
 
-pub value-returns-in_ok-push-in-Word-clause-fewer : goal.value-returns-in_ok-push-in-Word-clause-fewer
-value-returns-in_ok-push-in-Word-clause-fewer t c =
+pub read_value-returns-in_ok-push-in-Word-clause-fewer : goal.read_value-returns-in_ok-push-in-Word-clause-fewer
+read_value-returns-in_ok-push-in-Word-clause-fewer t c =
     omega (arith, one_node c.args.nodes.now.items c.push.new.self.items _ c.in_ok-push-in-Word.ensures.items)
 
-pub value-returns-in_ok-push-in-Text-clause-fewer : goal.value-returns-in_ok-push-in-Text-clause-fewer
-value-returns-in_ok-push-in-Text-clause-fewer t c =
+pub read_value-returns-in_ok-push-in-Text-clause-fewer : goal.read_value-returns-in_ok-push-in-Text-clause-fewer
+read_value-returns-in_ok-push-in-Text-clause-fewer t c =
     omega (arith, one_node c.args.nodes.now.items c.push-in-Text.new.self.items _ c.in_ok-push-in-Text.ensures.items)
 
-pub value-returns-then-left-eq0-clause-fault : goal.value-returns-then-left-eq0-clause-fault
-value-returns-then-left-eq0-clause-fault t c =
+pub read_value-returns-then-left-eq0-clause-fault : goal.read_value-returns-then-left-eq0-clause-fault
+read_value-returns-then-left-eq0-clause-fault t c =
     let zero_left : c.args.left ≡ 0 = c.if-left-eq0.true in
     subst (λ (e : TextError). FaultIs e (λ f. (ts : List Lexed) →
-    NextIs ts (seen c.args.first) (rest c.args.reader.now) → StuckAt c.args.left [] ts f)) (sym c.fault.ensures)
+    NextIs ts (seen c.args.first) (rest c.args.reader.now) → StuckAt c.args.left [] ts f)) (sym c.text_error.ensures)
     (λ ts n. first.value_stops c.args.left ts (seen c.args.first) (rest c.args.reader.now) _ TooDeep n refl refl
     (subst (λ (k : Token). IsStuck c.args.left [] k levels) (sym (ap token_of c.in-OpenList.is))
     (subst (λ (m : ℕ). IsStuck m [] open_list levels) (sym zero_left) first.stuck_deep_list)))
 
-pub value-returns-then-left-eq0-2-clause-fault : goal.value-returns-then-left-eq0-2-clause-fault
-value-returns-then-left-eq0-2-clause-fault t c =
+pub read_value-returns-then-left-eq0-2-clause-fault : goal.read_value-returns-then-left-eq0-2-clause-fault
+read_value-returns-then-left-eq0-2-clause-fault t c =
     let zero_left : c.args.left ≡ 0 = c.if-left-eq0-2.true in
     subst (λ (e : TextError). FaultIs e (λ f. (ts : List Lexed) →
     NextIs ts (seen c.args.first) (rest c.args.reader.now) → StuckAt c.args.left [] ts f))
-    (sym c.fault-then-left-eq0-2.ensures)
+    (sym c.text_error-then-left-eq0-2.ensures)
     (λ ts n. first.value_stops c.args.left ts (seen c.args.first) (rest c.args.reader.now) _ TooDeep n refl refl
     (subst (λ (k : Token). IsStuck c.args.left [] k levels) (sym (ap token_of c.in-OpenObject.is))
     (subst (λ (m : ℕ). IsStuck m [] open_object levels) (sym zero_left) first.stuck_deep_object)))
 
-pub value-returns-in_err-count-in-OpenList-clause-fault : goal.value-returns-in_err-count-in-OpenList-clause-fault
-value-returns-in_err-count-in-OpenList-clause-fault t c =
+pub read_value-returns-in_err-count-in-OpenList-clause-fault :
+    goal.read_value-returns-in_err-count-in-OpenList-clause-fault
+read_value-returns-in_err-count-in-OpenList-clause-fault t c =
     let p = err_from_is_err_and c.from_residual-in_err-count-in-OpenList.result
     c.from_residual-in_err-count-in-OpenList.ensures.1 in
     rw (p.1, p.2) (passes_on c.in_err-count-in-OpenList.field-0.0 _ _
     (λ f s ts n. first.container_stops c.args.left ts (seen c.args.first) (rest c.args.reader.now) open_list f n
     (ap token_of c.in-OpenList.is) refl s) c.in_err-count-in-OpenList.ensures.fault)
 
-pub value-returns-in_err-count-in-OpenObject-clause-fault : goal.value-returns-in_err-count-in-OpenObject-clause-fault
-value-returns-in_err-count-in-OpenObject-clause-fault t c =
+pub read_value-returns-in_err-count-in-OpenObject-clause-fault :
+    goal.read_value-returns-in_err-count-in-OpenObject-clause-fault
+read_value-returns-in_err-count-in-OpenObject-clause-fault t c =
     let p = err_from_is_err_and c.from_residual-in_err-count-in-OpenObject.result
     c.from_residual-in_err-count-in-OpenObject.ensures.1 in
     rw (p.1, p.2) (passes_on c.in_err-count-in-OpenObject.field-0.0 _ _
     (λ f s ts n. first.container_stops c.args.left ts (seen c.args.first) (rest c.args.reader.now) open_object f n
     (ap token_of c.in-OpenObject.is) refl s) c.in_err-count-in-OpenObject.ensures.fault)
 
-pub value-returns-in_default : goal.value-returns-in_default
-value-returns-in_default t c = record {
+pub read_value-returns-in_default : goal.read_value-returns-in_default
+read_value-returns-in_default t c = record {
   ok = tt;
   fault = subst (λ (e : TextError). FaultIs e (λ f. (ts : List Lexed) →
       NextIs ts (seen c.args.first) (rest c.args.reader.now) → StuckAt c.args.left [] ts f))
-      (sym c.fault-in_default.ensures)
+      (sym c.text_error-in_default.ensures)
       (λ ts n. first.value_stops c.args.left ts (seen c.args.first) (rest c.args.reader.now) _ NotJson n refl refl
       (first.stuck_not_start c.args.left (token_of c.args.first.token)
       (not_start c.args.first.token c.in_default.not-OpenList c.in_default.not-OpenObject c.in_default.not-Word

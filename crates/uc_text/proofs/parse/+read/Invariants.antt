@@ -3,20 +3,20 @@ use Rattle.uc_text.proofs.Common.{DoublesStop, Adds, in_turn, Value, Pair, Stand
 use Rattle.uc_text.proofs.Lemmas.{InItems, InMembers}
 use Rattle.uc_text.proofs.parse.+read.Given as goal
 
-abbrev pub decreases-items : goal.decreases-items
-decreases-items l = 3 * l.left
+abbrev pub decreases-read_items : goal.decreases-read_items
+decreases-read_items l = 3 * l.left
 
-abbrev pub decreases-members : goal.decreases-members
-decreases-members l = 3 * l.left + 1
+abbrev pub decreases-read_members : goal.decreases-read_members
+decreases-read_members l = 3 * l.left + 1
 
 abbrev pub decreases-noted_members : goal.decreases-noted_members
 decreases-noted_members l = 3 * l.left
 
-abbrev pub decreases-value : goal.decreases-value
-decreases-value l = 3 * l.left + 2
+abbrev pub decreases-read_value : goal.decreases-read_value
+decreases-read_value l = 3 * l.left + 2
 
-abbrev pub invariant-items-items : goal.invariant-items-items
-invariant-items-items l = record {
+abbrev pub invariant-read_items-items : goal.invariant-read_items-items
+invariant-read_items-items l = record {
   inside : (vs : List Value) × InItems l.left (rest l.fn.reader) vs (seen l.first) (rest l.reader) ×
       (l.count ≡ length vs) × Adds l.fn.reader.bytes.now l.fn.nodes.items l.nodes.items vs;
   stands : StandsAt l.reader.bytes.now l.first.offset l.first.token;
@@ -26,8 +26,8 @@ invariant-items-items l = record {
   room : 0 < l.left;
 }
 
-abbrev pub decreases-items-items : goal.decreases-items-items
-decreases-items-items l = ahead l.reader
+abbrev pub decreases-read_items-items : goal.decreases-read_items-items
+decreases-read_items-items l = ahead l.reader
 
 abbrev pub invariant-noted_members-members : goal.invariant-noted_members-members
 invariant-noted_members-members l = record {

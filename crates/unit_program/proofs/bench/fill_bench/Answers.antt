@@ -1,9 +1,9 @@
 use Rattle.unit_program.proofs.Common.{arith, rules, ◌-◌, ◌*◌, ◌<◌, ◌≤◌, List, length, sym, ap, ◌∙◌, subst}
 use Rattle.unit_program.proofs.Common.{with_items_is}
 use Rattle.unit_program.proofs.Common.{to_z-of_z, FitsSigned, w64, thermal_of}
-use Rattle.unit_program.proofs.Common.{prices_of, Runner, HaveRoom, AreTrails, left_at}
+use Rattle.unit_program.proofs.Common.{prices_of, Runner, HaveRoom, AreTraces, left_at}
 use Rattle.unit_program.proofs.Common.{space_of}
-use Rattle.unit_program.proofs.Common.{cost_at, first_at, HaveWays}
+use Rattle.unit_program.proofs.Common.{cost_at, first_at, CanBacktrack}
 use Rattle.std.specs.Vec.{with_items}
 use Rattle.unit_program.proofs.Lemmas.{charge_less, bench_kept}
 use Rattle.unit_program.proofs.bench.fill_bench.Goals as goal
@@ -48,22 +48,22 @@ returns-clause-bench c = λ periods points b.
     c.fill_by_periods.ensures.same.rows_length c.fill_by_periods.ensures.list c.fill_by_periods.ensures.same.firsts_same
     c.fill_limits.ensures.length b
 
-pub returns-clause-ways : goal.returns-clause-ways
-returns-clause-ways c =
+pub returns-clause-backtracks : goal.returns-clause-backtracks
+returns-clause-backtracks c =
     let lent = c.as_mut_slice.ensures in
     let same = with_items_is c.args.bench.now.runners c.fill_by_periods.new.runners
     (c.fill_by_periods.ensures.same.count_same ∙ lent.len) in
-    subst (λ (xs : List Runner). HaveWays (thermal_of c.args.unit.now) (prices_of c.args.prices.now)
+    subst (λ (xs : List Runner). CanBacktrack (thermal_of c.args.unit.now) (prices_of c.args.prices.now)
     (length c.args.prices.now.energy.items) (cost_at c.fill_by_periods.new.table.items)
     (first_at c.fill_by_periods.new.table.items) (left_at c.fill_by_periods.new.shared.log.items xs)) (sym same)
-    c.fill_by_periods.ensures.ways
+    c.fill_by_periods.ensures.backtracks
 
-pub returns-clause-trails : goal.returns-clause-trails
-returns-clause-trails c =
+pub returns-clause-traces : goal.returns-clause-traces
+returns-clause-traces c =
     let lent = c.as_mut_slice.ensures in
     let same = with_items_is c.args.bench.now.runners c.fill_by_periods.new.runners
     (c.fill_by_periods.ensures.same.count_same ∙ lent.len) in
-    subst (AreTrails c.fill_by_periods.new.shared.log.items) (sym same) c.fill_by_periods.ensures.trails
+    subst (AreTraces c.fill_by_periods.new.shared.log.items) (sym same) c.fill_by_periods.ensures.traces
 
 pub returns-clause-filled : goal.returns-clause-filled
 returns-clause-filled c =

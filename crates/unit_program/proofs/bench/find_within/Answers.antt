@@ -23,8 +23,8 @@ returns-clause-some c =
     way_found u π new c.at_most.result
     (found_within u π c.args.most new.table.items filled c.limits_keep_rows.ensures.rows
     c.limits_keep_rows.ensures.amount c.least_end.result c.at_most.result told.some told.earliest told.none taken.some
-    taken.none) c.fill_bench.ensures.ways
-    c.fill_bench.ensures.trails fit.rows fit.count
+    taken.none) c.fill_bench.ensures.backtracks
+    c.fill_bench.ensures.traces fit.rows fit.count
 
 pub returns-clause-none : goal.returns-clause-none
 returns-clause-none c =

@@ -3,8 +3,8 @@ use Rattle.unit_rows.proofs.Common.{of_z, FitsSigned, w64, ints, to_z-of_z, IsWi
 use Rattle.unit_rows.proofs.Lemmas.{if_some}
 use Rattle.unit_rows.proofs.table.put_end.Goals as goal
 
-pub put-requires-clause-bound : goal.put-requires-clause-bound
-put-requires-clause-bound c =
+pub put_ended-requires-clause-bound : goal.put_ended-requires-clause-bound
+put_ended-requires-clause-bound c =
     let within = if_some (IsWithinTimes (suc c.args.last - c.args.first)) c.args.net c.in-Some.net c.in-Some.is
     c.requires.net_bound in
     let fits : FitsSigned w64 c.sum_of.result = search rules in
@@ -27,13 +27,13 @@ returns-in-Some-clause-some c =
     sum in
     let put : IsPut c.args.last
     (record { cost = to_z w64 (of_z w64 c.sum_of.result); first = c.args.first; before = c.args.entry.now.last })
-    c.args.table.now.items c.put.new.table.items =
+    c.args.table.now.items c.put_ended.new.table.items =
     record {
-      here = c.put.ensures.here;
-      old = c.put.ensures.old;
-      added = c.put.ensures.added;
-      latest = c.put.ensures.latest;
+      here = c.put_ended.ensures.here;
+      old = c.put_ended.ensures.old;
+      added = c.put_ended.ensures.added;
+      latest = c.put_ended.ensures.latest;
     } in
     rw c.in-Some.is (subst (λ (x : ℤ). IsPut c.args.last (record
     { cost = x; first = c.args.first; before = c.args.entry.now.last })
-    c.args.table.now.items c.put.new.table.items) cost put)
+    c.args.table.now.items c.put_ended.new.table.items) cost put)

@@ -19,8 +19,8 @@ returns-clause-room c = λ room periods charge fits have.
     (off_roomy room periods 0 charge c.forget_all.new.runners c.forget_all.ensures.off c.forget_all.ensures.none fits
     (c.forget_all.ensures.rooms.keeps room have))
 
-pub returns-clause-trails : goal.returns-clause-trails
-returns-clause-trails c =
+pub returns-clause-traces : goal.returns-clause-traces
+returns-clause-traces c =
     kept_trails _ _ c.go_on.ensures.kept _ (none_trails _ c.forget_all.new.runners c.forget_all.ensures.none)
 
 pub returns-clause-same : goal.returns-clause-same

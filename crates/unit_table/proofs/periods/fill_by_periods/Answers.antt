@@ -1,6 +1,6 @@
 use Rattle.unit_table.proofs.Common.{◌≡◌, ℕ, suc, ◌+◌, List, Option, length, sym, ◌∙◌, subst, arith}
 use Rattle.unit_table.proofs.Common.{Ended, refl, space_of, live_at, left_at, AreOrigins}
-use Rattle.unit_table.proofs.Common.{cost_at, first_at, HaveWays, ap, unit_of, prices_in, periods_in, charge_of}
+use Rattle.unit_table.proofs.Common.{cost_at, first_at, CanBacktrack, ap, unit_of, prices_in, periods_in, charge_of}
 use Rattle.unit_table.proofs.Common.{limits_in}
 use Rattle.unit_table.proofs.Lemmas.{origins_to, filled_whole, cost-same}
 use Rattle.unit_table.proofs.periods.fill_by_periods.Goals as goal
@@ -11,8 +11,8 @@ loop-place-init c = record {
     filled = c.begin_all.ensures.filled (prices_in c.args.question.now) (limits_in c.args.question.now)
         c.args.question.now.prices.now.valid.horizon.at_least;
     noted = λ f r on x v there k from until. absurd (omega arith);
-    ways = λ l v one until is. absurd (omega arith);
-    trails = c.begin_all.ensures.trails;
+    backtracks = λ l v one until is. absurd (omega arith);
+    traces = c.begin_all.ensures.traces;
     entries = (let none = ap length c.begin_all.ensures.log in omega arith);
     roomy = c.begin_all.ensures.room (space_of c.args.shared.now.spare) (periods_in c.args.question.now)
         (charge_of c.args.question.now) c.requires.room c.requires.have;
@@ -77,13 +77,13 @@ returns-clause-filled c = λ most right.
     (live_at c.loop-place.runners)
     (rw end at c.loop-place.invariant.now.filled)
 
-pub returns-clause-ways : goal.returns-clause-ways
-returns-clause-ways c =
+pub returns-clause-backtracks : goal.returns-clause-backtracks
+returns-clause-backtracks c =
     let end : c.loop-place.place ≡ periods_in c.args.question.now = omega arith in
-    subst (λ (t : ℕ). HaveWays (unit_of c.args.question.now) (prices_in c.args.question.now) t
+    subst (λ (t : ℕ). CanBacktrack (unit_of c.args.question.now) (prices_in c.args.question.now) t
     (cost_at c.loop-place.table.items) (first_at c.loop-place.table.items)
     (left_at c.loop-place.shared.log.items c.loop-place.runners)) end
-    c.loop-place.invariant.now.ways
+    c.loop-place.invariant.now.backtracks
 
 pub begin-requires-clause-rows : goal.begin-requires-clause-rows
 begin-requires-clause-rows c =

@@ -1,11 +1,10 @@
 use Rattle.unit_table.proofs.Common.{◌≡◌, length, IsSweptTo, AreAsLong, AreOrigins}
-use Rattle.unit_table.proofs.Common.{space_of, cost_at, unit_of, prices_in, charge_of, limits_in}
+use Rattle.unit_table.proofs.Common.{space_of, cost_at, unit_of, asked_at}
 use Rattle.unit_table.proofs.periods.fill_by_periods.Given as goal
 
 abbrev pub invariant-loop-place : goal.invariant-loop-place
 invariant-loop-place l = record {
-  now : IsSweptTo (unit_of l.question) (prices_in l.question) (limits_in l.question) l.place
-      (charge_of l.question) l.table.items l.runners l.roster l.shared.log.items;
+  now : IsSweptTo (asked_at l.question l.place) l.table.items l.runners l.roster l.shared.log.items;
   same : AreAsLong l.fn.table.items l.table.items l.fn.runners l.runners l.fn.roster l.roster l.fn.shared.log
       l.shared.log;
   origins : AreOrigins (unit_of l.question) (cost_at l.table.items) l.place l.origins;

@@ -9,7 +9,7 @@ use Rattle.unit_table.proofs.Lemmas.{kept_trails, noted_start, noted_all, noted_
 use Rattle.unit_table.proofs.Lemmas.{entries_more, entries_fit, entries_small}
 use Rattle.unit_table.proofs.Lemmas.{fewer_off, fewer_small}
 use Rattle.unit_table.proofs.periods.take_period.Goals as goal
-use Rattle.unit_table.proofs.periods.take_period.Goals.{After-start, After-run_all}
+use Rattle.unit_table.proofs.periods.take_period.Goals.{After-start_runner, After-run_runners}
 
 -- ---- all are off
 
@@ -30,10 +30,10 @@ returns-then-is_must_off-clause-now c =
           (live_at old) now.filled c.args.period.now.inside
           (live_at c.stop_all.new.runners) off (c.is_must_off.ensures.yes c.if-is_must_off.true);
       noted = λ f r on x v there k from until. (let none = off f in absurd (cc));
-      ways = ways_same g π (suc c.args.period.now.place) (cost_at rows) (first_at rows) (left_at log old)
+      backtracks = ways_same g π (suc c.args.period.now.place) (cost_at rows) (first_at rows) (left_at log old)
           (left_at log c.stop_all.new.runners) (kept_left _ _ kept log)
-          (ways_none g π c.args.period.now.place (cost_at rows) (first_at rows) (left_at log old) none now.ways);
-      trails = kept_trails _ _ kept log now.trails;
+          (ways_none g π c.args.period.now.place (cost_at rows) (first_at rows) (left_at log old) none now.backtracks);
+      traces = kept_trails _ _ kept log now.traces;
       entries = entries_more (length log) c.args.period.now.place (length log) now.entries (omega arith);
       roomy = still_roomy (periods_in c.args.period.now.question.now) c.args.period.now.place
           (suc c.args.period.now.place)
@@ -60,114 +60,119 @@ limit_at : (limits : List ℤ) (k : ℕ) (x : ℤ) → FitsSigned w64 x → slic
 limit_at limits k x fits is = get_or_from_slice_get limits k x (pos 0) is ∙ sym (to_z-of_z w64 x fits)
 
 -- after a start
-begun : (c : After-start) → AreRunners (unit_of c.args.period.now.question.now)
+begun : (c : After-start_runner) → AreRunners (unit_of c.args.period.now.question.now)
     (prices_in c.args.period.now.question.now)
-    (limits_in c.args.period.now.question.now) (cost_at c.args.table.now.items) (live_at c.start.new.runners)
+    (limits_in c.args.period.now.question.now) (cost_at c.args.table.now.items) (live_at c.start_runner.new.runners)
     c.args.period.now.place
     (suc (suc c.args.period.now.place))
-begun c = c.start.ensures.stands (prices_in c.args.period.now.question.now) (limits_in c.args.period.now.question.now)
+begun c = c.start_runner.ensures.stands (prices_in c.args.period.now.question.now)
+    (limits_in c.args.period.now.question.now)
     (cost_at c.args.table.now.items)
     (limit_at c.args.period.now.question.now.limits.now.items c.args.period.now.place c.get-limit.result.now
     (search rules) c.get-limit.ensures.item) c.requires.origins c.requires.now.filled.runners
 
 -- and over the period
-ran : (c : After-run_all) → AreRunners (unit_of c.args.period.now.question.now)
+ran : (c : After-run_runners) → AreRunners (unit_of c.args.period.now.question.now)
     (prices_in c.args.period.now.question.now)
-    (limits_in c.args.period.now.question.now) (cost_at c.args.table.now.items) (live_at c.start.new.runners)
+    (limits_in c.args.period.now.question.now) (cost_at c.args.table.now.items) (live_at c.start_runner.new.runners)
     c.args.period.now.place
     (suc (suc c.args.period.now.place)) →
     AreRunners (unit_of c.args.period.now.question.now) (prices_in c.args.period.now.question.now)
-    (limits_in c.args.period.now.question.now) (cost_at c.args.table.now.items) (live_at c.run_all.new.runners)
+    (limits_in c.args.period.now.question.now) (cost_at c.args.table.now.items) (live_at c.run_runners.new.runners)
     (suc c.args.period.now.place)
     (suc (suc c.args.period.now.place))
 ran c now = period_run _ _ _ c.args.period.now.question.now.unit.now.valid _ _ _ c.requires.now.filled
     c.args.period.now.inside
-    c.run_all.new.table.items _ _ now c.requires.limits.0 c.requires.limits.1 c.runs_go_on.ensures
-    (c.is_must_off.ensures.no c.if-is_must_off.false) c.run_all.ensures.run.goes c.run_all.ensures.run.off
+    c.run_runners.new.table.items _ _ now c.requires.limits.0 c.requires.limits.1 c.runs_go_on.ensures
+    (c.is_must_off.ensures.no c.if-is_must_off.false) c.run_runners.ensures.run.goes c.run_runners.ensures.run.off
 
-ran_small : (c : After-run_all) →
+ran_small : (c : After-run_runners) →
     AreRunners (unit_of c.args.period.now.question.now) (prices_in c.args.period.now.question.now)
-    (limits_in c.args.period.now.question.now) (cost_at c.args.table.now.items) (live_at c.start.new.runners)
+    (limits_in c.args.period.now.question.now) (cost_at c.args.table.now.items) (live_at c.start_runner.new.runners)
     c.args.period.now.place
-    (suc (suc c.args.period.now.place)) → AreSmall (live_at c.run_all.new.runners)
+    (suc (suc c.args.period.now.place)) → AreSmall (live_at c.run_runners.new.runners)
 ran_small c now = small_of _ _ _ _ _ (suc c.args.period.now.place) (suc (suc c.args.period.now.place)) (omega arith)
     (omega arith) (ran c now)
 
-pub start-requires-clause-within : goal.start-requires-clause-within
-start-requires-clause-within c =
+pub start_runner-requires-clause-within : goal.start_runner-requires-clause-within
+start_runner-requires-clause-within c =
     origins_within (unit_of c.args.period.now.question.now) c.args.table.now.items c.args.period.now.place
     c.args.origins.now
     c.requires.origins c.requires.now.filled.within (omega arith)
 
-pub start-requires-clause-small : goal.start-requires-clause-small
-start-requires-clause-small c =
+pub start_runner-requires-clause-small : goal.start_runner-requires-clause-small
+start_runner-requires-clause-small c =
     small_of (unit_of c.args.period.now.question.now) (prices_in c.args.period.now.question.now)
     (limits_in c.args.period.now.question.now) _
     (live_at c.args.runners.now) c.args.period.now.place (suc c.args.period.now.place)
     (omega arith) (omega arith) c.requires.now.filled.runners
 
-pub run_all-requires-clause-room : goal.run_all-requires-clause-room
-run_all-requires-clause-room c =
-    kept_roomy _ _ c.start.ensures.kept (periods_in c.args.period.now.question.now) c.args.period.now.place
+pub run_runners-requires-clause-room : goal.run_runners-requires-clause-room
+run_runners-requires-clause-room c =
+    kept_roomy _ _ c.start_runner.ensures.kept (periods_in c.args.period.now.question.now) c.args.period.now.place
     (charge_of c.args.period.now.question.now) (λ f. elim (cases_eq f (suc c.args.period.now.place)) [
       | inl z ↦ inr (omega arith)
-      | inr other ↦ inl (inl (c.start.ensures.others f other))
+      | inr other ↦ inl (inl (c.start_runner.ensures.others f other))
     ]) c.requires.now.roomy
 
-pub run_all-requires-clause-log : goal.run_all-requires-clause-log
-run_all-requires-clause-log c =
+pub run_runners-requires-clause-log : goal.run_runners-requires-clause-log
+run_runners-requires-clause-log c =
     let log = c.args.shared.now.log in
     let few = c.requires.now.entries in
     record {
-      trails = kept_trails _ _ c.start.ensures.kept log.items c.requires.now.trails;
+      traces = kept_trails _ _ c.start_runner.ensures.kept log.items c.requires.now.traces;
       spare = entries_fit (length log.items) log.spare c.args.period.now.place
           (periods_in c.args.period.now.question.now) c.args.period.now.inside few c.requires.long.log_end;
       small = entries_small (length log.items) c.args.period.now.place few (omega arith);
     }
 
-pub run_all-requires-clause-have : goal.run_all-requires-clause-have
-run_all-requires-clause-have c = kept_room _ _ c.start.ensures.kept _ c.requires.have
+pub run_runners-requires-clause-have : goal.run_runners-requires-clause-have
+run_runners-requires-clause-have c = kept_room _ _ c.start_runner.ensures.kept _ c.requires.have
 
-pub run_all-requires-clause-now : goal.run_all-requires-clause-now
-run_all-requires-clause-now c =
-    (limits_in c.args.period.now.question.now, begun (goal.at.run_all-requires-clause-now c).After-start)
+pub run_runners-requires-clause-now : goal.run_runners-requires-clause-now
+run_runners-requires-clause-now c =
+    (limits_in c.args.period.now.question.now, begun (goal.at.run_runners-requires-clause-now c).After-start_runner)
 
-pub run_all-requires-clause-none : goal.run_all-requires-clause-none
-run_all-requires-clause-none c = c.requires.now.filled.table.none (suc c.args.period.now.place) (omega arith)
+pub run_runners-requires-clause-none : goal.run_runners-requires-clause-none
+run_runners-requires-clause-none c = c.requires.now.filled.table.none (suc c.args.period.now.place) (omega arith)
 
-pub run_all-requires-clause-open : goal.run_all-requires-clause-open
-run_all-requires-clause-open c = c.is_must_off.ensures.no c.if-is_must_off.false
+pub run_runners-requires-clause-open : goal.run_runners-requires-clause-open
+run_runners-requires-clause-open c = c.is_must_off.ensures.no c.if-is_must_off.false
 
 pub drop_beyond-requires-clause-small : goal.drop_beyond-requires-clause-small
 drop_beyond-requires-clause-small c =
     let at = goal.at.drop_beyond-requires-clause-small c in
-    ran_small at.After-run_all (begun at.After-start)
+    ran_small at.After-run_runners (begun at.After-start_runner)
 
-pub prune-requires-clause-small : goal.prune-requires-clause-small
-prune-requires-clause-small c =
-    let at = goal.at.prune-requires-clause-small c in
-    fewer_small _ _ c.drop_beyond.ensures.fewer (ran_small at.After-run_all (begun at.After-start))
+pub prune_runners-requires-clause-small : goal.prune_runners-requires-clause-small
+prune_runners-requires-clause-small c =
+    let at = goal.at.prune_runners-requires-clause-small c in
+    fewer_small _ _ c.drop_beyond.ensures.fewer (ran_small at.After-run_runners (begun at.After-start_runner))
 
 pub drop_beyond-requires-clause-roster : goal.drop_beyond-requires-clause-roster
 drop_beyond-requires-clause-roster c =
-    still_listed (live_at c.start.new.runners) (live_at c.run_all.new.runners) (suc (suc c.args.period.now.place))
-    (suc (c.args.period.now.place + 1)) c.start.new.roster (omega arith)
-    c.run_all.ensures.run.off c.start.ensures.roster
+    still_listed (live_at c.start_runner.new.runners) (live_at c.run_runners.new.runners)
+    (suc (suc c.args.period.now.place))
+    (suc (c.args.period.now.place + 1)) c.start_runner.new.roster (omega arith)
+    c.run_runners.ensures.run.off c.start_runner.ensures.roster
 
-pub prune-requires-clause-roster : goal.prune-requires-clause-roster
-prune-requires-clause-roster c =
-    still_listed (live_at c.start.new.runners) (live_at c.drop_beyond.new.runners) (suc (suc c.args.period.now.place))
-    (suc (c.args.period.now.place + 1)) c.start.new.roster (omega arith)
-    (λ f off. fewer_off _ _ c.drop_beyond.ensures.fewer f (c.run_all.ensures.run.off f off)) c.start.ensures.roster
+pub prune_runners-requires-clause-roster : goal.prune_runners-requires-clause-roster
+prune_runners-requires-clause-roster c =
+    still_listed (live_at c.start_runner.new.runners) (live_at c.drop_beyond.new.runners)
+    (suc (suc c.args.period.now.place))
+    (suc (c.args.period.now.place + 1)) c.start_runner.new.roster (omega arith)
+    (λ f off. fewer_off _ _ c.drop_beyond.ensures.fewer f (c.run_runners.ensures.run.off f off))
+    c.start_runner.ensures.roster
 
 pub keep-requires-clause-roster : goal.keep-requires-clause-roster
 keep-requires-clause-roster c = (
   suc (suc c.args.period.now.place),
   omega arith,
-  still_listed (live_at c.start.new.runners) (live_at c.prune.new.runners) (suc (suc c.args.period.now.place))
-      (suc (suc c.args.period.now.place)) c.start.new.roster (omega arith)
-      (λ f off. fewer_off _ _ (fewer_then _ _ _ c.drop_beyond.ensures.fewer c.prune.ensures.fewer) f
-      (c.run_all.ensures.run.off f off)) c.start.ensures.roster,
+  still_listed (live_at c.start_runner.new.runners) (live_at c.prune_runners.new.runners)
+      (suc (suc c.args.period.now.place))
+      (suc (suc c.args.period.now.place)) c.start_runner.new.roster (omega arith)
+      (λ f off. fewer_off _ _ (fewer_then _ _ _ c.drop_beyond.ensures.fewer c.prune_runners.ensures.fewer) f
+      (c.run_runners.ensures.run.off f off)) c.start_runner.ensures.roster,
 )
 
 -- ---- the period
@@ -179,79 +184,88 @@ returns-clause-now c =
     let π = prices_in c.args.period.now.question.now in
     let limits = limits_in c.args.period.now.question.now in
     let rows = c.args.table.now.items in
-    let now = begun at.After-start in
-    let ran_on = ran at.After-run_all now in
+    let now = begun at.After-start_runner in
+    let ran_on = ran at.After-run_runners now in
     let next_is = limit_at c.args.period.now.question.now.limits.now.items (c.args.period.now.place + 1)
     c.get.result.now
     (search rules)
     c.get.ensures.item in
-    let pruned = rw add-one at (c.prune.ensures.stands π limits (cost_at rows) (suc (suc c.args.period.now.place))
+    let pruned = rw add-one at (c.prune_runners.ensures.stands π limits (cost_at rows)
+    (suc (suc c.args.period.now.place))
     (c.drop_beyond.ensures.stands g π limits (cost_at rows) (c.args.period.now.place + 1)
     (suc (suc c.args.period.now.place))
     next_is
     (rw add-one ran_on))) in
-    let rows' = c.run_all.new.table.items in
-    let run = c.run_all.ensures.run in
-    let kept = kept_then _ _ _ c.drop_beyond.ensures.kept c.prune.ensures.kept in
-    let fewer = fewer_then _ _ _ c.drop_beyond.ensures.fewer c.prune.ensures.fewer in
+    let rows' = c.run_runners.new.table.items in
+    let run = c.run_runners.ensures.run in
+    let kept = kept_then _ _ _ c.drop_beyond.ensures.kept c.prune_runners.ensures.kept in
+    let fewer = fewer_then _ _ _ c.drop_beyond.ensures.fewer c.prune_runners.ensures.fewer in
     let log = c.args.shared.now.log.items in
-    let log' = c.run_all.new.log.items in
+    let log' = c.run_runners.new.log.items in
     let old_left = left_at log c.args.runners.now in
-    let start_left = left_at log c.start.new.runners in
-    let ran_left = left_at log' c.run_all.new.runners in
+    let start_left = left_at log c.start_runner.new.runners in
+    let ran_left = left_at log' c.run_runners.new.runners in
     let left = ways_same g π c.args.period.now.place (cost_at rows) (first_at rows) old_left start_left
-    (kept_left _ _ c.start.ensures.kept log) c.requires.now.ways in
-    let started = noted_start g π c.args.period.now.place (live_at c.args.runners.now) (live_at c.start.new.runners)
-    old_left start_left c.start.ensures.others (kept_left _ _ c.start.ensures.kept log) c.requires.now.noted in
-    let noted = noted_all g π c.args.period.now.place (live_at c.start.new.runners) (live_at c.run_all.new.runners)
-    start_left ran_left (λ f r on. (now.right f r on).1.frontier) run.goes run.off run.left run.noted started in
-    let ways = ways_more g π c.args.period.now.place (suc (suc c.args.period.now.place)) (cost_at rows) (cost_at rows')
+    (kept_left _ _ c.start_runner.ensures.kept log) c.requires.now.backtracks in
+    let started = noted_start g π c.args.period.now.place (live_at c.args.runners.now)
+    (live_at c.start_runner.new.runners)
+    old_left start_left c.start_runner.ensures.others (kept_left _ _ c.start_runner.ensures.kept log)
+    c.requires.now.noted in
+    let noted = noted_all g π c.args.period.now.place (live_at c.start_runner.new.runners)
+    (live_at c.run_runners.new.runners) start_left ran_left (λ f r on. (now.right f r on).1.frontier) run.goes run.off
+    run.left run.noted started in
+    let backtracks = ways_more g π c.args.period.now.place (suc (suc c.args.period.now.place)) (cost_at rows)
+    (cost_at rows')
     (first_at rows)
-    (first_at rows') _ start_left ran_left (live_at c.start.new.runners) limits now started run.row run.ends run.left
+    (first_at rows') _ start_left ran_left (live_at c.start_runner.new.runners) limits now started run.row run.ends
+    run.left
     (λ l other. cost-same rows' rows l l (run.others l other))
     (λ l other. first-same rows' rows l l (run.others l other)) left in
     record {
       filled = period_filled _ _ _ c.args.period.now.question.now.unit.now.valid _ _ _ c.requires.now.filled
           c.args.period.now.inside
-          rows' _ (live_at c.run_all.new.runners) now c.requires.limits.0 c.requires.limits.1 c.dispatches_go_on.ensures
-          c.dispatches_are_runs.ensures (live_at c.prune.new.runners) pruned run.row run.others run.within;
-      noted = noted_fewer g π (suc c.args.period.now.place) (live_at c.run_all.new.runners)
-          (live_at c.prune.new.runners) ran_left (left_at log' c.prune.new.runners) fewer (kept_left _ _ kept log')
+          rows' _ (live_at c.run_runners.new.runners) now c.requires.limits.0 c.requires.limits.1
+          c.dispatches_go_on.ensures c.dispatches_are_runs.ensures (live_at c.prune_runners.new.runners) pruned run.row
+          run.others run.within;
+      noted = noted_fewer g π (suc c.args.period.now.place) (live_at c.run_runners.new.runners)
+          (live_at c.prune_runners.new.runners) ran_left (left_at log' c.prune_runners.new.runners) fewer
+          (kept_left _ _ kept log')
           noted;
-      ways = ways_same g π (suc c.args.period.now.place) (cost_at rows') (first_at rows') ran_left
-          (left_at log' c.prune.new.runners) (kept_left _ _ kept log') ways;
-      trails = kept_trails _ _ kept log' run.trails;
+      backtracks = ways_same g π (suc c.args.period.now.place) (cost_at rows') (first_at rows') ran_left
+          (left_at log' c.prune_runners.new.runners) (kept_left _ _ kept log') backtracks;
+      traces = kept_trails _ _ kept log' run.traces;
       entries = entries_more (length log) c.args.period.now.place (length log') c.requires.now.entries run.entries;
       roomy = kept_roomy _ _ kept (periods_in c.args.period.now.question.now) (suc c.args.period.now.place)
           (charge_of c.args.period.now.question.now) (λ f. inl (fewer f)) run.roomy;
       roster_is = c.keep.ensures.roster (suc (suc c.args.period.now.place))
-          (still_listed (live_at c.start.new.runners) (live_at c.prune.new.runners) (suc (suc c.args.period.now.place))
-          (suc (suc c.args.period.now.place)) c.start.new.roster (omega arith)
-          (λ f off. fewer_off _ _ fewer f (run.off f off)) c.start.ensures.roster);
+          (still_listed (live_at c.start_runner.new.runners) (live_at c.prune_runners.new.runners)
+          (suc (suc c.args.period.now.place))
+          (suc (suc c.args.period.now.place)) c.start_runner.new.roster (omega arith)
+          (λ f off. fewer_off _ _ fewer f (run.off f off)) c.start_runner.ensures.roster);
     }
 
 pub returns-clause-same : goal.returns-clause-same
 returns-clause-same c =
-    let kept = kept_then _ _ _ c.drop_beyond.ensures.kept c.prune.ensures.kept in
+    let kept = kept_then _ _ _ c.drop_beyond.ensures.kept c.prune_runners.ensures.kept in
     record {
-      rows_length = c.run_all.ensures.run.rows_length;
-      count_same = kept.count_same ∙ c.run_all.ensures.run.count_same ∙ c.start.ensures.kept.count_same;
-      firsts_same = c.keep.ensures.length ∙ c.start.ensures.list;
-      log_same = c.run_all.ensures.run.log_same;
+      rows_length = c.run_runners.ensures.run.rows_length;
+      count_same = kept.count_same ∙ c.run_runners.ensures.run.count_same ∙ c.start_runner.ensures.kept.count_same;
+      firsts_same = c.keep.ensures.length ∙ c.start_runner.ensures.list;
+      log_same = c.run_runners.ensures.run.log_same;
       keeps = λ room have.
           kept_room _ _ kept room
-          (c.run_all.ensures.run.keeps room (kept_room _ _ c.start.ensures.kept room have));
+          (c.run_runners.ensures.run.keeps room (kept_room _ _ c.start_runner.ensures.kept room have));
     }
 
 -- ---- places and lengths
 
 pub drop_beyond-requires-clause-end : goal.drop_beyond-requires-clause-end
 drop_beyond-requires-clause-end c =
-    let same = c.run_all.ensures.run.count_same ∙ c.start.ensures.kept.count_same in
+    let same = c.run_runners.ensures.run.count_same ∙ c.start_runner.ensures.kept.count_same in
     omega arith
 
-pub prune-requires-clause-end : goal.prune-requires-clause-end
-prune-requires-clause-end c =
-    let same = c.drop_beyond.ensures.kept.count_same ∙ c.run_all.ensures.run.count_same ∙
-    c.start.ensures.kept.count_same in
+pub prune_runners-requires-clause-end : goal.prune_runners-requires-clause-end
+prune_runners-requires-clause-end c =
+    let same = c.drop_beyond.ensures.kept.count_same ∙ c.run_runners.ensures.run.count_same ∙
+    c.start_runner.ensures.kept.count_same in
     omega arith

@@ -19,7 +19,7 @@ returns-clause-kept c =
     let begun = c.begin_runner.ensures in
     kept_written c.args.runners.now _ c.args.first c.begin_runner.new.runner _ c.requires.end refl
     (item_at c.args.runners.now c.args.first c.requires.end _)
-    (begun_one _ _ begun.count begun.room begun.trail)
+    (begun_one _ _ begun.count begun.room begun.trace)
 
 pub offset_bounds-runners-first : goal.offset_bounds-runners-first
 offset_bounds-runners-first c = scaled_Fits c.args.first (length c.args.runners.now) _ c.requires.end (search rules)

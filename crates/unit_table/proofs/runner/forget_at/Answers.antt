@@ -4,22 +4,22 @@ use Rattle.unit_table.proofs.runner.forget_at.Goals as goal
 
 pub returns-clause-off : goal.returns-clause-off
 returns-clause-off c =
-    live_here c.args.runners.now _ c.args.place c.forget.new.runner c.requires refl ∙
-    going_off c.forget.new.runner c.forget.ensures.off
+    live_here c.args.runners.now _ c.args.place c.forget_runner.new.runner c.requires refl ∙
+    going_off c.forget_runner.new.runner c.forget_runner.ensures.off
 
 pub returns-clause-none : goal.returns-clause-none
 returns-clause-none c = λ r is.
-    let here = written_here c.args.runners.now _ c.args.place c.forget.new.runner c.requires refl in
-    let same : c.forget.new.runner ≡ r = (cc) in
-    rw same at c.forget.ensures.trail
+    let here = written_here c.args.runners.now _ c.args.place c.forget_runner.new.runner c.requires refl in
+    let same : c.forget_runner.new.runner ≡ r = (cc) in
+    rw same at c.forget_runner.ensures.trace
 
 pub returns-clause-others : goal.returns-clause-others
-returns-clause-others c = written_other c.args.runners.now _ c.args.place c.forget.new.runner c.requires refl
+returns-clause-others c = written_other c.args.runners.now _ c.args.place c.forget_runner.new.runner c.requires refl
 
 pub returns-clause-rooms : goal.returns-clause-rooms
 returns-clause-rooms c =
-    rooms_written c.args.runners.now _ c.args.place c.forget.new.runner _ c.requires refl
-    (item_at c.args.runners.now c.args.place c.requires _) c.forget.ensures.running
+    rooms_written c.args.runners.now _ c.args.place c.forget_runner.new.runner _ c.requires refl
+    (item_at c.args.runners.now c.args.place c.requires _) c.forget_runner.ensures.running
 
 pub offset_bounds-runners-place : goal.offset_bounds-runners-place
 offset_bounds-runners-place c = scaled_Fits c.args.place (length c.args.runners.now) _ c.requires (search rules)

@@ -4,24 +4,24 @@ use Rattle.unit_table.proofs.runner.stop_at.Goals as goal
 
 pub returns-clause-off : goal.returns-clause-off
 returns-clause-off c =
-    live_here c.args.runners.now _ c.args.place c.stop.new.runner c.requires refl ∙
-    going_off c.stop.new.runner c.stop.ensures.off
+    live_here c.args.runners.now _ c.args.place c.stop_runner.new.runner c.requires refl ∙
+    going_off c.stop_runner.new.runner c.stop_runner.ensures.off
 
 pub returns-clause-others : goal.returns-clause-others
-returns-clause-others c = live_other c.args.runners.now _ c.args.place c.stop.new.runner c.requires refl
+returns-clause-others c = live_other c.args.runners.now _ c.args.place c.stop_runner.new.runner c.requires refl
 
 pub returns-clause-fewer : goal.returns-clause-fewer
 returns-clause-fewer c =
     fewer_but (live_at c.args.runners.now) _ c.args.place
-    (live_here c.args.runners.now _ c.args.place c.stop.new.runner c.requires refl ∙
-    going_off c.stop.new.runner c.stop.ensures.off)
-    (live_other c.args.runners.now _ c.args.place c.stop.new.runner c.requires refl)
+    (live_here c.args.runners.now _ c.args.place c.stop_runner.new.runner c.requires refl ∙
+    going_off c.stop_runner.new.runner c.stop_runner.ensures.off)
+    (live_other c.args.runners.now _ c.args.place c.stop_runner.new.runner c.requires refl)
 
 pub returns-clause-kept : goal.returns-clause-kept
 returns-clause-kept c =
-    kept_written c.args.runners.now _ c.args.place c.stop.new.runner _ c.requires refl
+    kept_written c.args.runners.now _ c.args.place c.stop_runner.new.runner _ c.requires refl
     (item_at c.args.runners.now c.args.place c.requires _)
-    (stopped_one _ _ c.stop.ensures.off c.stop.ensures.running c.stop.ensures.trail)
+    (stopped_one _ _ c.stop_runner.ensures.off c.stop_runner.ensures.running c.stop_runner.ensures.trace)
 
 pub offset_bounds-runners-place : goal.offset_bounds-runners-place
 offset_bounds-runners-place c = scaled_Fits c.args.place (length c.args.runners.now) _ c.requires (search rules)

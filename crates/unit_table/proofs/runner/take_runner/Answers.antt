@@ -3,36 +3,38 @@ use Rattle.unit_table.proofs.Common.{shown, count_of, room_of}
 use Rattle.unit_table.proofs.Common.{rules, ◌≡◌, ℕ, suc, ◌+◌, ◌-◌, ◌*◌, ◌<◌, ◌≤◌, inl, inr, Some, sym}
 use Rattle.unit_table.proofs.Common.{ap, ◌∙◌, subst, arith, FitsSigned, IfSome, w64, to_z-of_z, unit_of}
 use Rattle.unit_table.proofs.Common.{prices_in, periods_in, charge_of, going_of, Going, IsGoneOn, Lowest, left_by}
-use Rattle.unit_table.proofs.Common.{IsOnNoted, IsWithinTimes, on_time, since, IsEntryMore, Trail}
+use Rattle.unit_table.proofs.Common.{IsOnNoted, IsWithinTimes, on_time, since, IsEntryMore, Trace}
 use Rattle.unit_table.proofs.Lemmas.{room_more, room_next, going_on, row_end, end_some, end_left}
 use Rattle.unit_table.proofs.runner.take_runner.Goals as goal
-use Rattle.unit_table.proofs.runner.take_runner.Goals.{After-retire}
+use Rattle.unit_table.proofs.runner.take_runner.Goals.{After-stop_if_ended}
 
 -- the period is left
-left_here : (c : After-retire) →
-    since c.args.first (left_by c.leave-runner.new.log.items c.retire.new.runner.trail) c.args.period.now.place ≡
+left_here : (c : After-stop_if_ended) →
+    since c.args.first (left_by c.leave_entry-runner.new.log.items c.stop_if_ended.new.runner.trace)
+    c.args.period.now.place ≡
     c.run_one-passed.result
 left_here c =
-    ap (λ (t : Trail). since c.args.first (left_by c.leave-runner.new.log.items t) c.args.period.now.place)
-    c.retire.ensures.trail ∙ (rw (c.requires.room.count c.requires.on) at c.leave-runner.ensures.here)
+    ap (λ (t : Trace). since c.args.first (left_by c.leave_entry-runner.new.log.items t) c.args.period.now.place)
+    c.stop_if_ended.ensures.trace ∙ (rw (c.requires.room.count c.requires.on) at c.leave_entry-runner.ensures.here)
 
-pub leave-runner-requires-clause-few : goal.leave-runner-requires-clause-few
-leave-runner-requires-clause-few c = (let count = c.requires.room.count c.requires.on in omega arith)
+pub leave_entry-runner-requires-clause-few : goal.leave_entry-runner-requires-clause-few
+leave_entry-runner-requires-clause-few c = (let count = c.requires.room.count c.requires.on in omega arith)
 
 pub returns-clause-entry : goal.returns-clause-entry
 returns-clause-entry c =
-    subst (IsEntryMore c.args.log.now c.leave-runner.new.log c.args.runner.now.trail) (sym c.retire.ensures.trail)
+    subst (IsEntryMore c.args.log.now c.leave_entry-runner.new.log c.args.runner.now.trace)
+    (sym c.stop_if_ended.ensures.trace)
     (record {
-      there = c.leave-runner.ensures.trail;
-      earlier = c.leave-runner.ensures.earlier;
-      others = c.leave-runner.ensures.others;
-      entries = c.leave-runner.ensures.items;
-      spare = c.leave-runner.ensures.spare;
+      there = c.leave_entry-runner.ensures.trace;
+      earlier = c.leave_entry-runner.ensures.earlier;
+      others = c.leave_entry-runner.ensures.others;
+      entries = c.leave_entry-runner.ensures.items;
+      spare = c.leave_entry-runner.ensures.spare;
     })
 
 pub returns-clause-noted : goal.returns-clause-noted
 returns-clause-noted c = λ x v there.
-    let same = left_here (goal.at.returns-clause-noted c).After-retire in
+    let same = left_here (goal.at.returns-clause-noted c).After-stop_if_ended in
     subst (λ p. IsOnNoted (unit_of c.args.period.now.question.now) (prices_in c.args.period.now.question.now)
     c.args.first c.args.period.now.place p.note) (sym same) (c.run_one-passed.ensures.noted x v there)
 
@@ -63,11 +65,12 @@ returns-clause-more c =
 pub returns-clause-ends : goal.returns-clause-ends
 returns-clause-ends c =
     let put = simp add-one at c.put_end.ensures.some in
-    let same = left_here (goal.at.returns-clause-ends c).After-retire in
+    let same = left_here (goal.at.returns-clause-ends c).After-stop_if_ended in
     end_left (unit_of c.args.period.now.question.now) (prices_in c.args.period.now.question.now) c.args.first
     c.args.period.now.place
     c.args.runner.now.before _ c.args.table.now.items c.put_end.new.table.items c.run_one-passed.result
-    (since c.args.first (left_by c.leave-runner.new.log.items c.retire.new.runner.trail) c.args.period.now.place)
+    (since c.args.first (left_by c.leave_entry-runner.new.log.items c.stop_if_ended.new.runner.trace)
+    c.args.period.now.place)
     c.cost_of.result same
     c.cost_of.ensures
     c.put_end.ensures.none put c.run_one-passed.ensures.ended
@@ -91,16 +94,16 @@ returns-clause-goes c = λ r is.
       cost = c.args.runner.now.cost;
       before = c.args.runner.now.before;
       running = c.run_one-passed.new.running;
-      trail = c.leave-runner.result;
+      trace = c.leave_entry-runner.result;
     }) c.requires.on in
     let at = going_on c.args.runner.now c.requires.on in
     let here : state_of c.args.runner.now ≡ r = (cc) in
     subst (λ (r : Going). IsGoneOn unit prices c.args.period.now.place c.args.first r
-    (going_of (Some c.retire.new.runner)))
+    (going_of (Some c.stop_if_ended.new.runner)))
     here (record {
       function = shown c.run_one-passed.new.running;
       frontier = c.run_one-passed.ensures.frontier;
-      next_is = elim (c.retire.ensures.next) [
+      next_is = elim (c.stop_if_ended.ensures.next) [
         | inl on ↦ inl (on ∙ ran)
         | inr gone ↦ inr gone
       ];
@@ -122,7 +125,7 @@ put_end-requires-clause-bound c =
     c.requires.ready.within
 
 pub returns-clause-same : goal.returns-clause-same
-returns-clause-same c = ap room_of c.retire.ensures.running ∙ c.run_one-passed.ensures.grown.room
+returns-clause-same c = ap room_of c.stop_if_ended.ensures.running ∙ c.run_one-passed.ensures.grown.room
 
 pub returns-clause-room : goal.returns-clause-room
 returns-clause-room c =
@@ -130,12 +133,12 @@ returns-clause-room c =
     let charge = charge_of c.args.period.now.question.now in
     let periods = periods_in c.args.period.now.question.now in
     let whole = c.requires.room.whole in
-    let same = ap room_of c.retire.ensures.running ∙ c.run_one-passed.ensures.grown.room in
-    let count_same = ap count_of c.retire.ensures.running in
+    let same = ap room_of c.stop_if_ended.ensures.running ∙ c.run_one-passed.ensures.grown.room in
+    let count_same = ap count_of c.stop_if_ended.ensures.running in
     let count = c.run_one-passed.ensures.grown.count in
     let order = c.requires.ready.order in
     let left = c.requires.room.count c.requires.on in
-    let more = ap (λ (t : Trail). t.count) c.retire.ensures.trail ∙ c.leave-runner.ensures.count in
+    let more = ap (λ (t : Trace). t.count) c.stop_if_ended.ensures.trace ∙ c.leave_entry-runner.ensures.count in
     let rest = room_next (count_of old.running) (count_of c.run_one-passed.new.running) periods c.args.period.now.place
     charge
     (room_of old.running) c.args.period.now.inside (c.requires.room.rest c.requires.on) count in

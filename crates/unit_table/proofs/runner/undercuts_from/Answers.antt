@@ -4,12 +4,12 @@ use Rattle.unit_table.proofs.Common.{IsUnder, Going}
 use Rattle.unit_table.proofs.Lemmas.{live_from}
 use Rattle.unit_table.proofs.runner.undercuts_from.Goals as goal
 
-pub undercuts-requires-clause-bound : goal.undercuts-requires-clause-bound
-undercuts-requires-clause-bound c = (c.requires.small c.args.first _
+pub undercuts_start-requires-clause-bound : goal.undercuts_start-requires-clause-bound
+undercuts_start-requires-clause-bound c = (c.requires.small c.args.first _
     (live_from c.args.runners.now c.args.first _ c.runner_at-runner.ensures c.if-not-runner.false)).cost
 
-pub undercuts-requires-clause-values : goal.undercuts-requires-clause-values
-undercuts-requires-clause-values c = (c.requires.small c.args.first _
+pub undercuts_start-requires-clause-values : goal.undercuts_start-requires-clause-values
+undercuts_start-requires-clause-values c = (c.requires.small c.args.first _
     (live_from c.args.runners.now c.args.first _ c.runner_at-runner.ensures c.if-not-runner.false)).values
 
 pub returns : goal.returns
@@ -17,10 +17,11 @@ returns c =
     let x = c.runner_at-runner.result.now in
     let fits_power : FitsSigned w64 c.args.power = search rules in
     let fits_cost : FitsSigned w64 c.args.cost = search rules in
-    OnTrue_from c.undercuts.result
+    OnTrue_from c.undercuts_start.result
     ((r : Going) × (live_at c.args.runners.now c.args.first ≡ Some r) × IsUnder c.args.power c.args.cost r)
     (λ t.
-    let under : IsUnder c.args.power c.args.cost (state_of x) = simp to_z-of_z at (OnTrue_at t c.undercuts.ensures) in (
+    let under : IsUnder c.args.power c.args.cost (state_of x) = simp to_z-of_z at
+    (OnTrue_at t c.undercuts_start.ensures) in (
       state_of x,
       live_from c.args.runners.now c.args.first _ c.runner_at-runner.ensures c.if-not-runner.false,
       under,

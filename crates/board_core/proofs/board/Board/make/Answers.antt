@@ -2,8 +2,8 @@ use Rattle.board_core.proofs.Common.{◌≡◌, ◌≤◌, ℕ, ◌*◌, Bool, f
 use Rattle.board_core.proofs.Common.{le-mul_of_pos_right, MOST_TASKS, MOST_WORK, Setup, IsSetup}
 use Rattle.board_core.proofs.Common.{length-map-range_with_len, replicate, Answer, entries_of, Event, Entry, unit_count}
 use Rattle.board_core.proofs.Common.{start_prices, setup_of, events_of, blank_ledger, with_openings, Lists, unset}
-use Rattle.board_core.proofs.Common.{task_count, IsBoard, answers_kept}
-use Rattle.board_core.proofs.Lemmas.{as_many, IsOpened, opened}
+use Rattle.board_core.proofs.Common.{task_count, IsBoard}
+use Rattle.board_core.proofs.Lemmas.{IsOpened, opened}
 use Rattle.board_core.proofs.Starts.{starts, all_unset}
 use Rattle.board_core.proofs.board.Board.make.Goals as goal
 
@@ -44,9 +44,9 @@ invariant_of-result c =
     let E = c.in_ok-lists.ensures in
     let tasks : b.budget * c.unit_count.result ≡ task_count b =
     ap (λ (n : ℕ). b.budget * n) c.unit_count.ensures.value in
-    let kept = answers_kept c.in_ok-store.store in
+    let kept = c.in_ok-store.store.answers in
     let new = starts b (c.board_laws.ensures.of b) c.requires l O kept
-    (as_many c.in_ok-store.store ∙ c.in_ok-store.ensures.count ∙ tasks) in
+    (c.in_ok-store.ensures.count ∙ tasks) in
     let e1 : x.marks.items ≡ replicate (task_count b) false = E.marks ∙ ap (λ (n : ℕ). replicate n false) tasks in
     let e2 : x.counts.items ≡ replicate b.budget 0 = E.counts in
     let e3 : x.halted.items ≡ replicate b.callers false = E.halted in

@@ -1,15 +1,15 @@
 use Rattle.board_core.proofs.Common.{◌≡◌, ℕ, suc, ◌+◌, ◌-◌, ◌<◌, ◌==◌, ℤ, Bool, true, false, Option, List, [], ◌∷◌}
 use Rattle.board_core.proofs.Common.{◌++◌, length, get_or, slice_index_or, refl, subst, sym, ap, ◌∙◌, arith}
-use Rattle.board_core.proofs.Common.{length-append, set, All, kept_of, Answer, Content, rules_of, IsTotal, IsSum}
+use Rattle.board_core.proofs.Common.{length-append, set, All, Answer, Content, rules_of, IsTotal, IsSum}
 use Rattle.board_core.proofs.Common.{post_answer, after_post, entry_of, Event, posts, with_post, is_closed, post_event}
 use Rattle.board_core.proofs.Common.{with_answer, Entry, unit_count, task_unit, prices_of, task_number, events_of}
 use Rattle.board_core.proofs.Common.{blank, Lists, unset, sums_of, fronts_of, AreTallies, IsBoard, refusal_of, reply_of}
-use Rattle.board_core.proofs.Common.{posted_of, closed_if, Sums, Fronts, is_full, IsRound, answer_of, answers_kept}
+use Rattle.board_core.proofs.Common.{posted_of, closed_if, Sums, Fronts, is_full, IsRound, answer_of}
 use Rattle.board_core.proofs.Common.{Posts, PostReply, Setup, IsLegalHistory, Difference, AnyUnit, PriceLists, Proposal}
 use Rattle.board_core.proofs.Common.{int_at, LedgerValue, IsLedger, ◌≤◌, le_trans, MOST_UNITS}
 use Rattle.board_store.specs.declared.entries.Call.TheVariants as calls
 use Rattle.board_core.specs.declared.replies.Posted.TheVariants as replies_of
-use Rattle.board_core.proofs.Lemmas.{content, entries_more, is_task, one_less, is_inside, put_kept, place_before}
+use Rattle.board_core.proofs.Lemmas.{content, entries_more, is_task, one_less, place_before}
 use Rattle.board_core.proofs.Lemmas.{refusal_is, refused_says, taken_here, supply_small, reserve_small, units_few}
 use Rattle.plain_lists.specs.declared.limits.TheConstants.{MOST_CALLERS}
 use Rattle.board_core.proofs.Lemmas.{caller_few, entry_is, setup_in, events_in, lists_in, IsTakenHere}
@@ -29,9 +29,9 @@ number_is c = c.task_number-at.ensures ∙
     ap (λ (m : ℕ). task_number m c.args.task.now.proposal c.args.task.now.unit) c.unit_count-units.ensures.value
 
 kept_is : (c : After-put) (i : ℕ) → c.task_number-at.result ≡ i →
-    answers_kept c.put.new.self ≡ set (answers_kept c.self.inside.store) i (answer_of c.args.answer.now)
-kept_is c i at_ = put_kept c.self.inside.store c.put.new.self c.task_number-at.result (kept_of c.args.answer.now)
-    c.put.ensures.answers ∙ ap (λ (j : ℕ). set (answers_kept c.self.inside.store) j (answer_of c.args.answer.now)) at_
+    c.put.new.self.answers ≡ set c.self.inside.store.answers i (answer_of c.args.answer.now)
+kept_is c i at_ = c.put.ensures.answers ∙
+    ap (λ (j : ℕ). set c.self.inside.store.answers j (answer_of c.args.answer.now)) at_
 
 counted : (c : After-add) → IsCounted c.self.inside.ledger c.add.new.self (c.args.task.now.proposal - 1)
     (task_unit c.args.task.now) (answer_of c.args.answer.now) (blank 0)
@@ -58,7 +58,7 @@ module _ (c : In-Some) where
       ((h : List (Event Answer)) (e : Event Answer) → with_answer h e refused ≡ h)
   says =
       let s = c.self.inside in
-      let asked = rw (c.deref.ensures.value, c.deref-2.ensures.value) at c.refusal-refused.ensures.refused in
+      let asked = rw (c.deref.ensures.value, c.deref-2.ensures.value) at c.refusal_of_post-refused.ensures.refused in
       refused_says refused c.in-Some.refused
       (refusal_is (setup_in s) (events_in s) (lists_in s) s.ledger c.self.invariant.0 c.args.caller
       c.args.task.now.proposal c.args.task.now.unit (prices_of c.args.task.now.prices) (task_unit c.args.task.now)
@@ -105,8 +105,8 @@ module _ (c : In_default) where
 
   ok : IsTakenHere b h l k n u ρ v a
   ok =
-      let asked : c.refusal-refused.result ≡ refusal_of b l x.marks x.takers k n u ρ v =
-      rw (c.deref.ensures.value, c.deref-2.ensures.value) at c.refusal-refused.ensures.refused in
+      let asked : c.refusal_of_post-refused.result ≡ refusal_of b l x.marks x.takers k n u ρ v =
+      rw (c.deref.ensures.value, c.deref-2.ensures.value) at c.refusal_of_post-refused.ensures.refused in
       taken_here c.board_laws.ensures.taken_tells b h x l I k n u ρ v a (is_task c.args.task.now) c.requires.fit
       c.requires.earned (sym asked ∙ c.in_default.is)
 
@@ -198,25 +198,26 @@ module _ (c : In_default) where
         ∙ events_posted c.board_laws.ensures.answers_fit b h x l I k n u a ok.held c.self.inside.lists.history.items
         refl (count == m) tested entry entry_as
 
-pub refusal-refused-requires-clause-setup : goal.refusal-refused-requires-clause-setup
-refusal-refused-requires-clause-setup c = c.self.invariant.0.setup
+pub refusal_of_post-refused-requires-clause-setup : goal.refusal_of_post-refused-requires-clause-setup
+refusal_of_post-refused-requires-clause-setup c = c.self.invariant.0.setup
 
-pub refusal-refused-requires-clause-opened : goal.refusal-refused-requires-clause-opened
-refusal-refused-requires-clause-opened c = let L = c.self.invariant.0.ledger in
+pub refusal_of_post-refused-requires-clause-opened : goal.refusal_of_post-refused-requires-clause-opened
+refusal_of_post-refused-requires-clause-opened c = let L = c.self.invariant.0.ledger in
     subst (λ (m : ℕ). c.self.inside.ledger.opened ≤ m) (sym L.count) L.opened
 
-pub refusal-refused-requires-clause-few : goal.refusal-refused-requires-clause-few
-refusal-refused-requires-clause-few c = le_trans c.self.invariant.0.ledger.opened c.self.invariant.0.setup.budget
+pub refusal_of_post-refused-requires-clause-few : goal.refusal_of_post-refused-requires-clause-few
+refusal_of_post-refused-requires-clause-few c = le_trans c.self.invariant.0.ledger.opened
+    c.self.invariant.0.setup.budget
 
-pub refusal-refused-requires-clause-horizon : goal.refusal-refused-requires-clause-horizon
-refusal-refused-requires-clause-horizon c = λ k d lt. let L = c.self.invariant.0.ledger in
+pub refusal_of_post-refused-requires-clause-horizon : goal.refusal_of_post-refused-requires-clause-horizon
+refusal_of_post-refused-requires-clause-horizon c = λ k d lt. let L = c.self.invariant.0.ledger in
     L.horizon k d (le_trans lt (subst (λ (m : ℕ). c.self.inside.ledger.opened ≤ m) (sym L.count) L.opened))
 
-pub refusal-refused-requires-clause-room : goal.refusal-refused-requires-clause-room
-refusal-refused-requires-clause-room c = c.self.invariant.2
+pub refusal_of_post-refused-requires-clause-room : goal.refusal_of_post-refused-requires-clause-room
+refusal_of_post-refused-requires-clause-room c = c.self.invariant.2
 
-pub refusal-refused-requires-clause-marks : goal.refusal-refused-requires-clause-marks
-refusal-refused-requires-clause-marks c =
+pub refusal_of_post-refused-requires-clause-marks : goal.refusal_of_post-refused-requires-clause-marks
+refusal_of_post-refused-requires-clause-marks c =
     let b = setup_in c.self.inside in
     let I = c.self.invariant.0 in
     λ m w one within inside.
@@ -226,8 +227,8 @@ refusal-refused-requires-clause-marks c =
     let size = I.marks_are.marks_count in
     omega (arith, e, f, size)
 
-pub refusal-refused-requires-clause-takers : goal.refusal-refused-requires-clause-takers
-refusal-refused-requires-clause-takers c = λ i marked.
+pub refusal_of_post-refused-requires-clause-takers : goal.refusal_of_post-refused-requires-clause-takers
+refusal_of_post-refused-requires-clause-takers c = λ i marked.
     subst (λ (xs : List ℕ). i < length xs) (sym c.deref-2.ensures.value)
     (c.self.invariant.0.marks_are.claimed i
     (subst (λ (xs : List Bool). slice_index_or xs i false ≡ true) c.deref.ensures.value marked))
@@ -278,7 +279,7 @@ pub put-requires-clause-place : goal.put-requires-clause-place
 put-requires-clause-place c =
     let e = kept_in (goal.at.put-requires-clause-place c).In_default in
     let at_ = number_is (goal.at.put-requires-clause-place c).After-task_number-at in
-    is_inside c.self.inside.store c.task_number-at.result (omega (arith, e, at_))
+    omega (arith, e, at_)
 
 pub put-requires-clause-horizon : goal.put-requires-clause-horizon
 put-requires-clause-horizon c = (ok (goal.at.put-requires-clause-horizon c).In_default).long ∙
@@ -288,7 +289,7 @@ pub put-requires-clause-like : goal.put-requires-clause-like
 put-requires-clause-like c =
     let e = kept_in (goal.at.put-requires-clause-like c).In_default in
     let at_ = number_is (goal.at.put-requires-clause-like c).After-task_number-at in
-    is_inside c.self.inside.store c.number_before.result (omega (arith, e, at_, c.number_before.ensures))
+    omega (arith, e, at_, c.number_before.ensures)
 
 pub put-requires-clause-left : goal.put-requires-clause-left
 put-requires-clause-left c =
@@ -344,57 +345,59 @@ push_reserved-requires c =
     let room = c.self.invariant.1.room in
     omega (arith, e, room)
 
-pub advance-requires-clause-setup : goal.advance-requires-clause-setup
-advance-requires-clause-setup c = c.self.invariant.0.setup
+pub advance_proposals-requires-clause-setup : goal.advance_proposals-requires-clause-setup
+advance_proposals-requires-clause-setup c = c.self.invariant.0.setup
 
-pub advance-requires-clause-counts : goal.advance-requires-clause-counts
-advance-requires-clause-counts c =
-    let d = (goal.at.advance-requires-clause-counts c).In_default in
-    ap (λ (xs : List ℕ). length xs) (counts_are (goal.at.advance-requires-clause-counts c).After-deref-3) ∙
-    (tallies d c.add.new.self (counted (goal.at.advance-requires-clause-counts c).After-add)).counts_count
+pub advance_proposals-requires-clause-counts : goal.advance_proposals-requires-clause-counts
+advance_proposals-requires-clause-counts c =
+    let d = (goal.at.advance_proposals-requires-clause-counts c).In_default in
+    ap (λ (xs : List ℕ). length xs) (counts_are (goal.at.advance_proposals-requires-clause-counts c).After-deref-3) ∙
+    (tallies d c.add.new.self (counted (goal.at.advance_proposals-requires-clause-counts c).After-add)).counts_count
 
-pub advance-requires-clause-earned_count : goal.advance-requires-clause-earned_count
-advance-requires-clause-earned_count c =
-    let d = (goal.at.advance-requires-clause-earned_count c).In_default in
-    (tallies d c.add.new.self (counted (goal.at.advance-requires-clause-earned_count c).After-add)).earned_count
+pub advance_proposals-requires-clause-earned_count : goal.advance_proposals-requires-clause-earned_count
+advance_proposals-requires-clause-earned_count c =
+    let d = (goal.at.advance_proposals-requires-clause-earned_count c).In_default in
+    (tallies d c.add.new.self (counted (goal.at.advance_proposals-requires-clause-earned_count
+    c).After-add)).earned_count
 
-pub advance-requires-clause-horizon : goal.advance-requires-clause-horizon
-advance-requires-clause-horizon c = c.self.invariant.1.next
+pub advance_proposals-requires-clause-horizon : goal.advance_proposals-requires-clause-horizon
+advance_proposals-requires-clause-horizon c = c.self.invariant.1.next
 
-pub advance-requires-clause-ledger : goal.advance-requires-clause-ledger
-advance-requires-clause-ledger c = ledger (goal.at.advance-requires-clause-ledger c).In_default c.add.new.self
-    (counted (goal.at.advance-requires-clause-ledger c).After-add)
+pub advance_proposals-requires-clause-ledger : goal.advance_proposals-requires-clause-ledger
+advance_proposals-requires-clause-ledger c = ledger (goal.at.advance_proposals-requires-clause-ledger c).In_default
+    c.add.new.self
+    (counted (goal.at.advance_proposals-requires-clause-ledger c).After-add)
 
-pub advance-requires-clause-round : goal.advance-requires-clause-round
-advance-requires-clause-round c =
-    let d = (goal.at.advance-requires-clause-round c).In_default in
+pub advance_proposals-requires-clause-round : goal.advance_proposals-requires-clause-round
+advance_proposals-requires-clause-round c =
+    let d = (goal.at.advance_proposals-requires-clause-round c).In_default in
     subst (λ (xs : List ℕ). IsRound (b d) (units d) xs (sums_of c.add.new.self) (fronts_of c.add.new.self))
-    (sym (counts_are (goal.at.advance-requires-clause-round c).After-deref-3))
-    (round d c.add.new.self (counted (goal.at.advance-requires-clause-round c).After-add))
+    (sym (counts_are (goal.at.advance_proposals-requires-clause-round c).After-deref-3))
+    (round d c.add.new.self (counted (goal.at.advance_proposals-requires-clause-round c).After-add))
 
-pub advance-requires-clause-opened : goal.advance-requires-clause-opened
-advance-requires-clause-opened c =
-    let d = (goal.at.advance-requires-clause-opened c).In_default in
-    let cs = counts_are (goal.at.advance-requires-clause-opened c).After-deref-3 in
+pub advance_proposals-requires-clause-opened : goal.advance_proposals-requires-clause-opened
+advance_proposals-requires-clause-opened c =
+    let d = (goal.at.advance_proposals-requires-clause-opened c).In_default in
+    let cs = counts_are (goal.at.advance_proposals-requires-clause-opened c).After-deref-3 in
     λ j lt full.
-    let e = was_open d c.add.new.self (counted (goal.at.advance-requires-clause-opened c).After-add) j lt
+    let e = was_open d c.add.new.self (counted (goal.at.advance_proposals-requires-clause-opened c).After-add) j lt
     (subst (λ (xs : List ℕ). is_full (units d) xs (suc j) ≡ true) cs full) in
     let o = c.add.ensures.opened in
     omega (arith, e, o)
 
-pub advance-requires-clause-earned : goal.advance-requires-clause-earned
-advance-requires-clause-earned c =
-    let d = (goal.at.advance-requires-clause-earned c).In_default in
+pub advance_proposals-requires-clause-earned : goal.advance_proposals-requires-clause-earned
+advance_proposals-requires-clause-earned c =
+    let d = (goal.at.advance_proposals-requires-clause-earned c).In_default in
     sums_small c.board_laws.ensures (b d) (h2 d) (I d).setup (legal2 d) (counts2 d) (sums_of c.add.new.self)
-    (tallies2 d c.add.new.self (counted (goal.at.advance-requires-clause-earned c).After-add))
+    (tallies2 d c.add.new.self (counted (goal.at.advance_proposals-requires-clause-earned c).After-add))
 
-pub advance-requires-clause-rows : goal.advance-requires-clause-rows
-advance-requires-clause-rows c =
-    let d = (goal.at.advance-requires-clause-rows c).In_default in
-    let cs = counts_are (goal.at.advance-requires-clause-rows c).After-deref-3 in
+pub advance_proposals-requires-clause-rows : goal.advance_proposals-requires-clause-rows
+advance_proposals-requires-clause-rows c =
+    let d = (goal.at.advance_proposals-requires-clause-rows c).In_default in
+    let cs = counts_are (goal.at.advance_proposals-requires-clause-rows c).After-deref-3 in
     λ m le full.
     rows_below c.board_laws.ensures (b d) (h2 d) (I d).setup (legal2 d) (counts2 d) (sums_of c.add.new.self)
-    (tallies2 d c.add.new.self (counted (goal.at.advance-requires-clause-rows c).After-add)) m le
+    (tallies2 d c.add.new.self (counted (goal.at.advance_proposals-requires-clause-rows c).After-add)) m le
     (λ j lt. subst (λ (xs : List ℕ). is_full (units d) xs (suc j) ≡ true) cs (full j lt))
 
 pub invariant_of-self-2 : goal.invariant_of-self-2
@@ -406,33 +409,33 @@ invariant_of-self-2 c =
     let at_ = number_is (goal.at.invariant_of-self-2 c).After-task_number-at in
     let cs = counts_are (goal.at.invariant_of-self-2 c).After-deref-3 in
     let T = tallies d c.add.new.self (counted (goal.at.invariant_of-self-2 c).After-add) in
-    let l3 = c.advance.new.ledger in
-    let kept : answers_kept c.put.new.self ≡ set (answers_kept s.store) (i d) (a d) =
+    let l3 = c.advance_proposals.new.ledger in
+    let kept : c.put.new.self.answers ≡ set s.store.answers (i d) (a d) =
     kept_is (goal.at.invariant_of-self-2 c).After-put (i d) at_ in
     let marks_is : set s.lists.marks.items c.task_number-at.result true ≡ set s.lists.marks.items (i d) true =
     ap (λ (j : ℕ). set s.lists.marks.items j true) at_ in
     let events = events_so d c.count_up.result c.unit_count-units.result c.count_up.ensures.count
     c.unit_count-units.ensures.value c.post_entry.result c.push_reserved.new.self.items
-    (answers_kept c.put.new.self) c.post_entry.ensures c.push_reserved.ensures.items kept in
-    let T3 = subst (λ (z : Sums). AreTallies (b d) (counts2 d) z (q d)) (sym c.advance.ensures.sums) T in
+    c.put.new.self.answers c.post_entry.ensures c.push_reserved.ensures.items kept in
+    let T3 = subst (λ (z : Sums). AreTallies (b d) (counts2 d) z (q d)) (sym c.advance_proposals.ensures.sums) T in
     let R3 = subst (λ (xs : List ℕ). IsRound (b d) (units d) xs (sums_of l3) (fronts_of l3)) cs
-    c.advance.ensures.round in
+    c.advance_proposals.ensures.round in
     let done : l3.closed < (b d).budget → is_full (units d) (counts2 d) (suc l3.closed) ≡ false =
     λ lt. subst (λ (xs : List ℕ). is_full (units d) xs (suc l3.closed) ≡ false) cs
-    (c.advance.ensures.done lt) in
+    (c.advance_proposals.ensures.done lt) in
     let new = posted c.board_laws.ensures (b d) (h d) x (l d) (I d) (k d) (n d) (u d) (a d) (ok d).held (caller d)
-    (ok d).right l3 c.advance.ensures.ledger T3 R3 done in
+    (ok d).right l3 c.advance_proposals.ensures.ledger T3 R3 done in
     let lists : (marks : List Bool) (kept : List Answer) (counts : List ℕ) → Lists =
     λ marks kept counts. record x { marks = marks; kept = kept; counts = counts } in
     let n1 = subst (λ (xs : List ℕ). IsBoard (b d) (h2 d)
-    (lists (set s.lists.marks.items (i d) true) (set (answers_kept s.store) (i d) (a d)) xs) l3)
+    (lists (set s.lists.marks.items (i d) true) (set s.store.answers (i d) (a d)) xs) l3)
     (sym c.count_up.ensures.counts) new in
     let n2 = subst (λ (xs : List Answer). IsBoard (b d) (h2 d)
     (lists (set s.lists.marks.items (i d) true) xs c.count_up.new.counts.items) l3) (sym kept) n1 in
     let n3 = subst (λ (xs : List Bool). IsBoard (b d) (h2 d)
-    (lists xs (answers_kept c.put.new.self) c.count_up.new.counts.items) l3) (sym marks_is) n2 in
+    (lists xs c.put.new.self.answers c.count_up.new.counts.items) l3) (sym marks_is) n2 in
     let n4 = subst (λ (z : List (Event Answer)). IsBoard (b d) z
-    (lists (set s.lists.marks.items c.task_number-at.result true) (answers_kept c.put.new.self)
+    (lists (set s.lists.marks.items c.task_number-at.result true) c.put.new.self.answers
     c.count_up.new.counts.items) l3) (sym events) n3 in
     let fewer = less d in
     let unset_at = ap unset marks_is in
@@ -457,15 +460,15 @@ invariant_of-self-2 c =
         );
         takers_room = K.takers_room;
         entries_are =
-            entries_more (h d) (events_of (units d) (answers_kept c.put.new.self) c.push_reserved.new.self.items)
+            entries_more (h d) (events_of (units d) c.put.new.self.answers c.push_reserved.new.self.items)
             (event d) s.lists.history.items c.push_reserved.new.self.items events
             (c.push_reserved.ensures.items ∙ ap (λ (y : Entry). s.lists.history.items ++ y ∷ []) entry_same)
             K.entries_are;
         store = c.put.ensures.periods ∙ K.store;
         left = let l = K.left in omega (arith, l, fewer, unset_at, c.put.ensures.left);
-        next = c.advance.ensures.horizon;
+        next = c.advance_proposals.ensures.horizon;
       },
-      c.refusal-refused.ensures.room,
+      c.refusal_of_post-refused.ensures.room,
     )
 
 pub returns-clause-answer : goal.returns-clause-answer
@@ -485,7 +488,7 @@ returns-clause-after c =
     (number_is (goal.at.returns-clause-after c).After-task_number-at) in
     let events = events_so d c.count_up.result c.unit_count-units.result c.count_up.ensures.count
     c.unit_count-units.ensures.value c.post_entry.result c.push_reserved.new.self.items
-    (answers_kept c.put.new.self) c.post_entry.ensures c.push_reserved.ensures.items kept in
+    c.put.new.self.answers c.post_entry.ensures c.push_reserved.ensures.items kept in
     ap (content (b d)) events ∙ sym (ap (λ r. content (b d) (with_answer (h d) (event d) r)) (ok d).reply) ∙
     ap (λ (z : Content). after_post z (k d) (n d) (u d) (ρ d) (v d) (a d)) c.self.view_is
 

@@ -1,5 +1,5 @@
 use Rattle.board_core.proofs.Common.{List, length, ap, ◌∙◌, arith, length-map, unit_count, proposal_of, Proposal}
-use Rattle.board_core.proofs.Common.{own_rows, events_of, setup_of, answers_kept}
+use Rattle.board_core.proofs.Common.{own_rows, events_of, setup_of}
 use Rattle.board_core.proofs.Lemmas.{rows_few}
 use Rattle.board_core.proofs.board.Board.rows.Goals as goal
 
@@ -10,7 +10,7 @@ pub returns-clause-count : goal.returns-clause-count
 returns-clause-count c =
     let s = c.self.inside in
     let b = setup_of s.terms in
-    let h = events_of (unit_count b.market) (answers_kept s.store) s.lists.history.items in
+    let h = events_of (unit_count b.market) s.store.answers s.lists.history.items in
     let few = rows_few b h _ s.ledger c.self.invariant.0 in
     let e = ap (λ (xs : List Proposal). length xs) c.rows.ensures in
     omega (arith, few, e, length-map c.rows.result.now proposal_of)

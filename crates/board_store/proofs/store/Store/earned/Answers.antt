@@ -1,5 +1,5 @@
 use Rattle.board_store.proofs.Common.{rules, pos, get_or, sym, ap, ◌∙◌, arith, w64, FitsSigned, to_z-of_z, get_or_read}
-use Rattle.board_store.proofs.Common.{Kept, Answers, nothing, least_left}
+use Rattle.board_store.proofs.Common.{Answer, Answers, no_answer, least_left}
 use Rattle.board_store.proofs.Answers.{place_of, answer_at_place}
 use Rattle.board_store.proofs.store.Store.earned.Goals as goal
 
@@ -18,6 +18,6 @@ returns c =
     let f : FitsSigned w64 c.index.result.now = search rules in
     let read = get_or_read s.earned.items c.args.place c.index.result.now lt c.index.ensures (pos 0) in
     to_z-of_z w64 c.index.result.now f ∙ read
-    ∙ sym (ap (λ (a : Kept). a.earned)
+    ∙ sym (ap (λ (a : Answer). a.earned)
     (answer_at_place s.on.rows s.power.rows s.reserve.rows s.earned.items c.args.place lt))
-    ∙ ap (λ (v : Answers). (get_or v.answers c.args.place nothing).earned) c.self.view_is
+    ∙ ap (λ (v : Answers). (get_or v.answers c.args.place no_answer).earned) c.self.view_is

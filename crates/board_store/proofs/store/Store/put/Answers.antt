@@ -1,5 +1,5 @@
 use Rattle.board_store.proofs.Common.{rules, ℕ, ◌<◌, ℤ, Bool, List, length, ap, ◌∙◌, arith, w64, FitsSigned, set}
-use Rattle.board_store.proofs.Common.{to_z-of_z, cast_signed, cast_unsigned, Answers, kept_of, answers_in, least_left}
+use Rattle.board_store.proofs.Common.{to_z-of_z, cast_signed, cast_unsigned, Answers, answer_of, answers_in, least_left}
 use Rattle.board_store.proofs.Answers.{place_of, put_answer}
 use Rattle.board_store.proofs.store.Store.put.Goals as goal
 use Rattle.board_store.proofs.store.Store.put.Goals.{After-self}
@@ -48,7 +48,7 @@ index_mut-requires c = let lt = place_inside (goal.at.index_mut-requires c).Afte
 pub returns-clause-answers : goal.returns-clause-answers
 returns-clause-answers c =
     let s = c.self.inside in
-    let a = kept_of c.args.answer.now in
+    let a = answer_of c.args.answer.now in
     let i = c.args.place in
     let I = c.self.invariant in
     let lt = place_inside (goal.at.returns-clause-answers c).After-self in

@@ -1,5 +1,5 @@
 use Rattle.board_store.proofs.Common.{rules, ◌<◌, pos, [], length, get_or, sym, ap, ◌∙◌, arith, w64, FitsSigned}
-use Rattle.board_store.proofs.Common.{to_z-of_z, get_or_read, cast_signed, cast_unsigned, int_at, Answers, nothing}
+use Rattle.board_store.proofs.Common.{to_z-of_z, get_or_read, cast_signed, cast_unsigned, int_at, Answers, no_answer}
 use Rattle.board_store.proofs.Common.{least_left}
 use Rattle.board_store.proofs.Answers.{place_of, answer_at_place, same_answer}
 use Rattle.board_store.proofs.store.Store.take.Goals as goal
@@ -39,4 +39,4 @@ returns-clause-answer c =
     (cast_signed w64 (cast_unsigned w64 c.index.result.now)) (int_at s.earned.items i)
     c.take.ensures.row c.take-2.ensures.row c.take-3.ensures.row e
     ∙ sym (answer_at_place s.on.rows s.power.rows s.reserve.rows s.earned.items i lt)
-    ∙ ap (λ (v : Answers). get_or v.answers i nothing) c.self.view_is
+    ∙ ap (λ (v : Answers). get_or v.answers i no_answer) c.self.view_is

@@ -29,7 +29,7 @@ returns-clause-least c =
     let e = ap (table_after self.pieces.items) c.in-Some.is in
     let m = c.slope_step-stepped.result.made in
     let out = c.slope_step-stepped.new.out in
-    let same = c.deref-2.ensures.value ∙ with_items_is c.lengthen.new.pieces out (search (rules, places)) in
+    let same = c.deref-2.ensures.value ∙ with_items_is c.lengthen_pieces.new.pieces out (search (rules, places)) in
     let step : IsStepped c.args.step c.args.curve.now before (table_after out m) =
     rw (c.deref.ensures.value) at c.slope_step-stepped.ensures.stepped in
     let turn : IsTurn c.args.step before c.slope_step-stepped.result.turn =

@@ -15,7 +15,7 @@ pieces-init c =
       front = (
         take n c.args.self.bytes.now,
         sym (take-append-drop n text) ∙
-            ap₂ (λ (front rest : List ℕ). front ++ rest) known.same (sym c.rest_from-wanted.ensures),
+            ap₂ (λ (front rest : List ℕ). front ++ rest) known.same (sym c.bytes_from-wanted.ensures),
         known.front,
       );
       near = omega (arith, known.near);
@@ -26,7 +26,7 @@ unreachable-requires c =
     let bs = c.args.self.bytes.now in
     let i = c.pieces.invariant.front in
     never bs i.0 c.pieces.at (string_from 0 (drop c.pieces.at bs)) c.args.self.closed i.2
-    (is_none bs c.rest_from.result.now c.pieces.at c.pieces-test.true c.if-bytes-at-ne34.true c.rest_from.ensures
+    (is_none bs c.bytes_from.result.now c.pieces.at c.pieces-test.true c.if-bytes-at-ne34.true c.bytes_from.ensures
     c.in_default.ensures.is)
 
 pub pieces-preserved : goal.pieces-preserved
@@ -35,8 +35,8 @@ pieces-preserved c =
     let i = c.pieces.invariant.front in
     let p = piece_of c.in-Some.piece in
     let others = string_from 0 (drop (c.pieces.at + p.1) bs) in
-    let here = goes_on bs c.rest_from.result.now c.pieces.at p c.pieces-test.true c.if-bytes-at-ne34.true
-    c.rest_from.ensures c.in-Some.ensures.is c.in-Some.ensures.len.0 in
+    let here = goes_on bs c.bytes_from.result.now c.pieces.at p c.pieces-test.true c.if-bytes-at-ne34.true
+    c.bytes_from.ensures c.in-Some.ensures.is c.in-Some.ensures.len.0 in
     record {
       front = (
         i.0 ++ p.0,
@@ -53,8 +53,8 @@ returns-in_default-behind_said c =
     let i = c.pieces.invariant.front in
     let p = piece_of c.in-Some.piece in
     let others = string_from 0 (drop (c.pieces.at + p.1) bs) in
-    let here = goes_on bs c.rest_from.result.now c.pieces.at p c.pieces-test.true c.if-bytes-at-ne34.true
-    c.rest_from.ensures c.in-Some.ensures.is c.in-Some.ensures.len.0 in
+    let here = goes_on bs c.bytes_from.result.now c.pieces.at p c.pieces-test.true c.if-bytes-at-ne34.true
+    c.bytes_from.ensures c.in-Some.ensures.is c.in-Some.ensures.len.0 in
     sym (says_other bs c.args.text.now i.0 c.pieces.wanted.now c.pieces.at p others c.args.self.closed
     (i.2 ∙ ap (option_map (after_piece (i.0, c.pieces.at))) here ∙ said_goes_on i.0 c.pieces.at p others) i.1
     c.in_default-behind_said.ensures.none)

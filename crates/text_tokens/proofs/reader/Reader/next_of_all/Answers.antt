@@ -17,7 +17,7 @@ pub returns-clause-next : goal.returns-clause-next
 returns-clause-next c =
     let now = c.pass_blanks.new.self in
     let lt : now.at < length now.bytes.now = omega (arith, now.within, c.if-offset-self.false) in
-    let e = next_token now.bytes.now c.rest_from.result.now now.at (token_of c.token_at-len.result.0)
-    c.token_at-len.result.1 lt (c.pass_blanks.ensures.passed lt) c.rest_from.ensures c.token_at-len.ensures.is
+    let e = next_token now.bytes.now c.bytes_from.result.now now.at (token_of c.token_at-len.result.0)
+    c.token_at-len.result.1 lt (c.pass_blanks.ensures.passed lt) c.bytes_from.ensures c.token_at-len.ensures.is
     c.token_at-len.ensures.some c.token_at-len.ensures.within in
     (rest_at now.bytes.now (now.at + c.token_at-len.result.1), sym c.pass_blanks.ensures.rest ∙ e, λ h. refl)

@@ -2,16 +2,16 @@ use Rattle.unit_program.proofs.Common.{◌<◌, List, Option, length, sym, subst
 use Rattle.unit_program.proofs.Common.{IsEndWithin}
 use Rattle.unit_program.proofs.bench.Bench.write_answer.Goals as goal
 
-pub write_noted-requires-clause-ways : goal.write_noted-requires-clause-ways
-write_noted-requires-clause-ways c =
+pub write_noted-requires-clause-backtracks : goal.write_noted-requires-clause-backtracks
+write_noted-requires-clause-backtracks c =
     let u = thermal_of c.args.unit.now in
     let π = prices_of c.args.prices.now in
     let T = length c.args.prices.now.energy.items in
-    rw (c.as_slice-runners.ensures.value, c.as_slice-log.ensures, c.as_slice.ensures) c.requires.way.ways
+    rw (c.as_slice-runners.ensures.value, c.as_slice-log.ensures, c.as_slice.ensures) c.requires.way.backtracks
 
-pub write_noted-requires-clause-trails : goal.write_noted-requires-clause-trails
-write_noted-requires-clause-trails c =
-    rw (c.as_slice-runners.ensures.value, c.as_slice-log.ensures) c.requires.way.trails
+pub write_noted-requires-clause-traces : goal.write_noted-requires-clause-traces
+write_noted-requires-clause-traces c =
+    rw (c.as_slice-runners.ensures.value, c.as_slice-log.ensures) c.requires.way.traces
 
 pub write_noted-requires-clause-room : goal.write_noted-requires-clause-room
 write_noted-requires-clause-room c = subst (λ (rows : List (Option Ended)). length c.args.prices.now.energy.items <

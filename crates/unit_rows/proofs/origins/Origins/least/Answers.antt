@@ -21,7 +21,7 @@ loop-place-preserved c =
     let o = c.get-origin.result.now in
     let x = c.sum_of-cost.result in
     let start = c.start_after.result in
-    let least' = c.lesser-least.result in
+    let least' = c.lesser_entry-least.result in
     let fits : FitsSigned w64 o.cost = search rules in
     let fits_start : FitsSigned w64 start = search rules in
     let fits_sum : FitsSigned w64 x = search rules in
@@ -31,8 +31,9 @@ loop-place-preserved c =
     let last = c.requires.within.last c.loop-place.place o c.loop-place-test.true c.get-origin.ensures.item in
     let from : IfSome least'
     (λ (r : Entry). (c.loop-place.least ≡ Some r) ⊎ ((Some x ≡ Some r.cost) × (r.last ≡ o.last))) = simp to_z-of_z
-    at c.lesser-least.ensures.from in
-    let added : (v : ℤ) → Some x ≡ Some v → HasEntryAtMost least' v = simp to_z-of_z at c.lesser-least.ensures.added in
+    at c.lesser_entry-least.ensures.from in
+    let added : (v : ℤ) → Some x ≡ Some v → HasEntryAtMost least' v = simp to_z-of_z at
+    c.lesser_entry-least.ensures.added in
     one_more u c.args.period c.args.self.now c.requires.order c.loop-place.place c.loop-place-test.true o
     c.get-origin.ensures.item x (cc)
     (record {
@@ -45,7 +46,7 @@ loop-place-preserved c =
       | inl h ↦ inl h
       | inr h ↦ inr ((cc), h.1)
     ])
-    c.lesser-least.ensures.old (added x refl) c.lesser-least.ensures.kept
+    c.lesser_entry-least.ensures.old (added x refl) c.lesser_entry-least.ensures.kept
 
 pub returns-clause-some : goal.returns-clause-some
 returns-clause-some c =

@@ -1,8 +1,0 @@
-use Rattle.plan_check.proofs.Common.{◌≡◌, ◌*◌, pos, neg_ℤ, ◌*ℤ◌, slice_index, IsFrom, int_at, sum_below}
-use Rattle.plan_check.proofs.earned.paid.Given as goal
-
-abbrev pub invariant-loop-place : goal.invariant-loop-place
-invariant-loop-place l = record {
-  is : l.sum ≡ sum_below l.place (λ k. int_at l.prices.items k *ℤ pos (slice_index l.amounts.items k));
-  limit : IsFrom (neg_ℤ (pos (2000000000000000000000 * l.place))) (pos (2000000000000000000000 * l.place)) l.sum;
-}

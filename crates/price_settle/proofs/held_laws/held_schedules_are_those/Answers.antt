@@ -1,5 +1,0 @@
-use Rattle.price_settle.proofs.Held.{held_are_those}
-use Rattle.price_settle.proofs.held_laws.held_schedules_are_those.Goals as goal
-
-pub returns : goal.returns
-returns c = held_are_those

@@ -1,0 +1,43 @@
+use Rattle.slope_list.proofs.Common.{arith, rules, ints, ◌<ℤ◌, ◌≤ℤ◌, FitsSigned, w64, to_z-of_z, by_lt_z}
+use Rattle.slope_list.proofs.Lemmas.{falling_at, rising_at}
+use Rattle.slope_list.proofs.way.advance_way.Goals as goal
+
+pub draw_flat-requires-clause-short : goal.draw_flat-requires-clause-short
+draw_flat-requires-clause-short c =
+    let f : FitsSigned w64 c.args.way.pen.at = search rules in
+    rw (to_z-of_z w64 c.args.way.pen.at f) at (c.is_flat.ensures.flat c.if-is_flat.true).1
+
+pub next_run-run-requires-clause-falls : goal.next_run-run-requires-clause-falls
+next_run-run-requires-clause-falls c = λ falls.
+    let w = c.args.window.now in
+    let at = falling_at w.step.ramp_up w.step.ramp_down w.turn c.args.way.pen.at c.args.way.cursor.at
+    w.valid.fair.ramp_up.at_least w.valid.fair.ramp_down.at_least c.requires.near falls in
+    let high = c.requires.high in
+    omega (arith, ints)
+
+pub next_run-run-requires-clause-rises : goal.next_run-run-requires-clause-rises
+next_run-run-requires-clause-rises c = λ rises.
+    let f : FitsSigned w64 c.args.way.pen.at = search rules in
+    let long = rw (to_z-of_z w64 c.args.way.pen.at f) at (c.is_flat.ensures.not_flat c.if-is_flat.false rises) in
+    let high = c.requires.high in
+    omega (arith, ints)
+
+pub draw_run-requires-clause-at : goal.draw_run-requires-clause-at
+draw_run-requires-clause-at c =
+    let w = c.args.window.now in
+    let way = c.args.way in
+    let is_up = w.valid.fair.ramp_up.at_least in
+    let is_down = w.valid.fair.ramp_down.at_least in
+    let f : FitsSigned w64 way.pen.at = search rules in
+    let ea = to_z-of_z w64 way.pen.at f in
+    by_lt_z way.cursor.at w.turn
+    (λ (falls : way.cursor.at <ℤ w.turn).
+    let at = falling_at w.step.ramp_up w.step.ramp_down w.turn way.pen.at way.cursor.at is_up is_down c.requires.near
+    falls in
+    let down = c.next_run-run.ensures.down falls in
+    omega (arith, ints))
+    (λ (rises : w.turn ≤ℤ way.cursor.at).
+    let at = rising_at w.step.ramp_up w.step.ramp_down w.turn way.pen.at way.cursor.at is_up is_down c.requires.near
+    (rw ea at (c.is_flat.ensures.not_flat c.if-is_flat.false rises)) in
+    let up = c.next_run-run.ensures.up rises in
+    omega (arith, ints))
