@@ -16,13 +16,13 @@ use Rattle.right_report.specs.RightReport.{IsRightReport}
 use Rattle.report_read.specs.Bounds.{IsOtherLine, IsReport}
 use Rattle.report_read.specs.Faults.{IsFault}
 use Rattle.report_compare.specs.Right.{DiffersFromRight}
-use Rattle.law_audit.specs.Laws.{PrintedReportsAreInForm}
+use Rattle.law_runs.specs.AuditLaws.{PrintedReportsAreInForm}
 use Rattle.law_outcome.proofs.OutcomeLaws.{pays_none_back, status_within, same_fault, bytes_fault, input_fault}
 use Rattle.law_outcome.proofs.OutcomeLaws.{work_fault, same_input, InputParts, input_parts}
 
 -- ---- a report within the bounds of reading
 
-is_within : (read : Option (List ℕ)) (r : Report) → IsReportFile read (Ok r) → IsReport r
+pub is_within : (read : Option (List ℕ)) (r : Report) → IsReportFile read (Ok r) → IsReport r
 is_within read r (Ok bytes, is, (bounds, text)) = bounds
 is_within read r (Err f, is, e) = absurd cc
 
@@ -31,7 +31,7 @@ flat_lines periods [] h = tt
 flat_lines periods (l ∷ ls) h = (h.0.flat, flat_lines periods ls h.1)
 
 -- a report within the bounds of reading has a form that its text tells
-within_has_form : (r : Report) → IsReport r → HasForm r
+pub within_has_form : (r : Report) → IsReport r → HasForm r
 within_has_form r h = record {
   renewable = All-from_recursion IsFlatLine r.renewable (flat_lines r.periods r.renewable h.renewable);
   bids = All-from_recursion IsFlatLine r.bids (flat_lines r.periods r.bids h.bids);

@@ -7,10 +7,10 @@ use Rattle.law_outcome.proofs.Common.{status_at, words_of, BytesAreThoseRead, Se
 use Rattle.law_outcome.proofs.Common.{IsConvexPromised}
 use Rattle.std.specs.Prelude.{neg_ℤ, ◌+ℤ◌}
 use Rattle.std.proofs.lemmas.Int.{ints, clamps}
-use Rattle.law_bounds.specs.Laws.{ArePriced, IsInBox}
-use Rattle.law_bounds.specs.MixtureLaws.{MixtureBoundHolds, MixtureBoundReachesCentre, PaymentsReachLeast}
-use Rattle.law_bounds.proofs.Box.{priced_of, priced_in_box}
-use Rattle.law_cases.specs.Laws.{CasesAreWithin}
+use Rattle.law_runs.specs.BoundLaws.{ArePriced, IsInBox}
+use Rattle.law_runs.specs.MixtureLaws.{MixtureBoundHolds, MixtureBoundReachesCentre, PaymentsReachLeast}
+use Rattle.law_runs.proofs.Box.{priced_of, priced_in_box}
+use Rattle.law_readers.specs.CaseLaws.{CasesAreWithin}
 use Rattle.uc_model.specs.Laws.{ReserveFrom0}
 use Rattle.uc_model.specs.Limits.{price_limit}
 use Rattle.convex_search.specs.FoundPrices.{everywhere}
@@ -64,9 +64,9 @@ module _ (got : BytesAreThoseRead) (within : CasesAreWithin) (add_up : Settlemen
     (told : List ℕ → Option (List ℕ)) (rose gained short : List ℕ → Type 0) where
   promised : (reads : Reads) → AreReads told rose (case_and_schedule a.case_name a.schedule_name) reads →
       HasText (command_for (Ok (convex a))) reads gained → IsConvexPromised a told gained
-  promised reads are (i, due, shown, (f, found, is), printed) =
+  promised reads are (i, due, shown, (f, found, s, settled, is), printed) =
       let m = i.market in
-      let π = f.settled.row.prices in
+      let π = f.prices in
       let parts = convex_parts got a reads i due in
       let cost = (accepted_is_feasible (Ok (convex a)) reads i due).1 in
       let limits = within parts.case_bytes m parts.is_case in
@@ -85,22 +85,23 @@ module _ (got : BytesAreThoseRead) (within : CasesAreWithin) (add_up : Settlemen
         feasible = parts.feasible;
         found = f;
         prices = priced;
-        settled = found.settled;
-        adds_up = add_up m i.plan π f.settled parts.feasible (reserve_from_zero m π priced) found.settled;
+        settlement = s;
+        settled = settled;
+        adds_up = add_up m i.plan π s parts.feasible (reserve_from_zero m π priced) settled;
         mixed = found.mixture;
         holds = λ ρ value prices dual. subst (λ (b : ℤ). value ≤ℤ b) (sym found.bound)
             (bound m f.mixture π everywhere ρ value limits found.mixture (everywhere_in_box m π ρ priced prices) dual);
-        reached = subst (λ (b : ℤ). f.settled.row.value ≤ℤ b) (sym found.bound)
-            (reaches m f.mixture π everywhere f.settled.row.value limits found.mixture priced (omega (arith, ints))
-            found.settled.value);
+        reached = subst (λ (b : ℤ). s.row.value ≤ℤ b) (sym found.bound)
+            (reaches m f.mixture π everywhere s.row.value limits found.mixture priced (omega (arith, ints))
+            settled.value);
         paid = λ ρ scheduled payments surplus sum prices settles.
             subst (λ (b : ℤ). least_paid (plan_cost m i.plan) b ≤ℤ (sum +ℤ surplus)) (sym found.bound)
             (least m i.plan f.mixture π everywhere ρ scheduled payments surplus sum limits parts.feasible found.mixture
             (everywhere_in_box m π ρ priced prices) settles);
         made = found.made;
-        near = found.near;
+        near = λ lt. found.near lt s.row.value settled.value;
         printed = subst gained
-            (is ∙ ap (λ (c : ℤ). convex_text (convex_of m c f.settled f.mixture (pos a.within) rounds f.made f.bound))
+            (is ∙ ap (λ (c : ℤ). convex_text (convex_of m c s f.mixture (pos a.within) rounds f.made f.bound))
             cost) printed;
       }
 

@@ -24,5 +24,15 @@ pub mod SettledTexts
 pub mod SearchTexts
 -- two runs of the same words print the same
 pub mod SameOutput
+-- a settlement at any prices
+pub mod SettlementsExist
+-- where a table gives a value, its tests held
+pub mod TableLaws
+-- what is read of a schedule's file has the shape of a plan
+pub mod PlanShapes
+-- what is read of a mixture's file has the shape of one
+pub mod MixtureShapes
+-- something is due of every command
+pub mod SomethingDue
 -- The lemmas that answers cite.
 pub mod Lemmas

@@ -20,7 +20,7 @@ use Rattle.law_outcome.proofs.Common.{BytesAreThoseRead, ◌≢◌}
 use Rattle.uc_text.specs.Files.{text, value}
 use Rattle.uc_case.specs.CaseFiles.{IsCaseOf}
 use Rattle.uc_plan.specs.PlanFiles.{IsPlanOf}
-use Rattle.hull_report.specs.declared.fault.FileKind.{FileKind}
+use Rattle.hull_fault.specs.declared.fault.FileKind.{FileKind}
 use Rattle.plain_lists.specs.declared.limits.TheConstants.{MOST_WORK}
 
 -- ---- a fault by its status
@@ -220,7 +220,7 @@ certifiable_fault reads c f (Err g, priced, e) =
     ]
 
 -- what a fault that is due says of the words
-data IsDueFault (w : Result Asked WordFault) (reads : Reads) (f : TopFault) : Type 0 where
+pub data IsDueFault (w : Result Asked WordFault) (reads : Reads) (f : TopFault) : Type 0 where
   unread : (file : FileKind) (name : List ℕ) → f ≡ Read file → (command_for w).name_of file ≡ Some name →
       reads file ≡ None → IsDueFault w reads f
   of_input : 3 ≤ status_of f → status_of f ≤ 4 → IsDueFault w reads f
@@ -231,7 +231,7 @@ data IsDueFault (w : Result Asked WordFault) (reads : Reads) (f : TopFault) : Ty
   of_mixture : (a : CertifyAsked) → w ≡ Ok (certify a) → status_of f ≡ 10 → IsDueFault w reads f
   of_words : (x : WordFault) → f ≡ Words x → word_fault w ≡ Some x → IsDueFault w reads f
 
-due_fault : (w : Result Asked WordFault) (reads : Reads) (f : TopFault) → (command_for w).IsDue reads (Err f) →
+pub due_fault : (w : Result Asked WordFault) (reads : Reads) (f : TopFault) → (command_for w).IsDue reads (Err f) →
     IsDueFault w reads f
 due_fault (Ok (check a)) reads f due =
     elim (input_fault reads f due) [
@@ -464,7 +464,7 @@ module _ (w : Result Asked WordFault) (gained short : List ℕ → Type 0) where
   at_5_of reads f z (of_mixture a same ten) = absurd (omega (arith, z, ten))
   at_5_of reads f z (of_words x is faulty) = let s : status_of f ≡ 1 = ap status_of is in absurd (omega (arith, z, s))
 
-  at_8_of : (reads : Reads) (f : TopFault) → status_of f ≡ 8 → IsDueFault w reads f →
+  pub at_8_of : (reads : Reads) (f : TopFault) → status_of f ≡ 8 → IsDueFault w reads f →
       (a : AuditAsked) × (w ≡ Ok (audit a))
   at_8_of reads f z (unread file name is named none) = let s : status_of f ≡ 2 = ap status_of is in
       absurd (omega (arith, z, s))
@@ -545,7 +545,7 @@ checked_is_feasible m plan i (feasible, none, is) =
     subst (λ (c : PlannedCase). IsFeasiblePlan c.market c.plan × (c.cost ≡ plan_cost c.market c.plan)) (sym is)
     (feasible, refl)
 
-input_is_feasible : (reads : Reads) (i : PlannedCase) → IsInput reads (Ok i) →
+pub input_is_feasible : (reads : Reads) (i : PlannedCase) → IsInput reads (Ok i) →
     IsFeasiblePlan i.market i.plan × (i.cost ≡ plan_cost i.market i.plan)
 input_is_feasible reads i (Ok m, case_is, (Ok plan, plan_is, checked)) = checked_is_feasible m plan i checked
 input_is_feasible reads i (Ok m, case_is, (Err g, plan_is, e)) = absurd cc

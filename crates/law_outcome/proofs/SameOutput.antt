@@ -1,6 +1,6 @@
 -- Two runs of the same words over the same bytes print the same.
-use Rattle.law_outcome.proofs.Common.{◌≡◌, ℕ, inl, inr, List, Option, None, Some, Result, Ok, Err, refl, sym, ap, ◌∙◌}
-use Rattle.law_outcome.proofs.Common.{subst, arith, IfSome, Asked, check, price, try, bound, fixed, audit, settle}
+use Rattle.law_outcome.proofs.Common.{◌≡◌, ◌⊎◌, ℕ, inl, inr, List, Option, None, Some, Result, Ok, Err, refl, sym, ap}
+use Rattle.law_outcome.proofs.Common.{◌∙◌, subst, arith, IfSome, Asked, check, price, try, bound, fixed, audit, settle}
 use Rattle.law_outcome.proofs.Common.{certify, convex, IsWithinRounds, status_of, fault_line}
 use Rattle.law_outcome.proofs.Common.{CaseFile, ScheduleFile, ReportFile, PricesFile}
 use Rattle.law_outcome.proofs.Common.{MixtureFile, TopFault, End, Done, Cut, Refused, Reads, Then, IsCaseFile}
@@ -8,9 +8,10 @@ use Rattle.law_outcome.proofs.Common.{IsPlanFile, IsChecked, IsInput, IsWithinWo
 use Rattle.law_outcome.proofs.Common.{IsPricesFile, IsMixtureFile, MixtureLists, IsAuditText, IsSettlementText}
 use Rattle.law_outcome.proofs.Common.{IsCertificateText, Report, PriceLists, PlannedCase, command_for, IsReadOf}
 use Rattle.law_outcome.proofs.Common.{AreReads, HasText, Ends, status_at, with_workers, TellTheSame, BytesAreThoseRead}
-use Rattle.law_outcome.proofs.Common.{ReportBytesAreItsText, report_text}
-use Rattle.hull_report.specs.declared.fault.FileKind.{FileKind}
-use Rattle.law_outcome.proofs.OutcomeLaws.{status_within, same_fault, InputParts, input_parts}
+use Rattle.law_outcome.proofs.Common.{ReportBytesAreItsText, report_text, Read, AuditAsked, WordFault}
+use Rattle.hull_fault.specs.declared.fault.FileKind.{FileKind}
+use Rattle.law_outcome.proofs.OutcomeLaws.{status_within, same_fault, InputParts, input_parts, input_fault}
+use Rattle.law_outcome.proofs.OutcomeLaws.{due_fault, at_8_of}
 use Rattle.law_outcome.proofs.SettlePromise.{prices_parts}
 use Rattle.law_outcome.proofs.CertifyPromise.{mixture_parts}
 
@@ -185,13 +186,60 @@ module _ (got : BytesAreThoseRead) (text_read : ReportBytesAreItsText) (reads : 
   all_read (convex x) i (Ok c, input, work) = convex_read x c (input_parts got reads c input)
   all_read (convex x) i (Err g, input, e) = absurd cc
 
--- where no count rose, each file was read
-quiet_read : (o : Option (List ℕ)) (told : List ℕ → Option (List ℕ)) (rose : List ℕ → Type 0) (read : Option (List ℕ)) →
-    IfSome o (λ name. IsReadOf (told name) (rose name) read) → IfSome o (λ name. ¬ rose name)
-    → IfSome o (λ name. (bytes : List ℕ) × (read ≡ Some bytes))
-quiet_read None told rose read is quiet = tt
-quiet_read (Some name) told rose None is quiet = absurd (quiet is)
-quiet_read (Some name) told rose (Some bytes) is quiet = (bytes, refl)
+-- ---- and so they were where a report is refused
+
+-- nothing is said of a text
+abbrev Any : List ℕ → Type 0
+Any text = Unit {0}
+
+-- the bytes of a report's file that was read
+report_bytes : (read : Option (List ℕ)) (f : TopFault) → IsReportFile read (Err f) → status_of f ≡ 8 →
+    (bytes : List ℕ) × (read ≡ Some bytes)
+report_bytes (Some bytes) f file eight = (bytes, refl)
+report_bytes None f (Ok bytes, is, more) eight = absurd cc
+report_bytes None f (Err g, is, e) eight =
+    let same : f ≡ Read ReportFile = same_fault f g e ∙ same_fault g (Read ReportFile) is in
+    let two : status_of f ≡ 2 = ap status_of same in absurd (omega (arith, two, eight))
+
+module _ (got : BytesAreThoseRead) (text_read : ReportBytesAreItsText) (reads : Reads) where
+  refused_read : (x : _) (i : PlannedCase) → InputParts reads i → (bytes : List ℕ) → reads ReportFile ≡ Some bytes →
+      AllRead (audit x) reads
+  refused_read x i p bytes is CaseFile = (p.case_bytes, p.case_read)
+  refused_read x i p bytes is ScheduleFile = (p.plan_bytes, p.plan_read)
+  refused_read x i p bytes is ReportFile = (bytes, is)
+  refused_read x i p bytes is PricesFile = tt
+  refused_read x i p bytes is MixtureFile = tt
+
+  all_read_by : (x : _) (f : TopFault) → status_of f ≡ 8 → (command_for (Ok (audit x))).IsDue reads (Err f) →
+      AllRead (audit x) reads
+  all_read_by x f eight (Ok c, input, (Ok r, file, more)) =
+      audit_read got text_read reads x c r (input_parts got reads c input) file
+  all_read_by x f eight (Ok c, input, (Err g, file, e)) =
+      let same : g ≡ f = sym (same_fault f g e) in
+      let found = report_bytes (reads ReportFile) g file (ap status_of same ∙ eight) in
+      refused_read x c (input_parts got reads c input) found.0 found.1
+  all_read_by x f eight (Err g, input, e) =
+      let same : g ≡ f = sym (same_fault f g e) in
+      absurd (elim (input_fault reads g input) [
+        | inl p ↦ let two : status_of g ≡ 2 = ap status_of p.0 in
+            let n : status_of g ≡ status_of f = ap status_of same in omega (arith, two, n, eight)
+        | inr (inl p) ↦ let two : status_of g ≡ 2 = ap status_of p.0 in
+            let n : status_of g ≡ status_of f = ap status_of same in omega (arith, two, n, eight)
+        | inr (inr p) ↦ let high = p.1 in
+            let n : status_of g ≡ status_of f = ap status_of same in omega (arith, high, n, eight)
+      ])
+
+  all_read_at_8 : (a : Asked) (f : TopFault) → status_of f ≡ 8 → (command_for (Ok a)).IsDue reads (Err f) →
+      AllRead a reads
+  all_read_at_8 a f eight due = of_audit (at_8_of (Ok a) Any Any reads f eight (due_fault (Ok a) reads f due)) due
+    where
+      of_audit : (x : AuditAsked) × (◌≡◌ {A = Result Asked WordFault} (Ok a) (Ok (audit x))) →
+          (command_for (Ok a)).IsDue reads (Err f) → AllRead a reads
+      of_audit (x, is) due =
+          let same : audit x ≡ a = cc in
+          subst (λ (b : Asked). AllRead b reads) same
+          (all_read_by x f eight
+          (subst (λ (b : Asked). (command_for (Ok b)).IsDue reads (Err f)) (sym same) due))
 
 -- what was read of a file is what both tell of it
 told_bytes : (told : Option (List ℕ)) (rose : Type 0) (read : Option (List ℕ)) (bytes all : List ℕ) → told ≡ Some all →
@@ -240,19 +288,6 @@ free_ends (settle x) workers reads gained short e ends = ends
 free_ends (certify x) workers reads gained short e ends = ends
 free_ends (convex x) workers reads gained short e ends = ends
 
-free_names : (a : Asked) (workers : ℕ) (rose : List ℕ → Type 0) →
-    ((file : FileKind) → IfSome ((command_for (Ok (with_workers workers a))).name_of file) (λ name. ¬ rose name))
-    → (file : FileKind) → IfSome ((command_for (Ok a)).name_of file) (λ name. ¬ rose name)
-free_names (check x) workers rose quiet = quiet
-free_names (price x) workers rose quiet = quiet
-free_names (try x) workers rose quiet = quiet
-free_names (bound x) workers rose quiet = quiet
-free_names (fixed x) workers rose quiet = quiet
-free_names (audit x) workers rose quiet = quiet
-free_names (settle x) workers rose quiet = quiet
-free_names (certify x) workers rose quiet = quiet
-free_names (convex x) workers rose quiet = quiet
-
 -- ---- one output
 
 -- what a run of such words shows: what was read, and how it ended
@@ -274,11 +309,6 @@ free_shows a workers told rose gained short n s = record {
   status_is = s.status_is;
 }
 
-pub free_quiet : (a : Asked) (workers : ℕ) (rose : List ℕ → Type 0) →
-    ((file : FileKind) → IfSome ((command_for (Ok (with_workers workers a))).name_of file) (λ name. ¬ rose name))
-    → (file : FileKind) → IfSome ((command_for (Ok a)).name_of file) (λ name. ¬ rose name)
-free_quiet = free_names
-
 -- at 0 a text was gained
 whole : (a : Asked) (reads : Reads) (gained short : List ℕ → Type 0) (e : End) (n : ℕ) →
     Ends (command_for (Ok a)) reads gained short e → n ≡ status_at e → n ≡ 0 → HasText (command_for (Ok a)) reads gained
@@ -286,15 +316,15 @@ whole a reads gained short Done n ends is z = ends
 whole a reads gained short Cut n ends is z = absurd (omega (arith, is, z))
 whole a reads gained short (Refused f) n ends is z = absurd (omega (arith, is, z, (status_within f).0))
 
--- at 8 the line of a fault that is due was gained, where no count of the sink rose
+-- at 8 a fault of that status is due, and its line was written
 refused : (a : Asked) (reads : Reads) (gained short : List ℕ → Type 0) (e : End) (n : ℕ) →
-    Ends (command_for (Ok a)) reads gained short e → n ≡ status_at e → n ≡ 8 → ((text : List ℕ) → ¬ short text)
-    → (f : TopFault) × (command_for (Ok a)).IsDue reads (Err f) × gained (fault_line f)
-refused a reads gained short Done n ends is z quiet = absurd (omega (arith, is, z))
-refused a reads gained short Cut n ends is z quiet = absurd (omega (arith, is, z))
-refused a reads gained short (Refused f) n (inl due, inl line) is z quiet = (f, due, line)
-refused a reads gained short (Refused f) n (inl due, inr line) is z quiet = absurd (quiet (fault_line f) line)
-refused a reads gained short (Refused f) n (inr memory, line) is z quiet =
+    Ends (command_for (Ok a)) reads gained short e → n ≡ status_at e → n ≡ 8
+    → (f : TopFault) × (command_for (Ok a)).IsDue reads (Err f) × (status_of f ≡ 8)
+    × (gained (fault_line f) ⊎ short (fault_line f))
+refused a reads gained short Done n ends is z = absurd (omega (arith, is, z))
+refused a reads gained short Cut n ends is z = absurd (omega (arith, is, z))
+refused a reads gained short (Refused f) n (inl due, line) is z = (f, due, omega (arith, is, z), line)
+refused a reads gained short (Refused f) n (inr memory, line) is z =
     let seven : status_of f ≡ 7 = ap status_of memory in absurd (omega (arith, is, z, seven))
 
 module _ (got : BytesAreThoseRead) (text_read : ReportBytesAreItsText) (a : Asked)
@@ -331,10 +361,6 @@ module _ (got : BytesAreThoseRead) (text_read : ReportBytesAreItsText) (a : Aske
       (text_over t.reads s.reads a j other reads_agree is_other) in
       (text, p, subst gained_other (one_text s.reads i other text shown is) q)
 
-  pub same_at_0 : n ≡ 0 → n_other ≡ 0 → Both
-  same_at_0 z z_other = same_texts (whole a s.reads gained short s.end n s.ends s.status_is z)
-      (whole a t.reads gained_other short_other t.end n_other t.ends t.status_is z_other)
-
   same_lines : AllRead a s.reads → AllRead a t.reads → (f : TopFault) × (command_for (Ok a)).IsDue s.reads (Err f) ×
       gained (fault_line f) → (f : TopFault) × (command_for (Ok a)).IsDue t.reads (Err f) ×
       gained_other (fault_line f) → Both
@@ -343,14 +369,64 @@ module _ (got : BytesAreThoseRead) (text_read : ReportBytesAreItsText) (a : Aske
       (due_over t.reads s.reads a (Err g) (agree some some_other) due_other) in
       (fault_line f, p, subst gained_other (ap fault_line (sym (same_fault f g found))) q)
 
-  pub same_at_8 : n ≡ 8 → n_other ≡ 8 →
-      ((file : FileKind) → IfSome ((command_for (Ok a)).name_of file) (λ name. ¬ rose name)) →
-      ((file : FileKind) → IfSome ((command_for (Ok a)).name_of file) (λ name. ¬ rose_other name))
-      → ((text : List ℕ) → ¬ short text) → ((text : List ℕ) → ¬ short_other text) → Both
-  same_at_8 z z_other quiet quiet_other sink sink_other =
-      same_lines (λ file. quiet_read ((command_for (Ok a)).name_of file) told rose (s.reads file) (s.are file)
-      (quiet file))
-      (λ file. quiet_read ((command_for (Ok a)).name_of file) told_other rose_other (t.reads file) (t.are file)
-      (quiet_other file))
-      (refused a s.reads gained short s.end n s.ends s.status_is z sink)
-      (refused a t.reads gained_other short_other t.end n_other t.ends t.status_is z_other sink_other)
+  -- what is due, where it was told
+  abbrev IsDueAt : (reads : Reads) (gained short : List ℕ → Type 0) → ℕ → Type 0
+  IsDueAt reads gained short n =
+      ((n ≡ 0) × HasText (command_for (Ok a)) reads gained)
+      ⊎ (n ≡ 8) × ((f : TopFault) × (command_for (Ok a)).IsDue reads (Err f) × (status_of f ≡ 8)
+      × (gained (fault_line f) ⊎ short (fault_line f)))
+
+  told_at : (reads : Reads) (gained short : List ℕ → Type 0) (e : End) (n : ℕ) →
+      Ends (command_for (Ok a)) reads gained short e → n ≡ status_at e → (n ≡ 0) ⊎ (n ≡ 8) →
+      IsDueAt reads gained short n
+  told_at reads gained short e n ends is at = elim at [
+    | inl z ↦ inl (z, whole a reads gained short e n ends is z)
+    | inr z ↦ inr (z, refused a reads gained short e n ends is z)
+  ]
+
+  abbrev IsQuietSink : Type 0
+  IsQuietSink = ((text : List ℕ) → ¬ short text) × ((text : List ℕ) → ¬ short_other text)
+
+  abbrev One : Type 0
+  One = (n ≡ n_other) × ((n ≡ 0) ⊎ IsQuietSink → Both)
+
+  -- one is accepted and the other is refused: no
+  never : AllRead a s.reads → AllRead a t.reads → (i : PlannedCase) (f : TopFault) →
+      ((command_for (Ok a)).IsDue s.reads (Ok i) × (command_for (Ok a)).IsDue t.reads (Err f)) ⊎
+      ((command_for (Ok a)).IsDue s.reads (Err f) × (command_for (Ok a)).IsDue t.reads (Ok i)) → ⊥
+  never some some_other i f (inl (due, due_other)) =
+      let found = one_due s.reads (Ok i) (Err f) due
+      (due_over t.reads s.reads a (Err f) (agree some some_other) due_other) in absurd cc
+  never some some_other i f (inr (due, due_other)) =
+      let found = one_due s.reads (Err f) (Ok i) due
+      (due_over t.reads s.reads a (Ok i) (agree some some_other) due_other) in absurd cc
+
+  written : (g h : List ℕ → Type 0) (f : TopFault) → ((text : List ℕ) → ¬ h text) →
+      g (fault_line f) ⊎ h (fault_line f) → g (fault_line f)
+  written g h f quiet (inl line) = line
+  written g h f quiet (inr line) = absurd (quiet (fault_line f) line)
+
+  of_both : IsDueAt s.reads gained short n → IsDueAt t.reads gained_other short_other n_other → One
+  of_both (inl (z, told_text)) (inl (z_other, told_other_text)) =
+      (z ∙ sym z_other, λ _. same_texts told_text told_other_text)
+  of_both (inl (z, (i, due, shown, is, printed))) (inr (z_other, (f, due_other, eight, line))) =
+      absurd (never (all_read got text_read s.reads a i due) (all_read_at_8 got text_read t.reads a f eight due_other) i
+      f (inl (due, due_other)))
+  of_both (inr (z, (f, due, eight, line))) (inl (z_other, (i, due_other, shown, is, printed))) =
+      absurd (never (all_read_at_8 got text_read s.reads a f eight due) (all_read got text_read t.reads a i due_other) i
+      f (inr (due, due_other)))
+  of_both (inr (z, (f, due, eight, line))) (inr (z_other, (g, due_other, eight_other, line_other))) =
+      (z ∙ sym z_other, lines)
+    where
+      lines : (n ≡ 0) ⊎ IsQuietSink → Both
+      lines (inl zero_is) = absurd (omega (arith, zero_is, z))
+      lines (inr quiet) =
+          same_lines (all_read_at_8 got text_read s.reads a f eight due)
+          (all_read_at_8 got text_read t.reads a g eight_other due_other)
+          (f, due, written gained short f quiet.0 line)
+          (g, due_other, written gained_other short_other g quiet.1 line_other)
+
+  pub same_end : (n ≡ 0) ⊎ (n ≡ 8) → (n_other ≡ 0) ⊎ (n_other ≡ 8) → One
+  same_end at at_other =
+      of_both (told_at s.reads gained short s.end n s.ends s.status_is at)
+      (told_at t.reads gained_other short_other t.end n_other t.ends t.status_is at_other)

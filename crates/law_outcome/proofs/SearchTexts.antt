@@ -1,5 +1,6 @@
 -- The text of a search tells what was found.
-use Rattle.law_outcome.proofs.Common.{◌≡◌, ℕ, List, [], ◌∷◌, refl, ap, subst, PriceLists, OneSettlement, IsSettledAt}
+use Rattle.law_outcome.proofs.Common.{◌≡◌, ℕ, List, [], ◌∷◌, refl, sym, ap, ◌∙◌, subst, PriceLists, OneSettlement}
+use Rattle.law_outcome.proofs.Common.{IsSettledAt}
 use Rattle.law_outcome.proofs.Common.{Proposal}
 use Rattle.std.proofs.Common.{map}
 use Rattle.std.specs.List.{AllZip}
@@ -47,15 +48,14 @@ module _ (R S : NamedThermalUnit → List WeighedSchedule → Type 0) where
 
 pub text_tells_the_search : SettlementsHaveForm → TextDeterminesConvex → OneSettlement → TextTellsTheSearch
 unfolding convex_of settlement_of
-text_tells_the_search form text one m plan cost other_cost goal other_goal f other h k same =
-    let e = text (convex_of m cost f.settled f.mixture goal.within goal.rounds f.made f.bound)
-    (convex_of m other_cost other.settled other.mixture other_goal.within other_goal.rounds other.made other.bound)
-    (form m plan f.settled.row.prices cost f.settled h.settled)
-    (form m plan other.settled.row.prices other_cost other.settled k.settled) same in
-    let row : f.settled.row ≡ other.settled.row = ap (λ (r : ConvexReport). r.settled.row) e in
-    let prices : f.settled.row.prices ≡ other.settled.row.prices = ap (λ (p : Proposal). p.prices) row in
-    let settled = one m plan other.settled.row.prices f.settled other.settled
-    (subst (λ (π : PriceLists). IsSettledAt m plan π f.settled) prices h.settled) k.settled in
+text_tells_the_search form text one m plan cost other_cost goal other_goal f other s other_s h h_at k k_at same =
+    let e = text (convex_of m cost s f.mixture goal.within goal.rounds f.made f.bound)
+    (convex_of m other_cost other_s other.mixture other_goal.within other_goal.rounds other.made other.bound)
+    (form m plan f.prices cost s h_at) (form m plan other.prices other_cost other_s k_at) same in
+    let row : s.row ≡ other_s.row = ap (λ (r : ConvexReport). r.settled.row) e in
+    let prices : f.prices ≡ other.prices = sym h_at.prices ∙ ap (λ (p : Proposal). p.prices) row ∙ k_at.prices in
+    let settled = one m plan other.prices s other_s
+    (subst (λ (π : PriceLists). IsSettledAt m plan π s) prices h_at) k_at in
     let whole : f.mixture.whole ≡ other.mixture.whole = ap (λ (r : ConvexReport). r.weight) e in
     let entries = same_entries _ _ m.thermal f.mixture.entries other.mixture.entries h.mixture.mixed k.mixture.mixed
     (ap (λ (r : ConvexReport). r.mixture) e) in
@@ -66,9 +66,10 @@ text_tells_the_search form text one m plan cost other_cost goal other_goal f oth
       ap (λ (r : ConvexReport). r.settled.cost) e,
       λ i. record { within = within i; rounds = rounds i },
       λ i. record {
-        settled = settled i;
+        prices = prices i;
         mixture = record { whole = whole i; entries = entries i };
         bound = bound i;
         made = made i;
       },
+      settled,
     )

@@ -11,7 +11,7 @@ use Rattle.uc_text.specs.Files.{text, value}
 use Rattle.uc_prices.specs.PricesFiles.{IsPricesOf}
 use Rattle.report_form.specs.SettlementText.{settlement_text}
 use Rattle.hull_report.specs.SettledText.{settlement_of}
-use Rattle.hull_report.specs.declared.fault.FileKind.{FileKind}
+use Rattle.hull_fault.specs.declared.fault.FileKind.{FileKind}
 use Rattle.uc_model.specs.Laws.{ReserveFrom0}
 use Rattle.uc_prices.specs.Kept.{IsPriceOf}
 use Rattle.uc_prices.specs.Laws.{OnePrices, HaveForm, PricesHaveForm}

@@ -24,21 +24,21 @@ use Rattle.gap_proof.specs.MixtureBound.{mixture_bound}
 use Rattle.gap_proof.specs.MixtureRefused.{mixture_refusals, entry_refusal_of}
 use Rattle.gap_proof.specs.declared.mixture_check.EntryFault.{EntryFault}
 use Rattle.price_settle.specs.Laws.{AddsUp}
-use Rattle.plan_check.specs.Settled.{Settled, IsSettledAt}
+use Rattle.price_settle.specs.Settled.{Settled, IsSettledAt}
 use Rattle.hull_io.specs.Edge.{Rose, Gains, FallsShort}
 use Rattle.plain_lists.specs.declared.limits.TheConstants.{MOST_BYTES}
-use Rattle.hull_io.specs.Asked.{Asked, CheckAsked, PriceAsked, TryAsked, BoundAsked, AuditAsked}
-use Rattle.hull_io.specs.Asked.{SettleAsked, CertifyAsked, check, price, try, bound, fixed, audit}
-use Rattle.hull_io.specs.Asked.{settle, certify, convex, ConvexAsked}
-use Rattle.hull_io.specs.Words.{words_of}
-use Rattle.hull_io.specs.declared.word_fault.WordFault.{WordFault}
-use Rattle.price_settle.specs.FixedCase.{fixed_market}
+use Rattle.hull_words.specs.Asked.{Asked, CheckAsked, PriceAsked, TryAsked, BoundAsked, AuditAsked}
+use Rattle.hull_words.specs.Asked.{SettleAsked, CertifyAsked, check, price, try, bound, fixed, audit}
+use Rattle.hull_words.specs.Asked.{settle, certify, convex, ConvexAsked}
+use Rattle.hull_words.specs.Words.{words_of}
+use Rattle.hull_words.specs.declared.word_fault.WordFault.{WordFault}
+use Rattle.plan_settle.specs.FixedCase.{fixed_market}
 use Rattle.gap_proof.specs.Candidates.{RowRange, IsFirstLeast}
-use Rattle.law_bounds.specs.Laws.{IsBoundRound, IsInBox, ArePriced}
+use Rattle.law_runs.specs.BoundLaws.{IsBoundRound, IsInBox, ArePriced}
 use Rattle.convex_search.specs.FoundPrices.{FoundPrices, IsNear}
 use Rattle.hull_report.specs.AuditText.{audit_text}
 use Rattle.hull_report.specs.BoundText.{bound_text}
-use Rattle.hull_report.specs.FaultLines.{status_of, fault_line}
+use Rattle.hull_fault.specs.FaultLines.{status_of, fault_line}
 use Rattle.right_report.specs.RightSide.{ToldSide}
 use Rattle.hull_report.specs.FixedText.{fixed_text}
 use Rattle.report_form.specs.ReportText.{UnitLine, Report, report_text}
@@ -50,17 +50,17 @@ use Rattle.hull_report.specs.ConvexText.{convex_of}
 use Rattle.hull_report.specs.SettledText.{settlement_of}
 use Rattle.right_report.specs.RightReport.{IsRightReport, unit_lines}
 use Rattle.right_report.specs.RightSide.{IsRightSide, IsMadeUp}
-use Rattle.hull_report.specs.declared.fault.FileKind.{FileKind}
-use Rattle.hull_report.specs.declared.fault.FileKind.TheVariants.{CaseFile, ScheduleFile}
-use Rattle.hull_report.specs.declared.fault.FileKind.TheVariants.{ReportFile, PricesFile, MixtureFile}
-use Rattle.hull_report.specs.declared.fault.TopFault.{TopFault}
-use Rattle.hull_report.specs.declared.fault.TopFault.TheVariants.{Words, Read, TooBig, Memory}
-use Rattle.hull_report.specs.declared.fault.ReportCode.TheVariants.{OutOfForm, Wrong}
-use Rattle.hull_report.specs.declared.fault.TopFault.TheVariants.{Report as Unfit, MixtureRule}
+use Rattle.hull_fault.specs.declared.fault.FileKind.{FileKind}
+use Rattle.hull_fault.specs.declared.fault.FileKind.TheVariants.{CaseFile, ScheduleFile}
+use Rattle.hull_fault.specs.declared.fault.FileKind.TheVariants.{ReportFile, PricesFile, MixtureFile}
+use Rattle.hull_fault.specs.declared.fault.TopFault.{TopFault}
+use Rattle.hull_fault.specs.declared.fault.TopFault.TheVariants.{Words, Read, TooBig, Memory}
+use Rattle.hull_fault.specs.declared.fault.ReportCode.TheVariants.{OutOfForm, Wrong}
+use Rattle.hull_fault.specs.declared.fault.TopFault.TheVariants.{Report as Unfit, MixtureRule}
 use Rattle.report_read.specs.Bounds.{IsReport}
 use Rattle.report_read.specs.Faults.{IsFault}
 use Rattle.report_compare.specs.Right.{DiffersFromRight}
-use Rattle.law_audit.specs.Laws.{AreAsked}
+use Rattle.law_runs.specs.AuditLaws.{AreAsked}
 use Rattle.hull_input.specs.Files.{Reads, AreReads}
 use Rattle.hull_input.specs.Planned.{PlannedCase}
 use Rattle.hull_input.specs.Steps.{IsInput, IsCaseFile, prices_fault, mixture_fault, rounds_for}
@@ -436,20 +436,21 @@ pub record IsConvexPromised (a : ConvexAsked) (told : List ℕ → Option (List 
   pub is_plan : IsPlanOf market schedule_bytes (Ok plan)
   pub feasible : IsFeasiblePlan market plan
   pub found : FoundPrices
-  pub prices : ArePriced market found.settled.row.prices
-  pub settled : IsSettledAt market plan found.settled.row.prices found.settled
-  pub adds_up : AddsUp market plan found.settled
+  pub prices : ArePriced market found.prices
+  pub settlement : Settled
+  pub settled : IsSettledAt market plan found.prices settlement
+  pub adds_up : AddsUp market plan settlement
   pub mixed : IsMixture market found.mixture
   pub holds : (π : PriceLists) (value : ℤ) → ArePriced market π → IsDualValue market π value →
       value ≤ℤ found.bound
-  pub reached : found.settled.row.value ≤ℤ found.bound
+  pub reached : settlement.row.value ≤ℤ found.bound
   pub paid : (π : PriceLists) (scheduled payments : List ℤ) (surplus sum : ℤ) →
       ArePriced market π → IsSettled market plan π scheduled payments surplus sum →
       least_paid (plan_cost market plan) found.bound ≤ℤ (sum +ℤ surplus)
   pub made : found.made ≤ rounds_for a.rounds market
   pub near : found.made < rounds_for a.rounds market →
-      IsNear (pos a.within) found.bound found.settled.row.value
-  pub printed : gained (convex_text (convex_of market (plan_cost market plan) found.settled
+      IsNear (pos a.within) found.bound settlement.row.value
+  pub printed : gained (convex_text (convex_of market (plan_cost market plan) settlement
       found.mixture (pos a.within) (rounds_for a.rounds market) found.made found.bound))
 
 -- ---- how many workers there are
@@ -573,9 +574,15 @@ module _ {F S : Type 0} (told : F → List ℕ → Option (List ℕ)) (faults : 
 
 -- ---- two runs
 
+-- a run told what was asked: its text, or what is wrong with a report
+abbrev pub IsTold : ℕ → Type 0
+IsTold n = (n ≡ 0) ⊎ (n ≡ 8)
+
 -- ONE OUTPUT: two runs of the same words but for the number of workers, of no search, over shelves
--- that tell the same of the files that they name. Where both answer 0, their sinks gained one and
--- the same text; and so they did where both are audits that answer 8 and no count of theirs rose.
+-- that tell the same of the files that they name. Where each of them answers 0 or 8, both answer the
+-- same: no two audits of the same files call a report right and wrong, whatever fails beside them.
+-- Where that is 0, their sinks gained one and the same text; and so they did where it is 8 and no
+-- write failed.
 module _ {F S G T : Type 0} (told : F → List ℕ → Option (List ℕ)) (faults : F → List ℕ → ℕ)
     (last : Option ℕ) (held : S → Option (List ℕ)) (counts : S → ℕ) (most : Option ℕ)
     (told_other : G → List ℕ → Option (List ℕ)) (faults_other : G → List ℕ → ℕ)
@@ -595,14 +602,9 @@ module _ {F S G T : Type 0} (told : F → List ℕ → Option (List ℕ)) (fault
       (λ name. Rose last_other (faults_other old_other name) (faults_other new_other name))
       (Gains held_other counts_other before_other after_other)
       (FallsShort held_other counts_other most_other before_other after_other) n_other
-      → (n ≡ 0) × (n_other ≡ 0)
-      ⊎ (n ≡ 8) × (n_other ≡ 8)
-      × IsQuiet (command_for (words_of words)) (told old)
-      (λ name. Rose last (faults old name) (faults new name))
-      (Gains held counts before after) (FallsShort held counts most before after)
-      × IsQuiet (command_for (words_of words_other)) (told_other old_other)
-      (λ name. Rose last_other (faults_other old_other name) (faults_other new_other name))
-      (Gains held_other counts_other before_other after_other)
-      (FallsShort held_other counts_other most_other before_other after_other)
+      → IsTold n → IsTold n_other
+      → (n ≡ n_other)
+      × ((n ≡ 0) ⊎ ((text : List ℕ) → ¬ FallsShort held counts most before after text)
+      × ((text : List ℕ) → ¬ FallsShort held_other counts_other most_other before_other after_other text)
       → (text : List ℕ) × Gains held counts before after text
-      × Gains held_other counts_other before_other after_other text
+      × Gains held_other counts_other before_other after_other text)

@@ -3,3 +3,5 @@ pub mod Laws
 -- what printed texts tell
 pub mod SettledTexts
 pub mod SearchTexts
+-- what exists
+pub mod Existence

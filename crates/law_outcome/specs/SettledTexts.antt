@@ -1,7 +1,7 @@
 -- The text of `hull settle` tells the settlement.
 use Rattle.std.specs.Prelude.{◌≡◌, ℤ, List}
 use Rattle.uc_model.specs.Data.{PriceLists, Schedule, Market}
-use Rattle.plan_check.specs.Settled.{Settled, IsSettledAt}
+use Rattle.price_settle.specs.Settled.{Settled, IsSettledAt}
 use Rattle.report_form.specs.SettlementText.{HasSettlementForm, settlement_text}
 use Rattle.hull_report.specs.SettledText.{settlement_of}
 

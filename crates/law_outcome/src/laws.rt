@@ -11,12 +11,12 @@ use gap_proof::mixture_laws::mixtures_break_no_rule;
 use hull_command::laws::words_have_sizes;
 use hull_input::laws::{bytes_are_those_read, report_bytes_are_its_text};
 use hull_io::{Shelf, Sink};
-use law_audit::laws::printed_reports_are_in_form;
-use law_bounds::laws::{
+use law_readers::cases::cases_are_within;
+use law_runs::audit::printed_reports_are_in_form;
+use law_runs::bounds::{
     mixture_bound_holds, mixture_bound_reaches_centre, payments_reach_least, run_bounds_hold,
     run_prices_are_within,
 };
-use law_cases::laws::cases_are_within;
 use plan_check::laws::refusals_are_exact;
 use price_settle::laws::{one_settlement, settlements_add_up};
 use report_form::laws::text_determines_the_report;
@@ -202,8 +202,8 @@ pub fn searches_hold<F: Shelf, S: Sink>()
 }
 
 /// Two runs of the same words but for the number of workers, of no search, over shelves that tell the
-/// same of the files that they name, print the same bytes where both answer 0; and where both are
-/// audits that answer 8 and no count rose.
+/// same of the files that they name, end in one status where each ends in 0 or in 8. They print the
+/// same bytes where that is 0, and where it is 8 and no write failed.
 pub fn runs_print_the_same<F: Shelf, S: Sink, G: Shelf, T: Sink>()
     ensures { RunsPrintTheSame F.told F.faults F.last S.held S.faults S.last
         G.told G.faults G.last T.held T.faults T.last }

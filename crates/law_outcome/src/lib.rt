@@ -5,5 +5,6 @@
 //! `hull_engine::hull_run` ensures of its run.
 #![tactic(auto)]
 
+pub mod existence;
 pub mod laws;
 pub mod texts;

@@ -6,7 +6,7 @@ use price_settle::laws::one_settlement;
 use report_form::laws::{text_determines_the_search, text_determines_the_settlement};
 use uc_model::laws::units_are_numbered;
 
-/// What `price_settle::settle_at` answers has the form of which the text of `hull settle` tells
+/// What `plan_settle::settle_at` answers has the form of which the text of `hull settle` tells
 /// all: its renewable units and bids are on in every period, with reserve 0.
 pub fn settlements_have_form()
     ensures { SettlementsHaveForm }

@@ -18,8 +18,7 @@ use slope_list::shape_laws::{
     curve_places_are_limited, effects_keep_convexity, effects_keep_limits,
 };
 use std::alloc::{AllocError, Global};
-use test_curves::curve_at;
-use test_shapes::{Cells, Heap, Shape};
+use test_shapes::{Cells, Heap, Shape, curve_at};
 use uc_model::units::Curve;
 
 /// A convex function by its values, one for each power from `lo` on.

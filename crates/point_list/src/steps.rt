@@ -21,7 +21,7 @@ use std::alloc::{AllocError, Global};
 use uc_model::units::Curve;
 
 /// Puts free cells behind the knots, and answers how many knots there are. Where they could no
-/// longer be counted it answers that memory is wanting.
+/// longer be counted it answers that memory ran out.
 fn make_room(knots: &mut Vec<Knot>, cells: usize) -> Result<u32, AllocError>
     requires { length knots.old.items < 2 ^ 32 }
     ensures used { IfOk result (λ used. used ≡ length knots.old.items) }

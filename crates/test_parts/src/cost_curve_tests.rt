@@ -7,7 +7,7 @@ use cost_curve::costs::{envelope_at, envelope_near};
 use cost_curve::curves::curve_into;
 use std::process::Abort;
 use std::test::Fail;
-use test_curves::{curve_at, curve_of};
+use test_shapes::{curve_at, curve_of};
 use uc_model::units::{Blocks, Curve, Point};
 
 // The cost at a place, by the points, by the leg that it is on, and by a curve of them.

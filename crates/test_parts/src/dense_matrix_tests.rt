@@ -1,7 +1,7 @@
 //! A matrix of two rows, by hand.
 use crate::same::same;
 use dense_matrix::matrix::Matrix;
-use dense_matrix::vectors::dot;
+use dense_matrix::vectors::dot_product;
 use std::test::Fail;
 
 // (4 2, 2 5) has the root (2 1, 0 2); at (8, 12) the unknowns are 1 and 2.
@@ -55,5 +55,5 @@ fn passes_over_a_row_of_nothing(rt: HostRuntime) -> Result<(), Fail> {
 fn multiplies_lists(rt: HostRuntime) {
     let up = [1.0, 2.0, 3.0, 4.0, 5.0, 6.0];
     let down = [6.0, 5.0, 4.0, 3.0, 2.0, 1.0];
-    same(&rt, dot(&up, &down), 56.0);
+    same(&rt, dot_product(&up, &down), 56.0);
 }

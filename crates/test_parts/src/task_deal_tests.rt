@@ -11,7 +11,7 @@ use std::sync::atomic::AtomicUsize;
 use std::sync::atomic::Ordering::SeqCst;
 use std::thread;
 use std::thread::Threads;
-use task_deal::{Job, deal_all, make_way};
+use task_deal::{Job, deal_all};
 
 /// Keeps the numbers that it ran.
 #[derive(Drop)]
@@ -216,11 +216,4 @@ fn two_jobs_run_on_two_threads(rt: HostRuntime) -> Result<(), AllocError> {
 #[test]
 fn both_jobs_go_on_after_their_first_number(rt: HostRuntime) -> Result<(), AllocError> {
     both_watch(&rt, rt.alloc(), 100, 2, (2, 100))
-}
-
-// Who makes way goes on, alone or beside another.
-#[test]
-fn making_way_ends(rt: HostRuntime) {
-    make_way(&rt, 1);
-    make_way(&rt, 2);
 }

@@ -1,5 +1,5 @@
 use crate::same::{same, same_of};
-use hull_io::{Command, ConvexWords, PriceWords, SettleWords, TryWords, WordError, read_words};
+use hull_words::{Command, ConvexWords, PriceWords, SettleWords, TryWords, WordError, read_words};
 use std::alloc::{AllocError, Global};
 use std::test::Fail;
 

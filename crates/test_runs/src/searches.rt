@@ -87,9 +87,38 @@ fn is_near(search: &Search, told: &Told) -> bool {
     told.distance <= search.within || told.distance.unsigned_abs() <= millionth
 }
 
+// A unit of 0 to 10 GW that costs 10,000,000 to start and as much again at 10 GW, and a demand of 5
+// GW, which it gives.
+const DEAREST: &str = "\
+{\"time_periods\":1,\"demand\":[5000],\"reserves\":[0],\"thermal_generators\":{\
+\"G\":{\"must_run\":0,\"power_output_minimum\":0,\"power_output_maximum\":10000,\
+\"ramp_up_limit\":1000000,\"ramp_down_limit\":1000000,\"ramp_startup_limit\":1000000,\
+\"ramp_shutdown_limit\":1000000,\"time_up_minimum\":1,\"time_down_minimum\":1,\
+\"power_output_t0\":0,\"unit_on_t0\":0,\"time_up_t0\":0,\"time_down_t0\":1,\
+\"startup\":[{\"lag\":1,\"cost\":10000000}],\
+\"piecewise_production\":[{\"mw\":0,\"cost\":0},{\"mw\":10000,\"cost\":10000000}]}},\
+\"renewable_generators\":{}}";
+
+const DEAREST_SCHEDULE: &str = "\
+{\"thermal\":{\"G\":{\"on\":[1],\"power\":[5000000],\"reserve\":[0]}},\"renewable\":{}}";
+
+// A unit of 1 kW that costs 10,000,000, and a demand of 1 kW.
+const BEYOND_PRICES: &str = "\
+{\"time_periods\":1,\"demand\":[0.001],\"reserves\":[0],\"thermal_generators\":{\
+\"G\":{\"must_run\":0,\"power_output_minimum\":0.001,\"power_output_maximum\":0.001,\
+\"ramp_up_limit\":1,\"ramp_down_limit\":1,\"ramp_startup_limit\":1,\"ramp_shutdown_limit\":1,\
+\"time_up_minimum\":1,\"time_down_minimum\":1,\"power_output_t0\":0,\"unit_on_t0\":0,\
+\"time_up_t0\":0,\"time_down_t0\":1,\"startup\":[],\
+\"piecewise_production\":[{\"mw\":0.001,\"cost\":10000000}]}},\"renewable_generators\":{}}";
+
+const BEYOND_PRICES_SCHEDULE: &str = "\
+{\"thermal\":{\"G\":{\"on\":[1],\"power\":[1],\"reserve\":[0]}},\"renewable\":{}}";
+
 // The greatest dual value of the usual case is that at 100.50 for energy and 0.50 for reserve: G1
-// gains nothing by being on then, and W1 gives 3 MW. That of the smallest is 0.
-const SEARCHES: [Search; 3] = [
+// gains nothing by being on then, and W1 gives 3 MW. That of the smallest is 0. At costs at their
+// limits it is half of what the whole unit costs with its start. What costs more than any price
+// gives stays off, and its demand is worth the greatest price.
+const SEARCHES: [Search; 5] = [
     Search {
         words: &CONVEX,
         texts: USUAL_PLANNED,
@@ -122,6 +151,24 @@ const SEARCHES: [Search; 3] = [
         within: 1_000_000,
         rounds: 150,
         head: "hull-convex 1\nperiods 1\nunits 1\ncost 0\nwithin 1000000\nrounds 150\nmade ",
+    },
+    Search {
+        words: &CONVEX,
+        texts: (DEAREST, DEAREST_SCHEDULE, b""),
+        cost: 15_000_000_000_000,
+        greatest: 10_000_000_000_000,
+        within: 1_000_000,
+        rounds: 150,
+        head: "hull-convex 1\nperiods 1\nunits 1\ncost 15000000000000\nwithin 1000000\nrounds 150\nmade ",
+    },
+    Search {
+        words: &CONVEX,
+        texts: (BEYOND_PRICES, BEYOND_PRICES_SCHEDULE, b""),
+        cost: 10_000_000_000_000,
+        greatest: 10_000_000,
+        within: 1_000_000,
+        rounds: 150,
+        head: "hull-convex 1\nperiods 1\nunits 1\ncost 10000000000000\nwithin 1000000\nrounds 150\nmade ",
     },
 ];
 
@@ -235,6 +282,20 @@ fn text_of<R: Threads + Wait + Sync + Abort>(
         return Ok(String::new(alloc));
     };
     String::from_str(alloc, text)
+}
+
+// At 100.50 for energy and 0.50 for reserve G1 earns nothing off, at 12 MW with 8 MW of reserve, and
+// at 20 MW. 11, 5 and 4 parts of 20 of these lack nothing and cost 704.50, so no other prices have as
+// great a dual value.
+#[test]
+fn finds_the_prices_of_the_usual_case(rt: HostRuntime) -> Result<(), Fail> {
+    let words = ["convex", "--case=c", "--schedule=s", "--within=1000"];
+    let found = text_of(&rt, rt.alloc(), &words, b"")?;
+    let found = found.as_str();
+    same(&rt, rest_of(found, "value "), "704500000");
+    same(&rt, rest_of(found, "energy "), "100500");
+    same(&rt, rest_of(found, "reserve "), "500");
+    Ok(())
 }
 
 // `hull settle` says the same of the prices that were found, and `hull certify` of the mixture.

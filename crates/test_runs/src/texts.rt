@@ -15,6 +15,14 @@ hull-report 1\nperiods 1\nunits 1\nbudget 1\nahead 1\ncost 0\nproposals 1\npropo
 energy 0\nreserve 0\nsupplied 0\nreserved 0\nchosen 1 value 0\n\
 unit renewable \"W\" earned 0 scheduled 0 payment 0\npower 0\nsurplus 0\npayments 0\ngap 0\nend\n";
 
+// The first prices are 0, since W gives all and costs nothing. No prices have a dual value above
+// the cost, and these reach it, so the search ends before a round. There is no thermal unit to mix.
+pub const SMALLEST_FOUND: &[u8] = b"\
+hull-convex 1\nperiods 1\nunits 1\ncost 0\nwithin 1000000\nrounds 1\nmade 0\nvalue 0\n\
+energy 0\nreserve 0\nsupplied 0\nreserved 0\n\
+unit renewable \"W\" earned 0 scheduled 0 payment 0\npower 0\nsurplus 0\npayments 0\ngap 0\n\
+weight 1000000000000\nbound 0\ndistance 0\nleast 0\nend\n";
+
 // A from 0 to 100 kW at 10 for each, B of exactly 100 kW for 3,000, and a demand of 150 kW.
 pub const TWO_UNITS: &str =
     "{\"time_periods\":1,\"demand\":[0.15],\"reserves\":[0],\"thermal_generators\":{\
@@ -254,6 +262,8 @@ pub const AUDIT: [&str; 7] = [
 
 // The prices stand in the file r.
 pub const SETTLE: [&str; 4] = ["settle", "--case=c", "--schedule=s", "--prices=r"];
+
+pub const CONVEX_ONCE: [&str; 4] = ["convex", "--case=c", "--schedule=s", "--rounds=1"];
 
 // The mixture stands in the file r, and the prices in the file p.
 pub const CERTIFY: [&str; 5] = [

@@ -3,9 +3,11 @@
 use crate::runs::{Edges, WHOLE, run};
 use crate::same::same_of;
 use crate::texts::{
-    AUDIT, BOUND, CHECK, FIXED, PRICE, RIGHT, SMALLEST, TRY_FIRST, TRY_ONE, TWO_PROPOSALS_BOUND,
+    AUDIT, BOUND, CERTIFY, CHECK, CONVEX_ONCE, FIXED, PRICE, RIGHT, SETTLE, SMALLEST,
+    SMALLEST_FOUND, SMALLEST_SCHEDULE, TRY_FIRST, TRY_ONE, TWO_PROPOSALS_BOUND,
     TWO_PROPOSALS_FIXED, TWO_UNITS, TWO_UNITS_CHECK, TWO_UNITS_REPORT, TWO_UNITS_REPORTED,
-    TWO_UNITS_SCHEDULE, Texts, USUAL_REPORT,
+    TWO_UNITS_SCHEDULE, Texts, USUAL, USUAL_CERTIFIED, USUAL_MIXTURE, USUAL_PRICES, USUAL_REPORT,
+    USUAL_SCHEDULE, USUAL_SETTLED,
 };
 use answer_workers::NoGate;
 use std::alloc::{AllocError, Global};
@@ -128,6 +130,10 @@ fn all_writes_end<R: Threads + Wait + Sync + Abort>(
     Ok(())
 }
 
+const USUAL_PRICED: Texts<'static> = (USUAL, USUAL_SCHEDULE, USUAL_PRICES);
+
+const USUAL_MIXED: Texts<'static> = (USUAL, USUAL_SCHEDULE, USUAL_MIXTURE);
+
 const ALL_WRITES: &[Written] = &[
     (&CHECK, ALL_WAYS, TWO_UNITS_REPORTED, (0, TWO_UNITS_CHECK)),
     (&PRICE, LONG_WAYS, TWO_UNITS_REPORTED, (0, TWO_UNITS_REPORT)),
@@ -145,6 +151,14 @@ const ALL_WRITES: &[Written] = &[
     ),
     (&TRY_ONE, SLOW_WAYS, TWO_UNITS_REPORTED, (0, TRY_FIRST)),
     (&AUDIT, ALL_WAYS, TWO_UNITS_REPORTED, (0, RIGHT)),
+    (&SETTLE, ALL_WAYS, USUAL_PRICED, (0, USUAL_SETTLED)),
+    (&CERTIFY, ALL_WAYS, USUAL_MIXED, (0, USUAL_CERTIFIED)),
+    (
+        &CONVEX_ONCE,
+        LONG_WAYS,
+        (SMALLEST, SMALLEST_SCHEDULE, b""),
+        (0, SMALLEST_FOUND),
+    ),
 ];
 
 #[test]
@@ -155,6 +169,10 @@ fn a_failing_write_ends_a_run(rt: HostRuntime) -> Result<(), Fail> {
 const CUT: Texts<'static> = ("{\"time_periods\":1", "{}", b"");
 
 const CUT_LINE: (u8, &[u8]) = (3, b"fault 3 case 10 at 17\n");
+
+// A mixture of which G1 gives 1 kW less than its minimum.
+const TOO_LITTLE: &[u8] = b"{\"weight\":1,\"thermal\":{\"G1\":\
+[{\"weight\":1,\"on\":[1],\"power\":[7999],\"reserve\":[2000]}]}}";
 
 const ALL_REFUSALS: &[Written] = &[
     (
@@ -174,6 +192,36 @@ const ALL_REFUSALS: &[Written] = &[
     (&BOUND, ALL_WAYS, CUT, CUT_LINE),
     (&FIXED, ALL_WAYS, CUT, CUT_LINE),
     (&AUDIT, ALL_WAYS, CUT, CUT_LINE),
+    (&SETTLE, ALL_WAYS, CUT, CUT_LINE),
+    (&CERTIFY, ALL_WAYS, CUT, CUT_LINE),
+    (&CONVEX_ONCE, ALL_WAYS, CUT, CUT_LINE),
+    (
+        &SETTLE,
+        ALL_WAYS,
+        (USUAL, USUAL_SCHEDULE, b"[1,]"),
+        (9, b"fault 9 prices 10 at 3\n"),
+    ),
+    (
+        &SETTLE,
+        ALL_WAYS,
+        (USUAL, USUAL_SCHEDULE, b"{\"energy\":[98,98]}"),
+        (9, b"fault 9 prices 25 field energy item 0\n"),
+    ),
+    (
+        &CERTIFY,
+        ALL_WAYS,
+        (USUAL, USUAL_SCHEDULE, b"{\"weight\":1,}"),
+        (10, b"fault 10 mixture 10 at 12\n"),
+    ),
+    (
+        &CERTIFY,
+        ALL_WAYS,
+        (USUAL, USUAL_SCHEDULE, TOO_LITTLE),
+        (
+            10,
+            b"fault 10 mixture 48 kind thermal unit 1 entry 1 period 1 left 8000 right 7999\n",
+        ),
+    ),
     (
         &CHECK,
         ALL_WAYS,

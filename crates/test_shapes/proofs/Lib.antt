@@ -7,5 +7,10 @@ pub mod HomeLaws
 pub mod FrameLaws
 -- the cells of a chain of calls
 pub mod ChainLaws
+-- ---- src/curves.rt
+-- what a block adds, as it is stored
+pub mod BlockLaws
+-- the value of a curve at a power, found block by block
+pub mod ReachLaws
 -- The lemmas that answers cite.
 pub mod Lemmas

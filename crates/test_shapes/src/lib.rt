@@ -1,5 +1,5 @@
-//! Convex functions on whole intervals, kept in the cells of a home: what every representation of
-//! them keeps.
+//! Convex functions on whole intervals, for tests: what every representation of them in the cells of a
+//! home keeps, and the cost of a power as a curve with its values.
 #![tactic(auto)]
 
 ghost use Rattle.std.specs.Prelude.{◌≡◌, ℕ, ℤ, ◌+◌, ◌≤◌, pos, ◌*ℤ◌, ◌≤ℤ◌, List, [], Bool, true};
@@ -14,8 +14,10 @@ ghost use Rattle.slope_list.specs.Effect.{IsLeast, IsLeastIn};
 ghost use Rattle.slope_list.specs.Table.{Table, value_of, IsConvex, IsPlace, IsAmount};
 ghost use Rattle.slope_list.specs.Table.{IsWithinLimits, IsEmpty, CanAdd, HasNone};
 
+mod curves;
 pub mod laws;
 
+pub use curves::{curve_at, curve_of};
 use std::alloc::{AllocError, Global};
 use uc_model::units::Curve;
 

@@ -1,9 +1,9 @@
--- One spell of the way back, as its own call has written it, and the rows where the table is whole.
+-- One spell of backtracking, as its own call has written it, and the rows where the table is whole.
 use Rattle.test_units.proofs.Common.{◌≡◌, ℕ, suc, ◌-◌, ◌<◌, ◌≤◌, ltb, ◌⊎◌, inl, inr, Option, Some, None, ℤ, pos}
 use Rattle.test_units.proofs.Common.{sym, ap, subst, arith, IsTrue, IfSome, MatchOption, max}
 use Rattle.test_units.proofs.Common.{ThermalUnit, PriceLists, Schedule, IsOnFromTo, IsSameOutside, spell_first}
 use Rattle.test_units.proofs.Common.{IsBestDispatch, IsFirstDispatch, HasNoDispatch, IsDispatch, IsLeastSpell}
-use Rattle.test_units.proofs.Common.{IsWritten}
+use Rattle.unit_program.specs.Backs.{IsWritten}
 use Rattle.test_units.proofs.Common.{IsSameIn, zero, refl, ◌∙◌, ints, on_in}
 use Rattle.test_units.proofs.SpanLaws.{spell_first-is}
 

@@ -1,8 +1,9 @@
--- A row of the whole table, and what the way back from it needs to know.
+-- A row of the whole table, and what backtracking from it needs to know.
 use Rattle.test_units.proofs.Common.{◌≡◌, ℕ, suc, ◌<◌, ◌≤◌, inl, inr, Option, Some, ℤ, pos, ◌+◌, ◌≤ℤ◌, List, length, ap}
 use Rattle.test_units.proofs.Common.{◌∙◌, refl, Bool, cond, true, false, arith, ints, IsTrue, IsFalse, ThermalUnit}
 use Rattle.test_units.proofs.Common.{PriceLists, Schedule, power_in, reserve_in, IsIdle, IsLeastSpell, off_time}
-use Rattle.test_units.proofs.Common.{IsWritten, IsWrittenBack, IsFilled, Ended, row_at, cost_at, first_at, before_at}
+use Rattle.unit_program.specs.Backs.{IsWritten}
+use Rattle.test_units.proofs.Common.{IsWrittenBack, IsFilled, Ended, row_at, cost_at, first_at, before_at}
 use Rattle.test_units.proofs.Common.{IsEnded, IsLatest, IsStarted, IsEntryAfter}
 use Rattle.unit_table.specs.Tables.{IsFrom}
 use Rattle.unit_program.proofs.BackLaws.{dispatch-same, spell_cost-same, first_dispatch-same, same_in, same_then}
@@ -29,7 +30,7 @@ module _ (g : ThermalUnit) where
         ] refl
   ]
 
--- what the way back needs to know of a row that names a spell
+-- what backtracking needs to know of a row that names a spell
 pub record IsRowBack (g : ThermalUnit) (π : PriceLists) (rows : List (Option Ended)) (l : ℕ) (e : Ended) : Type 0 where
   pub order : e.first ≤ l
   pub goes_on : e.first ≡ 0 → IsTrue g.on0

@@ -6,7 +6,7 @@ use Rattle.uc_model.specs.declared.units.Mark.TheVariants.{MustOff}
 use Rattle.uc_model.specs.Data.{ThermalUnit, PriceLists}
 use Rattle.uc_model.specs.Schedules.{mark_in}
 use Rattle.spell_run.specs.Spells.{IsSpellAnswer}
-use Rattle.test_spells.specs.Entries.{entry_of}
+use Rattle.test_units.specs.Entries.{entry_of}
 use Rattle.unit_rows.specs.declared.table.Ended.{Ended}
 use Rattle.unit_rows.specs.Rows.{cost_at, first_at, before_at, AreWithin}
 use Rattle.unit_rows.specs.Spells.{IsSpell}

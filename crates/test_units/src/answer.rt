@@ -1,11 +1,11 @@
-//! The way back over the table, spell by spell, and the least best response.
+//! Backtracking over the table, spell by spell, and the least best response.
 ghost use Rattle.std.specs.Prelude.{◌≡◌, ℕ, ◌<◌, ◌≤◌, ℤ, [], true, IsTrue, IsFalse, IfOk, IfSome};
 ghost use Rattle.std.specs.Prelude.{IfNone};
 ghost use Rattle.std.specs.Prelude.{IsOk, OnOk, Some, length, suc};
 ghost use Rattle.cost_curve.specs.CostCurve.{IsCostCurve};
 ghost use Rattle.spell_run.specs.Spells.{IsLeastSpell};
 ghost use Rattle.test_shapes.specs.Cell.{Frame};
-ghost use Rattle.test_spells.specs.Entries.{cells_for};
+ghost use Rattle.test_units.specs.Entries.{cells_for};
 ghost use Rattle.test_units.specs.Rows.{IsFilled};
 ghost use Rattle.uc_model.specs.Data.{Schedule, Thermal};
 ghost use Rattle.uc_model.specs.Earnings.{earnings, IsBest};
@@ -19,12 +19,11 @@ ghost use Rattle.unit_rows.specs.Spells.{IsOffRun};
 ghost use Rattle.unit_rows.specs.Ends.{IsLeastEnd};
 
 use crate::program::fill;
+use crate::{Spell, SpellCosts, spell_best};
 use std::alloc::{AllocError, Global};
-use test_curves::curve_of;
-use test_shapes::Shape;
-use test_spells::{Spell, SpellCosts, spell_best};
+use test_shapes::{Shape, curve_of};
 use uc_model::units::{Answered, Curve, Prices, Unit};
-use unit_program::least_end::{clear, is_all_off, least_end, negated};
+use unit_program::least_end::{earnings_of_cost, is_all_off, least_end, turn_all_off};
 use unit_rows::table::{Ended, Entry, Table};
 
 // Writes a dispatch of least net cost of the spell from `first` to `last`; nothing where it ends
@@ -154,9 +153,9 @@ pub fn write_best<S: Shape>(
         → cells_for (length (prices_of prices.now).energy) (length (thermal_of unit.now).points)
         ≤ S.Home.sure home.old → IsOk result }
 {
-    clear(into);
+    turn_all_off(into);
     write_back::<S>(home, unit, curve, prices, rows, end.last, into)?;
-    into.earned = negated(end.cost);
+    into.earned = earnings_of_cost(end.cost);
     Ok(())
 }
 
@@ -229,7 +228,7 @@ fn named_answer<S: Shape>(
 /// then by reserves, less first, each compared from the last period back.
 ///
 /// Shapes of the type `S` are taken from the home and given back, so a home that counts can give as
-/// many cells afterwards as before, whatever the answer is. `AllocError` comes for want of memory
+/// many cells afterwards as before, whatever the answer is. `AllocError` comes if memory runs out
 /// alone, or from a home without enough cells.
 pub fn best_response<S: Shape>(
     alloc: Global,

@@ -3,15 +3,15 @@ ghost use Rattle.std.specs.Prelude.{◌≡◌, ◌+◌, ◌*◌, ◌<◌, ◌≤
 ghost use Rattle.std.specs.Prelude.{IsOk, length, suc};
 ghost use Rattle.cost_curve.specs.CostCurve.{IsCostCurve};
 ghost use Rattle.test_shapes.specs.Cell.{Frame};
-ghost use Rattle.test_spells.specs.Entries.{cells_for};
+ghost use Rattle.test_units.specs.Entries.{cells_for};
 ghost use Rattle.test_units.specs.Rows.{IsAdded, IsFilled};
 ghost use Rattle.uc_model.specs.PlainUnits.{thermal_of, prices_of};
 ghost use Rattle.unit_rows.specs.Rows.{IsWithinTimes, AreWithin};
 
 use crate::spells::{add_spells, least_entry, open_until};
+use crate::{SpellCosts, spell_costs};
 use std::alloc::AllocError;
 use test_shapes::Shape;
-use test_spells::{SpellCosts, spell_costs};
 use uc_model::units::{Curve, Prices, Unit};
 use unit_rows::commitment::may_end;
 use unit_rows::table::{Entry, Table, begin_table};

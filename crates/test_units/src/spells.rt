@@ -12,7 +12,7 @@ ghost use Rattle.unit_rows.specs.declared.table.Entry.{Entry};
 
 use uc_model::units::{Mark, Unit};
 use unit_rows::commitment::{may_end, off_from, time_off};
-use unit_rows::table::{Ended, Entry, Table, lesser, put, start_after, sum_of};
+use unit_rows::table::{Ended, Entry, Table, lesser_entry, put_ended, start_after, sum_of};
 
 // How many of the marks from a place on come before the first `MustOff`, and the place where they
 // end.
@@ -83,7 +83,7 @@ pub fn least_entry(unit: &Unit, rows: &[Option<Ended>], before: u32) -> Option<E
 {
     let mut least: Option<Entry> = None;
     for last in off_from(unit, before)..before + 1 {
-        least = lesser(least, entry_after(unit, rows, last, before), last);
+        least = lesser_entry(least, entry_after(unit, rows, last, before), last);
     }
     least
 }
@@ -142,7 +142,7 @@ pub fn add_spells(
                 first,
                 before: entry.last,
             };
-            put(table, last, ended);
+            put_ended(table, last, ended);
         }
     }
 }

@@ -1,1 +1,3 @@
 pub mod Small
+-- a bench for shapes in a pool
+pub mod PoolBenches

@@ -1,7 +1,7 @@
 //! The case of two units with its commitments held.
 use crate::boards::{CASE, PLAN, planned};
 use crate::same::same;
-use price_settle::fix_case;
+use plan_settle::fix_case;
 use std::alloc::Global;
 use std::test::Fail;
 use uc_model::cases::Case;

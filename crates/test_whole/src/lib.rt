@@ -16,6 +16,9 @@ mod generated;
 mod held;
 #[cfg(test)]
 mod plan_files;
+pub mod pool_bench;
+#[cfg(test)]
+mod random_units;
 #[cfg(test)]
 mod responses;
 #[cfg(test)]

@@ -3,6 +3,8 @@
 ghost use Rattle.std.specs.Prelude.{◌≡◌, ◌<◌, ◌≤◌, IfOk, length};
 ghost use Rattle.uc_model.specs.PlainUnits.{thermal_of, prices_of};
 
+use crate::pool_bench::{PoolBench, best_on_bench};
+use crate::random_units::{SEED, TIMES};
 use crate::same::same;
 use crate::units::{BARRED, FALLING, KINKED, OFF};
 use level_table::Levels;
@@ -12,7 +14,6 @@ use rand_pcg::Pcg32;
 use std::alloc::Global;
 use std::process::Abort;
 use std::test::Fail;
-use test_pool::{PoolBench, best_on_bench};
 use test_shapes::{Heap, Shape};
 use test_tiny::earnings::earnings_of;
 use test_tiny::feasible::is_feasible;
@@ -412,18 +413,26 @@ fn compare(
     Ok(tried.is_some())
 }
 
-#[test]
-fn random_units_as_by_trying(rt: HostRuntime) -> Result<(), Fail> {
-    let mut words = Pcg32::new(2026, 54);
+// How many of 460 random units can run at all; the least best response of each is the tried one.
+fn feasible_units(rt: &impl Abort, alloc: Global, words: &mut Pcg32) -> Result<u32, Fail> {
     let mut feasible = 0u32;
     for (periods, most, units) in [(1, 3, 200), (2, 3, 100), (3, 2, 60), (4, 1, 100)] {
         for _ in 0..units {
-            if compare(&rt, rt.alloc(), &mut words, periods, most)? {
+            if compare(rt, alloc, words, periods, most)? {
                 feasible = feasible.saturating_add(1);
             }
         }
     }
-    assert!(rt; feasible > 100);
-    assert!(rt; feasible < 460);
+    Ok(feasible)
+}
+
+#[test]
+fn random_units_as_by_trying(rt: HostRuntime) -> Result<(), Fail> {
+    let mut words = Pcg32::new(2026, SEED);
+    for _ in 0..TIMES {
+        let feasible = feasible_units(&rt, rt.alloc(), &mut words)?;
+        assert!(rt; feasible > 100);
+        assert!(rt; feasible < 460);
+    }
     Ok(())
 }

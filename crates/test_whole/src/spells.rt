@@ -1,6 +1,6 @@
 //! Worked spells, over both representations of convex functions.
 ghost use Rattle.std.specs.Prelude.{IsTrue, replicate};
-ghost use Rattle.test_spells.specs.Entries.{IsSpellOf, IsSpellStart};
+ghost use Rattle.test_units.specs.Entries.{IsSpellOf, IsSpellStart};
 ghost use Rattle.test_tiny.specs.Small.{small_unit_of};
 ghost use Rattle.uc_model.specs.declared.units.Mark.TheVariants.{Free};
 
@@ -11,11 +11,10 @@ use point_list::breaks::Breaks;
 use std::alloc::Global;
 use std::process::Abort;
 use std::test::Fail;
-use test_curves::curve_of;
-use test_shapes::{Heap, Shape};
-use test_spells::{Spell, SpellCosts, spell_best, spell_costs};
+use test_shapes::{Heap, Shape, curve_of};
 use test_tiny::parts::{small_prices, unit};
 use test_tiny::small::SmallUnit;
+use test_units::{Spell, SpellCosts, spell_best, spell_costs};
 use uc_model::units::{Answered, Mark, Marks};
 
 // A spell of a small unit at prices over some periods.

@@ -97,7 +97,7 @@ fn play_on<R: Wait>(
     unreachable!()
 }
 
-// Works at the board with a task of its own; for want of memory, nobody goes on.
+// Works at the board with a task of its own; if memory runs out, nobody goes on.
 fn work<R: Wait>(rt: &R, alloc: Global, board: &SharedBoard, seat: &mut Seat, word: u64)
     requires own { IsSeatOf board.now seat.old }
     requires periods { (view_of seat.old).setup.market.periods ≡ 1 }

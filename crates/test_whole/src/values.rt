@@ -10,8 +10,8 @@ use std::test::Fail;
 use test_tiny::parts::{small_bid, small_prices, small_renewable, task, unit};
 use test_tiny::small::SmallUnit;
 use uc_model::cases::Task;
-use uc_model::flat_list::flat_number;
 use uc_model::rules::{cap, start_cost};
+use uc_model::task_numbers::flat_number;
 use uc_model::units::{Answered, Mark, Powers, Prices, UnitKind};
 
 // Each number is another one.

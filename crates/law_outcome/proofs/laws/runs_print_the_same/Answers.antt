@@ -1,8 +1,8 @@
-use Rattle.law_outcome.proofs.Common.{◌≡◌, ℕ, List, Option, Result, Ok, sym, subst, inl, inr, Asked, WordFault}
+use Rattle.law_outcome.proofs.Common.{◌≡◌, ℕ, List, Option, Result, Ok, sym, subst, Asked, WordFault}
 use Rattle.law_outcome.proofs.Common.{words_of, TextFollows}
-use Rattle.law_outcome.proofs.Common.{command_for, Reads, PlannedCase, TopFault, AreReads, Ends, IsQuiet}
+use Rattle.law_outcome.proofs.Common.{command_for, Reads, PlannedCase, TopFault, AreReads, Ends}
 use Rattle.hull_command.specs.Outcome.{IsOutcome}
-use Rattle.law_outcome.proofs.SameOutput.{Shows, free_shows, free_quiet, same_at_0, same_at_8}
+use Rattle.law_outcome.proofs.SameOutput.{Shows, free_shows, same_end}
 use Rattle.law_outcome.proofs.laws.runs_print_the_same.Goals as goal
 
 shown : (words : List (List ℕ)) (a : Asked) (told : List ℕ → Option (List ℕ)) (rose gained short : List ℕ → Type 0)
@@ -15,15 +15,9 @@ shown words a told rose gained short n same h = record {
   status_is = h.status_is;
 }
 
-still : (w : Result Asked WordFault) (a : Asked) (told : List ℕ → Option (List ℕ))
-    (rose gained short : List ℕ → Type 0) → w ≡ Ok a → IsQuiet (command_for w) told rose gained short →
-    IsQuiet (command_for (Ok a)) told rose gained short
-still w a told rose gained short same h =
-    subst (λ (v : Result Asked WordFault). IsQuiet (command_for v) told rose gained short) same h
-
 pub returns : goal.returns
 returns g c words words_other a workers old new before after n old_other new_other before_other after_other n_other
-    follows same same_other tell h h_other at =
+    follows same same_other tell h h_other at at_other =
     let due = subst (λ (v : Result Asked WordFault). (reads : Reads) (due other : Result PlannedCase TopFault) →
     (command_for v).IsDue reads due → (command_for v).IsDue reads other → due ≡ other) same
     (c.one_thing_is_due.ensures words) in
@@ -33,13 +27,5 @@ returns g c words words_other a workers old new before after n old_other new_oth
     follows)) in
     let s = shown words a _ _ _ _ n same h in
     let t = free_shows a workers _ _ _ _ n_other (shown words_other _ _ _ _ _ n_other same_other h_other) in
-    let got = c.bytes_are_those_read.ensures in
-    let read = c.report_bytes_are_its_text.ensures in
-    elim at [
-      | inl zeros ↦ same_at_0 got read a due text _ _ tell _ _ _ _ _ _ n n_other s t zeros.0 zeros.1
-      | inr eights ↦
-          let quiet = still (words_of words) a _ _ _ _ same eights.2 in
-          let quiet_other = still (words_of words_other) _ _ _ _ _ same_other eights.3 in
-          same_at_8 got read a due text _ _ tell _ _ _ _ _ _ n n_other s t eights.0 eights.1 quiet.shelf
-          (free_quiet a workers _ quiet_other.shelf) quiet.sink quiet_other.sink
-    ]
+    same_end c.bytes_are_those_read.ensures c.report_bytes_are_its_text.ensures a due text _ _ tell _ _ _ _ _ _ n
+    n_other s t at at_other

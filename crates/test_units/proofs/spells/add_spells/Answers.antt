@@ -13,8 +13,8 @@ sum_of-requires-clause-b c =
     record { at_least = omega (arith, ints); at_most = omega (arith, ints) } in
     simp to_z-of_z r
 
-pub put-requires-clause-bound : goal.put-requires-clause-bound
-put-requires-clause-bound c =
+pub put_ended-requires-clause-bound : goal.put_ended-requires-clause-bound
+put_ended-requires-clause-bound c =
     let order : c.args.first ≤ c.loop-last.last = omega arith in
     let net = (c.net_of.ensures.some c.in-Some.net c.in-Some.is).0 in
     let within = c.requires.net_bound c.loop-last.last c.in-Some.net order (omega arith) net in
@@ -45,10 +45,11 @@ loop-last-preserved c =
           rw w.table-is (record {
             update = update_more u c.args.periods c.args.first c.args.entry.now.last c.args.entry.now.cost nets
                 c.args.table.now.items c.loop-last.last w.in-Some.net spell net.0
-                _ cost refl refl c.loop-last.table.items w.put.new.table.items c.loop-last.invariant.update
-                w.put.ensures.others w.put.ensures.here w.put.ensures.old w.put.ensures.added w.put.ensures.latest
-                w.put.ensures.within;
-            length_is = w.put.ensures.length ∙ length_is;
+                _ cost refl refl c.loop-last.table.items w.put_ended.new.table.items c.loop-last.invariant.update
+                w.put_ended.ensures.others w.put_ended.ensures.here w.put_ended.ensures.old w.put_ended.ensures.added
+                w.put_ended.ensures.latest
+                w.put_ended.ensures.within;
+            length_is = w.put_ended.ensures.length ∙ length_is;
           })
       | in_default w ↦
           rw w.table-is (record {

@@ -1,2 +1,0 @@
--- what an audit accepts
-pub mod Laws

@@ -1,4 +1,0 @@
-pub mod Counts
-pub mod Laws
-pub mod OneCaller
-pub mod Words

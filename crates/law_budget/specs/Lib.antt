@@ -1,2 +1,0 @@
--- two runs of a case
-pub mod Laws

@@ -1,2 +1,0 @@
--- what holds of the cases that files are
-pub mod Laws

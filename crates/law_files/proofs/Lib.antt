@@ -1,2 +1,0 @@
--- laws.rt: what is read of a value, in plain words
-pub mod PlainLaws

@@ -1,0 +1,41 @@
+//! Laws of what exists: each is the contract of a function that answers nothing.
+ghost use Rattle.law_outcome.specs.Existence.{SettlementsExist, SomethingIsDue};
+
+use law_readers::cases::case_or_fault;
+use law_readers::prices::prices_or_fault;
+use plan_check::laws::refusals_are_exact;
+use report_compare::laws::wrong_reports_differ;
+use report_form::laws::text_determines_the_report;
+use report_read::laws::report_or_fault;
+use right_report::laws::{
+    best_responses_exist, one_report_is_right, right_report_has_form, right_reports_exist,
+};
+use uc_mixture::laws::mixture_or_fault;
+use uc_plan::laws::plan_or_fault;
+
+/// A feasible schedule has a settlement at any prices over the horizon of its case, and by
+/// `price_settle::laws::one_settlement` just one.
+pub fn settlements_exist()
+    ensures { SettlementsExist }
+{
+    best_responses_exist();
+}
+
+/// Whatever the words and whatever was read of the files, there is an accepted input or a first
+/// refusal, and by `laws::one_thing_is_due` just one. So `laws::what_was_read_decides` says of every
+/// run what it did.
+pub fn something_is_due()
+    ensures { SomethingIsDue }
+{
+    case_or_fault();
+    plan_or_fault();
+    refusals_are_exact();
+    report_or_fault();
+    right_reports_exist();
+    one_report_is_right();
+    text_determines_the_report();
+    right_report_has_form();
+    wrong_reports_differ();
+    prices_or_fault();
+    mixture_or_fault();
+}

@@ -1,5 +1,0 @@
-use Rattle.test_spells.proofs.Common.{◌-◌}
-use Rattle.test_spells.proofs.best.+way_from.Given as goal
-
-abbrev pub decreases-way_from : goal.decreases-way_from
-decreases-way_from g l = l.spell.now.last - l.place
