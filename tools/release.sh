@@ -50,7 +50,7 @@ END
 }
 
 main() {
-    local version=${1-} folder=${2-.} commit name room
+    local version=${1-} folder=${2-.} commit name room part
     look
     name=hull-$version-linux-x86_64
     room=$(mktemp -d) || fail "no folder can be made"
@@ -60,8 +60,10 @@ main() {
     gather "$room/$name"
     { tar -C "$room" --format=gnu --sort=name --mtime="@$(git -C "$home" log -1 --format=%ct)" --owner=0 --group=0 --numeric-owner \
         --mode=u=rwX,go=rX -cf "$room/tar" "$name" && gzip -n -9 "$room/tar"; } || fail "the archive can't be written"
-    { cp -- "$room/tar.gz" "$folder/$name.tar.gz.part" 2>/dev/null && mv -f -- "$folder/$name.tar.gz.part" "$folder/$name.tar.gz"; } ||
-        fail "$folder can't be written"
+    # (a name that nobody could lay a link at before)
+    part=$(mktemp -- "$folder/$name.XXXXXX" 2>/dev/null) || fail "$folder can't be written"
+    { cp -- "$room/tar.gz" "$part" && chmod "$(umask -S)" "$part" && chmod a-x "$part" && mv -fT -- "$part" "$folder/$name.tar.gz"; } 2>/dev/null ||
+        { rm -f -- "$part"; fail "$folder can't be written"; }
     (cd -- "$folder" && sha256sum "$name.tar.gz")
 }
 

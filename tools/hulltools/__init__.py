@@ -8,26 +8,38 @@
 Calls take names of files, objects of this package, or dicts as the files have them. What a file or a text has wrong, or the program
 refuses, is raised as `HullError` with one line. docs/PYTHON.md is the way in.
 """
-from .cases import Case, read_case
+from __future__ import annotations
+
+from typing import TYPE_CHECKING, Any, Optional, Union
+
+from .cases import Bid, Case, Renewable, Thermal, read_case
 from .errors import HullError
 from .faults import Files, sentence
-from .inputs import per_mwh
+from .inputs import GivenCase, GivenMixture, GivenPrices, GivenSchedule, per_mwh
 from .mixtures import Mixture, read_mixture
-from .outputs import read_output
+from .numbers import Kilowatts, Millionths, MillionthsPerKilowatt, in_currency, in_currency_per_mw, in_megawatts
+from .outputs import Bound, Certificate, Convex, Fixed, Owed, Report, Row, Settlement, frames, read_output
 from .prices import Prices, prices_near, read_prices
 from .program import Hull
-from .schedules import Schedule, read_schedule
+from .schedules import Plan, Schedule, read_schedule
+
+if TYPE_CHECKING:
+    from .calls import convex_prices, elmp, integer_relaxation, lmp, make_schedule, settle_zones, study
 
 __version__ = "1.0"
 Wrong = HullError  # the name in version 1.0
 CALLS = ("convex_prices", "elmp", "integer_relaxation", "lmp", "make_schedule", "settle_zones", "study")  # of calls.py
 __all__ = [
-    "Case", "Files", "Hull", "HullError", "Mixture", "Prices", "Schedule", "Wrong", "certify", "check", "per_mwh", "price", "prices_near",
-    "read_case", "read_mixture", "read_output", "read_prices", "read_schedule", "sentence", "settle", *CALLS,
+    "Bid", "Bound", "Case", "Certificate", "Convex", "Files", "Fixed", "Hull", "HullError", "Kilowatts", "Millionths",
+    "MillionthsPerKilowatt", "Mixture", "Owed", "Plan", "Prices", "Renewable", "Report", "Row", "Schedule",
+    "Settlement", "Thermal", "Wrong", "certify", "check", "convex_prices", "elmp", "frames", "in_currency",
+    "in_currency_per_mw", "in_megawatts", "integer_relaxation", "lmp", "make_schedule", "per_mwh", "price",
+    "prices_near", "read_case", "read_mixture", "read_output", "read_prices", "read_schedule", "sentence", "settle",
+    "settle_zones", "study",
 ]  # fmt: skip
 
 
-def __getattr__(name):
+def __getattr__(name: str) -> Any:
     """The calls that need SciPy, which is loaded with the first of them."""
     if name not in CALLS:
         raise AttributeError(f"module {__name__!r} has no attribute {name!r}")
@@ -36,25 +48,58 @@ def __getattr__(name):
     return getattr(calls, name)
 
 
-def check(case, schedule, hull=None):
-    """The cost of a schedule in millionths; `HullError` with the fault line where it isn't feasible."""
+def check(case: GivenCase, schedule: GivenSchedule, hull: Optional[str] = None) -> Millionths:
+    """The cost of a schedule in millionths, as `hull check` finds it.
+
+    `hull` is the program's place, here and below. Raises `HullError` with the fault line where the schedule isn't feasible.
+    """
     return Hull(hull).check(case, schedule)
 
 
-def price(case, schedule, proposals=None, ahead=None, hull=None):
-    """The report of `hull price`."""
+def price(
+    case: GivenCase,
+    schedule: GivenSchedule,
+    proposals: Optional[int] = None,
+    ahead: Optional[int] = None,
+    hull: Optional[str] = None,
+) -> Report:
+    """The report of `hull price`: up to so many proposals, from 1 to 10,000, of which so many are worked out ahead, from 1 to 16.
+
+    What is left out is as the program has it. Raises `HullError` where it refuses a file or the work.
+    """
     given = (("--proposals", proposals), ("--ahead", ahead))
     return Hull(hull).price(case, schedule, *(str(it) for pair in given if pair[1] is not None for it in pair))
 
 
-def settle(case, schedule, prices, hull=None, name=None):
-    """The settlement at prices: a file's name, `Prices`, or a dict. The name tells it apart in tables."""
+def settle(
+    case: GivenCase,
+    schedule: GivenSchedule,
+    prices: GivenPrices,
+    hull: Optional[str] = None,
+    name: Optional[str] = None,
+) -> Settlement:
+    """The settlement of `hull settle`: what each unit and bid is owed at the prices, in millionths.
+
+    Prices have an energy price and perhaps a reserve price for each period. The name tells the settlement apart in tables. Raises `HullError`
+    where the program refuses a file.
+    """
     settled = Hull(hull).settle(case, schedule, prices)
     settled.name = name or settled.name
     return settled
 
 
-def certify(case, schedule, prices, mixture, radius=None, hull=None):
-    """The certificate of prices and a mixture: files' names, or `Prices` and `Mixture`."""
+def certify(
+    case: GivenCase,
+    schedule: GivenSchedule,
+    prices: GivenPrices,
+    mixture: GivenMixture,
+    radius: Optional[int] = None,
+    hull: Optional[str] = None,
+) -> Certificate:
+    """The certificate of `hull certify`: how far the prices are from the best, in millionths, as the mixture bounds it.
+
+    With a radius, in millionths per kilowatt from 0 to 20,000,000, the bound is of the prices within it of these. Raises `HullError` where the
+    program refuses a file.
+    """
     more = () if radius is None else ("--radius", str(radius))
     return Hull(hull).certify(case, schedule, prices, mixture, *more)

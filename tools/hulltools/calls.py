@@ -1,78 +1,130 @@
-"""What the command-line tools do, as calls. Cases, schedules, prices and zones are objects, dicts of the files' form, or names of files."""
+"""What the command-line tools do, as calls. Cases, schedules, prices and zones are objects, dicts of the files' form, or names of files.
+
+Each raises `HullError`, in one line, where a file isn't in form or `hull` refuses it, where `hull` is called and isn't there, where SciPy is
+needed and isn't there, and where a step takes longer than it may. `hull` is the program's place; `seconds` limits each step of a solver.
+"""
+from __future__ import annotations
+
 import os
 import tempfile
-from typing import Any, Dict, Optional, Sequence
+from typing import TYPE_CHECKING, Dict, List, Mapping, Optional, Sequence
 
-from .errors import HullError
-from .inputs import as_case, as_prices, as_schedule, as_zones
+from .errors import HullError, Name
+from .inputs import GivenCase, GivenPrices, GivenSchedule, GivenZones, as_case, as_prices, as_schedule, as_zones
 from .linear import need_scipy
 from .numbers import millionths
-from .outputs import Convex
+from .outputs import Convex, Settlement
 from .prices import Prices
-from .program import Hull, as_file
+from .program import Given, Hull, as_file
 from .fast_start import FastStart
 from .relaxation import fast_start_prices, held_prices, relaxed_prices
 from .scheduling import Made
-from .search_limits import SearchLimits
+from .search_limits import SECONDS, SearchLimits
 from .scheduling import make_schedule as search_schedule
 from .zones import Zonal
 from .zones import settle_zones as settle_each
 
+if TYPE_CHECKING:
+    from .studies import Study
 
-def quiet(text: str) -> None:
-    """Progress that nobody wants."""
+
+def quiet(text: object) -> None:
+    """Takes progress that nobody wants to hear of."""
 
 
 def make_schedule(
-    case, gap=SearchLimits.gap, nodes=SearchLimits.nodes, seconds=SearchLimits.seconds, hull=None
+    case: GivenCase,
+    gap: float = SearchLimits.gap,
+    nodes: int = SearchLimits.nodes,
+    seconds: float = SearchLimits.seconds,
+    hull: Optional[str] = None,
 ) -> Made:
-    """A feasible schedule that `hull check` accepts, in `schedule`, with the solver's `gap`, and `is_near` where that was reached."""
+    """A feasible schedule that `hull check` accepts, in `schedule`, with the solver's own `gap` as a share of its cost.
+
+    The search ends at a gap, or after so many nodes; `is_near` says whether it reached the gap. Raises `HullError` where the case can't be met,
+    and where no end is reached in `seconds`.
+    """
     need_scipy()
     found = search_schedule(as_case(case), SearchLimits(gap, nodes, seconds))
     Hull(hull).check(case, found.schedule)
     return found
 
 
-def lmp(case, schedule, hull=None) -> Prices:
-    """LMPs: the duals of the dispatch with the schedule's commitments held."""
+def lmp(case: GivenCase, schedule: GivenSchedule, hull: Optional[str] = None, seconds: float = SECONDS) -> Prices:
+    """LMPs, in millionths per kilowatt: the duals of the dispatch with the schedule's commitments held.
+
+    Raises `HullError` where the schedule isn't feasible, and where the solver takes longer than `seconds`.
+    """
     need_scipy()
     Hull(hull).check(case, schedule)
     read = as_case(case)
-    return held_prices(read, as_schedule(schedule, read))
+    return held_prices(read, as_schedule(schedule, read), seconds)
 
 
-def integer_relaxation(case) -> Prices:
-    """The duals of the commitment problem with on flags between 0 and 1."""
+def integer_relaxation(case: GivenCase, seconds: float = SECONDS) -> Prices:
+    """Prices in millionths per kilowatt: the duals of the commitment problem with on flags between 0 and 1.
+
+    Raises `HullError` where the case can't be met, and where the solver takes longer than `seconds`.
+    """
     need_scipy()
-    return relaxed_prices(as_case(case))
+    return relaxed_prices(as_case(case), seconds)
 
 
 def elmp(
-    case, schedule, fast_start: Optional[Sequence[str]] = None, most_up=1, most_cost=None, online_only=False, hull=None
+    case: GivenCase,
+    schedule: GivenSchedule,
+    fast_start: Optional[Sequence[str]] = None,
+    most_up: int = 1,
+    most_cost: Optional[float] = None,
+    online_only: bool = False,
+    hull: Optional[str] = None,
+    seconds: float = SECONDS,
 ) -> Prices:
-    """ELMPs: `fast_start` units, or those of the rule, are relaxed, and the commitments of the others held."""
+    """ELMPs, in millionths per kilowatt: LMPs with fast-start units relaxed, and the commitments of the others held.
+
+    Fast-start are the units that `fast_start` names, or else those of a minimum up time of at most `most_up` periods whose dearest start costs
+    at most `most_cost`, in the currency. With `online_only` such a unit stays off where the schedule has it off. Raises `HullError` where the
+    case has no unit of a name, where the schedule isn't feasible, and where the solver takes longer than `seconds`.
+    """
     need_scipy()
     Hull(hull).check(case, schedule)
     read = as_case(case)
     cost = None if most_cost is None else millionths(str(most_cost))
     fast = FastStart(None if fast_start is None else tuple(fast_start), most_up, cost, online_only)
-    return fast_start_prices(read, as_schedule(schedule, read), fast)
+    return fast_start_prices(read, as_schedule(schedule, read), fast, seconds)
 
 
-def convex_prices(case, schedule, within=None, rounds=None, hull=None) -> Convex:
-    """The text of `hull convex`: `prices`, their settlement, and the `mixture` that proves how far they are from the best, in `distance`."""
-    return Hull(hull).convex(case, schedule, within, rounds)
+def convex_prices(
+    case: GivenCase,
+    schedule: GivenSchedule,
+    within: Optional[float] = None,
+    rounds: Optional[int] = None,
+    hull: Optional[str] = None,
+    seconds: Optional[float] = None,
+) -> Convex:
+    """The text of `hull convex`: `prices`, their settlement, and the `mixture` that proves how far they are from the best, in `distance`.
+
+    The search ends at a distance `within`, in the currency, or after so many rounds; what is left out is as the program has it. Raises `HullError`
+    where the program refuses a file, and where it takes longer than `seconds`.
+    """
+    return Hull(hull, seconds=seconds).convex(case, schedule, within, rounds)
 
 
-def settle_zones(case, schedule, zones, hull=None) -> Zonal:
-    """What each unit is owed at the prices of its zone."""
+def settle_zones(case: GivenCase, schedule: GivenSchedule, zones: GivenZones, hull: Optional[str] = None) -> Zonal:
+    """What each unit is owed at the prices of its zone, in millionths, as `hull settle` finds it.
+
+    Raises `HullError` where the schedule isn't feasible, and where a unit has no zone.
+    """
     program, read = Hull(hull), as_case(case)
     program.check(case, schedule)
-    settle = lambda prices: program.settle(case, schedule, prices)
+
+    def settle(prices: Prices) -> Settlement:
+        return program.settle(case, schedule, prices)
+
     return settle_each(settle, read, as_schedule(schedule, read), as_zones(zones, read))
 
 
-def words_of(options: Dict[str, object]) -> list:
+def words_of(options: Dict[str, object]) -> List[str]:
     """Options of study.py as its words: True is a word alone, None and False are left out."""
     found = []
     for key, value in options.items():
@@ -81,9 +133,9 @@ def words_of(options: Dict[str, object]) -> list:
     return found
 
 
-def written(folder: str, name: str, given) -> str:
+def written(folder: str, name: str, given: Given) -> str:
     """The name of a file: that which is given, or one in the folder that holds it."""
-    if not isinstance(given, dict) and not hasattr(given, "text"):
+    if isinstance(given, (str, os.PathLike)):
         return os.fspath(given)
     place = os.path.join(folder, name)
     with as_file(given) as at, open(at, "rb") as source, open(place, "wb") as file:
@@ -92,36 +144,42 @@ def written(folder: str, name: str, given) -> str:
 
 
 def study(
-    case,
-    schedule=None,
-    folder=None,
-    prices: Optional[Dict[str, Any]] = None,
-    zones=None,
-    best_schedule=None,
-    hull=None,
-    **options,
-):
+    case: GivenCase,
+    schedule: Optional[GivenSchedule] = None,
+    folder: Optional[Name] = None,
+    prices: Optional[Mapping[str, GivenPrices]] = None,
+    zones: Optional[GivenZones] = None,
+    best_schedule: Optional[GivenSchedule] = None,
+    hull: Optional[str] = None,
+    **options: object,
+) -> Study:
     """The study of a case, whose page and tables go to the folder where one is given; `frames()` has its tables.
 
-    `prices` are further lists by name; the options are those of study.py, as `title="1 July"` or `fast_start_up=2`.
+    Without a schedule one is made. `prices` are further lists by name; the options are those of study.py, as `title="1 July"`, `skip="elmp"` or
+    `fast_start_up=2`. A list that takes too long is left out, and told in `notes`. Raises `HullError` where there is no such option, where a file
+    isn't in form or is refused, and where no list was made; `KeyboardInterrupt` at an interrupt, after the folder got the lists that were there.
     """
     need_scipy()
-    from .commands.study import arguments, study_of, write_results
+    from .commands.study import arguments, inputs_of, study_of, write_results
+    from .study_folder import StudyFolder
 
     with tempfile.TemporaryDirectory(prefix="hull-study-") as room:
-        to = os.fspath(folder) if folder else room
-        os.makedirs(to, exist_ok=True)
-        read, words = as_case(case), words_of(options)
+        to, read, words = os.fspath(folder) if folder else room, as_case(case), words_of(options)
         given = {"schedule": schedule, "best-schedule": best_schedule, "zones": zones}
         words += [f"--{key}={written(room, f'{key}.json', it)}" for key, it in given.items() if it is not None]
-        for place, (name, it) in enumerate((prices or {}).items()):
-            words.append(f"--prices={name}={written(room, f'{place}.prices.json', as_prices(it, read))}")
+        for place, (name, given_prices) in enumerate((prices or {}).items()):
+            words.append(f"--prices={name}={written(room, f'{place}.prices.json', as_prices(given_prices, read))}")
         words += [f"--hull={hull}"] if hull else []
         words = [written(room, "case.json", case), to, *words]
         try:
-            found = study_of(arguments(words), words, Hull(hull), quiet)
+            asked = arguments(words)
         except SystemExit:
             raise HullError("study.py has no such options") from None
-        if folder:
-            write_results(found, to, [])
+        with StudyFolder(to, inputs_of(asked)) as place_of:
+            found = study_of(asked, words, Hull(hull, seconds=asked.seconds), place_of.room, quiet, place_of.refuse)
+            if folder:
+                write_results(found, place_of.room)
+                place_of.place(found.unfinished)
+        if found.interrupted:
+            raise found.interrupted
         return found

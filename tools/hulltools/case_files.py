@@ -1,12 +1,13 @@
 """A case as its file, exact to the kilowatt and the millionth, and cases that are changed in one respect."""
 import json
+from collections.abc import Iterable, Mapping, Sequence
 from dataclasses import replace
 from fractions import Fraction
-from typing import Any, Dict, List, Sequence
+from typing import Any
 
-from .cases import Bid, Case, Renewable, Thermal
+from .cases import Bid, Case, Factor, Renewable, Thermal
 from .errors import HullError, one_line
-from .numbers import decimal_text
+from .numbers import Kilowatts, Millionths, decimal_text
 
 
 class Exact:
@@ -24,11 +25,11 @@ def currency(number: int) -> Exact:
     return Exact(number, 6)
 
 
-def thermal_fields(unit: Thermal) -> dict:
+def thermal_fields(unit: Thermal) -> dict[str, Any]:
     powers = {"power_output_minimum": unit.least, "power_output_maximum": unit.most, "power_output_t0": unit.power0}
     limits = (unit.ramp_up, unit.ramp_down, unit.start_limit, unit.stop_limit)
     powers.update(zip((f"ramp_{it}_limit" for it in ("up", "down", "startup", "shutdown")), limits))
-    found: Dict[str, Any] = {"must_run": unit.must_run, **{key: megawatts(number) for key, number in powers.items()}}
+    found: dict[str, Any] = {"must_run": unit.must_run, **{key: megawatts(number) for key, number in powers.items()}}
     found.update(time_up_minimum=unit.min_up, time_down_minimum=unit.min_down, unit_on_t0=unit.on0)
     found.update(time_up_t0=unit.up0, time_down_t0=unit.down0)
     found["startup"] = [{"lag": lag, "cost": currency(cost)} for lag, cost in unit.lags]
@@ -38,17 +39,17 @@ def thermal_fields(unit: Thermal) -> dict:
     return found
 
 
-def renewable_fields(unit: Renewable) -> dict:
+def renewable_fields(unit: Renewable) -> dict[str, Any]:
     rows = (("minimum", unit.least), ("maximum", unit.most))
     return {f"power_output_{it}": [megawatts(number) for number in numbers] for it, numbers in rows}
 
 
-def bid_fields(bid: Bid) -> dict:
-    block = lambda width, price: {"mw": megawatts(width), "price": megawatts(price)}
-    return {"blocks": [[block(*it) for it in period] for period in bid.blocks]}
+def bid_fields(bid: Bid) -> dict[str, Any]:
+    blocks = [[{"mw": megawatts(width), "price": megawatts(price)} for width, price in period] for period in bid.blocks]
+    return {"blocks": blocks}
 
 
-def written(value) -> str:
+def written(value: object) -> str:
     """JSON whose exact numbers are as they are."""
     if isinstance(value, Exact):
         return value.text
@@ -63,7 +64,7 @@ def written(value) -> str:
 
 def text_of(case: Case) -> str:
     """The file of a case, which reads as the same case."""
-    found: Dict[str, Any] = {"time_periods": case.periods}
+    found: dict[str, Any] = {"time_periods": case.periods}
     found.update(demand=[megawatts(it) for it in case.demand], reserves=[megawatts(it) for it in case.reserves])
     found["thermal_generators"] = {unit.name: thermal_fields(unit) for unit in case.thermal}
     found["renewable_generators"] = {unit.name: renewable_fields(unit) for unit in case.renewable}
@@ -72,14 +73,15 @@ def text_of(case: Case) -> str:
     return written(found) + "\n"
 
 
-def times(numbers: List[int], factor: Fraction) -> List[int]:
+def times(numbers: Iterable[int], factor: Fraction) -> list[int]:
     """Each number times the factor, to the nearest whole number."""
     return [
-        int(it * factor + Fraction(1, 2)) if it * factor >= 0 else -int(-it * factor + Fraction(1, 2)) for it in numbers
+        int(number * factor + Fraction(1, 2)) if number * factor >= 0 else -int(-number * factor + Fraction(1, 2))
+        for number in numbers
     ]
 
 
-def factor_of(number) -> Fraction:
+def factor_of(number: Factor) -> Fraction:
     """A factor as it is written: 1.01 is 101/100."""
     found = Fraction(str(number))
     if found < 0:
@@ -96,19 +98,29 @@ def known(case: Case, names: Sequence[str]) -> None:
 
 def scaled_offer(unit: Thermal, factor: Fraction) -> Thermal:
     costs = times([cost for _, cost in unit.points], factor)
-    return replace(unit, points=[(power, cost) for (power, _), cost in zip(unit.points, costs)])
+    return replace(unit, points=[(power, Millionths(cost)) for (power, _), cost in zip(unit.points, costs)])
 
 
-def scaled(case: Case, demand, renewable, offers: Dict[str, object]) -> Case:
+def scaled_powers(powers: list[Kilowatts], factor: Fraction) -> list[Kilowatts]:
+    return [Kilowatts(power) for power in times(powers, factor)]
+
+
+def scaled(case: Case, demand: Factor, renewable: Factor, offers: Mapping[str, Factor]) -> Case:
     """The case with its demand, renewable powers and cost curves times these; start costs stay."""
     known(case, list(offers))
     sun = factor_of(renewable)
     units = [scaled_offer(unit, factor_of(offers.get(unit.name, 1))) for unit in case.thermal]
-    winds = [Renewable(it.name, times(it.least, sun), times(it.most, sun)) for it in case.renewable]
-    return replace(case, demand=times(case.demand, factor_of(demand)), thermal=units, renewable=winds)
+    winds = [
+        Renewable(unit.name, scaled_powers(unit.least, sun), scaled_powers(unit.most, sun)) for unit in case.renewable
+    ]
+    return replace(case, demand=scaled_powers(case.demand, factor_of(demand)), thermal=units, renewable=winds)
 
 
 def without(case: Case, names: Sequence[str]) -> Case:
     known(case, names)
-    kept = lambda units: [unit for unit in units if unit.name not in names]
-    return replace(case, thermal=kept(case.thermal), renewable=kept(case.renewable), bids=kept(case.bids))
+    return replace(
+        case,
+        thermal=[unit for unit in case.thermal if unit.name not in names],
+        renewable=[unit for unit in case.renewable if unit.name not in names],
+        bids=[bid for bid in case.bids if bid.name not in names],
+    )

@@ -1,11 +1,29 @@
 """A case as `hull` reads it: whole kilowatts and millionths. A unit's members have the names of the file's fields."""
+from collections.abc import Callable, Mapping, Sequence
 from dataclasses import dataclass, field
+from decimal import Decimal
+from typing import Any, Optional, TypeVar, Union
 
 from .json_texts import is_number, read_json
-from .numbers import PRICE_LIMIT, is_whole, kilowatts, millionths, price
-from .errors import HullError, one_line, write_whole
+from .numbers import (
+    PRICE_LIMIT,
+    Kilowatts,
+    Millionths,
+    MillionthsPerKilowatt,
+    Number,
+    is_whole,
+    kilowatts,
+    millionths,
+    price,
+)
+from .errors import HullError, Name, one_line, write_whole
 
 POWER, OUTPUT, COST, TIME = 10**9, 10**7, 10**13, 10**6
+Lag = tuple[int, Millionths]  # periods off, and what a start costs then
+Point = tuple[Kilowatts, Millionths]  # a power, and what a period at it costs
+Block = tuple[Kilowatts, MillionthsPerKilowatt]  # a width, and its price
+Factor = Union[int, float, str, Decimal]
+Whole = TypeVar("Whole", bound=int)
 MOST_PERIODS, MOST_OF_A_KIND, MOST_ITEMS, MOST_BLOCKS = 168, 4096, 32, 8
 
 
@@ -15,36 +33,36 @@ class Thermal:
 
     name: str
     must_run: int
-    least: int
-    most: int
-    ramp_up: int
-    ramp_down: int
-    start_limit: int
-    stop_limit: int
+    least: Kilowatts
+    most: Kilowatts
+    ramp_up: Kilowatts
+    ramp_down: Kilowatts
+    start_limit: Kilowatts
+    stop_limit: Kilowatts
     min_up: int
     min_down: int
-    power0: int
+    power0: Kilowatts
     on0: int
     up0: int
     down0: int
-    lags: list
-    points: list
-    marks: list
+    lags: list[Lag]
+    points: list[Point]
+    marks: list[Optional[int]]
 
     @property
-    def start_cap(self):
+    def start_cap(self) -> Kilowatts:
         return min(self.start_limit, self.most)
 
     @property
-    def stop_cap(self):
+    def stop_cap(self) -> Kilowatts:
         return min(self.stop_limit, self.most)
 
     @property
-    def above0(self):
+    def above0(self) -> Kilowatts:
         """Power above the least one in period 0."""
-        return self.power0 - self.least if self.on0 else 0
+        return Kilowatts(self.power0 - self.least if self.on0 else 0)
 
-    def on_bounds(self):
+    def on_bounds(self) -> tuple[list[int], list[int]]:
         """Least and greatest on flag of each period, by the rules that fix it alone; a least above a greatest can't be met."""
         periods = len(self.marks)
         low, high = [self.must_run] * periods, [1] * periods
@@ -65,8 +83,8 @@ class Renewable:
     """A renewable unit: its least and greatest power of each period, in kilowatts."""
 
     name: str
-    least: list
-    most: list
+    least: list[Kilowatts]
+    most: list[Kilowatts]
 
 
 @dataclass
@@ -74,7 +92,10 @@ class Bid:
     """A demand bid: for each period blocks of (kilowatts, millionths per kilowatt), the dearest first."""
 
     name: str
-    blocks: list
+    blocks: list[list[Block]]
+
+
+Unit = Union[Thermal, Renewable, Bid]
 
 
 @dataclass
@@ -82,35 +103,43 @@ class Case:
     """Demand and required reserve of each period in kilowatts, and the units and bids in the file's order."""
 
     periods: int
-    demand: list
-    reserves: list
-    thermal: list = field(default_factory=list)
-    renewable: list = field(default_factory=list)
-    bids: list = field(default_factory=list)
+    demand: list[Kilowatts]
+    reserves: list[Kilowatts]
+    thermal: list[Thermal] = field(default_factory=list)
+    renewable: list[Renewable] = field(default_factory=list)
+    bids: list[Bid] = field(default_factory=list)
 
     @property
-    def units(self):
+    def units(self) -> list[tuple[str, Unit]]:
         """Kind and unit, in the order of a report."""
-        kinds = (("thermal", self.thermal), ("renewable", self.renewable), ("bid", self.bids))
-        return [(kind, it) for kind, units in kinds for it in units]
+        thermal, renewable = (("thermal", unit) for unit in self.thermal), (
+            ("renewable", unit) for unit in self.renewable
+        )
+        return [*thermal, *renewable, *(("bid", bid) for bid in self.bids)]
 
-    def text(self):
+    def text(self) -> str:
         """The case as its file."""
         from .case_files import text_of
 
         return text_of(self)
 
-    def write(self, name, inputs=()):
+    def write(self, name: str, inputs: Sequence[str] = ()) -> None:
         write_whole(name, self.text(), inputs)
 
-    def scaled(self, demand=1, renewable=1, offers=None):
-        """The case with its demand and renewable power times these, and the cost curves of units times those of `offers`, by name."""
+    def scaled(
+        self, demand: Factor = 1, renewable: Factor = 1, offers: Optional[Mapping[str, Factor]] = None
+    ) -> "Case":
+        """The case with its demand and renewable power times these, and the cost curves of units times those of `offers`, by name.
+
+        Powers and costs are rounded to the nearest kilowatt and millionth. Raises `HullError` where a factor is below 0, or where the case has
+        no unit of a name.
+        """
         from .case_files import scaled
 
         return scaled(self, demand, renewable, offers or {})
 
-    def without(self, *names):
-        """The case without these units and bids."""
+    def without(self, *names: str) -> "Case":
+        """The case without these units and bids. Raises `HullError` where it has none of a name."""
         from .case_files import without
 
         return without(self, names)
@@ -119,15 +148,15 @@ class Case:
 class Fields:
     """The fields of one object of the file, each with the tests of docs/FORMATS.md."""
 
-    def __init__(self, name, where, value):
+    def __init__(self, name: Name, where: str, value: Any) -> None:
         self.name, self.where, self.value = name, where, value
         if not isinstance(value, dict):
             raise self.wrong("it isn't an object")
 
-    def wrong(self, what):
+    def wrong(self, what: str) -> HullError:
         return HullError(f"{self.name}: {one_line(self.where)}: {what}")
 
-    def take(self, key, kind):
+    def take(self, key: str, kind: Optional[type]) -> Any:
         if key not in self.value:
             raise self.wrong(f"{key} isn't there")
         found = self.value[key]
@@ -135,7 +164,9 @@ class Fields:
             raise self.wrong(f"{key} is no {'number' if kind is None else 'list' if kind is list else 'object'}")
         return found
 
-    def number(self, key, limit, reading=int, whole=False, least=0):
+    def number(
+        self, key: str, limit: int, reading: Callable[[Number], Whole], whole: bool = False, least: Optional[int] = 0
+    ) -> Whole:
         found = self.take(key, None)
         if whole and not is_whole(found):
             raise self.wrong(f"{key} isn't whole")
@@ -146,19 +177,19 @@ class Fields:
             raise self.wrong(f"{key} is below {least}")
         return read
 
-    def power(self, key, limit=POWER):
+    def power(self, key: str, limit: int = POWER) -> Kilowatts:
         return self.number(key, limit, kilowatts)
 
-    def time(self, key):
-        return self.number(key, TIME, whole=True)
+    def time(self, key: str) -> int:
+        return self.number(key, TIME, int, whole=True)
 
-    def flag(self, key):
+    def flag(self, key: str) -> int:
         found = self.time(key)
         if found not in (0, 1):
             raise self.wrong(f"{key} is neither 0 nor 1")
         return found
 
-    def items(self, key, most=None, length=None):
+    def items(self, key: str, most: Optional[int] = None, length: Optional[int] = None) -> list[tuple[str, Any]]:
         """The items of a list, each with what is told of it."""
         found = self.take(key, list)
         if most is not None and len(found) > most:
@@ -167,21 +198,21 @@ class Fields:
             raise self.wrong(f"{key} has {len(found)} items, and there are {length} periods")
         return [(f"{self.where}, {key}, item {i}", it) for i, it in enumerate(found, 1)]
 
-    def powers(self, key, length):
+    def powers(self, key: str, length: int) -> list[Kilowatts]:
         rows = [Fields(self.name, where, {key: it}) for where, it in self.items(key, length=length)]
         return [it.power(key) for it in rows]
 
-    def members(self, key, kind):
+    def members(self, key: str, kind: str) -> list[tuple[str, "Fields"]]:
         found = self.take(key, dict)
         if len(found) > MOST_OF_A_KIND:
             raise self.wrong(f"{key} has more than {MOST_OF_A_KIND} members")
         return [
-            (name, Fields(self.name, f'{kind} "{name}" (number {i})', it))
-            for i, (name, it) in enumerate(found.items(), 1)
+            (name, Fields(self.name, f'{kind} "{name}" (number {i})', value))
+            for i, (name, value) in enumerate(found.items(), 1)
         ]
 
 
-def read_lags(unit):
+def read_lags(unit: Fields) -> list[Lag]:
     rows = [Fields(unit.name, where, it) for where, it in unit.items("startup", MOST_ITEMS)]
     lags = [(it.time("lag"), it.number("cost", COST, millionths)) for it in rows]
     if any(after[0] < before[0] for before, after in zip(lags, lags[1:])):
@@ -189,7 +220,7 @@ def read_lags(unit):
     return lags
 
 
-def read_points(unit, least, most):
+def read_points(unit: Fields, least: int, most: int) -> list[Point]:
     rows = [Fields(unit.name, where, it) for where, it in unit.items("piecewise_production", MOST_ITEMS)]
     points = [(it.power("mw"), it.number("cost", COST, millionths, least=None)) for it in rows]
     if any(after[0] < before[0] for before, after in zip(points, points[1:])):
@@ -199,7 +230,7 @@ def read_points(unit, least, most):
     return points
 
 
-def read_marks(unit, periods):
+def read_marks(unit: Fields, periods: int) -> list[Optional[int]]:
     found = unit.value.get("commitment", [None] * periods)
     if not isinstance(found, list) or len(found) != periods:
         raise unit.wrong("commitment isn't a list of an item for each period")
@@ -208,28 +239,30 @@ def read_marks(unit, periods):
     return [None if it is None else int(it) for it in found]
 
 
-def read_thermal(name, unit, periods):
+def read_thermal(name: str, unit: Fields, periods: int) -> Thermal:
     must_run = unit.flag("must_run")
     least, most = unit.power("power_output_minimum"), unit.power("power_output_maximum", OUTPUT)
     if least > most:
         raise unit.wrong("power_output_minimum is above power_output_maximum")
-    ramps = [unit.power(f"ramp_{it}_limit") for it in ("up", "down", "startup", "shutdown")]
-    times = [max(1, unit.time(f"time_{it}_minimum")) for it in ("up", "down")]
+    rise, fall, start, stop = (unit.power(f"ramp_{it}_limit") for it in ("up", "down", "startup", "shutdown"))
+    up, down = (max(1, unit.time(f"time_{it}_minimum")) for it in ("up", "down"))
     power0, on0 = unit.power("power_output_t0", OUTPUT), unit.flag("unit_on_t0")
-    before = [unit.time(f"time_{it}_t0") for it in ("up", "down")]
+    up0, down0 = (unit.time(f"time_{it}_t0") for it in ("up", "down"))
     lags, points = read_lags(unit), read_points(unit, least, most)
     marks = read_marks(unit, periods)
-    return Thermal(name, must_run, least, most, *ramps, *times, power0, on0, *before, lags, points, marks)
+    return Thermal(
+        name, must_run, least, most, rise, fall, start, stop, up, down, power0, on0, up0, down0, lags, points, marks
+    )
 
 
-def read_renewable(name, unit, periods):
+def read_renewable(name: str, unit: Fields, periods: int) -> Renewable:
     least, most = (unit.powers(f"power_output_{it}", periods) for it in ("minimum", "maximum"))
     if any(low > high for low, high in zip(least, most)):
         raise unit.wrong("power_output_minimum is above power_output_maximum")
     return Renewable(name, least, most)
 
 
-def read_blocks(bid, where, period):
+def read_blocks(bid: Fields, where: str, period: Any) -> list[Block]:
     if not isinstance(period, list) or len(period) > MOST_BLOCKS:
         raise bid.wrong(f"{where} isn't a list of at most {MOST_BLOCKS} blocks")
     rows = [Fields(bid.name, where, it) for it in period]
@@ -241,14 +274,14 @@ def read_blocks(bid, where, period):
     return blocks
 
 
-def read_bid(name, bid, periods):
+def read_bid(name: str, bid: Fields, periods: int) -> Bid:
     return Bid(name, [read_blocks(bid, *it) for it in bid.items("blocks", length=periods)])
 
 
-def case_of(name, value):
+def case_of(name: Name, value: Any) -> Case:
     """The case of a JSON value."""
     whole = Fields(name, "the case", value)
-    periods = whole.number("time_periods", MOST_PERIODS, whole=True, least=1)
+    periods = whole.number("time_periods", MOST_PERIODS, int, whole=True, least=1)
     case = Case(periods, whole.powers("demand", periods), whole.powers("reserves", periods))
     case.thermal = [read_thermal(*it, periods) for it in whole.members("thermal_generators", "thermal unit")]
     case.renewable = [read_renewable(*it, periods) for it in whole.members("renewable_generators", "renewable unit")]
@@ -259,6 +292,9 @@ def case_of(name, value):
     return case
 
 
-def read_case(name):
-    """The case of a file; HullError where docs/FORMATS.md refuses it."""
+def read_case(name: Name) -> Case:
+    """The case of a file: powers in kilowatts, costs in millionths of the currency, lists with an item for each period.
+
+    Raises `HullError` where the file can't be read, or where docs/FORMATS.md refuses it, with the place of what is wrong.
+    """
     return case_of(name, read_json(name, "a case"))

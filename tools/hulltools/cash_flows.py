@@ -1,10 +1,12 @@
 """What a unit earns and spends in each period at prices, in millionths. The sums are held against those of `hull settle`."""
+from collections.abc import Callable
 from dataclasses import dataclass
 from typing import Dict, List
 
-from .cases import Case
+from .cases import Case, Renewable, Thermal, Unit
 from .costs import Costs, start_cost, worth
 from .errors import HullError, one_line
+from .numbers import Millionths
 from .outputs import Owed, Settlement
 from .prices import Prices
 from .schedules import Plan, Schedule
@@ -14,42 +16,52 @@ from .schedules import Plan, Schedule
 class Flow:
     """Revenue and cost of one or more periods. What a bid buys has a revenue below 0, and its worth is a cost below 0."""
 
-    energy: int = 0
-    reserve: int = 0
-    production: int = 0
-    start: int = 0
+    energy: Millionths = Millionths(0)
+    reserve: Millionths = Millionths(0)
+    production: Millionths = Millionths(0)
+    start: Millionths = Millionths(0)
 
     @property
-    def profit(self) -> int:
-        return self.energy + self.reserve - self.production - self.start
+    def profit(self) -> Millionths:
+        return Millionths(self.energy + self.reserve - self.production - self.start)
 
     def __add__(self, other: "Flow") -> "Flow":
-        return Flow(*(getattr(self, key) + getattr(other, key) for key in ("energy", "reserve", "production", "start")))
+        return flow(
+            self.energy + other.energy,
+            self.reserve + other.reserve,
+            self.production + other.production,
+            self.start + other.start,
+        )
+
+
+def flow(energy: int, reserve: int = 0, production: int = 0, start: int = 0) -> Flow:
+    """The flow of these sums."""
+    return Flow(Millionths(energy), Millionths(reserve), Millionths(production), Millionths(start))
 
 
 def total(flows: List[Flow]) -> Flow:
     return sum(flows, Flow())
 
 
-def thermal_flows(unit, plan: Plan, prices: Prices, costs: Costs) -> List[Flow]:
+def thermal_flows(unit: Thermal, plan: Plan, prices: Prices, costs: Costs) -> List[Flow]:
     found, was_on, down = [], unit.on0, unit.down0
     for t, (on, power, reserve) in enumerate(zip(plan.on, plan.power, plan.reserve)):
         production = costs.of_power(unit, power) if on else 0
         start = start_cost(unit, down) if on and not was_on else 0
-        found.append(Flow(prices.energy[t] * power, prices.reserve[t] * reserve, production, start))
+        found.append(flow(prices.energy[t] * power, prices.reserve[t] * reserve, production, start))
         down = 0 if on else 1 if was_on else down + 1
         was_on = on
     return found
 
 
-def flows_of(kind: str, unit, plan: Plan, prices: Prices, costs: Costs) -> List[Flow]:
+def flows_of(unit: Unit, plan: Plan, prices: Prices, costs: Costs) -> List[Flow]:
     """What the plan of a unit or bid earns and spends, by period."""
-    if kind == "thermal":
+    if isinstance(unit, Thermal):
         return thermal_flows(unit, plan, prices, costs)
     sold = zip(prices.energy, plan.power)
-    if kind == "renewable":
-        return [Flow(price * power) for price, power in sold]
-    return [Flow(-price * power, 0, -worth(unit.blocks[t], power)) for t, (price, power) in enumerate(sold)]
+    if isinstance(unit, Renewable):
+        return [flow(price * power) for price, power in sold]
+    return [flow(-price * power, 0, -worth(unit.blocks[t], power)) for t, (price, power) in enumerate(sold)]
 
 
 @dataclass
@@ -61,9 +73,9 @@ class UnitFlows:
     response: List[Flow]
 
     @property
-    def payment_by_period(self) -> List[int]:
+    def payment_by_period(self) -> List[Millionths]:
         """The response's profit less the schedule's; these sum to the payment."""
-        return [best.profit - given.profit for best, given in zip(self.response, self.scheduled)]
+        return [Millionths(best.profit - given.profit) for best, given in zip(self.response, self.scheduled)]
 
 
 def unit_flows(case: Case, schedule: Schedule, settlement: Settlement, costs: Costs) -> List[UnitFlows]:
@@ -71,7 +83,7 @@ def unit_flows(case: Case, schedule: Schedule, settlement: Settlement, costs: Co
     found = []
     for owed, (kind, unit) in zip(settlement.units, case.units):
         lists = (schedule.plan(kind, unit.name), Plan(owed.on, owed.power, owed.reserve))
-        scheduled, response = (flows_of(kind, unit, plan, settlement.prices, costs) for plan in lists)
+        scheduled, response = (flows_of(unit, plan, settlement.prices, costs) for plan in lists)
         if (total(scheduled).profit, total(response).profit) != (owed.scheduled, owed.earned):
             raise HullError(
                 f'{settlement.name}: unit "{one_line(unit.name)}" earns something else in this case and schedule'
@@ -80,18 +92,21 @@ def unit_flows(case: Case, schedule: Schedule, settlement: Settlement, costs: Co
     return found
 
 
-def uplift_by_period(case: Case, schedule: Schedule, settlement: Settlement, flows: List[UnitFlows]) -> List[int]:
+def uplift_by_period(
+    case: Case, schedule: Schedule, settlement: Settlement, flows: List[UnitFlows]
+) -> List[Millionths]:
     """Payments and the worth of surplus reserve, by period; these sum to the gap."""
     found = []
     for t, price in enumerate(settlement.best.reserve):
         kept = sum(schedule.plan("thermal", unit.name).reserve[t] for unit in case.thermal)
-        found.append(sum(it.payment_by_period[t] for it in flows) + price * (kept - case.reserves[t]))
+        owed = sum(unit.payment_by_period[t] for unit in flows)
+        found.append(Millionths(owed + price * (kept - case.reserves[t])))
     return found
 
 
 KINDS = {"thermal": "Thermal", "renewable": "Renewable", "bid": "Buyers"}
 
 
-def by_kind(units: List[Owed], amount) -> Dict[str, int]:
+def by_kind(units: List[Owed], amount: Callable[[Owed], Millionths]) -> Dict[str, Millionths]:
     """The sum of an amount of the units of each kind."""
-    return {kind: sum(amount(unit) for unit in units if unit.kind == kind) for kind in KINDS}
+    return {kind: Millionths(sum(amount(unit) for unit in units if unit.kind == kind)) for kind in KINDS}

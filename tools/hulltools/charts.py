@@ -1,11 +1,13 @@
 """Pictures of lines and bars as SVG, which a page holds in itself."""
 import html
 import math
+from collections.abc import Iterable, Sequence
+from typing import Optional
 
 WIDTH, HEIGHT, LEFT, RIGHT, TOP, BOTTOM = 720, 280, 104, 14, 14, 52
 
 
-def ticks(low, high, most=5):
+def ticks(low: float, high: float, most: int = 5) -> list[float]:
     """Round numbers from low to high, at most so many steps apart."""
     step = 10.0 ** math.floor(math.log10((high - low) / most))
     while (high - low) / step > most:
@@ -18,7 +20,7 @@ def ticks(low, high, most=5):
 class Chart:
     """A picture over a number axis."""
 
-    def __init__(self, title, low, high, first, last):
+    def __init__(self, title: str, low: float, high: float, first: float, last: float) -> None:
         room = max((high - low) * 0.05, max(abs(low), abs(high)) * 1e-6, 1e-3)
         self.low, self.high = low - room * (low != 0), high + room
         self.first, self.last = first, max(last, first + 1)
@@ -30,48 +32,54 @@ class Chart:
                 f'<text x="{LEFT - 6}" y="{y + 4:.1f}" text-anchor="end">{self.told(at)}</text>'
             )
 
-    def x(self, at):
+    def x(self, at: float) -> float:
         return LEFT + (at - self.first) / (self.last - self.first) * (WIDTH - LEFT - RIGHT)
 
-    def y(self, at):
+    def y(self, at: float) -> float:
         return TOP + (self.high - at) / (self.high - self.low) * (HEIGHT - TOP - BOTTOM)
 
-    def told(self, number):
+    def told(self, number: float) -> str:
         most = max(abs(self.low), abs(self.high))
         sizes = ((1e9, " bn"), (1e6, " M"), (1e3, " k"))
         unit, name = next((it for it in sizes if most >= 10 * it[0] or most >= it[0] >= 1e6), (1, ""))
         return f"{number / unit:.6g}{name if number else ''}"
 
-    def label_x(self, text, at):
+    def label_x(self, text: object, at: float) -> None:
         self.parts.append(f'<text x="{self.x(at):.1f}" y="{HEIGHT - 30}" text-anchor="middle">{text}</text>')
 
-    def name_x(self, text):
+    def name_x(self, text: str) -> None:
         middle = (LEFT + WIDTH - RIGHT) / 2
         self.parts.append(f'<text x="{middle}" y="{HEIGHT - 6}" text-anchor="middle">{html.escape(text)}</text>')
 
-    def polyline(self, points, style):
+    def polyline(self, points: Iterable[tuple[float, float]], style: str) -> None:
         told = " ".join(f"{self.x(at):.1f},{self.y(it):.1f}" for at, it in points)
         self.parts.append(f'<polyline class="{style}" points="{told}"/>')
 
-    def steps(self, numbers, style):
+    def steps(self, numbers: Iterable[float], style: str) -> None:
         """One level number for each place from `first` on."""
         self.polyline([(self.first + i + more, it) for i, it in enumerate(numbers) for more in (0, 1)], style)
 
-    def line(self, numbers, style):
+    def line(self, numbers: Iterable[float], style: str) -> None:
         self.polyline([(self.first + i, it) for i, it in enumerate(numbers)], style)
 
-    def level(self, at, style):
+    def level(self, at: float, style: str) -> None:
         y = self.y(at)
         self.parts.append(f'<line class="{style}" x1="{LEFT}" x2="{WIDTH - RIGHT}" y1="{y:.1f}" y2="{y:.1f}"/>')
 
-    def dot(self, at, number, style):
+    def dot(self, at: float, number: float, style: str) -> None:
         self.parts.append(f'<circle class="{style}" cx="{self.x(at):.1f}" cy="{self.y(number):.1f}" r="4"/>')
 
-    def svg(self):
+    def svg(self) -> str:
         return "".join([*self.parts, "</svg>"])
 
 
-def steps_chart(title, series, periods, name_x="period", labels=None):
+def steps_chart(
+    title: str,
+    series: Sequence[tuple[str, Sequence[float]]],
+    periods: int,
+    name_x: str = "period",
+    labels: Optional[Sequence[str]] = None,
+) -> str:
     """Level numbers by period; `series` are (style, numbers). The periods are numbered where they have no labels."""
     numbers = [it for _, row in series for it in row]
     chart = Chart(title, min(0, *numbers, 0), max(0, *numbers), 1, periods + 1)

@@ -3,13 +3,21 @@
 It is the three-variable form that pglib-uc has: on, start and stop of each unit and period, power above the least one, reserve.
 Between cost points it takes straight lines, where `hull` takes the whole-price envelope, which may be lower by a trifle.
 """
+from __future__ import annotations
+
+from typing import List, Optional, Sequence, Tuple
+
+from .cases import Case, Thermal
 from .costs import lower_hull
-from .linear import INFINITY, Program
+from .linear import INFINITY, Program, Term
+
+Flags = List[List[int]]  # of each thermal unit in the case's order, by period
 
 
-def cost_blocks(unit):
+def cost_blocks(unit: Thermal) -> Tuple[float, List[Tuple[int, float]]]:
     """The cost at the least power, and (kilowatts, cost of one) from there to the greatest."""
-    corners, blocks = lower_hull(unit.points), []
+    corners = lower_hull(unit.points)
+    blocks: List[Tuple[int, float]] = []
     least_cost = float(corners[0][1])
     for (a, cost_a), (b, cost_b) in zip(corners, corners[1:]):
         slope = (cost_b - cost_a) / (b - a)
@@ -22,7 +30,7 @@ def cost_blocks(unit):
 class Unit:
     """A thermal unit's variables: on, start, stop, power above the least one, reserve."""
 
-    def __init__(self, program, unit, periods, with_reserve):
+    def __init__(self, program: Program, unit: Thermal, periods: int, with_reserve: bool) -> None:
         self.unit, self.program, self.periods = unit, program, periods
         low, high = unit.on_bounds()
         least_cost, self.blocks = cost_blocks(unit)
@@ -37,10 +45,11 @@ class Unit:
         self.start_costs()
         self.dispatch(room)
 
-    def commitment(self):
+    def commitment(self) -> None:
         row, unit = self.program.row, self.unit
         for t in range(self.periods):
-            before, same = ([(self.on[t - 1], -1)], 0) if t else ([], unit.on0)
+            before: List[Term] = [(self.on[t - 1], -1)] if t else []
+            same = 0 if t else unit.on0
             row([(self.on[t], 1), *before, (self.start[t], -1), (self.stop[t], 1)], same, same)
             started = ((self.start[i], 1) for i in range(max(0, t - unit.min_up + 1), t + 1))
             row([*started, (self.on[t], -1)], -INFINITY, 0)
@@ -75,39 +84,40 @@ class Unit:
         for before in range(max(0, t - lag), t):
             self.program.at_most([(kind, 1), (self.on[before], 1)], 1)
 
-    def dispatch(self, room):
+    def dispatch(self, room: float) -> None:
         unit, at_most = self.unit, self.program.at_most
         for t in range(self.periods):
-            both = [(self.power[t], 1), (self.reserve[t], 1)]
+            both: List[Term] = [(self.power[t], 1), (self.reserve[t], 1)]
             for more in self.caps(t):
                 at_most([*both, (self.on[t], -room), *more], 0)
-            before, at0 = ([(self.power[t - 1], 1)], 0) if t else ([], unit.above0 / 1e3)
+            before: List[Term] = [(self.power[t - 1], 1)] if t else []
+            at0 = 0.0 if t else unit.above0 / 1e3
             at_most([*both, *((it, -one) for it, one in before)], unit.ramp_up / 1e3 + at0)
             at_most([(self.power[t], -1), *before], unit.ramp_down / 1e3 - at0)
             self.produce(t)
 
-    def caps(self, t):
+    def caps(self, t: int) -> List[List[Term]]:
         """What a start in period t and a stop behind it take of the room, in one row or in two."""
         unit = self.unit
-        starts = (self.start[t], (unit.most - max(unit.start_cap, unit.least)) / 1e3)
+        starts: Term = (self.start[t], (unit.most - max(unit.start_cap, unit.least)) / 1e3)
         if t + 1 == self.periods:
             return [[starts]]
-        stops = (self.stop[t + 1], (unit.most - max(unit.stop_cap, unit.least)) / 1e3)
+        stops: Term = (self.stop[t + 1], (unit.most - max(unit.stop_cap, unit.least)) / 1e3)
         # (where it has to stay on for longer, a period can't be the first and the last one)
         return [[starts, stops]] if unit.min_up > 1 else [[starts], [stops]]
 
-    def produce(self, t):
+    def produce(self, t: int) -> None:
         """Power is the sum of blocks, each with its cost."""
         blocks = [self.program.variable(0, width / 1e3, slope / 1e3) for width, slope in self.blocks]
         self.program.row([(self.power[t], 1), *((it, -1) for it in blocks)], 0, 0)
-        for it, (width, _) in zip(blocks, self.blocks):
-            self.program.at_most([(it, 1), (self.on[t], -width / 1e3)], 0)
+        for block, (width, _) in zip(blocks, self.blocks):
+            self.program.at_most([(block, 1), (self.on[t], -width / 1e3)], 0)
 
 
 class Commitment:
     """The whole program of a case. `balance` and `reserve` are the numbers of these rows, the latter None where none is required."""
 
-    def __init__(self, case):
+    def __init__(self, case: Case) -> None:
         self.case, self.program = case, Program()
         variable, periods = self.program.variable, range(case.periods)
         self.units = [Unit(self.program, it, case.periods, any(case.reserves)) for it in case.thermal]
@@ -119,28 +129,28 @@ class Commitment:
         self.balance = [self.balance_in(t) for t in periods]
         self.reserve = [self.reserve_in(t) for t in periods]
 
-    def balance_in(self, t):
-        gives = [term for it in self.units for term in ((it.on[t], it.unit.least / 1e3), (it.power[t], 1))]
-        buys = [(block, -1) for bid in self.bids for block in bid[t]]
+    def balance_in(self, t: int) -> int:
+        gives: List[Term] = [term for it in self.units for term in ((it.on[t], it.unit.least / 1e3), (it.power[t], 1))]
+        buys: List[Term] = [(block, -1) for bid in self.bids for block in bid[t]]
         demand = self.case.demand[t] / 1e3
         return self.program.row([*gives, *((it[t], 1) for it in self.renewable), *buys], demand, demand)
 
-    def reserve_in(self, t):
+    def reserve_in(self, t: int) -> Optional[int]:
         if not self.case.reserves[t]:
             return None
         return self.program.row([(it.reserve[t], 1) for it in self.units], self.case.reserves[t] / 1e3, INFINITY)
 
-    def flags(self, found):
+    def flags(self, found: Sequence[float]) -> Flags:
         """The on flags that the solver found."""
         return [[round(found[column]) for column in it.on] for it in self.units]
 
-    def fix(self, flags, held=None):
+    def fix(self, flags: Flags, held: Optional[List[bool]] = None) -> None:
         """Holds units on or off by these flags: each, or those for which `held` says so."""
         for unit, on, is_held in zip(self.units, flags, held or [True] * len(flags)):
             if is_held:
                 self.fix_unit(unit, on)
 
-    def fix_unit(self, unit, on):
+    def fix_unit(self, unit: Unit, on: List[int]) -> None:
         before = unit.unit.on0
         for t, now in enumerate(on):
             ones = ((unit.on[t], now), (unit.start[t], now > before), (unit.stop[t], now < before))
@@ -148,7 +158,7 @@ class Commitment:
                 self.program.low[column] = self.program.high[column] = int(is_one)
             before = now
 
-    def prices(self, duals):
+    def prices(self, duals: Sequence[float]) -> Tuple[List[float], List[float]]:
         """Energy and reserve prices, in currency per MW and period, that the duals of the rows are."""
         return (
             [duals[it] for it in self.balance],

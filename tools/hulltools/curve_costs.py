@@ -3,13 +3,14 @@ from __future__ import annotations
 
 from dataclasses import dataclass
 from fractions import Fraction
-from typing import List, Tuple
+from typing import List, Sequence, Tuple
 
 from .cases import Case, Thermal
 from .costs import Costs, lower_hull, start_cost
+from .numbers import Millionths
 from .schedules import Plan, Schedule
 
-Points = List[Tuple[int, int]]
+Points = Sequence[Tuple[int, int]]  # kilowatts and millionths
 
 
 @dataclass(frozen=True)
@@ -18,10 +19,12 @@ class CurveCosts:
 
     straight: Fraction
     convex: Fraction
-    whole: int
+    whole: Millionths
 
     def __add__(self, other: CurveCosts) -> CurveCosts:
-        return CurveCosts(self.straight + other.straight, self.convex + other.convex, self.whole + other.whole)
+        return CurveCosts(
+            self.straight + other.straight, self.convex + other.convex, Millionths(self.whole + other.whole)
+        )
 
 
 def line_cost(points: Points, power: int) -> Fraction:
@@ -49,12 +52,12 @@ def falls(unit: Thermal) -> bool:
 def unit_cost(unit: Thermal, plan: Plan, costs: Costs) -> CurveCosts:
     """The cost of a unit's plan by the three readings, starts included."""
     corners = lower_hull(unit.points)
-    total, was_on, down = CurveCosts(Fraction(0), Fraction(0), 0), unit.on0, unit.down0
+    total, was_on, down = CurveCosts(Fraction(0), Fraction(0), Millionths(0)), unit.on0, unit.down0
     for on, power in zip(plan.on, plan.power):
         if on:
             start = 0 if was_on else start_cost(unit, down)
             straight, convex = line_cost(unit.points, power), line_cost(corners, power)
-            total += CurveCosts(straight + start, convex + start, costs.of_power(unit, power) + start)
+            total += CurveCosts(straight + start, convex + start, Millionths(costs.of_power(unit, power) + start))
         down = 0 if on else 1 if was_on else down + 1
         was_on = on
     return total
@@ -68,4 +71,4 @@ def costs_by_unit(case: Case, schedule: Schedule) -> List[Tuple[Thermal, CurveCo
 
 def cost_of_schedule(case: Case, schedule: Schedule) -> CurveCosts:
     """The costs of all thermal units, without what bids are worth."""
-    return sum((cost for _, cost in costs_by_unit(case, schedule)), CurveCosts(Fraction(0), Fraction(0), 0))
+    return sum((cost for _, cost in costs_by_unit(case, schedule)), CurveCosts(Fraction(0), Fraction(0), Millionths(0)))

@@ -8,6 +8,7 @@ from typing import List, Sequence
 
 from .errors import one_line
 from .external_schedules import Followed
+from .numbers import Kilowatts
 from .schedules import Schedule
 
 ROUNDING = 0.5  # kilowatts: less is what whole numbers make of a power
@@ -25,7 +26,7 @@ class Deviation:
     period: int
     what: str
     followed: float
-    made: int
+    made: Kilowatts
 
     @property
     def off(self) -> float:

@@ -1,15 +1,23 @@
-"""What a tool says in one line, files that appear whole or not at all, and interrupts."""
+"""What a tool refuses in one line, files that appear whole or not at all, and interrupts."""
 from __future__ import annotations
 
 import contextlib
+import csv
 import os
 import signal
 import stat
 import sys
 import tempfile
-from collections.abc import Iterator, Sequence
-from typing import Optional, Union
+from collections.abc import Callable, Iterator, Sequence
+from types import FrameType
+from typing import BinaryIO, Optional, Union
 
+from .progress import step, told_by
+from .telling import Teller
+from .telling import one_line as one_line
+
+Name = Union[str, "os.PathLike[str]"]  # a file's
+Tell = Callable[[object], None]  # what is told to the user goes there, line by line
 MOST_LINKS = 40  # (as many as the system follows)
 
 
@@ -20,41 +28,85 @@ class HullError(Exception):
     as a sentence; each is None where it isn't there.
     """
 
-    def __init__(self, text, status=None, code=None, unit=None, period=None, sentence=None):
+    def __init__(
+        self,
+        text: str,
+        status: Optional[int] = None,
+        code: Optional[int] = None,
+        unit: Optional[str] = None,
+        period: Optional[int] = None,
+        sentence: Optional[str] = None,
+    ) -> None:
         super().__init__(text)
         self.status, self.code, self.unit, self.period, self.sentence = status, code, unit, period, sentence
 
 
-def one_line(text):
-    """The text with what isn't printable as `?`, so that a name from a file can't break the line."""
-    return "".join(it if it.isprintable() else "?" for it in str(text))
+class Interrupted(KeyboardInterrupt):
+    """The tool is to end, by Ctrl-C or since the system or a scheduler says so."""
+
+    def __init__(self, number: int) -> None:
+        super().__init__()
+        self.number = number
+
+    @property
+    def status(self) -> int:
+        """As a shell has it of a process that a signal ended."""
+        return 128 + self.number
 
 
-def teller(tool):
-    """Writes lines of a tool to standard error; that nobody reads them is no fault."""
-
-    def tell(text):
-        try:
-            print(f"{tool}: {one_line(text)}", file=sys.stderr, flush=True)
-        except (OSError, ValueError, AttributeError):
-            pass
-
-    return tell
+ENDS = (signal.SIGINT, signal.SIGTERM)
 
 
-def run_tool(tool, body, words):
-    """Runs a tool over its words, or those of the process, to its exit status; each trouble is told in one line, and an interrupt
-    ends it at once."""
-    words = sys.argv[1:] if words is None else words
-    if hasattr(signal, "SIGINT"):
-        # (the solver doesn't come back to Python before it has ended, and so wouldn't hear of it)
-        signal.signal(signal.SIGINT, signal.SIG_DFL)
-    tell = teller(tool)
+def interrupt(number: int, _: Optional[FrameType]) -> None:
+    """Interrupts what is at work; another such signal ends the process at once."""
+    hear_interrupts(signal.SIG_DFL)
+    raise Interrupted(number)
+
+
+def hear_interrupts(by: Union[Callable[[int, Optional[FrameType]], None], signal.Handlers] = interrupt) -> None:
+    """Has the signals that end a tool handled so."""
+    for number in ENDS:
+        with contextlib.suppress(ValueError):  # (a thread that isn't the first one can't)
+            signal.signal(number, by)
+
+
+@contextlib.contextmanager
+def heard_later() -> Iterator[None]:
+    """An interrupt is heard behind what is done within, so that this isn't lost; another one ends the process at once."""
+    if signal.getsignal(signal.SIGINT) is not interrupt:
+        yield
+        return
+    heard: list[int] = []
+
+    def note(number: int, _: Optional[FrameType]) -> None:
+        hear_interrupts(signal.SIG_DFL)
+        heard.append(number)
+
+    hear_interrupts(note)
     try:
-        with flushed_output():
-            return body(words, tell) or 0
+        yield
+    finally:
+        if not heard:
+            hear_interrupts()
+    if heard:
+        raise Interrupted(heard[0])
+
+
+def run_tool(tool: str, body: Callable[[list[str], Tell], Optional[int]], words: Optional[Sequence[str]]) -> int:
+    """Runs a tool over its words, or those of the process, to its exit status; each trouble is told in one line.
+
+    An interrupt ends what is at work, and the process by the signal, unless the tool returns with what it has.
+    """
+    given = sys.argv[1:] if words is None else list(words)
+    hear_interrupts()
+    tell = Teller(tool)
+    try:
+        with told_by(tell), flushed_output():
+            return body(given, tell) or 0
     except HullError as why:
         tell(why)
+    except Interrupted as why:
+        end_by_signal(why.number)
     except BrokenPipeError:
         tell("nobody reads the output")
         forget_output()
@@ -66,6 +118,12 @@ def run_tool(tool, body, words):
     except UnicodeEncodeError:
         tell("a name that is given can't be written in UTF-8")
     return 1
+
+
+def end_by_signal(number: int) -> None:
+    """Ends the process as the signal does where nobody hears it."""
+    hear_interrupts(signal.SIG_DFL)
+    os.kill(os.getpid(), number)
 
 
 @contextlib.contextmanager
@@ -85,16 +143,32 @@ def forget_output() -> None:
         os.dup2(os.open(os.devnull, os.O_WRONLY), output)
 
 
-def read_bytes(name, what, most=67_108_864, begins=b""):
+def need_output() -> None:
+    """Refuses a standard output that is closed, before anything is done."""
+    if sys.stdout is None:
+        raise HullError("standard output is closed")
+
+
+@contextlib.contextmanager
+def rows_told_with(name: str) -> Iterator[None]:
+    """Tells what the reader of tables refuses with the name of the file."""
+    try:
+        yield
+    except csv.Error as why:
+        raise HullError(f"{name}: no table of comma separated values: {why}") from None
+
+
+def read_bytes(name: Name, what: str, most: int = 67_108_864, begins: bytes = b"") -> bytes:
     """The bytes of a file, or of standard input where the name is `-`; of one that doesn't begin as is due perhaps only the first ones."""
     try:
         if name == "-":
             if sys.stdin is None:
                 raise HullError("standard input is closed")
-            data = bytes_of(sys.stdin.buffer, most, begins)
+            with step("reading standard input"):
+                data = bytes_of(sys.stdin.buffer, most, begins)
         else:
-            with open(name, "rb") as it:
-                data = bytes_of(it, most, begins)
+            with step(f"reading {os.fspath(name)}"), open(name, "rb") as file:
+                data = bytes_of(file, most, begins)
     except OSError as error:
         raise HullError(f"{shown_name(name)}: {error.strerror}") from None
     except ValueError:
@@ -104,9 +178,10 @@ def read_bytes(name, what, most=67_108_864, begins=b""):
     return data
 
 
-def bytes_of(source, most, begins=b""):
+def bytes_of(source: BinaryIO, most: int, begins: bytes = b"") -> bytes:
     """What is read to its end, or until it is more than so many bytes, or doesn't begin as is due."""
-    parts, left = [], most
+    parts: list[bytes] = []
+    left = most
     while left >= 0 and (not parts or parts[0][: len(begins)] == begins[: len(parts[0])]):
         part = source.read(1 << 20)
         if not part:
@@ -116,15 +191,15 @@ def bytes_of(source, most, begins=b""):
     return b"".join(parts)
 
 
-def shown_name(name):
-    return "standard input" if name == "-" else name
+def shown_name(name: Name) -> str:
+    return "standard input" if name == "-" else os.fspath(name)
 
 
-def refuse_inputs(to, inputs):
+def refuse_inputs(to: str, inputs: Sequence[str]) -> None:
     """Refuses a file to write that is one of the files that are read."""
-    for it in inputs:
+    for name in inputs:
         try:
-            if it != "-" and os.path.samefile(to, it):
+            if name != "-" and os.path.samefile(to, name):
                 raise HullError(f"{to}: this is a file to read, and it would be replaced")
         except (OSError, ValueError):
             pass
@@ -149,8 +224,8 @@ def write_on(stream: str, data: bytes) -> None:
     """Writes to an open file behind what is there. One of this process is written through, so that others who have it open go on behind."""
     folder, number = os.path.split(stream)
     is_ours = folder in ("/dev/fd", os.path.realpath("/proc/self/fd")) and number.isdigit()
-    with open(int(number), "wb", closefd=False) if is_ours else open(stream, "ab") as it:
-        it.write(data)
+    with open(int(number), "wb", closefd=False) if is_ours else open(stream, "ab") as file:
+        file.write(data)
 
 
 class Part:
@@ -169,10 +244,10 @@ class Part:
         self.kept: Optional[str] = None
 
     def fill(self, data: bytes) -> None:
-        with open(self.part, "wb") as it:
-            it.write(data)
-            it.flush()
-            os.fsync(it.fileno())
+        with open(self.part, "wb") as file:
+            file.write(data)
+            file.flush()
+            os.fsync(file.fileno())
         os.chmod(self.part, mode_of(self.name))
 
     def place(self, keep: bool) -> None:
@@ -194,9 +269,9 @@ class Part:
             os.unlink(self.name)
 
     def drop(self) -> None:
-        for it in (self.part, self.kept):
-            if it and os.path.lexists(it):
-                os.unlink(it)
+        for name in (self.part, self.kept):
+            if name and os.path.lexists(name):
+                os.unlink(name)
 
 
 def is_replaced(name: str) -> bool:
@@ -233,21 +308,21 @@ def write_together(files: dict[str, Union[str, bytes]], inputs: Sequence[str] = 
                 write_on(stream_at(name) or name, contents[name])
         place_all(list(parts.values()))
     finally:
-        for it in parts.values():
-            it.drop()
+        for part in parts.values():
+            part.drop()
 
 
 def place_all(parts: list[Part]) -> None:
     """Puts each in its place, or none."""
     placed: list[Part] = []
     try:
-        for it in parts:
-            with told_with(it.name):
-                placed.append(it)
-                it.place(len(parts) > 1)
+        for part in parts:
+            with told_with(part.name):
+                placed.append(part)
+                part.place(len(parts) > 1)
     except BaseException:
-        for it in placed:
-            it.undo()
+        for part in placed:
+            part.undo()
         raise
 
 
@@ -262,7 +337,7 @@ def told_with(name: str) -> Iterator[None]:
         raise HullError(f"{name}: {error.strerror}") from None
 
 
-def mode_of(name):
+def mode_of(name: str) -> int:
     """The permissions of a file that is there, or those that a new one gets."""
     if os.path.exists(name):
         return stat.S_IMODE(os.stat(name).st_mode)

@@ -6,44 +6,47 @@ import io
 import os
 from dataclasses import dataclass, field
 from decimal import Decimal
+from typing import Any, Dict, List, Tuple
+
+from .cases import Case
 
 from .converters import unpacked
 from .converters.pypsa import solution
 from .json_texts import Refused, is_number, parse
-from .errors import HullError, one_line
+from .errors import HullError, one_line, rows_told_with
 
 MOST_MEGAWATTS = 1_000_000
-JULIA = {
+JULIA: Dict[str, Tuple[str, ...]] = {
     "on": ("Is on",),
     "power": ("Production (MW)", "Thermal production (MW)", "Profiled production (MW)"),
     "reserve": ("Reserve (MW)",),
 }
-EGRET = {"on": ("commitment",), "power": ("pg", "p"), "reserve": ("rg", "headroom")}
-PLAIN = {"on": ("on",), "power": ("power",), "reserve": ("reserve",)}
+EGRET: Dict[str, Tuple[str, ...]] = {"on": ("commitment",), "power": ("pg", "p"), "reserve": ("rg", "headroom")}
+PLAIN: Dict[str, Tuple[str, ...]] = {"on": ("on",), "power": ("power",), "reserve": ("reserve",)}
 
 
 @dataclass
 class Followed:
     """Lists over the periods by a unit's name: on flags, powers and reserves in megawatts."""
 
-    on: dict = field(default_factory=dict)
-    power: dict = field(default_factory=dict)
-    reserve: dict = field(default_factory=dict)
+    on: Dict[str, List[float]] = field(default_factory=dict)
+    power: Dict[str, List[float]] = field(default_factory=dict)
+    reserve: Dict[str, List[float]] = field(default_factory=dict)
 
 
-def number(value, name, where):
-    if isinstance(value, bool) or is_number(value) and abs(value) <= MOST_MEGAWATTS:
+def number(value: Any, name: str, where: str) -> float:
+    if isinstance(value, bool) or is_number(value) and -MOST_MEGAWATTS <= value <= MOST_MEGAWATTS:
         return float(value)
     raise HullError(f"{name}: {one_line(where)}: a number of at most {MOST_MEGAWATTS:,} is due")
 
 
-def object_of(value: object, name: str, what: str) -> dict:
+def object_of(value: object, name: str, what: str) -> Dict[str, Any]:
     if not isinstance(value, dict):
         raise HullError(f"{name}: {what} isn't an object of units by name")
     return value
 
 
-def numbers(value, periods, name, where):
+def numbers(value: Any, periods: int, name: str, where: str) -> List[float]:
     """A list over the periods, plain or under `values` as egret has it, or by period as text."""
     if isinstance(value, dict) and "values" in value:
         value = value["values"]
@@ -54,12 +57,13 @@ def numbers(value, periods, name, where):
     return [number(it, name, where) for it in value]
 
 
-def units_of(value, name):
+def units_of(value: Dict[str, Any], name: str) -> Tuple[Dict[str, Any], Dict[str, Tuple[str, ...]]]:
     """By unit name an object of lists, whichever of the three forms the file has."""
     if isinstance(value.get("elements"), dict):
         return object_of(value["elements"].get("generator", {}), name, "generator"), EGRET
     if any(isinstance(value.get(key), dict) for keys in JULIA.values() for key in keys):
-        turned, products = {}, value.get("Spinning reserve (MW)")
+        turned: Dict[str, Any] = {}
+        products = value.get("Spinning reserve (MW)")
         if isinstance(products, dict) and "Reserve (MW)" not in value:
             reserve = object_of(next(iter(products.values()), {}), name, "Spinning reserve (MW)")
             value = {**value, "Reserve (MW)": reserve}
@@ -67,14 +71,14 @@ def units_of(value, name):
             for unit, row in by_name.items() if isinstance(by_name, dict) else ():
                 turned.setdefault(unit, {})[key] = row
         return turned, JULIA
-    found = {}
+    found: Dict[str, Any] = {}
     for group in ("thermal", "renewable", "bids"):
         for unit, row in object_of(value.get(group) or {}, name, group).items():
             found[unit] = row if isinstance(row, dict) else {"power": row}
     return found, PLAIN
 
 
-def followed_json(data, name, periods):
+def followed_json(data: bytes, name: str, periods: int) -> Followed:
     try:
         value = parse(data)
     except Refused as why:
@@ -91,10 +95,12 @@ def followed_json(data, name, periods):
     return found
 
 
-def followed_csv(data, name, periods):
+def followed_csv(data: bytes, name: str, periods: int) -> Followed:
     """Rows of unit, period from 1, on, power and reserve; the first row names the columns, in any order."""
-    rows = csv.DictReader(io.StringIO(data.decode("utf-8-sig"), newline=""))
-    if not {"unit", "period", "power"} <= set(rows.fieldnames or ()):
+    reader = csv.DictReader(io.StringIO(data.decode("utf-8-sig"), newline=""))
+    with rows_told_with(name):
+        rows = list(reader)
+    if not {"unit", "period", "power"} <= set(reader.fieldnames or ()):
         raise HullError(
             f"{name}: the first line has to name the columns unit, period, on, power, reserve, with commas between them"
         )
@@ -123,7 +129,7 @@ def network_numbers(row: list[str], folder: str, unit: str) -> list[float]:
         raise HullError(f"{folder}: {one_line(unit)}: a number of at most {MOST_MEGAWATTS:,} is due") from None
 
 
-def followed_network(folder, periods):
+def followed_network(folder: str, periods: int) -> Followed:
     """The powers and states of a solved network of PyPSA, in its folder of tables."""
     powers, states = solution(folder)
     found = Followed({unit: network_numbers(row, folder, unit) for unit, row in states.items()}, {})
@@ -135,7 +141,7 @@ def followed_network(folder, periods):
     return found
 
 
-def followed_file(name, periods):
+def followed_file(name: str, periods: int) -> Followed:
     """What a file says, JSON or csv, which may be compressed by gzip."""
     data = unpacked(name)
     try:
@@ -147,12 +153,12 @@ def followed_file(name, periods):
         raise HullError(f"{name}: no csv text: {why}") from None
 
 
-def read_followed(name, case):
+def read_followed(name: str, case: Case) -> Followed:
     """What a schedule from elsewhere says. Units that the case hasn't are skipped."""
     found = (followed_network if os.path.isdir(name) else followed_file)(name, case.periods)
-    for it in case.thermal:
-        if it.name not in found.on and it.name in found.power:
-            found.on[it.name] = [float(power > 1e-6 or it.must_run) for power in found.power[it.name]]
-        if it.name not in found.on:
-            raise HullError(f'{name}: it has no on flags of thermal unit "{one_line(it.name)}"')
+    for unit in case.thermal:
+        if unit.name not in found.on and unit.name in found.power:
+            found.on[unit.name] = [float(power > 1e-6 or unit.must_run) for power in found.power[unit.name]]
+        if unit.name not in found.on:
+            raise HullError(f'{name}: it has no on flags of thermal unit "{one_line(unit.name)}"')
     return found

@@ -3,7 +3,7 @@ from __future__ import annotations
 
 import math
 import re
-from typing import Any, Dict, List, Optional, Sequence
+from typing import Any, Dict, List, Optional, Sequence, Union
 
 from .cases import Fields, Thermal, read_thermal
 from .day_lengths import hint_of_length
@@ -102,13 +102,16 @@ def decimal_commas(items: Sequence[object], periods: int) -> str:
     return f" A decimal comma makes two items of one: {', '.join(named[:2])}{more}. Numbers have a point."
 
 
+def size_of(text: str) -> float:
+    return math.log(1 + abs(float(text))) if text else 0.0
+
+
 def standing_out(texts: List[str], pairs: List[int]) -> List[int]:
     """The pairs whose second part is far from what stands around it, the farthest first, none beside another."""
-    size = lambda text: math.log(1 + abs(float(text))) if text else 0.0
     far = {}
     for i in pairs:
-        around = [size(it) for it in (texts[i], *texts[i + 2 : i + 3])]
-        far[i] = abs(size(texts[i + 1]) - sum(around) / len(around))
+        around = [size_of(text) for text in (texts[i], *texts[i + 2 : i + 3])]
+        far[i] = abs(size_of(texts[i + 1]) - sum(around) / len(around))
     chosen: List[int] = []
     for i in sorted(far, key=lambda it: -far[it]):
         if far[i] >= STANDS_OUT and not {i - 1, i + 1} & set(chosen):
@@ -184,14 +187,17 @@ def hint_of_rule(files: Files, code: int, kind: str, number: int, period: int) -
 
 def demand_hint(files: Files, period: int) -> str:
     """A question, where demand is far above or below all that the units can give."""
-    number = lambda *path: kilowatts(number_of(files.at("case", *path)) or 0)
-    count = lambda group: len(files.at("case", group) or ())
-    most = sum(
-        number("thermal_generators", i, "power_output_maximum") for i in range(1, count("thermal_generators") + 1)
-    )
-    for i in range(1, count("renewable_generators") + 1):
-        most += number("renewable_generators", i, "power_output_maximum", period)
-    demand = number("demand", period)
+
+    def power_at(*path: Union[str, int]) -> int:
+        return kilowatts(number_of(files.at("case", *path)) or 0)
+
+    def numbers_in(group: str) -> range:
+        return range(1, len(files.at("case", group) or ()) + 1)
+
+    thermal, renewable = "thermal_generators", "renewable_generators"
+    most = sum(power_at(thermal, i, "power_output_maximum") for i in numbers_in(thermal))
+    most += sum(power_at(renewable, i, "power_output_maximum", period) for i in numbers_in(renewable))
+    demand = power_at("demand", period)
     if not most or not demand or most / 300 < demand < 300 * most:
         return ""
     unit = "kilowatts" if demand > most else "gigawatts"

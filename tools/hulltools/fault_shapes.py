@@ -1,7 +1,9 @@
 """A fault of the form of a schedule or of a mixture, in words."""
 import difflib
 import json
+from collections.abc import Sequence
 from dataclasses import dataclass
+from typing import Any, Optional
 
 from .day_lengths import hint_of_length
 from .named_files import GROUPS, PLAN_GROUPS, Files, number_of, plan_of, who, written
@@ -24,30 +26,32 @@ class Place:
     what: str
     kind: str
     number: int
-    entry: int = None
+    entry: Optional[int] = None
 
     @property
-    def name(self):
+    def name(self) -> str:
         if self.kind not in GROUPS:
             return "the whole"
         return who(self.files, self.kind, self.number) + (f", entry {self.entry}" if self.entry else "")
 
     @property
-    def plan(self):
+    def plan(self) -> Any:
         return plan_of(self.files, self.what, self.kind, self.number, self.entry)
 
     @property
-    def periods(self):
+    def periods(self) -> str:
         found = self.files.at("case", "time_periods")
         return "periods" if found is None else f"{written(found)} periods"
 
 
-def told_shape(files, what, code, kind, number, item, entry=None):
+def told_shape(
+    files: Files, what: str, code: int, kind: str, number: int, item: int, entry: Optional[int] = None
+) -> str:
     told = {40: told_unknown, 41: told_missing, 42: told_form, 43: told_number, 62: told_weight}[code]
     return told(Place(files, what, kind, number, entry), item)
 
 
-def told_unknown(at, item):
+def told_unknown(at: Place, item: int) -> str:
     """Code 40; the number counts the names of the file itself."""
     name = at.files.name_of(at.what, PLAN_GROUPS.get(at.kind, ""), at.number)
     text = f"{who(at.files, at.kind, at.number, at.what)}: the case has no unit of that name and kind."
@@ -62,25 +66,25 @@ def told_unknown(at, item):
     return f"{text} It has {KINDS[other]} of that name: {due}."
 
 
-def members_of(files, kind):
+def members_of(files: Files, kind: str) -> dict[str, Any]:
     found = files.at("case", GROUPS.get(kind, ""))
     return found if isinstance(found, dict) else {}
 
 
-def nearest_name(files, given, kind):
+def nearest_name(files: Files, given: Optional[str], kind: str) -> str:
     """A question after the case's unit whose name is like the given one, where there is one."""
     names = {it.casefold(): it for it in members_of(files, kind)}
     near = difflib.get_close_matches((given or "").casefold(), names, 1)
     return f" Is {json.dumps(names[near[0]], ensure_ascii=False)} meant?" if near else ""
 
 
-def told_missing(at, item):
+def told_missing(at: Place, item: int) -> str:
     """Code 41."""
     due = "each thermal unit needs an entry, if only one that is off" if at.what == "mixture" else LISTED[at.kind]
     return f"{at.name} isn't in {at.files.names.get(at.what, f'the {at.what}')}: {due}."
 
 
-def told_form(at, item):
+def told_form(at: Place, item: int) -> str:
     """Code 42: of the whole file, of a unit, or of an entry."""
     if at.kind not in GROUPS:
         return told_whole(at)
@@ -98,13 +102,13 @@ def told_form(at, item):
     return f"{at.name} hasn't the lists that are due, with an item for each of the {at.periods}{lacking_of(at, plan)}.{found_text(plan)}{day_text(at, plan)}"
 
 
-def lacking_of(at, plan):
+def lacking_of(at: Place, plan: Any) -> str:
     """Which member of a thermal unit's plan, or of an entry, isn't there."""
     due = ("weight", "on", "power", "reserve") if at.entry else ("on", "power", "reserve")
     return "".join(f": `{it}` isn't there" for it in due if plan is not None and it not in plan)
 
 
-def found_text(plan):
+def found_text(plan: Any) -> str:
     """What stands there: of lists their lengths."""
     if isinstance(plan, dict):
         lists = [f"{key} with {len(it)} items" for key, it in plan.items() if isinstance(it, list)]
@@ -123,7 +127,7 @@ def day_text(at: Place, plan: object) -> str:
     return f" {told[:1].upper()}{told[1:]}." if told else ""
 
 
-def told_whole(at):
+def told_whole(at: Place) -> str:
     """Code 42 of a whole file: which of its members isn't there, or is of another kind."""
     has_bids = bool(members_of(at.files, "bid"))
     due = ("weight", "thermal") if at.what == "mixture" else ("thermal", "renewable", *(("bids",) if has_bids else ()))
@@ -139,7 +143,7 @@ def told_whole(at):
     return f"{text}.{found_text(value)}"
 
 
-def told_number(at, item):
+def told_number(at: Place, item: int) -> str:
     """Code 43."""
     plan, found, hint = at.plan, "", ""
     lists = {key: plan.get(key) for key in ("on", "power", "reserve")} if isinstance(plan, dict) else {"power": plan}
@@ -151,7 +155,7 @@ def told_number(at, item):
     return f"{at.name}: item {item} of a list isn't a whole number of kilowatts from 0 to 1,000,000,000, or a flag 0 or 1.{found}{hint}"
 
 
-def told_weight(at, item):
+def told_weight(at: Place, item: int) -> str:
     """Code 62: of the outermost weight, of an entry's, or of the sum of a unit's."""
     outermost = at.files.at(at.what, "weight")
     if at.kind not in GROUPS:
@@ -165,11 +169,11 @@ def told_weight(at, item):
     numbers = [number_of(it) for it in weights]
     if not numbers or None in numbers or outermost is None:
         return f"{at.name}: its weights don't sum to the outermost one."
-    terms = " + ".join(weights[:20]) + (" + .." if len(weights) > 20 else "")
-    return f"{at.name}: its weights sum to {sum(map(int, numbers))}, and the outermost one is {written(outermost)}. Found: {terms}."
+    terms = " + ".join(str(weight) for weight in weights[:20]) + (" + .." if len(weights) > 20 else "")
+    return f"{at.name}: its weights sum to {sum(int(it or 0) for it in numbers)}, and the outermost one is {written(outermost)}. Found: {terms}."
 
 
-def why_no_weight(value, least, most):
+def why_no_weight(value: object, least: int, most: str) -> str:
     """What a weight isn't: a number, whole, or within its range."""
     found = "" if value is None else f" Found: {written(value)}."
     number = number_of(value)

@@ -1,5 +1,7 @@
 """A fault line of `hull` as a sentence: which file and unit, what was found there, and what is due."""
 import re
+from collections.abc import Callable
+from typing import Any, Optional, Union
 
 from .fault_hints import hint_of_items, place_in_words, remedy
 from .fault_rules import told_rule
@@ -44,7 +46,7 @@ FIELDS = {
     37: "a block's price is above that of the block before it: falling prices are due",
 }
 LISTS = ("demand", "reserves", "startup", "piecewise_production", "blocks", "commitment", "energy", "reserve")
-LIMITS = {
+LIMITS: dict[Union[str, tuple[str, str]], str] = {
     "time_periods": "168 periods",
     "power_output_t0": "10,000 MW",
     "startup": "32 items, lags of 1,000,000 periods and costs of 10,000,000",
@@ -58,7 +60,7 @@ LIMITS = {
 }
 
 
-def told_text(files, what, code, place):
+def told_text(files: Files, what: str, code: int, place: int) -> str:
     """A fault of a file's text, with the line and what stands around it."""
     data = files.bytes_of(what)
     before = data[:place]
@@ -100,7 +102,7 @@ def is_open_string(data: bytes, place: int) -> bool:
     return False
 
 
-def known_mistake(files, what, place):
+def known_mistake(files: Files, what: str, place: int) -> str:
     """What a text's fault most likely is, by what stands at the place; an empty text where it isn't known."""
     data = files.bytes_of(what)
     told = next((it for mark, it in BEGINNINGS.items() if data.startswith(mark) and not place), None)
@@ -111,7 +113,7 @@ def known_mistake(files, what, place):
     elif re.search(rb"\d,\s*\Z", data[:place]) and data[place : place + 1].isdigit():
         told = "a decimal comma? Numbers have a point"
     elif re.match(rb"[-+]?(nan|inf)", data[place:], re.I):
-        told = "no number of JSON: give the value, or 0 where there is none"
+        told = "no number of JSON: give the value; 0 is no power or money, and not a value that is missing"
     elif re.search(rb",\s*\Z", data[:place]) and data[place : place + 1] in (b",", b"]", b"}"):
         told = "a comma too many"
     elif not place and told is None:
@@ -119,7 +121,7 @@ def known_mistake(files, what, place):
     return f" ({told})" if told else ""
 
 
-def kind_due(key, kind, item):
+def kind_due(key: str, kind: str, item: int) -> str:
     """What kind of value is due at a field, or at an item of its list."""
     if item:
         return "an object with numbers" if key in ("startup", "piecewise_production", "blocks") else "a number"
@@ -134,9 +136,18 @@ def kind_due(key, kind, item):
 OF_OTHERS = {"case": ("thermal", "energy"), "prices": ("thermal", "time_periods")}
 
 
-def told_field(files, what, code, key, kind, number, item):
+def range_of(unit: dict[str, Any], item: int) -> dict[str, str]:
+    """The least and the greatest power of a unit, of the item's period where they are lists."""
+    limits = {name: unit.get(name) for name in ("power_output_minimum", "power_output_maximum")}
+    return {
+        name: written(value[item - 1] if isinstance(value, list) and 1 <= item <= len(value) else value)
+        for name, value in limits.items()
+    }
+
+
+def told_field(files: Files, what: str, code: int, key: str, kind: str, number: int, item: int) -> str:
     """A fault of a field of the case or of the prices."""
-    path = [] if key == "whole" else [key]
+    path: list[Union[str, int]] = [] if key == "whole" else [key]
     if kind in GROUPS:
         path = [GROUPS[kind], number, *([key] if key != GROUPS[kind] else [])]
     found = files.at(what, *path)
@@ -144,29 +155,25 @@ def told_field(files, what, code, key, kind, number, item):
     if item and isinstance(found, list) and item <= len(found):
         found = found[item - 1]
     unit = files.at(what, GROUPS.get(kind, ""), number) or {}
-    range_item = lambda it: written(it[item - 1] if isinstance(it, list) and 1 <= item <= len(it) else it)
-    known = (
-        {name: range_item(unit.get(name)) for name in ("power_output_minimum", "power_output_maximum")}
-        if isinstance(unit, dict)
-        else {}
-    )
+    known = range_of(unit, item) if isinstance(unit, dict) else {}
+    limit = LIMITS.get((key, kind)) or LIMITS.get(key) or "1,000,000 MW"
     known.update(
         periods=written(files.at("case", "time_periods")),
         kind_due=kind_due(key, kind, item),
-        limit=LIMITS.get((key, kind)) or LIMITS.get(key, "1,000,000 MW"),
+        limit=limit,
     )
     where = f"{who(files, kind, number)}, " if kind in GROUPS else ""
     place = f", item {item}" if item else ""
     count = f"; it has {len(listed)} items" if code in (25, 33) and isinstance(listed, list) else ""
     is_known = found is not None or code == 21 and files.value(what) is not None
     value = f" Found: {written(found)}{count}." if code != 20 and is_known else ""
-    hint = hint_of_field(files, what, code, known["limit"], listed) or remedy(code, key, kind, item, found)
+    hint = hint_of_field(files, what, code, limit, listed) or remedy(code, key, kind, item, found)
     return (
         f"{where}{'the whole' if key == 'whole' else key}{place}: {FIELDS[code].format_map(Known(known))}.{value}{hint}"
     )
 
 
-def hint_of_field(files, what, code, limit, listed):
+def hint_of_field(files: Files, what: str, code: int, limit: str, listed: Any) -> str:
     """What mistake a field's fault may come from."""
     if code == 20 and any(files.at(what, it) is not None for it in OF_OTHERS[what]):
         return " Are the files swapped?"
@@ -178,7 +185,7 @@ def hint_of_field(files, what, code, limit, listed):
 
 
 NUMBER = r"(-?\d+)"
-FORMS = [
+FORMS: list[tuple[str, Callable[..., str]]] = [
     (r"fault 1 words (\d+) (\d+)", lambda files, code, at: WORDS[int(code)].format(at) + "."),
     (r"fault 2 read (\w+)", lambda files, what: told_read(files, what)),
     (r"fault \d+ (\w+) 32", lambda files, what: f"{of(files, what)} has more than 67,108,864 bytes."),
@@ -214,7 +221,7 @@ FORMS = [
     (
         rf"fault 10 (mixture) (\d+) kind (\w+) unit (\d+) entry (\d+) period (\d+) left {NUMBER} right {NUMBER}",
         lambda files, what, code, kind, unit, entry, *numbers: f"{of(files, what)}: "
-        + told_rule(files, what, int(code), kind, int(unit), *map(int, numbers), int(entry)),
+        + told_rule(files, what, int(code), kind, *map(int, (unit, *numbers, entry))),
     ),
     (
         r"fault 5 work (\d+) (\d+) (\d+)",
@@ -233,28 +240,28 @@ FORMS = [
 ]
 
 
-def of(files, what):
+def of(files: Files, what: str) -> str:
     return files.names.get(what, WHOLE_FILES.get(what, what))
 
 
-def told_read(files, what):
+def told_read(files: Files, what: str) -> str:
     try:
-        with open(files.names[what], "rb") as it:
-            it.read(1)
+        with open(files.names[what], "rb") as file:
+            file.read(1)
         why = "it can be read now, so look whether it was there at the time of the run"
     except KeyError:
         why = "look at the name and at `ls -l`"
     except OSError as error:
-        why = error.strerror
+        why = error.strerror or str(error)
     return f"{of(files, what)} can't be read: {why}".rstrip("?") + "."
 
 
-def of_others(at):
+def of_others(at: str) -> str:
     """What a line of a report that isn't right says of where the report comes from: lines 2, 3, 6 and 8 follow from the files alone."""
     return " The report is of another case or schedule, or of an older one." if int(at) in (2, 3, 6, 8) else ""
 
 
-def told_report(files, at, what, more=""):
+def told_report(files: Files, at: str, what: str, more: str = "") -> str:
     lines = files.bytes_of("report").split(b"\n")
     line = lines[int(at) - 1].decode("utf-8", "replace") if int(at) <= len(lines) else ""
     found = f" Found: {line[:160]!r}." if line else ""
@@ -273,20 +280,23 @@ TOLD_OF = {
 }
 
 
-def need_files(line, files):
+def need_files(line: str, files: Files) -> None:
     """Refuses to tell a line of a file that isn't given or can't be read."""
     for what in TOLD_OF.get(line.split(" ")[1], ()):
         if what not in files.names:
             raise HullError(f"this line is told of {WHOLE_FILES[what]}, whose file has to be given")
         try:
-            with open(files.names[what], "rb") as it:
-                it.read(1)
+            with open(files.names[what], "rb") as file:
+                file.read(1)
         except (OSError, ValueError) as error:
             raise HullError(f"{files.names[what]}: {getattr(error, 'strerror', None) or error}") from None
 
 
-def sentence(line, files):
-    """The fault line in words; HullError where it is none, or where a file that it is told of can't be read."""
+def sentence(line: str, files: Files) -> str:
+    """A fault line of docs/FAULTS.md in words, with the unit's name, what stands in the file and what is due.
+
+    Raises `HullError` where it is no such line, or where a file that it is told of isn't among the files or can't be read.
+    """
     for form, told in FORMS if not re.search(r"\d{41}", line) else ():
         found = re.fullmatch(form, line)
         if found:

@@ -32,8 +32,9 @@ def flag_breaches(unit: Thermal, on: List[int]) -> Iterator[Breach]:
             yield 49, t + 1, unit.least, unit.start_cap
         if t and before and not now and unit.stop_cap < unit.least:
             yield 50, t, unit.least, unit.stop_cap
-        if unit.marks[t] is not None and now != unit.marks[t]:
-            yield 56, t + 1, now, unit.marks[t]
+        mark = unit.marks[t]
+        if mark is not None and now != mark:
+            yield 56, t + 1, now, mark
     if unit.on0 and on and not on[0] and unit.power0 > unit.stop_cap:
         yield 50, 0, unit.power0, unit.stop_cap
 

@@ -271,8 +271,8 @@ def words_of(path: Path) -> Iterator[str]:
     if len(path) > 1 and path[0] in GROUP_WORDS and isinstance(path[1], str):
         yield f"{GROUP_WORDS[str(path[0])]} {json.dumps(path[1], ensure_ascii=False)}"
         begins = 2
-    for it in path[begins:]:
-        yield f"item {it}" if isinstance(it, int) else str(it)
+    for step in path[begins:]:
+        yield f"item {step}" if isinstance(step, int) else str(step)
 
 
 def path_of(data: bytes, place: int) -> Path:

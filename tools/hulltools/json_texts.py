@@ -1,9 +1,17 @@
 """JSON texts in the profile of docs/FORMATS.md; a number with a fraction or an exponent is a Decimal."""
+from __future__ import annotations
+
 import json
 import re
+from collections.abc import Iterable
 from decimal import Decimal
+from typing import TYPE_CHECKING, Any
 
-from .errors import HullError, read_bytes
+from .errors import HullError, Name, read_bytes
+from .numbers import Number
+
+if TYPE_CHECKING:
+    from typing_extensions import TypeGuard  # (in `typing` from Python 3.10 on)
 
 MOST_DIGITS, MOST_EXPONENT, MOST_DEPTH = 30, 400, 32
 LONE = re.compile("[\ud800-\udfff]")
@@ -13,7 +21,7 @@ class Refused(ValueError):
     """Why a text isn't one of the profile."""
 
 
-def counted(text):
+def counted(text: str) -> str:
     """Refuses the number's text where it has too many digits or too large an exponent."""
     digits, _, exponent = text.lower().lstrip("-").partition("e")
     if len(digits.replace(".", "").lstrip("0")) > MOST_DIGITS:
@@ -23,19 +31,19 @@ def counted(text):
     return text
 
 
-def whole_number(text):
+def whole_number(text: str) -> int:
     return int(counted(text))
 
 
-def decimal_number(text):
+def decimal_number(text: str) -> Decimal:
     return Decimal(counted(text))
 
 
-def constant(text):
+def constant(text: str) -> Any:
     raise Refused(f"{text} is no JSON")
 
 
-def pairs(members):
+def pairs(members: Iterable[tuple[str, Any]]) -> dict[str, Any]:
     found = {}
     for key, value in members:
         if key in found:
@@ -44,7 +52,7 @@ def pairs(members):
     return found
 
 
-def refuse_what_is_odd(value, depth=1):
+def refuse_what_is_odd(value: object, depth: int = 1) -> None:
     """Refuses half a surrogate pair, and objects and lists that are too deep."""
     if isinstance(value, str):
         if LONE.search(value):
@@ -52,12 +60,12 @@ def refuse_what_is_odd(value, depth=1):
     elif isinstance(value, (list, dict)):
         if depth > MOST_DEPTH:
             raise Refused(f"it has more than {MOST_DEPTH} levels")
-        for it in value.items() if isinstance(value, dict) else value:
-            for part in it if isinstance(it, tuple) else (it,):
+        for member in value.items() if isinstance(value, dict) else value:
+            for part in member if isinstance(member, tuple) else (member,):
                 refuse_what_is_odd(part, depth + 1)
 
 
-def parse(data):
+def parse(data: bytes) -> Any:
     """The value of a JSON text, or Refused."""
     try:
         text = data.decode("utf-8")
@@ -65,9 +73,14 @@ def parse(data):
         raise Refused(f"byte {error.start} isn't UTF-8") from None
     if text.startswith("\ufeff"):
         raise Refused("it begins with a byte order mark")
-    hooks = dict(parse_int=whole_number, parse_float=decimal_number, parse_constant=constant)
     try:
-        value = json.loads(text, object_pairs_hook=pairs, **hooks)
+        value = json.loads(
+            text,
+            object_pairs_hook=pairs,
+            parse_int=whole_number,
+            parse_float=decimal_number,
+            parse_constant=constant,
+        )
         refuse_what_is_odd(value)
     except json.JSONDecodeError as error:
         raise Refused(f"at byte {len(text[: error.pos].encode())}: {error.msg}") from None
@@ -76,7 +89,7 @@ def parse(data):
     return value
 
 
-def read_json(name, what):
+def read_json(name: Name, what: str) -> Any:
     """The value of a file; `what` says what it is to be, as 'a case'."""
     try:
         return parse(read_bytes(name, what))
@@ -84,5 +97,5 @@ def read_json(name, what):
         raise HullError(f"{name}: no JSON text as {what} has it: {why}") from None
 
 
-def is_number(value):
+def is_number(value: object) -> TypeGuard[Number]:
     return isinstance(value, (int, Decimal)) and not isinstance(value, bool)

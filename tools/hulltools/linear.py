@@ -1,5 +1,9 @@
 """Linear programs, with and without whole variables, as they come, solved by SciPy's HiGHS."""
+from __future__ import annotations
+
+from collections.abc import Iterable
 from dataclasses import dataclass
+from typing import Any, Optional
 
 from .errors import HullError
 
@@ -11,18 +15,19 @@ except ImportError:
     milp = None
 
 INFINITY = float("inf")
+Term = tuple[int, float]  # a variable by its number, and its factor
 
 
-def need_scipy():
+def need_scipy() -> None:
     if milp is None:
         raise HullError(
             "this needs SciPy with scipy.optimize.milp (Debian: apt install python3-scipy, and run it by /usr/bin/python3)"
         )
 
 
-def was_cut_by_the_clock(found) -> bool:
+def was_cut_by_the_clock(found: Any) -> bool:
     """Whether the solver's answer depends on how fast it was."""
-    return found.status == 1 and found.message.startswith("Time limit")
+    return bool(found.status == 1 and found.message.startswith("Time limit"))
 
 
 @dataclass
@@ -30,24 +35,34 @@ class Solved:
     """A solution of a linear program: its value, its variables, and what a unit more at each row would cost."""
 
     value: float
-    x: list
-    duals: list
+    x: list[float]
+    duals: list[float]
 
 
 class Program:
     """Variables with bounds and costs, and rows over them."""
 
-    def __init__(self):
+    def __init__(self) -> None:
         need_scipy()
-        self.low, self.high, self.cost, self.whole = [], [], [], []
-        self.rows, self.columns, self.factors, self.from_, self.to = [], [], [], [], []
+        self.low: list[float] = []
+        self.high: list[float] = []
+        self.cost: list[float] = []
+        self.whole: list[int] = []
+        self.rows: list[int] = []
+        self.columns: list[int] = []
+        self.factors: list[float] = []
+        self.from_: list[float] = []
+        self.to: list[float] = []
 
-    def variable(self, low, high, cost=0.0, whole=False):
-        for into, it in zip((self.low, self.high, self.cost, self.whole), (low, high, cost, int(whole))):
-            into.append(it)
+    def variable(self, low: float, high: float, cost: float = 0.0, whole: bool = False) -> int:
+        """A variable; its number."""
+        self.low.append(low)
+        self.high.append(high)
+        self.cost.append(cost)
+        self.whole.append(int(whole))
         return len(self.low) - 1
 
-    def row(self, terms, low, high):
+    def row(self, terms: Iterable[Term], low: float, high: float) -> int:
         """A row whose sum is from `low` to `high`; its number."""
         for column, factor in terms:
             self.rows.append(len(self.from_))
@@ -57,19 +72,19 @@ class Program:
         self.to.append(high)
         return len(self.from_) - 1
 
-    def at_most(self, terms, high):
+    def at_most(self, terms: Iterable[Term], high: float) -> int:
         return self.row(terms, -INFINITY, high)
 
-    def table(self):
+    def table(self) -> Any:
         shape = len(self.from_), len(self.low)
         return coo_matrix((self.factors, (self.rows, self.columns)), shape=shape).tocsr()
 
-    def solve(self, **options):
+    def solve(self, **options: float) -> Any:
         """HiGHS' answer with whole variables whole."""
         if not self.low:
             self.variable(0, 0)  # (SciPy wants one)
         limits = [LinearConstraint(self.table(), self.from_, self.to)] if self.from_ else []
-        given = dict(integrality=self.whole, bounds=Bounds(self.low, self.high), constraints=limits)
+        given: dict[str, Any] = dict(integrality=self.whole, bounds=Bounds(self.low, self.high), constraints=limits)
         found = milp(self.cost, **given, options=options)
         if found.status != 2:
             return found
@@ -78,7 +93,7 @@ class Program:
         again = milp(self.cost, **given, options={**options, "presolve": False, "time_limit": seconds})
         return found if was_cut_by_the_clock(again) else again
 
-    def solve_linear(self, method="highs", seconds=None):
+    def solve_linear(self, method: str = "highs") -> Optional[Solved]:
         """The solution without whole variables, with the duals of the rows; None where there is none."""
         table, low, high = self.table(), np.array(self.from_), np.array(self.to)
         equal = low == high
@@ -93,7 +108,6 @@ class Program:
             b_ub=np.concatenate([high[above], -low[below]]),
             bounds=np.column_stack([self.low, self.high]),
             method=method,
-            options={} if seconds is None else {"time_limit": float(seconds)},
         )
         if found.x is None or found.status not in (0,):
             return None
@@ -101,4 +115,4 @@ class Program:
         duals[equal] = found.eqlin.marginals
         duals[above] += found.ineqlin.marginals[: above.sum()]
         duals[below] -= found.ineqlin.marginals[above.sum() :]
-        return Solved(found.fun, found.x, duals)
+        return Solved(float(found.fun), list(found.x), list(duals))

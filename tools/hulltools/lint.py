@@ -87,8 +87,8 @@ class Review:
 def by_rule(findings: Iterable[Finding]) -> Iterator[Tuple[Tuple[Level, str], List[Finding]]]:
     """The findings by level and rule, errors first, in the order in which they were found."""
     found: Dict[Tuple[Level, str], List[Finding]] = {}
-    for it in findings:
-        found.setdefault((it.level, it.rule), []).append(it)
+    for finding in findings:
+        found.setdefault((finding.level, finding.rule), []).append(finding)
     yield from sorted(found.items(), key=lambda row: list(Level).index(row[0][0]))
 
 
@@ -137,10 +137,10 @@ class Look:
             return
         if found.faults and found.root is not None:
             self.files.values[what] = as_written(found.root, found.text)
-        for it in found.faults:
+        for fault in found.faults:
             rest = "" if found.root is not None else " What stands behind it isn't read before this is mended."
-            line = f"fault {STATUS[what]} {what} {it.code} at {found.byte(it.at)}"
-            self.add(self.error(what, line, f"text-{it.code}", it.at, rest=rest, unit=unit_on(it.path)))
+            line = f"fault {STATUS[what]} {what} {fault.code} at {found.byte(fault.at)}"
+            self.add(self.error(what, line, f"text-{fault.code}", fault.at, rest=rest, unit=unit_on(fault.path)))
 
     def error(
         self, what: str, line: str, rule: str, at: int, rest: str = "", unit: Optional[Tuple[str, str]] = None
@@ -157,8 +157,8 @@ class Look:
     def faults(self, what: str, faults: List[Fault]) -> None:
         """Tells faults, those of one unit and rule together."""
         rows: Dict[Tuple[object, ...], List[Fault]] = {}
-        for it in faults:
-            rows.setdefault((it.code, it.key, it.kind, it.unit, it.entry), []).append(it)
+        for fault in faults:
+            rows.setdefault((fault.code, fault.key, fault.kind, fault.unit, fault.entry), []).append(fault)
         for same in rows.values():
             first, items = same[0], tuple(it.item for it in same if it.item)
             more = "item" if first.code < 44 or first.code == 62 else "period"
@@ -253,9 +253,9 @@ class Look:
                 self.review.costs = sum((cost for _, cost in rows[1:]), rows[0][1])
         group = root.members["thermal_generators"]
         found = falls_of(case.thermal, costs)
-        for it in found:
-            odd = it.oddity
-            self.warn("case", odd, group.members[it.unit.name].members[odd.field], ("thermal", it.unit.name))
+        for fall in found:
+            odd = fall.oddity
+            self.warn("case", odd, group.members[fall.unit.name].members[odd.field], ("thermal", fall.unit.name))
         if found:
             text = falling_in_sum(len(found), self.review.costs)
             self.warn("case", SystemOddity("falling-slopes-in-sum", "thermal_generators", text), group)
@@ -346,6 +346,6 @@ def first_look(names: Dict[str, str], tell: Callable[[str], None]) -> List[str]:
         more = f" And {len(errors) - SHOWN} more: tools/lint.py tells them." if len(errors) > SHOWN else ""
         raise HullError(" ".join(errors[:SHOWN]) + more)
     found = review.lines()
-    for it in found:
-        tell(it)
+    for line in found:
+        tell(line)
     return found

@@ -118,11 +118,11 @@ class Fields:
         if len(found.items) > most:
             self.fault(24, key, found.at)
         rows: List[Fields] = []
-        for i, it in enumerate(found.items, 1):
-            if isinstance(it.value, dict):
-                rows.append(Row(self, it, key, i))
-            elif not isinstance(it.value, Odd):
-                self.fault(21, key, it.at, i)
+        for i, row in enumerate(found.items, 1):
+            if isinstance(row.value, dict):
+                rows.append(Row(self, row, key, i))
+            elif not isinstance(row.value, Odd):
+                self.fault(21, key, row.at, i)
         return rows
 
 
@@ -171,10 +171,10 @@ def window(unit: Fields, periods: Number) -> None:
     if not isinstance(node.value, list) or periods is not None and len(node.items) != periods:
         unit.fault(33, "commitment", node.at)
         return
-    for i, it in enumerate(node.items, 1):
-        is_mark = it.value is None or number_at(it) in (0, 1)
-        if not is_mark and not isinstance(it.value, Odd):
-            unit.fault(33, "commitment", it.at, i)
+    for i, mark in enumerate(node.items, 1):
+        is_mark = mark.value is None or number_at(mark) in (0, 1)
+        if not is_mark and not isinstance(mark.value, Odd):
+            unit.fault(33, "commitment", mark.at, i)
 
 
 def thermal(unit: Fields, periods: Number) -> None:
@@ -184,8 +184,8 @@ def thermal(unit: Fields, periods: Number) -> None:
     if least is not None and most is not None and least > most:
         unit.fault(30, "power_output_minimum", unit.node.members["power_output_minimum"].at)
         least = None
-    for it in ("up", "down", "startup", "shutdown"):
-        unit.number(f"ramp_{it}_limit", POWERS)
+    for limit in ("up", "down", "startup", "shutdown"):
+        unit.number(f"ramp_{limit}_limit", POWERS)
     for key in ("time_up_minimum", "time_down_minimum"):
         unit.number(key, TIMES)
     unit.number("power_output_t0", OUTPUTS)
@@ -210,26 +210,26 @@ def bid(unit: Fields, periods: Number) -> None:
         return
     if periods is not None and len(found.items) != periods:
         unit.fault(25, "blocks", found.at)
-    for period, it in enumerate(found.items, 1):
-        if isinstance(it.value, list):
-            blocks(unit, it, period)
-        elif not isinstance(it.value, Odd):
-            unit.fault(21, "blocks", it.at, period)
+    for period, period_blocks in enumerate(found.items, 1):
+        if isinstance(period_blocks.value, list):
+            blocks(unit, period_blocks, period)
+        elif not isinstance(period_blocks.value, Odd):
+            unit.fault(21, "blocks", period_blocks.at, period)
 
 
 def blocks(unit: Fields, node: Node, period: int) -> None:
     if len(node.items) > MOST_BLOCKS:
         unit.fault(24, "blocks", node.at, period)
     before, total = None, 0
-    for it in node.items:
-        if not isinstance(it.value, dict):
-            if not isinstance(it.value, Odd):
-                unit.fault(21, "blocks", it.at, period)
+    for block in node.items:
+        if not isinstance(block.value, dict):
+            if not isinstance(block.value, Odd):
+                unit.fault(21, "blocks", block.at, period)
             continue
-        row = Row(unit, it, "blocks", period)
+        row = Row(unit, block, "blocks", period)
         width, at = row.number("mw", POWERS), row.number("price", BLOCK_PRICES)
         if at is not None and before is not None and at > before:
-            row.fault(37, "blocks", it.at)
+            row.fault(37, "blocks", block.at)
         before, total = at if at is not None else before, total + (width or 0)
     if total > POWER:
         unit.fault(24, "blocks", node.at, period)
@@ -252,12 +252,12 @@ def members(whole: Fields, kind: str, read: Callable[[Fields, Number], None], pe
         return 1  # (so that it isn't told that there is none)
     if len(found.members) > MOST_OF_A_KIND:
         whole.fault(24, key, found.at)
-    for number, it in enumerate(found.members.values(), 1):
-        unit = Fields(whole.faults, it, kind, number)
-        if isinstance(it.value, dict):
+    for number, member in enumerate(found.members.values(), 1):
+        unit = Fields(whole.faults, member, kind, number)
+        if isinstance(member.value, dict):
             read(unit, periods)
-        elif not isinstance(it.value, Odd):
-            unit.fault(21, key, it.at)
+        elif not isinstance(member.value, Odd):
+            unit.fault(21, key, member.at)
     return len(found.members)
 
 

@@ -13,6 +13,8 @@ from .lint_units import Oddity
 from .numbers import money
 
 FLAT = 0.35  # slopes of less than this share of the average cost are those of costs per MWh, which hardly rise
+FLATTEST = 0.2  # so are these whatever the average is: four fifths of the cost at full power would be without any power
+LOW = 30_000  # an average in millionths per kilowatt that a small unit may have with such slopes
 CHEAP = 0.1  # so is an average cost of less than this share of the other units'
 KEY = "piecewise_production"
 
@@ -46,14 +48,15 @@ class CostCheck:
         yield from self.out_of_range(unit)
 
     def per_mwh_shape(self, unit: Thermal) -> Optional[Oddity]:
-        """Costs that look like costs per MWh: all within what a MWh may cost, and far too little for that power."""
+        """Costs that look like costs per MWh: all within what a MWh may cost, and far too little for that power, or hardly rising with it."""
         costs, mean = [cost for _, cost in unit.points], average(unit)
         (at, cost), last = unit.points[0], unit.points[-1]
         if mean is None or not all(0 < it <= self.highest * 1e6 for it in costs) or last[0] <= 1000:
             return None
-        is_flat = at < last[0] and Fraction(last[1] - cost, last[0] - at) < mean * Fraction(FLAT)
+        share = Fraction(FLAT if mean < LOW else FLATTEST)
+        is_flat = at < last[0] and Fraction(last[1] - cost, last[0] - at) < mean * share
         is_cheap = self.usual is not None and mean < self.usual * Fraction(CHEAP)
-        if not is_cheap and not (is_flat and mean < 5000):
+        if not is_cheap and not is_flat:
             return None
         per = money(last[1])
         return Oddity(
@@ -120,7 +123,9 @@ class Fall:
         at, before, after = steepest_fall(self.unit)
         power, given, taken = farthest_point(self.unit)
         scheduled = ""
-        if self.cost is not None:
+        if self.cost is not None and not round(self.effect):
+            scheduled = ". In this schedule that changes nothing"
+        elif self.cost is not None:
             convex, rest = (money(round(it)) for it in steps(self.cost))
             scheduled = f". In this schedule it costs {convex} less by the convex envelope, and {rest} less still by whole prices"
         return Oddity(

@@ -67,11 +67,11 @@ def per_mwh(slope: float) -> str:
 def ranges(numbers: Iterable[int]) -> str:
     """Numbers in rising order, with runs of three and more drawn together: '1, 2, 5 to 9'."""
     runs: List[List[int]] = []
-    for it in sorted(set(numbers)):
-        if runs and runs[-1][-1] == it - 1:
-            runs[-1].append(it)
+    for number in sorted(set(numbers)):
+        if runs and runs[-1][-1] == number - 1:
+            runs[-1].append(number)
         else:
-            runs.append([it])
+            runs.append([number])
     parts = [f"{run[0]} to {run[-1]}" if len(run) > 2 else ", ".join(map(str, run)) for run in runs]
     return ", ".join(parts[:12]) + (", .." if len(parts) > 12 else "")
 

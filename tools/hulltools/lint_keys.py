@@ -43,17 +43,17 @@ def nodes_at(root: Node, pattern: Path) -> Iterator[Tuple[Path, Node]]:
         rows += [((i,), it) for i, it in enumerate(root.items, 1)]
     else:
         rows = [((key,), it) for key, it in root.members.items() if key == pattern[0]]
-    for step, it in rows:
-        yield from ((step + path, found) for path, found in nodes_at(it, pattern[1:]))
+    for step, value in rows:
+        yield from ((step + path, found) for path, found in nodes_at(value, pattern[1:]))
 
 
 def unknown_keys(what: str, root: Node) -> Iterator[Tuple[Path, str, Node, Optional[str]]]:
     """The keys that are skipped: the path of their object, the key, its value, and the key that is most like it."""
     for pattern, known in KEYS[what].items():
         for path, node in nodes_at(root, pattern):
-            for key, it in node.members.items():
+            for key, value in node.members.items():
                 if key not in known:
-                    yield path, key, it, nearest(key, known, node)
+                    yield path, key, value, nearest(key, known, node)
 
 
 def nearest(key: str, known: List[str], node: Node) -> Optional[str]:

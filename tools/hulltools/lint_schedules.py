@@ -9,7 +9,7 @@ from .json_places import Node, Odd, whole_at
 from .lint_cases import Fault
 from .mixtures import MOST_WEIGHT
 from .named_files import GROUPS, PLAN_GROUPS
-from .schedules import Plan, flat_plan
+from .schedules import Plan, flat_plan, kilowatt_list
 
 Plans = Dict[Tuple[str, str], Tuple[Plan, Node]]
 Breach = Tuple[int, int, int, int]  # code, period, left, right
@@ -88,13 +88,16 @@ class Told:
             return None
         rows = [(node.members.get(key), most) for key, most in (("on", 1), ("power", POWER), ("reserve", POWER))]
         found = self.lists(rows, periods, node.at)
-        return None if found is None else Plan(*found)
+        if found is None:
+            return None
+        on, power, reserve = found
+        return Plan(on, kilowatt_list(power), kilowatt_list(reserve))
 
     def flat_plan(self, node: Node, periods: int) -> Optional[Plan]:
         if isinstance(node.value, Odd):
             return None
         found = self.lists([(node, POWER)], periods, node.at)
-        return None if found is None else flat_plan(found[0])
+        return None if found is None else flat_plan(kilowatt_list(found[0]))
 
 
 def schedule_shape(root: Node, shape: Shape) -> Tuple[List[Fault], Plans]:
@@ -116,9 +119,9 @@ def schedule_shape(root: Node, shape: Shape) -> Tuple[List[Fault], Plans]:
 
 def add_unknown(faults: List[Fault], what: str, kind: str, group: Optional[Node], names: List[str]) -> None:
     known = set(names)
-    for number, (name, it) in enumerate((group.members if group else {}).items(), 1):
+    for number, (name, value) in enumerate((group.members if group else {}).items(), 1):
         if name not in known:
-            Told(faults, what, kind, number).shape(40, it.at)
+            Told(faults, what, kind, number).shape(40, value.at)
 
 
 def add_plans(faults: List[Fault], plans: Plans, kind: str, group: Optional[Node], shape: Shape) -> None:
@@ -285,21 +288,21 @@ def mixture_faults(root: Node, shape: Shape, case: Optional[Case]) -> List[Fault
 def entries_of(told: Told, rows: Node, periods: int, total: int) -> List[Tuple[int, Plan, Node]]:
     """The entries of a unit that are in form, by their number."""
     found, weights = [], []
-    for entry, it in enumerate(rows.items, 1):
+    for entry, row in enumerate(rows.items, 1):
         at = Told(told.faults, told.what, told.kind, told.unit, entry)
-        lists = [it.members.get(key) for key in ("on", "power", "reserve")]
+        lists = [row.members.get(key) for key in ("on", "power", "reserve")]
         is_shaped = all(one is not None and isinstance(one.value, list) and len(one.items) == periods for one in lists)
-        if "weight" not in it.members or not is_shaped:
-            at.shape(42, it.at)
+        if "weight" not in row.members or not is_shaped:
+            at.shape(42, row.at)
             continue
-        weight = whole_at(it.members["weight"], 0, total)
+        weight = whole_at(row.members["weight"], 0, total)
         if weight is None:
-            at.shape(62, it.members["weight"].at)
+            at.shape(62, row.members["weight"].at)
         else:
             weights.append(weight)
-        plan = at.thermal_plan(it, periods)
+        plan = at.thermal_plan(row, periods)
         if plan is not None:
-            found.append((entry, plan, it))
+            found.append((entry, plan, row))
     if len(weights) == len(rows.items) and sum(weights) != total:
         told.shape(62, rows.at)
     return found

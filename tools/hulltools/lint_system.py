@@ -164,11 +164,11 @@ def numbers_below(node: Node, *path: str) -> Iterator[float]:
     number = number_at(node)
     if number is not None:
         yield abs(float(number))
-    for it in node.items:
-        yield from numbers_below(it)
-    for key, it in node.members.items():
+    for item in node.items:
+        yield from numbers_below(item)
+    for key, value in node.members.items():
         if not path or key in path:
-            yield from numbers_below(it)
+            yield from numbers_below(value)
 
 
 def in_megawatts(case: Node, schedule: Node) -> Optional[str]:
@@ -181,7 +181,9 @@ def in_megawatts(case: Node, schedule: Node) -> Optional[str]:
     )
     units = [case.members[it] for it in ("thermal_generators", "renewable_generators") if it in case.members]
     most = sum(
-        max(numbers_below(unit, "power_output_maximum"), default=0.0) for it in units for unit in it.members.values()
+        max(numbers_below(unit, "power_output_maximum"), default=0.0)
+        for group in units
+        for unit in group.members.values()
     )
     periods = len(demand.items) if demand else 0
     if (

@@ -1,11 +1,15 @@
 """A mixture: weighted schedules of each thermal unit, and the bound that they prove."""
 import json
+from collections.abc import Iterable
 from dataclasses import dataclass
+from typing import Any
 
+from .cases import Case
 from .json_texts import is_number, read_json
-from .numbers import PRICE_LIMIT, is_whole
-from .schedules import Plan, thermal_plan
-from .errors import HullError, one_line
+from .numbers import is_whole, Millionths, MillionthsPerKilowatt, PRICE_LIMIT
+from .schedules import Fault, Plan, teller_of, thermal_plan
+from .errors import HullError, Name, one_line
+from .prices import Prices
 
 MOST_WEIGHT = 10**12
 
@@ -17,20 +21,23 @@ class Entry:
     weight: int
     plan: Plan
 
+    def as_json(self) -> dict[str, Any]:
+        return {"weight": self.weight, "on": self.plan.on, "power": self.plan.power, "reserve": self.plan.reserve}
+
 
 @dataclass
 class Mixture:
     """For each thermal unit, by name, entries whose weights sum to `weight`."""
 
     weight: int
-    thermal: dict
+    thermal: dict[str, list[Entry]]
 
-    def text(self):
-        of = lambda it: {"weight": it.weight, "on": it.plan.on, "power": it.plan.power, "reserve": it.plan.reserve}
-        thermal = {name: [of(it) for it in entries] for name, entries in self.thermal.items()}
+    def text(self) -> str:
+        """The file that `hull certify` reads."""
+        thermal = {name: [entry.as_json() for entry in entries] for name, entries in self.thermal.items()}
         return json.dumps({"weight": self.weight, "thermal": thermal}, ensure_ascii=False) + "\n"
 
-    def bound(self, case, costs, prices, radius=2 * PRICE_LIMIT):
+    def bound(self, case: Case, costs: Iterable[int], prices: Prices, radius: int = 2 * PRICE_LIMIT) -> Millionths:
         """No prices within the radius of these have a greater dual value, where each entry is a schedule that its unit can run.
 
         `costs` has the cost of each entry, in the units' order. The sum for each price is the greatest over the places where its
@@ -44,44 +51,47 @@ class Mixture:
             total += max(at * lack - self.weight * flat_best(case, t, at) for at in turns(case, t, low, high))
             low, high = max(0, prices.reserve[t] - radius), min(PRICE_LIMIT, prices.reserve[t] + radius)
             total += max(low * short, high * short)
-        return total // self.weight
+        return Millionths(total // self.weight)
 
-    def entries(self, case):
+    def entries(self, case: Case) -> list[Entry]:
         return [entry for it in case.thermal for entry in self.thermal[it.name]]
 
 
-def flat_best(case, t, at):
+def flat_best(case: Case, t: int, at: int) -> int:
     """What renewable units and bids earn at best in a period at an energy price."""
     sold = sum(max(at * it.least[t], at * it.most[t]) for it in case.renewable)
     return sold + sum(width * max(0, price - at) for it in case.bids for width, price in it.blocks[t])
 
 
-def turns(case, t, low, high):
+def turns(case: Case, t: int, low: int, high: int) -> set[int]:
     """The ends of the interval, and where within it what is earned changes its slope."""
     places = {0, *(price for it in case.bids for _, price in it.blocks[t])}
     return {low, high, *(it for it in places if low < it < high)}
 
 
-def weight_of(value, least, most, told):
+def weight_of(value: Any, least: int, most: int, told: Fault) -> int:
     if not is_number(value) or not is_whole(value) or not least <= value <= most:
         raise told(f"weight is no whole number from {least} to {most:,}")
     return int(value)
 
 
-def read_mixture(name, case):
-    """The mixture of a file for a case, in form; whether a unit can run an entry is for `hull certify` to say."""
+def read_mixture(name: Name, case: Case) -> Mixture:
+    """The mixture of a file for a case: schedules of each thermal unit, in whole kilowatts, with weights that sum to the whole weight.
+
+    Raises `HullError` where docs/FORMATS.md refuses its form. Whether a unit can run an entry is for `certify` to say.
+    """
     value = read_json(name, "a mixture")
     if not isinstance(value, dict) or not isinstance(value.get("thermal"), dict):
         raise HullError(f"{name}: no mixture: it isn't an object with `weight` and the object `thermal`")
-    weight = weight_of(value.get("weight"), 1, MOST_WEIGHT, lambda it: HullError(f"{name}: {it}"))
+    weight = weight_of(value.get("weight"), 1, MOST_WEIGHT, lambda why: HullError(f"{name}: {why}"))
     names = {it.name for it in case.thermal}
-    for it in value["thermal"]:
-        if it not in names:
-            raise HullError(f'{name}: the case has no thermal unit "{one_line(it)}"')
+    for unit_name in value["thermal"]:
+        if unit_name not in names:
+            raise HullError(f'{name}: the case has no thermal unit "{one_line(unit_name)}"')
     thermal = {}
-    for it in case.thermal:
-        told = lambda what, it=it: HullError(f'{name}: thermal unit "{one_line(it.name)}": {what}')
-        rows = value["thermal"].get(it.name)
+    for unit in case.thermal:
+        told = teller_of(name, "thermal unit", unit)
+        rows = value["thermal"].get(unit.name)
         if not isinstance(rows, list) or not rows or not all(isinstance(row, dict) for row in rows):
             raise told("has no list of entries")
         entries = []
@@ -90,5 +100,5 @@ def read_mixture(name, case):
             entries.append(Entry(weight_of(row.get("weight"), 0, weight, told), plan))
         if sum(entry.weight for entry in entries) != weight:
             raise told(f"the weights don't sum to {weight}")
-        thermal[it.name] = entries
+        thermal[unit.name] = entries
     return Mixture(weight, thermal)

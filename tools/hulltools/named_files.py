@@ -1,10 +1,12 @@
 """The files that a refused run was given, as they are written, for a fault line in words."""
 import json
 import os
+from collections.abc import Mapping
 from dataclasses import dataclass, field
 from decimal import Decimal, InvalidOperation
+from typing import Any, Optional, Union
 
-from .json_texts import Refused, counted
+from .json_texts import counted, Refused
 
 GROUPS = {"thermal": "thermal_generators", "renewable": "renewable_generators", "bid": "demand_bids"}
 PLAN_GROUPS = {"thermal": "thermal", "renewable": "renewable", "bid": "bids"}
@@ -21,23 +23,23 @@ WHOLE_FILES = {
 class Files:
     """The names of the files that the run was given, and what they hold, as far as they can be read."""
 
-    names: dict
-    values: dict = field(default_factory=dict)
+    names: Mapping[str, str]
+    values: dict[str, Any] = field(default_factory=dict)
 
-    def bytes_of(self, what):
+    def bytes_of(self, what: str) -> bytes:
         try:
-            with open(self.names[what], "rb") as it:
-                return it.read(1 << 27)
+            with open(self.names[what], "rb") as file:
+                return file.read(1 << 27)
         except (OSError, KeyError, ValueError):
             return b""
 
-    def is_empty(self, what):
+    def is_empty(self, what: str) -> bool:
         try:
             return os.path.getsize(self.names[what]) == 0
         except (OSError, KeyError, ValueError):
             return False
 
-    def value(self, what):
+    def value(self, what: str) -> Any:
         """The JSON value of a file with its numbers as they are written; None where it can't be read."""
         if what not in self.values:
             try:
@@ -47,20 +49,20 @@ class Files:
                 self.values[what] = None
         return self.values[what]
 
-    def at(self, what, *path):
+    def at(self, what: str, *path: Union[str, int]) -> Any:
         """What stands at a path of keys and of places from 1; None where nothing does."""
-        it = self.value(what)
+        found = self.value(what)
         for step in path:
-            if isinstance(it, dict) and isinstance(step, str):
-                it = it.get(step)
-            elif isinstance(it, (list, dict)) and isinstance(step, int):
-                rows = list(it.values()) if isinstance(it, dict) else it
-                it = rows[step - 1] if 1 <= step <= len(rows) else None
+            if isinstance(found, dict) and isinstance(step, str):
+                found = found.get(step)
+            elif isinstance(found, (list, dict)) and isinstance(step, int):
+                rows = list(found.values()) if isinstance(found, dict) else found
+                found = rows[step - 1] if 1 <= step <= len(rows) else None
             else:
                 return None
-        return it
+        return found
 
-    def name_of(self, what, group, number):
+    def name_of(self, what: str, group: str, number: int) -> Optional[str]:
         members = self.at(what, group)
         names = list(members) if isinstance(members, dict) else []
         return names[number - 1] if 1 <= number <= len(names) else None
@@ -70,7 +72,7 @@ class Written(str):
     """A number as its file has it."""
 
 
-def number_of(value):
+def number_of(value: object) -> Optional[Decimal]:
     """A number of a file, or None where it is none, or has more digits or a larger exponent than `hull` reads."""
     try:
         found = Decimal(counted(value)) if isinstance(value, Written) else Decimal("nan")
@@ -79,7 +81,7 @@ def number_of(value):
     return found if found.is_finite() else None
 
 
-def written(value, levels=8):
+def written(value: object, levels: int = 8) -> str:
     """A value as a file would have it, cut where it is long or deep."""
     if isinstance(value, Written):
         return str(value) if len(value) <= 120 else value[:117] + "..."
@@ -96,7 +98,7 @@ def written(value, levels=8):
     return text if len(text) <= 120 else text[:117] + "..."
 
 
-def who(files, kind, number, place_in="case"):
+def who(files: Files, kind: str, number: int, place_in: str = "case") -> str:
     """A unit with its name, by its number within its kind."""
     group = (GROUPS if place_in == "case" else PLAN_GROUPS)[kind]
     name = files.name_of(place_in, group, number)
@@ -104,14 +106,14 @@ def who(files, kind, number, place_in="case"):
     return f"{kind} unit{told} (number {number})" if kind != "bid" else f"bid{told} (number {number})"
 
 
-class Known(dict):
+class Known(dict[str, Any]):
     """What isn't known is told as such."""
 
-    def __missing__(self, key):
+    def __missing__(self, key: str) -> str:
         return "what the case says"
 
 
-def plan_of(files, what, kind, number, entry=None):
+def plan_of(files: Files, what: str, kind: str, number: int, entry: Optional[int] = None) -> Any:
     """What a schedule or a mixture has of a unit of the case, or of an entry of it; None where nothing is."""
     unit = files.name_of("case", GROUPS.get(kind, ""), number)
     found = files.at(what, PLAN_GROUPS.get(kind, ""), unit) if unit is not None else None

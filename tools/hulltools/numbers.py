@@ -1,55 +1,81 @@
-"""Numbers of the files, read exactly as `hull` reads them, and written exactly."""
+"""Numbers of the files, read exactly as `hull` reads them, and written exactly.
+
+An amount, a power and a price are whole numbers of a type each, so that a type checker tells them apart.
+"""
 from decimal import Decimal
+from typing import NewType, Union
 
-PRICE_LIMIT = 10_000_000  # millionths per kilowatt and period: 10,000 of the currency per MWh
+Kilowatts = NewType("Kilowatts", int)
+Millionths = NewType("Millionths", int)  # of the currency
+MillionthsPerKilowatt = NewType(
+    "MillionthsPerKilowatt", int
+)  # a price of one period: 98000 is 98.00 per MWh where a period is an hour
+
+Number = Union[int, Decimal]  # what a file's number is read as
+PRICE_LIMIT = MillionthsPerKilowatt(10_000_000)  # 10,000 of the currency per MWh
 
 
-def rounded(number, places):
+def rounded(number: Union[Number, str], places: int) -> int:
     """floor(number * 10^places + 1/2) of a whole number or a Decimal, whatever its digits."""
     if isinstance(number, int):
-        return number * 10**places
+        return int(number * 10**places)
     sign, digits, exponent = Decimal(number).as_tuple()
     value = int("".join(map(str, digits)) or "0") * (-1 if sign else 1)
-    shift = exponent + places
+    shift = int(exponent) + places
     if shift >= 0:
-        return value * 10**shift
-    scale = 10**-shift
+        return int(value * 10**shift)
+    scale = int(10**-shift)
     return (2 * value + scale) // (2 * scale)
 
 
-def kilowatts(number):
+def kilowatts(number: Union[Number, str]) -> Kilowatts:
     """A power of a case's file, in megawatts there, as whole kilowatts."""
-    return rounded(number, 3)
+    return Kilowatts(rounded(number, 3))
 
 
-def millionths(number):
+def millionths(number: Union[Number, str]) -> Millionths:
     """An amount of money of a case's file as whole millionths of the currency."""
-    return rounded(number, 6)
+    return Millionths(rounded(number, 6))
 
 
-def price(number):
+def price(number: Union[Number, str]) -> MillionthsPerKilowatt:
     """A price of a file, in currency per MW and period, as millionths per kilowatt and period."""
-    return rounded(number, 3)
+    return MillionthsPerKilowatt(rounded(number, 3))
 
 
-def is_whole(number):
+def in_currency(amount: Millionths) -> Decimal:
+    """An amount in the currency of the case, exact: 164000000 is 164."""
+    return Decimal(decimal_text(amount, 6))
+
+
+def in_megawatts(power: Kilowatts) -> Decimal:
+    """A power in megawatts, exact: 8500 is 8.5."""
+    return Decimal(decimal_text(power, 3))
+
+
+def in_currency_per_mw(price: MillionthsPerKilowatt) -> Decimal:
+    """A price in the currency per MW and period, which is per MWh where a period is an hour, exact: 98500 is 98.5."""
+    return Decimal(decimal_text(price, 3))
+
+
+def is_whole(number: Number) -> bool:
     """Whether the number of a file has a whole value, as 8 and 8.0 have."""
     return Decimal(number) == Decimal(number).to_integral_value() if abs(Decimal(number)) < 10**20 else True
 
 
-def decimal_text(number, places):
+def decimal_text(number: int, places: int) -> str:
     """number / 10^places, exactly, without zeros at the end: 98000 with 3 places is 98."""
     sign, number = "-" if number < 0 else "", abs(number)
     whole, rest = divmod(number, 10**places)
     return f"{sign}{whole}" + (f".{rest:0{places}}".rstrip("0") if rest else "")
 
 
-def money(number):
+def money(number: int) -> str:
     """Millionths as the currency with two digits behind the point, for people."""
     cents = (abs(number) + 5_000) // 10_000
     return f"{'-' if number < 0 and cents else ''}{cents // 100:,}.{cents % 100:02}"
 
 
-def per_mwh(number):
+def per_mwh(number: int) -> str:
     """A price in millionths per kilowatt, for people, per MW and period."""
     return f"{number / 1000:,.3f}"

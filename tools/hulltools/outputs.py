@@ -2,15 +2,27 @@
 
 A line ends at a line feed and at nothing else, so a name may hold any other character.
 """
+from __future__ import annotations
+
 import json
 import re
+from collections.abc import Iterable, Sequence
 from dataclasses import dataclass, field
+from typing import TYPE_CHECKING, Any, Callable, ClassVar, Optional, SupportsFloat, Union, cast
 
-from .errors import HullError, one_line, read_bytes, shown_name
+from .errors import HullError, Name, one_line, read_bytes, shown_name
 from .mixtures import MOST_WEIGHT, Entry, Mixture
+from .numbers import Kilowatts, Millionths, MillionthsPerKilowatt
 from .prices import Prices
 from .schedules import Plan
 
+if TYPE_CHECKING:
+    from pandas import DataFrame
+
+    from .inputs import GivenCase, GivenSchedule
+    from .tables import Start, Table
+
+Range = tuple[int, int]  # the least and the greatest number
 COUNT = (0, 2**32 - 1)
 MONEY = (-(2**63), 2**63 - 1)
 SUM = (-(2**127), 2**127 - 1)
@@ -27,11 +39,11 @@ class Row:
     """Prices of a proposal or of a settlement, with their dual value and the totals of the best responses."""
 
     number: int
-    value: int
-    energy: list
-    reserve: list
-    supplied: list
-    reserved: list
+    value: Millionths
+    energy: list[MillionthsPerKilowatt]
+    reserve: list[MillionthsPerKilowatt]
+    supplied: list[Kilowatts]
+    reserved: list[Kilowatts]
 
 
 @dataclass
@@ -40,38 +52,76 @@ class Owed:
 
     kind: str
     name: str
-    earned: int
-    scheduled: int
-    payment: int
-    on: list = field(default_factory=list)
-    power: list = field(default_factory=list)
-    reserve: list = field(default_factory=list)
+    earned: Millionths
+    scheduled: Millionths
+    payment: Millionths
+    on: list[int] = field(default_factory=list)
+    power: list[Kilowatts] = field(default_factory=list)
+    reserve: list[Kilowatts] = field(default_factory=list)
 
     @property
-    def make_whole(self):
+    def make_whole(self) -> Millionths:
         """The part of the payment that makes a loss in the schedule good: up to 0, or up to the least loss that the unit can have."""
-        return min(self.payment, max(0, -self.scheduled))
+        return Millionths(min(self.payment, max(0, -self.scheduled)))
 
     @property
-    def lost_opportunity(self):
+    def lost_opportunity(self) -> Millionths:
         """The rest of the payment: the profit that the unit forgoes."""
-        return self.payment - self.make_whole
+        return Millionths(self.payment - self.make_whole)
 
 
 class Text:
     """What every text of `hull` can be turned into."""
 
-    def tables(self, case=None, schedule=None, currency=True):
-        """The tables of the text by name; demand, requirement and the schedule stand beside where they are given."""
+    command: ClassVar[str]
+    name: str
+
+    def tables(
+        self,
+        case: Optional[GivenCase] = None,
+        schedule: Optional[GivenSchedule] = None,
+        currency: bool = True,
+    ) -> dict[str, Table]:
+        """The tables of the text by name, in the currency and MW, or in millionths and kilowatts as the text has them.
+
+        Demand, requirement and the schedule stand beside where case and schedule are given.
+        """
+        from .inputs import as_beside
         from .tables import tables_of
 
-        return tables_of([self], case, schedule, currency)
+        return tables_of([self], *as_beside(case, schedule), currency)
 
-    def frames(self, case=None, schedule=None, currency=True, start=None, hours_per_period=1):
-        """The same as data frames of pandas; with a start, tables by period are indexed by time."""
-        from .tables import frames_of
+    def frames(
+        self,
+        case: Optional[GivenCase] = None,
+        schedule: Optional[GivenSchedule] = None,
+        currency: bool = True,
+        start: Optional[Start] = None,
+        hours_per_period: SupportsFloat = 1,
+    ) -> dict[str, DataFrame]:
+        """The same as data frames of pandas; with a start, tables by period are indexed by time.
 
-        return frames_of(self.tables(case, schedule, currency), start, hours_per_period)
+        Raises `HullError` where pandas isn't there.
+        """
+        return frames([self], case, schedule, currency, start, hours_per_period)
+
+
+def frames(
+    texts: Iterable[Text],
+    case: Optional[GivenCase] = None,
+    schedule: Optional[GivenSchedule] = None,
+    currency: bool = True,
+    start: Optional[Start] = None,
+    hours_per_period: SupportsFloat = 1,
+) -> dict[str, DataFrame]:
+    """Data frames of several texts by name, whose rows have the name of their text in the column `report`.
+
+    Numbers are floating, in the currency and MW, or whole, in millionths and kilowatts. Raises `HullError` where pandas isn't there.
+    """
+    from .inputs import as_beside
+    from .tables import frames_of, tables_of
+
+    return frames_of(tables_of(texts, *as_beside(case, schedule), currency), start, hours_per_period)
 
 
 @dataclass
@@ -80,20 +130,25 @@ class Priced(Text):
 
     name: str
     periods: int
-    cost: int
+    cost: Millionths
     best: Row
-    units: list
-    surplus: int
-    payments: int
-    gap: int
+    units: list[Owed]
+    surplus: Millionths
+    payments: Millionths
+    gap: Millionths
 
     @property
-    def prices(self):
+    def prices(self) -> Prices:
         return Prices(self.best.energy, self.best.reserve)
 
     @property
-    def make_whole(self):
-        return sum(it.make_whole for it in self.units)
+    def value(self) -> Millionths:
+        """The dual value of the prices."""
+        return self.best.value
+
+    @property
+    def make_whole(self) -> Millionths:
+        return Millionths(sum(unit.make_whole for unit in self.units))
 
 
 @dataclass
@@ -103,10 +158,10 @@ class Report(Priced):
     command = "price"
     budget: int
     ahead: int
-    proposals: list
+    proposals: list[Row]
 
     @property
-    def chosen(self):
+    def chosen(self) -> int:
         return self.best.number
 
 
@@ -117,7 +172,7 @@ class Settlement(Priced):
     command = "settle"
 
     @property
-    def proposals(self):
+    def proposals(self) -> list[Row]:
         return [self.best]
 
 
@@ -126,21 +181,20 @@ class Convex(Priced):
     """The text of `hull convex`: prices with their settlement, and the mixture that bounds the dual value of all prices."""
 
     command = "convex"
-    within: int
+    within: Millionths
     rounds: int
     made: int
     mixture: Mixture
-    bound: int
-    distance: int
-    least: int
+    bound: Millionths
+    distance: Millionths
+    least: Millionths
 
     @property
-    def value(self) -> int:
-        return self.best.value
-
-    @property
-    def proposals(self):
+    def proposals(self) -> list[Row]:
         return [self.best]
+
+
+AnyPriced = Union[Report, Settlement, Convex]
 
 
 @dataclass
@@ -151,12 +205,12 @@ class Bound(Text):
     name: str
     proposals: int
     chosen: int
-    value: int
-    radius: int
+    value: Millionths
+    radius: MillionthsPerKilowatt
     first: int
     last: int
-    bound: int
-    distance: int
+    bound: Millionths
+    distance: Millionths
 
 
 @dataclass
@@ -165,10 +219,10 @@ class Side:
 
     proposals: int
     chosen: int
-    value: int
-    prices: Prices = None
-    payments: int = 0
-    surplus: int = 0
+    value: Millionths
+    prices: Prices
+    payments: Millionths = Millionths(0)
+    surplus: Millionths = Millionths(0)
 
 
 @dataclass
@@ -179,8 +233,8 @@ class Fixed(Text):
     name: str
     hull: Side
     fixed: Side
-    units: list
-    cost: int
+    units: list[tuple[str, str, Millionths, Millionths]]
+    cost: Millionths
 
 
 @dataclass
@@ -191,18 +245,18 @@ class Certificate(Text):
     name: str
     periods: int
     units: int
-    cost: int
-    value: int
-    surplus: int
-    payments: int
-    gap: int
-    radius: int
-    bound: int
-    distance: int
-    least: int
+    cost: Millionths
+    value: Millionths
+    surplus: Millionths
+    payments: Millionths
+    gap: Millionths
+    radius: MillionthsPerKilowatt
+    bound: Millionths
+    distance: Millionths
+    least: Millionths
 
 
-def numbers_of(text):
+def numbers_of(text: str) -> Optional[list[int]]:
     """The numbers of a list, or None where one isn't in form, as +1, 01 and -0 aren't."""
     try:
         found = [int(it) for it in text.split(" ")] if len(text) < 10_000 else None
@@ -214,14 +268,14 @@ def numbers_of(text):
 class Lines:
     """The lines of a text, taken one by one, each with the form and the ranges that are due there."""
 
-    def __init__(self, name, data, what):
+    def __init__(self, name: Name, data: bytes, what: str) -> None:
         self.name, self.what, self.read = shown_name(name), what, 0
         *self.whole, self.rest = data.split(b"\n")
 
-    def wrong(self, more=""):
+    def wrong(self, more: str = "") -> HullError:
         return HullError(f"{self.name}, line {self.read + 1}: not a line of {self.what}{more}")
 
-    def next(self):
+    def next(self) -> Optional[str]:
         """The next line as a text, or None where there is no whole one."""
         if self.read >= len(self.whole):
             return None
@@ -230,13 +284,13 @@ class Lines:
         except UnicodeDecodeError:
             raise self.wrong(": it isn't UTF-8") from None
 
-    def take(self, pattern, *ranges):
+    def take(self, pattern: str, *ranges: Range) -> list[Any]:
         """The groups of the next line; the last of them are numbers within the ranges, and come as such."""
         line = self.next()
         found = re.fullmatch(pattern, line) if line is not None else None
         if not found:
             raise self.wrong()
-        groups = list(found.groups())
+        groups: list[Any] = list(found.groups())
         for place, (low, high) in enumerate(ranges, len(groups) - len(ranges)):
             groups[place] = int(groups[place])
             if not low <= groups[place] <= high:
@@ -244,10 +298,14 @@ class Lines:
         self.read += 1
         return groups
 
-    def number(self, word, low, high):
-        return self.take(f"{word} {NUMBER}", (low, high))[0]
+    def number(self, word: str, low: int, high: int) -> int:
+        found: int = self.take(f"{word} {NUMBER}", (low, high))[0]
+        return found
 
-    def numbers(self, word, length, low, high):
+    def amount(self, word: str) -> Millionths:
+        return Millionths(self.number(word, *SUM))
+
+    def numbers(self, word: str, length: int, low: int, high: int) -> list[int]:
         line = self.next()
         if line is None or not line.startswith(f"{word} "):
             raise self.wrong()
@@ -260,81 +318,89 @@ class Lines:
         self.read += 1
         return found
 
-    def end(self):
+    def powers(self, word: str, length: int, limits: Range = COUNT) -> list[Kilowatts]:
+        return cast("list[Kilowatts]", self.numbers(word, length, *limits))
+
+    def prices(self, word: str, length: int, least: int) -> list[MillionthsPerKilowatt]:
+        return cast("list[MillionthsPerKilowatt]", self.numbers(word, length, least, PRICE))
+
+    def end(self) -> None:
         self.take("end")
         if self.read < len(self.whole) or self.rest:
             raise self.wrong(": the text ended above")
 
 
-def name_of(text):
-    return json.loads(text)
+def name_of(text: str) -> str:
+    return str(json.loads(text))
 
 
-def read_lists(lines, periods):
-    energy = lines.numbers("energy", periods, -PRICE, PRICE)
-    reserve = lines.numbers("reserve", periods, 0, PRICE)
-    return [energy, reserve, *(lines.numbers(it, periods, *SUM) for it in ("supplied", "reserved"))]
+def read_row(lines: Lines, number: int, value: Millionths, periods: int) -> Row:
+    energy, reserve = lines.prices("energy", periods, -PRICE), lines.prices("reserve", periods, 0)
+    supplied, reserved = (lines.powers(word, periods, SUM) for word in ("supplied", "reserved"))
+    return Row(number, value, energy, reserve, supplied, reserved)
 
 
-def read_units(lines, count, periods):
-    units, least = [], 0
+def read_units(lines: Lines, count: int, periods: int) -> list[Owed]:
+    units: list[Owed] = []
+    least = 0
     for _ in range(count):
         owed = "".join(f" {it} {NUMBER}" for it in ("earned", "scheduled", "payment"))
         kind, name, *sums = lines.take(f"unit ({'|'.join(KINDS[least:])}) ({NAME}){owed}", MONEY, MONEY, MONEY)
         least = KINDS.index(kind)
         unit = Owed(kind, name_of(name), *sums)
         unit.on = lines.numbers("on", periods, 0, 1) if kind == "thermal" else [1] * periods
-        unit.power = lines.numbers("power", periods, *COUNT)
-        unit.reserve = lines.numbers("reserve", periods, *COUNT) if kind == "thermal" else [0] * periods
+        unit.power = lines.powers("power", periods)
+        unit.reserve = lines.powers("reserve", periods) if kind == "thermal" else [Kilowatts(0)] * periods
         units.append(unit)
     return units
 
 
-def read_head(lines):
+def read_head(lines: Lines) -> tuple[int, int]:
     return lines.number("periods", 1, 168), lines.number("units", 1, 12_288)
 
 
-def read_sums(lines):
-    sums = [lines.number(it, *SUM) for it in ("surplus", "payments", "gap")]
-    lines.end()
-    return sums
+def read_sums(lines: Lines) -> tuple[Millionths, Millionths, Millionths]:
+    """Surplus, payments and gap."""
+    return lines.amount("surplus"), lines.amount("payments"), lines.amount("gap")
 
 
-def read_report(lines):
+def read_report(lines: Lines) -> Report:
     lines.take("hull-report 1")
     periods, count = read_head(lines)
     budget, ahead = lines.number("budget", 1, 10_000), lines.number("ahead", 1, 16)
-    cost = lines.number("cost", *SUM)
-    rows = []
+    cost = lines.amount("cost")
+    rows: list[Row] = []
     for number in range(1, lines.number("proposals", 1, COUNT[1]) + 1):
         (value,) = lines.take(f"proposal {number} value {NUMBER}", SUM)
-        rows.append(Row(number, value, *read_lists(lines, periods)))
+        rows.append(read_row(lines, number, value, periods))
     chosen, value = lines.take(f"chosen {NUMBER} value {NUMBER}", COUNT, SUM)
     if not 1 <= chosen <= len(rows):
         raise HullError(f"{lines.name}, line {lines.read}: there is no proposal {chosen}")
     if rows[chosen - 1].value != value:
         raise HullError(f"{lines.name}, line {lines.read}: proposal {chosen} has another value")
-    units = read_units(lines, count, periods)
-    return Report(lines.name, periods, cost, rows[chosen - 1], units, *read_sums(lines), budget, ahead, rows)
+    units, sums = read_units(lines, count, periods), read_sums(lines)
+    lines.end()
+    return Report(lines.name, periods, cost, rows[chosen - 1], units, *sums, budget, ahead, rows)
 
 
-def read_settlement(lines):
+def read_settlement(lines: Lines) -> Settlement:
     lines.take("hull-settlement 1")
     periods, count = read_head(lines)
-    cost, value = lines.number("cost", *SUM), lines.number("value", *SUM)
-    row = Row(1, value, *read_lists(lines, periods))
-    units = read_units(lines, count, periods)
-    return Settlement(lines.name, periods, cost, row, units, *read_sums(lines))
+    cost, value = lines.amount("cost"), lines.amount("value")
+    row = read_row(lines, 1, value, periods)
+    units, sums = read_units(lines, count, periods), read_sums(lines)
+    lines.end()
+    return Settlement(lines.name, periods, cost, row, units, *sums)
 
 
-def read_entry(lines, weight, periods):
+def read_entry(lines: Lines, weight: int, periods: int) -> Entry:
     """An entry of a mixture: its share, and a schedule of the unit."""
     share = lines.number("share", 0, weight)
     on = lines.numbers("on", periods, 0, 1)
-    return Entry(share, Plan(on, lines.numbers("power", periods, *COUNT), lines.numbers("reserve", periods, *COUNT)))
+    return Entry(share, Plan(on, lines.powers("power", periods), lines.powers("reserve", periods)))
 
 
-def read_mixture_lines(lines, names, periods):
+def read_mixture_lines(lines: Lines, names: list[str], periods: int) -> Mixture:
     """The mixture, which has entries of each thermal unit, in order, whose shares sum to the weight."""
     weight = lines.number("weight", 1, MOST_WEIGHT)
     thermal = {}
@@ -348,61 +414,69 @@ def read_mixture_lines(lines, names, periods):
     return Mixture(weight, thermal)
 
 
-def read_convex(lines):
+def read_convex(lines: Lines) -> Convex:
     lines.take("hull-convex 1")
     periods, count = read_head(lines)
-    cost = lines.number("cost", *SUM)
-    asked = lines.number("within", 0, WITHIN), lines.number("rounds", 1, ROUNDS), lines.number("made", 0, ROUNDS)
-    row = Row(1, lines.number("value", *SUM), *read_lists(lines, periods))
-    units = read_units(lines, count, periods)
-    sums = [lines.number(it, *SUM) for it in ("surplus", "payments", "gap")]
+    cost = lines.amount("cost")
+    within = Millionths(lines.number("within", 0, WITHIN))
+    rounds, made = lines.number("rounds", 1, ROUNDS), lines.number("made", 0, ROUNDS)
+    row = read_row(lines, 1, lines.amount("value"), periods)
+    units, sums = read_units(lines, count, periods), read_sums(lines)
     mixture = read_mixture_lines(lines, [unit.name for unit in units if unit.kind == "thermal"], periods)
-    bounds = [lines.number(it, *SUM) for it in ("bound", "distance", "least")]
+    bound, distance, least = lines.amount("bound"), lines.amount("distance"), lines.amount("least")
     lines.end()
-    return Convex(lines.name, periods, cost, row, units, *sums, *asked, mixture, *bounds)
+    return Convex(lines.name, periods, cost, row, units, *sums, within, rounds, made, mixture, bound, distance, least)
 
 
-def read_bound(lines):
+def read_bound(lines: Lines) -> Bound:
     lines.take("hull-bound 1")
     proposals = lines.number("proposals", 1, COUNT[1])
     chosen, value = lines.take(f"chosen {NUMBER} value {NUMBER}", COUNT, SUM)
-    radius = lines.number("radius", *RADIUS)
+    radius = MillionthsPerKilowatt(lines.number("radius", *RADIUS))
     first, last = lines.take(f"certificate first {NUMBER} last {NUMBER}", COUNT, COUNT)
-    bound, distance = lines.number("bound", *SUM), lines.number("distance", *SUM)
+    bound, distance = lines.amount("bound"), lines.amount("distance")
     lines.end()
     return Bound(lines.name, proposals, chosen, value, radius, first, last, bound, distance)
 
 
-def read_fixed(lines):
+def read_side_prices(lines: Lines, word: str, periods: int) -> Prices:
+    energy = lines.prices(f"{word} energy", periods, -PRICE)
+    return Prices(energy, lines.prices(f"{word} reserve", periods, 0))
+
+
+def read_fixed(lines: Lines) -> Fixed:
     lines.take("hull-fixed 1")
     run = f"proposals {NUMBER} chosen {NUMBER} value {NUMBER}"
-    hull, fixed = (Side(*lines.take(f"{it} {run}", COUNT, COUNT, SUM)) for it in ("hull", "fixed"))
+    runs = [lines.take(f"{word} {run}", COUNT, COUNT, SUM) for word in ("hull", "fixed")]
     periods = len((lines.next() or "").split(" ")) - 2
-    for word, side in (("hull", hull), ("fixed", fixed)):
-        energy = lines.numbers(f"{word} energy", periods, -PRICE, PRICE)
-        side.prices = Prices(energy, lines.numbers(f"{word} reserve", periods, 0, PRICE))
-    units = []
+    hull, fixed = (
+        Side(count, chosen, value, read_side_prices(lines, word, periods))
+        for (count, chosen, value), word in zip(runs, ("hull", "fixed"))
+    )
+    units: list[tuple[str, str, Millionths, Millionths]] = []
     while (lines.next() or "").startswith("unit "):
-        kind, name, *sums = lines.take(f"unit ({'|'.join(KINDS)}) ({NAME}) hull {NUMBER} fixed {NUMBER}", MONEY, MONEY)
-        units.append((kind, name_of(name), *sums))
+        form = f"unit ({'|'.join(KINDS)}) ({NAME}) hull {NUMBER} fixed {NUMBER}"
+        kind, name, of_hull, of_fixed = lines.take(form, MONEY, MONEY)
+        units.append((kind, name_of(name), of_hull, of_fixed))
     hull.payments, fixed.payments = lines.take(f"payments hull {NUMBER} fixed {NUMBER}", SUM, SUM)
     hull.surplus, fixed.surplus = lines.take(f"surplus hull {NUMBER} fixed {NUMBER}", SUM, SUM)
-    cost = lines.number("cost", *SUM)
+    cost = lines.amount("cost")
     lines.end()
     return Fixed(lines.name, hull, fixed, units, cost)
 
 
-def read_certificate(lines):
+def read_certificate(lines: Lines) -> Certificate:
     lines.take("hull-certificate 1")
-    head = read_head(lines)
-    sums = [lines.number(it, *SUM) for it in ("cost", "value", "surplus", "payments", "gap")]
-    radius = lines.number("radius", *RADIUS)
-    last = [lines.number(it, *SUM) for it in ("bound", "distance", "least")]
+    periods, units = read_head(lines)
+    cost, value, sums = lines.amount("cost"), lines.amount("value"), read_sums(lines)
+    radius = MillionthsPerKilowatt(lines.number("radius", *RADIUS))
+    bound, distance, least = lines.amount("bound"), lines.amount("distance"), lines.amount("least")
     lines.end()
-    return Certificate(lines.name, *head, *sums, radius, *last)
+    return Certificate(lines.name, periods, units, cost, value, *sums, radius, bound, distance, least)
 
 
-FORMS = {
+Output = Union[AnyPriced, Bound, Fixed, Certificate]
+FORMS: dict[str, tuple[str, Callable[[Lines], Output]]] = {
     "hull-report 1": ("a report of `hull price`", read_report),
     "hull-settlement 1": ("a text of `hull settle`", read_settlement),
     "hull-convex 1": ("a text of `hull convex`", read_convex),
@@ -412,7 +486,7 @@ FORMS = {
 }
 
 
-def parse_output(name, data, due=tuple(FORMS)):
+def parse_output(name: Name, data: bytes, due: Sequence[str] = tuple(FORMS)) -> Output:
     """The text of `hull` that these bytes are, of the forms that are due."""
     first = data.split(b"\n", 1)[0].decode("utf-8", "replace")
     if first.startswith("fault "):
@@ -425,6 +499,24 @@ def parse_output(name, data, due=tuple(FORMS)):
     return read(Lines(name, data, what))
 
 
-def read_output(name, due=tuple(FORMS)):
-    """The text of `hull` in a file."""
+def read_priced(name: Name) -> AnyPriced:
+    """The text of `hull price`, `settle` or `convex` in a file, as `read_output` reads it."""
+    return cast(AnyPriced, read_output(name, ("hull-report 1", "hull-settlement 1", "hull-convex 1")))
+
+
+def read_convex_text(name: Name) -> Convex:
+    """The text of `hull convex` in a file, as `read_output` reads it."""
+    return cast(Convex, read_output(name, ("hull-convex 1",)))
+
+
+def read_certificate_text(name: Name) -> Certificate:
+    """The text of `hull certify` in a file, as `read_output` reads it."""
+    return cast(Certificate, read_output(name, ("hull-certificate 1",)))
+
+
+def read_output(name: Name, due: Sequence[str] = tuple(FORMS)) -> Output:
+    """The text of `hull price`, `settle`, `convex`, `bound`, `fixed` or `certify` in a file, in millionths and kilowatts.
+
+    `due` are the first lines that are taken. Raises `HullError` where the text is none of these, or where `hull audit` would call it out of form.
+    """
     return parse_output(name, read_bytes(name, "a text of hull", most=2**31, begins=b"hull-"), due)

@@ -1,10 +1,14 @@
 """One HTML page of a report or a settlement, which needs nothing else."""
 import html
 import json
+from collections.abc import Iterable, Iterator, Sequence
+from typing import Optional
 
 from .charts import Chart, steps_chart
-from .numbers import decimal_text, money
+from .numbers import Kilowatts, decimal_text, money
 from .errors import HullError, one_line
+from .outputs import AnyPriced, Certificate, Convex, Owed, Report
+from .schedules import Schedule
 
 SHOWN = 25  # how many units the picture of payments names
 MOST_NUMBERS = 600_000  # how many numbers of responses a page holds
@@ -97,10 +101,11 @@ copy.addEventListener("click", async () => {
 """
 
 
-def document(title, body, scripts, data=None):
+def document(title: str, body: str, scripts: Iterable[str], data: Optional[dict[str, object]] = None) -> str:
     """A whole page. `data` is what the scripts read, as JSON by its id."""
     held = "".join(
-        f'<script type="application/json" id="{key}">{script_json(it)}</script>' for key, it in (data or {}).items()
+        f'<script type="application/json" id="{key}">{script_json(value)}</script>'
+        for key, value in (data or {}).items()
     )
     return (
         '<!doctype html>\n<html lang="en"><head><meta charset="utf-8">'
@@ -110,22 +115,22 @@ def document(title, body, scripts, data=None):
     )
 
 
-def script_json(value):
+def script_json(value: object) -> str:
     """JSON that can't end the script that holds it."""
     return json.dumps(value, separators=(",", ":")).replace("<", "\\u003c").replace("&", "\\u0026")
 
 
-def shown(name):
+def shown(name: str) -> str:
     """A name as HTML: what can't be printed, and what turns the direction, as ?; the rest by itself."""
     return f"<bdi>{html.escape(one_line(name))}</bdi>"
 
 
-def short(name):
+def short(name: str) -> str:
     name = one_line(name)
     return name if len(name) <= 22 else name[:21] + "…"
 
 
-def largest_payments(units):
+def largest_payments(units: Sequence[Owed]) -> tuple[list[Owed], str]:
     """The units that are paid most, and in words what the others get together."""
     order = sorted(units, key=lambda it: (-it.payment, it.name))
     rest = order[SHOWN:]
@@ -133,61 +138,64 @@ def largest_payments(units):
     return order[:SHOWN], told
 
 
-def payment_bars(units):
+def payment_bars(units: Sequence[Owed]) -> str:
     bars, rest = largest_payments(units)
     most = max([1, *(it.payment for it in bars)])
-    part = lambda number, style: f'<b{style} style="width:{max(0, number) / most * 100:.2f}%"></b>' if number else ""
+
+    def part(number: int, style: str) -> str:
+        return f'<b{style} style="width:{max(0, number) / most * 100:.2f}%"></b>' if number else ""
+
     row = '<div class="bar"><span><bdi>{}</bdi></span><div>{}{}</div><span>{}</span></div>'
     return (
         '<p><i class="box loss"></i>make-whole: a loss made good <i class="box"></i>lost opportunity: a profit forgone</p>'
         + "".join(
             row.format(
-                html.escape(short(it.name)),
-                part(it.make_whole, ' class="loss"'),
-                part(it.lost_opportunity, ""),
-                money(it.payment),
+                html.escape(short(unit.name)),
+                part(unit.make_whole, ' class="loss"'),
+                part(unit.lost_opportunity, ""),
+                money(unit.payment),
             )
-            for it in bars
+            for unit in bars
         )
         + f"<p>{rest}</p>"
     )
 
 
-def head_row(heads):
+def head_row(heads: Iterable[str]) -> str:
     """Heads of a table that sorts; a head that begins with * is of a text."""
     return "".join(
-        f'<th scope="col"{" class=text" if it.startswith("*") else ""}><button type="button">{it.lstrip("*")}</button></th>'
-        for it in heads
+        f'<th scope="col"{" class=text" if head.startswith("*") else ""}><button type="button">{head.lstrip("*")}</button></th>'
+        for head in heads
     )
 
 
-def number_cell(number, told):
+def number_cell(number: int, told: str) -> str:
     return f'<td data-is="{number}">{told}</td>'
 
 
-def unit_rows(units, schedule):
-    for place, it in enumerate(units):
-        sums = (it.earned, it.scheduled, it.payment, it.make_whole, it.lost_opportunity)
+def unit_rows(units: Iterable[Owed], schedule: Optional[Schedule]) -> Iterator[str]:
+    for place, unit in enumerate(units):
+        sums = (unit.earned, unit.scheduled, unit.payment, unit.make_whole, unit.lost_opportunity)
         cells = "".join(number_cell(number, money(number)) for number in sums)
-        given = [schedule.plan(it.kind, it.name).power] if schedule else []
-        cells += "".join(number_cell(sum(power), f"{sum(power) / 1000:,.3f}") for power in (it.power, *given))
+        given = [schedule.plan(unit.kind, unit.name).power] if schedule else []
+        cells += "".join(number_cell(sum(power), f"{sum(power) / 1000:,.3f}") for power in (unit.power, *given))
         yield (
-            f'<tr data-unit="{place}" tabindex="0"><td class="text">{it.kind}</td>'
-            f'<td class="text">{shown(it.name)}</td>{cells}</tr>'
+            f'<tr data-unit="{place}" tabindex="0"><td class="text">{unit.kind}</td>'
+            f'<td class="text">{shown(unit.name)}</td>{cells}</tr>'
         )
 
 
-def lists_of(priced, schedule):
+def lists_of(priced: AnyPriced, schedule: Optional[Schedule]) -> dict[int, dict[str, list[Kilowatts]]]:
     """For each unit by its place the response and the schedule, as far as the page holds them."""
     found, room = {}, MOST_NUMBERS
-    for place, it in sorted(enumerate(priced.units), key=lambda it: -it[1].payment):
-        lists = {"power": it.power}
+    for place, unit in sorted(enumerate(priced.units), key=lambda it: -it[1].payment):
+        lists = {"power": unit.power}
         if schedule:
-            lists["scheduled"] = schedule.plan(it.kind, it.name).power
-        if it.kind == "thermal":
-            lists["reserve"] = it.reserve
+            lists["scheduled"] = schedule.plan(unit.kind, unit.name).power
+        if unit.kind == "thermal":
+            lists["reserve"] = unit.reserve
             if schedule:
-                lists["scheduledReserve"] = schedule.plan(it.kind, it.name).reserve
+                lists["scheduledReserve"] = schedule.plan(unit.kind, unit.name).reserve
         room -= len(lists) * priced.periods
         if room < 0:
             break
@@ -195,7 +203,7 @@ def lists_of(priced, schedule):
     return found
 
 
-def price_part(priced):
+def price_part(priced: AnyPriced) -> str:
     rows = [("chosen", priced.best)]
     if priced.command == "price" and priced.proposals[0] is not priced.best:
         rows.insert(0, ("first", priced.proposals[0]))
@@ -208,7 +216,7 @@ def price_part(priced):
     return f"<h2>Prices by period</h2><p>{key}</p>" + steps_chart("Prices by period", series, priced.periods)
 
 
-def value_part(report):
+def value_part(report: Report) -> str:
     values = [it.value / 1e6 for it in report.proposals]
     cost = report.cost / 1e6
     chart = Chart("Dual value by proposal", min(*values, cost), max(*values, cost), 1, len(values))
@@ -222,10 +230,10 @@ def value_part(report):
     return f"<h2>Dual value by proposal</h2><p>{key}</p>{chart.svg()}"
 
 
-def nearness(priced, certificate):
+def nearness(priced: AnyPriced, certificate: Optional[Certificate]) -> str:
     """In one sentence how near the prices are to the best, as far as something says so."""
     gap = money(priced.gap)
-    if certificate is None and priced.command == "convex":
+    if certificate is None and isinstance(priced, Convex):
         return (
             f"No prices need less than {money(priced.least)} of payments and surplus for this schedule; these need {gap}, and their dual value is "
             f"within {money(priced.distance)} of the greatest."
@@ -244,7 +252,7 @@ def nearness(priced, certificate):
     )
 
 
-def sums_part(priced):
+def sums_part(priced: AnyPriced) -> str:
     lost = priced.payments - priced.make_whole
     rows = [
         ("Cost of the schedule", priced.cost),
@@ -266,9 +274,9 @@ TITLES = {
 HEADS = ("*Kind", "*Name", "Earned", "Scheduled", "Payment", "Make-whole", "Lost opportunity", "Response, MW periods")
 
 
-def page_of(priced, schedule=None, certificate=None):
+def page_of(priced: AnyPriced, schedule: Optional[Schedule] = None, certificate: Optional[Certificate] = None) -> str:
     """The page of a report or a settlement."""
-    is_report = priced.command == "price"
+    report = priced if isinstance(priced, Report) else None
     title = TITLES[priced.command]
     rows = "\n".join(unit_rows(priced.units, schedule))
     heads = (*HEADS, "Schedule, MW periods") if schedule else HEADS
@@ -279,12 +287,12 @@ def page_of(priced, schedule=None, certificate=None):
         f"{t + 1}\t{decimal_text(priced.best.energy[t], 3)}\t{decimal_text(priced.best.reserve[t], 3)}"
         for t in range(priced.periods)
     )
-    proposals = f", {len(priced.proposals)} proposals (the {priced.chosen}. is chosen)" if is_report else ""
+    proposals = f", {len(priced.proposals)} proposals (the {report.chosen}. is chosen)" if report else ""
     body = f"""<h1>{title}</h1>
 <p>{shown(priced.name)}: {len(priced.units)} units over {priced.periods} periods{proposals}. Money is in the case's currency, prices are per MW and period: per MWh where a period is an hour.</p>
 {sums_part(priced)}<p class="said">{nearness(priced, certificate)}</p>
 {price_part(priced)}
-{value_part(priced) if is_report else ""}
+{value_part(report) if report else ""}
 <h2>Payments by unit</h2><p>What each is owed for following the schedule, beyond what it earns in it; the largest first.</p>{payment_bars(priced.units)}
 <h2>Units</h2><p>A click on a head sorts by it, one on a row shows that unit. Earned: what the best response earns at the prices; scheduled: what the schedule earns at them.</p>
 <p>{picture}</p><div id="unit"></div>

@@ -2,19 +2,21 @@
 import io
 import os
 import warnings
+from typing import Any
 
 from .pages import largest_payments, short
 from .errors import HullError
+from .outputs import AnyPriced, Report
 
 
-def plain(name):
+def plain(name: str) -> str:
     """A name that matplotlib doesn't read as a formula."""
     return short(name).replace("$", r"\$")
 
 
-def draw_prices(axes, priced):
+def draw_prices(axes: Any, priced: AnyPriced) -> None:
     rows = [("prices", priced.best)]
-    if priced.command == "price":
+    if isinstance(priced, Report):
         rows = [("first proposal", priced.proposals[0]), (f"chosen (proposal {priced.chosen})", priced.best)]
     for place, (name, row) in enumerate(rows):
         is_last = place == len(rows) - 1
@@ -27,7 +29,7 @@ def draw_prices(axes, priced):
     axes.legend(fontsize="small")
 
 
-def draw_values(axes, report):
+def draw_values(axes: Any, report: Report) -> None:
     numbers = [it.number for it in report.proposals]
     axes.axhline(report.cost / 1e6, color="tab:red", label="cost of the schedule")
     axes.plot(numbers, [it.value / 1e6 for it in report.proposals], ".-", color="tab:blue", label="dual value")
@@ -37,7 +39,7 @@ def draw_values(axes, report):
     axes.ticklabel_format(style="plain", axis="y", useOffset=False)
 
 
-def draw_payments(axes, priced):
+def draw_payments(axes: Any, priced: AnyPriced) -> None:
     shown, rest = largest_payments(priced.units)
     places, whole = range(len(shown)), [it.make_whole / 1e6 for it in shown]
     lost = [it.lost_opportunity / 1e6 for it in shown]
@@ -48,7 +50,7 @@ def draw_payments(axes, priced):
     axes.legend(fontsize="small")
 
 
-def picture_of(priced, name):
+def picture_of(priced: AnyPriced, name: str) -> bytes:
     """The bytes of a picture in the form that the name's end says."""
     try:
         import matplotlib
@@ -57,10 +59,13 @@ def picture_of(priced, name):
     matplotlib.use("Agg")
     import matplotlib.pyplot as plt
 
-    parts = [draw_prices, draw_values, draw_payments] if priced.command == "price" else [draw_prices, draw_payments]
-    figure, axes = plt.subplots(len(parts), 1, figsize=(9, 4 * len(parts)), constrained_layout=True)
-    for draw, it in zip(parts, axes):
-        draw(it, priced)
+    report = priced if isinstance(priced, Report) else None
+    count = 3 if report else 2
+    figure, axes = plt.subplots(count, 1, figsize=(9, 4 * count), constrained_layout=True)
+    draw_prices(axes[0], priced)
+    if report:
+        draw_values(axes[1], report)
+    draw_payments(axes[-1], priced)
     into = io.BytesIO()
     try:
         # (a letter that the font hasn't is drawn as a box, and isn't told)

@@ -1,52 +1,56 @@
 """A prices file: an energy price and a reserve price for each period, in millionths per kilowatt here."""
+from collections.abc import Iterable, Sequence
 from dataclasses import dataclass
+from typing import Any, Optional
 
 from .json_texts import is_number, read_json
-from .numbers import PRICE_LIMIT, decimal_text, price
-from .errors import HullError, write_whole
+from .numbers import decimal_text, MillionthsPerKilowatt, price, PRICE_LIMIT
+from .errors import HullError, Name, write_whole
 
 
 @dataclass
 class Prices:
     """Energy and reserve prices of each period, in millionths per kilowatt and period."""
 
-    energy: list
-    reserve: list
+    energy: list[MillionthsPerKilowatt]
+    reserve: list[MillionthsPerKilowatt]
 
-    def text(self):
+    def text(self) -> str:
         """The file: prices in currency per MW and period, exact."""
         rows = (
             f'"{key}": [{", ".join(decimal_text(it, 3) for it in getattr(self, key))}]' for key in ("energy", "reserve")
         )
         return "{" + ", ".join(rows) + "}\n"
 
-    def write(self, name, inputs=()):
+    def write(self, name: str, inputs: Sequence[str] = ()) -> None:
         write_whole(name, self.text(), inputs)
 
 
-def within_limits(number, least):
-    return int(min(max(number, least), PRICE_LIMIT))
+def within_limits(number: int, least: int) -> MillionthsPerKilowatt:
+    return MillionthsPerKilowatt(int(min(max(number, least), PRICE_LIMIT)))
 
 
-def prices_near(energy, reserve):
-    """The whole prices nearest to some in millionths per kilowatt, within the limits."""
+def prices_near(energy: Iterable[float], reserve: Iterable[float]) -> Prices:
+    """The whole prices nearest to some in millionths per kilowatt, within the limits of docs/FORMATS.md: up to 10,000.00 per MWh either way,
+    and none below 0 for reserve. Each has a number for each period.
+    """
     return Prices(
         [within_limits(round(it), -PRICE_LIMIT) for it in energy], [within_limits(round(it), 0) for it in reserve]
     )
 
 
-def list_of(name, key, value, periods, least):
+def list_of(name: Name, key: str, value: Any, periods: Optional[int], least: int) -> list[MillionthsPerKilowatt]:
     if not isinstance(value, list) or periods is not None and len(value) != periods:
         raise HullError(f"{name}: {key} isn't a list of a price for each period")
-    for t, it in enumerate(value, 1):
-        if not is_number(it) or not least <= price(it) <= PRICE_LIMIT:
+    for t, given in enumerate(value, 1):
+        if not is_number(given) or not least <= price(given) <= PRICE_LIMIT:
             raise HullError(
                 f"{name}: {key} has in period {t} no price from {least // 1000:,} to {PRICE_LIMIT // 1000:,}"
             )
     return [price(it) for it in value]
 
 
-def prices_of(name, value, periods=None):
+def prices_of(name: Name, value: Any, periods: Optional[int] = None) -> Prices:
     """The prices of a JSON value; where `periods` is None, as many as it has."""
     if not isinstance(value, dict) or "energy" not in value:
         raise HullError(f"{name}: no prices: it isn't an object with the list `energy`")
@@ -55,5 +59,10 @@ def prices_of(name, value, periods=None):
     return Prices(energy, list_of(name, "reserve", reserve, len(energy), 0))
 
 
-def read_prices(name, periods=None):
+def read_prices(name: Name, periods: Optional[int] = None) -> Prices:
+    """The prices of a file, in millionths per kilowatt and period.
+
+    Without a reserve list those are 0. Raises `HullError` where docs/FORMATS.md refuses the file, or where it hasn't a price for each of so
+    many periods, if these are given.
+    """
     return prices_of(name, read_json(name, "prices"), periods)

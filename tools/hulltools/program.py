@@ -1,4 +1,6 @@
 """Calls of `hull`: the program is found, run, and its text read."""
+from __future__ import annotations
+
 import contextlib
 import hashlib
 import json
@@ -7,18 +9,32 @@ import re
 import shutil
 import subprocess
 import tempfile
-from typing import Optional
+from collections.abc import Sequence
+from types import TracebackType
+from typing import Any, Optional, Protocol, Type, Union, cast
 
-from .errors import HullError, one_line
-from .numbers import millionths
-from .outputs import parse_output
+from .apart import OverTime, die_with_parent
+from .errors import HullError, Name, Tell, one_line
+from .numbers import Millionths, millionths
+from .outputs import Certificate, Convex, Report, Settlement, parse_output
+from .progress import step
 from .refusals import refusal
 
 MOST_WORK = 50_000_000  # proposals times units times periods that `hull price` takes
 HOME = os.path.dirname(os.path.dirname(os.path.dirname(os.path.abspath(__file__))))
 
 
-def default_program():
+class WithText(Protocol):
+    """An object of this package that a file holds."""
+
+    def text(self) -> str:
+        ...
+
+
+Given = Union[Name, dict[str, Any], WithText]  # a file's name, or what a file is to hold
+
+
+def default_program() -> str:
     """The program to call: $HULL, the launcher of the repository or release that these tools stand in, or `hull` on the path."""
     launcher = os.path.join(HOME, "hull")
     if os.environ.get("HULL"):
@@ -35,18 +51,19 @@ def default_program():
 class Hull:
     """The program. Each call gives what it prints, read; HullError where it refuses.
 
-    A case, a schedule, prices and a mixture are names of files, objects of this package, or dicts as the files have them.
+    A case, a schedule, prices and a mixture are names of files, objects of this package, or dicts as the files have them. A call that takes
+    longer than so many seconds is ended; where these are None a call ends by what it has to do, which the case and its words limit.
     """
 
-    def __init__(self, program=None, tell=None):
+    def __init__(self, program: Optional[str] = None, tell: Optional[Tell] = None, seconds: Optional[float] = None):
         self.program = program or default_program()
-        self.commands = {}
-        self.tell = tell or (lambda text: None)
+        self.commands: dict[str, bool] = {}
+        self.tell: Tell = tell or (lambda text: None)
+        self.seconds = seconds
         self.told = False
-        self.apart = False  # (whether calls don't hear an interrupt that is for the tool)
         self.last_text = b""
 
-    def say_if_unbuilt(self):
+    def say_if_unbuilt(self) -> None:
         """A launcher whose program isn't there builds it, and says on standard error how far it is."""
         home = os.path.dirname(os.path.realpath(self.program))
         programs = ("crates/hull_cli/out/hull_cli", "dist/linux-x86_64/hull")
@@ -55,23 +72,28 @@ class Hull:
             self.tell("the program isn't built yet: ./hull proves and builds it first, and says how far it is")
         self.told = True
 
-    def run(self, *words):
+    def run(self, *words: str) -> tuple[int, bytes]:
         """Status and standard output."""
         self.say_if_unbuilt()
+        what = " ".join(["hull", *words[:1]])
         try:
-            # (in a session of its own: an interrupt is for the tool, which may want what the program says, and has words of its own for it)
-            ran = subprocess.run(
-                [self.program, *words],
-                stdin=subprocess.DEVNULL,
-                stdout=subprocess.PIPE,
-                start_new_session=self.apart,
-                env={"HULL_EXPLAIN": "0", **os.environ},
-            )
+            with step(what):
+                # (however the tool ends, what it called ends with it)
+                ran = subprocess.run(
+                    [self.program, *words],
+                    stdin=subprocess.DEVNULL,
+                    stdout=subprocess.PIPE,
+                    preexec_fn=die_with_parent,
+                    timeout=self.seconds,
+                    env={"HULL_EXPLAIN": "0", **os.environ},
+                )
+        except subprocess.TimeoutExpired:
+            raise OverTime(f"the outer limit of {self.seconds:g} s is over: {what}") from None
         except (OSError, ValueError) as error:
             raise HullError(f"{self.program}: {getattr(error, 'strerror', None) or error}") from None
         return ran.returncode, ran.stdout
 
-    def text(self, *words):
+    def text(self, *words: str) -> bytes:
         """What the program prints with status 0."""
         status, output = self.run(*words)
         if status:
@@ -79,17 +101,17 @@ class Hull:
         self.last_text = output
         return output
 
-    def has(self, command):
+    def has(self, command: str) -> bool:
         """Whether the program has the command: it refuses one that it hasn't by its first word."""
         if command not in self.commands:
             self.commands[command] = self.run(command)[1] != b"fault 1 words 2 1\n"
         return self.commands[command]
 
-    def need(self, command):
+    def need(self, command: str) -> None:
         if not self.has(command):
             raise HullError(f"{self.program} has no command `{command}`: a newer program is needed")
 
-    def version(self):
+    def version(self) -> str:
         """What `hull version` says, in one line; a program without its launcher is told by its contents."""
         status, output = self.run("version")
         if status == 0 and output.startswith(b"hull "):
@@ -98,20 +120,20 @@ class Hull:
         with open(place, "rb") as file:
             return f"program of sha256 {hashlib.sha256(file.read()).hexdigest()}"
 
-    def check(self, case, schedule):
+    def check(self, case: Given, schedule: Given) -> Millionths:
         """The schedule's cost in millionths; HullError where it isn't feasible."""
         with as_file(case) as case_name, as_file(schedule) as schedule_name:
             output = self.text("check", "--case", case_name, "--schedule", schedule_name).decode("utf-8", "replace")
         return self.cost_of(output)
 
-    def cost_of(self, output: str) -> int:
+    def cost_of(self, output: str) -> Millionths:
         """The cost that a text of `hull check` says."""
         found = re.fullmatch(r"hull-check 1\n[^\n]+\ncost (-?\d{1,39})\nfeasible\n", output)
         if not found:
             raise HullError(f"{self.program} ended with status 0, but printed no text of hull check")
-        return int(found[1])
+        return Millionths(int(found[1]))
 
-    def refusal_of_case(self, case):
+    def refusal_of_case(self, case: str) -> Optional[str]:
         """Why the case is refused, or None: an empty schedule is refused after the case."""
         status, output = self.run("check", "--case", case, "--schedule", os.devnull)
         line = one_line(output.decode("utf-8", "replace").strip())
@@ -119,50 +141,53 @@ class Hull:
             raise HullError(f"hull check ended with status {status}, and with no line that says why")
         return line if status not in (0, 4) else None
 
-    def price(self, case, schedule, *more):
+    def price(self, case: Given, schedule: Given, *more: str) -> Report:
         with as_file(case) as case_name, as_file(schedule) as schedule_name:
             output = self.text("price", "--case", case_name, "--schedule", schedule_name, *more)
-        return parse_output("hull price", output, ("hull-report 1",))
+        return cast(Report, parse_output("hull price", output, ("hull-report 1",)))
 
-    def settle(self, case, schedule, prices):
+    def settle(self, case: Given, schedule: Given, prices: Given) -> Settlement:
         """The settlement at a prices file, or at `Prices`."""
         self.need("settle")
         with as_file(case) as case_name, as_file(schedule) as schedule_name, as_file(prices) as name:
             output = self.text("settle", "--case", case_name, "--schedule", schedule_name, "--prices", name)
-        return parse_output("hull settle", output, ("hull-settlement 1",))
+        return cast(Settlement, parse_output("hull settle", output, ("hull-settlement 1",)))
 
-    def certify(self, case, schedule, prices, mixture, *more):
+    def certify(self, case: Given, schedule: Given, prices: Given, mixture: Given, *more: str) -> Certificate:
         """The certificate of prices and a mixture."""
         self.need("certify")
         given = {"case": case, "schedule": schedule, "prices": prices, "mixture": mixture}
         with contextlib.ExitStack() as files:
             names = [(f"--{key}", files.enter_context(as_file(it))) for key, it in given.items()]
             output = self.text("certify", *(word for pair in names for word in pair), *more)
-        return parse_output("hull certify", output, ("hull-certificate 1",))
+        return cast(Certificate, parse_output("hull certify", output, ("hull-certificate 1",)))
 
-    def convex(self, case, schedule, within=None, rounds=None):
+    def convex(
+        self, case: Given, schedule: Given, within: Optional[float] = None, rounds: Optional[int] = None
+    ) -> Convex:
         """Convex hull prices, their settlement, and the mixture that bounds the dual value; `within` is in the currency."""
         self.need("convex")
         more = [] if within is None else ["--within", str(millionths(str(within)))]
         more += [] if rounds is None else ["--rounds", str(rounds)]
         with as_file(case) as case_name, as_file(schedule) as schedule_name:
             output = self.text("convex", "--case", case_name, "--schedule", schedule_name, *more)
-        return parse_output("hull convex", output, ("hull-convex 1",))
+        return cast(Convex, parse_output("hull convex", output, ("hull-convex 1",)))
 
 
 class as_file:
     """The name of a file that holds what is given, an object or a dict, for as long as it is needed; a name stays itself."""
 
-    def __init__(self, given):
+    def __init__(self, given: Given) -> None:
         self.given, self.held = given, contextlib.ExitStack()
 
-    def __enter__(self):
-        is_dict = isinstance(self.given, dict)
-        if not is_dict and not hasattr(self.given, "text"):
-            return os.fspath(self.given)
+    def __enter__(self) -> str:
+        given = self.given
+        if isinstance(given, (str, os.PathLike)):
+            return os.fspath(given)
+        content = json.dumps(given) if isinstance(given, dict) else given.text()
         name = self.nameless() or self.named()
-        with open(name, "w", encoding="utf-8") as it:
-            it.write(json.dumps(self.given) if is_dict else self.given.text())
+        with open(name, "w", encoding="utf-8") as file:
+            file.write(content)
         return name
 
     def nameless(self) -> Optional[str]:
@@ -178,5 +203,7 @@ class as_file:
     def named(self) -> str:
         return os.path.join(self.held.enter_context(tempfile.TemporaryDirectory(prefix="hull-tools-")), "file.json")
 
-    def __exit__(self, *_):
+    def __exit__(
+        self, kind: Optional[Type[BaseException]], why: Optional[BaseException], where: Optional[TracebackType]
+    ) -> None:
         self.held.close()

@@ -1,19 +1,21 @@
 """What a result was made from and by: contents of the files, versions, the search for the schedule, the command line and the date."""
+import ctypes
 import hashlib
 import os
 import platform
 import re
 import shlex
-import subprocess
 import sys
+import tempfile
 from dataclasses import dataclass
 from datetime import datetime, timezone
-from typing import Dict, List, Optional
+from typing import Dict, List, Optional, Tuple
 
-from .errors import read_bytes
+from .apart import run_apart
+from .errors import HullError, read_bytes
 from .program import Hull
 
-SMALLEST = "from scipy.optimize import linprog; linprog([1], bounds=[(0, 1)], method='highs', options={'disp': True})"
+MOST_FOR_VERSION = 60.0  # seconds
 
 
 def sha256_of(name: str) -> str:
@@ -25,13 +27,29 @@ def scipy_version() -> str:
         import scipy
     except ImportError:
         return "none"
-    return scipy.__version__
+    return str(scipy.__version__)
+
+
+def solver_log() -> str:
+    """What the solver in SciPy prints about the smallest program; for a process whose standard output nobody reads."""
+    from scipy.optimize import linprog
+
+    with tempfile.TemporaryFile() as file:
+        os.dup2(file.fileno(), 1)
+        linprog([1], bounds=[(0, 1)], method="highs", options={"disp": True})
+        sys.stdout.flush()
+        ctypes.CDLL(None).fflush(None)
+        file.seek(0)
+        return file.read().decode("utf-8", "replace")
 
 
 def highs_version() -> str:
-    """The version of the solver in SciPy, which says it where it solves something."""
-    ran = subprocess.run([sys.executable, "-c", SMALLEST], capture_output=True, text=True, stdin=subprocess.DEVNULL)
-    found = re.search(r"HiGHS (?:version )?(\d+\.\d+\.\d+)", ran.stdout)
+    """The version of the solver in SciPy, which says it where it solves something; `unknown` where it doesn't say it in a minute."""
+    try:
+        log = run_apart(solver_log, (), "the version of HiGHS", MOST_FOR_VERSION)
+    except (HullError, RuntimeError):
+        return "unknown"
+    found = re.search(r"HiGHS (?:version )?(\d+\.\d+\.\d+)", log)
     return found.group(1) if found else "unknown"
 
 
@@ -82,12 +100,12 @@ class Provenance:
             "date": self.date,
         }
 
-    def lines(self) -> List[tuple]:
+    def lines(self) -> List[Tuple[str, str]]:
         """What a page shows: a name and a text each."""
         found = [("Case", f"{self.case_name}, sha256 {self.case_sha256}")]
-        for told, it in (("Schedule", self.schedule), ("Best schedule known", self.best_schedule)):
-            if it:
-                found.append((told, f"{os.path.basename(it.name)}, sha256 {it.sha256}; {it.made}"))
+        for told, source in (("Schedule", self.schedule), ("Best schedule known", self.best_schedule)):
+            if source:
+                found.append((told, f"{os.path.basename(source.name)}, sha256 {source.sha256}; {source.made}"))
         found.append(("Versions", ", ".join(f"{name} {it}" for name, it in self.versions.items())))
         return [*found, ("Command", self.command), ("Date", self.date)]
 

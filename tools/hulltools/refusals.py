@@ -1,6 +1,6 @@
 """What the program refuses, as an error that carries the parts of its fault line."""
 import re
-from typing import Sequence
+from typing import Optional, Sequence
 
 from .errors import HullError, one_line
 from .faults import sentence
@@ -16,12 +16,12 @@ def files_of(words: Sequence[str]) -> Files:
     return Files({option[2:]: name for option, name in pairs if option[2:] in FILES and option.startswith("--")})
 
 
-def number_behind(word: str, line: str):
+def number_behind(word: str, line: str) -> Optional[int]:
     found = re.search(rf"\b{word} (\d+)\b", line)
     return int(found.group(1)) if found else None
 
 
-def unit_of(line: str, files: Files):
+def unit_of(line: str, files: Files) -> Optional[str]:
     """The name of the unit that a fault line is told of, or None."""
     found = re.search(r"^fault \d+ (\w+) (\d+) .*\bkind (\w+) unit (\d+)", line)
     if not found or found.group(3) not in GROUPS:

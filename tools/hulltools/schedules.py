@@ -1,109 +1,130 @@
 """A schedule file: whole kilowatts. Whether the rules of the case are kept is for `hull check` to say."""
 import json
+from collections.abc import Callable, Container, Sequence
 from dataclasses import dataclass
+from typing import Any, cast
 
-from .cases import POWER
+from .cases import Case, POWER, Unit
 from .json_texts import is_number, read_json
-from .numbers import is_whole
-from .errors import HullError, one_line, write_whole
+from .numbers import is_whole, Kilowatts
+from .errors import HullError, Name, one_line, write_whole
+
+Fault = Callable[[str], HullError]  # makes the error of a text
 
 
 @dataclass
 class Plan:
     """What one unit or bid is to do: an on flag, a power and a reserve for each period, in kilowatts."""
 
-    on: list
-    power: list
-    reserve: list
+    on: list[int]
+    power: list[Kilowatts]
+    reserve: list[Kilowatts]
 
 
-def flat_plan(power):
+def flat_plan(power: list[Kilowatts]) -> Plan:
     """The plan of a renewable unit or a bid, which is always on and keeps no reserve."""
-    return Plan([1] * len(power), power, [0] * len(power))
+    return Plan([1] * len(power), power, [Kilowatts(0)] * len(power))
 
 
 @dataclass
 class Schedule:
     """A plan for each unit and bid, by kind and name."""
 
-    plans: dict
+    plans: dict[tuple[str, str], Plan]
 
-    def plan(self, kind, name):
+    def plan(self, kind: str, name: str) -> Plan:
         return self.plans[kind, name]
 
-    def as_json(self):
-        found = {"thermal": {}, "renewable": {}}
-        for (kind, name), it in self.plans.items():
+    def as_json(self) -> dict[str, dict[str, Any]]:
+        found: dict[str, dict[str, Any]] = {"thermal": {}, "renewable": {}}
+        for (kind, name), plan in self.plans.items():
             if kind == "thermal":
-                found[kind][name] = {"on": it.on, "power": it.power, "reserve": it.reserve}
+                found[kind][name] = {"on": plan.on, "power": plan.power, "reserve": plan.reserve}
             else:
-                found.setdefault("bids" if kind == "bid" else kind, {})[name] = it.power
+                found.setdefault("bids" if kind == "bid" else kind, {})[name] = plan.power
         return found
 
-    def text(self):
+    def text(self) -> str:
         return json.dumps(self.as_json(), ensure_ascii=False) + "\n"
 
-    def write(self, name, inputs=()):
+    def write(self, name: str, inputs: Sequence[str] = ()) -> None:
         write_whole(name, self.text(), inputs)
 
 
-def whole_numbers(value, periods, most, told):
+def whole_numbers(value: Any, periods: int, most: int, told: Fault) -> list[int]:
     """The list as whole numbers from 0 to `most`, one for each period; `told` makes the fault of a text."""
     if not isinstance(value, list) or len(value) != periods:
         raise told("isn't a list of a number for each period")
-    for t, it in enumerate(value, 1):
-        if not is_number(it) or not is_whole(it) or not 0 <= it <= most:
+    for t, given in enumerate(value, 1):
+        if not is_number(given) or not is_whole(given) or not 0 <= given <= most:
             raise told(f"has in period {t} no whole number from 0 to {most:,}")
     return [int(it) for it in value]
 
 
-def thermal_plan(value, periods, told):
+def kilowatt_list(numbers: list[int]) -> list[Kilowatts]:
+    """The same numbers, which are known to be kilowatts."""
+    return cast("list[Kilowatts]", numbers)
+
+
+def thermal_plan(value: Any, periods: int, told: Fault) -> Plan:
     """The plan of a thermal unit's object; other keys are skipped."""
     if not isinstance(value, dict):
         raise told("isn't an object")
-    lists = []
-    for key, most in (("on", 1), ("power", POWER), ("reserve", POWER)):
-        lists.append(whole_numbers(value.get(key), periods, most, lambda it, key=key: told(f"{key} {it}")))
-    return Plan(*lists)
+
+    def numbers(key: str, most: int) -> list[int]:
+        return whole_numbers(value.get(key), periods, most, lambda what: told(f"{key} {what}"))
+
+    return Plan(numbers("on", 1), kilowatt_list(numbers("power", POWER)), kilowatt_list(numbers("reserve", POWER)))
 
 
-def group_of(name, value, key, units, needed):
+def group_of(name: Name, value: dict[str, Any], key: str, units: set[str], needed: bool) -> dict[str, Any]:
     """The members of `thermal`, `renewable` or `bids`, which are those of the case."""
     found = value.get(key)
     if found is None and key not in value and not needed:
         return {}
     if not isinstance(found, dict):
         raise HullError(f"{name}: no schedule: {key} isn't an object of lists by name")
-    for it in found:
-        if it not in units:
-            raise HullError(f'{name}: the case has no unit "{one_line(it)}" under {key}')
-    for it in units:
-        if it not in found:
-            raise HullError(f'{name}: the unit "{one_line(it)}" of the case isn\'t under {key}')
+    for unit in found:
+        if unit not in units:
+            raise HullError(f'{name}: the case has no unit "{one_line(unit)}" under {key}')
+    for unit in units:
+        if unit not in found:
+            raise HullError(f'{name}: the unit "{one_line(unit)}" of the case isn\'t under {key}')
     return found
 
 
-def schedule_of(name, value, case):
+def teller_of(name: Name, kind: str, unit: Unit) -> Fault:
+    """Makes errors that are told of the unit."""
+    return lambda what: HullError(f'{name}: {kind} "{one_line(unit.name)}": {what}')
+
+
+def plan_of(value: Any, kind: str, periods: int, told: Fault) -> Plan:
+    """The plan of a unit or bid of the kind, as a schedule file has it."""
+    if kind == "thermal":
+        return thermal_plan(value, periods, told)
+    return flat_plan(kilowatt_list(whole_numbers(value, periods, POWER, told)))
+
+
+def schedule_of(name: Name, value: Any, case: Case) -> Schedule:
     """The schedule of a JSON value for a case."""
     if not isinstance(value, dict):
         raise HullError(f"{name}: no schedule: it isn't an object")
-    plans = {}
-    kinds = (
+    plans: dict[tuple[str, str], Plan] = {}
+    kinds: list[tuple[str, str, Sequence[Unit]]] = [
         ("thermal", "thermal", case.thermal),
         ("renewable", "renewable", case.renewable),
         ("bid", "bids", case.bids),
-    )
+    ]
     for kind, key, units in kinds:
-        found = group_of(name, value, key, {it.name for it in units}, kind != "bid" or case.bids)
-        for it in units:
-            told = lambda what, it=it: HullError(f'{name}: {kind} "{one_line(it.name)}": {what}')
-            if kind == "thermal":
-                plans[kind, it.name] = thermal_plan(found[it.name], case.periods, told)
-            else:
-                plans[kind, it.name] = flat_plan(whole_numbers(found[it.name], case.periods, POWER, told))
+        found = group_of(name, value, key, {it.name for it in units}, kind != "bid" or bool(case.bids))
+        for unit in units:
+            plans[kind, unit.name] = plan_of(found[unit.name], kind, case.periods, teller_of(name, kind, unit))
     return Schedule(plans)
 
 
-def read_schedule(name, case):
-    """The schedule of a file for a case, as docs/FORMATS.md has it."""
+def read_schedule(name: Name, case: Case) -> Schedule:
+    """The schedule of a file for a case: for each unit and bid an on flag, a power and a reserve in each period, in whole kilowatts.
+
+    Raises `HullError` where docs/FORMATS.md refuses the file, or where its units aren't those of the case. It may break a rule: see `check`.
+    """
     return schedule_of(name, read_json(name, "a schedule"), case)

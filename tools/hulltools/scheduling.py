@@ -1,18 +1,23 @@
 """Feasible schedules in whole kilowatts: found by solving the unit commitment problem, or near one from elsewhere."""
+from __future__ import annotations
+
+import time
 from dataclasses import dataclass, replace
 from math import isfinite
-from typing import Optional
+from typing import Any, Callable, Dict, List, Optional, Sequence, Tuple
 
-from .cases import POWER
-from .commitment import Commitment
+from .apart import run_apart
+from .cases import POWER, Case, Thermal
+from .commitment import Commitment, Flags
 from .costs import most_below_lines
 from .external_schedules import Followed
 from .impossible import units_that_bar, why_flags
 from .lint_units import clash
-from .linear import was_cut_by_the_clock
-from .rounding import SLACK, reserves_of, whole_powers
-from .schedules import Plan, Schedule, flat_plan
-from .search_limits import SearchLimits
+from .linear import Solved, Term, was_cut_by_the_clock
+from .progress import turn_to
+from .rounding import SLACK, Lists, Powers, reserves_of, whole_powers
+from .schedules import Plan, Schedule, flat_plan, kilowatt_list
+from .search_limits import SECONDS, SearchLimits
 from .errors import HullError, one_line
 
 SECONDS_A_RULE = 20.0  # how long the solver looks for a schedule without a rule
@@ -59,7 +64,7 @@ class Made:
         )
 
 
-def refuse_contradictions(case):
+def refuse_contradictions(case: Case) -> None:
     """Says which two rules of a unit leave it no flag in a period."""
     for unit in case.thermal:
         found = clash(unit)
@@ -70,7 +75,7 @@ def refuse_contradictions(case):
             )
 
 
-def why_not(case):
+def why_not(case: Case) -> str:
     """Why the case can't be met, as far as one period alone shows; an empty text where it doesn't."""
     bounds = [it.on_bounds() for it in case.thermal]
     for t in range(case.periods):
@@ -94,13 +99,16 @@ def why_not(case):
     return ""
 
 
-def with_units(case, **changed):
+def with_units(case: Case, **changed: Any) -> Case:
     """The case with members of each thermal unit changed; a callable is asked for each unit."""
-    new = lambda it: {key: value(it) if callable(value) else value for key, value in changed.items()}
-    return replace(case, thermal=[replace(it, **new(it)) for it in case.thermal])
+
+    def new(unit: Thermal) -> Thermal:
+        return replace(unit, **{key: it(unit) if callable(it) else it for key, it in changed.items()})
+
+    return replace(case, thermal=[new(unit) for unit in case.thermal])
 
 
-RULES = {  # a case without each rule that goes over periods or units
+RULES: Dict[str, Callable[[Case], Case]] = {  # a case without each rule that goes over periods or units
     "the required reserve": lambda case: replace(case, reserves=[0] * case.periods),
     "the ramps": lambda case: with_units(case, ramp_up=POWER, ramp_down=POWER),
     "the start and stop limits": lambda case: with_units(
@@ -112,13 +120,15 @@ RULES = {  # a case without each rule that goes over periods or units
 }
 
 
-def rules_that_bar(case):
-    """In words, without which rule the solver finds a schedule; each is tried by itself, for some seconds."""
+def rules_that_bar(case: Case, until: float) -> str:
+    """In words, without which rule the solver finds a schedule; each is tried by itself, for some seconds, up to a time of the clock."""
     found = []
     for name, without in RULES.items():
+        turn_to(f"the case can't be met: looking for a schedule without {name}")
         program = Commitment(without(case)).program
         program.cost = [0.0] * len(program.cost)
-        if program.solve(time_limit=SECONDS_A_RULE).x is not None:
+        seconds = min(SECONDS_A_RULE, max(0.0, until - time.monotonic()))
+        if program.solve(time_limit=seconds).x is not None:
             found.append(name)
     if not found:
         alone = ": each period can be met by itself, but no rule that is left out alone makes a schedule possible"
@@ -127,32 +137,33 @@ def rules_that_bar(case):
     return f": each period can be met by itself; {bars}{units_that_bar(case)}"
 
 
-def powers_found(model, x):
+def powers_found(model: Commitment, x: Sequence[float]) -> Powers:
     """The solver's powers in megawatts, by kind and place of the unit."""
     every = range(model.case.periods)
-    found = {}
-    for i, it in enumerate(model.units):
-        found["thermal", i] = [x[it.on[t]] * it.unit.least / 1e3 + x[it.power[t]] for t in every]
+    found: Powers = {}
+    for i, unit in enumerate(model.units):
+        found["thermal", i] = [x[unit.on[t]] * unit.unit.least / 1e3 + x[unit.power[t]] for t in every]
     for i, row in enumerate(model.renewable):
         found["renewable", i] = [x[row[t]] for t in every]
     for i, blocks in enumerate(model.bids):
-        found["bid", i] = [sum(x[it] for it in blocks[t]) for t in every]
+        found["bid", i] = [sum(x[block] for block in blocks[t]) for t in every]
     return found
 
 
-def schedule_of(case, flags, lists, reserves):
+def schedule_of(case: Case, flags: Flags, lists: Lists, reserves: List[List[int]]) -> Schedule:
     powers, renewable, bids = lists
-    plans = {
-        ("thermal", it.name): Plan(on, power, reserve)
+    plans: Dict[Tuple[str, str], Plan] = {
+        ("thermal", it.name): Plan(on, kilowatt_list(power), kilowatt_list(reserve))
         for it, on, power, reserve in zip(case.thermal, flags, powers, reserves)
     }
-    for kind, units, rows in (("renewable", case.renewable, renewable), ("bid", case.bids, bids)):
-        plans.update({(kind, it.name): flat_plan(row) for it, row in zip(units, rows)})
+    plans.update({("renewable", it.name): flat_plan(kilowatt_list(row)) for it, row in zip(case.renewable, renewable)})
+    plans.update({("bid", it.name): flat_plan(kilowatt_list(row)) for it, row in zip(case.bids, bids)})
     return Schedule(plans)
 
 
-def dispatch(case, model, flags):
+def dispatch(case: Case, model: Commitment, flags: Flags) -> Schedule:
     """The powers of least cost with the flags held, in whole kilowatts."""
+    turn_to("the dispatch of the schedule that is found")
     model.fix(flags)
     solved = model.program.solve_linear()
     if solved is None:
@@ -163,11 +174,12 @@ def dispatch(case, model, flags):
     return schedule_of(case, flags, lists, reserves_of(case, flags, lists[0]))
 
 
-def searched(model: Commitment, limits: SearchLimits):
+def searched(model: Commitment, limits: SearchLimits, until: float) -> Any:
     """The solver's answer, which depends on the program and the solver's version alone, or else is refused."""
-    found = model.program.solve(time_limit=float(limits.seconds), mip_rel_gap=limits.gap, node_limit=limits.nodes)
+    seconds = max(0.0, until - time.monotonic())
+    found = model.program.solve(time_limit=seconds, mip_rel_gap=limits.gap, node_limit=limits.nodes)
     if found.status == 2:
-        raise HullError(f"the solver finds that the case can't be met{rules_that_bar(model.case)}")
+        raise HullError(f"the solver finds that the case can't be met{rules_that_bar(model.case, until)}")
     if was_cut_by_the_clock(found):
         reached = "no schedule was found"
         if found.x is not None:
@@ -181,45 +193,60 @@ def searched(model: Commitment, limits: SearchLimits):
     return found
 
 
-def make_schedule(case, limits: SearchLimits) -> Made:
+def make_schedule(case: Case, limits: SearchLimits) -> Made:
     """A schedule whose cost is near the least: the same one wherever the solver is of the same version."""
     refuse_contradictions(case)
     if why_not(case):
         raise HullError(f"the case can't be met{why_not(case)}")
+    return run_apart(search, (case, limits), "searching for a schedule", limits.seconds)
+
+
+def search(case: Case, limits: SearchLimits) -> Made:
+    """The search itself, which is over at the limit where the solver looks at the clock."""
+    until = time.monotonic() + limits.seconds
     model = Commitment(case)
-    found = searched(model, limits)
+    found = searched(model, limits, until)
     # (with no whole variable there is no bound beside the optimum)
     bound = found.fun if found.mip_dual_bound is None else found.mip_dual_bound
     schedule = dispatch(case, model, model.flags(found.x))
     below_lines = sum(most_below_lines(it.points) for it in case.thermal) * case.periods / 1e6
-    return Made(schedule, found.fun, bound, int(found.mip_node_count or 0), limits.gap, below_lines)
+    return Made(schedule, float(found.fun), float(bound), int(found.mip_node_count or 0), limits.gap, below_lines)
 
 
-def wanted_powers(case, followed: Followed):
+def wanted_powers(case: Case, followed: Followed) -> Powers:
     """What is wanted of each unit, by kind and place, as far as the file says it."""
-    kinds = (("thermal", case.thermal), ("renewable", case.renewable), ("bid", case.bids))
+    kinds: Tuple[Tuple[str, Sequence[Any]], ...] = (
+        ("thermal", case.thermal),
+        ("renewable", case.renewable),
+        ("bid", case.bids),
+    )
     rows = ((kind, i, it.name) for kind, units in kinds for i, it in enumerate(units))
     return {(kind, i): followed.power[name] for kind, i, name in rows if name in followed.power}
 
 
-def add_distances(model, wanted):
+def terms_of(model: Commitment, kind: str, place: int, t: int) -> List[Term]:
+    """The power of a unit or bid in a period, in megawatts."""
+    if kind == "thermal":
+        unit = model.units[place]
+        return [(unit.on[t], unit.unit.least / 1e3), (unit.power[t], 1)]
+    if kind == "renewable":
+        return [(model.renewable[place][t], 1)]
+    return [(block, 1) for block in model.bids[place][t]]
+
+
+def add_distances(model: Commitment, wanted: Powers) -> List[int]:
     """Adds variables whose sum is at least the distance from the wanted powers, in megawatts."""
-    program, every, added = model.program, range(model.case.periods), []
-    parts = {
-        ("thermal", i): lambda t, it=it: [(it.on[t], it.unit.least / 1e3), (it.power[t], 1)]
-        for i, it in enumerate(model.units)
-    }
-    parts.update({("renewable", i): lambda t, row=row: [(row[t], 1)] for i, row in enumerate(model.renewable)})
-    parts.update({("bid", i): lambda t, row=row: [(it, 1) for it in row[t]] for i, row in enumerate(model.bids)})
-    for key, powers in wanted.items():
-        for t in every:
+    program = model.program
+    added: List[int] = []
+    for (kind, place), powers in wanted.items():
+        for t in range(model.case.periods):
             more, less = (program.variable(0, float("inf")) for _ in range(2))
-            program.row([*parts[key](t), (more, -1), (less, 1)], powers[t], powers[t])
+            program.row([*terms_of(model, kind, place, t), (more, -1), (less, 1)], powers[t], powers[t])
             added += [more, less]
     return added
 
 
-def nearest(model, wanted):
+def nearest(model: Commitment, wanted: Powers) -> Optional[Solved]:
     """The solution of least cost among those that are nearest to the wanted powers; None where there is none."""
     program, distances = model.program, add_distances(model, wanted)
     if distances:
@@ -233,8 +260,12 @@ def nearest(model, wanted):
     return program.solve_linear()
 
 
-def follow(case, followed, name):
+def follow(case: Case, followed: Followed, name: str, seconds: float = SECONDS) -> Made:
     """A schedule with the commitments of one from elsewhere, in whole kilowatts: of those with powers as near as can be, the cheapest."""
+    return run_apart(near_to, (case, followed, name), f"following {name}", seconds)
+
+
+def near_to(case: Case, followed: Followed, name: str) -> Made:
     flags = [[int(it > 0.5) for it in followed.on[unit.name]] for unit in case.thermal]
     model, wanted = Commitment(case), wanted_powers(case, followed)
     model.fix(flags)

@@ -2,10 +2,13 @@
 from dataclasses import dataclass
 
 
+SECONDS = 1800.0  # how long a step of a solver may take where nobody says
+
+
 @dataclass
 class SearchLimits:
     """When the solver ends: at a relative gap, or after so many nodes. The time is an outer limit, after which nothing is taken."""
 
     gap: float = 0.0005
     nodes: int = 200
-    seconds: float = 1800.0
+    seconds: float = SECONDS

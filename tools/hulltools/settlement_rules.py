@@ -2,8 +2,9 @@
 from dataclasses import dataclass
 from typing import Dict, List
 
-from .cases import Case
+from .cases import Case, Thermal, Unit
 from .cash_flows import KINDS, UnitFlows, by_kind, total
+from .numbers import Millionths
 from .outputs import Owed, Settlement
 
 RULES = {  # by name: what units are paid beside energy and reserve
@@ -12,12 +13,12 @@ RULES = {  # by name: what units are paid beside energy and reserve
 }
 
 
-def paid(owed: Owed, rule: str) -> int:
+def paid(owed: Owed, rule: str) -> Millionths:
     """What a unit is paid under a rule."""
     return owed.make_whole if rule == "make-whole" else owed.payment
 
 
-def paid_by_kind(units: List[Owed], rule: str) -> Dict[str, int]:
+def paid_by_kind(units: List[Owed], rule: str) -> Dict[str, Millionths]:
     return by_kind(units, lambda unit: paid(unit, rule))
 
 
@@ -29,46 +30,46 @@ class Bill:
     the money that comes in is the money that goes out.
     """
 
-    energy: int
-    reserve: int
-    payments: int
-    surplus: int
-    received: int
+    energy: Millionths
+    reserve: Millionths
+    payments: Millionths
+    surplus: Millionths
+    received: Millionths
 
     @property
-    def uplift(self) -> int:
-        return self.payments + self.surplus
+    def uplift(self) -> Millionths:
+        return Millionths(self.payments + self.surplus)
 
     @property
-    def total(self) -> int:
-        return self.energy + self.reserve + self.uplift
+    def total(self) -> Millionths:
+        return Millionths(self.energy + self.reserve + self.uplift)
 
     @property
-    def left(self) -> int:
-        return self.total - self.received
+    def left(self) -> Millionths:
+        return Millionths(self.total - self.received)
 
 
 def bill(case: Case, settlement: Settlement, flows: List[UnitFlows], rule: str) -> Bill:
     """The consumers' bill for the schedule at a list's prices."""
-    row, payments = settlement.best, sum(paid(unit, rule) for unit in settlement.units)
+    row, payments = settlement.best, Millionths(sum(paid(unit, rule) for unit in settlement.units))
     revenue = total([flow for unit in flows for flow in unit.scheduled])
     return Bill(
-        sum(price * demand for price, demand in zip(row.energy, case.demand)),
-        sum(price * due for price, due in zip(row.reserve, case.reserves)),
+        Millionths(sum(price * demand for price, demand in zip(row.energy, case.demand))),
+        Millionths(sum(price * due for price, due in zip(row.reserve, case.reserves))),
         payments,
         settlement.surplus,
-        revenue.energy + revenue.reserve + payments,
+        Millionths(revenue.energy + revenue.reserve + payments),
     )
 
 
-def forced_loss(owed: Owed) -> int:
+def forced_loss(owed: Owed) -> Millionths:
     """The loss that a unit can't avoid at the prices, whatever it does within its rules. It is no part of the payment."""
-    return max(0, -owed.earned)
+    return Millionths(max(0, -owed.earned))
 
 
-def reason_of_loss(kind: str, unit) -> str:
+def reason_of_loss(unit: Unit) -> str:
     """Which rule leaves the unit no choice but the loss."""
-    if kind != "thermal":
+    if not isinstance(unit, Thermal):
         return "least power"
     reasons = ["must_run"] * bool(unit.must_run) + ["commitment"] * any(mark == 1 for mark in unit.marks)
     return " and ".join(reasons) or "state before period 1"
@@ -81,13 +82,13 @@ class ForcedLoss:
     kind: str
     name: str
     reason: str
-    forced: int
-    made_whole: int
+    forced: Millionths
+    made_whole: Millionths
 
 
 def forced_losses(case: Case, units: List[Owed]) -> List[ForcedLoss]:
     return [
-        ForcedLoss(kind, unit.name, reason_of_loss(kind, unit), forced_loss(owed), owed.make_whole)
+        ForcedLoss(kind, unit.name, reason_of_loss(unit), forced_loss(owed), owed.make_whole)
         for owed, (kind, unit) in zip(units, case.units)
         if forced_loss(owed)
     ]

@@ -1,23 +1,29 @@
 """Price lists of one case and schedule: each is settled by `hull settle`, and `hull certify` bounds the dual value of all."""
-import os
-from dataclasses import dataclass, field
-from typing import Callable, Dict, List, Optional
+from __future__ import annotations
 
+import os
+import signal
+from dataclasses import dataclass, field, replace
+from typing import Any, Callable, Dict, Iterator, List, Optional, Sequence, Set, Tuple, Union
+
+from .apart import OverTime
 from .cases import Case
 from .cash_flows import UnitFlows, unit_flows
 from .clock import Clock
 from .costs import Costs
-from .errors import HullError, write_whole
+from .errors import HullError, Interrupted, Tell, one_line, write_together
 from .gap_parts import GapParts, gap_parts
 from .numbers import money
 from .outputs import Certificate, Owed, Settlement
 from .price_lists import CONVEX_HULL, ELMP, LISTS, LMP, RELAXATION, SUBGRADIENT_100, SUBGRADIENT_1000, ZONAL, PriceList
 from .prices import Prices
-from .program import MOST_WORK
+from .program import MOST_WORK, Hull
+from .progress import step
 from .provenance import Provenance
 from .fast_start import FastStart
 from .relaxation import fast_start_prices, held_prices, relaxed_prices
 from .schedules import Schedule
+from .search_limits import SECONDS
 from .settlement_rules import RULES
 from .zones import Zonal, Zones, settle_zones
 
@@ -36,6 +42,8 @@ class Wanted:
     clock: Clock = field(default_factory=Clock)
     within: Optional[float] = None
     rounds: Optional[int] = None
+    seconds: float = SECONDS  # of each step of a solver
+    skip: Set[str] = field(default_factory=set)  # keys of lists
 
 
 @dataclass
@@ -58,30 +66,45 @@ class Paid:
 
 @dataclass
 class Study:
-    """What was found: the lists by key, the certificate of convex hull prices, and the cost of the best schedule known."""
+    """What was found: the lists by key, the certificate of convex hull prices where there are such, and the cost of the best schedule known."""
 
     case: Case
     schedule: Schedule
     wanted: Wanted
     provenance: Provenance
+    cost: int
     best_cost: Optional[int] = None
     lists: Dict[str, Settled] = field(default_factory=dict)
     zonal: Optional[Zonal] = None
-    certificate: Certificate = None  # type: ignore[assignment]  # (Maker sets it)
+    certificate: Optional[Certificate] = None
     notes: List[str] = field(default_factory=list)
-    is_short: bool = False  # (whether a schedule that was to be made wasn't)
-
-    @property
-    def cost(self) -> int:
-        return self.certificate.cost
+    is_short: bool = False  # (whether a schedule or a list that was to be made wasn't)
+    missing: List[str] = field(default_factory=list)  # names of lists that an interrupt left out
+    interrupted: Optional[Interrupted] = None
 
     @property
     def clock(self) -> Clock:
         return self.wanted.clock
 
+    @property
+    def main(self) -> Settled:
+        """Convex hull prices, or else the first list that there is."""
+        return self.in_order()[0]
+
+    @property
+    def unfinished(self) -> str:
+        """In a sentence which lists an interrupt left out, if any."""
+        return f"Interrupted before these lists were made: {', '.join(self.missing)}." if self.missing else ""
+
     def parts(self, key: str) -> GapParts:
         value = self.lists[key].settlement.best.value
-        return gap_parts(self.cost, value, self.certificate.bound, self.best_cost)
+        return gap_parts(self.cost, value, self.certificate.bound if self.certificate else None, self.best_cost)
+
+    def sentence(self, where: str) -> str:
+        """The gap's parts at convex hull prices, or at those of the first list."""
+        price_list = self.main.list
+        name = "convex hull prices" if price_list is CONVEX_HULL else f"the prices of the list {price_list.name}"
+        return self.parts(price_list.key).sentence(f"{where} {name}")
 
     def in_order(self) -> List[Settled]:
         """The lists as tables and pictures have them; those of files come last."""
@@ -90,7 +113,7 @@ class Study:
             self.lists.values(), key=lambda it: order.index(it.list.key) if it.list.key in order else len(order)
         )
 
-    def frames(self):
+    def frames(self) -> Dict[str, Any]:
         """The tables `lists`, `units` and `hours` as data frames of pandas; hours are indexed by time where the start is known."""
         from .study_tables import frames_of_study
 
@@ -102,71 +125,142 @@ class Study:
         return found + ([Paid(ZONAL, self.zonal.units, self.zonal.flows)] if self.zonal else [])
 
 
+Step = Tuple[PriceList, Callable[[], None]]
+
+
 class Maker:
     """Makes the price lists of one case and settles them; files go to a folder."""
 
-    def __init__(self, hull, files, study: Study, folder: str, tell: Callable[[str], None]):
-        self.hull, self.files, self.study, self.folder, self.tell = hull, files, study, folder, tell
+    def __init__(self, hull: Hull, files: Sequence[str], study: Study, folder: str, tell: Tell) -> None:
+        self.hull, self.study, self.folder, self.tell = hull, study, folder, tell
+        self.case_file, self.schedule_file = files
         self.costs = Costs()
+
+    def settle(self, prices: Prices) -> Settlement:
+        return self.hull.settle(self.case_file, self.schedule_file, prices)
 
     def add(self, price_list: PriceList, prices: Prices) -> None:
         """Settles at a list of prices, and writes both."""
-        settlement = self.hull.settle(*self.files, prices)
+        settlement = self.settle(prices)
         settlement.name = price_list.name
-        self.write(f"{price_list.key}.prices.json", prices.text())
-        self.write(f"{price_list.key}.settlement.txt", self.hull.last_text)
-        flows = unit_flows(self.study.case, self.study.schedule, settlement, self.costs)
+        text = self.hull.last_text
+        with step("revenue and cost by unit"):
+            flows = unit_flows(self.study.case, self.study.schedule, settlement, self.costs)
+        self.write({f"{price_list.key}.prices.json": prices.text(), f"{price_list.key}.settlement.txt": text})
         self.study.lists[price_list.key] = Settled(price_list, settlement, flows)
         self.tell(f"{price_list.name}: gap {money(settlement.gap)}, payments {money(settlement.payments)}")
 
-    def write(self, name: str, content) -> None:
-        write_whole(os.path.join(self.folder, name), content, self.files)
+    def write(self, files: Dict[str, Union[str, bytes]]) -> None:
+        write_together({os.path.join(self.folder, name): it for name, it in files.items()})
+
+    def add_held(self) -> None:
+        study = self.study
+        self.add(LMP, held_prices(study.case, study.schedule, study.wanted.seconds))
+
+    def add_relaxed(self) -> None:
+        self.add(RELAXATION, relaxed_prices(self.study.case, self.study.wanted.seconds))
 
     def add_fast_start(self) -> None:
-        case, fast = self.study.case, self.study.wanted.fast
-        if fast.units(case):
-            self.add(ELMP, fast_start_prices(case, self.study.schedule, fast))
+        study, wanted = self.study, self.study.wanted
+        names = [unit.name for unit in wanted.fast.units(study.case)]
+        if names:
+            of_units = replace(ELMP, about=f"{ELMP.about}. Fast-start: {one_line(', '.join(names))}")
+            self.add(of_units, fast_start_prices(study.case, study.schedule, wanted.fast, wanted.seconds))
         else:
-            self.study.notes.append(
-                "No unit is fast-start by the rule given, so there is no list ELMP: it would be LMP."
-            )
+            study.notes.append("No unit is fast-start by the rule given, so there is no list ELMP: it would be LMP.")
 
-    def add_searched(self) -> None:
+    def add_searched(self, price_list: PriceList, *words: str) -> None:
+        self.add(price_list, self.hull.price(self.case_file, self.schedule_file, *words).prices)
+
+    def searches(self) -> Iterator[Step]:
         work = len(self.study.case.units) * self.study.case.periods
         most = str(max(1, min(1000, MOST_WORK // work)))
-        for price_list, words in ((SUBGRADIENT_100, ()), (SUBGRADIENT_1000, ("--proposals", most, "--ahead", "1"))):
-            self.add(price_list, self.hull.price(*self.files, *words).prices)
+        yield SUBGRADIENT_100, lambda: self.add_searched(SUBGRADIENT_100)
+        yield SUBGRADIENT_1000, lambda: self.add_searched(SUBGRADIENT_1000, "--proposals", most, "--ahead", "1")
 
     def add_zonal(self, zones: Zones) -> None:
-        settle = lambda prices: self.hull.settle(*self.files, prices)
-        self.study.zonal = settle_zones(settle, self.study.case, self.study.schedule, zones)
+        self.study.zonal = settle_zones(self.settle, self.study.case, self.study.schedule, zones)
         self.study.notes.append(
             "Zonal prices have payments by unit alone. A dual value, a gap and the consumers' bill are of one price for all."
         )
 
     def add_convex(self) -> None:
         """The prices of `hull convex`; its text, the mixture, and the certificate by it are written too."""
-        wanted = self.study.wanted
-        found = self.hull.convex(*self.files, wanted.within, wanted.rounds)
-        self.write("convex.txt", self.hull.last_text)
-        self.write("mixture.json", found.mixture.text())
-        self.study.certificate = self.hull.certify(*self.files, found.prices, found.mixture)
-        self.write("certificate.txt", self.hull.last_text)
+        wanted, files = self.study.wanted, (self.case_file, self.schedule_file)
+        found = self.hull.convex(*files, wanted.within, wanted.rounds)
+        text = self.hull.last_text
+        certificate = self.hull.certify(*files, found.prices, found.mixture)
+        names = ("convex.txt", "mixture.json", "certificate.txt")
+        self.write(dict(zip(names, (text, found.mixture.text(), self.hull.last_text))))
+        self.study.certificate = certificate
         self.add(CONVEX_HULL, found.prices)
 
-    def make(self) -> Study:
-        case, wanted = self.study.case, self.study.wanted
-        self.add(LMP, held_prices(case, self.study.schedule))
-        self.add(RELAXATION, relaxed_prices(case))
-        self.add_fast_start()
+    def steps(self) -> Iterator[Step]:
+        """Each list, and what makes it; those of a solver first, and what may take longest last."""
+        wanted = self.study.wanted
+        yield LMP, self.add_held
+        yield RELAXATION, self.add_relaxed
+        yield ELMP, self.add_fast_start
         if wanted.search:
-            self.add_searched()
+            yield from self.searches()
         for name, prices in wanted.files.items():
-            self.add(PriceList(key_of(name), name, "prices of a file"), prices)
+            of_file = PriceList(key_of(name), name, "prices of a file")
+            yield of_file, lambda of_file=of_file, prices=prices: self.add(of_file, prices)  # type: ignore[misc]
         if wanted.zones:
-            self.add_zonal(wanted.zones)
-        self.add_convex()
-        return self.study
+            yield ZONAL, lambda zones=wanted.zones: self.add_zonal(zones)  # type: ignore[misc]
+        yield CONVEX_HULL, self.add_convex
+
+    def make(self) -> Study:
+        """The study, whose lists are those that are there when an interrupt comes."""
+        study, skip = self.study, self.study.wanted.skip
+        steps = list(self.steps())
+        skipped = [it.name for it, _ in steps if it.key in skip]
+        left = [it for it in steps if it[0].key not in skip]
+        if skipped:
+            study.notes.append(f"Left out by --skip: {', '.join(skipped)}.")
+        try:
+            while left:
+                self.make_list(*left[0])
+                del left[0]
+        except KeyboardInterrupt as why:
+            study.interrupted = why if isinstance(why, Interrupted) else Interrupted(signal.SIGINT)
+            study.missing = [it.name for it, _ in left]
+            study.notes.append(study.unfinished)
+        return study
+
+    def make_list(self, price_list: PriceList, make: Callable[[], None]) -> None:
+        """Makes one list; one that takes too long is left out, and told."""
+        try:
+            with step(price_list.name):
+                make()
+        except OverTime as why:
+            told = f"{price_list.name} is left out: {why}. Give --seconds more, or --skip {price_list.key}."
+            self.tell(told)
+            self.study.notes.append(told)
+            self.study.is_short = True
+
+
+def files_of_list(key: str) -> List[str]:
+    return [f"{key}.prices.json", f"{key}.settlement.txt"]
+
+
+def files_of(wanted: Wanted, is_schedule_made: bool, is_best_made: bool) -> List[str]:
+    """The names of all files that a study may write in its folder."""
+    keys = [it.key for it in LISTS] + [key_of(name) for name in wanted.files]
+    found = [name for key in keys for name in files_of_list(key)]
+    found += ["convex.txt", "mixture.json", "certificate.txt", "table.csv", "units.csv", "hours.csv", "study.html"]
+    return found + ["schedule.json"] * is_schedule_made + ["best.schedule.json"] * is_best_made
+
+
+def skipped(words: Sequence[str], files: Sequence[str]) -> Set[str]:
+    """The keys of the lists that are named, by key or by name; `files` are the names of those of files."""
+    known = {it.key: it.name for it in (*LISTS, ZONAL)}
+    known.update({key_of(name): name for name in files})
+    keys = {told.lower(): key for key, name in known.items() for told in (key, name)}
+    wrong = next((it for it in words if it.strip().lower() not in keys), None)
+    if wrong is not None:
+        raise HullError(f"--skip {one_line(wrong)}: there is no such list: these are {', '.join(known)}")
+    return {keys[it.strip().lower()] for it in words}
 
 
 def key_of(name: str) -> str:

@@ -1,7 +1,7 @@
 """One HTML page of a study, which needs nothing else."""
 import base64
 import html
-from typing import Dict, Iterable, List, Tuple
+from typing import Any, Dict, Iterable, List, Sequence, Tuple
 
 from .cash_flows import KINDS, total, uplift_by_period
 from .charts import steps_chart
@@ -19,7 +19,8 @@ UNIT_KEYS = (
     '<i class="energy first"></i>schedule',
     '<i class="reserve first"></i>its reserve',
 )
-Row = Tuple[str, List[Tuple[str, int]], str]
+HIDES = "Where lists agree, the last one hides the others."
+Row = Tuple[str, Sequence[Tuple[str, int]], str]
 
 
 def keys_of(keys: Iterable[str]) -> str:
@@ -27,7 +28,7 @@ def keys_of(keys: Iterable[str]) -> str:
     return " ".join(f'<span class="key">{it}</span>' for it in keys)
 
 
-def bars(rows: List[Row], keys: List[Tuple[str, str]]) -> str:
+def bars(rows: Sequence[Row], keys: List[Tuple[str, str]]) -> str:
     """Stacked bars: each row has a name, its parts as (colour, number), and what stands at its end."""
     most = max([1, *(sum(number for _, number in parts) for _, parts, _ in rows)])
     told = [f'<i class="box {colour}"></i>{name}' for colour, name in keys]
@@ -58,44 +59,62 @@ def row_of(name: str, numbers: Iterable[int], more: str = "", attributes: str = 
 
 
 def headline(study: Study) -> str:
-    """The gap's parts at convex hull prices, and what the certificate says."""
-    parts, it = study.parts("convex_hull"), study.certificate
+    """The gap's parts at convex hull prices, or else at those of the first list, and what the certificate says."""
+    certificate = study.certificate
+    found = f'<p class="said">{html.escape(study.sentence("At"))}</p>'
+    if certificate is None:
+        return found
     return (
-        f'<p class="said">{html.escape(parts.sentence("At convex hull prices"))}</p>'
-        f"<p>hull certify proves that no prices have a dual value above {money(it.bound)}. The convex hull prices come within {money(it.distance)} of it.</p>"
+        f"{found}<p>hull certify proves that no prices have a dual value above {money(certificate.bound)}. The convex hull prices come within "
+        f"{money(certificate.distance)} of it.</p>"
     )
 
 
 def notes_of(study: Study) -> str:
     found = list(study.notes)
-    parts = study.parts("convex_hull")
+    parts = study.parts(study.main.list.key)
     if parts.schedule:
         found.insert(
             0,
             f"A schedule is known that costs {money(parts.schedule)} less than this one. Each payment below is for this schedule.",
         )
-    for it in (study.provenance.schedule, study.provenance.best_schedule):
-        if it and not it.is_near:
-            found.insert(0, f"A search for a schedule missed its gap: {it.made}.")
+    for source in (study.provenance.schedule, study.provenance.best_schedule):
+        if source and not source.is_near:
+            found.insert(0, f"A search for a schedule missed its gap: {source.made}.")
     return "".join(f'<p class="note">{html.escape(it)}</p>' for it in found)
+
+
+def what_saves(known: bool, bounded: bool) -> str:
+    """What would save each part of the gap, in the order of the table."""
+    if not known:
+        first = "A better schedule may save some of the first part, and no prices do; better prices save at most the second."
+        return first if bounded else "A better schedule or better prices may save some of it."
+    rest = (
+        "no prices save the second, and better prices save at most the third"
+        if bounded
+        else "better prices save at most the second"
+    )
+    return f"A better schedule saves the first part, {rest}. The bars are without the first part."
 
 
 def gap_part(study: Study) -> str:
     """What of the gap each list has at the best schedule known, and the three parts as a table."""
-    known, rows, lines = study.best_cost is not None, [], []
-    for it in study.in_order():
-        parts = study.parts(it.list.key)
-        left = [("blue", parts.duality), ("orange", parts.prices)]
-        rows.append((it.list.name, left, money(parts.without_schedule)))
-        sums = [*([parts.schedule or 0] if known else []), parts.duality, parts.prices, parts.gap]
-        lines.append(row_of(html.escape(it.list.name), sums))
+    known, bounded = study.best_cost is not None, study.certificate is not None
+    rows: List[Row] = []
+    lines = []
+    for settled in study.in_order():
+        parts = study.parts(settled.list.key)
+        left = ([("blue", parts.duality or 0)] if bounded else []) + [("orange", parts.prices)]
+        rows.append((settled.list.name, left, money(parts.without_schedule)))
+        sums = [*([parts.schedule or 0] if known else []), *(number for _, number in left), parts.gap]
+        lines.append(row_of(html.escape(settled.list.name), sums))
     rest = "duality gap" if known else "schedule and duality gap"
-    keys = [("blue", rest), ("orange", "prices, at most")]
-    heads = ["*Prices", *(["Schedule"] if known else []), rest.capitalize(), "Prices, at most", "Gap"]
+    keys = ([("blue", rest)] if bounded else []) + [("orange", "prices, at most")]
+    heads = ["*Prices", *(["Schedule"] if known else []), *(told.capitalize() for _, told in keys), "Gap"]
     title = "Gap at the best schedule known" if known else "Gap by price list"
     return (
-        f"<h2>{title}</h2><p>The gap is the schedule's cost less the dual value: uplift in full, payments and surplus reserve. A better schedule saves the "
-        "first part, no prices save the second, and better prices save the third.</p>"
+        f"<h2>{title}</h2><p>The gap is the schedule's cost less the dual value: uplift in full, payments and surplus reserve. "
+        f"{what_saves(known, bounded)}</p>"
         f"{bars(rows, keys)}{table(heads, lines)}"
     )
 
@@ -104,21 +123,23 @@ def rule_part(study: Study, rule: str) -> str:
     """What units and buyers are paid under a rule, with subtotals by kind."""
     has = [kind for kind in KINDS if any(kind == it for it, _ in study.case.units)]
     rows, lines = [], []
-    for it in study.paid():
-        sums = paid_by_kind(it.units, rule)
+    for paid in study.paid():
+        sums = paid_by_kind(paid.units, rule)
         whole = sum(sums.values())
-        rows.append((it.list.name, [(KIND_COLOURS[kind], sums[kind]) for kind in has], money(whole)))
-        lines.append(row_of(html.escape(it.list.name), [whole, *(sums[kind] for kind in has)]))
+        rows.append((paid.list.name, [(KIND_COLOURS[kind], sums[kind]) for kind in has], money(whole)))
+        lines.append(row_of(html.escape(paid.list.name), [whole, *(sums[kind] for kind in has)]))
     keys = [(KIND_COLOURS[kind], KINDS[kind].lower()) for kind in has]
     heads = ["*Prices", "All", *(KINDS[kind] for kind in has)]
     return f"<h2>Payments: {RULES[rule]}</h2>{of_the_schedule(study, rule)}{bars(rows, keys)}{table(heads, lines)}"
 
 
 def of_the_schedule(study: Study, rule: str) -> str:
-    """How much of the payments in full comes from a dear schedule."""
-    part = study.parts("convex_hull").schedule
-    if rule != "full" or not part:
+    """What of the payments comes from a dear schedule, which is known in full alone."""
+    part = study.parts(study.main.list.key).schedule
+    if not part:
         return ""
+    if rule != "full":
+        return "<p>The parts of the gap aren't parts of these payments: a study of the better schedule says what they would be.</p>"
     return f"<p>Of payments and surplus reserve under each list {money(part)} is the schedule's part.</p>"
 
 
@@ -128,14 +149,15 @@ def consumers_part(study: Study) -> str:
     found = []
     for rule in study.wanted.rules:
         rows = []
-        for it in study.in_order():
-            due = bill(study.case, it.settlement, it.flows, rule)
+        for settled in study.in_order():
+            due = bill(study.case, settled.settlement, settled.flows, rule)
             numbers = (due.total, due.energy, due.reserve, due.payments, due.surplus, due.left)
-            rows.append(row_of(html.escape(it.list.name), numbers))
+            rows.append(row_of(html.escape(settled.list.name), numbers))
         found.append(f"<h3>{RULES[rule].capitalize()}</h3>{table(heads, rows)}")
     return (
         "<h2>What consumers pay</h2><p>Demand at the energy prices, required reserve at the reserve prices, and uplift: payments to units and buyers, "
-        "and the worth of surplus reserve. Buyers with bids pay for their own energy.</p>" + "".join(found)
+        "and the worth of surplus reserve. Buyers with bids pay for their own energy. Where several lists have the least gap, they can differ in this.</p>"
+        + "".join(found)
     )
 
 
@@ -144,8 +166,8 @@ def forced_part(study: Study) -> str:
     lists = study.paid()
     forced: Dict[str, List[int]] = {}
     reasons: Dict[str, str] = {}
-    for place, it in enumerate(lists):
-        for loss in forced_losses(study.case, it.units):
+    for place, paid in enumerate(lists):
+        for loss in forced_losses(study.case, paid.units):
             reasons[loss.name] = loss.reason
             forced.setdefault(loss.name, [0] * len(lists))[place] = loss.forced
     if not forced:
@@ -163,8 +185,8 @@ def style_of(place: int) -> str:
     return f"l{place % len(COLOURS)}" + " dashed" * (place >= len(COLOURS))
 
 
-def price_chart(study: Study, title: str, series: List[Tuple[str, List[int]]], places: List[int]) -> str:
-    """A chart of price lists by period; `places` say which colour each has."""
+def price_chart(study: Study, title: str, series: Sequence[Tuple[str, Sequence[int]]], places: List[int]) -> str:
+    """A chart of price lists by period; `places` say which colour each has. Where prices are one, the last list is seen."""
     clock, periods = study.clock, study.case.periods
     rows = [
         (style_of(place), [float(clock.price(number)) for number in numbers])
@@ -172,7 +194,7 @@ def price_chart(study: Study, title: str, series: List[Tuple[str, List[int]]], p
     ]
     keys = keys_of(f'<i class="{style}"></i>{html.escape(name)}' for (style, _), (name, _) in zip(rows, series))
     told = f"{title}, {study.wanted.currency or 'currency'} {clock.price_unit}"
-    return f"<h2>{html.escape(told)}</h2><p>{keys}</p>{steps_chart(told, rows, periods, clock.axis, clock.labels(periods))}"
+    return f"<h2>{html.escape(told)}</h2><p>{keys}{HIDES * (len(rows) > 1)}</p>{steps_chart(told, rows, periods, clock.axis, clock.labels(periods))}"
 
 
 def price_parts(study: Study) -> str:
@@ -180,10 +202,11 @@ def price_parts(study: Study) -> str:
     lists = study.in_order()
     every = list(range(len(lists)))
     found = [price_chart(study, "Energy prices", [(it.list.name, it.settlement.best.energy) for it in lists], every)]
-    lmp = study.lists["lmp"].settlement.best.energy
     others = [place for place in every if lists[place].list.key != "lmp"]
-    above = [(lists[i].list.name, [a - b for a, b in zip(lists[i].settlement.best.energy, lmp)]) for i in others]
-    found.append(price_chart(study, "Energy prices less LMP", above, others))
+    if others and "lmp" in study.lists:
+        lmp = study.lists["lmp"].settlement.best.energy
+        above = [(lists[i].list.name, [a - b for a, b in zip(lists[i].settlement.best.energy, lmp)]) for i in others]
+        found.append(price_chart(study, "Energy prices less LMP", above, others))
     if any(any(it.settlement.best.reserve) for it in lists):
         found.append(
             price_chart(study, "Reserve prices", [(it.list.name, it.settlement.best.reserve) for it in lists], every)
@@ -195,15 +218,15 @@ def folded(name: str, body: str, is_open: bool = False) -> str:
     return f"<details{' open' * is_open}><summary>{html.escape(name)}</summary>{body}</details>"
 
 
-def hours_of(study: Study, it: Settled) -> str:
+def hours_of(study: Study, settled: Settled) -> str:
     """The table of one list by period."""
-    case, row, clock = study.case, it.settlement.best, study.clock
-    uplift = uplift_by_period(case, study.schedule, it.settlement, it.flows)
-    powers = lambda *numbers: "".join(number_cell(number, f"{number / 1000:,.3f}") for number in numbers)
+    case, row, clock = study.case, settled.settlement.best, study.clock
+    uplift = uplift_by_period(case, study.schedule, settled.settlement, settled.flows)
     rows = []
     for t, name in enumerate(clock.rows(case.periods)):
         prices = "".join(number_cell(price, clock.price_text(price)) for price in (row.energy[t], row.reserve[t]))
-        more = prices + powers(case.demand[t], row.supplied[t], case.reserves[t])
+        powers = (case.demand[t], row.supplied[t], case.reserves[t])
+        more = prices + "".join(number_cell(power, f"{power / 1000:,.3f}") for power in powers)
         rows.append(
             f'<tr><td class="name" data-is="{t}">{name}</td>{more}{number_cell(uplift[t], money(uplift[t]))}</tr>'
         )
@@ -215,7 +238,7 @@ def hours_part(study: Study) -> str:
     parts = [folded(it.list.name, hours_of(study, it)) for it in study.in_order()]
     return (
         f"<h2>By period</h2><p>Prices are {study.clock.price_unit}. Response is what units would supply at the prices if each did its best, less what buyers would take. Uplift of a "
-        "period is the profit of the responses less that of the schedule, and surplus reserve's worth; the sum over the periods is the gap.</p>"
+        "period is the profit of the responses less that of the schedule, and surplus reserve's worth. It can be below 0; the sum over the periods is the gap.</p>"
         + "".join(parts)
     )
 
@@ -239,7 +262,7 @@ def units_part(study: Study) -> str:
     )
     options = "".join(f'<option value="{it.list.key}">{html.escape(it.list.name)}</option>' for it in lists)
     return (
-        "<h2>Payments by unit</h2><p>What each unit and buyer is paid beside energy and reserve. A click on a head sorts, a click on a row shows that unit's best response "
+        "<h2>Payments by unit</h2><p>What each unit and buyer is paid beside energy and reserve, for all periods together. A click on a head sorts, a click on a row shows that unit's best response "
         f'at the prices of <select id="chosen" aria-label="Prices">{options}</select></p>'
         f'<p>{keys_of(UNIT_KEYS)}</p><div id="unit"></div>'
         f'<div class="wide"><table><thead><tr>{head}</tr></thead><tbody>\n{chr(10).join(rows)}\n</tbody></table></div>'
@@ -262,9 +285,9 @@ def revenue_part(study: Study) -> str:
         "Payment",
     )
     found = []
-    for it in study.paid():
+    for paid in study.paid():
         rows = []
-        for unit in it.flows:
+        for unit in paid.flows:
             flow, owed = total(unit.scheduled), unit.owed
             sums = (
                 flow.energy,
@@ -278,23 +301,23 @@ def revenue_part(study: Study) -> str:
                 owed.payment,
             )
             rows.append(row_of(shown(owed.name), sums, f'<td class="text">{KIND_NAMES[owed.kind]}</td>'))
-        found.append(folded(it.list.name, table(heads, rows)))
+        found.append(folded(paid.list.name, table(heads, rows)))
     return (
         "<h2>Revenue and cost by unit</h2><p>Profit is revenue less cost in the schedule; best profit is that of the best response. A buyer's revenue is what it pays, below 0, "
         "and its cost is the worth of what it takes, below 0.</p>" + "".join(found)
     )
 
 
-def unit_lists(study: Study) -> Dict[int, dict]:
+def unit_lists(study: Study) -> Dict[int, Dict[str, Any]]:
     """For each unit by its place the schedule and the responses, as far as the page holds them."""
     lists, found, room = study.paid(), {}, MOST_NUMBERS
     for i, (kind, unit) in enumerate(study.case.units):
         plan, is_thermal = study.schedule.plan(kind, unit.name), kind == "thermal"
         schedule = {"scheduled": plan.power, **({"scheduledReserve": plan.reserve} if is_thermal else {})}
         responses = {}
-        for it in lists:
-            owed = it.units[i]
-            responses[it.list.key] = {"power": owed.power, **({"reserve": owed.reserve} if is_thermal else {})}
+        for paid in lists:
+            owed = paid.units[i]
+            responses[paid.list.key] = {"power": owed.power, **({"reserve": owed.reserve} if is_thermal else {})}
         room -= (1 + len(lists)) * len(schedule) * study.case.periods
         if room < 0:
             break
@@ -341,10 +364,11 @@ def study_page(study: Study, files: Dict[str, str]) -> str:
         files_part(files),
         origin_part(study),
     ]
+    certified = ", the bound on the dual value by hull certify" if study.certificate else ""
     about = "".join(f"<dt>{html.escape(it.list.name)}</dt><dd>{html.escape(it.list.about)}</dd>" for it in study.paid())
     body = f"""<style>{STYLE}</style><h1>{html.escape(title)}</h1>
 <p>{shown(study.provenance.case_name)}: {len(study.case.units)} units and buyers over {study.case.periods} period{"s" * (study.case.periods > 1)}, a schedule of cost {money(study.cost)}. {money_told}
-Prices are {study.clock.price_unit}. Each settlement is by hull settle, the bound on the dual value by hull certify.</p>
+Prices are {study.clock.price_unit}. Each settlement is by hull settle{certified}.</p>
 {headline(study)}{notes_of(study)}{chr(10).join(parts)}
 <h2>The lists</h2><dl class="origin">{about}</dl>"""
     return document(title, body, [SORT, DRAWING, UNIT_LISTS], {"lists": unit_lists(study)})

@@ -11,11 +11,11 @@ COLOURS = (
 
 STYLE = (
     "".join(
-        f"polyline.l{i} {{ stroke: var(--{it}); }} i.l{i} {{ border-color: var(--{it}); }}"
-        for i, it in enumerate(COLOURS)
+        f"polyline.l{i} {{ stroke: var(--{colour}); }} i.l{i} {{ border-color: var(--{colour}); }}"
+        for i, colour in enumerate(COLOURS)
     )
     + """
-polyline { stroke-width: 1.6; } polyline.dashed { stroke-dasharray: 6 4; } i.dashed { border-top-style: dashed; }
+polyline { stroke-width: 1.6; vector-effect: non-scaling-stroke; } polyline.dashed { stroke-dasharray: 6 4; } i.dashed { border-top-style: dashed; }
 .said { font-size: 1.05rem; } .note { border-left: 3px solid var(--red); padding-left: .6rem; color: var(--text); }
 .list { display: grid; grid-template: 'name bar sum' / minmax(7rem, 14rem) 1fr 8rem; gap: .1rem .8rem; align-items: center; margin: .6rem 0; font-size: .9rem; overflow-wrap: normal; }
 .list span { grid-area: name; } .list .stack { grid-area: bar; } .list span.sum { grid-area: sum; text-align: right; font-variant-numeric: tabular-nums; }

@@ -1,5 +1,5 @@
 """The tables of a study: a row for each list, for each list and unit, and for each list and period."""
-from typing import TYPE_CHECKING, Dict, List, Tuple
+from typing import TYPE_CHECKING, Any, Dict, List, Optional, Tuple
 
 from .cash_flows import KINDS, UnitFlows, total, uplift_by_period
 from .settlement_rules import RULES, bill, forced_loss, paid_by_kind
@@ -24,13 +24,15 @@ def price_heads(study: "Study", *names: str) -> List[str]:
     return [f"{name}_{money_name(study)}_{study.clock.price_suffix}" for name in names]
 
 
-def sums_of(study: "Study", settled: "Settled") -> List[int]:
+def sums_of(study: "Study", settled: "Settled") -> List[Optional[int]]:
     """The sums of one list, in the order of the heads."""
-    it, parts = settled.settlement, study.parts(settled.list.key)
-    bills = [bill(study.case, it, settled.flows, rule) for rule in RULES]
-    found = [it.cost, it.best.value, it.gap, parts.schedule, parts.duality, parts.prices, it.payments, it.make_whole]
-    found += [it.payments - it.make_whole, it.surplus, sum(map(forced_loss, it.units))]
-    found += [paid_by_kind(it.units, rule)[kind] for rule in RULES for kind in KINDS]
+    settlement, parts = settled.settlement, study.parts(settled.list.key)
+    bills = [bill(study.case, settlement, settled.flows, rule) for rule in RULES]
+    gap = (settlement.gap, parts.schedule, parts.duality, parts.prices)
+    found: List[Optional[int]] = [settlement.cost, settlement.best.value, *gap]
+    found += [settlement.payments, settlement.make_whole, settlement.payments - settlement.make_whole]
+    found += [settlement.surplus, sum(map(forced_loss, settlement.units))]
+    found += [paid_by_kind(settlement.units, rule)[kind] for rule in RULES for kind in KINDS]
     return [*found, bills[0].energy, bills[0].reserve, *(it.total for it in bills), bills[0].left]
 
 
@@ -90,8 +92,8 @@ def hours_table(study: "Study") -> Table:
         uplift = uplift_by_period(case, study.schedule, settled.settlement, settled.flows)
         for t, begins in enumerate(clock.times(case.periods)):
             prices = (clock.price_number(row.energy[t]), clock.price_number(row.reserve[t]))
-            powers = (case.demand[t], case.reserves[t], row.supplied[t], row.reserved[t])
-            table.add(settled.list.name, t + 1, begins or None, *prices, *powers, uplift[t])
+            lists = (case.demand[t], case.reserves[t], row.supplied[t], row.reserved[t])
+            table.add(settled.list.name, t + 1, begins or None, *prices, *lists, uplift[t])
     return table
 
 
@@ -100,7 +102,7 @@ def tables_of_study(study: "Study") -> Dict[str, Table]:
     return {"table.csv": lists_table(study), "units.csv": units_table(study), "hours.csv": hours_table(study)}
 
 
-def frames_of_study(study: "Study"):
+def frames_of_study(study: "Study") -> Dict[str, Any]:
     """The tables as data frames of pandas."""
     tables = {"lists": lists_table(study), "units": units_table(study), "hours": hours_table(study)}
     clock = study.clock

@@ -80,7 +80,7 @@ def uplifts(text: str) -> List[Tuple[str, str, float]]:
     found = []
     for row in csv.DictReader(io.StringIO(text)):
         parts = [it for key, it in row.items() if key.startswith(("gap_duality", "gap_prices"))]
-        found.append((row["scenario"], row["list"], sum(map(float, parts))))
+        found.append((row["scenario"], row["list"], sum(float(it or 0) for it in parts)))
     return found
 
 
@@ -98,7 +98,10 @@ def picture_of_sweep(text: str) -> str:
     rows = uplifts(text)
     lists, scenarios = list(dict.fromkeys(it[1] for it in rows)), list(dict.fromkeys(it[0] for it in rows))
     most = max([1.0, *(number for _, _, number in rows)])
-    x = lambda number: LEFT + number / most * (WIDTH - LEFT - 80)
+
+    def x(number: float) -> float:
+        return LEFT + number / most * (WIDTH - LEFT - 80)
+
     y, parts = float(TOP), []
     for scenario in scenarios:
         own = [(name, number) for it, name, number in rows if it == scenario]

@@ -6,11 +6,22 @@ and millionths; or, with `currency`, megawatts and the currency, exact all the s
 import csv
 import io
 import re
+from collections.abc import Iterable, Sequence
+from datetime import datetime
 from decimal import Decimal
+from typing import TYPE_CHECKING, Any, Optional, SupportsFloat, Union
 
+from .cases import Case
 from .numbers import decimal_text
 from .errors import HullError
+from .outputs import Convex, Fixed, Owed, Priced, Report, Settlement, Text
+from .schedules import Schedule
 
+if TYPE_CHECKING:
+    from pandas import DataFrame
+
+Start = Union[str, datetime]  # when the first period begins
+Cell = Union[str, int, float, Decimal, None]
 UNITS = {  # how a number is told: the places that the point moves, and the ends of the heads
     "kw": (3, "kw", "mw"),
     "money": (6, "millionths", "currency"),
@@ -27,36 +38,37 @@ class Table:
     `money_name` stands in the heads for the currency.
     """
 
-    def __init__(self, heads, currency, money_name="currency"):
+    def __init__(self, heads: Sequence[str], currency: bool, money_name: str = "currency") -> None:
         self.units = [it.partition(":")[2] for it in heads]
-        place = 2 if currency else 1
         named = (it.partition(":") for it in heads)
-        told = {unit: names[place].replace("currency", money_name) for unit, names in UNITS.items()}
+        ends = {unit: in_currency if currency else exact for unit, (_, exact, in_currency) in UNITS.items()}
+        told = {unit: end.replace("currency", money_name) for unit, end in ends.items()}
         self.heads = [f"{name}_{told[unit]}" if unit else name for name, _, unit in named]
-        self.currency, self.rows = currency, []
+        self.currency = currency
+        self.rows: list[list[Cell]] = []
 
-    def add(self, *cells):
+    def add(self, *cells: Cell) -> None:
         self.rows.append([self.cell(it, unit) for it, unit in zip(cells, self.units)])
 
-    def cell(self, it, unit):
-        if it is None or not unit or not self.currency:
-            return it
-        return Decimal(decimal_text(it, UNITS[unit][0]))
+    def cell(self, value: Cell, unit: str) -> Cell:
+        if not isinstance(value, int) or not unit or not self.currency:
+            return value
+        return Decimal(decimal_text(value, UNITS[unit][0]))
 
-    def text(self, names_as_they_are=False):
+    def text(self, names_as_they_are: bool = False) -> str:
         """The table as comma separated values."""
-        told = (lambda it: it) if names_as_they_are else told_apart
+        rows = self.rows if names_as_they_are else [[told_apart(cell) for cell in row] for row in self.rows]
         into = io.StringIO()
-        csv.writer(into).writerows([self.heads, *([told(it) for it in row] for row in self.rows)])
+        csv.writer(into).writerows([self.heads, *rows])
         return into.getvalue()
 
 
-def told_apart(cell):
+def told_apart(cell: Cell) -> Cell:
     """The cell, with ' in front of what a spreadsheet would take for a formula, or of ' itself: at the beginning of a text or within."""
     return FORMULA.sub("'", cell) if isinstance(cell, str) else cell
 
 
-def told_apart_count(tables):
+def told_apart_count(tables: dict[str, Table]) -> int:
     """How many names have such a place."""
     cells = {it for table in tables.values() for row in table.rows for it in row if isinstance(it, str)}
     return sum(FORMULA.search(it) is not None for it in cells)
@@ -72,69 +84,75 @@ HEADS = {
 }
 
 
-def tables_of(texts, case=None, schedule=None, currency=False):
+def tables_of(
+    texts: Iterable[Text], case: Optional[Case] = None, schedule: Optional[Schedule] = None, currency: bool = False
+) -> dict[str, Table]:
     """The tables of some texts by name; demand, requirement and the schedule stand beside where these are given."""
     tables = {name: Table(heads.split(), currency) for name, heads in HEADS.items()}
-    for it in texts:
-        fill = {"price": add_priced, "settle": add_priced, "convex": add_priced, "fixed": add_fixed}.get(
-            it.command, add_sums
-        )
-        fill(tables, it, case, schedule)
+    for text in texts:
+        if isinstance(text, (Report, Settlement, Convex)):
+            add_priced(tables, text, case, schedule)
+        elif isinstance(text, Fixed):
+            add_fixed(tables, text, case)
+        else:
+            add_run(tables, text, **vars(text))  # (a text of `hull bound` or `hull certify`, which has sums alone)
     return {name: it for name, it in tables.items() if it.rows}
 
 
-def add_run(tables, it, side=None, **known):
+def add_run(tables: dict[str, Table], text: Text, side: Optional[str] = None, **known: Any) -> None:
     keys = HEADS["runs"].replace(":money", "").replace(":price", "").split()[3:]
-    tables["runs"].add(it.name, it.command, side, *(known.get(key) for key in keys))
+    tables["runs"].add(text.name, text.command, side, *(known.get(key) for key in keys))
 
 
-def add_sums(tables, it, case, schedule):
-    """A text of `hull bound` or `hull certify`, which has sums alone."""
-    add_run(tables, it, **vars(it))
-
-
-def add_priced(tables, it, case, schedule):
-    searched = it.command == "price"
-    run = {key: value for key, value in vars(it).items() if key not in ("units", "proposals", "mixture")}
-    run.update(units=len(it.units), value=it.best.value, make_whole=it.make_whole)
-    run.update(lost_opportunity=it.payments - it.make_whole)
-    if searched:
-        run.update(proposals=len(it.proposals), chosen=it.chosen)
-    add_run(tables, it, **run)
-    for row in it.proposals:
-        number, is_chosen = row.number if searched else None, int(row is it.best)
-        if searched:
-            tables["proposals"].add(it.name, number, row.value, is_chosen)
-        for t in range(it.periods):
+def add_priced(
+    tables: dict[str, Table],
+    priced: Union[Report, Settlement, Convex],
+    case: Optional[Case],
+    schedule: Optional[Schedule],
+) -> None:
+    report = priced if isinstance(priced, Report) else None
+    run = {key: value for key, value in vars(priced).items() if key not in ("units", "proposals", "mixture")}
+    run.update(units=len(priced.units), value=priced.best.value, make_whole=priced.make_whole)
+    run.update(lost_opportunity=priced.payments - priced.make_whole)
+    if report:
+        run.update(proposals=len(priced.proposals), chosen=report.chosen)
+    add_run(tables, priced, **run)
+    for row in priced.proposals:
+        number, is_chosen = row.number if report else None, int(row is priced.best)
+        if report:
+            tables["proposals"].add(priced.name, number, row.value, is_chosen)
+        for t in range(priced.periods):
             due = (case.demand[t], case.reserves[t]) if case else (None, None)
             lists = (row.energy[t], row.reserve[t], row.supplied[t], row.reserved[t])
-            tables["prices"].add(it.name, None, number, is_chosen, t + 1, *lists, *due)
-    for unit in it.units:
+            tables["prices"].add(priced.name, None, number, is_chosen, t + 1, *lists, *due)
+    for unit in priced.units:
         sums = (unit.earned, unit.scheduled, unit.payment, unit.make_whole, unit.lost_opportunity)
-        tables["units"].add(it.name, None, unit.kind, unit.name, *sums)
-        add_response(tables["responses"], it, unit, schedule)
+        tables["units"].add(priced.name, None, unit.kind, unit.name, *sums)
+        add_response(tables["responses"], priced, unit, schedule)
 
 
-def add_response(table, it, unit, schedule):
+def add_response(table: Table, priced: Priced, unit: Owed, schedule: Optional[Schedule]) -> None:
     plan = schedule.plan(unit.kind, unit.name) if schedule else None
-    for t in range(it.periods):
+    for t in range(priced.periods):
         due = (plan.on[t], plan.power[t], plan.reserve[t]) if plan else (None, None, None)
-        table.add(it.name, unit.kind, unit.name, t + 1, unit.on[t], unit.power[t], unit.reserve[t], *due)
+        table.add(priced.name, unit.kind, unit.name, t + 1, unit.on[t], unit.power[t], unit.reserve[t], *due)
 
 
-def add_fixed(tables, it, case, schedule):
-    for name, side in (("hull", it.hull), ("fixed", it.fixed)):
+def add_fixed(tables: dict[str, Table], fixed: Fixed, case: Optional[Case]) -> None:
+    for name, side in (("hull", fixed.hull), ("fixed", fixed.fixed)):
         gap = side.payments + side.surplus
-        add_run(tables, it, name, **{**vars(side), "cost": it.cost, "units": len(it.units), "gap": gap})
+        add_run(tables, fixed, name, **{**vars(side), "cost": fixed.cost, "units": len(fixed.units), "gap": gap})
         for t, (energy, reserve) in enumerate(zip(side.prices.energy, side.prices.reserve)):
             due = (case.demand[t], case.reserves[t]) if case else (None, None)
-            tables["prices"].add(it.name, name, side.chosen, 1, t + 1, energy, reserve, None, None, *due)
-        for kind, unit, *payments in it.units:
-            payment = payments[name == "fixed"]
-            tables["units"].add(it.name, name, kind, unit, None, None, payment, None, None)
+            tables["prices"].add(fixed.name, name, side.chosen, 1, t + 1, energy, reserve, None, None, *due)
+        for kind, unit, of_hull, of_fixed in fixed.units:
+            payment = of_fixed if name == "fixed" else of_hull
+            tables["units"].add(fixed.name, name, kind, unit, None, None, payment, None, None)
 
 
-def frames_of(tables, start=None, hours_per_period=1):
+def frames_of(
+    tables: dict[str, Table], start: Optional[Start] = None, hours_per_period: SupportsFloat = 1
+) -> dict[str, "DataFrame"]:
     """The tables as data frames of pandas; numbers in the currency and MW are floating there. With a start, rows of periods are indexed by time."""
     try:
         import pandas

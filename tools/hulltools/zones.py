@@ -1,6 +1,7 @@
 """Prices by zone: a file of price lists and of each unit's zone, and what each unit is owed at the prices of its own."""
+import json
 from dataclasses import dataclass
-from typing import Dict, List, Optional
+from typing import Any, Callable, Dict, List, Optional
 
 from .cases import Case
 from .cash_flows import UnitFlows, unit_flows
@@ -9,6 +10,7 @@ from .errors import HullError, one_line
 from .json_texts import read_json
 from .outputs import Owed, Settlement
 from .prices import Prices, prices_of
+from .progress import step
 from .schedules import Schedule
 
 
@@ -20,11 +22,19 @@ class Zones:
     units: Dict[str, str]
     default: Optional[str] = None
 
+    def text(self) -> str:
+        """The file: prices in the currency per MW and period, exact."""
+        lists = (f"{json.dumps(zone, ensure_ascii=False)}: {it.text().strip()}" for zone, it in self.prices.items())
+        members = [f'"zones": {{{", ".join(lists)}}}', f'"units": {json.dumps(self.units, ensure_ascii=False)}']
+        if self.default is not None:
+            members.append(f'"default": {json.dumps(self.default, ensure_ascii=False)}')
+        return "{" + ", ".join(members) + "}\n"
+
     def zone_of(self, unit: str) -> str:
         return self.units.get(unit, self.default or "")
 
 
-def zones_of(name: str, value, case: Case) -> Zones:
+def zones_of(name: str, value: Any, case: Case) -> Zones:
     """The zones of a JSON value, which has a zone for each unit of the case."""
     if not isinstance(value, dict) or not isinstance(value.get("zones"), dict) or not value["zones"]:
         raise HullError(f"{name}: no zones: it isn't an object with the object `zones`, of prices by zone")
@@ -64,7 +74,7 @@ class Zonal:
     def units(self) -> List[Owed]:
         return [unit.owed for unit in self.flows]
 
-    def frame(self):
+    def frame(self) -> Any:
         """A row for each unit, as a data frame of pandas."""
         from .study_tables import zonal_table
         from .tables import frames_of
@@ -72,10 +82,15 @@ class Zonal:
         return frames_of({"units": zonal_table(self)})["units"]
 
 
-def settle_zones(settle, case: Case, schedule: Schedule, zones: Zones) -> Zonal:
+def settle_zones(settle: Callable[[Prices], Settlement], case: Case, schedule: Schedule, zones: Zones) -> Zonal:
     """Settles once at each zone's prices, by `settle`, and takes each unit's line from its zone's settlement."""
     used = {zones.zone_of(unit.name) for _, unit in case.units}
-    settlements = {zone: settle(prices) for zone, prices in zones.prices.items() if zone in used}
+    settlements: Dict[str, Settlement] = {}
+    for zone, prices in zones.prices.items():
+        if zone in used:
+            with step(f"zone {zone}"):
+                settlements[zone] = settle(prices)
     costs = Costs()
-    flows = {zone: unit_flows(case, schedule, it, costs) for zone, it in settlements.items()}
+    with step("revenue and cost by unit"):
+        flows = {zone: unit_flows(case, schedule, it, costs) for zone, it in settlements.items()}
     return Zonal(zones, settlements, [flows[zones.zone_of(unit.name)][i] for i, (_, unit) in enumerate(case.units)])

@@ -153,6 +153,23 @@ class Csv(WithRoom):
         self.assertIn("would be replaced", self.convert(folder, folder, status=1)[1])
         self.assertEqual(self.read(f"{folder}/units.csv"), before)
 
+    def test_a_cell_without_an_end_is_refused(self) -> None:
+        folder = self.folder()
+        self.write("csv/offers.csv", self.read(f"{folder}/offers.csv") + '"' + "GT5,20,1\n" * 20_000)
+        told = self.convert(folder, f"{self.room}/back.json", status=1)[1]
+        self.assertIn("convert.py: csv/offers.csv: no table of comma separated values: field larger", told)
+
+    def test_all_files_of_a_folder_are_written_or_none(self) -> None:
+        folder = self.folder()
+        files = {name: self.read(f"{folder}/{name}") for name in os.listdir(folder)}
+        os.remove(f"{folder}/bids.csv")
+        os.mkdir(f"{folder}/bids.csv")
+        text = market.text(market.case()).replace("GT5", "GT55")
+        said = self.convert(self.write("other.json", text), folder, status=1)[1]
+        self.assertIn("csv/bids.csv: Is a directory", said)
+        del files["bids.csv"]
+        self.assertEqual({name: self.read(f"{folder}/{name}") for name in files}, files)
+
 
 MAY_BE_LEFT_OUT = (
     *("Initial status (h)", "Initial power (MW)", "Ramp down limit (MW)"),

@@ -307,7 +307,9 @@ class Explain(unittest.TestCase):
             place = it.read().index(b"NaN")
         told = self.sentence(line.replace("1043", str(place)))
         self.assertIn('in renewable unit "W1", power_output_maximum, item 2: this isn\'t JSON', told)
-        self.assertIn("(no number of JSON: give the value, or 0 where there is none)", told)
+        self.assertIn(
+            "(no number of JSON: give the value; 0 is no power or money, and not a value that is missing)", told
+        )
 
     def test_a_report_of_other_files(self):
         with open(f"{EXAMPLES}/two_units/price.output", encoding="utf-8") as it:
@@ -428,6 +430,9 @@ class Harmful(unittest.TestCase):
             command = f"echo fault 7 memory | {tool} {to}"
             self.assertEqual(self.shell(command), (1, f"explain.py: {why}\n"))
         self.assertEqual(self.shell(f"{tool} --help >/dev/full"), (1, f"explain.py: {why}\n"))
+        for name, words in (("lint", "none"), ("convert", "none none.json"), ("compare", "none none")):
+            command = f"{tool.replace('explain', name)} {words} >&-"
+            self.assertEqual(self.shell(command), (1, f"{name}.py: standard output is closed\n"))
 
     @staticmethod
     def shell(command):

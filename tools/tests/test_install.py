@@ -57,6 +57,10 @@ class Install(unittest.TestCase):
         names = [sorted(it.split("/hulltools/")[1] for it in files) for files in (there, due)]
         self.assertEqual(names[0], names[1])
 
+    def test_types_are_there(self) -> None:
+        marks = glob.glob(f"{self.room}/environment/lib/python3*/site-packages/hulltools/py.typed")
+        self.assertEqual(len(marks), 1)
+
     def test_each_command_says_how_it_is_called(self) -> None:
         with open(f"{ROOT}/tools/pyproject.toml", encoding="utf-8") as file:
             commands = re.findall(r'^(hull-[\w-]+) = "', file.read(), re.M)

@@ -114,8 +114,8 @@ MISTAKES: Dict[str, Tuple[Change, str, Optional[str]]] = {
     ),
     "NaN in a forecast": (
         replaced("case", "56.5", "NaN"),
-        "in renewable unit \"WIND1\", power_output_maximum, item 5: this isn't JSON, or can't stand there (no number of JSON: give the value, "
-        "or 0 where there is none)",
+        "in renewable unit \"WIND1\", power_output_maximum, item 5: this isn't JSON, or can't stand there (no number of JSON: give the value; "
+        "0 is no power or money, and not a value that is missing)",
         'in renewable unit "WIND1", power_output_maximum, item 5',
     ),
     "two units of one name": (
@@ -172,10 +172,23 @@ MISTAKES: Dict[str, Tuple[Change, str, Optional[str]]] = {
         "80 MW at 88.00 per MWh cost 7,040.00 an hour.",
         None,
     ),
+    "costs per MWh of a small unit": (
+        unit_change(
+            "GT6", power_output_minimum=8, power_output_maximum=20, piecewise_production=points((8, 90), (20, 100))
+        ),
+        'thermal unit "GT6": its cost at 20 MW is 100.00, 5.00 per MWh: are its costs per MWh? `cost` is what a whole period at that power costs: '
+        "20 MW at 100.00 per MWh cost 2,000.00 an hour.",
+        None,
+    ),
     "falling slopes": (
         unit_change("GT5", piecewise_production=points((20, 2000), (50, 5000), (80, 7000))),
         "at 50 MW the cost of a further MWh falls from 100.00 to 66.67. hull takes the envelope of the points: 4,499.99 at 50 MW in place of "
         "5,000.00. In this schedule it costs 1,000.00 less by the convex envelope, and 0.02 less still by whole prices.",
+        None,
+    ),
+    "falling slopes of a unit that is off": (
+        unit_change("GT6", piecewise_production=points((20, 2000), (50, 5000), (80, 7000))),
+        "4,499.99 at 50 MW in place of 5,000.00. In this schedule that changes nothing.",
         None,
     ),
     "times that contradict": (

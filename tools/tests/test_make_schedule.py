@@ -99,7 +99,7 @@ class MakeSchedule(unittest.TestCase):
     def test_the_clock_chooses_no_schedule(self):
         status, _, said = self.make(f"{EXAMPLES}/evening/case.json", "--seconds", "0")
         self.assertEqual((status, os.listdir(self.room)), (1, []))
-        self.assertIn("the outer limit of 0 s is over: no schedule was found, and 0.05 % are to be reached", said)
+        self.assertIn("the outer limit of 0 s is over: ", said)
 
     def test_the_same_schedule_is_made_twice(self):
         texts = []
@@ -228,3 +228,7 @@ class WithoutSciPy(unittest.TestCase):
             status, text, said = run(tool, "--help", flags=("-S", "-E"))
             self.assertEqual((status, said), (0, ""))
             self.assertTrue(text.startswith(f"usage: {tool} CASE"), text)
+
+
+if __name__ == "__main__":
+    unittest.main()

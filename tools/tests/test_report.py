@@ -328,3 +328,7 @@ class Report(unittest.TestCase):
             self.report("page", self.write(ODD), "folder")[2],
             f"report.py: {self.room}/folder: Is a directory\n",
         )
+
+
+if __name__ == "__main__":
+    unittest.main()

@@ -205,6 +205,12 @@ class Compare(unittest.TestCase):
             ("unit,sum\n", "there is no column 'amount'"),
             ("unit,amount\nPEAKER,five\n", "row 2: 'five' is no amount"),
             ("unit,amount\nPEAKER,nan\n", "row 2: 'nan' is no amount"),
+            ('unit,amount\nPEAKER,"5,00"\n', "row 2: '5,00' is no amount"),
+            ("unit,amount\nPEAKER,5_00\n", "row 2: '5_00' is no amount"),
+            (
+                f"unit,amount\nPEAKER,{'5' * 200_000}\n",
+                "statement.csv: no table of comma separated values: field larger",
+            ),
         ):
             status, table, said = self.compare(text)
             self.assertEqual((status, table, said.count("\n")), (1, "", 1))

@@ -26,6 +26,7 @@ def program_here() -> str:
 
 
 PROGRAM = program_here()
+os.environ["HULL_PROGRESS"] = "0"  # (a machine that is slow says more; what is said meanwhile has tests of its own)
 sys.path.insert(0, f"{ROOT}/tools")
 
 
@@ -42,9 +43,10 @@ def python_with(module):
 
 
 def run_here(tool, words, text):
-    """Runs a tool's main as it is, without a Python of its own; an interrupt is the tests' again behind it."""
+    """Runs a tool's main as it is, without a Python of its own; signals are the tests' again behind it."""
     main = importlib.import_module(f"hulltools.commands.{tool.removesuffix('.py')}").main
-    output, said, handler = io.TextIOWrapper(io.BytesIO(), "utf-8"), io.StringIO(), signal.getsignal(signal.SIGINT)
+    output, said = io.TextIOWrapper(io.BytesIO(), "utf-8"), io.StringIO()
+    handlers = {it: signal.getsignal(it) for it in (signal.SIGINT, signal.SIGTERM)}
     stdin, sys.stdin = sys.stdin, io.TextIOWrapper(io.BytesIO(text.encode()), "utf-8")
     try:
         with contextlib.redirect_stdout(output), contextlib.redirect_stderr(said):
@@ -53,7 +55,8 @@ def run_here(tool, words, text):
         status = end.code
     finally:
         sys.stdin = stdin
-        signal.signal(signal.SIGINT, handler)
+        for number, handler in handlers.items():
+            signal.signal(number, handler)
     output.flush()
     return status, output.buffer.getvalue().decode(), said.getvalue()
 

@@ -38,10 +38,13 @@ class Rounding(unittest.TestCase):
         given = read_schedule(files("evening")[1], case)
         flags = [given.plan("thermal", it.name).on for it in case.thermal]
         made, costs = dispatch(case, Commitment(case), flags), Costs()
-        of = lambda schedule: sum(costs.of_plan(it, schedule.plan("thermal", it.name)) for it in case.thermal) - sum(
-            worth(it.blocks[t], schedule.plan("bid", it.name).power[t]) for it in case.bids for t in range(case.periods)
-        )
-        self.assertLessEqual(of(made), of(given))
+
+        def cost_of(schedule):
+            bought = [(bid.blocks, schedule.plan("bid", bid.name).power) for bid in case.bids]
+            spent = sum(costs.of_plan(unit, schedule.plan("thermal", unit.name)) for unit in case.thermal)
+            return spent - sum(worth(blocks[t], power[t]) for blocks, power in bought for t in range(case.periods))
+
+        self.assertLessEqual(cost_of(made), cost_of(given))
 
 
 class MissedGap(unittest.TestCase):
@@ -230,6 +233,7 @@ class Study(unittest.TestCase):
             "must_run",
         ):
             self.assertIn(due, page)
+        self.assertIn("A better schedule may save some of the first part, and no prices do;", page)
         self.study("--no-schedule", "--rule", "make-whole")
         self.assertNotIn("Payments: make-whole and lost opportunity", self.read("study.html"))
 
@@ -264,6 +268,9 @@ class Study(unittest.TestCase):
         ):
             self.study("--no-schedule", *words)
             self.assertEqual(json.loads(self.read("elmp.prices.json")), {"energy": [price], "reserve": [0]}, words)
+        about = {row["list"]: row["about"] for row in self.rows("table.csv")}
+        self.assertTrue(about["ELMP"].endswith(" Fast-start: PEAKER"))
+        self.assertIn(about["ELMP"], self.read("study.html"))
         self.assertIn('no thermal unit "NONE"', self.study("--no-schedule", "--fast-start", "NONE", status=1))
 
     def test_lists_of_files_and_of_the_search(self):
@@ -326,7 +333,9 @@ class Study(unittest.TestCase):
         self.assertIn(due, self.read("study.html"))
 
     def test_a_best_schedule_that_takes_too_long_is_told(self):
-        said = self.study("--seconds", "0", status=3)
+        over = hulltools.HullError("the outer limit of 0 s is over: no schedule was found")
+        with mock.patch("hulltools.commands.make_schedule.make_schedule", side_effect=over):
+            said = self.study(status=3)
         due = "No schedule was made beside this one: the outer limit of 0 s is over: no schedule was found"
         self.assertIn(due, said)
         self.assertIn(due, self.read("study.html"))
@@ -462,6 +471,13 @@ class Sweep(unittest.TestCase):
         self.assertEqual((status, said.count("it is done")), (0, 1), said)
         with open(f"{self.room}/base/table.csv", "rb") as file:
             self.assertEqual(file.read(), before)
+        for name in ("base", "demand_+2"):  # (what somebody has changed or cut isn't taken)
+            with open(f"{self.room}/{name}/table.csv", "wb") as file:
+                file.write(before[:-9].replace(b"250", b"1") if name == "base" else b"")
+        status, said = self.sweep("--demand=+2%")
+        self.assertEqual(
+            (status, said.count("it is done"), self.gaps()), (0, 0, {"base": 250, "demand +2%": 225}), said
+        )
         self.assertNotIn("it is done", self.sweep("--demand=+2%", "--", "--within", "0.5")[1])
 
     def test_a_case_that_cannot_be_met_is_left_out(self):

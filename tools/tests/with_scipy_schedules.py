@@ -6,14 +6,14 @@ import tempfile
 import unittest
 
 import plain_commitment
-from tool import PROGRAM, run
+from tool import EXAMPLES, PROGRAM, run
 
 from hulltools.errors import HullError
 from hulltools.json_texts import parse
-from hulltools.cases import case_of
+from hulltools.cases import case_of, read_case
 from hulltools.program import Hull, as_file
 from hulltools.schedules import Schedule
-from hulltools.scheduling import Made, make_schedule
+from hulltools.scheduling import Made, make_schedule, search
 from hulltools.search_limits import SearchLimits
 
 LIMITS = SearchLimits(0.0, 100_000, 60.0)
@@ -87,6 +87,12 @@ class StartCosts(unittest.TestCase):
         made = Made(Schedule({}), 101.0, 101.0, 1, 0.0005, 1.0)
         self.assertTrue(made.is_near)
         self.assertEqual(made.told(101_000_000), "within 0.9901 % of the solver's bound, 100.00, after 1 node")
+
+    def test_what_the_clock_cut_is_refused(self) -> None:
+        case = read_case(f"{EXAMPLES}/evening/case.json")
+        due = r"the outer limit of 0 s is over: no schedule was found, and 0\.05 % are to be reached"
+        with self.assertRaisesRegex(HullError, due):
+            search(case, SearchLimits(seconds=0.0))
 
     def test_a_solver_without_a_bound_is_told(self) -> None:
         made = Made(Schedule({}), 101.0, -float("inf"), 200, 0.0005)

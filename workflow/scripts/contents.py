@@ -76,7 +76,7 @@ def make_folders(day: Day) -> None:
 @contextlib.contextmanager
 def alone(name: str) -> Iterator[None]:
     """Waits until no other process is within the same name."""
-    handle = os.open(name, os.O_CREAT | os.O_WRONLY | os.O_NOFOLLOW | os.O_CLOEXEC, 0o666)
+    handle = os.open(name, os.O_CREAT | os.O_WRONLY | os.O_NOFOLLOW | os.O_NONBLOCK | os.O_CLOEXEC, 0o666)
     try:
         fcntl.flock(handle, fcntl.LOCK_EX)
         yield

@@ -15,6 +15,7 @@ from hulltools.program import default_program  # noqa: E402
 
 LISTS = {
     "lmp": "LMP: duals of the dispatch with the schedule's commitments held",
+    "elmp": "ELMP: LMP with fast-start units relaxed, their start costs spread",
     "relaxation": "integer relaxation: duals with on flags between 0 and 1",
     "subgradient_100": "hull price with 100 proposals, four ahead",
     "subgradient_1000": "hull price with up to 1,000 proposals, one ahead",
@@ -101,7 +102,7 @@ def settings_from(config: Mapping[str, Any]) -> Settings:
     only = config.get("only")
     if only is not None and not isinstance(only, list):
         only = [only]
-    words = {"schedule": "schedule_words", "convex_hull": "convex_words", REPORT: "report_words"}
+    words = {"schedule": "schedule_words", "elmp": "elmp_words", "convex_hull": "convex_words", REPORT: "report_words"}
     audit = bool(config.get("audit", True))
     return Settings(
         days=str(config.get("days") or "days"),

@@ -34,6 +34,9 @@ def why_not_begun(day: Day) -> Optional[str]:
         return "there is no such folder"
     if not os.path.isfile(day.path("case")):
         return "no case.json"
+    for what in ("schedule", REPORT):
+        if day.is_given(what) and not os.path.isfile(day.path(what)):
+            return f"its {os.path.basename(day.path(what))} is no file, or a link to none"
     try:
         refuse_links(day.settings, day.name, f"{day.name}/{HIDDEN}", f"{day.name}/log")
         for step in day.steps():

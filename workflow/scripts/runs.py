@@ -1,6 +1,7 @@
 """What the Snakefile needs of a run: the lock of the study, resources that grow with the case and the attempt, and the summary."""
 import fcntl
 import os
+import re
 import subprocess
 import sys
 from typing import Any, Callable, Iterator, TypeVar
@@ -17,6 +18,14 @@ def is_main(workflow: Any) -> bool:
     """Whether this is the process that the user started, and not one of its jobs."""
     mode = getattr(workflow, "exec_mode", getattr(workflow, "mode", 0))  # (of Snakemake 8 and later, and of 7)
     return getattr(mode, "value", mode) == 0
+
+
+def refuse_unheard_processors(workflow: Any) -> None:
+    """Refuses `-c2` where a profile says the number of processors too: Snakemake sees only `-c 2` then, and takes the profile's."""
+    taken = getattr(workflow, "global_resources", {}).get("_cores")
+    for word in sys.argv[1:]:
+        if re.fullmatch("-c[0-9]+", word) and taken not in (None, int(word[2:])):
+            raise HullError(f"{word}: Snakemake would use {taken} processors, as the profile says: write -c {word[2:]}")
 
 
 def links_below(folder: str) -> Iterator[str]:
@@ -61,7 +70,7 @@ def begin_alone(settings: Settings) -> int:
         refuse_audits_inside(settings)
         os.makedirs(os.path.join(settings.results, HIDDEN), exist_ok=True)
         name = os.path.join(settings.results, HIDDEN, "lock")
-        handle = os.open(name, os.O_CREAT | os.O_WRONLY | os.O_NOFOLLOW | os.O_CLOEXEC, 0o666)
+        handle = os.open(name, os.O_CREAT | os.O_WRONLY | os.O_NOFOLLOW | os.O_NONBLOCK | os.O_CLOEXEC, 0o666)
         fcntl.flock(handle, fcntl.LOCK_EX | fcntl.LOCK_NB)
         write_whole(settings_file(settings), settings.text().encode())
     except BlockingIOError:

@@ -5,6 +5,7 @@ usage: step.py STEP DAY --settings FILE [--attempt N]
 import argparse
 import os
 import re
+import shutil
 import signal
 import subprocess
 import sys
@@ -13,7 +14,7 @@ from hashlib import sha256
 from typing import Any, Callable, Dict, List, Optional
 
 from contents import alone, audit_mark, basis, make_folders, read_record, record_name, refuse_foreign
-from contents import why_not_current, write_record, write_whole
+from contents import sum_of, why_not_current, write_record, write_whole
 from days import HOME, LISTS, REPORT, STEPS, Day, refusal_of_name, read_settings, shown
 from hulltools.errors import HullError, one_line
 from hulltools.faults import sentence
@@ -40,10 +41,11 @@ def said_by(ran: "subprocess.CompletedProcess[bytes]") -> str:
     return f": {text[-300:]}" if text else ""
 
 
-def hull(day: Day, command: str, *more: str, **files: str) -> bytes:
-    """What the program prints with status 0 for the day's case and schedule, and for further files."""
+def hull(day: Day, command: str, *more: str, copies: Optional[Dict[str, str]] = None, **files: str) -> bytes:
+    """What the program prints with status 0 for the day's case and schedule, and for further files; it reads copies where there are such."""
     given = {"case": day.path("case"), "schedule": day.path("schedule"), **files}
-    words = [command, *(word for key, name in given.items() for word in (f"--{key}", name)), *more]
+    names = {**given, **(copies or {})}
+    words = [command, *(word for key, name in names.items() for word in (f"--{key}", name)), *more]
     ran = subprocess.run([day.settings.program, *words], stdin=subprocess.DEVNULL, capture_output=True)
     if ran.returncode == 0:
         return ran.stdout
@@ -126,10 +128,19 @@ PRICES: Dict[str, Callable[[Day], Prices]] = {
 }
 
 
+def write_elmp(day: Day, prices: str) -> None:
+    hull(day, "check")
+    words = (*day.settings.words_of("elmp"), "--hull", day.settings.program)
+    tool(day, "elmp.py", day.path("case"), day.path("schedule"), prices, *words)
+
+
 def make_price_list(day: Day, name: str, room: str) -> Made:
-    text = PRICES[name](day).text().encode()
-    write_whole(f"{room}/prices.json", text)
-    return {f"{name}.prices.json": text, f"{name}.settlement.txt": settlement(day, f"{room}/prices.json")}
+    prices = f"{room}/prices.json"
+    if name == "elmp":
+        write_elmp(day, prices)
+    else:
+        write_whole(prices, PRICES[name](day).text().encode())
+    return {f"{name}.prices.json": read(prices), f"{name}.settlement.txt": settlement(day, prices)}
 
 
 def make_convex_hull(day: Day, room: str) -> Made:
@@ -144,14 +155,22 @@ def make_convex_hull(day: Day, room: str) -> Made:
     return dict(zip(STEPS["convex_hull"].makes, made))
 
 
-def make_audit(day: Day) -> Made:
-    text = hull(day, "audit", "--workers", "1", report=day.path("report"))
+def make_audit(day: Day, room: str, sums: Dict[str, Optional[str]]) -> Made:
+    """The audit of copies with these sums: whatever others write meanwhile, it is of these very files that it is noted as right."""
+    folder = f"{room}/days/{day.name}"
+    os.makedirs(folder)
+    copies = {what: f"{folder}/{os.path.basename(day.path(what))}" for what in STEPS["audit"].takes}
+    for what, name in copies.items():
+        shutil.copyfile(day.path(what), name)
+        if sum_of(name) != sums[what]:
+            raise HullError("its files were changed meanwhile")
+    text = hull(day, "audit", "--workers", "1", copies=copies, report=day.path("report"))
     if not RIGHT_AUDIT.fullmatch(text):
         raise HullError("hull audit ended with status 0, and its text isn't that of a right audit")
     return {"audit.txt": text}
 
 
-def make(day: Day, step: str, room: str) -> Made:
+def make(day: Day, step: str, room: str, sums: Dict[str, Optional[str]]) -> Made:
     if step == "schedule":
         return make_schedule(day, room)
     if step == "convex_hull":
@@ -160,7 +179,7 @@ def make(day: Day, step: str, room: str) -> Made:
         return make_price_list(day, step, room)
     if step == REPORT:
         return {"report.txt": report(day, *day.settings.words_of(REPORT))}
-    return make_audit(day)
+    return make_audit(day, room, sums)
 
 
 def mark_audit(day: Day, sums: Dict[str, Optional[str]]) -> None:
@@ -218,7 +237,7 @@ def run_step(day: Day, step: str, attempt: int) -> Optional[str]:
         return before
     try:
         with tempfile.TemporaryDirectory(prefix="hull-day-") as room:
-            keep(day, step, of, make(day, step, room))
+            keep(day, step, of, make(day, step, room, of["of"]))
         for name in (record_name(day, step, "left"), day.made(f"log/{step}.txt")):
             drop(name)
         return None

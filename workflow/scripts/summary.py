@@ -14,6 +14,7 @@ from contents import HIDDEN, basis, is_marked, read_record, record_name, refuse_
 from contents import write_record, write_whole
 from days import LISTS, REPORT, STEPS, Day, Settings, read_settings, shown
 from plan import plan_of
+from runs import refuse_audits_inside, settings_file
 from hulltools.errors import HullError, one_line
 from hulltools.outputs import read_output
 from hulltools.tables import Table
@@ -180,21 +181,35 @@ def tell(settings: Settings, text: str) -> None:
     print(f"{one_line(where)}table.csv, page.html and left.txt are written; {told}", flush=True)
 
 
+def settings_of(name: str) -> Settings:
+    """The settings in a file; HullError where no run can have left them there, with places of their own to write to or of marks of audits."""
+    try:
+        settings = read_settings(name)
+    except (ValueError, TypeError, RecursionError):
+        raise HullError(f"{name}: these are no settings of a run") from None
+    place = settings_file(settings)
+    if not os.path.isfile(place) or not os.path.samefile(name, place) or not os.path.isabs(settings.audits):
+        raise HullError(f"{name}: these settings aren't those that a run has left for {settings.results}")
+    refuse_audits_inside(settings)
+    return settings
+
+
 def body(words: List[str]) -> int:
     ask = argparse.ArgumentParser(prog="summary.py", usage=(__doc__ or "").split("usage: ")[1].split("\n")[0])
-    ask.add_argument("--settings", required=True, type=read_settings)
+    ask.add_argument("--settings", required=True)
     ask.add_argument("--quiet", action="store_true")
     ask.add_argument("--print", action="store_true")
     given = ask.parse_args(words)
+    settings = settings_of(given.settings)
     if given.print:
-        with open(os.path.join(given.settings.results, "left.txt"), encoding="utf-8") as file:
+        with open(os.path.join(settings.results, "left.txt"), encoding="utf-8") as file:
             text = file.read()
     else:
-        summary = summary_of(given.settings)
-        write_files(given.settings, summary)
+        summary = summary_of(settings)
+        write_files(settings, summary)
         text = left_text(summary)
     if not given.quiet:
-        tell(given.settings, text)
+        tell(settings, text)
     return 1 if text else 0
 
 

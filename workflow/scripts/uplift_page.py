@@ -13,6 +13,7 @@ if TYPE_CHECKING:
 
 COLOURS = {
     "lmp": "var(--soft)",
+    "elmp": "var(--teal)",
     "relaxation": "var(--violet)",
     "subgradient_100": "var(--red)",
     "subgradient_1000": "var(--green)",
@@ -23,6 +24,7 @@ STYLE = "".join(
     f"polyline.{name} {{ stroke: {colour}; }} circle.{name} {{ fill: {colour}; }} i.{name} {{ border-color: {colour}; }}"
     for name, colour in COLOURS.items()
 ) + (
+    " :root { --teal: #00757a; } @media (prefers-color-scheme: dark) { :root { --teal: #5fd3d8; } }"
     " polyline { stroke-width: 1.4; } polyline.least { stroke: var(--text); stroke-dasharray: 5 4; }"
     " i.least { border-color: var(--text); border-top-style: dashed; } .key { display: inline-block; margin-right: .8rem; }"
     " td.about { white-space: normal; min-width: 9rem; }"

@@ -12,18 +12,20 @@ The table is printed, the largest difference first: statement less settlement. A
 Status 0 where no difference is above the tolerance, else 3.
 """
 import sys
+from collections.abc import Sequence
+from typing import Optional, Union, cast
 
 from ..comparing import differences, statement_of, table_of
-from ..errors import HullError, one_line, read_bytes, run_tool
+from ..errors import HullError, Tell, need_output, one_line, read_bytes, run_tool
 from ..numbers import millionths, money
-from ..outputs import read_output
+from ..outputs import Report, Settlement, read_output
 from ..settlement_rules import RULES
 from .words import asker, positive
 
 DIFFERENT = 3
 
 
-def body(words, tell):
+def body(words: Sequence[str], tell: Tell) -> int:
     ask = asker("compare.py", __doc__)
     ask.add_argument("settlement")
     ask.add_argument("statement")
@@ -32,12 +34,14 @@ def body(words, tell):
     ask.add_argument("--amount", default="amount")
     ask.add_argument("--tolerance", type=positive, default=0.01)
     given = ask.parse_args(words)
-    settlement = read_output(given.settlement, ("hull-settlement 1", "hull-report 1"))
+    need_output()
+    found = read_output(given.settlement, ("hull-settlement 1", "hull-report 1"))
+    units = cast(Union[Settlement, Report], found).units
     try:
         text = read_bytes(given.statement, "a statement").decode("utf-8")
     except UnicodeDecodeError:
         raise HullError(f"{given.statement}: this isn't UTF-8") from None
-    rows = differences(statement_of(given.statement, text, given.unit, given.amount), settlement.units, given.rule)
+    rows = differences(statement_of(given.statement, text, given.unit, given.amount), units, given.rule)
     sys.stdout.write(table_of(rows).text())
     sys.stdout.flush()
     for told, missing in (
@@ -51,5 +55,5 @@ def body(words, tell):
     return DIFFERENT if off else 0
 
 
-def main(words=None):
+def main(words: Optional[Sequence[str]] = None) -> int:
     return run_tool("compare.py", body, words)

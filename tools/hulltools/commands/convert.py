@@ -20,7 +20,7 @@ from typing import Callable, List, Optional, Sequence
 from ..converters import FORMS, Notes, form_of, read_form
 from ..converters.case_texts import case_text
 from ..converters.csv_folder import write_csv
-from ..errors import HullError, refuse_inputs, run_tool, write_whole
+from ..errors import HullError, need_output, refuse_inputs, run_tool, write_whole
 from ..lint import Review, look
 from ..lint_findings import Level
 from .words import asker
@@ -30,8 +30,8 @@ def review_of(text: str) -> Review:
     """What lint.py finds in the case."""
     with tempfile.TemporaryDirectory(prefix="hull-convert-") as folder:
         name = os.path.join(folder, "case.json")
-        with open(name, "w", encoding="utf-8") as it:
-            it.write(text)
+        with open(name, "w", encoding="utf-8") as file:
+            file.write(text)
         return look({"case": name})
 
 
@@ -51,18 +51,19 @@ def inputs_of(name: str) -> List[str]:
 
 def body(words: Sequence[str], tell: Callable[[str], None]) -> int:
     ask = asker("convert.py", __doc__)
-    for it in ("from_name", "to"):
-        ask.add_argument(it)
+    for option in ("from_name", "to"):
+        ask.add_argument(option)
     ask.add_argument("--from", dest="form", choices=FORMS)
     ask.add_argument("--left-out")
     given = ask.parse_args(words)
+    need_output()
     notes = Notes()
     case = read_form(given.from_name, notes, given.form or form_of(given.from_name))
     text, inputs = case_text(case), inputs_of(given.from_name)
     review = review_of(text)
     refuse_faults(review, given.from_name)
-    for it in (given.to, given.left_out):
-        refuse_inputs(it, inputs) if it else None
+    for name in (given.to, given.left_out):
+        refuse_inputs(name, inputs) if name else None
     if given.left_out:
         write_whole(given.left_out, json.dumps(notes.as_json(), ensure_ascii=False, indent=1) + "\n", inputs)
     if given.to.endswith(".json"):

@@ -1,34 +1,42 @@
 """Writes the prices and the mixture that `hull convex` finds as files that `hull settle` and `hull certify` read.
 
-usage: convex_prices.py CASE SCHEDULE PRICES MIXTURE [--within MONEY] [--rounds N] [--best-schedule S2] [--hull PROGRAM]
+usage: convex_prices.py CASE SCHEDULE PRICES MIXTURE [--within MONEY] [--rounds N] [--seconds S] [--best-schedule S2]
+                        [--hull PROGRAM]
 
   PRICES, MIXTURE  two files that are written, both or none. What is there is replaced, but for a file that is read
   --within MONEY   the search ends at a distance of at most that, in the currency; 1.00 if left out
   --rounds N       it ends after so many rounds at most; 150 if left out
+  --seconds S      the program is ended after so many seconds, and nothing is written then; if left out, the rounds alone limit its work
   --best-schedule S2  the best schedule known: the last line then tells the schedule's part of the gap from the duality gap
   --hull PROGRAM   the program; the launcher of this repository if left out
 
 The last line has the gap in its parts: what the schedule costs above the best one known, what no prices save, and what better prices might.
 One mixture serves for any prices of the case: `hull certify` with prices of your own and MIXTURE says how near those are to the best.
 """
-import os
+from __future__ import annotations
 
-from ..errors import HullError, run_tool, try_output, write_together
+import argparse
+import os
+from collections.abc import Sequence
+from typing import Optional
+
+from ..errors import HullError, Tell, run_tool, try_output, write_together
 from ..gap_parts import gap_parts
 from ..numbers import money
 from ..outputs import Convex
 from ..program import Hull
-from .words import asker, count, positive
+from .words import add_seconds, asker, count, positive
 
 
-def arguments(words):
+def arguments(words: Sequence[str]) -> argparse.Namespace:
     ask = asker("convex_prices.py", __doc__)
-    for it in ("case", "schedule", "prices", "mixture"):
-        ask.add_argument(it)
+    for option in ("case", "schedule", "prices", "mixture"):
+        ask.add_argument(option)
     ask.add_argument("--within", type=positive)
     ask.add_argument("--rounds", type=count)
-    for it in ("--best-schedule", "--hull"):
-        ask.add_argument(it)
+    add_seconds(ask)
+    for name in ("--best-schedule", "--hull"):
+        ask.add_argument(name)
     return ask.parse_args(words)
 
 
@@ -41,14 +49,14 @@ def told(found: Convex) -> str:
     )
 
 
-def body(words, tell):
+def body(words: Sequence[str], tell: Tell) -> None:
     given = arguments(words)
     inputs = [it for it in (given.case, given.schedule, given.best_schedule) if it]
-    for it in (given.prices, given.mixture):
-        try_output(it, inputs)
+    for name in (given.prices, given.mixture):
+        try_output(name, inputs)
     if os.path.realpath(given.prices) == os.path.realpath(given.mixture):
         raise HullError(f"{given.mixture}: prices and mixture need a file each")
-    hull = Hull(given.hull, tell)
+    hull = Hull(given.hull, tell, given.seconds)
     found = hull.convex(given.case, given.schedule, given.within, given.rounds)
     best_cost = hull.check(given.case, given.best_schedule) if given.best_schedule else None
     write_together({given.prices: found.prices.text(), given.mixture: found.mixture.text()}, inputs)
@@ -56,5 +64,5 @@ def body(words, tell):
     tell(gap_parts(found.cost, found.value, found.bound, best_cost).sentence("at these prices"))
 
 
-def main(words=None):
+def main(words: Optional[Sequence[str]] = None) -> int:
     return run_tool("convex_prices.py", body, words)

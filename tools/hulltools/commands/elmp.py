@@ -1,12 +1,14 @@
 """Finds extended LMPs: the duals of the linear program with fast-start units relaxed and the other commitments held.
 
-usage: elmp.py CASE SCHEDULE PRICES [--fast-start NAMES | --fast-start-up N --fast-start-cost MONEY] [--online-only] [--hull PROGRAM]
+usage: elmp.py CASE SCHEDULE PRICES [--fast-start NAMES | --fast-start-up N --fast-start-cost MONEY] [--online-only]
+               [--seconds S] [--hull PROGRAM]
 
   PRICES              where the prices are written
   --fast-start NAMES  the fast-start units, with commas between
   --fast-start-up N, --fast-start-cost MONEY  in place of names: the units of a minimum up time of at most N periods (1 if left out) whose
-                      dearest start costs at most MONEY
+                      dearest start costs at most MONEY (whatever it costs, if left out)
   --online-only       a fast-start unit stays off where the schedule has it off
+  --seconds S         the solver is ended after so many seconds, 1800 if left out, and so is the program; nothing is written then
   --hull PROGRAM      the program that checks the schedule; the launcher of this repository if left out
 
 A fast-start unit may be on by any part between 0 and 1 in each period. It then pays that part of its cost at least power and of its start,
@@ -14,32 +16,39 @@ so both are spread over the power that it gives. MISO's ELMP (tariff, schedule 2
 ISO New England, relax such units so, each with rules of its own for who is eligible; Schiro, Zheng, Zhao and Litvinov (2016) set
 them beside convex hull prices. Needs SciPy.
 """
+from __future__ import annotations
+
+from collections.abc import Sequence
+from typing import Optional
+
 from ..cases import read_case
-from ..errors import HullError, one_line, run_tool, try_output
+from ..errors import HullError, Tell, one_line, run_tool, try_output
 from ..linear import need_scipy
 from ..program import Hull
 from ..relaxation import fast_start_prices
 from ..schedules import read_schedule
-from .words import add_fast_start, asker, fast_start
+from .words import add_fast_start, add_seconds, asker, fast_start, solver_seconds
 
 
-def body(words, tell):
+def body(words: Sequence[str], tell: Tell) -> None:
     ask = asker("elmp.py", __doc__)
-    for it in ("case", "schedule", "prices", "--hull"):
-        ask.add_argument(it)
+    for option in ("case", "schedule", "prices", "--hull"):
+        ask.add_argument(option)
     add_fast_start(ask)
+    add_seconds(ask)
     given = ask.parse_args(words)
     need_scipy()
     inputs = [given.case, given.schedule]
     try_output(given.prices, inputs)
-    Hull(given.hull, tell).check(given.case, given.schedule)
+    Hull(given.hull, tell, given.seconds).check(given.case, given.schedule)
     case, fast = read_case(given.case), fast_start(given)
     names = [unit.name for unit in fast.units(case)]
     if not names:
         raise HullError("no unit is fast-start by the rule given: these prices would be LMPs")
-    fast_start_prices(case, read_schedule(given.schedule, case), fast).write(given.prices, inputs)
+    prices = fast_start_prices(case, read_schedule(given.schedule, case), fast, solver_seconds(given))
+    prices.write(given.prices, inputs)
     tell(f"fast-start: {one_line(', '.join(names))}")
 
 
-def main(words=None):
+def main(words: Optional[Sequence[str]] = None) -> int:
     return run_tool("elmp.py", body, words)

@@ -10,9 +10,11 @@ read.
 import argparse
 import re
 import sys
+from collections.abc import Sequence
+from typing import Optional
 
 from ..faults import Files, sentence
-from ..errors import HullError, one_line, read_bytes, run_tool
+from ..errors import HullError, need_output, one_line, read_bytes, run_tool
 from .words import asker
 
 
@@ -58,11 +60,10 @@ def body(words: list[str], tell: object) -> None:
     else:
         files = Files({**files_of(run), **{name: file for name, file in given.items() if file}})
         text = sentence(line, files) + word_of(line, run)
-    if sys.stdout is None:
-        raise HullError("standard output is closed")
+    need_output()
     sys.stdout.buffer.write(f"{text}\n".encode("utf-8", "replace"))
     sys.stdout.buffer.flush()
 
 
-def main(words=None):
+def main(words: Optional[Sequence[str]] = None) -> int:
     return run_tool("explain.py", body, words)

@@ -16,7 +16,7 @@ import json
 import sys
 from typing import Callable, Optional, Sequence
 
-from ..errors import run_tool
+from ..errors import need_output, run_tool
 from ..lint import Limits, look
 from .words import asker, positive
 
@@ -25,13 +25,14 @@ def body(words: Sequence[str], tell: Callable[[str], None]) -> int:
     ask = asker("lint.py", __doc__)
     ask.add_argument("case")
     ask.add_argument("schedule", nargs="?")
-    for it in ("prices", "mixture"):
-        ask.add_argument(f"--{it}")
+    for option in ("prices", "mixture"):
+        ask.add_argument(f"--{option}")
     ask.add_argument("--highest-cost", type=positive, default=1000.0)
     ask.add_argument("--hours", type=positive, default=1.0)
-    for it in ("all", "json"):
-        ask.add_argument(f"--{it}", action="store_true")
+    for option in ("all", "json"):
+        ask.add_argument(f"--{option}", action="store_true")
     given = ask.parse_args(words)
+    need_output()
     names = {it: getattr(given, it) for it in ("case", "schedule", "prices", "mixture") if getattr(given, it)}
     review = look(names, Limits(given.highest_cost, given.hours))
     if given.json:

@@ -6,7 +6,8 @@ usage: make_schedule.py CASE SCHEDULE [--gap G] [--nodes N] [--seconds S] [--fol
   SCHEDULE        where the schedule is written, once `hull check` has accepted it
   --gap G         end at a cost within this share of the solver's bound; 0.0005 if left out
   --nodes N       end after so many nodes of the solver's tree, and take what it has, with status 3; 200 if left out
-  --seconds S     an outer limit: after so many seconds the search is refused, and nothing is written; 1800 if left out
+  --seconds S     an outer limit: after so many seconds, and two more for what the solver has to say, the search is ended and refused, and
+                  nothing is written; 1800 if left out. A call of the program is ended after so many where they are given
   --follow FILE   no search: the commitments of a schedule in megawatts from elsewhere, and whole kilowatts as near to its powers as
                   can be; of these the cheapest, and powers that FILE hasn't are free. JSON as egret and UnitCommitment.jl write
                   it, plain or .json.gz, or as a schedule of hull in megawatts, the folder of a solved PyPSA network, or a csv with the columns
@@ -28,7 +29,12 @@ kilowatts next to that which balance exactly and cost least (a small integer pro
 """
 from __future__ import annotations
 
-from ..cases import read_case
+import argparse
+from collections.abc import Sequence
+from types import SimpleNamespace
+from typing import Optional, Union
+
+from ..cases import Case, read_case
 from ..deviations import deviations, farthest, in_words, table_text
 from ..external_schedules import read_followed
 from ..linear import need_scipy
@@ -36,11 +42,13 @@ from ..numbers import money
 from ..program import Hull, as_file
 from ..scheduling import Made, follow, make_schedule
 from ..search_limits import SearchLimits
-from ..errors import HullError, run_tool, try_output, write_whole
-from .words import MISSED_GAP, add_search_limits, asker, positive, search_limits
+from ..errors import HullError, Tell, run_tool, try_output, write_whole
+from .words import MISSED_GAP, add_search_limits, asker, positive, search_limits, solver_seconds
+
+Given = Union[argparse.Namespace, SimpleNamespace]
 
 
-def arguments(words):
+def arguments(words: Sequence[str]) -> argparse.Namespace:
     ask = asker("make_schedule.py", __doc__)
     ask.add_argument("case")
     ask.add_argument("schedule")
@@ -52,7 +60,7 @@ def arguments(words):
     return ask.parse_args(words)
 
 
-def checked_case(hull, name):
+def checked_case(hull: Hull, name: str) -> Case:
     """The case of a file that `hull` accepts."""
     why = hull.refusal_of_case(name)
     if why:
@@ -60,10 +68,10 @@ def checked_case(hull, name):
     return read_case(name)
 
 
-def followed_schedule(given, case) -> tuple[Made, str]:
+def followed_schedule(given: Given, case: Case) -> tuple[Made, str]:
     """What follows a schedule from elsewhere, and how far it is from that."""
     followed = read_followed(given.follow, case)
-    made = follow(case, followed, given.follow)
+    made = follow(case, followed, given.follow, solver_seconds(given))
     found = deviations(made.schedule, followed)
     if given.deviations:
         write_whole(given.deviations, table_text(found), [given.case, given.follow])
@@ -73,18 +81,22 @@ def followed_schedule(given, case) -> tuple[Made, str]:
     return made, told
 
 
-def searched_schedule(case, limits: SearchLimits, tell) -> Made:
+def searched_schedule(case: Case, limits: SearchLimits, tell: Tell) -> Made:
     """What a search finds."""
     sizes = f"{len(case.thermal)} thermal and {len(case.renewable)} renewable units, {len(case.bids)} bids, {case.periods} periods"
     tell(f"{sizes}: searching for at most {limits.nodes} nodes and {limits.seconds:g} s")
     return make_schedule(case, limits)
 
 
-def make(given, limits: SearchLimits, tell):
+def make(given: Given, limits: SearchLimits, tell: Tell) -> tuple[Made, int, str]:
     """Makes the schedule, has it checked, writes it; what was made, its cost in millionths and what is to be said of it."""
-    hull = Hull(given.hull, tell)
+    hull = Hull(given.hull, tell, given.seconds)
     case = checked_case(hull, given.case)
-    found, reached = followed_schedule(given, case) if given.follow else (searched_schedule(case, limits, tell), None)
+    reached: Optional[str] = None
+    if given.follow:
+        found, reached = followed_schedule(given, case)
+    else:
+        found = searched_schedule(case, limits, tell)
     try:
         with as_file(found.schedule) as name:
             cost = hull.check(given.case, name)
@@ -94,19 +106,19 @@ def make(given, limits: SearchLimits, tell):
     return found, cost, reached or found.told(cost)
 
 
-def body(words, tell):
+def body(words: Sequence[str], tell: Tell) -> int:
     given = arguments(words)
     if not given.follow and (given.tolerance is not None or given.deviations):
         raise HullError("--tolerance and --deviations go with --follow")
     need_scipy()
     inputs = [it for it in (given.case, given.follow) if it]
-    for it in (given.schedule, given.deviations):
-        if it:
-            try_output(it, inputs)
+    for output in (given.schedule, given.deviations):
+        if output:
+            try_output(output, inputs)
     found, cost, reached = make(given, search_limits(given), tell)
     tell(f"hull check accepts {given.schedule}: cost {money(cost)}; {reached}")
     return 0 if found.is_near else MISSED_GAP
 
 
-def main(words=None):
+def main(words: Optional[Sequence[str]] = None) -> int:
     return run_tool("make_schedule.py", body, words)

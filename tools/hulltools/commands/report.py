@@ -23,30 +23,30 @@ usage: report.py csv TEXT.. FOLDER [--case F --schedule F] [--currency] [--names
 TEXT is a file, or - for standard input. A file is written whole or not at all, and never over a text; the tables of csv appear together.
 A link that is named as a file to write is followed. A link in FOLDER is replaced. /dev/stdout and its like are written as they are.
 """
+import argparse
 import os
+from collections.abc import Iterable, Sequence
+from typing import Optional, Union
 
-from ..cases import read_case
-from ..outputs import read_output
+from ..cases import Case, read_case
+from ..outputs import Certificate, Output, Priced, read_certificate_text, read_convex_text, read_output, read_priced
 from ..pages import page_of
 from ..pictures import picture_of
-from ..schedules import read_schedule
+from ..schedules import Schedule, read_schedule
 from ..tables import tables_of, told_apart_count
-from ..errors import HullError, refuse_inputs, run_tool, write_together, write_whole
+from ..errors import HullError, Tell, refuse_inputs, run_tool, write_together, write_whole
 from .words import asker
 
-CONVEX = "hull-convex 1"
-PRICED = ("hull-report 1", "hull-settlement 1", CONVEX)
 
-
-def arguments(words):
+def arguments(words: Sequence[str]) -> argparse.Namespace:
     ask = asker("report.py", __doc__)
     ask.add_argument("verb", choices=("csv", "plot", "page", "prices", "mixture"))
     ask.add_argument("texts", nargs="+")
     ask.add_argument("to")
-    for it in ("--case", "--schedule", "--certificate"):
-        ask.add_argument(it)
-    for it in ("--currency", "--names-as-they-are"):
-        ask.add_argument(it, action="store_true")
+    for option in ("--case", "--schedule", "--certificate"):
+        ask.add_argument(option)
+    for option in ("--currency", "--names-as-they-are"):
+        ask.add_argument(option, action="store_true")
     given = ask.parse_args(words)
     if given.verb != "csv" and len(given.texts) != 1:
         ask.error(f"{given.verb} takes one text")
@@ -55,54 +55,56 @@ def arguments(words):
     return given
 
 
-def case_and_schedule(given, texts):
+def case_and_schedule(
+    given: argparse.Namespace, texts: Iterable[Output]
+) -> Union[tuple[Case, Schedule], tuple[None, None]]:
     """The case and the schedule, where they are given, that the texts are of."""
     if not given.case:
         return None, None
     case = read_case(given.case)
-    for it in texts:
-        if hasattr(it, "best") and [(unit.kind, unit.name) for unit in it.units] != [
-            (kind, unit.name) for kind, unit in case.units
-        ]:
-            raise HullError(f"{it.name} is not of the case {given.case}: its units are others")
-        if getattr(it, "periods", case.periods) != case.periods:
-            raise HullError(f"{it.name} is not of the case {given.case}: it has {it.periods} periods")
+    named = [(kind, unit.name) for kind, unit in case.units]
+    for text in texts:
+        if isinstance(text, Priced) and [(owed.kind, owed.name) for owed in text.units] != named:
+            raise HullError(f"{text.name} is not of the case {given.case}: its units are others")
+        if isinstance(text, (Priced, Certificate)) and text.periods != case.periods:
+            raise HullError(f"{text.name} is not of the case {given.case}: it has {text.periods} periods")
     return case, read_schedule(given.schedule, case)
 
 
-def write_tables(given, inputs, tell):
+def write_tables(given: argparse.Namespace, inputs: Sequence[str], tell: Tell) -> None:
     texts = [read_output(it) for it in given.texts]
     case, schedule = case_and_schedule(given, texts)
     tables = tables_of(texts, case, schedule, given.currency)
     files = {os.path.join(given.to, f"{name}.csv"): it for name, it in tables.items()}
     os.makedirs(given.to, exist_ok=True)
     # (what is in the folder may be somebody else's: a link there isn't followed)
-    texts_of = {name: it.text(given.names_as_they_are) for name, it in files.items()}
+    texts_of: dict[str, Union[str, bytes]] = {name: it.text(given.names_as_they_are) for name, it in files.items()}
     write_together(texts_of, inputs, follow_links=False)
     count = 0 if given.names_as_they_are else told_apart_count(tables)
     if count:
         tell(f"{count} name{'s' * (count > 1)} that a spreadsheet would take for something else got ' in front of it")
 
 
-def body(words, tell):
+def body(words: Sequence[str], tell: Tell) -> None:
     given = arguments(words)
     inputs = [*given.texts, *filter(None, (given.case, given.schedule, given.certificate))]
     if given.verb == "csv":
-        return write_tables(given, inputs, tell)
+        write_tables(given, inputs, tell)
+        return
     refuse_inputs(given.to, inputs)
-    priced = read_output(given.texts[0], (CONVEX,) if given.verb == "mixture" else PRICED)
+    if given.verb == "mixture":
+        write_whole(given.to, read_convex_text(given.texts[0]).mixture.text(), inputs)
+        return
+    priced = read_priced(given.texts[0])
     if given.verb == "plot":
         write_whole(given.to, picture_of(priced, given.to), inputs)
     elif given.verb == "prices":
         priced.prices.write(given.to, inputs)
-    elif given.verb == "mixture":
-        write_whole(given.to, priced.mixture.text(), inputs)
     else:
         _, schedule = case_and_schedule(given, [priced])
-        certificate = read_output(given.certificate, ("hull-certificate 1",)) if given.certificate else None
+        certificate = read_certificate_text(given.certificate) if given.certificate else None
         write_whole(given.to, page_of(priced, schedule, certificate), inputs)
-    return 0
 
 
-def main(words=None):
+def main(words: Optional[Sequence[str]] = None) -> int:
     return run_tool("report.py", body, words)

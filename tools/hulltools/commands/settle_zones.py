@@ -1,45 +1,53 @@
 """Settles each unit at the prices of its zone, or at prices of its own.
 
-usage: settle_zones.py CASE SCHEDULE ZONES [--to FOLDER] [--currency C] [--hull PROGRAM]
+usage: settle_zones.py CASE SCHEDULE ZONES [--to FOLDER] [--currency C] [--seconds S] [--hull PROGRAM]
 
   ZONES            a JSON file: {"zones": {"NORTH": {"energy": [..], "reserve": [..]}, ..}, "units": {"GT5": "NORTH", ..}, "default": "SOUTH"}.
                    A zone's prices are as in a prices file; a unit that isn't under `units` is of the default zone
   --to FOLDER      units.csv and the settlement of each zone are written there; if left out, the table is printed
   --currency C     what money is in, for the heads of the table
+  --seconds S      a settlement is ended after so many seconds, and nothing is written then; if left out, the case alone limits its work
   --hull PROGRAM   the program that settles; the launcher of this repository if left out
 
 `hull settle` works out a settlement for each zone's prices, and each unit's line is taken from that of its zone. What a unit earns, its payment,
 make-whole and lost opportunity depend on the unit and its own prices alone, so they hold. A dual value and a gap there isn't: both are of one
 price for all. Nodal prices are settled so, with a zone for each node.
 """
+from __future__ import annotations
+
 import os
 import sys
+from collections.abc import Sequence
+from typing import Optional, Union
 
 from ..cases import read_case
-from ..errors import run_tool, write_whole
+from ..errors import Tell, run_tool, write_together
+from ..outputs import Settlement
+from ..prices import Prices
 from ..program import Hull
 from ..schedules import read_schedule
 from ..study_tables import zonal_table
 from ..zones import read_zones, settle_zones
-from .words import asker
+from .words import add_seconds, asker
 
 
 def file_of(zone: str) -> str:
     return "".join(it if it.isalnum() or it in "-_" else "_" for it in zone)
 
 
-def body(words, tell):
+def body(words: Sequence[str], tell: Tell) -> None:
     ask = asker("settle_zones.py", __doc__)
-    for it in ("case", "schedule", "zones", "--to", "--hull"):
-        ask.add_argument(it)
+    for option in ("case", "schedule", "zones", "--to", "--hull"):
+        ask.add_argument(option)
     ask.add_argument("--currency", default="")
+    add_seconds(ask)
     given = ask.parse_args(words)
-    hull, inputs = Hull(given.hull, tell), [given.case, given.schedule, given.zones]
+    hull, inputs = Hull(given.hull, tell, given.seconds), [given.case, given.schedule, given.zones]
     hull.check(given.case, given.schedule)
     case = read_case(given.case)
-    texts = []
+    texts: list[bytes] = []
 
-    def settle(prices):
+    def settle(prices: Prices) -> Settlement:
         settlement = hull.settle(given.case, given.schedule, prices)
         texts.append(hull.last_text)
         return settlement
@@ -51,10 +59,11 @@ def body(words, tell):
         sys.stdout.flush()
         return
     os.makedirs(given.to, exist_ok=True)
-    write_whole(os.path.join(given.to, "units.csv"), table, inputs)
+    files: dict[str, Union[str, bytes]] = {os.path.join(given.to, "units.csv"): table}
     for place, (zone, text) in enumerate(zip(zonal.settlements, texts), 1):
-        write_whole(os.path.join(given.to, f"{place}.{file_of(zone)}.settlement.txt"), text, inputs)
+        files[os.path.join(given.to, f"{place}.{file_of(zone)}.settlement.txt")] = text
+    write_together(files, inputs)
 
 
-def main(words=None):
+def main(words: Optional[Sequence[str]] = None) -> int:
     return run_tool("settle_zones.py", body, words)

@@ -1,6 +1,6 @@
 """Compares price lists of a case and its schedule: what each unit is paid, what consumers pay, and what the gap comes from.
 
-usage: study.py CASE FOLDER [--schedule S] [--best-schedule S2 | --no-schedule] [--prices NAME=FILE].. [--zones FILE] [--search]
+usage: study.py CASE FOLDER [--schedule S] [--best-schedule S2 | --no-schedule] [--prices NAME=FILE].. [--zones FILE] [--search] [--skip LISTS]
                 [--fast-start NAMES | --fast-start-up N --fast-start-cost MONEY] [--online-only] [--rule make-whole|full]
                 [--title T] [--currency C] [--start TIME] [--hours-per-period H]
                 [--gap G] [--nodes N] [--seconds S] [--within MONEY] [--rounds N] [--hull PROGRAM]
@@ -16,9 +16,11 @@ usage: study.py CASE FOLDER [--schedule S] [--best-schedule S2 | --no-schedule] 
   --prices NAME=FILE  a prices file as a further list; as often as wanted
   --zones FILE        prices by zone, as for settle_zones.py: payments by unit at these stand beside those at the lists
   --search            the lists of `hull price` too, a subgradient search with 100 and with up to 1,000 proposals
+  --skip LISTS        leave these lists out, with commas between: lmp, relaxation, elmp, convex_hull, subgradient_100, subgradient_1000,
+                      zonal, or the NAME of a file; as often as wanted
   --fast-start NAMES  the fast-start units of the list ELMP, with commas between
   --fast-start-up N, --fast-start-cost MONEY  in place of names: the units of a minimum up time of at most N periods (1 if left out) whose
-                      dearest start costs at most MONEY
+                      dearest start costs at most MONEY (whatever it costs, if left out)
   --online-only       a fast-start unit stays off where the schedule has it off
 
   --rule RULE         payments under this rule alone: make-whole, or full, which adds lost opportunity; both if left out
@@ -26,39 +28,64 @@ usage: study.py CASE FOLDER [--schedule S] [--best-schedule S2 | --no-schedule] 
   --start TIME        when period 1 begins, as 2026-07-01T00:00
   --hours-per-period H  how long a period is, as 0.25; prices are then told per MWh
 
-  --gap, --nodes, --seconds  when a search for a schedule ends, as for make_schedule.py
+  --gap, --nodes      when a search for a schedule ends, as for make_schedule.py
   --within, --rounds  when the search of `hull convex` ends: at a distance of 1.00, or after 150 rounds, if left out
+  --seconds S         an outer limit of each step. After so many seconds, 1800 if left out, a solver is ended, and so is a call of the program,
+                      whose work ends by rounds and case if left out. A list that takes longer is left out, and the page says so
   --hull PROGRAM      the program that checks, settles and certifies; the launcher of this repository if left out
 
-Nothing ends by the clock: what the searches find depends on the files, the words and the versions of SciPy and HiGHS, which the page names.
-Status 3: the files are written, and a schedule that was made misses its gap, or none was made beside S; the page says so. docs/STUDY.md says
-what the lists are and how the page is read. Needs SciPy.
+Nothing that is written was chosen by the clock: what the searches find depends on the files, the words and the versions of SciPy and HiGHS,
+which the page names. Status 3: the files are written, and a schedule that was made misses its gap, or none was made beside S, or a list took
+too long; the page says so.
+
+FOLDER is that of one study: its files come there together, in place of those of the study before, when all are made. After Ctrl-C or TERM these
+are the lists that were there by then, and UNFINISHED.txt says which are missing, with status 130 or 143; a second one ends it at once. Where
+nothing was made FOLDER stays as it was. docs/STUDY.md says what the lists are and how the page is read. Needs SciPy.
 """
+from __future__ import annotations
+
+import argparse
 import os
+from collections.abc import Callable, Sequence
 from dataclasses import dataclass
 from datetime import datetime
 from fractions import Fraction
 from types import SimpleNamespace
-from typing import Optional
+from typing import TYPE_CHECKING, Optional
 
 from ..cases import Case, read_case
 from ..clock import Clock
-from ..errors import HullError, run_tool, write_whole
+from ..errors import HullError, Tell, heard_later, run_tool, write_together
 from ..linear import need_scipy
 from ..lint import first_look
 from ..numbers import money
 from ..prices import read_prices
+from ..progress import step
 from ..program import Hull
 from ..provenance import Provenance, Source, command_line, date_of_run, sha256_of, versions
 from ..schedules import read_schedule
 from ..scheduling import Made
 from ..settlement_rules import RULES
+from ..study_folder import StudyFolder
 from ..zones import read_zones
 from .make_schedule import make
-from .words import MISSED_GAP, add_fast_start, add_search_limits, asker, count, fast_start, positive, search_limits
+from .words import (
+    MISSED_GAP,
+    add_fast_start,
+    add_search_limits,
+    asker,
+    count,
+    fast_start,
+    positive,
+    search_limits,
+    solver_seconds,
+)
+
+if TYPE_CHECKING:
+    from ..studies import Study, Wanted
 
 
-def named_file(text: str):
+def named_file(text: str) -> tuple[str, str]:
     name, mark, file = text.partition("=")
     if not name or not mark or not file:
         raise ValueError(text)
@@ -72,19 +99,20 @@ def length_of_period(text: str) -> Fraction:
     return hours
 
 
-def arguments(words):
+def arguments(words: Sequence[str]) -> argparse.Namespace:
     ask = asker("study.py", __doc__)
-    for it in ("case", "folder", "--schedule", "--zones", "--hull"):
-        ask.add_argument(it)
+    for word in ("case", "folder", "--schedule", "--zones", "--hull"):
+        ask.add_argument(word)
     best = ask.add_mutually_exclusive_group()
     best.add_argument("--best-schedule")
     best.add_argument("--no-schedule", action="store_true")
     ask.add_argument("--prices", type=named_file, action="append", default=[])
     ask.add_argument("--search", action="store_true")
+    ask.add_argument("--skip", type=lambda text: text.split(","), action="extend", default=[])
     add_fast_start(ask)
     ask.add_argument("--rule", choices=tuple(RULES))
-    for it in ("--title", "--currency"):
-        ask.add_argument(it, default="")
+    for word in ("--title", "--currency"):
+        ask.add_argument(word, default="")
     ask.add_argument("--start", type=datetime.fromisoformat)
     ask.add_argument("--hours-per-period", type=length_of_period)
     add_search_limits(ask)
@@ -96,8 +124,8 @@ def arguments(words):
     return given
 
 
-def wanted(given, case: Case):
-    from ..studies import Wanted, key_of
+def wanted(given: argparse.Namespace, case: Case) -> Wanted:
+    from ..studies import Wanted, key_of, skipped
 
     files = {name: read_prices(file, case.periods) for name, file in given.prices}
     if len({key_of(name) for name in files}) < len(given.prices):
@@ -105,8 +133,10 @@ def wanted(given, case: Case):
     clock = Clock(given.hours_per_period, given.start)
     rules = [given.rule] if given.rule else list(RULES)
     zones = read_zones(given.zones, case) if given.zones else None
-    told = (given.title, given.currency, clock)
-    return Wanted(given.search, fast_start(given), files, zones, rules, *told, given.within, given.rounds)
+    found = Wanted(given.search, fast_start(given), files, zones, rules, given.title, given.currency, clock)
+    found.within, found.rounds, found.seconds = given.within, given.rounds, solver_seconds(given)
+    found.skip = skipped(given.skip, list(files))
+    return found
 
 
 @dataclass
@@ -120,9 +150,9 @@ class Schedules:
     missing: str = ""  # why no best schedule was made
 
 
-def made_source(given, name: str, tell):
-    """Makes a schedule; where it is and its cost."""
-    words = SimpleNamespace(case=given.case, schedule=os.path.join(given.folder, name), follow=None, hull=given.hull)
+def made_source(given: argparse.Namespace, name: str, tell: Tell) -> tuple[Source, int]:
+    """Makes a schedule at a place; the source and its cost."""
+    words = SimpleNamespace(case=given.case, schedule=name, follow=None, hull=given.hull, seconds=given.seconds)
     found, cost, reached = make(words, search_limits(given), tell)
     tell(f"a schedule is made: cost {money(cost)}; {reached}")
     return made_by_search(words.schedule, found, reached), cost
@@ -133,14 +163,15 @@ def made_by_search(name: str, found: Made, reached: str) -> Source:
     return Source(name, sha256_of(name), how, found.gap, found.is_near)
 
 
-def given_source(hull: Hull, case: str, name: str):
+def given_source(hull: Hull, case: str, name: str) -> tuple[Source, int]:
     return Source(name, sha256_of(name), "given"), hull.check(case, name)
 
 
-def schedules_of(given, hull: Hull, tell) -> Schedules:
-    """The schedule and the best one known, made where they aren't given."""
+def schedules_of(given: argparse.Namespace, hull: Hull, room: str, tell: Tell) -> Schedules:
+    """The schedule and the best one known, made in the room where they aren't given."""
     if not given.schedule:
-        source, cost = made_source(given, "schedule.json", tell)
+        with step("a schedule"):
+            source, cost = made_source(given, os.path.join(room, "schedule.json"), tell)
     else:
         source, cost = given_source(hull, given.case, given.schedule)
     found = Schedules(source, cost)
@@ -148,7 +179,8 @@ def schedules_of(given, hull: Hull, tell) -> Schedules:
         found.best, found.best_cost = given_source(hull, given.case, given.best_schedule)
     elif given.schedule and not given.no_schedule:
         try:
-            found.best, found.best_cost = made_source(given, "best.schedule.json", tell)
+            with step("a schedule beside the one given"):
+                found.best, found.best_cost = made_source(given, os.path.join(room, "best.schedule.json"), tell)
         except HullError as why:
             found.missing = f"No schedule was made beside this one: {why}."
             tell(found.missing)
@@ -157,57 +189,92 @@ def schedules_of(given, hull: Hull, tell) -> Schedules:
     return found
 
 
-def study_of(given, words, hull: Hull, tell):
-    """The study with all its lists, whose files are written."""
-    from ..studies import Maker, Study
+def study_of(
+    given: argparse.Namespace,
+    words: Sequence[str],
+    hull: Hull,
+    room: str,
+    tell: Tell,
+    look: Callable[[Sequence[str]], None] = lambda names: None,
+) -> Study:
+    """The study with all its lists, whose files are written to the room; `look` gets the names of all files that it may write, first."""
+    from ..studies import Maker, Study, files_of
 
+    # (a pipe is read once)
+    before = {name: sha256_of(name) for name in inputs_of(given) if os.path.isfile(name)}
     case = read_case(given.case)
     want = wanted(given, case)
-    found = schedules_of(given, hull, tell)
+    look(files_of(want, not given.schedule, bool(given.schedule and not given.best_schedule and not given.no_schedule)))
+    found = schedules_of(given, hull, room, tell)
     files = (given.case, found.schedule.name)
     sources = (given.case, sha256_of(given.case), found.schedule, found.best)
-    origin = Provenance(*sources, versions(hull), command_line("study.py", words), date_of_run())
-    study = Study(case, read_schedule(files[1], case), want, origin, found.best_cost)
+    with step("versions"):
+        origin = Provenance(*sources, versions(hull), command_line("study.py", list(words)), date_of_run())
+    study = Study(case, read_schedule(files[1], case), want, origin, found.cost, found.best_cost)
     if found.missing:
         study.is_short = True
         study.notes.append(found.missing)
+    Maker(hull, files, study, room, tell).make()
+    changed = next((name for name, was in before.items() if sha256_of(name) != was), None)
+    if changed:
+        raise HullError(f"{changed} was changed meanwhile, so the lists are of more than one file: nothing is written")
+    if not study.lists:
+        if study.interrupted:
+            raise study.interrupted
+        raise HullError(f"there is no list of prices: {' '.join(study.notes) or 'all are skipped'}")
+    return study
 
-    return Maker(hull, files, study, given.folder, tell).make()
 
-
-def write_results(study, folder: str, files) -> None:
-    """The tables and the page, which offers the tables and prices for download."""
+def write_results(study: Study, room: str) -> None:
+    """The tables and the page, which offers the tables and prices for download; of a list that isn't there no file stays."""
+    from ..studies import files_of_list
     from ..study_page import study_page
     from ..study_tables import tables_of_study
 
-    texts = {name: table.text() for name, table in tables_of_study(study).items()}
-    for name, text in texts.items():
-        write_whole(os.path.join(folder, name), text, files)
-    prices = {f"{key}.prices.json": it.settlement.prices.text() for key, it in study.lists.items()}
-    write_whole(os.path.join(folder, "study.html"), study_page(study, {**texts, **prices}), files)
+    with step("tables and page"):
+        for name in os.listdir(room):
+            key = name.split(".")[0]
+            if name in files_of_list(key) and key not in study.lists:
+                os.unlink(os.path.join(room, name))
+        texts = {name: table.text() for name, table in tables_of_study(study).items()}
+        prices = {f"{key}.prices.json": it.settlement.prices.text() for key, it in study.lists.items()}
+        page = study_page(study, {**texts, **prices})
+        write_together({os.path.join(room, name): text for name, text in {**texts, "study.html": page}.items()})
 
 
-def body(words, tell):
+def inputs_of(given: argparse.Namespace) -> list[str]:
+    names = (given.case, given.schedule, given.best_schedule, given.zones, *(file for _, file in given.prices))
+    return [it for it in names if it]
+
+
+def study_in(folder: StudyFolder, given: argparse.Namespace, words: Sequence[str], hull: Hull, tell: Tell) -> Study:
+    """The study, whose files are placed in the folder."""
+    names = {"case": given.case, "schedule": given.schedule}
+    with step("looking at the files"):
+        warnings = first_look({what: name for what, name in names.items() if name}, tell)
+    study = study_of(given, words, hull, folder.room, tell, folder.refuse)
+    study.notes += warnings
+    with heard_later():
+        write_results(study, folder.room)
+        folder.place(study.unfinished)
+    return study
+
+
+def body(words: Sequence[str], tell: Tell) -> int:
     given = arguments(words)
     need_scipy()
-    hull = Hull(given.hull, tell)
+    hull = Hull(given.hull, tell, given.seconds)
     hull.need("convex")
-    os.makedirs(given.folder, exist_ok=True)
-    names = {"case": given.case, "schedule": given.schedule}
-    warnings = first_look({what: name for what, name in names.items() if name}, tell)
-    study = study_of(given, words, hull, tell)
-    study.notes += warnings
-    inputs = [
-        it
-        for it in (given.case, given.schedule, given.best_schedule, given.zones, *(file for _, file in given.prices))
-        if it
-    ]
-    write_results(study, given.folder, inputs)
-    tell(study.parts("convex_hull").sentence("at convex hull prices"))
+    with StudyFolder(given.folder, inputs_of(given)) as folder:
+        study = study_in(folder, given, words, hull, tell)
+    tell(study.sentence("at"))
+    if study.interrupted:
+        tell(f"{study.unfinished} {os.path.join(given.folder, 'study.html')} has those that are there")
+        return study.interrupted.status
     tell(f"{os.path.join(given.folder, 'study.html')} and the tables beside it are written")
     sources = (study.provenance.schedule, study.provenance.best_schedule)
     return MISSED_GAP if study.is_short or any(it and not it.is_near for it in sources) else 0
 
 
-def main(words=None):
+def main(words: Optional[Sequence[str]] = None) -> int:
     return run_tool("study.py", body, words)

@@ -1,20 +1,24 @@
 """What the command lines have in common."""
+from __future__ import annotations
+
 import argparse
 import math
+from types import SimpleNamespace
+from typing import Optional, Union
 
-from ..numbers import millionths
 from ..fast_start import FastStart
-from ..search_limits import SearchLimits
+from ..numbers import millionths
+from ..search_limits import SECONDS, SearchLimits
 
 MISSED_GAP = 3  # the status where a schedule is written that misses the gap
 
 
-def asker(tool, doc):
+def asker(tool: str, doc: Optional[str]) -> argparse.ArgumentParser:
     """A reader of words whose usage is that of the tool's description."""
-    return argparse.ArgumentParser(prog=tool, usage=doc.split("usage: ")[1].rstrip().replace("%", "%%"))
+    return argparse.ArgumentParser(prog=tool, usage=(doc or "usage: ").split("usage: ")[1].rstrip().replace("%", "%%"))
 
 
-def positive(text):
+def positive(text: str) -> float:
     """A number of the command line that is at least 0."""
     number = float(text)
     if not 0 <= number < math.inf:
@@ -34,11 +38,21 @@ def add_search_limits(ask: argparse.ArgumentParser) -> None:
     """The words that end a search for a schedule."""
     ask.add_argument("--gap", type=positive, default=SearchLimits.gap)
     ask.add_argument("--nodes", type=count, default=SearchLimits.nodes)
-    ask.add_argument("--seconds", type=positive, default=SearchLimits.seconds)
+    add_seconds(ask)
+
+
+def add_seconds(ask: argparse.ArgumentParser) -> None:
+    """The word that ends a step which takes too long."""
+    ask.add_argument("--seconds", type=positive)
+
+
+def solver_seconds(given: Union[argparse.Namespace, SimpleNamespace]) -> float:
+    """How long a step of a solver may take; a call of `hull`, which ends by what it has to do, takes what is given alone."""
+    return SECONDS if given.seconds is None else float(given.seconds)
 
 
 def search_limits(given: argparse.Namespace) -> SearchLimits:
-    return SearchLimits(given.gap, given.nodes, given.seconds)
+    return SearchLimits(given.gap, given.nodes, solver_seconds(given))
 
 
 def add_fast_start(ask: argparse.ArgumentParser) -> None:

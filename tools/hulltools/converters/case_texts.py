@@ -43,12 +43,12 @@ def name_text(name: str) -> str:
 def case_text(case: Object) -> str:
     """The file: a line for each of the case's keys, and one for each unit."""
     rows: List[str] = []
-    for key, it in case.items():
-        if isinstance(it, dict) and it:
-            units = ",\n".join(f"{name_text(name)}: {value_text(unit)}" for name, unit in it.items())
+    for key, value in case.items():
+        if isinstance(value, dict) and value:
+            units = ",\n".join(f"{name_text(name)}: {value_text(unit)}" for name, unit in value.items())
             rows.append(f"{name_text(key)}: {{\n{units}\n}}")
         else:
-            rows.append(f"{name_text(key)}: {value_text(it)}")
+            rows.append(f"{name_text(key)}: {value_text(value)}")
     return "{" + ",\n".join(rows) + "}\n"
 
 
@@ -85,8 +85,8 @@ RENEWABLE = ["power_output_minimum", "power_output_maximum"]
 def members(top: Taken, key: str, fields: List[str], notes: Notes) -> Object:
     """The units of a kind, each with these fields in this order."""
     found: Object = {}
-    for name, it in top.object(key).items():
-        unit = Taken(it if isinstance(it, dict) else {}, key, name, notes)
+    for name, fields_of in top.object(key).items():
+        unit = Taken(fields_of if isinstance(fields_of, dict) else {}, key, name, notes)
         found[name] = {field: unit.take(field) for field in fields if field in unit.value and field != "name"}
         if unit.take("name") not in (None, name):
             notes.left_out(f"{key}: the field `name`, which isn't the unit's", name)

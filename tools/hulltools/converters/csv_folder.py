@@ -7,7 +7,7 @@ import os
 import re
 from typing import Dict, Iterable, Iterator, List, Optional, Tuple
 
-from ..errors import HullError, one_line, read_bytes, write_whole
+from ..errors import HullError, one_line, read_bytes, rows_told_with, write_together
 from ..named_files import Written
 from .case_texts import LIMITS, number_text
 from .notes import Notes, Object
@@ -64,11 +64,12 @@ def rows_of(folder: str, file: str, notes: Notes) -> List[Row]:
     head = text.split("\n", 1)[0]
     semicolons = ";" in head and "," not in head
     reader = csv.reader(io.StringIO(text, newline=""), delimiter=";" if semicolons else ",")
-    found, columns = [], [it.strip() for it in next(reader, [])]
-    check_columns(name, columns, COLUMNS[file], notes)
-    for cells in reader:
-        if any(it.strip() for it in cells):
-            found.append(row_of(name, reader.line_num, columns, cells, semicolons))
+    with rows_told_with(name):
+        found, columns = [], [it.strip() for it in next(reader, [])]
+        check_columns(name, columns, COLUMNS[file], notes)
+        for cells in reader:
+            if any(it.strip() for it in cells):
+                found.append(row_of(name, reader.line_num, columns, cells, semicolons))
     return found
 
 
@@ -92,9 +93,9 @@ def check_columns(name: str, columns: List[str], due: List[str], notes: Notes) -
         raise HullError(f"{name}: the first line has no column {', '.join(lacking)}. Due: {', '.join(due)}")
     if len(set(columns)) < len(columns):
         raise HullError(f"{name}: the first line names a column twice")
-    for it in columns:
-        if it and it not in due:
-            notes.left_out(f"{os.path.basename(name)}: the column {it}")
+    for column in columns:
+        if column and column not in due:
+            notes.left_out(f"{os.path.basename(name)}: the column {column}")
 
 
 def by_name(rows: Iterable[Row], column: str, known: Optional[Iterable[str]] = None) -> Iterator[Tuple[str, Row]]:
@@ -174,10 +175,10 @@ def rows_to_write(case: Object) -> Iterator[Tuple[str, List[str]]]:
     """Each row that a case has, with its file."""
     for name, unit in case["thermal_generators"].items():
         yield "units.csv", [name, *(number_text(unit[key]) for key in LIMITS)]
-        for it in unit["piecewise_production"]:
-            yield "offers.csv", [name, number_text(it["mw"]), number_text(it["cost"])]
-        for it in unit["startup"]:
-            yield "starts.csv", [name, number_text(it["lag"]), number_text(it["cost"])]
+        for point in unit["piecewise_production"]:
+            yield "offers.csv", [name, number_text(point["mw"]), number_text(point["cost"])]
+        for lag in unit["startup"]:
+            yield "starts.csv", [name, number_text(lag["lag"]), number_text(lag["cost"])]
         for t, mark in enumerate(unit.get("commitment", []), 1):
             yield "windows.csv", [name, str(t), "" if mark is None else number_text(mark)]
     for t, pair in enumerate(zip(case["demand"], case["reserves"]), 1):
@@ -214,5 +215,4 @@ def write_csv(folder: str, case: Object, inputs: List[str]) -> None:
         if file not in texts and os.path.exists(name):
             raise HullError(f"{name}: it is there, and this case has no such file: use another folder")
     os.makedirs(folder, exist_ok=True)
-    for file, text in texts.items():
-        write_whole(os.path.join(folder, file), text, inputs)
+    write_together({os.path.join(folder, file): text for file, text in texts.items()}, inputs)

@@ -77,8 +77,8 @@ class Model:
 
     def demand(self) -> List[Decimal]:
         rows = []
-        for name, it in self.elements.object("load").items():
-            load = Taken(it, "load", name, self.notes)
+        for name, value in self.elements.object("load").items():
+            load = Taken(value, "load", name, self.notes)
             for key in ("bus", "area", "zone", "name"):
                 load.take(key)
             if load.take("in_service", True):
@@ -100,8 +100,8 @@ class Model:
 
     def generators(self) -> Tuple[Object, Object]:
         found: Tuple[Object, Object] = ({}, {})
-        for name, it in self.elements.object("generator").items():
-            unit = Taken(it, "generator", name, self.notes)
+        for name, value in self.elements.object("generator").items():
+            unit = Taken(value, "generator", name, self.notes)
             for key in OF_GENERATORS:
                 unit.take(key)
             if unit.take("in_service", True) is False:
@@ -124,8 +124,10 @@ class Model:
         if cost not in (None, 0):
             self.notes.left_out("costs of renewable generators: a renewable unit has none", name)
         unit.drop("fixed commitment of renewable generators", "fixed_commitment")
-        read = lambda key: series(values(unit.take(key, 0)), self.periods, f'generator "{name}", {key}')
-        return {f"power_output_{it}imum": read(f"p_{it}") for it in ("min", "max")}
+        least, most = (
+            series(values(unit.take(key, 0)), self.periods, f'generator "{name}", {key}') for key in ("p_min", "p_max")
+        )
+        return {"power_output_minimum": least, "power_output_maximum": most}
 
     def number(self, unit: Taken, name: str, key: str, pick: Callable[..., Decimal] = first) -> Optional[Decimal]:
         found = values(unit.take(key))
@@ -140,7 +142,9 @@ class Model:
             found = self.number(unit, name, key, min)
             return limit(None if found is None else scaled(found, factor), most or Decimal(0))
 
-        time = lambda key: in_periods(unit.take(key, 0), self.per_hour, key, self.notes, name)
+        def time(key: str) -> int:
+            return in_periods(unit.take(key, 0), self.per_hour, key, self.notes, name)
+
         down, lags, status = time("min_down_time"), self.starts(unit, name), unit.take("initial_status")
         periods_before = None if status is None else self.status(status, name)
         before = state_before(periods_before, max([down, *(lag["lag"] for lag in lags)]), self.notes, name)
@@ -182,8 +186,10 @@ class Model:
         if rows is None or is_number(rows):
             cost = decimal(rows if rows is not None else unit.take("non_fuel_startup_cost", 0), what)
             rows = [[unit.value.get("min_down_time") or 1, cost]] if cost else []
-        lag_of = lambda lag: in_periods(lag, self.per_hour, "startup_cost", self.notes, name)
-        return [{"lag": lag_of(lag), "cost": decimal(cost, what)} for lag, cost in pairs(rows, what)]
+        lags = (
+            (in_periods(lag, self.per_hour, "startup_cost", self.notes, name), cost) for lag, cost in pairs(rows, what)
+        )
+        return [{"lag": lag, "cost": decimal(cost, what)} for lag, cost in lags]
 
     def curve(self, unit: Taken, name: str, least: Decimal, most: Decimal) -> List[Object]:
         """Points of the cost of a period."""

@@ -8,7 +8,7 @@ from decimal import Decimal, InvalidOperation
 from fractions import Fraction
 from typing import Dict, List, Optional, Tuple
 
-from ..errors import HullError, one_line, read_bytes
+from ..errors import HullError, one_line, read_bytes, rows_told_with
 from .notes import Notes, Object
 from .series import lists_out_negative, points_of, scaled
 
@@ -57,7 +57,8 @@ def table(folder: str, file: str) -> Table:
     if not os.path.exists(name):
         return {}
     try:
-        rows = list(csv.reader(io.StringIO(read_bytes(name, "a table").decode("utf-8-sig"), newline="")))
+        with rows_told_with(name):
+            rows = list(csv.reader(io.StringIO(read_bytes(name, "a table").decode("utf-8-sig"), newline="")))
     except UnicodeDecodeError:
         raise HullError(f"{name}: it isn't UTF-8") from None
     if not rows or not rows[0]:
@@ -111,8 +112,8 @@ class Network:
     def weight(self) -> Fraction:
         """How many hours a snapshot counts for in the costs."""
         found = [
-            number(it.get("objective") or it.get("weightings") or "1", "snapshots.csv") or Decimal(1)
-            for it in self.snapshots.values()
+            number(row.get("objective") or row.get("weightings") or "1", "snapshots.csv") or Decimal(1)
+            for row in self.snapshots.values()
         ]
         if len(set(found)) > 1:
             self.notes.left_out("snapshot weightings that differ: the first is taken for all")
@@ -195,7 +196,11 @@ class Network:
     def thermal(self, name: str, least_pu: Decimal, most_pu: Decimal, cost: Decimal) -> Object:
         row, size = self.generators[name], self.value(name, "p_nom") or Decimal(0)
         least, most = size * least_pu, size * most_pu
-        ramp = lambda key: most if self.value(name, key) is None else min(most, size * (self.value(name, key) or 0))
+
+        def ramp(key: str) -> Decimal:
+            share = self.value(name, key)
+            return most if share is None else min(most, size * share)
+
         committable = is_true(row.get("committable", ""))
         on = self.whole(name, "up_time_before", 1) if committable else 1
         off = self.whole(name, "down_time_before", 0)
@@ -250,9 +255,13 @@ class Network:
 
     def drop_files(self) -> None:
         """Notes what stands in files that aren't read; results of a solved network are none of the case's."""
-        for it in COMPONENTS:
-            what = f"{it}: {NETWORK}" if it in ("lines", "transformers", "links") else it.replace("_", " ")
-            for name in table(self.folder, f"{it}.csv"):
+        for component in COMPONENTS:
+            what = (
+                f"{component}: {NETWORK}"
+                if component in ("lines", "transformers", "links")
+                else component.replace("_", " ")
+            )
+            for name in table(self.folder, f"{component}.csv"):
                 self.notes.left_out(what, name)
         if len(table(self.folder, "buses.csv")) > 1:
             self.notes.left_out(NETWORK)

@@ -80,8 +80,8 @@ class Instance:
 
     def demand(self) -> List[Decimal]:
         rows = []
-        for name, it in self.top.object("Buses").items():
-            bus = Taken(it, "Buses", name, self.notes)
+        for name, value in self.top.object("Buses").items():
+            bus = Taken(value, "Buses", name, self.notes)
             rows.append(series(bus.take("Load (MW)", 0), self.periods, f'bus "{name}", Load (MW)'))
             bus.rest()
         found = sum_of(rows, self.periods)
@@ -91,14 +91,14 @@ class Instance:
     def reserves(self) -> List[Decimal]:
         """The first spinning reserve; format 0.2 has `Spinning (MW)` in place of named ones."""
         found: Optional[List[Decimal]] = None
-        for name, it in self.top.object("Reserves").items():
-            if not isinstance(it, dict):
+        for name, value in self.top.object("Reserves").items():
+            if not isinstance(value, dict):
                 if name == "Spinning (MW)" and found is None:
-                    found = series(it, self.periods, name)
+                    found = series(value, self.periods, name)
                 else:
                     self.notes.left_out("further reserve products", name)
                 continue
-            reserve = Taken(it, "Reserves", name, self.notes)
+            reserve = Taken(value, "Reserves", name, self.notes)
             kind, amount = str(reserve.take("Type", "spinning")).lower(), reserve.take("Amount (MW)", 0)
             reserve.drop("penalties for what isn't met: demand and reserve have to be met", "Shortfall penalty ($/MW)")
             reserve.rest()
@@ -111,8 +111,8 @@ class Instance:
     def generators(self) -> Tuple[Object, Object]:
         thermal: Object = {}
         renewable: Object = {}
-        for name, it in self.top.object("Generators").items():
-            unit = Taken(it, "Generators", name, self.notes)
+        for name, value in self.top.object("Generators").items():
+            unit = Taken(value, "Generators", name, self.notes)
             unit.take("Bus")
             if str(unit.take("Type", "Thermal")).lower() == "profiled":
                 renewable[name] = self.profiled(unit, name)
@@ -125,7 +125,10 @@ class Instance:
         cost = unit.take("Cost ($/MW)", 0)
         if any(series(cost, self.periods, f"{name}, Cost ($/MW)")):
             self.notes.left_out("costs of profiled generators: a renewable unit has none", name)
-        read = lambda key, default: series(unit.take(key, default), self.periods, f"{name}, {key}")
+
+        def read(key: str, default: Optional[int]) -> List[Decimal]:
+            return series(unit.take(key, default), self.periods, f"{name}, {key}")
+
         return {
             "power_output_minimum": read("Minimum power (MW)", 0),
             "power_output_maximum": read("Maximum power (MW)", None),
@@ -141,7 +144,9 @@ class Instance:
             value = unit.take(key)
             return limit(None if value is None else constant(value, min, key, notes, name), most)
 
-        time = lambda key: in_periods(unit.take(key, 1), self.per_hour, key, notes, name)
+        def time(key: str) -> int:
+            return in_periods(unit.take(key, 1), self.per_hour, key, notes, name)
+
         down = time("Minimum downtime (h)")
         lags = self.starts(unit, name)
         status, power = unit.take("Initial status (h)"), unit.take("Initial power (MW)")
@@ -211,12 +216,14 @@ class Instance:
 
     def bids(self) -> Object:
         found: Object = {}
-        for name, it in self.top.object("Price-sensitive loads").items():
-            load = Taken(it, "Price-sensitive loads", name, self.notes)
+        for name, value in self.top.object("Price-sensitive loads").items():
+            load = Taken(value, "Price-sensitive loads", name, self.notes)
             load.take("Bus")
-            read = lambda key, load=load, name=name: series(load.take(key), self.periods, f'load "{name}", {key}')
-            rows = zip(read("Demand (MW)"), read("Revenue ($/MW)"))
-            found[name] = {"blocks": [[{"mw": mw, "price": price}] for mw, price in rows]}
+            powers, prices = (
+                series(load.take(key), self.periods, f'load "{name}", {key}')
+                for key in ("Demand (MW)", "Revenue ($/MW)")
+            )
+            found[name] = {"blocks": [[{"mw": mw, "price": price}] for mw, price in zip(powers, prices)]}
             load.rest()
         return found
 

@@ -1,0 +1,52 @@
+"""What a tool says on standard error: lines, and at a terminal one more line that is written anew."""
+from __future__ import annotations
+
+import os
+import shutil
+import sys
+import threading
+import time
+
+CLEAR = "\r\x1b[K"
+
+
+def one_line(text: object) -> str:
+    """The text with what isn't printable as `?`, so that a name from a file can't break the line."""
+    return "".join(it if it.isprintable() else "?" for it in str(text))
+
+
+class Teller:
+    """Says lines in the name of a tool; that nobody reads them is no fault."""
+
+    def __init__(self, tool: str) -> None:
+        self.tool, self.lock, self.is_showing, self.told_at = tool, threading.RLock(), False, 0.0
+
+    def __call__(self, text: object) -> None:
+        self.told_at = time.monotonic()
+        self.print(f"{self.tool}: {one_line(text)}\n")
+
+    def show(self, text: str) -> None:
+        """Shows a text at a terminal in place of the one that was shown there."""
+        width = shutil.get_terminal_size().columns - 1
+        self.print(f"{self.tool}: {one_line(text)}"[:width], True)
+
+    def hide(self) -> None:
+        """Takes away what is shown."""
+        if self.is_showing:
+            self.print("")
+
+    def print(self, text: str, is_shown: bool = False) -> None:
+        with self.lock:
+            clear = CLEAR if self.is_showing or is_shown else ""
+            self.is_showing = is_shown
+            try:
+                print(f"{clear}{text}", end="", file=sys.stderr, flush=True)
+            except (OSError, ValueError, AttributeError):
+                pass
+
+    @property
+    def is_at_terminal(self) -> bool:
+        try:
+            return sys.stderr.isatty() and os.environ.get("TERM", "dumb") != "dumb"
+        except (ValueError, AttributeError):
+            return False
