@@ -4,6 +4,8 @@ The program is the one that the launcher runs: that which was built here, as the
 """
 import os
 import subprocess
+from collections.abc import Mapping, Sequence
+from typing import Any
 
 ROOT = os.path.dirname(os.path.dirname(os.path.dirname(os.path.abspath(__file__))))
 LAUNCHER = os.path.join(ROOT, "hull")
@@ -19,9 +21,9 @@ def program_here() -> str:
 PROGRAM = program_here()
 
 
-def run(words, program=PROGRAM, folder=ROOT, **how):
+def run(words: Sequence[str], program: str = PROGRAM, folder: str = ROOT, **how: Any) -> tuple[int, bytes, bytes]:
     """Runs the program to its end, and returns its status (negative: a signal), standard output and standard error."""
-    given = {
+    given: dict[str, Any] = {
         "stdin": subprocess.DEVNULL,
         "stdout": subprocess.PIPE,
         "stderr": subprocess.PIPE,
@@ -32,7 +34,7 @@ def run(words, program=PROGRAM, folder=ROOT, **how):
     return ended.returncode, ended.stdout, ended.stderr
 
 
-def status_of(output):
+def status_of(output: bytes) -> int:
     """The exit status that goes with what was printed: that of its fault line, or 0."""
     words = output.split()
     return int(words[1]) if words[:1] == [b"fault"] else 0

@@ -4,10 +4,21 @@ It goes line by line: the numbers of the first lines say how many proposals, uni
 whether a report is right; `first_difference` compares two texts for that.
 """
 import re
-from collections import namedtuple
 from itertools import zip_longest
+from typing import NamedTuple, Optional
 
-Form = namedtuple("Form", "periods units budget ahead proposals")
+
+class Form(NamedTuple):
+    """What the first lines of a report say."""
+
+    periods: int
+    units: int
+    budget: int
+    ahead: int
+    proposals: int
+
+
+Range = tuple[int, int]  # the least and the greatest number
 
 COUNT = (0, 2**32 - 1)
 MONEY = (-(2**63), 2**63 - 1)
@@ -22,17 +33,17 @@ KINDS = (b"thermal", b"renewable", b"bid")
 class OutOfForm(Exception):
     """The number of the first line that can't stand where it does; one past the whole lines where the text ends too early."""
 
-    def __init__(self, line):
+    def __init__(self, line: int) -> None:
         super().__init__(line)
         self.line = line
 
 
 class Reader:
-    def __init__(self, text):
+    def __init__(self, text: bytes) -> None:
         *self.whole, self.rest = text.split(b"\n")
         self.read = 0
 
-    def line(self, pattern, *ranges):
+    def line(self, pattern: bytes, *ranges: Range) -> tuple[bytes, ...]:
         """The groups of the next line, which has this form; the last of them are numbers within these ranges."""
         found = re.fullmatch(pattern, self.whole[self.read]) if self.read < len(self.whole) else None
         groups = found.groups() if found else ()
@@ -42,18 +53,18 @@ class Reader:
         self.read += 1
         return groups
 
-    def number(self, word, low, high):
+    def number(self, word: bytes, low: int, high: int) -> int:
         return int(self.line(word + b" " + NUMBER, (low, high))[0])
 
-    def list_of(self, word, length, low, high):
+    def list_of(self, word: bytes, length: int, low: int, high: int) -> None:
         self.line(word + (b" " + NUMBER) * length, *[(low, high)] * length)
 
-    def end(self):
+    def end(self) -> None:
         if self.read < len(self.whole) or self.rest:
             raise OutOfForm(self.read + 1)
 
 
-def read_proposal(reader, number, periods):
+def read_proposal(reader: Reader, number: int, periods: int) -> None:
     reader.line(b"proposal %d value " % number + NUMBER, SUM)
     reader.list_of(b"energy", periods, -PRICE, PRICE)
     reader.list_of(b"reserve", periods, 0, PRICE)
@@ -61,7 +72,7 @@ def read_proposal(reader, number, periods):
     reader.list_of(b"reserved", periods, *SUM)
 
 
-def read_unit(reader, least, periods):
+def read_unit(reader: Reader, least: int, periods: int) -> int:
     """A unit or bid of one of the kinds from `least` on; the place of its kind."""
     kinds = b"|".join(KINDS[least:])
     owed = b" earned " + NUMBER + b" scheduled " + NUMBER + b" payment " + NUMBER
@@ -78,7 +89,7 @@ def read_unit(reader, least, periods):
     return KINDS.index(kind)
 
 
-def read_form(text):
+def read_form(text: bytes) -> Form:
     """What the first lines of a report say; `OutOfForm` where the text is no report's."""
     reader = Reader(text)
     reader.line(b"hull-report 1")
@@ -101,7 +112,7 @@ def read_form(text):
     return Form(periods, units, budget, ahead, proposals)
 
 
-def first_difference(text, other):
+def first_difference(text: bytes, other: bytes) -> Optional[int]:
     """The number of the first line at which two texts differ; None where they are one."""
     lines = zip_longest(text.split(b"\n"), other.split(b"\n"))
     return next((number for number, (a, b) in enumerate(lines, 1) if a != b), None)

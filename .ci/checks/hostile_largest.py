@@ -235,9 +235,12 @@ def sums_of(path):
     return seen
 
 
+SUMS = ("cost", "value", "surplus", "payments", "gap", "made", "weight", "bound", "distance", "least")
+
+
 def settled_of(path):
-    """The sums of a settlement, and whether its lines agree."""
-    seen, payments = {}, 0
+    """The sums of a settlement or a search, and whether its lines agree."""
+    seen, payments, shares_of = {}, 0, []
     with open(path, encoding="utf-8") as lines:
         for line in lines:
             words = line.split()
@@ -245,12 +248,17 @@ def settled_of(path):
                 earned, scheduled, payment = map(int, words[-5::2])
                 assert payment == earned - scheduled >= 0, line
                 payments += payment
-            elif len(words) == 2 and words[0] in ("cost", "value", "surplus", "payments", "gap"):
+            elif words[0] == "mixture":
+                shares_of.append([])
+            elif words[0] == "share":
+                shares_of[-1].append(int(words[1]))
+            elif len(words) == 2 and words[0] in SUMS:
                 seen[words[0]] = int(words[1])
             last = line
     assert last == "end\n", last
     assert payments == seen["payments"] and seen["surplus"] >= 0
     assert payments + seen["surplus"] == seen["gap"] == seen["cost"] - seen["value"]
+    assert all(min(it) > 0 and sum(it) == seen["weight"] for it in shares_of)
     return seen
 
 
@@ -328,6 +336,19 @@ class Crowd:
         ) and bound >= value
         return ran
 
+    def convex(self, rounds, *words):
+        """A search whose sums agree, or the refusal of its work."""
+        ran = self.run("convex", f"--rounds={rounds}", *words, output="search")
+        if rounds * self.units * self.periods > WORK:
+            line = f"fault 5 work {rounds} {self.units} {self.periods}\n"
+            assert (ran.status, ran.text()) == (5, line), ran.text()[:200]
+            return ran
+        assert ran.status == 0, ran.text()[:200]
+        seen = settled_of(ran.output)
+        assert seen["cost"] == self.cost >= seen["bound"] >= seen["value"] and seen["made"] <= rounds
+        assert (seen["distance"], seen["least"]) == (seen["bound"] - seen["value"], self.cost - seen["bound"])
+        return ran
+
     def bound(self, proposals, *words):
         ran = self.run("bound", f"--proposals={proposals}", *words)
         assert ran.status == 0, ran.text()[:200]
@@ -360,6 +381,7 @@ class Largest(unittest.TestCase):
             for reserve in (0, PRICE // 1000):
                 crowd.settle(energy, reserve)
         crowd.certify(PRICE // 1000, 0)
+        crowd.convex(2)
         return crowd
 
     def test_as_many_units_as_there_may_be(self):
@@ -375,10 +397,10 @@ def main():
     ask.add_argument("--program", default=PROGRAM)
     program = os.path.abspath(ask.parse_args().program)
     print(f"{'thermal renewable bid periods':30} {'run':22} status  clock s  processor s  memory MB", flush=True)
-    for size, proposals in (
-        ((KIND, KIND, KIND, 168), (24, 25)),
-        ((17, 6, 6, 168), (10_000,)),
-        ((8, 8, 8, 1), (10_000,)),
+    for size, proposals, rounds in (
+        ((KIND, KIND, KIND, 168), (24, 25), (2, 25)),
+        ((17, 6, 6, 168), (10_000,), (20,)),
+        ((8, 8, 8, 1), (10_000,), (1_000,)),
     ):
         room = tempfile.mkdtemp(prefix="hull-hostile-")
         try:
@@ -394,6 +416,7 @@ def main():
                 (crowd.settle, PRICE // 1000, PRICE // 1000),
                 (crowd.settle, -PRICE // 1000, 0),
                 (crowd.certify, PRICE // 1000, PRICE // 1000),
+                *((crowd.convex, it) for it in rounds),
             ):
                 ran = run[0](*run[1:])
                 what = " ".join([run[0].__name__, *map(str, run[1:])])

@@ -20,26 +20,36 @@ import tempfile
 import unittest
 
 from built import EXAMPLES, PROGRAM, run
+from collections.abc import Callable, Sequence
+from typing import Any, Optional
 
 PAGE = 4_096
 MOST = 1 << 30
+Ended = tuple[int, bytes]  # status and standard output of a run
 STARVED = ((7, b"fault 7 memory\n"), (7, b""))
 
 
-def commands(example, room, program):
+def read_json(name: str) -> Any:
+    with open(name, encoding="utf-8") as text:
+        return json.load(text)
+
+
+def write_json(name: str, value: object) -> None:
+    with open(name, "w", encoding="utf-8") as text:
+        json.dump(value, text)
+
+
+def commands(example: str, room: str, program: str) -> dict[str, list[str]]:
     """Runs of each command, on the files of an example, and in the room a report of three proposals, prices, and the schedule as a mixture."""
     files = [f"--{it}={EXAMPLES}/{example}/{it}.json" for it in ("case", "schedule")]
     report = f"--report={room}/report"
-    with open(f"{room}/report", "wb") as it:
-        it.write(run(["price", *files, "--proposals=3"], program=program)[1])
-    with open(f"{EXAMPLES}/{example}/case.json", encoding="utf-8") as it:
-        periods = json.load(it)["time_periods"]
-    with open(f"{room}/prices", "w", encoding="utf-8") as it:
-        json.dump({"energy": [30] * periods, "reserve": [1] * periods}, it)
-    with open(f"{EXAMPLES}/{example}/schedule.json", encoding="utf-8") as it:
-        units = json.load(it)["thermal"]
-    with open(f"{room}/mixture", "w", encoding="utf-8") as it:
-        json.dump({"weight": 2, "thermal": {name: [{"weight": 1, **lists}] * 2 for name, lists in units.items()}}, it)
+    with open(f"{room}/report", "wb") as report_file:
+        report_file.write(run(["price", *files, "--proposals=3"], program=program)[1])
+    periods = read_json(f"{EXAMPLES}/{example}/case.json")["time_periods"]
+    units = read_json(f"{EXAMPLES}/{example}/schedule.json")["thermal"]
+    write_json(f"{room}/prices", {"energy": [30] * periods, "reserve": [1] * periods})
+    entries = {name: [{"weight": 1, **lists}] * 2 for name, lists in units.items()}
+    write_json(f"{room}/mixture", {"weight": 2, "thermal": entries})
     return {
         "check": ["check", *files],
         "price": ["price", *files, "--proposals=3", "--workers=1"],
@@ -50,6 +60,7 @@ def commands(example, room, program):
         "audit by four": ["audit", *files, report, "--workers=4"],
         "settle": ["settle", *files, f"--prices={room}/prices"],
         "certify": ["certify", *files, f"--prices={room}/prices", f"--mixture={room}/mixture"],
+        "convex": ["convex", *files, "--rounds=3"],
         "try": ["try", "7", "--proposals=1", "--workers=1"],
     }
 
@@ -126,31 +137,31 @@ int sched_yield(void) {
 """
 
 
-def limited(words, most, program):
+def limited(words: Sequence[str], most: int, program: str) -> Ended:
     """The run under a limit on its address space."""
 
-    def limit():
+    def limit() -> None:
         resource.setrlimit(resource.RLIMIT_AS, (most, most))
         resource.setrlimit(resource.RLIMIT_CORE, (0, 0))
 
     return run(words, program=program, preexec_fn=limit)[:2]
 
 
-def refuser_in(folder):
+def refuser_in(folder: str) -> Optional[str]:
     """A library that refuses allocations, or None where it can't be built."""
     compiler = shutil.which("cc") or shutil.which("gcc") or shutil.which("clang")
     if compiler is None:
         return None
     source, library = f"{folder}/refuser.c", f"{folder}/refuser.so"
-    with open(source, "w", encoding="utf-8") as it:
-        it.write(REFUSER)
+    with open(source, "w", encoding="utf-8") as file:
+        file.write(REFUSER)
     built = subprocess.run(
         [compiler, "-O1", "-shared", "-fPIC", source, "-o", library], capture_output=True, check=False
     )
     return library if built.returncode == 0 else None
 
 
-def refused(words, number, library, program):
+def refused(words: Sequence[str], number: int, library: str, program: str) -> Ended:
     """The run in which the allocation of that number is refused; where it is negative, all later ones too."""
     return run(
         words,
@@ -159,7 +170,7 @@ def refused(words, number, library, program):
     )[:2]
 
 
-def least_that(holds, low, high, step):
+def least_that(holds: Callable[[int], bool], low: int, high: int, step: int) -> int:
     """The least multiple of the step at which it holds, if it does so from there on."""
     low, high = low // step, high // step
     while low < high:
@@ -171,7 +182,7 @@ def least_that(holds, low, high, step):
     return low * step
 
 
-def loaded(program):
+def loaded(program: str) -> int:
     """The least address space in which the program begins: it then says what is wrong with its words."""
     return least_that(lambda most: limited([], most, program) == (1, b"fault 1 words 1 0\n"), 0, MOST, PAGE)
 
@@ -179,19 +190,19 @@ def loaded(program):
 class Tally:
     """How the runs of a command ended, and those that ended otherwise."""
 
-    def __init__(self, words, program):
+    def __init__(self, words: Sequence[str], program: str) -> None:
         self.due = run(words, program=program)[:2]
-        self.ends = collections.Counter()
-        self.wrong = []
+        self.ends: collections.Counter[int] = collections.Counter()
+        self.wrong: list[tuple[int, Ended]] = []
 
-    def note(self, at, ended):
+    def note(self, at: int, ended: Ended) -> bool:
         if ended != self.due and ended not in STARVED:
             self.wrong.append((at, ended))
         self.ends[ended[0]] += 1
         return ended == self.due
 
 
-def spaces(tally, words, program, first, runs=None):
+def spaces(tally: Tally, words: Sequence[str], program: str, first: int, runs: Optional[int] = None) -> int:
     """Limits from that of loading to that of a whole run, page by page, or so many in equal steps."""
     enough = least_that(lambda most: limited(words, most, program) == tally.due, first, MOST, PAGE)
     step = PAGE if runs is None else max(PAGE, (enough - first) // runs // PAGE * PAGE)
@@ -200,7 +211,7 @@ def spaces(tally, words, program, first, runs=None):
     return enough
 
 
-def allocations(tally, words, program, library, every=1):
+def allocations(tally: Tally, words: Sequence[str], program: str, library: str, every: int = 1) -> int:
     """Refuses one allocation after another, until a run meets none that is refused twice over."""
     number = 0
     while True:
@@ -211,11 +222,11 @@ def allocations(tally, words, program, library, every=1):
 
 
 class Starved(unittest.TestCase):
-    def setUp(self):
+    def setUp(self) -> None:
         self.room = tempfile.mkdtemp(prefix="hull-hostile-")
         self.addCleanup(shutil.rmtree, self.room)
 
-    def test_too_little_address_space(self):
+    def test_too_little_address_space(self) -> None:
         self.assertEqual(run([])[:2], (1, b"fault 1 words 1 0\n"))
         first = loaded(PROGRAM)
         for name, words in commands("day", self.room, PROGRAM).items():
@@ -223,7 +234,7 @@ class Starved(unittest.TestCase):
             spaces(tally, words, PROGRAM, first, 20)
             self.assertEqual((name, tally.due[0], tally.wrong), (name, 0, []))
 
-    def test_refused_allocations(self):
+    def test_refused_allocations(self) -> None:
         library = refuser_in(self.room)
         if library is None:
             self.skipTest("there is no C compiler")
@@ -233,7 +244,7 @@ class Starved(unittest.TestCase):
             self.assertEqual((name, tally.due[0], tally.wrong), (name, 0, []))
 
 
-def main():
+def main() -> int:
     ask = argparse.ArgumentParser(description="Runs with too little memory, page by page and call by call.")
     ask.add_argument("--program", default=PROGRAM)
     program = os.path.abspath(ask.parse_args().program)
@@ -247,6 +258,9 @@ def main():
                 tally = Tally(words, program)
                 if kind == "address space":
                     enough = spaces(tally, words, program, first)
+                elif library is None:
+                    print(f"{name:14} {kind:16} not run: there is no C compiler")
+                    continue
                 else:
                     enough = allocations(tally, words, program, library)
                 print(
@@ -254,8 +268,8 @@ def main():
                     f" {len(tally.wrong):6} {enough:9}",
                     flush=True,
                 )
-                for it in tally.wrong[:5]:
-                    print("   ", it)
+                for wrong_end in tally.wrong[:5]:
+                    print("   ", wrong_end)
                 wrong += len(tally.wrong)
     finally:
         shutil.rmtree(room)

@@ -7,8 +7,13 @@ from __future__ import annotations
 
 import itertools
 import json
+from collections.abc import Iterable, Iterator, Sequence
+from random import Random
+from typing import Any, Union
 
 LARGEST_PRICE = 10_000_000
+Period = tuple[bool, int, int]  # on, power, reserve
+Schedule = tuple[Period, ...]
 
 
 class Thermal:
@@ -30,27 +35,27 @@ class Thermal:
     points: list[tuple[int, int]]
     window: list[int | None]
 
-    def __init__(self, numbers, periods):
+    def __init__(self, numbers: dict[str, Any], periods: int) -> None:
         self.__dict__.update(numbers)
         self.periods = periods
         self.cost_at = {x: self.envelope(x) for x in range(self.least, self.most + 1)}
         self.schedules = [(it, self.cost(it)) for it in self.all_schedules() if self.is_feasible(it)]
 
-    def envelope(self, power):
+    def envelope(self, power: int) -> int:
         """The greatest over whole prices of the least over the points; costs are small, so few prices have to be tried."""
         return max(min(cost + price * (power - at) for at, cost in self.points) for price in range(-200, 201))
 
-    def all_schedules(self):
+    def all_schedules(self) -> Iterator[Schedule]:
         room = self.most - self.least
-        choices = [(False, 0, 0)] + [
+        choices: list[Period] = [(False, 0, 0)] + [
             (True, self.least + above, reserve) for above in range(room + 1) for reserve in range(room + 1 - above)
         ]
         return itertools.product(choices, repeat=self.periods)
 
-    def is_feasible(self, schedule):
+    def is_feasible(self, schedule: Schedule) -> bool:
         return self.commitment_is_right([it[0] for it in schedule]) and self.dispatch_is_right(schedule)
 
-    def commitment_is_right(self, on):
+    def commitment_is_right(self, on: list[bool]) -> bool:
         last = self.periods
         before = [self.on0] + on
         if self.must_run and not all(on):
@@ -65,7 +70,7 @@ class Thermal:
                     return False
         return all(mark is None or on[at] == bool(mark) for at, mark in enumerate(self.window))
 
-    def dispatch_is_right(self, schedule):
+    def dispatch_is_right(self, schedule: Schedule) -> bool:
         level = self.power0 - self.least if self.on0 else 0
         was_on = self.on0
         for at, (on, power, reserve) in enumerate(schedule):
@@ -82,7 +87,7 @@ class Thermal:
             level, was_on = above, on
         return True
 
-    def cost(self, schedule):
+    def cost(self, schedule: Schedule) -> int:
         total, was_on, down = 0, self.on0, self.down0
         for on, power, _ in schedule:
             if on:
@@ -93,7 +98,7 @@ class Thermal:
             was_on = on
         return total
 
-    def as_json(self):
+    def as_json(self) -> dict[str, Any]:
         return {
             "must_run": int(self.must_run),
             "power_output_minimum": megawatts(self.least),
@@ -117,12 +122,14 @@ class Thermal:
 class Renewable:
     kind = "renewable"
 
-    def __init__(self, least, most):
+    def __init__(self, least: list[int], most: list[int]) -> None:
         self.least, self.most = least, most
         ranges = [range(low, high + 1) for low, high in zip(least, most)]
-        self.schedules = [(tuple((True, x, 0) for x in powers), 0) for powers in itertools.product(*ranges)]
+        self.schedules: list[tuple[Schedule, int]] = [
+            (tuple((True, x, 0) for x in powers), 0) for powers in itertools.product(*ranges)
+        ]
 
-    def as_json(self):
+    def as_json(self) -> dict[str, Any]:
         return {
             "power_output_minimum": [megawatts(it) for it in self.least],
             "power_output_maximum": [megawatts(it) for it in self.most],
@@ -132,11 +139,11 @@ class Renewable:
 class Bid:
     kind = "bid"
 
-    def __init__(self, blocks):
+    def __init__(self, blocks: list[list[tuple[int, int]]]) -> None:
         self.blocks = blocks
         kilowatts = [[price for width, price in period for _ in range(width)] for period in blocks]
         ranges = [range(len(it) + 1) for it in kilowatts]
-        self.schedules = [
+        self.schedules: list[tuple[Schedule, int]] = [
             (
                 tuple((True, x, 0) for x in powers),
                 -sum(sum(prices[:x]) for prices, x in zip(kilowatts, powers)),
@@ -144,7 +151,7 @@ class Bid:
             for powers in itertools.product(*ranges)
         ]
 
-    def as_json(self):
+    def as_json(self) -> dict[str, Any]:
         return {
             "blocks": [
                 [{"mw": megawatts(width), "price": megawatts(price)} for width, price in period]
@@ -153,18 +160,21 @@ class Bid:
         }
 
 
+Unit = Union[Thermal, Renewable, Bid]
+
+
 class Case:
     """Units in the report's order, demand and reserves of each period, and a feasible schedule for each unit."""
 
-    def __init__(self, units, draw):
+    def __init__(self, units: list[Unit], draw: Random) -> None:
         self.units = units
-        self.plan = [draw.choice(unit.schedules) for unit in units]
+        self.plan: list[tuple[Schedule, int]] = [draw.choice(unit.schedules) for unit in units]
         self.periods = len(self.plan[0][0])
         self.demand, reserve = self.totals([schedule for schedule, _ in self.plan])
         self.reserves = [draw.randint(0, it) for it in reserve]
         self.cost = sum(cost for _, cost in self.plan)
 
-    def totals(self, schedules):
+    def totals(self, schedules: Iterable[Schedule]) -> tuple[list[int], list[int]]:
         supply, reserve = [0] * self.periods, [0] * self.periods
         for unit, schedule in zip(self.units, schedules):
             for at, (_, power, spare) in enumerate(schedule):
@@ -172,18 +182,18 @@ class Case:
                 reserve[at] += spare
         return supply, reserve
 
-    def names(self, kind):
+    def names(self, kind: str) -> list[tuple[str, Any]]:
         return [(f"{kind}{at}", it) for at, it in enumerate(self.units) if it.kind == kind]
 
-    def is_meetable(self):
+    def is_meetable(self) -> bool:
         return all(it >= 0 for it in self.demand)
 
-    def dual_value(self, energy, reserve):
+    def dual_value(self, energy: Sequence[int], reserve: Sequence[int]) -> int:
         paid = sum(price * due for price, due in zip(energy, self.demand))
         paid += sum(price * due for price, due in zip(reserve, self.reserves))
         return paid - sum(top(unit, energy, reserve) for unit in self.units)
 
-    def write(self, folder):
+    def write(self, folder: str) -> None:
         case = {
             "time_periods": self.periods,
             "demand": [megawatts(it) for it in self.demand],
@@ -193,7 +203,7 @@ class Case:
         }
         if self.names("bid"):
             case["demand_bids"] = {name: it.as_json() for name, it in self.names("bid")}
-        plan = {"thermal": {}, "renewable": {}}
+        plan: dict[str, dict[str, Any]] = {"thermal": {}, "renewable": {}}
         if self.names("bid"):
             plan["bids"] = {}
         for at, (unit, (schedule, _)) in enumerate(zip(self.units, self.plan)):
@@ -202,36 +212,36 @@ class Case:
             part = plan["bids" if unit.kind == "bid" else unit.kind]
             part[f"{unit.kind}{at}"] = lists if unit.kind == "thermal" else powers
         for name, content in (("case", case), ("schedule", plan)):
-            with open(f"{folder}/{name}.json", "w", encoding="utf-8") as it:
-                json.dump(content, it)
+            with open(f"{folder}/{name}.json", "w", encoding="utf-8") as file:
+                json.dump(content, file)
 
 
-def megawatts(kilowatts):
+def megawatts(kilowatts: int) -> float:
     return kilowatts / 1000
 
 
-def money(millionths):
+def money(millionths: int) -> float:
     return millionths / 1_000_000
 
 
-def earnings(unit, schedule, cost, energy, reserve):
+def earnings(unit: Unit, schedule: Schedule, cost: int, energy: Sequence[int], reserve: Sequence[int]) -> int:
     sign = -1 if unit.kind == "bid" else 1
     sold = sum(sign * price * it[1] for price, it in zip(energy, schedule))
     return sold + sum(price * it[2] for price, it in zip(reserve, schedule)) - cost
 
 
-def top(unit, energy, reserve):
+def top(unit: Unit, energy: Sequence[int], reserve: Sequence[int]) -> int:
     return max(earnings(unit, schedule, cost, energy, reserve) for schedule, cost in unit.schedules)
 
 
-def least_best(unit, energy, reserve):
+def least_best(unit: Unit, energy: Sequence[int], reserve: Sequence[int]) -> Schedule:
     """The first of the best schedules: on flags are compared first, then powers, then reserves, from the last period back."""
     best = top(unit, energy, reserve)
     ties = [it for it, cost in unit.schedules if earnings(unit, it, cost, energy, reserve) == best]
     return min(ties, key=lambda it: [[period[which] for period in reversed(it)] for which in range(3)])
 
 
-def draw_thermal(draw, periods):
+def draw_thermal(draw: Random, periods: int) -> Thermal:
     while True:
         least = draw.randint(0, 3)
         most = least + draw.randint(0, 3)
@@ -265,10 +275,10 @@ def draw_thermal(draw, periods):
             return unit
 
 
-def draw_case(draw):
+def draw_case(draw: Random) -> Case:
     while True:
         periods = draw.choice([1, 2, 2, 3])
-        units = [draw_thermal(draw, periods) for _ in range(draw.randint(1, 3))]
+        units: list[Unit] = [draw_thermal(draw, periods) for _ in range(draw.randint(1, 3))]
         if draw.random() < 0.5:
             least = [draw.randint(0, 2) for _ in range(periods)]
             units.append(Renewable(least, [it + draw.randint(0, 3) for it in least]))

@@ -29,9 +29,9 @@ def row_at(case: plain.Case, energy: list[int], reserve: list[int]) -> Row:
 
 def start_price(case: plain.Case, period: int) -> int:
     """The full-load price of the unit that meets demand, the units taken from the cheapest one on."""
-    units = [it for it in case.units if it.kind == "thermal"]
+    units = [unit for unit in case.units if isinstance(unit, plain.Thermal)]
     prices = {it: ceil(Fraction(it.cost_at[it.most], it.most)) if it.most else 0 for it in units}
-    lacking = case.demand[period] - sum(it.most[period] for it in case.units if it.kind == "renewable")
+    lacking = case.demand[period] - sum(it.most[period] for it in case.units if isinstance(it, plain.Renewable))
     for price in sorted(set(prices.values())):
         if sum(it.most for it in units if prices[it] <= price) >= lacking:
             return price

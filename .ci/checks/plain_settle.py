@@ -7,10 +7,14 @@ from fractions import Fraction
 from math import floor
 
 import plain
+from collections.abc import Callable, Iterable
+from typing import Any, Optional
 
 SPACE = b" \t\n\r"
 NUMBER = re.compile(rb"-?(0|[1-9][0-9]*)(\.[0-9]+)?([eE][+-]?[0-9]+)?")
 ESCAPES = {b'"': '"', b"\\": "\\", b"/": "/", b"b": "\b", b"f": "\f", b"n": "\n", b"r": "\r", b"t": "\t"}
+
+Token = tuple[int, str, Any]  # its place, its kind and its value
 
 
 class PricesFault(Exception):
@@ -20,13 +24,13 @@ class PricesFault(Exception):
 class Text:
     """The tokens of a JSON text, and its value."""
 
-    def __init__(self, data):
+    def __init__(self, data: bytes) -> None:
         self.data, self.at = data, 0
 
-    def fault(self, code, at):
+    def fault(self, code: int, at: int) -> PricesFault:
         return PricesFault(f"{code} at {at}")
 
-    def token(self):
+    def token(self) -> Token:
         """The next token as (first byte, kind, value); its place is where it begins."""
         while self.at < len(self.data) and self.data[self.at] in SPACE:
             self.at += 1
@@ -44,16 +48,17 @@ class Text:
         word = self.run(start, b"abcdefghijklmnopqrstuvwxyz", words.__contains__)
         return start, "word", words[word]
 
-    def run(self, start, of, is_right):
+    def run(self, start: int, of: bytes, is_right: Callable[[bytes], object]) -> bytes:
         while self.at < len(self.data) and self.data[self.at] in of:
             self.at += 1
         if not is_right(self.data[start : self.at]):
             raise self.fault(10, start)
         return self.data[start : self.at]
 
-    def string(self, start):
+    def string(self, start: int) -> str:
         """The text of a string whose opening quote is at `start`."""
-        units, at = [], start + 1
+        units: list[bytes] = []
+        at = start + 1
         while True:
             one = self.data[at : at + 1]
             if not one or one < b" ":
@@ -85,7 +90,7 @@ class Text:
         except UnicodeDecodeError:
             raise self.fault(10, start) from None
 
-    def value(self, level=1, token=None):
+    def value(self, level: int = 1, token: Optional[Token] = None) -> Any:
         start, kind, value = token or self.token()
         if kind in ("{", "["):
             if level > 32:
@@ -97,16 +102,19 @@ class Text:
             raise self.fault(10, start)
         return value
 
-    def number(self, start, text):
-        whole, fraction, exponent = re.fullmatch(rb"-?([0-9]+)(?:\.([0-9]+))?(?:[eE](.+))?", text).groups()
+    def number(self, start: int, text: bytes) -> Fraction:
+        parts = re.fullmatch(rb"-?([0-9]+)(?:\.([0-9]+))?(?:[eE](.+))?", text)
+        assert parts, text
+        whole, fraction, exponent = parts.groups()
         digits = (whole + (fraction or b"")).lstrip(b"0")
         if len(digits) > 30 or abs(int(exponent or b"0")) > 400:
             raise self.fault(11, start)
         size = Fraction(int(digits or b"0")) * Fraction(10) ** (int(exponent or b"0") - len(fraction or b""))
         return -size if text.startswith(b"-") else size
 
-    def members(self, level):
-        found, token = {}, self.token()
+    def members(self, level: int) -> dict[str, Any]:
+        found: dict[str, Any] = {}
+        token = self.token()
         if token[1] == "}":
             return found
         while True:
@@ -121,8 +129,9 @@ class Text:
                 return found
             token = self.token()
 
-    def items(self, level):
-        found, token = [], self.token()
+    def items(self, level: int) -> list[Any]:
+        found: list[Any] = []
+        token = self.token()
         if token[1] == "]":
             return found
         while True:
@@ -131,21 +140,21 @@ class Text:
                 return found
             token = self.token()
 
-    def expect(self, *kinds):
+    def expect(self, *kinds: str) -> str:
         start, kind, _ = self.token()
         if kind not in kinds:
             raise self.fault(10, start)
         return kind
 
-    def whole(self):
+    def whole(self) -> Any:
         value = self.value()
         if self.data[self.at :].strip(SPACE):
             raise self.fault(10, self.at + len(self.data[self.at :]) - len(self.data[self.at :].lstrip(SPACE)))
         return value
 
 
-def read_list(value, key, periods, least):
-    def wrong(code, item):
+def read_list(value: Any, key: str, periods: int, least: Optional[int]) -> list[int]:
+    def wrong(code: int, item: int) -> PricesFault:
         return PricesFault(f"{code} field {key} item {item}")
 
     if not isinstance(value, list):
@@ -153,10 +162,10 @@ def read_list(value, key, periods, least):
     if len(value) != periods:
         raise wrong(25, 0)
     found = []
-    for item, it in enumerate(value, 1):
-        if not isinstance(it, Fraction):
+    for item, number in enumerate(value, 1):
+        if not isinstance(number, Fraction):
             raise wrong(21, item)
-        found.append(floor(it * 1000 + Fraction(1, 2)))
+        found.append(floor(number * 1000 + Fraction(1, 2)))
         if abs(found[-1]) > plain.LARGEST_PRICE:
             raise wrong(24, item)
         if least is not None and found[-1] < least:
@@ -164,7 +173,7 @@ def read_list(value, key, periods, least):
     return found
 
 
-def read_prices(data, periods):
+def read_prices(data: bytes, periods: int) -> tuple[list[int], list[int]]:
     """Energy and reserve prices of a file, in millionths per kilowatt."""
     value = Text(data).whole()
     if not isinstance(value, dict):
@@ -175,7 +184,11 @@ def read_prices(data, periods):
     return energy, read_list(value["reserve"], "reserve", periods, 0) if "reserve" in value else [0] * periods
 
 
-def settlement(case, energy, reserve):
+def line_of(word: str, numbers: Iterable[int]) -> str:
+    return " ".join([word, *map(str, numbers)])
+
+
+def settlement(case: plain.Case, energy: list[int], reserve: list[int]) -> str:
     """The text of `hull settle` for a case of plain.py and its plan."""
     best = [plain.least_best(unit, energy, reserve) for unit in case.units]
     supplied, reserved = case.totals(best)
@@ -187,8 +200,8 @@ def settlement(case, energy, reserve):
         f"cost {case.cost}",
         f"value {value}",
     ]
-    told = lambda word, numbers: " ".join([word, *map(str, numbers)])
-    lines += [told("energy", energy), told("reserve", reserve), told("supplied", supplied), told("reserved", reserved)]
+    lists = {"energy": energy, "reserve": reserve, "supplied": supplied, "reserved": reserved}
+    lines += [line_of(word, numbers) for word, numbers in lists.items()]
     payments = 0
     for kind in ("thermal", "renewable", "bid"):
         for at, unit in enumerate(case.units):
@@ -203,14 +216,14 @@ def settlement(case, energy, reserve):
                 "power": [it[1] for it in best[at]],
                 "reserve": [it[2] for it in best[at]],
             }
-            lines += [told(word, numbers) for word, numbers in lists.items() if kind == "thermal" or word == "power"]
+            lines += [line_of(word, numbers) for word, numbers in lists.items() if kind == "thermal" or word == "power"]
     _, kept = case.totals([schedule for schedule, _ in case.plan])
     surplus = sum(price * (it - due) for price, it, due in zip(reserve, kept, case.reserves))
     lines += [f"surplus {surplus}", f"payments {payments}", f"gap {case.cost - value}", "end"]
     return "\n".join(lines) + "\n"
 
 
-def due(case, data):
+def due(case: plain.Case, data: bytes) -> tuple[int, str]:
     """Status and output that are due for a prices file."""
     try:
         return 0, settlement(case, *read_prices(data, case.periods))

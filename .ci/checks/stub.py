@@ -12,6 +12,7 @@ import time
 import unittest
 
 from built import ROOT, run
+from collections.abc import Callable
 
 CRATES = "# a comment\nlow: arrayvec\nfor_tests: low\nhigh may_wait=3: low  # a comment\nhull_cli: high low\n"
 RT = r"""#!/usr/bin/env bash
@@ -88,7 +89,7 @@ TOOLS = ("hull", "tools/made_of.sh", "tools/build.sh", "tools/program.sh", "tool
 class Repository(unittest.TestCase):
     """Each test has a repository `room` of its own, and leaves no process."""
 
-    def setUp(self):
+    def setUp(self) -> None:
         above = tempfile.mkdtemp(prefix="hull-launcher-")
         self.addCleanup(shutil.rmtree, above)
         os.chmod(above, 0o755)
@@ -120,27 +121,27 @@ class Repository(unittest.TestCase):
         self.shipped = f"{self.room}/dist/linux-x86_64/hull"
         self.addCleanup(self.check_no_process)
 
-    def check_no_process(self):
+    def check_no_process(self) -> None:
         """Nothing is left of a build: no process, and no folder."""
         self.assertTrue(self.comes(lambda: not self.processes()), f"left: {self.processes()}")
         self.assertEqual(os.listdir(self.env["TMPDIR"]), [])
 
-    def processes(self):
+    def processes(self) -> list[tuple[int, bytes]]:
         """The processes that were started for this repository and live."""
         found = []
         for pid in filter(str.isdigit, os.listdir("/proc")):
             try:
-                with open(f"/proc/{pid}/environ", "rb") as it:
-                    is_one = f"ASKED={self.env['ASKED']}".encode() in it.read().split(b"\0")
-                with open(f"/proc/{pid}/stat", "rb") as it:
-                    is_one &= it.read().rsplit(b")", 1)[1].split()[0] != b"Z"
-                with open(f"/proc/{pid}/cmdline", "rb") as it:
-                    found += [(int(pid), it.read())] * is_one
+                with open(f"/proc/{pid}/environ", "rb") as file:
+                    is_one = f"ASKED={self.env['ASKED']}".encode() in file.read().split(b"\0")
+                with open(f"/proc/{pid}/stat", "rb") as file:
+                    is_one &= file.read().rsplit(b")", 1)[1].split()[0] != b"Z"
+                with open(f"/proc/{pid}/cmdline", "rb") as file:
+                    found += [(int(pid), file.read())] * is_one
             except OSError:
                 pass
         return found
 
-    def comes(self, holds, seconds=60):
+    def comes(self, holds: Callable[[], bool], seconds: float = 60) -> bool:
         """Whether it holds within so many seconds."""
         until = time.monotonic() + seconds
         while not holds():
@@ -149,40 +150,41 @@ class Repository(unittest.TestCase):
             time.sleep(0.02)
         return True
 
-    def write(self, name, text):
+    def write(self, name: str, text: str) -> None:
         os.makedirs(os.path.dirname(f"{self.room}/{name}"), exist_ok=True)
-        with open(f"{self.room}/{name}", "w", encoding="utf-8") as it:
-            it.write(text)
+        with open(f"{self.room}/{name}", "w", encoding="utf-8") as file:
+            file.write(text)
 
-    def read(self, name):
-        with open(f"{self.room}/{name}", encoding="utf-8") as it:
-            return it.read()
+    def read(self, name: str) -> str:
+        with open(f"{self.room}/{name}", encoding="utf-8") as file:
+            return file.read()
 
-    def forget(self):
+    def forget(self) -> None:
         """Takes away what was built, and what the kit has kept."""
-        for it in (self.out, f"{self.kit}/kept"):
-            shutil.rmtree(it, ignore_errors=True)
+        for place in (self.out, f"{self.kit}/kept"):
+            shutil.rmtree(place, ignore_errors=True)
         os.mkdir(f"{self.kit}/kept")
 
-    def call(self, *words, **env):
+    def call(self, *words: str, **env: str) -> tuple[int, bytes, bytes]:
         """Runs one of the repository's own commands, or another program in the repository."""
         return run(words[1:], program=words[0], folder=self.room, env={**self.env, **env})
 
-    def hull(self, *words, **env):
+    def hull(self, *words: str, **env: str) -> tuple[int, bytes, bytes]:
         return run(words, program=f"{self.room}/hull", folder=self.room, env={**self.env, **env})
 
-    def begin(self, *words, **env):
+    def begin(self, *words: str, **env: str) -> "subprocess.Popen[bytes]":
         """Starts the launcher, and hands out its process."""
-        how = {"cwd": self.room, "env": {**self.env, **env}, "stdin": subprocess.DEVNULL}
         return subprocess.Popen(
             [f"{self.room}/hull", *words],
             stdout=subprocess.PIPE,
             stderr=subprocess.PIPE,
             start_new_session=True,
-            **how,
+            cwd=self.room,
+            env={**self.env, **env},
+            stdin=subprocess.DEVNULL,
         )
 
-    def hold(self, crate, *words, **env):
+    def hold(self, crate: str, *words: str, **env: str) -> "subprocess.Popen[bytes]":
         """Starts the launcher, and waits until the prover is at the crate, where it stays until `go_on`."""
         with open(f"{self.env['ASKED']}.hold", "w", encoding="utf-8"):
             pass
@@ -190,18 +192,18 @@ class Repository(unittest.TestCase):
         self.assertTrue(self.comes(lambda: os.path.exists(f"{self.env['ASKED']}.held")))
         return begun
 
-    def go_on(self):
+    def go_on(self) -> None:
         os.remove(f"{self.env['ASKED']}.hold")
 
-    def ended(self, begun):
+    def ended(self, begun: "subprocess.Popen[bytes]") -> tuple[int, bytes, str]:
         output, said = begun.communicate(timeout=120)
         return begun.returncode, output, said.decode()
 
-    def asked(self):
+    def asked(self) -> list[str]:
         """What the prover was asked since this was looked at last."""
         if not os.path.exists(self.env["ASKED"]):
             return []
-        with open(self.env["ASKED"], encoding="utf-8") as it:
-            lines = it.read().splitlines()
+        with open(self.env["ASKED"], encoding="utf-8") as file:
+            lines = file.read().splitlines()
         os.remove(self.env["ASKED"])
         return lines

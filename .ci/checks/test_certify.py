@@ -164,7 +164,10 @@ class Certify(unittest.TestCase):
 
     def check_box(self, case, prices, radius, bound):
         draw = random.Random(bound)
-        near = lambda price, least: draw.randint(max(least, price - radius), min(plain.LARGEST_PRICE, price + radius))
+
+        def near(price, least):
+            return draw.randint(max(least, price - radius), min(plain.LARGEST_PRICE, price + radius))
+
         for _ in range(TRIED):
             energy = [near(it, -plain.LARGEST_PRICE) for it in prices[0]]
             reserve = [near(it, 0) for it in prices[1]]

@@ -820,20 +820,12 @@ class AtOnce(Repository):
         begun.stderr.close()
 
 
-class Explaining(unittest.TestCase):
-    """A fault in words on standard error; standard output and the status are the program's."""
+class Told(unittest.TestCase):
+    """What the launcher says on standard error; standard output and the status are the program's."""
 
     def setUp(self):
-        self.room = tempfile.mkdtemp(prefix="hull-explaining-")
+        self.room = tempfile.mkdtemp(prefix="hull-told-")
         self.addCleanup(shutil.rmtree, self.room)
-        with open(f"{EXAMPLES}/first/case.json", encoding="utf-8") as file:
-            text = file.read()
-        with open(f"{self.room}/case.json", "w", encoding="utf-8") as file:
-            file.write(text.replace('"time_periods"', '"time_period"'))
-        first = (f"{EXAMPLES}/first/{it}.json" for it in ("case", "schedule"))
-        self.right = ["check", *(word for pair in zip(("--case", "--schedule"), first) for word in pair)]
-        self.refused = ["check", "--case", "case.json", f"--schedule={EXAMPLES}/first/schedule.json"]
-        self.said = b"case.json: time_periods: it isn't there, and it has to be. Due: the number of periods, 1 to 168."
 
     def called(self, words, is_terminal=False, **env):
         """What a call says on standard error; the rest has to be as the program has it."""
@@ -849,6 +841,51 @@ class Explaining(unittest.TestCase):
         finally:
             os.close(ours)
             os.close(theirs)
+
+
+class Searching(Told):
+    """That a search goes on is said at a terminal alone."""
+
+    said = b"hull: searching: about a second for a day of 150 units, up to a minute for a week\r\n"
+
+    def setUp(self):
+        super().setUp()
+        files = [f"--{it}={EXAMPLES}/usual/{it}.json" for it in ("case", "schedule")]
+        self.searched, self.checked = ["convex", *files], ["check", *files]
+        # (the first call at a terminal may say which program it runs)
+        self.called(self.checked, is_terminal=True)
+
+    def test_it_is_said_in_one_line_before_the_text(self):
+        self.assertEqual(self.called(self.searched, is_terminal=True), self.said)
+        self.assertEqual(self.called([*self.searched, "--rounds=1"], is_terminal=True, HULL_EXPLAIN="1"), self.said)
+
+    def test_nothing_is_said_in_a_log_or_where_it_is_not_wanted(self):
+        for explain in ({}, {"HULL_EXPLAIN": "1"}, {"HULL_EXPLAIN": "0"}):
+            self.assertEqual(self.called(self.searched, **explain), b"")
+        self.assertEqual(self.called(self.searched, is_terminal=True, HULL_EXPLAIN="0"), b"")
+
+    def test_nothing_is_said_of_another_command(self):
+        self.assertEqual(self.called(self.checked, is_terminal=True), b"")
+
+    def test_a_search_that_is_refused_is_explained_behind_it(self):
+        said = self.called(self.searched[:2], is_terminal=True)
+        self.assertTrue(said.startswith(self.said) and said.count(b"\n") == 2, said)
+        self.assertNotIn(self.said, self.called(["convex"], is_terminal=True))
+
+
+class Explaining(Told):
+    """A fault in words."""
+
+    def setUp(self):
+        super().setUp()
+        with open(f"{EXAMPLES}/first/case.json", encoding="utf-8") as file:
+            text = file.read()
+        with open(f"{self.room}/case.json", "w", encoding="utf-8") as file:
+            file.write(text.replace('"time_periods"', '"time_period"'))
+        first = (f"{EXAMPLES}/first/{it}.json" for it in ("case", "schedule"))
+        self.right = ["check", *(word for pair in zip(("--case", "--schedule"), first) for word in pair)]
+        self.refused = ["check", "--case", "case.json", f"--schedule={EXAMPLES}/first/schedule.json"]
+        self.said = b"case.json: time_periods: it isn't there, and it has to be. Due: the number of periods, 1 to 168."
 
     def test_it_is_said_at_a_terminal_or_where_it_is_wanted(self):
         self.called(self.refused, is_terminal=True)

@@ -73,6 +73,10 @@ def setUpModule():
 class Making(unittest.TestCase):
     def test_twice_in_two_folders_it_is_the_same(self):
         other = f"{ROOM}/another folder"
+        precious = f"{ROOM}/precious"
+        with open(precious, "w", encoding="utf-8") as it:
+            it.write("precious")
+        os.symlink(precious, f"{ROOM}/{NAME}.tar.gz.part")
         before = os.umask(0o077)
         try:
             self.assertEqual(call(ROOM, "git", "clone", "-q", "one", other)[0], 0)
@@ -83,6 +87,8 @@ class Making(unittest.TestCase):
         self.assertRegex(made[0][1], rf"\A[0-9a-f]{{64}}  {re.escape(NAME)}\.tar\.gz\n\Z")
         self.assertEqual(made[0], made[1])
         self.assertEqual(call(ROOM, "sha256sum", f"{NAME}.tar.gz")[1], made[0][1])
+        self.assertEqual(os.stat(f"{ROOM}/{NAME}.tar.gz").st_mode & 0o777, 0o600)
+        self.assertEqual(read(precious), "precious")
 
     def test_the_program_is_no_text_to_git(self):
         asked = ["check-attr", "binary", "dist/linux-x86_64/hull", "dist/linux-x86_64/hull.txt"]

@@ -62,13 +62,17 @@ def draw_number(draw, low, high):
     )
 
 
+def draw_list(draw, low, periods):
+    """A list of prices, mostly with one for each period."""
+    count = periods + draw.choice([0] * 20 + [-1, 1])
+    return "[" + ", ".join(draw_number(draw, low, 60) for _ in range(count)) + "]"
+
+
 def draw_prices(draw, periods):
     """A prices file, mostly a right one."""
-    numbers = lambda low, count: "[" + ", ".join(draw_number(draw, low, 60) for _ in range(count)) + "]"
-    count = lambda: periods + draw.choice([0] * 20 + [-1, 1])
-    parts = [f'"energy": {numbers(-20, count())}']
+    parts = [f'"energy": {draw_list(draw, -20, periods)}']
     if draw.random() < 0.7:
-        parts.append(f'"reserve": {numbers(0, count())}')
+        parts.append(f'"reserve": {draw_list(draw, 0, periods)}')
     if draw.random() < 0.2:
         parts.append(
             draw.choice(['"reserve": null', '"energy": 1', '"x": [[{}]]', '"energy": [null]', '"en\\u0065rgy": []'])

@@ -21,12 +21,6 @@ PAGES = sorted(
         *(os.path.relpath(page, ROOT) for page in glob.glob(f"{ROOT}/examples/**/README.md", recursive=True)),
     }
 )
-# Pages that don't name the glossary yet. A page may leave this list, and none may join it.
-WITHOUT_GLOSSARY = {"docs/PYTHON.md", "docs/STUDY.md"}
-
-# Sentences above the limit that pages still have. A number only falls.
-LONG_SENTENCES = {"docs/STUDY.md": 3}
-
 # Phrases that stand for a noun, so that a reader has to look for it, and how often the pages have each. A number only falls.
 PRONOUNS = {
     "those of": 3,
@@ -92,7 +86,7 @@ class Words(unittest.TestCase):
             most = MOST_WORDS_OF_A_SENTENCE.get(page, MOST_WORDS_ELSEWHERE)
             with self.subTest(page):
                 found = long_sentences(read(page), most)
-                self.assertLessEqual(len(found), LONG_SENTENCES.get(page, 0), found)
+                self.assertEqual(found, [])
 
     def test_readme_is_short(self) -> None:
         self.assertLessEqual(len(read("README.md").split()), MOST_WORDS_OF_README)
@@ -111,7 +105,7 @@ class Words(unittest.TestCase):
     def test_pages_with_words_of_ours_name_the_glossary(self) -> None:
         words = own_words(read(GLOSSARY))
         self.assertGreater(len(words), 30)
-        for page in set(PAGES) - {GLOSSARY} - WITHOUT_GLOSSARY:
+        for page in set(PAGES) - {GLOSSARY}:
             with self.subTest(page):
                 named = re.search(r"(docs/|\()WORDS\.md", read(page))
                 self.assertTrue(named or not used(words, read(page)), f"it has words of {GLOSSARY}, and no link to it")

@@ -2,6 +2,7 @@
 import csv
 import json
 import os
+import re
 import shutil
 import signal
 import subprocess
@@ -24,6 +25,8 @@ note=$(sed -n 's/.*"misfortune": "\\([a-z ]*\\)".*/\\1/p' "$3" 2>/dev/null)
     "price its output is cut") "$PROGRAM" "$@" | head -n 5; exit 6 ;;
     "price its output is cut behind") "$PROGRAM" "$@" | head -n 5; exit 0 ;;
     "price it is slow") exec sleep 600 ;;
+    "audit the report is another meanwhile") mv days/swapped/report.txt "$CALLS.report"; cp "$RIGHT" days/swapped/report.txt
+        "$PROGRAM" "$@"; status=$?; mv "$CALLS.report" days/swapped/report.txt; exit $status ;;
     "price another program says one") echo "/lib64/libc.so.6: version GLIBC_2.99 not found" >&2; exit 1 ;;
 esac
 exec "$PROGRAM" "$@"
@@ -65,7 +68,12 @@ class Workflow(unittest.TestCase):
         self.settings: Dict[str, Any] = {"lists": [], "report_words": "--proposals 2 --ahead 1"}
         self.settings["program"] = f"{self.room}/hull"
         self.env = {"PATH": os.environ["PATH"], "HOME": f"{self.room}/home", "TMPDIR": self.room, "PROGRAM": PROGRAM}
-        self.env.update(CALLS=f"{self.room}/calls", CALM=f"{self.room}/calm", PYTHONDONTWRITEBYTECODE="1")
+        self.env.update(
+            RIGHT=f"{EXAMPLES}/usual/price.output",
+            CALLS=f"{self.room}/calls",
+            CALM=f"{self.room}/calm",
+            PYTHONDONTWRITEBYTECODE="1",
+        )
 
     def day(self, name: str, misfortune: Optional[str] = None, example: str = "usual") -> None:
         """A day of the example, whose case has a note."""
@@ -88,7 +96,7 @@ class Workflow(unittest.TestCase):
 
     def begin(self, *words: str, **more: Any) -> "subprocess.Popen[str]":
         write(f"{self.room}/config.json", json.dumps({**self.settings, **more}))
-        given = ["-s", f"{ROOT}/workflow/Snakefile", "--profile", f"{PROFILES}/here", "-c2"]
+        given = ["-s", f"{ROOT}/workflow/Snakefile", "--profile", f"{PROFILES}/here", "-c", "2"]
         return subprocess.Popen(
             [SNAKEMAKE or "", *given, "--configfile", f"{self.room}/config.json", *words],
             cwd=self.study,
@@ -123,7 +131,9 @@ class Workflow(unittest.TestCase):
         """The calls of the program since the last look, but for questions what it has."""
         if not os.path.exists(f"{self.room}/calls"):
             return []
-        found = sorted(line.replace("/case.json", "") for line in read(f"{self.room}/calls").decode().splitlines())
+        lines = read(f"{self.room}/calls").decode().replace("/case.json", "").splitlines()
+        # (an audit is of copies, in a folder of such a name)
+        found = sorted(re.sub(r" .*/(?=days/)", " ", line) for line in lines)
         os.remove(f"{self.room}/calls")
         return found
 
@@ -148,8 +158,11 @@ class Misfortunes(Workflow):
 
     def misfortunes(self) -> Dict[str, str]:
         """Days of which two are right, and what is told of the report of each of the others."""
-        self.days("right", "with a space", "no case", "refused")
+        self.days("right", "with a space", "no case", "refused", "pipe", "leads to none")
         os.remove(f"{self.study}/days/no case/case.json")
+        os.remove(f"{self.study}/days/pipe/schedule.json")
+        os.mkfifo(f"{self.study}/days/pipe/schedule.json")
+        os.symlink(f"{self.room}/none", f"{self.study}/days/leads to none/report.txt")
         self.change("refused", "schedule.json", lambda value: value["renewable"].update(W1=[9999]))
         told = {
             "killed": ("the job is killed", NO_LINE.format(-9)),
@@ -172,6 +185,8 @@ class Misfortunes(Workflow):
         self.assertFalse(is_right)
         left = self.left()
         self.assertEqual(left.pop("no case"), ["no case.json"])
+        self.assertEqual(left.pop("pipe"), ["its schedule.json is no file, or a link to none"])
+        self.assertEqual(left.pop("leads to none"), ["its report.txt is no file, or a link to none"])
         self.assertEqual(
             {name: why[0][: len(due[name]) + 8] for name, why in left.items()},
             {n: f"report: {due[n]}" for n in due},
@@ -186,13 +201,15 @@ class Misfortunes(Workflow):
         self.assertEqual((calls.count("price days/refused"), calls.count("price days/killed")), (1, 2), "retries")
         self.mend()
         self.ends_well()
-        self.assert_priced("right", "no case", *due)
+        self.assert_priced("right", "no case", "pipe", "leads to none", *due)
         self.assertNotIn("price days/right", self.calls())
         self.assertEqual(set(self.audited().values()), {"yes"})
 
     def mend(self) -> None:
         write(f"{self.room}/calm", "")
-        for name in ("no case", "refused"):
+        os.remove(f"{self.study}/days/leads to none/report.txt")
+        os.remove(f"{self.study}/days/pipe/schedule.json")
+        for name in ("no case", "refused", "pipe"):
             for file in ("case.json", "schedule.json"):
                 shutil.copy(f"{EXAMPLES}/usual/{file}", f"{self.study}/days/{name}")
 
@@ -235,6 +252,17 @@ class Misfortunes(Workflow):
         self.assertFalse(is_right)
         self.assertEqual(said.splitlines()[-1], "another run is at work in results")
         self.assertNotIn("Snakefile", said)
+
+    def test_processors_that_snakemake_would_not_see_are_refused(self) -> None:
+        """It looks in its words for `-c` alone, and takes the profile's number where it finds `-c999`."""
+        self.days("first")
+        words = [SNAKEMAKE or "", "-s", f"{ROOT}/workflow/Snakefile", "--profile", f"{PROFILES}/here", "-n"]
+        for more, refusal in (["-c999"], "-c999: Snakemake would use "), (["-c", "999"], ""), (["--cores=999"], ""):
+            ran = subprocess.run(
+                words + more, cwd=self.study, env=self.env, stdin=subprocess.DEVNULL, capture_output=True, text=True
+            )
+            self.assertEqual(ran.returncode, 1 if refusal else 0, more)
+            self.assertEqual(ran.stderr.startswith(refusal) and ran.stderr.endswith("write -c 999\n"), bool(refusal))
 
     def test_a_full_disk(self) -> None:
         """A disk of 256 KB where root may mount one, and else a stand-in: no file of more than 50,000 bytes can be written."""
@@ -353,6 +381,35 @@ class FromOthers(Workflow):
             self.assertFalse(is_right)
             self.assertIn("is inside the study", said)
 
+    def test_settings_that_came_with_a_folder_are_refused(self) -> None:
+        self.days("one")
+        self.ends_well()
+        name = self.result(".steps/settings.json")
+        words = [
+            "/usr/bin/env",
+            "python3",
+            f"{ROOT}/workflow/scripts/summary.py",
+            "--settings",
+            "results/.steps/settings.json",
+        ]
+        settings = json.loads(read(name))
+        for change in ({"audits": f"{self.study}/marks"}, {"audits": "../marks"}, {"results": "other"}, {"x": 1}):
+            write(name, json.dumps({**settings, **change}))
+            ran = subprocess.run(words, cwd=self.study, env=self.env, capture_output=True, text=True)
+            self.assertEqual((ran.returncode, ran.stdout), (1, ""), change)
+            self.assertEqual(ran.stderr.count("\n"), 1, ran.stderr)
+        self.assertFalse(os.path.exists(f"{self.study}/other"))
+        write(name, json.dumps(settings))
+        ran = subprocess.run(words, cwd=self.study, env=self.env, capture_output=True, text=True)
+        self.assertEqual((ran.returncode, ran.stderr), (0, ""))
+
+    def test_an_audit_is_of_the_files_that_are_noted(self) -> None:
+        self.day("swapped", "the report is another meanwhile")
+        write(f"{self.study}/days/swapped/report.txt", RIGHT.replace(b"payments 164", b"payments 165").decode())
+        self.assertFalse(self.run_all("--retries", "0")[0])
+        self.assertTrue(self.left()["swapped"][0].startswith("audit: refused: fault 8 report 61 at "), self.left())
+        self.assertEqual(set(self.audited().values()), set())
+
     def test_names_that_no_day_can_have_are_refused(self) -> None:
         self.days("one", "-", "a\nb", "{c}", "$(touch x)")
         write(f"{self.study}/case.json", read(f"{EXAMPLES}/usual/case.json").decode())
@@ -445,8 +502,8 @@ class Lists(Workflow):
         self.day("usual")
         self.day("made")
         os.remove(f"{self.study}/days/made/schedule.json")
-        lists = ["lmp", "relaxation", "subgradient_100", "subgradient_1000", "convex_hull"]
-        is_right, said = self.run_all(lists=lists, convex_words="--within 10000")
+        lists = ["lmp", "elmp", "relaxation", "subgradient_100", "subgradient_1000", "convex_hull"]
+        is_right, said = self.run_all(lists=lists, elmp_words="--fast-start G1", convex_words="--within 10000")
         if "SciPy" in said:
             self.skipTest("Snakemake's Python has no SciPy")
         self.assertTrue(is_right, said)
