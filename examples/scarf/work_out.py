@@ -28,8 +28,7 @@ def case_of(demand):
     units = {}
     for name, start, per_kw, least, most in UNITS:
         limits = {
-            it: most / 1000
-            for it in ("ramp_up_limit", "ramp_down_limit", "ramp_startup_limit", "ramp_shutdown_limit")
+            it: most / 1000 for it in ("ramp_up_limit", "ramp_down_limit", "ramp_startup_limit", "ramp_shutdown_limit")
         }
         points = [{"mw": at / 1000, "cost": per_kw * at / 1e6} for at in (least, most)]
         units[name] = {
@@ -104,7 +103,9 @@ def mixture_of(demand):
     for name, _, _, _, most in UNITS:
         on = int(found[name[:-1]] * whole)
         entries = [(on, 1, most), (whole - on, 0, 0)]
-        units[name] = [{"weight": n, "on": [is_on], "power": [power], "reserve": [0]} for n, is_on, power in entries if n]
+        units[name] = [
+            {"weight": n, "on": [is_on], "power": [power], "reserve": [0]} for n, is_on, power in entries if n
+        ]
     return {"weight": whole, "thermal": units}
 
 
@@ -113,7 +114,14 @@ def certificate(demand, cost, price):
     full = {kind: start + per_kw * most for kind, _, start, per_kw, _, most in TYPES}
     bound = int(sum(share * full[kind] * number for kind, number, *_ in TYPES for share in [shares(demand)[kind]]))
     gap, distance = cost - value(price, demand), bound - value(price, demand)
-    lines = ["hull-certificate 1", "periods 1", f"units {len(UNITS)}", f"cost {cost}", f"value {cost - gap}", "surplus 0"]
+    lines = [
+        "hull-certificate 1",
+        "periods 1",
+        f"units {len(UNITS)}",
+        f"cost {cost}",
+        f"value {cost - gap}",
+        "surplus 0",
+    ]
     lines += [f"payments {gap}", f"gap {gap}", "radius 20000000", f"bound {bound}", f"distance {distance}"]
     return "\n".join([*lines, f"least {cost - bound}", "end", ""])
 
@@ -127,8 +135,7 @@ def answer(unit, price):
 
 def value(price, demand):
     return price * demand - sum(
-        max(0, *((price - per_kw) * at - start for at in (least, most)))
-        for _, start, per_kw, least, most in UNITS
+        max(0, *((price - per_kw) * at - start for at in (least, most))) for _, start, per_kw, least, most in UNITS
     )
 
 
@@ -223,8 +230,7 @@ def main():
         if folder:
             schedule = {
                 "thermal": {
-                    it[0]: {"on": [int(it[0] in power)], "power": [power.get(it[0], 0)], "reserve": [0]}
-                    for it in UNITS
+                    it[0]: {"on": [int(it[0] in power)], "power": [power.get(it[0], 0)], "reserve": [0]} for it in UNITS
                 },
                 "renewable": {},
             }
