@@ -19,13 +19,13 @@ const START_MICROSECONDS: u64 = 20;
 // Sleeps for a moment where there are several workers. A system may queue a new thread on the
 // processor of the one that started it, which works on; a thread that wakes up may be put on a
 // processor that has nothing to do.
-fn make_way<R: Wait>(rt: &R, crew: &Crew) {
+fn sleep_among_workers<R: Wait>(rt: &R, crew: &Crew) {
     if crew.workers > 1 {
         Parker::new().park_timeout(rt, Duration::from_micros(START_MICROSECONDS));
     }
 }
 
-fn work_one<R: Wait, G: Gate>(
+fn run_worker<R: Wait, G: Gate>(
     rt: &R,
     board: &SharedBoard,
     crew: &Crew,
@@ -35,12 +35,12 @@ fn work_one<R: Wait, G: Gate>(
     requires { IsWorkerOf board.now worker.old }
     ensures { HasWorked worker.old worker.new }
 {
-    make_way(rt, crew);
+    sleep_among_workers(rt, crew);
     let _ = work_to_the_end(rt, board, crew, worker, gate);
 }
 
 // Lets each worker work, in a thread of its own where one can be started.
-fn work_each<R: Threads + Wait + Sync, G: Gate>(
+fn run_each_worker<R: Threads + Wait + Sync, G: Gate>(
     rt: &R,
     board: &SharedBoard,
     crew: &Crew,
@@ -58,13 +58,13 @@ fn work_each<R: Threads + Wait + Sync, G: Gate>(
     let one = |_: usize, worker: &mut Worker|
         requires { IsWorkerOf board.now worker.now }
         ensures { HasWorked worker.entry.now worker.exit.now }
-    { work_one(rt, board, crew, worker, gate) };
+    { run_worker(rt, board, crew, worker, gate) };
     thread::for_each_mut(rt, workers, count, &one);
 }
 
 // Asks each worker once more, one after another, and says how they ended: there is nothing left to
 // do, but the threads that worked handed back no answer.
-fn end_all<R: Wait, G: Gate>(
+fn end_each_worker<R: Wait, G: Gate>(
     rt: &R,
     board: &SharedBoard,
     crew: &Crew,
@@ -111,6 +111,6 @@ pub fn answer_all<R: Threads + Wait + Sync, G: Gate>(
         lookout: Mutex::new(Lookout),
         workers: workers.len(),
     };
-    work_each(rt, board, &crew, workers, gate);
-    end_all(rt, board, &crew, workers, gate)
+    run_each_worker(rt, board, &crew, workers, gate);
+    end_each_worker(rt, board, &crew, workers, gate)
 }

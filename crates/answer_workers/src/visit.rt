@@ -48,7 +48,7 @@ pub struct Outcome {
 }
 
 // Posts the answers to the first tasks that the worker holds.
-fn post_each<R: Wait>(rt: &R, board: &SharedBoard, worker: &mut Worker, answered: usize)
+fn post_answers<R: Wait>(rt: &R, board: &SharedBoard, worker: &mut Worker, answered: usize)
     requires own { IsWorkerOf board.now worker.old }
     requires answered { AreAnswered answered worker.old }
     ensures { HasWorked worker.old worker.new }
@@ -101,7 +101,7 @@ fn claim_share<R: Wait>(
 }
 
 // Takes the lock of the calls. A visit is short, so it looks for a while before it sleeps.
-fn take_call<'a, R: Wait>(rt: &R, crew: &'a Crew) -> MutexGuard<'a, Call> {
+fn lock_calls<'a, R: Wait>(rt: &R, crew: &'a Crew) -> MutexGuard<'a, Call> {
     for _ in 0..MOST_LOOKS {
         if let Some(call) = crew.call.try_lock() {
             return call;
@@ -126,7 +126,7 @@ pub fn visit_board<R: Wait>(
     ensures given { AreGiven result.given worker.new }
     ensures told { IsEnd result.end worker.new }
 {
-    let _call = take_call(rt, crew);
-    post_each(rt, board, worker, answered);
+    let _call = lock_calls(rt, crew);
+    post_answers(rt, board, worker, answered);
     claim_share(rt, board, worker, pace)
 }

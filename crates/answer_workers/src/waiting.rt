@@ -14,7 +14,7 @@ use std::thread;
 // Visits the board until something is given, or all has ended. Only the worker that holds the
 // lookout visits it again and again, and it yields its core in between; the others sleep until it
 // has its tasks.
-fn look_out<R: Wait>(
+fn visit_until_given<R: Wait>(
     rt: &R,
     board: &SharedBoard,
     crew: &Crew,
@@ -38,7 +38,7 @@ fn look_out<R: Wait>(
 }
 
 // Tells the gate of the answers that were posted.
-fn tell_each<G: Gate>(worker: &Worker, answered: usize, gate: &G)
+fn tell_gate_of_posts<G: Gate>(worker: &Worker, answered: usize, gate: &G)
     requires { answered ≤ length worker.now.held.items }
 {
     let caller = worker.seat.caller();
@@ -49,7 +49,7 @@ fn tell_each<G: Gate>(worker: &Worker, answered: usize, gate: &G)
 }
 
 /// Posts the answers and claims, and waits where there is no task yet.
-pub fn next_visit<R: Wait, G: Gate>(
+pub fn visit_or_wait<R: Wait, G: Gate>(
     rt: &R,
     board: &SharedBoard,
     crew: &Crew,
@@ -65,9 +65,9 @@ pub fn next_visit<R: Wait, G: Gate>(
     ensures told { IsEnd result.end worker.new }
 {
     let outcome = visit_board(rt, board, crew, worker, answered, pace);
-    tell_each(worker, answered, gate);
+    tell_gate_of_posts(worker, answered, gate);
     if outcome.given > 0 || outcome.end != Claim::NotYet {
         return outcome;
     }
-    look_out(rt, board, crew, worker, pace)
+    visit_until_given(rt, board, crew, worker, pace)
 }

@@ -9,7 +9,7 @@ use crate::gate::Gate;
 use crate::pace::Pace;
 use crate::tasks::answer_task;
 use crate::visit::Crew;
-use crate::waiting::next_visit;
+use crate::waiting::visit_or_wait;
 use crate::worker::{Ended, Worker};
 use board_core::Claim;
 use board_share::SharedBoard;
@@ -17,7 +17,7 @@ use std::mem::swap;
 use std::sync::Wait;
 
 // Answers the first tasks that the worker holds.
-fn answer_each<G: Gate>(worker: &mut Worker, given: usize, gate: &G)
+fn answer_held_tasks<G: Gate>(worker: &mut Worker, given: usize, gate: &G)
     requires parts { HasParts (market_at worker.old.seat) worker.old }
     requires given { AreGiven given worker.old }
     ensures seat { worker.new.seat ≡ worker.old.seat }
@@ -41,7 +41,7 @@ fn answer_each<G: Gate>(worker: &mut Worker, given: usize, gate: &G)
 }
 
 // How the work has ended, if the last claim tells so.
-fn ended_by(end: Claim) -> Option<Ended>
+fn end_told_by_claim(end: Claim) -> Option<Ended>
     ensures ended { IfSome result (λ e. (w : Worker) → IsEnd end w → HasEnded e w) }
     ensures going { result ≡ None → (end ≡ Given) ⊎ (end ≡ NotYet) }
 {
@@ -70,13 +70,13 @@ pub fn work_to_the_end<R: Wait, G: Gate>(
     };
     let mut answered = 0;
     for _ in rt.forever() {
-        let outcome = next_visit(rt, board, crew, worker, answered, &mut pace, gate);
+        let outcome = visit_or_wait(rt, board, crew, worker, answered, &mut pace, gate);
         if outcome.given == 0 {
-            if let Some(ended) = ended_by(outcome.end) {
+            if let Some(ended) = end_told_by_claim(outcome.end) {
                 return ended;
             }
         }
-        answer_each(worker, outcome.given, gate);
+        answer_held_tasks(worker, outcome.given, gate);
         answered = outcome.given;
     }
     unreachable!()

@@ -6,7 +6,7 @@ ghost use Rattle.uc_model.specs.PlainUnits.{prices_of, schedule_of};
 ghost use Rattle.unit_program.specs.Tops.{CanAnswer, IsBenchOver};
 ghost use Rattle.audit_check.specs.Sums.{AreSumsOf, AreWithin};
 
-use crate::count::{AnswerRoom, count_at};
+use crate::count::{AnswerRoom, count_unit_answer};
 use crate::sums::Sums;
 use plain_lists::lists::{ReservedList, copy_list};
 use std::alloc::{AllocError, Global};
@@ -114,7 +114,7 @@ impl<'a> Job for Answerer<'a> {
 
     fn run(&mut self, task: u32) {
         let sums = &mut self.sums;
-        count_at(&mut self.means, self.case, &self.prices, task, sums);
+        count_unit_answer(&mut self.means, self.case, &self.prices, task, sums);
         self.numbers.push(task);
         self.left -= 1;
     }

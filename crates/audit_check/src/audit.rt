@@ -48,7 +48,7 @@ fn jobs_for<'a>(
 }
 
 // The bench of the last job.
-fn last_bench(mut jobs: Vec<Answerer>) -> Bench
+fn bench_of_last_job(mut jobs: Vec<Answerer>) -> Bench
     requires { 1 ≤ length jobs.items }
     ensures { (m : Market) → AreFor m jobs.entry.items → IsBenchOver m result }
 {
@@ -114,7 +114,7 @@ fn judged_by_own_rows<R: Threads + Wait + Sync>(
     let mut jobs = jobs_for(alloc, case, benches, &last)?;
     let most = enough_rows(report);
     let rows = right_rows(rt, alloc, case, cost, most, report.ahead, &mut jobs)?;
-    let mut compare_room = CompareRoom::make(alloc, case, last_bench(jobs), last)?;
+    let mut compare_room = CompareRoom::make(alloc, case, bench_of_last_job(jobs), last)?;
     let audit = verdict_of_rows(case, plan, cost, rows.as_slice(), report, &mut compare_room);
     Ok(audit)
 }

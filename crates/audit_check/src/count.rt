@@ -14,7 +14,7 @@ use uc_model::laws::{
     earnings_are_within, outputs_are_within, units_are_numbered, units_are_within,
 };
 use uc_model::units::{Answered, Prices};
-use unit_program::{Bench, LastAnswers, answer_at};
+use unit_program::{Bench, LastAnswers, answer_numbered_unit};
 
 /// What units are answered with: a bench, their last answers, which other benches may share, and
 /// room for an answer.
@@ -27,7 +27,13 @@ pub struct AnswerRoom {
 
 /// Answers the unit of a number at the prices, and adds what it earns, gives or takes, and
 /// reserves; adds nothing where there is no unit of that number. Takes no memory.
-pub fn count_at(means: &mut AnswerRoom, case: &Case, prices: &Prices, number: u32, sums: &mut Sums)
+pub fn count_unit_answer(
+    means: &mut AnswerRoom,
+    case: &Case,
+    prices: &Prices,
+    number: u32,
+    sums: &mut Sums,
+)
     requires some { CanAnswer (market_of case.now) }
     requires bench { IsBenchOver (market_of case.now) means.old.bench }
     requires horizon { length (prices_of prices.now).energy ≡ (market_of case.now).periods }
@@ -48,7 +54,7 @@ pub fn count_at(means: &mut AnswerRoom, case: &Case, prices: &Prices, number: u3
     if number >= case.unit_count() {
         return;
     }
-    let flow = answer_at(
+    let flow = answer_numbered_unit(
         &mut means.bench,
         &means.last,
         case,

@@ -26,7 +26,7 @@ use uc_model::laws::{
 use uc_model::units::Prices;
 
 // Begins a proposal on each job.
-fn begin_all(case: &Case, jobs: &mut [Answerer], prices: &Prices)
+fn begin_each_job(case: &Case, jobs: &mut [Answerer], prices: &Prices)
     requires jobs { AreFor (market_of case.now) jobs.old }
     requires horizon { length (prices_of prices.now).energy ≡ (market_of case.now).periods }
     ensures count { length jobs.new ≡ length jobs.old }
@@ -44,7 +44,7 @@ fn begin_jobs(case: &Case, jobs: &mut Vec<Answerer>, prices: &Prices)
     ensures count { length jobs.new.items ≡ length jobs.old.items }
     ensures begun { HaveBegun (market_of case.now) (prices_of prices.now) jobs.new.items }
 {
-    begin_all(case, jobs.as_mut_slice(), prices);
+    begin_each_job(case, jobs.as_mut_slice(), prices);
 }
 
 // Adds the sums of all jobs to sums of nothing.

@@ -55,7 +55,7 @@ fn propose_prices(case: &Case, rows: &[Row], ahead: u32, cost: i128, into: &mut 
 }
 
 // Leaves the prices of the proposal that follows the rows, where one follows.
-fn next_into(
+fn write_next_prices(
     case: &Case,
     start: &Numbers,
     rows: &[Row],
@@ -127,7 +127,7 @@ pub fn right_rows<R: Threads + Wait + Sync>(
     let mut rows = ReservedList::make(alloc, budget)?;
     for _ in 0..budget {
         let mut prices = Prices::make(alloc, case.periods)?;
-        if !next_into(case, &start, rows.as_slice(), ahead, cost, &mut prices) {
+        if !write_next_prices(case, &start, rows.as_slice(), ahead, cost, &mut prices) {
             return Ok(rows);
         }
         let row = row_at(rt, alloc, case, prices, jobs)?;

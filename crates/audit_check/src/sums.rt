@@ -28,7 +28,7 @@ pub struct Sums {
 }
 
 // Two totals in one.
-fn total_of(total: i128, amount: i128) -> i128
+fn sum_of_totals(total: i128, amount: i128) -> i128
     requires total { IsSmall (MOST_JOBS * MOST_UNITS) total }
     requires amount { IsSmall MOST_UNITS amount }
     ensures { result ≡ total +ℤ amount }
@@ -44,7 +44,7 @@ fn add_each(totals: &mut Amounts, amounts: &Amounts)
     ensures { IsRaised totals.old.items totals.new.items (int_at amounts.now.items) }
 {
     for k in 0..totals.len() {
-        totals.set(k, total_of(*totals.get(k), *amounts.get(k)));
+        totals.set(k, sum_of_totals(*totals.get(k), *amounts.get(k)));
     }
 }
 

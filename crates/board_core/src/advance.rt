@@ -49,7 +49,7 @@ fn propose_prices(terms: &Terms, rows: &[Row], best: usize, into: &mut Prices) -
 }
 
 // Whether one more proposal is to be opened with the last row, if that isn't settled.
-fn is_due(terms: &Terms, ledger: &Ledger) -> bool
+fn is_proposal_due(terms: &Terms, ledger: &Ledger) -> bool
     requires setup { IsSetup (setup_of terms.now) }
     requires opened { ledger.now.opened ≤ MOST_PROPOSALS }
     requires closed { ledger.now.closed ≤ MOST_PROPOSALS }
@@ -60,7 +60,7 @@ fn is_due(terms: &Terms, ledger: &Ledger) -> bool
 }
 
 // Opens one more proposal where the rows call for it.
-fn open_next(terms: &Terms, ledger: &mut Ledger, next: &mut Prices)
+fn open_next_proposal(terms: &Terms, ledger: &mut Ledger, next: &mut Prices)
     requires setup { IsSetup (setup_of terms.now) }
     requires ledger { IsLedger (setup_of terms.now) ledger.old }
     requires some { 1 ≤ ledger.old.closed }
@@ -75,7 +75,7 @@ fn open_next(terms: &Terms, ledger: &mut Ledger, next: &mut Prices)
     ensures opened { ledger.old.opened ≤ ledger.new.opened }
     ensures horizon { length (prices_of next.new).energy ≡ (setup_of terms.now).market.periods }
 {
-    if !is_due(terms, ledger) {
+    if !is_proposal_due(terms, ledger) {
         return;
     }
     if !propose_prices(terms, ledger.rows(), ledger.best(), next) {
@@ -85,7 +85,7 @@ fn open_next(terms: &Terms, ledger: &mut Ledger, next: &mut Prices)
 }
 
 // Closes the next proposal with its value.
-fn close_next(terms: &Terms, ledger: &mut Ledger)
+fn close_next_proposal(terms: &Terms, ledger: &mut Ledger)
     requires setup { IsSetup (setup_of terms.now) }
     requires ledger { IsLedger (setup_of terms.now) ledger.old }
     requires earned_count { length (sums_of ledger.old).earned ≡ (setup_of terms.now).budget }
@@ -139,7 +139,7 @@ pub fn advance_proposals(terms: &Terms, counts: &[u32], ledger: &mut Ledger, nex
     board_laws();
     let units = terms.case.unit_count();
     while ledger.closed() < terms.budget as usize && counts[ledger.closed()] == units {
-        close_next(terms, ledger);
-        open_next(terms, ledger, next);
+        close_next_proposal(terms, ledger);
+        open_next_proposal(terms, ledger, next);
     }
 }

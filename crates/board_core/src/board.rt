@@ -22,13 +22,13 @@ use crate::advance::advance_proposals;
 use crate::history::{entry_of, post_entry};
 use crate::ledger::Ledger;
 use crate::opening::{EventLists, Room, no_events, open_ledger};
-use crate::posts::{closed_of, count_up, refusal_of_post};
+use crate::posts::{closed_proposal, count_answer, refusal_of_post};
 use crate::replies::{Claim, Posted};
 use crate::terms::{Terms, number_before, task_number};
 use board_store::Store;
 use board_store::entries::{Call, Entry, Reply};
 use board_store::laws::board_laws;
-use board_store::tasks::copy_task;
+use board_store::tasks::fill_task;
 use std::alloc::{AllocError, Global};
 use std::marker::Model;
 use uc_model::cases::{Row, Task};
@@ -172,7 +172,7 @@ impl Board {
         let proposal = before as u32 + 1;
         let unit = (number % units) as u32;
         let prices = self.ledger.prices(before);
-        copy_task(&self.terms.case, prices, proposal, unit, into);
+        fill_task(&self.terms.case, prices, proposal, unit, into);
         self.lists.takers.push_reserved(caller);
         let entry = entry_of(caller, Call::Claim, proposal, unit, Reply::Given);
         self.lists.history.push_reserved(entry);
@@ -217,7 +217,7 @@ impl Board {
         self.lists.marks[at] = true;
         self.store.put(at, answer, number_before(units, at));
         self.ledger.add(before, task, answer);
-        let closes = count_up(&mut self.lists.counts, before) == units;
+        let closes = count_answer(&mut self.lists.counts, before) == units;
         self.lists
             .history
             .push_reserved(post_entry(caller, task, closes));
@@ -228,7 +228,7 @@ impl Board {
             &mut self.room.next,
         );
         Posted::Taken {
-            closed: closed_of(closes, task.proposal),
+            closed: closed_proposal(closes, task.proposal),
         }
     }
 

@@ -7,7 +7,7 @@ ghost use Rattle.board_core.specs.Refusals.{reply_of};
 use board_store::entries::{Call, Entry, Reply};
 use uc_model::cases::Task;
 
-fn reply_to(closes: bool) -> Reply
+fn reply_to_post(closes: bool) -> Reply
     ensures { result ≡ reply_of closes }
 {
     if closes { Reply::Closing } else { Reply::Taken }
@@ -54,6 +54,6 @@ pub fn post_entry(caller: u32, task: &Task, closes: bool) -> Entry
         Call::Post,
         task.proposal,
         task.unit,
-        reply_to(closes),
+        reply_to_post(closes),
     )
 }

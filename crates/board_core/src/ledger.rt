@@ -16,7 +16,7 @@ ghost use Rattle.board_core.specs.Ledgers.{blank, with_prices, with_value, with_
 
 use board_store::tasks::copy_prices;
 use plain_lists::lists::Amounts;
-use price_space::{add_response, greatest_with, take_bid};
+use price_space::{add_response, greatest_row_with, take_bid};
 use std::alloc::{AllocError, Global};
 use std::marker::Model;
 use uc_model::cases::{Row, Task};
@@ -127,7 +127,7 @@ fn add_answer(row: &mut Row, task: &Task, answer: &Answered)
 }
 
 // What is earned with one more answer.
-fn earned_with(total: i128, earned: i64) -> i128
+fn earned_with_answer(total: i128, earned: i64) -> i128
     requires { IsFrom (neg_ℤ (pos 100000000000000000000000)) (pos 100000000000000000000000) total }
     ensures { result ≡ total +ℤ earned }
 {
@@ -239,7 +239,7 @@ impl Ledger {
         ensures opened { self.new.opened ≡ self.old.opened }
     {
         set_value(&mut self.proposals[self.closed], value);
-        let best = greatest_with(&self.proposals, self.closed, self.best);
+        let best = greatest_row_with(&self.proposals, self.closed, self.best);
         self.best = best;
         self.closed += 1;
     }
@@ -269,6 +269,6 @@ impl Ledger {
         ensures opened { self.new.opened ≡ self.old.opened }
     {
         add_answer(&mut self.proposals[place], task, answer);
-        self.earned[place] = earned_with(self.earned[place], answer.earned);
+        self.earned[place] = earned_with_answer(self.earned[place], answer.earned);
     }
 }

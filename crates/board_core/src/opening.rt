@@ -111,7 +111,7 @@ pub fn no_events(
 }
 
 // Opens so many proposals at the opening prices.
-fn open_first(start: &Numbers, count: u32, ledger: &mut Ledger, next: &mut Prices)
+fn open_first_proposals(start: &Numbers, count: u32, ledger: &mut Ledger, next: &mut Prices)
     requires count { count ≤ MOST_AHEAD }
     requires start { length start.now.items ≡ length (prices_of next.old).energy }
     requires blank { ledger.old ≡ blank_ledger (length start.now.items)
@@ -143,6 +143,6 @@ pub fn open_ledger(
 {
     let start = start_prices(alloc, case)?;
     let mut ledger = Ledger::make(alloc, case.periods, budget)?;
-    open_first(&start, budget.min(ahead), &mut ledger, next);
+    open_first_proposals(&start, budget.min(ahead), &mut ledger, next);
     Ok(ledger)
 }

@@ -21,7 +21,7 @@ use crate::replies::{Differs, Posted};
 use crate::terms::{Terms, task_number};
 use board_store::laws::differences_mean;
 use board_store::same::{count_alike, is_unit_of, same_prices};
-use board_store::tasks::copy_task;
+use board_store::tasks::fill_task;
 use uc_model::cases::Task;
 use uc_model::task_numbers::flat_number;
 
@@ -71,11 +71,11 @@ fn difference_from_own(
     if same_prices(prices, &task.prices) && is_unit_of(&terms.case, task.unit, task) {
         return None;
     }
-    copy_task(&terms.case, prices, task.proposal, task.unit, own);
+    fill_task(&terms.case, prices, task.proposal, task.unit, own);
     find_difference(own, task)
 }
 
-fn holder_in(takers: &[u32], at: usize) -> Option<u32>
+fn holder_of_task(takers: &[u32], at: usize) -> Option<u32>
     ensures { result ≡ slice_get takers.now at }
 {
     takers.get(at).copied()
@@ -99,7 +99,7 @@ fn refusal_at(marks: &[bool], takers: &[u32], at: usize, caller: u32) -> Option<
     if marks[at] {
         return Some(Posted::Doubled { by: takers[at] });
     }
-    let holder = holder_in(takers, at);
+    let holder = holder_of_task(takers, at);
     if is_holder(holder, caller) {
         return None;
     }
@@ -154,7 +154,7 @@ pub fn refusal_of_post(
 }
 
 /// Counts one more answer at a place, and says how many there are then.
-pub fn count_up(counts: &mut Vec<u32>, place: usize) -> u32
+pub fn count_answer(counts: &mut Vec<u32>, place: usize) -> u32
     requires place { place < length counts.old.items }
     requires count { slice_index counts.old.items place ≤ MOST_UNITS }
     ensures counts { counts.new.items ≡ slice_set counts.old.items place
@@ -167,7 +167,7 @@ pub fn count_up(counts: &mut Vec<u32>, place: usize) -> u32
 }
 
 /// The proposal, where it closes.
-pub fn closed_of(closes: bool, proposal: u32) -> Option<u32>
+pub fn closed_proposal(closes: bool, proposal: u32) -> Option<u32>
     ensures { result ≡ closed_if closes proposal }
 {
     if closes { Some(proposal) } else { None }

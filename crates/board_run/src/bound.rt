@@ -16,7 +16,7 @@ use std::thread::Threads;
 /// The run on these terms to its end, and the best bound round its chosen prices. All memory for
 /// both is taken before the run, the room for the bound first. `AllocError` is want of it; the
 /// terms are then dropped.
-pub fn bounded_run<R: Threads + Wait + Sync, G: Gate>(
+pub fn run_and_bound<R: Threads + Wait + Sync, G: Gate>(
     rt: &R,
     alloc: Global,
     terms: Terms,

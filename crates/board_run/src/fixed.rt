@@ -11,7 +11,7 @@ use crate::run::{open_run, run_board};
 use answer_workers::Gate;
 use board_core::Terms;
 use plan_settle::held_laws::commitments_are_fixed;
-use plan_settle::{Sides, hold_commitments, own_side, settled_side, side_room};
+use plan_settle::{Sides, hold_commitments, settled_side, side_of_own_run, side_room};
 use right_report::Side;
 use std::alloc::{AllocError, Global};
 use std::sync::Wait;
@@ -33,7 +33,7 @@ fn hull_side<R: Threads + Wait + Sync, G: Gate>(
 {
     let room = Prices::make(alloc, terms.case.periods)?;
     let opened = open_run(alloc, terms)?;
-    Ok(own_side(run_board(rt, opened, gate), room))
+    Ok(side_of_own_run(run_board(rt, opened, gate), room))
 }
 
 /// Runs the board of the case with the commitments of its schedule held. The memory that is needed
@@ -59,7 +59,7 @@ fn fixed_side<R: Threads + Wait + Sync, G: Gate>(
 /// Both runs on these terms to their ends: of the case, and of the case with the commitments of its
 /// schedule held. The first board is gone before the second is opened. `AllocError` is want of
 /// memory, for either; the terms are then dropped.
-pub fn compared_runs<R: Threads + Wait + Sync, G: Gate>(
+pub fn run_free_and_fixed<R: Threads + Wait + Sync, G: Gate>(
     rt: &R,
     alloc: Global,
     terms: Terms,

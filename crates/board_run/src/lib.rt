@@ -10,6 +10,6 @@ mod crew;
 mod fixed;
 mod run;
 
-pub use bound::bounded_run;
-pub use fixed::compared_runs;
+pub use bound::run_and_bound;
+pub use fixed::run_free_and_fixed;
 pub use run::{Run, open_run, run_board};

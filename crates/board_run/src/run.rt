@@ -47,7 +47,7 @@ impl Model for Run {
 }
 
 /// The shared board of a run, with a worker for each of its seats.
-fn staffed_board(alloc: Global, terms: Terms) -> Result<(SharedBoard, Vec<Worker>), AllocError>
+fn staff_board(alloc: Global, terms: Terms) -> Result<(SharedBoard, Vec<Worker>), AllocError>
     requires { IsSetup (setup_of terms) }
     ensures { IfOk result (λ r. IsCrew (setup_of terms) r.0 r.1.items) }
 {
@@ -68,7 +68,7 @@ pub fn open_run(alloc: Global, terms: Terms) -> Result<Run, AllocError>
     ensures { IfOk result (λ opened. opened ≡ setup_of terms) }
 {
     let (buffer, settlement, earned) = chosen_room(alloc, &terms.case)?;
-    let (board, workers) = staffed_board(alloc, terms)?;
+    let (board, workers) = staff_board(alloc, terms)?;
     Ok(Run {
         board,
         workers,

@@ -265,7 +265,7 @@ front_of_run {A} (suc m) (suc n) r (suc left) v xs e low h =
     ap (λ (ys : List A). v ∷ ys)
     (front_of_run m n r left v xs (omega (arith, e)) (omega (arith, low)) (λ lt. h (omega (arith, lt))))
 
--- the run at a place, of a row of which so many cells are left there
+-- the run at an index, of a row of which so many cells are left there
 module _ {A : Type 0} (ls : List ℕ) (vs : List A) (i left m : ℕ) (v : A) (pairs : length ls ≡ length vs)
     (some : 1 ≤ left) (whole : left ≤ length (from_run ls vs i)) (read : v ≡ get_or vs i v)
     (least : m ≡ min left (get_or ls i 0)) where

@@ -31,7 +31,7 @@ zeros_each P zero here k = here
 zeros_each P (suc n) here zero = here
 zeros_each P (suc n) here (suc k) = zeros_each P n here k
 
--- the row at a place is whole
+-- the row at an index is whole
 pub row_whole : {A : Type 0} (long : ℕ) (starts : List ℕ) (used : ℕ) (ls : List ℕ) (vs : List A) (lr vr : ℕ) →
     IsTable long starts used ls vs lr vr → (i n : ℕ) → i < length starts → n ≡ get_or starts i n → (m : ℕ) → m ≡ long →
     m ≤ length (from_run ls vs n)
@@ -110,7 +110,7 @@ rows_blank {A} long count starts ls vs blank zeros laid =
     (ap (take long) laid ∙ take_all long (replicate long blank) (let l = length-replicate {A = A} long blank in
     omega (arith, l)))
 
--- a table as the code sees it, at a place with a row
+-- a table as the code sees it, at an index with a row
 module _ {A : Type 0} (v : Rows A) (long left : ℕ) (starts ls : List ℕ) (vs : List A)
     (is : let w : Rows A = record { long = long; left = left; rows = rows_in long ls vs starts } in
     w ≡ v) where
@@ -128,7 +128,7 @@ module _ {A : Type 0} (v : Rows A) (long left : ℕ) (starts ls : List ℕ) (vs 
       let l = length-map starts (row_at long ls vs) in
       omega (arith, e, lt, l)
 
-  -- the row at a place
+  -- the row at an index
   pub row_read : (i n : ℕ) → i < length v.rows → n ≡ get_or starts i n → row_at long ls vs n ≡ get_or v.rows i []
   row_read i n lt at =
       ap (row_at long ls vs) (get_or_read starts i n (inside i lt) at 0)

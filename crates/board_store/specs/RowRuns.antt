@@ -11,7 +11,7 @@ laid_out (n ∷ lengths) (x ∷ values) = replicate n x ++ laid_out lengths valu
 abbrev pub from_run : {T : Type 0} → List ℕ → List T → ℕ → List T
 from_run lengths values start = laid_out (drop start lengths) (drop start values)
 
--- the row of so many cells whose runs begin at a place
+-- the row of so many cells whose runs begin at an index
 abbrev pub row_at : {T : Type 0} → ℕ → List ℕ → List T → ℕ → List T
 row_at long lengths values start = take long (from_run lengths values start)
 
@@ -23,7 +23,7 @@ pub record IsAdded {T : Type 0} (lengths : List ℕ) (values : List T) (lengths2
   pub pairs : length lengths2 ≡ length values2
   pub laid : from_run lengths2 values2 (length lengths) ≡ row
 
--- in the second runs a row begins at a place, and each row of the first is where it was
+-- in the second runs a row begins at an index, and each row of the first is where it was
 pub record IsAt {T : Type 0} (lengths : List ℕ) (values : List T) (lengths2 : List ℕ) (values2 row : List T)
     (start : ℕ) : Type 0 where
   pub pairs : length lengths2 ≡ length values2

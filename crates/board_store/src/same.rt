@@ -109,7 +109,7 @@ fn same_periods(a: &BlockLists, b: &BlockLists) -> bool
 
 // How many numbers the flat lists of two bids' blocks begin with alike, up to the first period with
 // other blocks.
-fn alike_periods(a: &BlockLists, b: &BlockLists) -> u32
+fn count_alike_periods(a: &BlockLists, b: &BlockLists) -> u32
     requires few { length a.now.items ≤ MOST_PERIODS }
     requires counts { All (λ bs. length bs.items ≤ MOST_BLOCKS) a.now.items }
     ensures { AreSame (flat_map period_numbers (map items_in a.now.items))
@@ -142,7 +142,7 @@ pub fn count_alike(own: &Task, task: &Task) -> u32
         return 0;
     }
     let prices = (own.prices.energy.len() + own.prices.reserve.len()) as u32;
-    2 + prices + alike_periods(&own.bid.blocks, &task.bid.blocks)
+    2 + prices + count_alike_periods(&own.bid.blocks, &task.bid.blocks)
 }
 
 fn same_powers(a: &Unit, b: &Unit) -> bool

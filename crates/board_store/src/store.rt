@@ -76,44 +76,44 @@ impl Store {
         })
     }
 
-    /// Writes the answer at a place. `like` is a place whose answer may well do the same: what is
+    /// Writes the answer at an index. `like` is a place whose answer may well do the same: what is
     /// the same is kept once. Takes no memory.
-    pub fn put(&mut self, place: usize, answer: &Answered, like: usize)
-        requires place { place < length self.old.answers }
+    pub fn put(&mut self, index: usize, answer: &Answered, like: usize)
+        requires index { index < length self.old.answers }
         requires horizon { length (schedule_of answer.now.response).on ≡ self.old.periods }
         requires like { like < length self.old.answers }
         requires left { 1 ≤ self.old.left }
         ensures periods { self.new.periods ≡ self.old.periods }
         ensures left { self.old.left ≤ self.new.left + 1 }
-        ensures answers { self.new.answers ≡ slice_set self.old.answers place (answer_of answer.now) }
+        ensures answers { self.new.answers ≡ slice_set self.old.answers index (answer_of answer.now) }
     {
         let response = &answer.response;
-        self.on.put(place, response.on.as_slice(), like);
-        self.power.put(place, response.power.as_slice(), like);
-        self.reserve.put(place, response.reserve.as_slice(), like);
-        self.earned[place] = answer.earned;
+        self.on.put(index, response.on.as_slice(), like);
+        self.power.put(index, response.power.as_slice(), like);
+        self.reserve.put(index, response.reserve.as_slice(), like);
+        self.earned[index] = answer.earned;
     }
 
-    /// What the answer at a place earns, in money.
-    pub fn earned(&self, place: usize) -> i64
-        requires { place < length self.now.answers }
-        ensures { result ≡ (slice_index_or self.now.answers place no_answer).earned }
+    /// What the answer at an index earns, in money.
+    pub fn earned(&self, index: usize) -> i64
+        requires { index < length self.now.answers }
+        ensures { result ≡ (slice_index_or self.now.answers index no_answer).earned }
     {
-        self.earned[place]
+        self.earned[index]
     }
 
-    /// Leaves the answer at a place in another over as many periods, whose lists keep their
+    /// Leaves the answer at an index in another over as many periods, whose lists keep their
     /// lengths. Takes no memory.
-    pub fn take(&self, place: usize, into: &mut Answered)
-        requires place { place < length self.now.answers }
+    pub fn take(&self, index: usize, into: &mut Answered)
+        requires index { index < length self.now.answers }
         requires horizon { length (schedule_of into.old.response).on ≡ self.now.periods }
-        ensures answer { answer_of into.new ≡ slice_index_or self.now.answers place no_answer }
+        ensures answer { answer_of into.new ≡ slice_index_or self.now.answers index no_answer }
         ensures horizon { length (schedule_of into.new.response).on ≡ self.now.periods }
     {
         let response = &mut into.response;
-        self.on.take(place, &mut response.on);
-        self.power.take(place, &mut response.power);
-        self.reserve.take(place, &mut response.reserve);
-        into.earned = self.earned[place];
+        self.on.take(index, &mut response.on);
+        self.power.take(index, &mut response.power);
+        self.reserve.take(index, &mut response.reserve);
+        into.earned = self.earned[index];
     }
 }

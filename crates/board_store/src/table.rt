@@ -126,7 +126,7 @@ fn append_row<T: Cell>(lengths: &mut Vec<u8>, values: &mut Vec<T>, row: &[T])
 
 // Whether all cells are the same as one. All are looked at, which takes fewer instructions than to
 // stop at one that differs.
-fn are_all<T: Cell>(cells: &[T], value: T) -> bool
+fn are_cells_all<T: Cell>(cells: &[T], value: T) -> bool
     ensures { IsTrue result ↔ (cells.now ≡ replicate (length cells.now) value) }
 {
     let mut same = true;
@@ -136,7 +136,7 @@ fn are_all<T: Cell>(cells: &[T], value: T) -> bool
     same
 }
 
-// Says yes only where a row is at a place in runs that take one period each, as that of a unit whose
+// Says yes only where a row is at an index in runs that take one period each, as that of a unit whose
 // powers differ from period to period. To see so takes fewer instructions than to go from run to
 // run, and fewer where all are looked at than to stop at one that differs.
 fn has_cells<T: Cell>(lengths: &[u8], values: &[T], start: usize, row: &[T]) -> bool
@@ -153,7 +153,7 @@ fn has_cells<T: Cell>(lengths: &[u8], values: &[T], start: usize, row: &[T]) -> 
     same
 }
 
-// Whether a row is the one whose runs begin at a place.
+// Whether a row is the one whose runs begin at an index.
 fn is_row<T: Cell>(lengths: &[u8], values: &[T], start: usize, row: &[T]) -> bool
     requires pairs { length lengths.now ≡ length values.now }
     requires whole { length row.now ≤ length (from_run lengths.now values.now start) }
@@ -166,7 +166,7 @@ fn is_row<T: Cell>(lengths: &[u8], values: &[T], start: usize, row: &[T]) -> boo
     let mut seen = 0;
     while seen < row.len() {
         let end = seen + (row.len() - seen).min(lengths[at] as usize);
-        if !are_all(&row[seen..end], values[at]) {
+        if !are_cells_all(&row[seen..end], values[at]) {
             return false;
         }
         seen = end;
@@ -177,7 +177,7 @@ fn is_row<T: Cell>(lengths: &[u8], values: &[T], start: usize, row: &[T]) -> boo
 
 // Where the runs of a row begin: where those of another do, which may well be the same, at the first
 // run, or behind all runs, where they are then added.
-fn start_of<T: Cell>(lengths: &mut Vec<u8>, values: &mut Vec<T>, like: u32, row: &[T]) -> u32
+fn start_of_runs<T: Cell>(lengths: &mut Vec<u8>, values: &mut Vec<T>, like: u32, row: &[T]) -> u32
     requires pairs { length lengths.old.items ≡ length values.old.items }
     requires like { length row.now ≤ length (from_run lengths.old.items values.old.items like) }
     requires first { length row.now ≤ length (from_run lengths.old.items values.old.items 0) }
@@ -212,7 +212,7 @@ fn add_copies<T: Cell>(into: &mut ReservedList<T>, count: usize, value: T)
     }
 }
 
-// Adds the row whose runs begin at a place.
+// Adds the row whose runs begin at an index.
 fn add_row<T: Cell>(
     lengths: &[u8],
     values: &[T],
@@ -259,32 +259,32 @@ impl<T: Cell> Table<T> {
         })
     }
 
-    /// Writes a row at a place. `like` is a place whose row may well be the same: then no run is
+    /// Writes a row at an index. `like` is a place whose row may well be the same: then no run is
     /// written. Takes no memory.
-    pub fn put(&mut self, place: usize, row: &[T], like: usize)
-        requires place { place < length self.old.rows }
+    pub fn put(&mut self, index: usize, row: &[T], like: usize)
+        requires index { index < length self.old.rows }
         requires long { length row.now ≡ self.old.long }
         requires like { like < length self.old.rows }
         requires left { 1 ≤ self.old.left }
-        ensures rows { self.new.rows ≡ slice_set self.old.rows place row.now }
+        ensures rows { self.new.rows ≡ slice_set self.old.rows index row.now }
         ensures long { self.new.long ≡ self.old.long }
         ensures left { self.old.left ≤ self.new.left + 1 }
     {
         let like = self.starts[like];
-        let start = start_of(&mut self.lengths, &mut self.values, like, row);
-        self.starts[place] = start;
+        let start = start_of_runs(&mut self.lengths, &mut self.values, like, row);
+        self.starts[index] = start;
         self.used += 1;
     }
 
-    /// Leaves the row at a place in a list that has room for it. Takes no memory.
-    pub fn take(&self, place: usize, into: &mut ReservedList<T>)
-        requires place { place < length self.now.rows }
+    /// Leaves the row at an index in a list that has room for it. Takes no memory.
+    pub fn take(&self, index: usize, into: &mut ReservedList<T>)
+        requires index { index < length self.now.rows }
         requires room { self.now.long ≤ length into.old.items + into.old.spare }
-        ensures row { into.new.items ≡ slice_index_or self.now.rows place [] }
+        ensures row { into.new.items ≡ slice_index_or self.now.rows index [] }
         ensures long { length into.new.items ≡ self.now.long }
     {
         into.clear();
-        let start = self.starts[place] as usize;
+        let start = self.starts[index] as usize;
         add_row(&self.lengths, &self.values, start, self.long, into);
     }
 }

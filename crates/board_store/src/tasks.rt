@@ -53,7 +53,7 @@ fn copy_bid(from: &Bid, into: &mut Bid)
 }
 
 // Leaves the unit of a number in a task; the rest of the task stays.
-fn copy_unit_of(case: &Case, unit: u32, into: &mut Task)
+fn fill_unit_of_task(case: &Case, unit: u32, into: &mut Task)
     requires unit { unit < unit_count (market_of case.now) }
     requires room { IsTaskFor (market_of case.now).periods into.old }
     ensures unit { slice_get (units (market_of case.now)) unit ≡ Some (task_unit into.new) }
@@ -80,7 +80,7 @@ fn copy_unit_of(case: &Case, unit: u32, into: &mut Task)
 
 /// Leaves the task of a proposal at prices and a unit in another that has room for any unit of the
 /// case.
-pub fn copy_task(case: &Case, prices: &Prices, proposal: u32, unit: u32, into: &mut Task)
+pub fn fill_task(case: &Case, prices: &Prices, proposal: u32, unit: u32, into: &mut Task)
     requires unit { unit < unit_count (market_of case.now) }
     requires room { IsTaskFor (market_of case.now).periods into.old }
     requires horizon { length (prices_of prices.now).energy ≡ (market_of case.now).periods }
@@ -93,5 +93,5 @@ pub fn copy_task(case: &Case, prices: &Prices, proposal: u32, unit: u32, into: &
     into.proposal = proposal;
     into.unit = unit;
     copy_prices(prices, &mut into.prices);
-    copy_unit_of(case, unit, into);
+    fill_unit_of_task(case, unit, into);
 }

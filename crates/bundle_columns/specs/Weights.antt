@@ -7,21 +7,21 @@ use Rattle.plain_lists.specs.Sums.{int_at}
 use Rattle.gap_proof.specs.Mixtures.{WeighedSchedule}
 use Rattle.bundle_columns.specs.Mixing.{AreKept}
 
--- the weight of the entry at a place
+-- the weight of the entry at an index
 abbrev pub weight_at : List WeighedSchedule → ℕ → ℤ
-weight_at entries place = int_at (map (λ (e : WeighedSchedule). e.weight) entries) place
+weight_at entries index = int_at (map (λ (e : WeighedSchedule). e.weight) entries) index
 
--- the entries with another weight at a place
+-- the entries with another weight at an index
 abbrev pub reweighed : List WeighedSchedule → ℕ → ℤ → List WeighedSchedule
-reweighed [] place weight = []
+reweighed [] index weight = []
 reweighed (e ∷ es) zero weight = record e { weight = weight } ∷ es
-reweighed (e ∷ es) (suc place) weight = e ∷ reweighed es place weight
+reweighed (e ∷ es) (suc index) weight = e ∷ reweighed es index weight
 
 -- and with another schedule there
 abbrev pub rescheduled : List WeighedSchedule → ℕ → Schedule → List WeighedSchedule
-rescheduled [] place s = []
+rescheduled [] index s = []
 rescheduled (e ∷ es) zero s = record e { schedule = s } ∷ es
-rescheduled (e ∷ es) (suc place) s = e ∷ rescheduled es place s
+rescheduled (e ∷ es) (suc index) s = e ∷ rescheduled es index s
 
 -- a schedule is feasible for the thermal unit of a number, counted from 0, and there is one
 pub record IsFitAt (m : Market) (number : ℕ) (s : Schedule) : Type 0 where

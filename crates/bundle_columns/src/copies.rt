@@ -59,8 +59,8 @@ fn copy_entries(from: &Entries, into: &mut Entries)
     requires { AreAlike (entries_of from.now) (entries_of into.old) }
     ensures { entries_of into.new ≡ entries_of from.now }
 {
-    for place in 0..from.len() {
-        copy_entry(from.get(place), into.get_mut(place));
+    for index in 0..from.len() {
+        copy_entry(from.get(index), into.get_mut(index));
     }
 }
 

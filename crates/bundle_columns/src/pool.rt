@@ -37,16 +37,16 @@ pub struct Pool {
     pub reserve: Numbers,
 }
 
-fn is_same(a: &Response, b: &Response) -> bool {
+fn is_same_response(a: &Response, b: &Response) -> bool {
     a.power.as_slice() == b.power.as_slice()
         && a.reserve.as_slice() == b.reserve.as_slice()
         && a.on.as_slice() == b.on.as_slice()
 }
 
 // Whether a response is that of one of the first entries.
-fn is_among(entries: &Entries, count: usize, response: &Response) -> bool {
-    for place in 0..count.min(entries.len()) {
-        if is_same(&entries.get(place).response, response) {
+fn is_among_entries(entries: &Entries, count: usize, response: &Response) -> bool {
+    for index in 0..count.min(entries.len()) {
+        if is_same_response(&entries.get(index).response, response) {
             return true;
         }
     }
@@ -54,7 +54,7 @@ fn is_among(entries: &Entries, count: usize, response: &Response) -> bool {
 }
 
 // What a schedule costs, in the currency.
-fn cost_of(unit: &Unit, response: &Response) -> f64
+fn column_cost(unit: &Unit, response: &Response) -> f64
     requires horizon { length (schedule_of response.now).on ≤ MOST_PERIODS }
     requires feasible { IsThermalFeasible (thermal_of unit.now)
         (length (schedule_of response.now).on) (schedule_of response.now) }
@@ -73,32 +73,32 @@ fn copy_powers(from: &Powers, into: &mut Numbers)
     }
 }
 
-// Writes the schedule of the entry at a place.
-fn set_schedule(entries: &mut Entries, place: usize, response: &Response)
-    requires place { place < length entries.old.items }
-    requires horizon { (d : Entry) → slice_get entries.old.items place ≡ Some d
+// Writes the schedule of the entry at an index.
+fn set_schedule(entries: &mut Entries, index: usize, response: &Response)
+    requires index { index < length entries.old.items }
+    requires horizon { (d : Entry) → slice_get entries.old.items index ≡ Some d
         → length (schedule_of d.response).on ≡ length (schedule_of response.now).on }
-    ensures { entries_of entries.new ≡ rescheduled (entries_of entries.old) place
+    ensures { entries_of entries.new ≡ rescheduled (entries_of entries.old) index
         (schedule_of response.now) }
 {
-    copy_response(response, &mut entries.get_mut(place).response);
+    copy_response(response, &mut entries.get_mut(index).response);
 }
 
 // Writes the column of a place.
-fn set_column(pool: &mut Pool, case: &Case, number: usize, place: usize, response: &Response)
+fn set_column(pool: &mut Pool, case: &Case, number: usize, index: usize, response: &Response)
     requires pool { IsPool (market_of case.now) (places_in pool.old) pool.old }
     requires fit { IsFitAt (market_of case.now) number (schedule_of response.now) }
-    requires place { place < places_in pool.old }
-    requires count { place ≤ count_of pool.old.master number }
+    requires index { index < places_in pool.old }
+    requires count { index ≤ count_of pool.old.master number }
     ensures { IsPool (market_of case.now) (places_in pool.old) pool.new }
 {
-    let cost = cost_of(&case.thermal.get(number).unit, response);
-    set_schedule(pool.columns.thermal.get_mut(number), place, response);
+    let cost = column_cost(&case.thermal.get(number).unit, response);
+    set_schedule(pool.columns.thermal.get_mut(number), index, response);
     copy_powers(&response.power, &mut pool.power);
     copy_powers(&response.reserve, &mut pool.reserve);
     let power = pool.power.as_slice();
     let reserve = pool.reserve.as_slice();
-    pool.master.set_column(number, place, cost, power, reserve);
+    pool.master.set_column(number, index, cost, power, reserve);
 }
 
 /// Keeps a feasible schedule of the thermal unit of a number as a column, where it is a new one;
@@ -109,11 +109,11 @@ pub fn keep_column(pool: &mut Pool, case: &Case, number: usize, response: &Respo
     ensures { IsPool (market_of case.now) (places_in pool.old) pool.new }
 {
     let count = pool.master.count(number);
-    if is_among(pool.columns.thermal.get(number), count, response) {
+    if is_among_entries(pool.columns.thermal.get(number), count, response) {
         return false;
     }
-    let place = pool.master.next_place(number);
-    set_column(pool, case, number, place, response);
+    let index = pool.master.next_place(number);
+    set_column(pool, case, number, index, response);
     true
 }
 
@@ -137,12 +137,12 @@ fn read_shares(master: &Master, number: usize, wanted: &mut Numbers)
     ensures { length wanted.new.items ≡ length wanted.old.items }
 {
     let count = master.count(number);
-    for place in 0..wanted.len() {
+    for index in 0..wanted.len() {
         let mut weight = 0;
-        if place < count {
-            weight = floor_within(1e12 * master.share(number, place) + 0.5, 0, WHOLE);
+        if index < count {
+            weight = floor_within(1e12 * master.share(number, index) + 0.5, 0, WHOLE);
         }
-        wanted.set(place, weight);
+        wanted.set(index, weight);
     }
 }
 

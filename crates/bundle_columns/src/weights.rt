@@ -11,20 +11,20 @@ use plain_lists::lists::Numbers;
 /// What the weights of each unit sum to.
 pub const WHOLE: i64 = 1_000_000_000_000;
 
-/// The weight of the entry at a place.
-pub fn weight_at(entries: &Entries, place: usize) -> i64
-    requires { place < length entries.now.items }
-    ensures { result ≡ weight_of (entries_of entries.now) place }
+/// The weight of the entry at an index.
+pub fn weight_at(entries: &Entries, index: usize) -> i64
+    requires { index < length entries.now.items }
+    ensures { result ≡ weight_of (entries_of entries.now) index }
 {
-    entries.get(place).weight
+    entries.get(index).weight
 }
 
-// Writes the weight of the entry at a place.
-fn set_weight(entries: &mut Entries, place: usize, weight: i64)
-    requires { place < length entries.old.items }
-    ensures { entries_of entries.new ≡ reweighed (entries_of entries.old) place weight }
+// Writes the weight of the entry at an index.
+fn set_weight(entries: &mut Entries, index: usize, weight: i64)
+    requires { index < length entries.old.items }
+    ensures { entries_of entries.new ≡ reweighed (entries_of entries.old) index weight }
 {
-    entries.get_mut(place).weight = weight;
+    entries.get_mut(index).weight = weight;
 }
 
 // A weight without a part of it.
@@ -69,23 +69,23 @@ fn gather_weight(entries: &mut Entries, base: usize)
     ensures shares { AreShares most_whole (entries_of entries.new) }
     ensures count { length entries.new.items ≡ length entries.old.items }
 {
-    for place in 0..entries.len() {
-        let amount = weight_at(entries, place);
-        move_weight(entries, place, base, amount);
+    for index in 0..entries.len() {
+        let amount = weight_at(entries, index);
+        move_weight(entries, index, base, amount);
     }
 }
 
 // Moves as much as is wanted of one entry's weight to another, or all that it has.
-fn hand_out(entries: &mut Entries, base: usize, place: usize, wanted: i64)
+fn hand_out(entries: &mut Entries, base: usize, index: usize, wanted: i64)
     requires base { base < length entries.old.items }
-    requires place { place < length entries.old.items }
+    requires index { index < length entries.old.items }
     requires shares { AreShares most_whole (entries_of entries.old) }
     ensures stays { StaysKept (entries_of entries.old) (entries_of entries.new) }
     ensures shares { AreShares most_whole (entries_of entries.new) }
     ensures count { length entries.new.items ≡ length entries.old.items }
 {
     let left = weight_at(entries, base);
-    move_weight(entries, base, place, wanted.clamp(0, left));
+    move_weight(entries, base, index, wanted.clamp(0, left));
 }
 
 // The place of the greatest number, the first of several.
@@ -94,9 +94,9 @@ fn greatest_place(numbers: &Numbers) -> usize
     ensures { result < length numbers.now.items }
 {
     let mut best = 0;
-    for place in 1..numbers.len() {
-        if *numbers.get(place) > *numbers.get(best) {
-            best = place;
+    for index in 1..numbers.len() {
+        if *numbers.get(index) > *numbers.get(best) {
+            best = index;
         }
     }
     best
@@ -114,9 +114,9 @@ pub fn deal_weights(entries: &mut Entries, wanted: &Numbers)
 {
     let base = greatest_place(wanted);
     gather_weight(entries, base);
-    for place in 0..wanted.len() {
-        if place != base {
-            hand_out(entries, base, place, *wanted.get(place));
+    for index in 0..wanted.len() {
+        if index != base {
+            hand_out(entries, base, index, *wanted.get(index));
         }
     }
 }

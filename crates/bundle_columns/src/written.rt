@@ -43,8 +43,8 @@ fn weighed_entries(alloc: Global, from: &Entries) -> Result<Entries, AllocError>
     ensures { IfOk result (λ entries. entries_of entries ≡ weighed_of (entries_of from.now)) }
 {
     let mut entries = Entries::make(alloc, from.len() as u32)?;
-    for place in 0..from.len() {
-        push_weighed(alloc, from.get(place), &mut entries)?;
+    for index in 0..from.len() {
+        push_weighed(alloc, from.get(index), &mut entries)?;
     }
     Ok(entries)
 }

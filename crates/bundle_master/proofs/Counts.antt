@@ -46,27 +46,27 @@ fresh_is periods places thermal rows room units singles capacity copies none exa
     cc
 
 counts_set :
-    (units : List UnitShape) (unit place : ℕ) (old new : UnitShape) → unit < length units
-    → old ≡ get_or units unit old → new.count ≡ max old.count (place + 1)
+    (units : List UnitShape) (unit index : ℕ) (old new : UnitShape) → unit < length units
+    → old ≡ get_or units unit old → new.count ≡ max old.count (index + 1)
     → map count_in (slice_set units unit new)
-    ≡ slice_set (map count_in units) unit (max (slice_index_or (map count_in units) unit 0) (place + 1))
-counts_set units unit place old new within was is =
+    ≡ slice_set (map count_in units) unit (max (slice_index_or (map count_in units) unit 0) (index + 1))
+counts_set units unit index old new within was is =
     let had : get_or (map count_in units) unit 0 ≡ old.count =
     get_or-map count_in units unit old 0 within ∙ sym (ap count_in was) in
-    let new_count : new.count ≡ max (get_or (map count_in units) unit 0) (place + 1) =
-    is ∙ sym (ap (λ (n : ℕ). max n (place + 1)) had) in
+    let new_count : new.count ≡ max (get_or (map count_in units) unit 0) (index + 1) =
+    is ∙ sym (ap (λ (n : ℕ). max n (index + 1)) had) in
     map-set count_in units unit new
     ∙ ap (λ (n : ℕ). slice_set (map count_in units) unit n) new_count
 
 -- a unit with one more column, or with another in the place of one, is written
 pub column_is :
-    (periods places : ℕ) (units : List UnitShape) (singles capacity unit place : ℕ) (old new : UnitShape)
-    → unit < length units → old ≡ get_or units unit old → new.count ≡ max old.count (place + 1)
+    (periods places : ℕ) (units : List UnitShape) (singles capacity unit index : ℕ) (old new : UnitShape)
+    → unit < length units → old ≡ get_or units unit old → new.count ≡ max old.count (index + 1)
     → shape_of periods places (slice_set units unit new) singles capacity
-    ≡ with_column (shape_of periods places units singles capacity) unit place
-column_is periods places units singles capacity unit place old new within was is =
+    ≡ with_column (shape_of periods places units singles capacity) unit index
+column_is periods places units singles capacity unit index old new within was is =
     let counts : map count_in (slice_set units unit new)
-    ≡ slice_set (map count_in units) unit (max (slice_index_or (map count_in units) unit 0) (place + 1)) =
-    counts_set units unit place old new within was is in
+    ≡ slice_set (map count_in units) unit (max (slice_index_or (map count_in units) unit 0) (index + 1)) =
+    counts_set units unit index old new within was is in
     let long : length (slice_set units unit new) ≡ length units = length-set units unit new in
     cc

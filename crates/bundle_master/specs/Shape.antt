@@ -16,10 +16,10 @@ pub record Shape : Type 0 where
 abbrev pub count_of : Shape → ℕ → ℕ
 count_of s unit = slice_index_or s.counts unit 0
 
--- a column at a place of a unit is added or replaced
+-- a column at an index of a unit is added or replaced
 abbrev pub with_column : Shape → ℕ → ℕ → Shape
-with_column s unit place =
-    record s { counts = slice_set s.counts unit (max (count_of s unit) (place + 1)) }
+with_column s unit index =
+    record s { counts = slice_set s.counts unit (max (count_of s unit) (index + 1)) }
 
 -- one more variable of one row
 abbrev pub with_single : Shape → Shape

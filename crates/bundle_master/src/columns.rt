@@ -77,7 +77,7 @@ impl Sums {
 }
 
 // What the shares are above 1 in sum, where each product is the same, and how fast that falls with the level.
-fn above_one(columns: &[Column], product: f64, level: f64) -> (f64, f64) {
+fn share_excess(columns: &[Column], product: f64, level: f64) -> (f64, f64) {
     let mut above = -1.0;
     let mut slope = 0.0;
     for column in columns {
@@ -90,7 +90,7 @@ fn above_one(columns: &[Column], product: f64, level: f64) -> (f64, f64) {
 
 // The level at which the shares sum to 1. Their sum falls with it and is convex: from the left Newton's method comes
 // nearer from below each time.
-fn level_of(columns: &[Column], product: f64) -> f64 {
+fn level_of_shares(columns: &[Column], product: f64) -> f64 {
     let mut least = f64::INFINITY;
     for column in columns {
         if column.reduced < least {
@@ -99,7 +99,7 @@ fn level_of(columns: &[Column], product: f64) -> f64 {
     }
     let mut level = product - least;
     for _ in 0..LEVEL_STEPS {
-        let (above, slope) = above_one(columns, product, level);
+        let (above, slope) = share_excess(columns, product, level);
         if above <= LEVEL_ACCURACY {
             break;
         }
@@ -110,7 +110,7 @@ fn level_of(columns: &[Column], product: f64) -> f64 {
 
 /// Shares at which all products with the reduced costs are the same. The reduced costs may be off by one number.
 pub fn centre_columns(columns: &mut [Column], product: f64) {
-    let level = level_of(columns, product);
+    let level = level_of_shares(columns, product);
     let mut sum = 0.0;
     for column in columns.iter_mut() {
         column.reduced += level;
@@ -123,7 +123,7 @@ pub fn centre_columns(columns: &mut [Column], product: f64) {
 }
 
 /// The sums with those of a group.
-pub fn add_to(sums: Sums, columns: &[Column]) -> Sums {
+pub fn add_column_sums(sums: Sums, columns: &[Column]) -> Sums {
     let mut sums = sums;
     for column in columns {
         sums.cost += column.share * column.cost;
@@ -134,7 +134,7 @@ pub fn add_to(sums: Sums, columns: &[Column]) -> Sums {
 }
 
 /// Sets the weights; their sum.
-pub fn set_weights(columns: &mut [Column]) -> f64 {
+pub fn set_column_weights(columns: &mut [Column]) -> f64 {
     let mut sum = 0.0;
     for column in columns {
         column.weight = column.share / column.reduced;
@@ -144,15 +144,15 @@ pub fn set_weights(columns: &mut [Column]) -> f64 {
 }
 
 /// A number kept within a distance of 0.
-pub fn limited_to(x: f64, limit: f64) -> f64 {
+pub fn clamp_to(x: f64, limit: f64) -> f64 {
     x.max(-limit).min(limit)
 }
 
 /// Sets the pushes to a target; their sum.
-pub fn set_pushes(columns: &mut [Column], target: Target) -> f64 {
+pub fn set_column_pushes(columns: &mut [Column], target: Target) -> f64 {
     let mut sum = 0.0;
     for column in columns {
-        let second = limited_to(column.share_step * column.reduced_step, target.limit);
+        let second = clamp_to(column.share_step * column.reduced_step, target.limit);
         column.push = (target.product - second) / column.reduced - column.share;
         sum += column.push;
     }
@@ -193,7 +193,7 @@ pub fn longest_column_steps(columns: &[Column], lengths: Lengths) -> Lengths {
 }
 
 /// The sum of products with those of the columns after a step of those lengths.
-pub fn add_ahead(sum: f64, columns: &[Column], lengths: Lengths) -> f64 {
+pub fn add_columns_ahead(sum: f64, columns: &[Column], lengths: Lengths) -> f64 {
     let mut sum = sum;
     for column in columns {
         let share = column.share + lengths.primal * column.share_step;
@@ -214,12 +214,12 @@ pub fn advance_columns(columns: &mut [Column], length: f64) {
 /// golden ratio, so that no two are alike; tells where they have come to.
 pub fn perturb_columns(columns: &mut [Column], amount: f64, start: f64) -> f64 {
     let mut part = start;
-    for place in 0..columns.len() {
+    for index in 0..columns.len() {
         part += GOLDEN;
         if part >= 1.0 {
             part -= 1.0;
         }
-        columns[place].cost += amount * part;
+        columns[index].cost += amount * part;
     }
     part
 }

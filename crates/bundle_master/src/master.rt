@@ -210,7 +210,7 @@ impl Master {
     /// The first free place of a thermal unit, else that of the column with the greatest reduced cost.
     pub fn next_place(&self, unit: usize) -> usize
         requires { unit < self.now.thermal }
-        ensures place { result < self.now.places }
+        ensures index { result < self.now.places }
         ensures count { result ≤ count_of self.now unit }
         ensures free { count_of self.now unit < self.now.places → result ≡ count_of self.now unit }
     {
@@ -221,19 +221,19 @@ impl Master {
     pub fn set_column(
         &mut self,
         unit: usize,
-        place: usize,
+        index: usize,
         cost: f64,
         power: &[i64],
         reserve: &[i64],
     )
         requires unit { unit < self.old.thermal }
-        requires place { place < self.old.places }
-        requires count { place ≤ count_of self.old unit }
+        requires index { index < self.old.places }
+        requires count { index ≤ count_of self.old unit }
         requires power { length power.now ≡ self.old.periods }
         requires reserve { length reserve.now ≡ self.old.periods }
-        ensures { self.new ≡ with_column self.old unit place }
+        ensures { self.new ≡ with_column self.old unit index }
     {
-        self.units[unit].set_column(place, cost, power, reserve);
+        self.units[unit].set_column(index, cost, power, reserve);
     }
 
     /// Sets the price at which a solution starts.
@@ -269,11 +269,11 @@ impl Master {
         self.prices[row]
     }
 
-    /// The share of the column at a place of a thermal unit, and 0 where there is none.
-    pub fn share(&self, unit: usize, place: usize) -> f64
+    /// The share of the column at an index of a thermal unit, and 0 where there is none.
+    pub fn share(&self, unit: usize, index: usize) -> f64
         requires { unit < self.now.thermal }
     {
-        self.units[unit].share(place)
+        self.units[unit].share(index)
     }
 
     /// Changes prices and shares until the products sum to at most what the aim says, in at most so many Newton steps.
@@ -339,21 +339,21 @@ impl Master {
     fn balance(&mut self) -> f64
         ensures { self.new ≡ self.old }
     {
-        rows::begin_rows(
+        rows::begin_due(
             self.rows.as_slice(),
             self.prices.as_slice(),
             self.ridge,
             self.left.as_mut_slice(),
         );
-        units::take_off(self.units.as_slice(), self.left.as_mut_slice());
-        singles::take_off(self.singles.as_slice(), self.left.as_mut_slice());
+        units::take_off_units(self.units.as_slice(), self.left.as_mut_slice());
+        singles::take_off_singles(self.singles.as_slice(), self.left.as_mut_slice());
         sum_of_magnitudes(self.left.as_slice())
     }
 
     fn sums(&self) -> Sums {
-        let sums = units::add_to(self.units.as_slice(), Sums::NONE);
-        let sums = singles::add_to(self.singles.as_slice(), sums);
-        rows::add_to(
+        let sums = units::add_unit_sums(self.units.as_slice(), Sums::NONE);
+        let sums = singles::add_single_sums(self.singles.as_slice(), sums);
+        rows::add_row_sums(
             self.rows.as_slice(),
             self.prices.as_slice(),
             self.left.as_slice(),
@@ -392,9 +392,9 @@ impl Master {
         ensures { self.new ≡ self.old }
     {
         self.matrix.clear();
-        units::add_to_matrix(self.units.as_mut_slice(), &mut self.matrix);
-        singles::add_to_matrix(self.singles.as_mut_slice(), &mut self.matrix);
-        rows::add_to_matrix(
+        units::add_units_to_matrix(self.units.as_mut_slice(), &mut self.matrix);
+        singles::add_singles_to_matrix(self.singles.as_mut_slice(), &mut self.matrix);
+        rows::add_rows_to_matrix(
             self.rows.as_slice(),
             self.prices.as_slice(),
             self.ridge,
@@ -411,7 +411,7 @@ impl Master {
         let right = self.right.as_mut_slice();
         units::set_unit_pushes(self.units.as_mut_slice(), target, right);
         singles::set_single_pushes(self.singles.as_mut_slice(), target, right);
-        rows::set_row_steps(
+        rows::set_row_pushes(
             self.rows.as_mut_slice(),
             self.prices.as_slice(),
             self.price_steps.as_slice(),
@@ -455,10 +455,10 @@ impl Master {
     // The sum of the products after the longest step.
     fn ahead(&self) -> f64 {
         let lengths = self.longest();
-        let sum = units::add_ahead(0.0, self.units.as_slice(), lengths);
-        let sum = singles::add_ahead(sum, self.singles.as_slice(), lengths);
+        let sum = units::add_units_ahead(0.0, self.units.as_slice(), lengths);
+        let sum = singles::add_singles_ahead(sum, self.singles.as_slice(), lengths);
         let prices = self.prices.as_slice();
-        rows::add_ahead(
+        rows::add_rows_ahead(
             sum,
             self.rows.as_slice(),
             prices,

@@ -1,7 +1,7 @@
 //! The rows of a master problem: what is due, and the limits of the price.
 ghost use Rattle.std.specs.Prelude.{◌≡◌, length};
 
-use crate::columns::{Lengths, Sums, Target, limited_to, shortened_length};
+use crate::columns::{Lengths, Sums, Target, clamp_to, shortened_length};
 use dense_matrix::matrix::Matrix;
 
 /// The greatest price, and the least energy price.
@@ -79,8 +79,8 @@ impl Row {
     /// Sets the steps to a target at an unchanged price; what they take off what is left. The last step's second order
     /// is that of the price's step too.
     pub fn push(&mut self, price: f64, last_step: f64, target: Target) -> f64 {
-        let second_lack = limited_to(last_step * self.lack_step, target.limit);
-        let second_more = limited_to(last_step * self.more_step, target.limit);
+        let second_lack = clamp_to(last_step * self.lack_step, target.limit);
+        let second_more = clamp_to(last_step * self.more_step, target.limit);
         self.lack_step = (target.product + second_lack) / (HIGHEST - price) - self.lack;
         self.more_step = (target.product - second_more) / (price - self.lowest) - self.more;
         self.lack_step - self.more_step
@@ -127,7 +127,7 @@ pub fn centre_rows(rows: &mut [Row], prices: &[f64], product: f64)
 }
 
 /// Sets what the columns have to give.
-pub fn begin_rows(rows: &[Row], prices: &[f64], ridge: f64, due: &mut [f64])
+pub fn begin_due(rows: &[Row], prices: &[f64], ridge: f64, due: &mut [f64])
     requires prices { length prices.now ≡ length rows.now }
     requires due { length due.old ≡ length rows.now }
 {
@@ -137,7 +137,7 @@ pub fn begin_rows(rows: &[Row], prices: &[f64], ridge: f64, due: &mut [f64])
 }
 
 /// The sums with those of all rows, of which so much is left.
-pub fn add_to(rows: &[Row], prices: &[f64], left: &[f64], sums: Sums) -> Sums
+pub fn add_row_sums(rows: &[Row], prices: &[f64], left: &[f64], sums: Sums) -> Sums
     requires prices { length prices.now ≡ length rows.now }
     requires left { length left.now ≡ length rows.now }
 {
@@ -163,7 +163,7 @@ pub fn ridge_sums(rows: &[Row], prices: &[f64], ridge: f64) -> (f64, f64)
 }
 
 /// Adds to the matrix how fast what is lacking, too much and held follows the prices.
-pub fn add_to_matrix(rows: &[Row], prices: &[f64], ridge: f64, matrix: &mut Matrix)
+pub fn add_rows_to_matrix(rows: &[Row], prices: &[f64], ridge: f64, matrix: &mut Matrix)
     requires prices { length prices.now ≡ length rows.now }
     requires matrix { matrix.old ≡ length rows.now }
     ensures { matrix.new ≡ matrix.old }
@@ -174,7 +174,7 @@ pub fn add_to_matrix(rows: &[Row], prices: &[f64], ridge: f64, matrix: &mut Matr
 }
 
 /// Sets the steps of all rows to a target at unchanged prices, and takes them off a right-hand side.
-pub fn set_row_steps(
+pub fn set_row_pushes(
     rows: &mut [Row],
     prices: &[f64],
     last_steps: &[f64],
@@ -218,7 +218,7 @@ pub fn longest_row_steps(
 }
 
 /// The sum of products with those of all rows after a step of those lengths.
-pub fn add_ahead(
+pub fn add_rows_ahead(
     sum: f64,
     rows: &[Row],
     prices: &[f64],

@@ -50,7 +50,7 @@ impl Single {
 
     /// The sums with those of the two columns.
     pub fn add_to(&self, sums: Sums) -> Sums {
-        columns::add_to(sums, &self.columns)
+        columns::add_column_sums(sums, &self.columns)
     }
 
     /// Shares at which each product with the reduced cost at that price is the same.
@@ -71,7 +71,7 @@ impl Single {
     pub fn weigh(&mut self) -> f64
         ensures { self.new ≡ self.old }
     {
-        self.weight = columns::set_weights(&mut self.columns);
+        self.weight = columns::set_column_weights(&mut self.columns);
         self.mean = self.columns[1].weight * self.amount / self.weight;
         let above = self.amount - self.mean;
         self.columns[0].weight * self.mean * self.mean + self.columns[1].weight * above * above
@@ -81,7 +81,7 @@ impl Single {
     pub fn push(&mut self, target: Target) -> f64
         ensures { self.new ≡ self.old }
     {
-        let sum = columns::set_pushes(&mut self.columns, target);
+        let sum = columns::set_column_pushes(&mut self.columns, target);
         self.columns[1].push * self.amount - sum * self.mean
     }
 
@@ -101,7 +101,7 @@ impl Single {
 
     /// The sum of products with those of the columns after a step of those lengths.
     pub fn add_ahead(&self, sum: f64, lengths: Lengths) -> f64 {
-        columns::add_ahead(sum, &self.columns, lengths)
+        columns::add_columns_ahead(sum, &self.columns, lengths)
     }
 
     /// Takes a step of that length.
@@ -113,7 +113,7 @@ impl Single {
 }
 
 /// The sums with those of all variables.
-pub fn add_to(singles: &[Single], sums: Sums) -> Sums {
+pub fn add_single_sums(singles: &[Single], sums: Sums) -> Sums {
     let mut sums = sums;
     for single in singles {
         sums = single.add_to(sums);
@@ -133,7 +133,7 @@ pub fn centre_singles(singles: &mut [Single], prices: &[f64], product: f64)
 }
 
 /// Takes what the shares of all variables give off what is due.
-pub fn take_off(singles: &[Single], due: &mut [f64])
+pub fn take_off_singles(singles: &[Single], due: &mut [f64])
     requires { AreBelow (length due.old) singles.now }
 {
     for single in 0..singles.len() {
@@ -143,7 +143,7 @@ pub fn take_off(singles: &[Single], due: &mut [f64])
 }
 
 /// Sets the weights and means of all variables, and adds to the matrix how fast what they give follows the prices.
-pub fn add_to_matrix(singles: &mut [Single], matrix: &mut Matrix)
+pub fn add_singles_to_matrix(singles: &mut [Single], matrix: &mut Matrix)
     requires { AreBelow matrix.old singles.old }
     ensures singles { singles.new ≡ singles.old }
     ensures matrix { matrix.new ≡ matrix.old }
@@ -187,7 +187,7 @@ pub fn longest_single_steps(singles: &[Single], lengths: Lengths) -> Lengths {
 }
 
 /// The sum of products with those of all variables after a step of those lengths.
-pub fn add_ahead(sum: f64, singles: &[Single], lengths: Lengths) -> f64 {
+pub fn add_singles_ahead(sum: f64, singles: &[Single], lengths: Lengths) -> f64 {
     let mut sum = sum;
     for single in singles {
         sum = single.add_ahead(sum, lengths);

@@ -55,23 +55,23 @@ fn greatest_reduced_cost(columns: &[Column]) -> usize
     ensures { result < length columns.now }
 {
     let mut greatest = 0;
-    for place in 1..columns.len() {
-        if columns[place].reduced > columns[greatest].reduced {
-            greatest = place;
+    for index in 1..columns.len() {
+        if columns[index].reduced > columns[greatest].reduced {
+            greatest = index;
         }
     }
     greatest
 }
 
 // Writes kilowatts, from an entry of a row on.
-fn write_amounts(amounts: &mut Table, place: usize, first: usize, kilowatts: &[i64])
-    requires place { place < amounts.old.height }
+fn set_column_amounts(amounts: &mut Table, index: usize, first: usize, kilowatts: &[i64])
+    requires index { index < amounts.old.height }
     requires room { first + length kilowatts.now ≤ amounts.old.width }
     requires width { amounts.old.width ≤ 2000 }
     ensures { amounts.new ≡ amounts.old }
 {
     for period in 0..kilowatts.len() {
-        amounts.set(place, first + period, in_megawatts(kilowatts[period]));
+        amounts.set(index, first + period, in_megawatts(kilowatts[period]));
     }
 }
 
@@ -80,31 +80,31 @@ fn set_reduced_costs(columns: &mut [Column], amounts: &Table, prices: &[f64])
     requires columns { length columns.old ≤ amounts.now.height }
     requires prices { length prices.now ≡ amounts.now.width }
 {
-    for place in 0..columns.len() {
-        columns[place].reduced = columns[place].cost - dot_product(amounts.row(place), prices);
+    for index in 0..columns.len() {
+        columns[index].reduced = columns[index].cost - dot_product(amounts.row(index), prices);
     }
 }
 
 // Takes what the shares give off what is due.
-fn take_shares(columns: &[Column], amounts: &Table, due: &mut [f64])
+fn take_off_shares(columns: &[Column], amounts: &Table, due: &mut [f64])
     requires columns { length columns.now ≤ amounts.now.height }
     requires due { length due.old ≡ amounts.now.width }
 {
-    for place in 0..columns.len() {
-        add_multiple(due, -columns[place].share, amounts.row(place));
+    for index in 0..columns.len() {
+        add_multiple(due, -columns[index].share, amounts.row(index));
     }
 }
 
 // The mean of the columns by their weights. Where all give the same, it is that to the bit.
-fn write_mean(columns: &[Column], amounts: &Table, weight: f64, mean: &mut [f64])
+fn write_mean_column(columns: &[Column], amounts: &Table, weight: f64, mean: &mut [f64])
     requires some { 1 ≤ length columns.now }
     requires columns { length columns.now ≤ amounts.now.height }
     requires mean { length mean.old ≡ amounts.now.width }
 {
     mean.fill(0.0);
     let first = amounts.row(0);
-    for place in 0..columns.len() {
-        add_difference(mean, columns[place].weight, amounts.row(place), first);
+    for index in 0..columns.len() {
+        add_difference(mean, columns[index].weight, amounts.row(index), first);
     }
     for row in 0..first.len() {
         mean[row] = first[row] + mean[row] / weight;
@@ -118,20 +118,20 @@ fn add_columns(columns: &[Column], amounts: &Table, mean: &[f64], matrix: &mut M
     requires matrix { matrix.old ≡ amounts.now.width }
     ensures { matrix.new ≡ matrix.old }
 {
-    for place in 0..columns.len() {
-        let factor = columns[place].weight.sqrt();
-        matrix.add_column(factor, amounts.row(place), mean);
+    for index in 0..columns.len() {
+        let factor = columns[index].weight.sqrt();
+        matrix.add_column(factor, amounts.row(index), mean);
     }
     matrix.end_columns();
 }
 
 // Takes what the pushes give off a right-hand side.
-fn take_pushes(columns: &[Column], amounts: &Table, right: &mut [f64])
+fn take_off_pushes(columns: &[Column], amounts: &Table, right: &mut [f64])
     requires columns { length columns.now ≤ amounts.now.height }
     requires right { length right.old ≡ amounts.now.width }
 {
-    for place in 0..columns.len() {
-        add_multiple(right, -columns[place].push, amounts.row(place));
+    for index in 0..columns.len() {
+        add_multiple(right, -columns[index].push, amounts.row(index));
     }
 }
 
@@ -140,8 +140,8 @@ fn set_reduced_steps(columns: &mut [Column], amounts: &Table, price_steps: &[f64
     requires columns { length columns.old ≤ amounts.now.height }
     requires steps { length price_steps.now ≡ amounts.now.width }
 {
-    for place in 0..columns.len() {
-        columns[place].reduced_step = dot_product(amounts.row(place), price_steps);
+    for index in 0..columns.len() {
+        columns[index].reduced_step = dot_product(amounts.row(index), price_steps);
     }
 }
 
@@ -181,7 +181,7 @@ impl Unit {
     /// The first free place, else that of the column with the greatest reduced cost.
     pub fn next_place(&self) -> usize
         requires { 1 ≤ self.now.places }
-        ensures place { result < self.now.places }
+        ensures index { result < self.now.places }
         ensures count { result ≤ self.now.count }
         ensures free { self.now.count < self.now.places → result ≡ self.now.count }
     {
@@ -193,27 +193,27 @@ impl Unit {
     }
 
     /// Adds or replaces a column: what a schedule costs, and its power and reserve in each period, in kilowatts.
-    pub fn set_column(&mut self, place: usize, cost: f64, power: &[i64], reserve: &[i64])
-        requires place { place < self.old.places }
-        requires count { place ≤ self.old.count }
+    pub fn set_column(&mut self, index: usize, cost: f64, power: &[i64], reserve: &[i64])
+        requires index { index < self.old.places }
+        requires count { index ≤ self.old.count }
         requires rows { length power.now + length reserve.now ≡ self.old.rows }
-        ensures { self.new ≡ record self.old { count = max self.old.count (place + 1) } }
+        ensures { self.new ≡ record self.old { count = max self.old.count (index + 1) } }
     {
-        write_amounts(&mut self.amounts, place, 0, power);
-        write_amounts(&mut self.amounts, place, power.len(), reserve);
+        set_column_amounts(&mut self.amounts, index, 0, power);
+        set_column_amounts(&mut self.amounts, index, power.len(), reserve);
         let mut column = Column::BLANK;
         column.cost = cost;
-        if place < self.columns.len() {
-            self.columns[place] = column;
+        if index < self.columns.len() {
+            self.columns[index] = column;
         } else {
             self.columns.push_reserved(column);
         }
     }
 
-    /// The share of the column at a place, and 0 where there is none.
-    pub fn share(&self, place: usize) -> f64 {
-        if place < self.columns.len() {
-            self.columns[place].share
+    /// The share of the column at an index, and 0 where there is none.
+    pub fn share(&self, index: usize) -> f64 {
+        if index < self.columns.len() {
+            self.columns[index].share
         } else {
             0.0
         }
@@ -221,7 +221,7 @@ impl Unit {
 
     /// The sums with those of the columns.
     pub fn add_to(&self, sums: Sums) -> Sums {
-        columns::add_to(sums, self.columns.as_slice())
+        columns::add_column_sums(sums, self.columns.as_slice())
     }
 
     /// Shares at which each product with the reduced cost at those prices is the same.
@@ -237,7 +237,7 @@ impl Unit {
     pub fn take_off(&self, due: &mut [f64])
         requires { length due.old ≡ self.now.rows }
     {
-        take_shares(self.columns.as_slice(), &self.amounts, due);
+        take_off_shares(self.columns.as_slice(), &self.amounts, due);
     }
 
     /// Sets weights and mean, and adds to the matrix how fast what the columns give follows the prices.
@@ -258,8 +258,8 @@ impl Unit {
         requires { 1 ≤ self.old.count }
         ensures { self.new ≡ self.old }
     {
-        self.weight = columns::set_weights(self.columns.as_mut_slice());
-        write_mean(
+        self.weight = columns::set_column_weights(self.columns.as_mut_slice());
+        write_mean_column(
             self.columns.as_slice(),
             &self.amounts,
             self.weight,
@@ -275,8 +275,8 @@ impl Unit {
         if self.columns.is_empty() {
             return;
         }
-        let sum = columns::set_pushes(self.columns.as_mut_slice(), target);
-        take_pushes(self.columns.as_slice(), &self.amounts, right);
+        let sum = columns::set_column_pushes(self.columns.as_mut_slice(), target);
+        take_off_pushes(self.columns.as_slice(), &self.amounts, right);
         add_multiple(right, sum, &self.mean);
     }
 
@@ -296,7 +296,7 @@ impl Unit {
 
     /// The sum of products with those of the columns after a step of those lengths.
     pub fn add_ahead(&self, sum: f64, lengths: Lengths) -> f64 {
-        columns::add_ahead(sum, self.columns.as_slice(), lengths)
+        columns::add_columns_ahead(sum, self.columns.as_slice(), lengths)
     }
 
     /// Takes a step of that length.
@@ -308,7 +308,7 @@ impl Unit {
 }
 
 /// The sums with those of all units.
-pub fn add_to(units: &[Unit], sums: Sums) -> Sums {
+pub fn add_unit_sums(units: &[Unit], sums: Sums) -> Sums {
     let mut sums = sums;
     for unit in units {
         sums = unit.add_to(sums);
@@ -337,7 +337,7 @@ pub fn centre_units(units: &mut [Unit], prices: &[f64], product: f64)
 }
 
 /// Takes what the shares of all units give off what is due.
-pub fn take_off(units: &[Unit], due: &mut [f64])
+pub fn take_off_units(units: &[Unit], due: &mut [f64])
     requires { AreOver (length due.old) units.now }
 {
     for unit in 0..units.len() {
@@ -346,7 +346,7 @@ pub fn take_off(units: &[Unit], due: &mut [f64])
 }
 
 /// Sets the weights and means of all units, and adds to the matrix how fast what they give follows the prices.
-pub fn add_to_matrix(units: &mut [Unit], matrix: &mut Matrix)
+pub fn add_units_to_matrix(units: &mut [Unit], matrix: &mut Matrix)
     requires { AreOver matrix.old units.old }
     ensures units { units.new ≡ units.old }
     ensures matrix { matrix.new ≡ matrix.old }
@@ -386,7 +386,7 @@ pub fn longest_unit_steps(units: &[Unit], lengths: Lengths) -> Lengths {
 }
 
 /// The sum of products with those of all units after a step of those lengths.
-pub fn add_ahead(sum: f64, units: &[Unit], lengths: Lengths) -> f64 {
+pub fn add_units_ahead(sum: f64, units: &[Unit], lengths: Lengths) -> f64 {
     let mut sum = sum;
     for unit in units {
         sum = unit.add_ahead(sum, lengths);

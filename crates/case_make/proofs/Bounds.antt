@@ -124,15 +124,15 @@ cost_range d (suc i) h low =
 
 -- ---- the draws of a unit are within their ranges
 
-pub draws_within : (g : Lcg) (place : ℕ) → AreDrawn (unit_draws g place)
+pub draws_within : (g : Lcg) (index : ℕ) → AreDrawn (unit_draws g index)
 unfolding unit_draws
-draws_within g place = record {
-  megawatts = drawn_within 20 400 (word_at g place) (omega arith);
-  least_percent = drawn_within 20 50 (word_at g (place + 1)) (omega arith);
-  ramp_divisor = drawn_within 2 6 (word_at g (place + 2)) (omega arith);
-  min_up = drawn_within 1 8 (word_at g (place + 3)) (omega arith);
-  min_down = drawn_within 1 8 (word_at g (place + 4)) (omega arith);
-  energy_cost = drawn_within 15 60 (word_at g (place + 6)) (omega arith);
-  start_hundreds = drawn_within 1 50 (word_at g (place + 7)) (omega arith);
-  level_percent = drawn_within 0 100 (word_at g (place + 8)) (omega arith);
+draws_within g index = record {
+  megawatts = drawn_within 20 400 (word_at g index) (omega arith);
+  least_percent = drawn_within 20 50 (word_at g (index + 1)) (omega arith);
+  ramp_divisor = drawn_within 2 6 (word_at g (index + 2)) (omega arith);
+  min_up = drawn_within 1 8 (word_at g (index + 3)) (omega arith);
+  min_down = drawn_within 1 8 (word_at g (index + 4)) (omega arith);
+  energy_cost = drawn_within 15 60 (word_at g (index + 6)) (omega arith);
+  start_hundreds = drawn_within 1 50 (word_at g (index + 7)) (omega arith);
+  level_percent = drawn_within 0 100 (word_at g (index + 8)) (omega arith);
 }

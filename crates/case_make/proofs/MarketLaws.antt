@@ -145,10 +145,10 @@ thermal_gives g k = record {
   supply = λ i. refl;
 }
 
-renewable_gives : (g : Lcg) (place k : ℕ) → Gives (any_renewable (named_renewable g place k)) (renewable_plan g place k)
+renewable_gives : (g : Lcg) (index k : ℕ) → Gives (any_renewable (named_renewable g index k)) (renewable_plan g index k)
 unfolding named_renewable renewable_plan
-renewable_gives g place k = record {
-  feasible = full_feasible (most_powers g (renewable_place place k)) (powers_within g (renewable_place place k));
+renewable_gives g index k = record {
+  feasible = full_feasible (most_powers g (renewable_place index k)) (powers_within g (renewable_place index k));
   supply = λ i. refl;
 }
 
@@ -157,11 +157,11 @@ unfolding thermal_units thermal_plan
 all_thermal_give g count = all_zip_map Gives any_thermal (named_unit g) (unit_plan g) (thermal_gives g)
     (range_with_len 0 count)
 
-all_renewable_give : (g : Lcg) (place count : ℕ) →
-    AllZip Gives (map any_renewable (renewable_units g place count)) (renewable_plans g place count)
+all_renewable_give : (g : Lcg) (index count : ℕ) →
+    AllZip Gives (map any_renewable (renewable_units g index count)) (renewable_plans g index count)
 unfolding renewable_units renewable_plans
-all_renewable_give g place count = all_zip_map Gives any_renewable (named_renewable g place) (renewable_plan g place)
-    (renewable_gives g place) (range_with_len 0 count)
+all_renewable_give g index count = all_zip_map Gives any_renewable (named_renewable g index) (renewable_plan g index)
+    (renewable_gives g index) (range_with_len 0 count)
 
 all_give : (g : Lcg) → AllZip Gives (units (market_from g)) (plan_from g)
 unfolding market_from plan_from
@@ -275,24 +275,24 @@ thermal_limited g count =
     (λ k d low. let p : ℕ = unit_place (get_or (range_with_len 0 count) k d) in
     (unit_limited (unit_draws g p) (draws_within g p), length-window (unit_draws g p)))
 
-renewables_limited : (g : Lcg) (place count : ℕ) →
+renewables_limited : (g : Lcg) (index count : ℕ) →
     All (λ (n : NamedRenewableUnit). IsRenewableUnit n.unit × (length n.unit.least ≡ 48))
-    (renewable_units g place count)
+    (renewable_units g index count)
 unfolding renewable_units named_renewable
-renewables_limited g place count =
-    All-map (λ (n : NamedRenewableUnit). IsRenewableUnit n.unit × (length n.unit.least ≡ 48)) (named_renewable g place)
+renewables_limited g index count =
+    All-map (λ (n : NamedRenewableUnit). IsRenewableUnit n.unit × (length n.unit.least ≡ 48)) (named_renewable g index)
     (range_with_len 0 count)
     (λ k d low.
-    let p : ℕ = renewable_place place (get_or (range_with_len 0 count) k d) in
+    let p : ℕ = renewable_place index (get_or (range_with_len 0 count) k d) in
     (renewable_limited (most_powers g p) (powers_within g p), length-least (most_powers g p)))
 
 length-thermal_units : (g : Lcg) (count : ℕ) → length (thermal_units g count) ≡ count
 unfolding thermal_units
 length-thermal_units g count = length-map-range_with_len (named_unit g) 0 count
 
-length-renewable_units : (g : Lcg) (place count : ℕ) → length (renewable_units g place count) ≡ count
+length-renewable_units : (g : Lcg) (index count : ℕ) → length (renewable_units g index count) ≡ count
 unfolding renewable_units
-length-renewable_units g place count = length-map-range_with_len (named_renewable g place) 0 count
+length-renewable_units g index count = length-map-range_with_len (named_renewable g index) 0 count
 
 pub made_limited : (g : Lcg) → IsMarket (market_from g)
 unfolding market_from

@@ -7,20 +7,20 @@ use Rattle.case_make.proofs.Common.{IsPower, IsRenewableUnit, IsRenewableFeasibl
 use Rattle.case_make.proofs.Common.{most_powers, renewable_of, full, ArePowers, draw, word_at}
 use Rattle.case_make.proofs.WordLaws.{drawn_within}
 
-pub most_low : (g : Lcg) (place k : ℕ) → most_at g place k ≤ 100000
+pub most_low : (g : Lcg) (index k : ℕ) → most_at g index k ≤ 100000
 unfolding most_at capacity_at
-most_low g place k =
-    let a = drawn_within 5 100 (word_at g place) (omega arith) in
-    let b = drawn_within 0 100 (word_at g (place + 1 + k)) (omega arith) in
-    let p = mul-le-mul_left (1000 * draw 5 100 (word_at g place)) b.at_most in
+most_low g index k =
+    let a = drawn_within 5 100 (word_at g index) (omega arith) in
+    let b = drawn_within 0 100 (word_at g (index + 1 + k)) (omega arith) in
+    let p = mul-le-mul_left (1000 * draw 5 100 (word_at g index)) b.at_most in
     omega (arith, a, p)
 
-pub powers_within : (g : Lcg) (place : ℕ) → ArePowers (most_powers g place)
+pub powers_within : (g : Lcg) (index : ℕ) → ArePowers (most_powers g index)
 unfolding most_powers
-powers_within g place = record {
-  count = length-map-range_with_len (most_at g place) 0 48;
-  most = All-map (λ x. x ≤ 100000) (most_at g place) (range_with_len 0 48)
-      (λ k d low. most_low g place (get_or (range_with_len 0 48) k d));
+powers_within g index = record {
+  count = length-map-range_with_len (most_at g index) 0 48;
+  most = All-map (λ x. x ≤ 100000) (most_at g index) (range_with_len 0 48)
+      (λ k d low. most_low g index (get_or (range_with_len 0 48) k d));
 }
 
 -- the numbers of a list of powers

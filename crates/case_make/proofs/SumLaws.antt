@@ -150,20 +150,20 @@ thermal_within g count =
     (λ k d low. let p : ℕ = unit_place (get_or (range_with_len 0 count) k d) in
     unit_within (unit_draws g p) (draws_within g p))
 
-pub renewables_within : (g : Lcg) (place count : ℕ) → All (IsWithin 400000) (renewable_plans g place count)
+pub renewables_within : (g : Lcg) (index count : ℕ) → All (IsWithin 400000) (renewable_plans g index count)
 unfolding renewable_plans renewable_plan
-renewables_within g place count =
-    All-map (IsWithin 400000) (renewable_plan g place) (range_with_len 0 count)
-    (λ k d low. let p : ℕ = renewable_place place (get_or (range_with_len 0 count) k d) in
+renewables_within g index count =
+    All-map (IsWithin 400000) (renewable_plan g index) (range_with_len 0 count)
+    (λ k d low. let p : ℕ = renewable_place index (get_or (range_with_len 0 count) k d) in
     full_within (most_powers g p) (powers_within g p))
 
 pub length-thermal_plan : (g : Lcg) (count : ℕ) → length (thermal_plan g count) ≡ count
 unfolding thermal_plan
 length-thermal_plan g count = length-map-range_with_len (unit_plan g) 0 count
 
-pub length-renewable_plans : (g : Lcg) (place count : ℕ) → length (renewable_plans g place count) ≡ count
+pub length-renewable_plans : (g : Lcg) (index count : ℕ) → length (renewable_plans g index count) ≡ count
 unfolding renewable_plans
-length-renewable_plans g place count = length-map-range_with_len (renewable_plan g place) 0 count
+length-renewable_plans g index count = length-map-range_with_len (renewable_plan g index) 0 count
 
 pub thermal_small : (g : Lcg) (count : ℕ) → count ≤ 73 → IsSmall 40000000 (thermal_plan g count)
 thermal_small g count h =
@@ -175,19 +175,19 @@ thermal_small g count h =
           omega (arith, h, e, p);
     }
 
-pub grown_small : (plan : List Schedule) (g : Lcg) (place count : ℕ) → IsSmall 40000000 plan → count ≤ 81 →
-    IsSmall 100000000 (plan ++ renewable_plans g place count)
-grown_small plan g place count h low =
-    let s = sums_low 400000 (renewable_plans g place count) (renewables_within g place count) in
-    let e = length-renewable_plans g place count in
+pub grown_small : (plan : List Schedule) (g : Lcg) (index count : ℕ) → IsSmall 40000000 plan → count ≤ 81 →
+    IsSmall 100000000 (plan ++ renewable_plans g index count)
+grown_small plan g index count h low =
+    let s = sums_low 400000 (renewable_plans g index count) (renewables_within g index count) in
+    let e = length-renewable_plans g index count in
     record {
       powers = λ k.
-          let join = sum_by-append (λ (s : Schedule). slice_index s.power k) plan (renewable_plans g place count) in
+          let join = sum_by-append (λ (s : Schedule). slice_index s.power k) plan (renewable_plans g index count) in
           let p = s.powers k in
           let q = h.powers k in
           omega (arith, low, e, p, q, join);
       reserves = λ k.
-          let join = sum_by-append (λ (s : Schedule). slice_index s.reserve k) plan (renewable_plans g place count) in
+          let join = sum_by-append (λ (s : Schedule). slice_index s.reserve k) plan (renewable_plans g index count) in
           let p = s.reserves k in
           let q = h.reserves k in
           omega (arith, low, e, p, q, join);

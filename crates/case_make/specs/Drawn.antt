@@ -13,18 +13,18 @@ use Rattle.case_make.specs.Words.{word_at, draw}
 
 -- ---- a thermal unit takes nine words
 
--- the draws of the unit whose first word is at a place
+-- the draws of the unit whose first word is at an index
 unfoldable pub unit_draws : Lcg → ℕ → UnitDraws
-unit_draws g place = record {
-  megawatts = draw 20 400 (word_at g place);
-  least_percent = draw 20 50 (word_at g (place + 1));
-  ramp_divisor = draw 2 6 (word_at g (place + 2));
-  min_up = draw 1 8 (word_at g (place + 3));
-  min_down = draw 1 8 (word_at g (place + 4));
-  state = draw 0 2 (word_at g (place + 5));
-  energy_cost = draw 15 60 (word_at g (place + 6));
-  start_hundreds = draw 1 50 (word_at g (place + 7));
-  level_percent = draw 0 100 (word_at g (place + 8));
+unit_draws g index = record {
+  megawatts = draw 20 400 (word_at g index);
+  least_percent = draw 20 50 (word_at g (index + 1));
+  ramp_divisor = draw 2 6 (word_at g (index + 2));
+  min_up = draw 1 8 (word_at g (index + 3));
+  min_down = draw 1 8 (word_at g (index + 4));
+  state = draw 0 2 (word_at g (index + 5));
+  energy_cost = draw 15 60 (word_at g (index + 6));
+  start_hundreds = draw 1 50 (word_at g (index + 7));
+  level_percent = draw 0 100 (word_at g (index + 8));
 }
 
 -- its greatest and its least power
@@ -103,7 +103,7 @@ reserve_of d = min (max_of d - high_of d) (ramp_of d - step_of d)
 unfoldable pub is_high : ℕ → Bool
 is_high k = nat_le 8 (k % 24) && nat_le (k % 24) 19
 
--- the power of a unit that is on, in the period at a place
+-- the power of a unit that is on, in the period at an index
 unfoldable pub power_at : ℕ → ℕ → ℕ → ℕ
 power_at level high k = if is_high k then high else level
 
@@ -123,16 +123,16 @@ unit_schedule d = if is_on d then running (level_of d) (high_of d) (reserve_of d
 
 -- ---- a renewable unit takes 49 words
 
--- its capacity, from the word at a place, and its greatest power in each period, from the words
+-- its capacity, from the word at an index, and its greatest power in each period, from the words
 -- after it
 unfoldable pub capacity_at : Lcg → ℕ → ℕ
-capacity_at g place = 1000 * draw 5 100 (word_at g place)
+capacity_at g index = 1000 * draw 5 100 (word_at g index)
 
 unfoldable pub most_at : Lcg → ℕ → ℕ → ℕ
-most_at g place k = capacity_at g place * draw 0 100 (word_at g (place + 1 + k)) / 100
+most_at g index k = capacity_at g index * draw 0 100 (word_at g (index + 1 + k)) / 100
 
 unfoldable pub most_powers : Lcg → ℕ → List ℕ
-most_powers g place = map (most_at g place) (range_with_len 0 48)
+most_powers g index = map (most_at g index) (range_with_len 0 48)
 
 unfoldable pub renewable_of : List ℕ → RenewableUnit
 renewable_of powers = record { least = replicate 48 (pos 0); most = map pos powers }

@@ -29,30 +29,30 @@ thermal_units g count = map (named_unit g) (range_with_len 0 count)
 unfoldable pub thermal_plan : Lcg → ℕ → List Schedule
 thermal_plan g count = map (unit_plan g) (range_with_len 0 count)
 
--- ---- the renewable units, R01 and on, and their schedules; the first word is at a place
+-- ---- the renewable units, R01 and on, and their schedules; the first word is at an index
 
 abbrev pub renewable_place : ℕ → ℕ → ℕ
-renewable_place place j = place + 49 * j
+renewable_place index j = index + 49 * j
 
 unfoldable pub named_renewable : Lcg → ℕ → ℕ → NamedRenewableUnit
-named_renewable g place j =
+named_renewable g index j =
     record {
       name = name_of 82 (j + 1);
-      unit = renewable_of (most_powers g (renewable_place place j));
+      unit = renewable_of (most_powers g (renewable_place index j));
     }
 
 unfoldable pub renewable_plan : Lcg → ℕ → ℕ → Schedule
-renewable_plan g place j = full (most_powers g (renewable_place place j))
+renewable_plan g index j = full (most_powers g (renewable_place index j))
 
 unfoldable pub renewable_units : Lcg → ℕ → ℕ → List NamedRenewableUnit
-renewable_units g place count = map (named_renewable g place) (range_with_len 0 count)
+renewable_units g index count = map (named_renewable g index) (range_with_len 0 count)
 
 unfoldable pub renewable_plans : Lcg → ℕ → ℕ → List Schedule
-renewable_plans g place count = map (renewable_plan g place) (range_with_len 0 count)
+renewable_plans g index count = map (renewable_plan g index) (range_with_len 0 count)
 
 -- ---- the whole
 
--- the power, and the reserve, of all schedules in the period at a place, which counts from 0
+-- the power, and the reserve, of all schedules in the period at an index, which counts from 0
 abbrev pub power_sum : List Schedule → ℕ → ℕ
 power_sum plan k = sum_by (λ (s : Schedule). slice_index s.power k) plan
 

@@ -12,9 +12,9 @@ start_of number = started 64 multiplier_64 number (increment_of 64 54)
 unfoldable pub moved_on : ℕ → Lcg → Lcg
 moved_on count g = advance 64 multiplier_64 count g
 
--- the word at a place, counted from 0, of those that the generator gives
+-- the word at an index, counted from 0, of those that the generator gives
 unfoldable pub word_at : Lcg → ℕ → ℕ
-word_at g place = (pcg32 (moved_on place g)).0
+word_at g index = (pcg32 (moved_on index g)).0
 
 -- the number from low to high that a word stands for
 unfoldable pub draw : ℕ → ℕ → ℕ → ℕ

@@ -137,14 +137,14 @@ impl UnitDraws {
         above.min(self.ramp() - self.step())
     }
 
-    /// The power in kilowatts of a point of the cost curve, whose place counts from 0 to 3.
+    /// The power in kilowatts of a point of the cost curve, whose index counts from 0 to 3.
     #[tactic(auto, unfolding(crate::specs::Drawn::at_of))]
-    pub fn point_power(&self, place: u32) -> u32
+    pub fn point_power(&self, index: u32) -> u32
         requires draws { AreDrawn self.now }
-        requires place { place ≤ 3 }
-        ensures { result ≡ at_of self.now place }
+        requires index { index ≤ 3 }
+        ensures { result ≡ at_of self.now index }
     {
         let min = self.min_power();
-        min + (self.max_power() - min) * place / 3
+        min + (self.max_power() - min) * index / 3
     }
 }

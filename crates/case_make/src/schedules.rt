@@ -13,18 +13,18 @@ use uc_model::units::{Answered, Powers, Response};
 
 // Whether a period is one of high power; its place counts from 0.
 #[tactic(auto, unfolding(crate::specs::Drawn::is_high))]
-fn is_high(place: u32) -> bool
-    ensures { result ≡ is_high place }
+fn is_high(index: u32) -> bool
+    ensures { result ≡ is_high index }
 {
-    let hour = place % 24;
+    let hour = index % 24;
     8 <= hour && hour <= 19
 }
 
 #[tactic(auto, unfolding(crate::specs::Drawn::power_at))]
-fn power_in(place: u32, level: u32, high: u32) -> u32
-    ensures { result ≡ power_at level high place }
+fn power_in(index: u32, level: u32, high: u32) -> u32
+    ensures { result ≡ power_at level high index }
 {
-    if is_high(place) { high } else { level }
+    if is_high(index) { high } else { level }
 }
 
 fn powers_of_level(alloc: Global, level: u32, high: u32) -> Result<Powers, AllocError>
@@ -32,8 +32,8 @@ fn powers_of_level(alloc: Global, level: u32, high: u32) -> Result<Powers, Alloc
         ≡ map (power_at level high) (range_with_len 0 48)) }
 {
     let mut powers = Powers::make(alloc, PERIODS)?;
-    for place in 0..PERIODS {
-        powers.push(power_in(place, level, high));
+    for index in 0..PERIODS {
+        powers.push(power_in(index, level, high));
     }
     Ok(powers)
 }

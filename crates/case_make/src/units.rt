@@ -55,25 +55,25 @@ fn first_cost(draws: &UnitDraws) -> u64
 // What the power of the point after a place costs in a period, where that of the place's point
 // costs so much.
 #[tactic(auto, unfolding(crate::specs::Drawn::cost_of))]
-fn next_cost(draws: &UnitDraws, cost: u64, place: u32) -> u64
+fn next_cost(draws: &UnitDraws, cost: u64, index: u32) -> u64
     requires draws { AreDrawn draws.now }
-    requires place { place < 3 }
-    requires cost { cost ≡ cost_of draws.now place }
-    ensures { result ≡ cost_of draws.now (place + 1) }
+    requires index { index < 3 }
+    requires cost { cost ≡ cost_of draws.now index }
+    ensures { result ≡ cost_of draws.now (index + 1) }
 {
-    let width = draws.point_power(place + 1) - draws.point_power(place);
-    let price = 100 * draws.energy_cost * (11 + place);
+    let width = draws.point_power(index + 1) - draws.point_power(index);
+    let price = 100 * draws.energy_cost * (11 + index);
     cost + u64::from(price) * u64::from(width)
 }
 
-fn cost_point(draws: &UnitDraws, cost: u64, place: u32) -> Point
+fn cost_point(draws: &UnitDraws, cost: u64, index: u32) -> Point
     requires draws { AreDrawn draws.now }
-    requires place { place ≤ 3 }
-    requires cost { cost ≡ cost_of draws.now place }
-    ensures { result ≡ point_of draws.now place }
+    requires index { index ≤ 3 }
+    requires cost { cost ≡ cost_of draws.now index }
+    ensures { result ≡ point_of draws.now index }
 {
     Point {
-        at: i64::from(draws.point_power(place)),
+        at: i64::from(draws.point_power(index)),
         cost: money_of(cost),
     }
 }
@@ -86,9 +86,9 @@ fn cost_points(alloc: Global, draws: &UnitDraws) -> Result<Points, AllocError>
     let mut points = Points::make(alloc, 4)?;
     let mut cost = first_cost(draws);
     points.push(cost_point(draws, cost, 0));
-    for place in 0..3 {
-        cost = next_cost(draws, cost, place);
-        points.push(cost_point(draws, cost, place + 1));
+    for index in 0..3 {
+        cost = next_cost(draws, cost, index);
+        points.push(cost_point(draws, cost, index + 1));
     }
     Ok(points)
 }

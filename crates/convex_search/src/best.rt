@@ -21,7 +21,7 @@ pub struct Best {
 }
 
 /// Whether the bound is at most so much above the value.
-pub fn is_within(bound: i128, value: i128, within: i64) -> bool
+pub fn is_bound_within(bound: i128, value: i128, within: i64) -> bool
     requires bound { IsBound bound }
     requires value { IsWorth value }
     ensures { IsTrue result → (bound -ℤ value) ≤ℤ within }
@@ -30,7 +30,7 @@ pub fn is_within(bound: i128, value: i128, within: i64) -> bool
 }
 
 /// Whether the bound is at most a millionth of the value's magnitude above it.
-pub fn is_enough(bound: i128, value: i128) -> bool
+pub fn is_bound_near_value(bound: i128, value: i128) -> bool
     requires bound { IsBound bound }
     requires value { IsWorth value }
     ensures { IsTrue result → (pos 1000000 *ℤ (bound -ℤ value)) ≤ℤ pos (unsigned_abs value) }
@@ -44,8 +44,8 @@ pub fn is_near(bound: i128, value: i128, within: i64) -> bool
     requires value { IsWorth value }
     ensures { IsTrue result → IsNear within bound value }
 {
-    if is_within(bound, value, within) {
+    if is_bound_within(bound, value, within) {
         return true;
     }
-    is_enough(bound, value)
+    is_bound_near_value(bound, value)
 }

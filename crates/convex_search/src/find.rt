@@ -18,7 +18,7 @@ use std::alloc::{AllocError, Global};
 use uc_model::cases::{Case, Plan};
 
 // What was found.
-fn finish(
+fn finish_search(
     alloc: Global,
     case: &Case,
     search: Search,
@@ -69,5 +69,5 @@ pub fn find_convex(alloc: Global, case: &Case, plan: &Plan, goal: Goal) -> Resul
     let mut search = open_search(alloc, case, plan)?;
     let made = make_rounds(&mut search, case, goal);
     shorten_mixture(&mut search, case, goal, made);
-    finish(alloc, case, search, goal, made)
+    finish_search(alloc, case, search, goal, made)
 }

@@ -13,7 +13,7 @@ use uc_model::cases::Case;
 use uc_model::laws::units_are_numbered;
 use uc_model::units::{Answered, Flow, Prices, Response};
 use unit_program::case_laws::units_can_answer;
-use unit_program::{Bench, LastAnswers, answer_at};
+use unit_program::{Bench, LastAnswers, answer_numbered_unit};
 
 /// What answers are worked out on.
 #[derive(Drop)]
@@ -31,7 +31,7 @@ pub struct Oracle {
 }
 
 // Adds what a response gives.
-fn add_given(given: &mut [f64], flow: Flow, response: &Response)
+fn add_response_totals(given: &mut [f64], flow: Flow, response: &Response)
     requires { length given.old ≡ 2 * length (schedule_of response.now).on }
 {
     let periods = response.periods();
@@ -68,7 +68,7 @@ pub fn answer_all(oracle: &mut Oracle, case: &Case, prices: &Prices, pool: &mut 
     write_zeros(&mut oracle.given);
     let mut is_new = false;
     for number in 0..case.unit_count() as usize {
-        let flow = answer_at(
+        let flow = answer_numbered_unit(
             &mut oracle.bench,
             &oracle.last,
             case,
@@ -77,7 +77,7 @@ pub fn answer_all(oracle: &mut Oracle, case: &Case, prices: &Prices, pool: &mut 
             &mut oracle.answer,
         );
         oracle.earned.push(oracle.answer.earned);
-        add_given(&mut oracle.given, flow, &oracle.answer.response);
+        add_response_totals(&mut oracle.given, flow, &oracle.answer.response);
         let kept = keep_answer(pool, case, number, &oracle.answer.response);
         is_new = is_new || kept;
     }

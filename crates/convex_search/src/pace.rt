@@ -60,14 +60,14 @@ pub struct Outcome {
 }
 
 /// What counts as near at a dual value, in the currency.
-pub fn near_of(value: f64) -> f64 {
+pub fn nearness_at_value(value: f64) -> f64 {
     NEAR.max(NEAR_SHARE * value.abs())
 }
 
 /// How a search begins: with the dual value and the bound of its opening, and the sum of the
 /// squares of what the answers lack there.
 pub fn begin_pace(value: f64, bound: f64, squares: f64) -> Pace {
-    let near = near_of(value);
+    let near = nearness_at_value(value);
     let gap = (bound - value).max(near);
     Pace {
         near,

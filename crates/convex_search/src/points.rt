@@ -16,7 +16,7 @@ use uc_model::units::Prices;
 pub const HIGHEST: f64 = 10_000.0;
 
 // Rounds prices to whole ones, none below a least one.
-fn round_to(from: &[f64], low: i64, into: &mut Numbers)
+fn round_prices_of_list(from: &[f64], low: i64, into: &mut Numbers)
     requires rows { length into.old.items ≤ length from.now }
     requires low { IsFrom (neg_ℤ price_limit) price_limit low }
     requires limits { All (IsFrom low price_limit) into.old.items }
@@ -34,12 +34,12 @@ pub fn round_prices(point: &[f64], into: &mut Prices)
     ensures { length (prices_of into.new).energy ≡ length (prices_of into.old).energy }
 {
     let periods = into.energy.len();
-    round_to(&point[..periods], -PRICE_LIMIT, &mut into.energy);
-    round_to(&point[periods..], 0, &mut into.reserve);
+    round_prices_of_list(&point[..periods], -PRICE_LIMIT, &mut into.energy);
+    round_prices_of_list(&point[periods..], 0, &mut into.reserve);
 }
 
 /// Leaves prices as a point.
-pub fn read_prices(prices: &Prices, into: &mut [f64])
+pub fn write_prices_as_point(prices: &Prices, into: &mut [f64])
     requires { length into.old ≡ 2 * length (prices_of prices.now).energy }
 {
     let periods = prices.energy.len();

@@ -8,7 +8,7 @@ ghost use Rattle.convex_search.specs.FoundPrices.{IsNear};
 ghost use Rattle.bundle_columns.specs.Pools.{places_in};
 ghost use Rattle.convex_search.specs.Searching.{IsSearch};
 
-use crate::best::{Best, is_near, is_within};
+use crate::best::{Best, is_bound_within, is_near};
 use crate::bounds::{bound_of_columns, take_columns};
 use crate::goals::Goal;
 use crate::pace::{Outcome, Pace, begin_pace};
@@ -81,7 +81,7 @@ pub fn go_to_centre(search: &mut Search, case: &Case)
     }
 }
 
-fn read_point(search: &mut Search, case: &Case)
+fn take_master_prices(search: &mut Search, case: &Case)
     requires { IsSearch (market_of case.now) (places_in search.old.pool) search.old }
     ensures { IsSearch (market_of case.now) (places_in search.old.pool) search.new }
 {
@@ -104,7 +104,7 @@ fn prove_bound(search: &mut Search, case: &Case)
 }
 
 // How often a round asks beside: the more, the fewer units there are for the rows.
-fn way_count(case: &Case) -> usize
+fn trial_count(case: &Case) -> usize
     ensures { result ≤ 12 }
 {
     let thermal = case.thermal.len();
@@ -122,7 +122,7 @@ fn ask_on_ways(search: &mut Search, case: &Case) -> Asked
 {
     let mut asked = ask_at_point(search, case);
     let mut best = 1.0;
-    for way in 0..way_count(case) {
+    for way in 0..trial_count(case) {
         go_through(&search.centre, &search.point, WAYS[way], &mut search.trial);
         let other = ask_at_trial(search, case);
         asked.is_new = asked.is_new || other.is_new;
@@ -154,7 +154,7 @@ fn make_round(search: &mut Search, case: &Case, pace: &mut Pace)
         pace.shorten();
         return;
     }
-    read_point(search, case);
+    take_master_prices(search, case);
     if pace.close {
         pace.late = pace.late.saturating_add(1);
         prove_bound(search, case);
@@ -180,7 +180,7 @@ fn is_done(best: &Best, within: i64, late: u32) -> bool
     ensures { IsTrue result → IsNear within best.now.bound best.now.value }
 {
     if late < LATE {
-        return is_within(best.bound, best.value, within);
+        return is_bound_within(best.bound, best.value, within);
     }
     is_near(best.bound, best.value, within)
 }

@@ -7,11 +7,11 @@ ghost use Rattle.convex_search.specs.FoundPrices.{IsNear};
 ghost use Rattle.bundle_columns.specs.Pools.{IsPool, places_in};
 ghost use Rattle.convex_search.specs.Searching.{IsSearch};
 
-use crate::best::{Best, is_enough, is_near, is_within};
+use crate::best::{Best, is_bound_near_value, is_bound_within, is_near};
 use crate::bounds::{bound_of_columns, take_columns};
 use crate::goals::Goal;
-use crate::pace::near_of;
-use crate::points::read_prices;
+use crate::pace::nearness_at_value;
+use crate::points::write_prices_as_point;
 use crate::rounds::go_to_centre;
 use crate::search::{Search, in_currency};
 use bundle_columns::copies::copy_mixture;
@@ -54,7 +54,7 @@ const RIDGE: f64 = 1e-4;
 const STEPS: usize = 150;
 
 // Writes the weights without those below a threshold, the others grown to the whole.
-fn write_wanted(entries: &Entries, threshold: i64, wanted: &mut Numbers)
+fn write_wanted_weights(entries: &Entries, threshold: i64, wanted: &mut Numbers)
     requires { length wanted.old.items ≡ length entries.now.items }
     ensures { length wanted.new.items ≡ length wanted.old.items }
 {
@@ -64,23 +64,23 @@ fn write_wanted(entries: &Entries, threshold: i64, wanted: &mut Numbers)
             kept += nearest_i64_to_f64(entry.weight);
         }
     }
-    for place in 0..wanted.len() {
-        let weight = weight_at(entries, place);
+    for index in 0..wanted.len() {
+        let weight = weight_at(entries, index);
         let mut grown = 0;
         if weight >= threshold {
             grown = floor_within(1e12 * (nearest_i64_to_f64(weight) / kept) + 0.5, 0, WHOLE);
         }
-        wanted.set(place, grown);
+        wanted.set(index, grown);
     }
 }
 
 // Leaves out the entries of a unit that are below a threshold.
-fn leave_out_of(pool: &mut Pool, case: &Case, number: usize, threshold: i64)
+fn leave_out_of_unit(pool: &mut Pool, case: &Case, number: usize, threshold: i64)
     requires pool { IsPool (market_of case.now) (places_in pool.old) pool.old }
     requires number { number < length (market_of case.now).thermal }
     ensures { IsPool (market_of case.now) (places_in pool.old) pool.new }
 {
-    write_wanted(
+    write_wanted_weights(
         pool.columns.thermal.get(number),
         threshold,
         &mut pool.wanted,
@@ -89,12 +89,12 @@ fn leave_out_of(pool: &mut Pool, case: &Case, number: usize, threshold: i64)
 }
 
 // Leaves out, unit by unit, the columns below the threshold.
-fn leave_out(pool: &mut Pool, case: &Case, threshold: i64)
+fn leave_out_columns(pool: &mut Pool, case: &Case, threshold: i64)
     requires { IsPool (market_of case.now) (places_in pool.old) pool.old }
     ensures { IsPool (market_of case.now) (places_in pool.old) pool.new }
 {
     for number in 0..case.thermal.len() {
-        leave_out_of(pool, case, number, threshold);
+        leave_out_of_unit(pool, case, number, threshold);
     }
 }
 
@@ -105,17 +105,17 @@ fn most_distance(best: &Best, within: i64) -> i128
 {
     let distance = best.bound - best.value;
     let grown = distance + distance / 10;
-    if is_within(best.bound, best.value, within) {
+    if is_bound_within(best.bound, best.value, within) {
         return i128::from(within);
     }
-    if is_enough(best.bound, best.value) {
+    if is_bound_near_value(best.bound, best.value) {
         return grown.min(best.value.abs() / 1_000_000);
     }
     grown
 }
 
 // Whether a bound may stand in place of a lesser one: a search that has ended early stays near.
-fn may_take(best: &Best, bound: i128, most: i128, goal: Goal, made: u32) -> bool
+fn may_take_bound(best: &Best, bound: i128, most: i128, goal: Goal, made: u32) -> bool
     requires bound { IsBound bound }
     requires value { IsWorth best.now.value }
     ensures { IsTrue result → made < goal.rounds → IsNear goal.within bound best.now.value }
@@ -130,7 +130,7 @@ fn may_take(best: &Best, bound: i128, most: i128, goal: Goal, made: u32) -> bool
 }
 
 // Takes the columns but for those below a threshold, where the bound allows it; tells whether it does.
-fn take_above(
+fn take_columns_above(
     search: &mut Search,
     case: &Case,
     threshold: i64,
@@ -145,9 +145,9 @@ fn take_above(
     ensures near { made < goal.rounds
         → IsNear goal.within search.new.best.bound search.new.best.value }
 {
-    leave_out(&mut search.pool, case, threshold);
+    leave_out_columns(&mut search.pool, case, threshold);
     let bound = bound_of_columns(search, case);
-    if !may_take(&search.best, bound, most, goal, made) {
+    if !may_take_bound(&search.best, bound, most, goal, made) {
         return false;
     }
     take_columns(search, case, bound);
@@ -166,12 +166,12 @@ fn solve_perturbed(search: &mut Search, case: &Case, most: i128) -> bool
     let left = (in_currency(most) - distance).max(0.0);
     let amount = PERTURBATION * left / in_megawatts(1000 * case.thermal.len() as i64).max(1.0);
     search.pool.master.perturb(amount);
-    read_prices(&search.best.prices, &mut search.centre);
+    write_prices_as_point(&search.best.prices, &mut search.centre);
     go_to_centre(search, case);
     search.pool.master.solve(Aim {
         ridge: RIDGE,
         accuracy: ACCURACY * amount,
-        wide: WIDE * near_of(value),
+        wide: WIDE * nearness_at_value(value),
         strict: true,
         balance: BALANCE * left,
         steps: STEPS,
@@ -193,7 +193,7 @@ fn shorten_solution(search: &mut Search, case: &Case, most: i128, goal: Goal, ma
     }
     for step in 0..THRESHOLDS.len() {
         weigh_columns(&mut search.pool, case);
-        if take_above(search, case, THRESHOLDS[step], most, goal, made) {
+        if take_columns_above(search, case, THRESHOLDS[step], most, goal, made) {
             return true;
         }
     }
@@ -213,7 +213,7 @@ fn shorten_best(search: &mut Search, case: &Case, most: i128, goal: Goal, made: 
     for step in 0..THRESHOLDS.len() {
         let columns = &mut search.pool.columns;
         copy_mixture(case, places, &search.best.mixture, columns);
-        if take_above(search, case, THRESHOLDS[step], most, goal, made) {
+        if take_columns_above(search, case, THRESHOLDS[step], most, goal, made) {
             return;
         }
     }

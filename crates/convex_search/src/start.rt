@@ -11,7 +11,7 @@ use crate::best::Best;
 use crate::bounds::EVERYWHERE;
 use crate::opening::first_prices;
 use crate::oracle::{Oracle, answer_all};
-use crate::points::read_prices;
+use crate::points::write_prices_as_point;
 use crate::search::{Search, value_at};
 use bundle_columns::plans::plan_mixture;
 use bundle_columns::pool::{Pool, keep_column};
@@ -66,9 +66,9 @@ struct Range {
 }
 
 // What the renewable unit of a number gives.
-fn range_of(case: &Case, number: usize, k: usize) -> Range
+fn renewable_range(case: &Case, number: usize, k: usize) -> Range
     requires number { number < length (market_of case.now).flat }
-    requires place { k < (market_of case.now).periods }
+    requires index { k < (market_of case.now).periods }
 {
     let flat = &case.flat.get(number).flat;
     Range {
@@ -78,13 +78,13 @@ fn range_of(case: &Case, number: usize, k: usize) -> Range
 }
 
 // What all of them give.
-fn range_at(case: &Case, k: usize) -> Range
+fn renewable_range_in_period(case: &Case, k: usize) -> Range
     requires { k < (market_of case.now).periods }
 {
     let mut least = 0.0;
     let mut most = 0.0;
     for number in 0..case.flat.len() {
-        let range = range_of(case, number, k);
+        let range = renewable_range(case, number, k);
         least += range.least;
         most += range.most;
     }
@@ -94,7 +94,7 @@ fn range_at(case: &Case, k: usize) -> Range
 // The blocks of the bid of a number in a period.
 fn blocks_of(case: &Case, number: usize, k: usize) -> &[Block]
     requires number { number < length (market_of case.now).bids }
-    requires place { k < (market_of case.now).periods }
+    requires index { k < (market_of case.now).periods }
 {
     case.bids.get(number).bid.blocks.get(k).as_slice()
 }
@@ -108,7 +108,7 @@ fn write_due(master: &mut Master, case: &Case)
     for k in 0..periods {
         master.set_due(
             k,
-            in_megawatts(*case.demand.get(k)) - range_at(case, k).least,
+            in_megawatts(*case.demand.get(k)) - renewable_range_in_period(case, k).least,
         );
         master.set_due(periods + k, in_megawatts(*case.reserves.get(k)));
     }
@@ -123,7 +123,7 @@ fn add_renewable(master: &mut Master, case: &Case, room: usize) -> usize
 {
     let mut left = room;
     for k in 0..case.periods as usize {
-        let range = range_at(case, k);
+        let range = renewable_range_in_period(case, k);
         let amount = range.most - range.least;
         if amount > 0.0 && left > 0 {
             master.add_single(k, amount, 0.0);
@@ -136,7 +136,7 @@ fn add_renewable(master: &mut Master, case: &Case, room: usize) -> usize
 // Adds what blocks may take in a period. Tells how much room is left.
 fn add_blocks_at(master: &mut Master, case: &Case, blocks: &[Block], k: usize, room: usize) -> usize
     requires problem { IsProblem (market_of case.now) master.old.places master.old }
-    requires place { k < (market_of case.now).periods }
+    requires index { k < (market_of case.now).periods }
     requires room { room ≤ master.old.room }
     ensures room { result ≤ master.new.room }
     ensures problem { IsProblem (market_of case.now) master.old.places master.new }
@@ -288,7 +288,7 @@ pub fn open_search(alloc: Global, case: &Case, plan: &Plan) -> Result<Search, Al
     let mut centre = vec![in alloc; 0.0; rows]?;
     let point = vec![in alloc; 0.0; rows]?;
     let trial = vec![in alloc; 0.0; rows]?;
-    read_prices(&asked, &mut centre);
+    write_prices_as_point(&asked, &mut centre);
     Ok(Search {
         oracle,
         pool,

@@ -79,9 +79,9 @@ module _ (ps : List Point) (at value : ℤ) (bs : List Block) (end price : ℤ) 
               let g = goes_on y (omega (arith, ints, new)) (omega (arith, ints, high)) in
               let there : end +ℤ y ≡ x = omega (arith, ints) in
               let v = ap (envelope ps) there in
-              let place : x -ℤ at ≡ width_of bs +ℤ y = omega (arith, ints, ends) in
+              let index : x -ℤ at ≡ width_of bs +ℤ y = omega (arith, ints, ends) in
               let sum : rise_of bs +ℤ (b.price *ℤ y) ≡ envelope ps x -ℤ value = omega (arith, ints, h, g, v) in
-              ap (rise_at (bs ++ b ∷ [])) place ∙ rise_new bs b y built.blocks.widths (omega (arith, ints, new))
+              ap (rise_at (bs ++ b ∷ [])) index ∙ rise_new bs b y built.blocks.widths (omega (arith, ints, new))
               (omega (arith, ints, high)) ∙ ap Some sum
         ];
     blocks = record {

@@ -232,7 +232,7 @@ IsVertex-start q ps hq all start =
     }
 
 module _ (q : Point) (ps : List Point) (p : Point) (k t w : ℤ) (v : IsVertex ps k q) (e : IsEdge q (length ps) ps p t w)
-    (place : ℕ) (place_in : place < length ps) (p_is : point_at ps place ≡ p) where
+    (index : ℕ) (place_in : index < length ps) (p_is : point_at ps index ≡ p) where
   reached_at : net_at t p ≤ℤ net_at t q
   reached_at = let m = e.slope.meets in let z = e.slope.least in omega (arith, ints, m, z)
 
@@ -245,7 +245,7 @@ module _ (q : Point) (ps : List Point) (p : Point) (k t w : ℤ) (v : IsVertex p
             let r = e.rising in
             let same = ap (λ x. x.at) p_is in
             let s1 = ap (net_at k) p_is in
-            let d = v.last place place_in (omega (arith, ints, r, same)) in
+            let d = v.last index place_in (omega (arith, ints, r, same)) in
             let g = turn t k q p h (omega (arith, ints, r)) in
             let x = reached_at in
             absurd (omega (arith, ints, d, g, x, s1))

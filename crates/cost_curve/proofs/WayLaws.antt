@@ -13,12 +13,12 @@ module _ (ps : List Point) (from n : ℕ) where
   IsWayOn-passes (Some e) way low = record {
     later = way.later;
     within = omega (arith, way.within);
-    edge = IsEdge-passes (point_at ps from) ps n (point_at ps e.place) e.slope.price e.slope.width way.edge low;
+    edge = IsEdge-passes (point_at ps from) ps n (point_at ps e.index) e.slope.price e.slope.width way.edge low;
   }
 
   module _ (later : from < n) (s : Slope) (slope : IsSlope (point_at ps from) (point_at ps n) s.price s.width)
       (rising : (point_at ps from).at <ℤ (point_at ps n).at) (found : Option Edge) (way : IsWayOn ps from n found) where
-    pub LeadsOn-first : found ≡ None → LeadsOn ps from (n + 1) (record { place = n; slope = s })
+    pub LeadsOn-first : found ≡ None → LeadsOn ps from (n + 1) (record { index = n; slope = s })
     LeadsOn-first none = record {
       later = later;
       within = omega arith;
@@ -30,15 +30,15 @@ module _ (ps : List Point) (from n : ℕ) where
       old = subst (IsWayOn ps from n) found_is way
 
       pub LeadsOn-takes : AreCostPoints ps → n < length ps → IsBetter e.slope.price e.slope.width s.price s.width →
-          LeadsOn ps from (n + 1) (record { place = n; slope = s })
+          LeadsOn ps from (n + 1) (record { index = n; slope = s })
       LeadsOn-takes are lt better =
           let o = old in
           record {
             later = later;
             within = omega arith;
-            edge = IsEdge-takes (point_at ps from) ps n (point_at ps e.place) e.slope.price e.slope.width o.edge s.price
+            edge = IsEdge-takes (point_at ps from) ps n (point_at ps e.index) e.slope.price e.slope.width o.edge s.price
                 s.width slope rising
-                (ordered_powers ps are.ordered e.place n (omega (arith, o.within)) lt) better;
+                (ordered_powers ps are.ordered e.index n (omega (arith, o.within)) lt) better;
           }
 
       pub LeadsOn-keeps : IsWorse e.slope.price e.slope.width s.price s.width → LeadsOn ps from (n + 1) e
@@ -47,7 +47,7 @@ module _ (ps : List Point) (from n : ℕ) where
           record {
             later = o.later;
             within = omega (arith, o.within);
-            edge = IsEdge-keeps (point_at ps from) ps n (point_at ps e.place) e.slope.price e.slope.width o.edge s.price
+            edge = IsEdge-keeps (point_at ps from) ps n (point_at ps e.index) e.slope.price e.slope.width o.edge s.price
                 s.width slope rising worse;
           }
 

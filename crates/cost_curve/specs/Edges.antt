@@ -6,7 +6,7 @@ use Rattle.std.specs.Prelude.{MatchOption, List, length, slice_index_or}
 use Rattle.cost_curve.specs.declared.edges.Edge.{Edge}
 use Rattle.uc_model.specs.declared.units.Point.{Point}
 
--- the point at a place
+-- the point at an index
 abbrev pub point_at : List Point → ℕ → Point
 point_at ps k = slice_index_or ps k (record { at = pos 0; cost = pos 0 })
 
@@ -40,11 +40,11 @@ pub record IsEdge (q : Point) (n : ℕ) (ps : List Point) (p : Point) (price wid
 abbrev pub IsLast : Point → ℕ → List Point → Type 0
 IsLast q n ps = AllFirst n (λ (l : Point). l.at ≤ℤ q.at) ps
 
--- the edge leads on from the point at a place, as far as the first n points tell
+-- the edge leads on from the point at an index, as far as the first n points tell
 pub record LeadsOn (ps : List Point) (from n : ℕ) (e : Edge) : Type 0 where
-  pub later : from < e.place
-  pub within : e.place < n
-  pub edge : IsEdge (point_at ps from) n ps (point_at ps e.place) e.slope.price e.slope.width
+  pub later : from < e.index
+  pub within : e.index < n
+  pub edge : IsEdge (point_at ps from) n ps (point_at ps e.index) e.slope.price e.slope.width
 
 -- there is such an edge, or no point has more power
 abbrev pub IsWayOn : List Point → ℕ → ℕ → Option Edge → Type 0

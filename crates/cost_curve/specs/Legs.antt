@@ -14,7 +14,7 @@ pub record IsLeg (ps : List Point) (l : Leg) : Type 0 where
 -- the power is between its ends
 pub record IsOn (ps : List Point) (x : ℤ) (l : Leg) : Type 0 where
   pub above : (point_at ps l.from).at ≤ℤ x
-  pub below : MatchOption l.way ⊤ (λ e. x ≤ℤ (point_at ps e.place).at)
+  pub below : MatchOption l.way ⊤ (λ e. x ≤ℤ (point_at ps e.index).at)
 
 -- what is kept of the last power is such a leg, if there is one
 abbrev pub IsNear : List Point → Option Leg → Type 0

@@ -8,7 +8,7 @@ ghost use Rattle.cost_curve.specs.CostCurve.{AreCostPoints};
 ghost use Rattle.cost_curve.specs.Legs.{IsLeg, IsNear, IsOn};
 
 use crate::edges::{Edge, Slope};
-use crate::walk::{first_place, way_on};
+use crate::walk::{first_envelope_point, next_edge};
 use uc_model::laws::{envelope_is_greatest, power_costs_are_within};
 use uc_model::units::Point;
 
@@ -42,27 +42,27 @@ pub struct Leg {
 }
 
 // The leg that a power is on.
-fn leg_at(points: &[Point], x: i64) -> Leg
+fn leg_of_power(points: &[Point], x: i64) -> Leg
     requires points { AreCostPoints points.now }
     requires within { Spans points.now x x }
     ensures leg { IsLeg points.now result }
     ensures on { IsOn points.now x result }
 {
-    let mut from = first_place(points);
-    'walk: while let Some(edge) = way_on(points, from) {
-        if x <= points[edge.place].at {
+    let mut from = first_envelope_point(points);
+    'walk: while let Some(edge) = next_edge(points, from) {
+        if x <= points[edge.index].at {
             return Leg {
                 from,
                 way: Some(edge),
             };
         }
-        from = edge.place;
+        from = edge.index;
     }
     Leg { from, way: None }
 }
 
 // Whether a power is on a leg.
-fn is_on(points: &[Point], x: i64, leg: Leg) -> bool
+fn is_on_leg(points: &[Point], x: i64, leg: Leg) -> bool
     requires { IsLeg points.now leg }
     ensures { IsTrue result → IsOn points.now x leg }
 {
@@ -70,13 +70,13 @@ fn is_on(points: &[Point], x: i64, leg: Leg) -> bool
         return false;
     }
     match leg.way {
-        Some(edge) => x <= points[edge.place].at,
+        Some(edge) => x <= points[edge.index].at,
         None => true,
     }
 }
 
 // The cost of a power that is on a leg.
-fn cost_on(points: &[Point], x: i64, leg: Leg) -> i64
+fn cost_on_leg(points: &[Point], x: i64, leg: Leg) -> i64
     requires points { AreCostPoints points.now }
     requires within { Spans points.now x x }
     requires leg { IsLeg points.now leg }
@@ -101,12 +101,12 @@ pub fn envelope_at(points: &[Point], x: i64) -> i64
     ensures value { result ≡ envelope points.now x }
     ensures limit { IsCost result }
 {
-    cost_on(points, x, leg_at(points, x))
+    cost_on_leg(points, x, leg_of_power(points, x))
 }
 
 /// The same cost, found sooner where the power is on the leg in `near`, which is one of the same
 /// points: the one that the call before left there. Takes no memory.
-pub fn envelope_near(points: &[Point], x: i64, near: &mut Option<Leg>) -> i64
+pub fn envelope_from_leg(points: &[Point], x: i64, near: &mut Option<Leg>) -> i64
     requires points { AreCostPoints points.now }
     requires within { Spans points.now x x }
     requires near { IsNear points.now near.old }
@@ -115,11 +115,11 @@ pub fn envelope_near(points: &[Point], x: i64, near: &mut Option<Leg>) -> i64
     ensures near { IsNear points.now near.new }
 {
     if let Some(leg) = *near {
-        if is_on(points, x, leg) {
-            return cost_on(points, x, leg);
+        if is_on_leg(points, x, leg) {
+            return cost_on_leg(points, x, leg);
         }
     }
-    let leg = leg_at(points, x);
+    let leg = leg_of_power(points, x);
     *near = Some(leg);
-    cost_on(points, x, leg)
+    cost_on_leg(points, x, leg)
 }

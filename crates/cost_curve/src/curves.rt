@@ -5,7 +5,7 @@ ghost use Rattle.cost_curve.specs.Building.{extended};
 ghost use Rattle.cost_curve.specs.CostCurve.{AreCostPoints, IsCostCurve, CanEvaluate};
 
 use crate::edges::Slope;
-use crate::walk::{first_place, way_on};
+use crate::walk::{first_envelope_point, next_edge};
 use uc_model::laws::{envelope_is_greatest, power_costs_are_within};
 use uc_model::units::{Block, Blocks, Curve, Point};
 
@@ -60,17 +60,17 @@ pub fn curve_into(points: &[Point], into: &mut Curve)
 {
     envelope_is_greatest();
     power_costs_are_within();
-    let mut from = first_place(points);
+    let mut from = first_envelope_point(points);
     into.at = points[from].at;
     into.value = points[from].cost;
     into.blocks.clear();
-    'walk: while let Some(edge) = way_on(points, from) {
+    'walk: while let Some(edge) = next_edge(points, from) {
         push_edge(
             &mut into.blocks,
             &points[from],
-            &points[edge.place],
+            &points[edge.index],
             edge.slope,
         );
-        from = edge.place;
+        from = edge.index;
     }
 }

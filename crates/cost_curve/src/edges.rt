@@ -22,7 +22,7 @@ pub struct Slope {
 #[derive(Clone, Copy)]
 pub struct Edge {
     /// The place of the next point, from 0.
-    pub place: usize,
+    pub index: usize,
     /// The slope to it.
     pub slope: Slope,
 }

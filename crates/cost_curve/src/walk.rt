@@ -9,7 +9,7 @@ use crate::edges::{Edge, Slope};
 use uc_model::units::Point;
 
 // The slope from one point to another of more power.
-fn slope_of(from: &Point, to: &Point) -> Slope
+fn slope_between_points(from: &Point, to: &Point) -> Slope
     requires from_limits { IsPoint from.now }
     requires to_limits { IsPoint to.now }
     requires rising { from.now.at <ℤ to.now.at }
@@ -29,7 +29,7 @@ fn slope_of(from: &Point, to: &Point) -> Slope
 }
 
 // Whether a later point with the new slope is to be gone to in place of the one found.
-fn is_better(new: Slope, found: Slope) -> bool
+fn is_better_slope(new: Slope, found: Slope) -> bool
     ensures better { OnTrue result ((new.price <ℤ found.price)
         ⊎ ((new.price ≡ found.price) × (found.width ≤ℤ new.width))) }
     ensures worse { OnFalse result ((found.price <ℤ new.price)
@@ -42,25 +42,25 @@ fn is_better(new: Slope, found: Slope) -> bool
     }
 }
 
-// The better of the way on that is found and the one to the point at a place.
-fn better_way(points: &[Point], from: usize, found: Option<Edge>, place: usize) -> Option<Edge>
+// The better of the way on that is found and the one to the point at an index.
+fn better_edge(points: &[Point], from: usize, found: Option<Edge>, index: usize) -> Option<Edge>
     requires points { AreCostPoints points.now }
-    requires later { from < place }
-    requires within { place < length points.now }
-    requires found { IsWayOn points.now from place found }
-    ensures { IsWayOn points.now from (place + 1) result }
+    requires later { from < index }
+    requires within { index < length points.now }
+    requires found { IsWayOn points.now from index found }
+    ensures { IsWayOn points.now from (index + 1) result }
 {
     let start = &points[from];
-    let end = &points[place];
+    let end = &points[index];
     if end.at <= start.at {
         return found;
     }
-    let slope = slope_of(start, end);
+    let slope = slope_between_points(start, end);
     match found {
-        None => Some(Edge { place, slope }),
+        None => Some(Edge { index, slope }),
         Some(edge) => {
-            if is_better(slope, edge.slope) {
-                Some(Edge { place, slope })
+            if is_better_slope(slope, edge.slope) {
+                Some(Edge { index, slope })
             } else {
                 Some(edge)
             }
@@ -68,49 +68,49 @@ fn better_way(points: &[Point], from: usize, found: Option<Edge>, place: usize) 
     }
 }
 
-/// The way on from the point at a place, or None where no point has more power.
-pub fn way_on(points: &[Point], from: usize) -> Option<Edge>
+/// The way on from the point at an index, or None where no point has more power.
+pub fn next_edge(points: &[Point], from: usize) -> Option<Edge>
     requires points { AreCostPoints points.now }
     requires within { from < length points.now }
     ensures { IsWayOn points.now from (length points.now) result }
 {
     let mut found = None;
-    for place in from + 1..points.len() {
-        found = better_way(points, from, found, place);
+    for index in from + 1..points.len() {
+        found = better_edge(points, from, found, index);
     }
     found
 }
 
-// The place of the cheaper of the point found so far and the one at a place, if both have the least
+// The place of the cheaper of the point found so far and the one at an index, if both have the least
 // power.
-fn cheaper_place(points: &[Point], best: usize, place: usize) -> usize
+fn cheaper_point(points: &[Point], best: usize, index: usize) -> usize
     requires points { AreCostPoints points.now }
-    requires earlier { best < place }
-    requires within { place < length points.now }
-    requires start { IsStart (point_at points.now best) place points.now }
-    ensures within { result ≤ place }
-    ensures start { IsStart (point_at points.now result) (place + 1) points.now }
+    requires earlier { best < index }
+    requires within { index < length points.now }
+    requires start { IsStart (point_at points.now best) index points.now }
+    ensures within { result ≤ index }
+    ensures start { IsStart (point_at points.now result) (index + 1) points.now }
 {
     let found = &points[best];
-    let point = &points[place];
+    let point = &points[index];
     if found.at < point.at {
         return best;
     }
     if found.cost <= point.cost {
         return best;
     }
-    place
+    index
 }
 
 /// The place of the first point of the envelope: the cheapest of those of least power.
-pub fn first_place(points: &[Point]) -> usize
+pub fn first_envelope_point(points: &[Point]) -> usize
     requires { AreCostPoints points.now }
     ensures within { result < length points.now }
     ensures start { IsStart (point_at points.now result) (length points.now) points.now }
 {
     let mut best = 0;
-    for place in 1..points.len() {
-        best = cheaper_place(points, best, place);
+    for index in 1..points.len() {
+        best = cheaper_point(points, best, index);
     }
     best
 }

@@ -141,12 +141,12 @@ impl Matrix {
         requires base { length base.now ≡ self.old }
         ensures { self.new ≡ self.old }
     {
-        let place = self.waiting;
-        self.columns.set_difference(place, factor, list, base);
-        if place + 1 == GROUP {
+        let index = self.waiting;
+        self.columns.set_difference(index, factor, list, base);
+        if index + 1 == GROUP {
             self.add_waiting();
         } else {
-            self.waiting = place + 1;
+            self.waiting = index + 1;
         }
     }
 

@@ -43,13 +43,13 @@ IsWithinBlocks blocks power = pos power ≤ℤ width_of blocks
 abbrev pub bought_at : List Block → ℤ → ℕ → ℤ
 bought_at blocks price power = worth_of blocks (pos power) -ℤ (price *ℤ pos power)
 
--- the schedule with that power, on and without reserve, at a place
+-- the schedule with that power, on and without reserve, at an index
 abbrev pub with_power : Schedule → ℕ → ℕ → Schedule
-with_power s place power =
+with_power s index power =
     record {
-      on = slice_set s.on place true;
-      power = slice_set s.power place power;
-      reserve = slice_set s.reserve place 0;
+      on = slice_set s.on index true;
+      power = slice_set s.power index power;
+      reserve = slice_set s.reserve index 0;
     }
 
 -- what a block adds where its price is above the energy price, and nothing otherwise

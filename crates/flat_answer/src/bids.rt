@@ -12,11 +12,11 @@ ghost use Rattle.uc_model.specs.Ties.{IsLeast};
 ghost use Rattle.flat_answer.specs.Choices.{IsLeastChoice, IsWithinBlocks, bought_at, added_power};
 ghost use Rattle.flat_answer.specs.Choices.{added_gain, most_earned};
 
-use crate::choice::{PowerChoice, earned_at, keep_choice};
+use crate::choice::{PowerChoice, earnings_at_gain, write_choice};
 use uc_model::units::{Answered, Bid, Block, Prices};
 
 // The choice with a block more where it is worth more than it costs.
-fn choice_with(so_far: PowerChoice, block: &Block, price: i64) -> PowerChoice
+fn choice_with_block(so_far: PowerChoice, block: &Block, price: i64) -> PowerChoice
     requires block { IsBlock block.now }
     requires price { IsFrom (neg_ℤ price_limit) price_limit price }
     requires power { IsPower (pos so_far.power +ℤ added_power price block.now) }
@@ -30,12 +30,12 @@ fn choice_with(so_far: PowerChoice, block: &Block, price: i64) -> PowerChoice
     }
     PowerChoice {
         power: so_far.power + block.width as u32,
-        earned: so_far.earned + earned_at(block.price - price, block.width),
+        earned: so_far.earned + earnings_at_gain(block.price - price, block.width),
     }
 }
 
 // All blocks whose price is above the energy price.
-fn choice_of(blocks: &[Block], price: i64) -> PowerChoice
+fn choice_of_blocks(blocks: &[Block], price: i64) -> PowerChoice
     requires blocks { IsBlockList blocks.now }
     requires price { IsFrom (neg_ℤ price_limit) price_limit price }
     ensures { IsLeastChoice (IsWithinBlocks blocks.now) (bought_at blocks.now price) result.power
@@ -46,21 +46,21 @@ fn choice_of(blocks: &[Block], price: i64) -> PowerChoice
         earned: 0,
     };
     for block in blocks {
-        choice = choice_with(choice, block, price);
+        choice = choice_with_block(choice, block, price);
     }
     choice
 }
 
-// The choice of a period, whose place counts from 0.
-fn choice_in(bid: &Bid, prices: &Prices, place: usize) -> PowerChoice
+// The choice of a period, whose index counts from 0.
+fn bid_choice_in_period(bid: &Bid, prices: &Prices, index: usize) -> PowerChoice
     requires prices { length (prices_of prices.now).energy ≡ length (bid_of bid.now).blocks }
-    requires place { place < length (bid_of bid.now).blocks }
-    ensures { IsLeastChoice (IsWithinBlocks (blocks_at (bid_of bid.now) place))
-        (bought_at (blocks_at (bid_of bid.now) place) (int_at (prices_of prices.now).energy place))
+    requires index { index < length (bid_of bid.now).blocks }
+    ensures { IsLeastChoice (IsWithinBlocks (blocks_at (bid_of bid.now) index))
+        (bought_at (blocks_at (bid_of bid.now) index) (int_at (prices_of prices.now).energy index))
         result.power result.earned }
 {
-    let blocks = bid.blocks.get(place).as_slice();
-    choice_of(blocks, *prices.energy.get(place))
+    let blocks = bid.blocks.get(index).as_slice();
+    choice_of_blocks(blocks, *prices.energy.get(index))
 }
 
 /// Leaves in `into` the least best schedule of a bid at the prices, and what it earns: in each
@@ -76,7 +76,7 @@ pub fn best_bid(bid: &Bid, prices: &Prices, into: &mut Answered)
 {
     into.earned = 0;
     for k in 0..prices.energy.len() {
-        let choice = choice_in(bid, prices, k);
-        keep_choice(into, k, choice);
+        let choice = bid_choice_in_period(bid, prices, k);
+        write_choice(into, k, choice);
     }
 }

@@ -18,7 +18,7 @@ pub struct PowerChoice {
 }
 
 /// What so many kilowatts earn at so much for each: within 2 * 10^16 in magnitude.
-pub fn earned_at(gain: i64, power: i64) -> i64
+pub fn earnings_at_gain(gain: i64, power: i64) -> i64
     requires gain { IsFrom (neg_ℤ GAIN_LIMIT) GAIN_LIMIT gain }
     requires power { IsPower power }
     ensures value { result ≡ gain *ℤ power }
@@ -28,7 +28,7 @@ pub fn earned_at(gain: i64, power: i64) -> i64
 }
 
 /// A power at a price for each kilowatt.
-pub fn choice_at(price: i64, power: i64) -> PowerChoice
+pub fn choice_of_power(price: i64, power: i64) -> PowerChoice
     requires price { IsFrom (neg_ℤ price_limit) price_limit price }
     requires power { IsPower power }
     ensures power { pos result.power ≡ power }
@@ -37,23 +37,23 @@ pub fn choice_at(price: i64, power: i64) -> PowerChoice
 {
     PowerChoice {
         power: power as u32,
-        earned: earned_at(price, power),
+        earned: earnings_at_gain(price, power),
     }
 }
 
 /// Keeps the choice of a period: on with that power, no reserve, and what it earns added to what is
 /// earned so far.
-pub fn keep_choice(into: &mut Answered, place: usize, choice: PowerChoice)
-    requires place { place < length (schedule_of into.old.response).on }
+pub fn write_choice(into: &mut Answered, index: usize, choice: PowerChoice)
+    requires index { index < length (schedule_of into.old.response).on }
     requires so_far { IsFrom (neg_ℤ (pos 4000000000000000000)) (pos 4000000000000000000)
         into.old.earned }
     requires choice { IsEarnedInOne choice.earned }
     ensures schedule { schedule_of into.new.response
-        ≡ with_power (schedule_of into.old.response) place choice.power }
+        ≡ with_power (schedule_of into.old.response) index choice.power }
     ensures earned { into.new.earned ≡ into.old.earned +ℤ choice.earned }
 {
-    into.response.on.set(place, true);
-    into.response.power.set(place, choice.power);
-    into.response.reserve.set(place, 0);
+    into.response.on.set(index, true);
+    into.response.power.set(index, choice.power);
+    into.response.reserve.set(index, 0);
     into.earned += choice.earned;
 }

@@ -9,11 +9,11 @@ ghost use Rattle.plain_lists.specs.Sums.{int_at};
 ghost use Rattle.uc_model.specs.Ties.{IsLeast};
 ghost use Rattle.flat_answer.specs.Choices.{IsLeastChoice, IsBetween, sold_at};
 
-use crate::choice::{PowerChoice, choice_at, keep_choice};
+use crate::choice::{PowerChoice, choice_of_power, write_choice};
 use uc_model::units::{Answered, Prices, Renewable};
 
 // The greatest power where it is paid for, and the least otherwise.
-fn choice_between(least: i64, most: i64, price: i64) -> PowerChoice
+fn choice_within_range(least: i64, most: i64, price: i64) -> PowerChoice
     requires least { IsPower least }
     requires most { IsPower most }
     requires range { least ≤ℤ most }
@@ -21,23 +21,23 @@ fn choice_between(least: i64, most: i64, price: i64) -> PowerChoice
     ensures { IsLeastChoice (IsBetween least most) (sold_at price) result.power result.earned }
 {
     if price > 0 {
-        return choice_at(price, most);
+        return choice_of_power(price, most);
     }
-    choice_at(price, least)
+    choice_of_power(price, least)
 }
 
-// The choice of a period, whose place counts from 0.
-fn choice_in(flat: &Renewable, prices: &Prices, place: usize) -> PowerChoice
+// The choice of a period, whose index counts from 0.
+fn renewable_choice_in_period(flat: &Renewable, prices: &Prices, index: usize) -> PowerChoice
     requires prices { length (prices_of prices.now).energy ≡ length (renewable_of flat.now).least }
-    requires place { place < length (renewable_of flat.now).least }
+    requires index { index < length (renewable_of flat.now).least }
     ensures { IsLeastChoice
-        (IsBetween (int_at (renewable_of flat.now).least place)
-        (int_at (renewable_of flat.now).most place))
-        (sold_at (int_at (prices_of prices.now).energy place)) result.power result.earned }
+        (IsBetween (int_at (renewable_of flat.now).least index)
+        (int_at (renewable_of flat.now).most index))
+        (sold_at (int_at (prices_of prices.now).energy index)) result.power result.earned }
 {
-    let least = *flat.least.get(place);
-    let most = *flat.most.get(place);
-    choice_between(least, most, *prices.energy.get(place))
+    let least = *flat.least.get(index);
+    let most = *flat.most.get(index);
+    choice_within_range(least, most, *prices.energy.get(index))
 }
 
 /// Leaves in `into` the least best schedule of a renewable unit at the prices, and what it earns:
@@ -54,7 +54,7 @@ pub fn best_flat(flat: &Renewable, prices: &Prices, into: &mut Answered)
 {
     into.earned = 0;
     for k in 0..prices.energy.len() {
-        let choice = choice_in(flat, prices, k);
-        keep_choice(into, k, choice);
+        let choice = renewable_choice_in_period(flat, prices, k);
+        write_choice(into, k, choice);
     }
 }

@@ -57,7 +57,7 @@ module _ (m : Market) (rows : List Proposal) (centre : ℕ) (radius : ℤ) where
       bound ≤ℤ other →
       IsFirstLeast m rows centre radius (record { first = centre; last = centre }) bound
   centre_is_first bound other is least low = record {
-    place = 0;
+    index = 0;
     is = refl;
     bound_is = is;
     least = least_at bound other is least low;
@@ -107,7 +107,7 @@ module _ (m : Market) (rows : List Proposal) (centre : ℕ) (radius : ℤ) where
       ((j : ℕ) → 1 ≤ j → j < first → bound <ℤ bound_by (record { first = j; last = length rows })) → bound <ℤ alone →
       IsFirstLeast m rows centre radius (record { first = first; last = length rows }) bound
   back_is_first first bound alone there low high is least earlier better = record {
-    place = first;
+    index = first;
     is = place_is first low high;
     bound_is = is;
     least = back_least bound alone there least better;

@@ -58,9 +58,9 @@ weights_of periods whole es low h =
     let is = h.shares.whole_is in
     record { from_zero = h.shares.from_zero; whole = omega (arith, ints, is, low) }
 
-pub behind_of : (periods : ℕ) (whole : ℤ) (es : List WeighedSchedule) (place : ℕ) → place < periods →
-    AreEntries periods whole es → AreBehind place es
-behind_of periods whole es place lt h = λ k d low. let long = (h.over k d low).on in omega (arith, lt, long)
+pub behind_of : (periods : ℕ) (whole : ℤ) (es : List WeighedSchedule) (index : ℕ) → index < periods →
+    AreEntries periods whole es → AreBehind index es
+behind_of periods whole es index lt h = λ k d low. let long = (h.over k d low).on in omega (arith, lt, long)
 
 abbrev pub weight_of : WeighedSchedule → ℤ
 weight_of e = e.weight

@@ -37,12 +37,12 @@ candidates count centre =
 -- the first candidate with the least bound, and that bound
 pub record IsFirstLeast (m : Market) (rows : List Proposal) (centre : ℕ) (radius : ℤ)
     (range : RowRange) (bound : ℤ) : Type 0 where
-  pub place : ℕ
-  pub is : slice_get (candidates (length rows) centre) place ≡ Some range
+  pub index : ℕ
+  pub is : slice_get (candidates (length rows) centre) index ≡ Some range
   pub bound_is : bound ≡ range_bound m rows (prices_of_row rows centre) radius range
   pub least : (k : ℕ) (other : RowRange) →
       slice_get (candidates (length rows) centre) k ≡ Some other →
       bound ≤ℤ range_bound m rows (prices_of_row rows centre) radius other
-  pub earlier : (k : ℕ) (other : RowRange) → k < place →
+  pub earlier : (k : ℕ) (other : RowRange) → k < index →
       slice_get (candidates (length rows) centre) k ≡ Some other →
       bound <ℤ range_bound m rows (prices_of_row rows centre) radius other

@@ -15,7 +15,7 @@ use Rattle.uc_model.specs.Limits.{price_limit}
 use Rattle.uc_model.specs.PriceRule.{Proposal}
 use Rattle.plain_lists.specs.Sums.{int_at, total, sum_below, floor_div, zip_with}
 
--- the price at a place, and the lowest that it may be; the highest is one for all
+-- the price at an index, and the lowest that it may be; the highest is one for all
 abbrev pub price_at : Market → PriceLists → ℕ → ℤ
 price_at m π j =
     if nat_lt j m.periods then int_at π.energy j else int_at π.reserve (j - m.periods)

@@ -10,10 +10,10 @@ pub record AreUnitWeights (entries : List WeighedSchedule) : Type 0 where
   pub from_zero : All (λ (e : WeighedSchedule). pos 0 ≤ℤ e.weight) entries
   pub whole : total (map (λ (e : WeighedSchedule). e.weight) entries) ≤ℤ most_whole
 
--- each schedule has an entry at a place
+-- each schedule has an entry at an index
 abbrev pub AreBehind : ℕ → List WeighedSchedule → Type 0
-AreBehind place entries =
-    All (λ (e : WeighedSchedule). place < length e.schedule.on) entries
+AreBehind index entries =
+    All (λ (e : WeighedSchedule). index < length e.schedule.on) entries
 
 -- kilowatts that one unit gives, each as often as its weight says, and those of all units
 abbrev pub IsGivenByOne : ℤ → Type 0

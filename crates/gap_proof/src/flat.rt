@@ -16,29 +16,29 @@ ghost use Rattle.gap_proof.specs.MixtureSizes.{IsFlat};
 use uc_model::cases::Case;
 use uc_model::units::{Block, Renewable};
 
-// What a renewable unit earns at best at a place.
-fn renewable_earnings(flat: &Renewable, place: usize, price: i64) -> i64
-    requires place { place < length (renewable_of flat.now).least }
+// What a renewable unit earns at best at an index.
+fn renewable_earnings(flat: &Renewable, index: usize, price: i64) -> i64
+    requires index { index < length (renewable_of flat.now).least }
     requires price { IsFrom (neg_ℤ price_limit) price_limit price }
-    ensures value { result ≡ best_sold (renewable_of flat.now) place price }
+    ensures value { result ≡ best_sold (renewable_of flat.now) index price }
     ensures limit { IsUpTo 10000000000000000 result }
 {
-    let by_least = price * *flat.least.get(place);
-    let by_most = price * *flat.most.get(place);
+    let by_least = price * *flat.least.get(index);
+    let by_most = price * *flat.most.get(index);
     by_least.max(by_most)
 }
 
-// What all renewable units earn at best at a place.
-fn renewables_at(case: &Case, place: usize, price: i64) -> i128
-    requires place { place < (market_of case.now).periods }
+// What all renewable units earn at best at an index.
+fn renewables_at(case: &Case, index: usize, price: i64) -> i128
+    requires index { index < (market_of case.now).periods }
     requires price { IsFrom (neg_ℤ price_limit) price_limit price }
-    ensures value { result ≡ total (map (λ (n : NamedRenewableUnit). best_sold n.unit place price)
+    ensures value { result ≡ total (map (λ (n : NamedRenewableUnit). best_sold n.unit index price)
         (market_of case.now).flat) }
     ensures limit { IsUpTo 41000000000000000000 result }
 {
     let mut sum: i128 = 0;
     for number in 0..case.flat.len() {
-        sum += i128::from(renewable_earnings(&case.flat.get(number).flat, place, price));
+        sum += i128::from(renewable_earnings(&case.flat.get(number).flat, index, price));
     }
     sum
 }
@@ -68,28 +68,28 @@ fn bid_earnings(blocks: &[Block], price: i64) -> i64
     sum
 }
 
-// What all bids earn at best at a place.
-fn bids_at(case: &Case, place: usize, price: i64) -> i128
-    requires place { place < (market_of case.now).periods }
+// What all bids earn at best at an index.
+fn bids_at(case: &Case, index: usize, price: i64) -> i128
+    requires index { index < (market_of case.now).periods }
     requires price { IsFrom (neg_ℤ price_limit) price_limit price }
-    ensures value { result ≡ total (map (λ (n : NamedBidUnit). best_bought (blocks_at n.unit place)
+    ensures value { result ≡ total (map (λ (n : NamedBidUnit). best_bought (blocks_at n.unit index)
         price) (market_of case.now).bids) }
     ensures limit { IsUpTo 82000000000000000000 result }
 {
     let mut sum: i128 = 0;
     for number in 0..case.bids.len() {
-        let blocks = case.bids.get(number).bid.blocks.get(place).as_slice();
+        let blocks = case.bids.get(number).bid.blocks.get(index).as_slice();
         sum += i128::from(bid_earnings(blocks, price));
     }
     sum
 }
 
-/// What all renewable units and bids earn at best at a place, in money.
-pub fn flat_at(case: &Case, place: usize, price: i64) -> i128
-    requires place { place < (market_of case.now).periods }
+/// What all renewable units and bids earn at best at an index, in money.
+pub fn flat_at(case: &Case, index: usize, price: i64) -> i128
+    requires index { index < (market_of case.now).periods }
     requires price { IsFrom (neg_ℤ price_limit) price_limit price }
-    ensures value { result ≡ flat_of (market_of case.now) place price }
+    ensures value { result ≡ flat_of (market_of case.now) index price }
     ensures limit { IsFlat result }
 {
-    renewables_at(case, place, price) + bids_at(case, place, price)
+    renewables_at(case, index, price) + bids_at(case, index, price)
 }

@@ -16,49 +16,49 @@ ghost use Rattle.gap_proof.specs.MixtureSizes.{IsBound};
 use crate::mixture_sums::{cost_of_mixture, lacks_at};
 use crate::mixtures::Mixture;
 use crate::plane_sums::{high_end_of_price, low_end_of_price};
-use crate::wide::quotient_of;
-use crate::worst::{Interval, Lack, most_energy, most_reserve};
+use crate::wide::floor_quotient;
+use crate::worst::{Interval, Lack, most_energy_term, most_reserve_term};
 use uc_model::cases::Case;
 use uc_model::units::Prices;
 
 // The interval of a price of the box.
-fn price_interval(case: &Case, centre: &Prices, radius: i64, place: usize) -> Interval
+fn price_interval(case: &Case, centre: &Prices, radius: i64, index: usize) -> Interval
     requires horizon { length (prices_of centre.now).energy ≡ (market_of case.now).periods }
     requires radius { IsRadius radius }
-    requires place { place < 2 * (market_of case.now).periods }
-    ensures low { result.low ≡ low_end (market_of case.now) (prices_of centre.now) radius place }
-    ensures high { result.high ≡ high_end (market_of case.now) (prices_of centre.now) radius place }
+    requires index { index < 2 * (market_of case.now).periods }
+    ensures low { result.low ≡ low_end (market_of case.now) (prices_of centre.now) radius index }
+    ensures high { result.high ≡ high_end (market_of case.now) (prices_of centre.now) radius index }
     ensures low_limit { IsFrom (neg_ℤ price_limit) price_limit result.low }
     ensures high_limit { IsFrom (neg_ℤ price_limit) price_limit result.high }
     ensures ordered { result.low ≤ℤ result.high }
 {
     Interval {
-        low: low_end_of_price(case, centre, radius, place),
-        high: high_end_of_price(case, centre, radius, place),
+        low: low_end_of_price(case, centre, radius, index),
+        high: high_end_of_price(case, centre, radius, index),
     }
 }
 
-// The most that the prices of the period of a place add.
-fn most_at(case: &Case, mixture: &Mixture, centre: &Prices, radius: i64, place: usize) -> i128
+// The most that the prices of the period at an index add.
+fn most_at(case: &Case, mixture: &Mixture, centre: &Prices, radius: i64, index: usize) -> i128
     requires shape { HasMixtureShape (market_of case.now) (mixture_of mixture.now) }
     requires horizon { length (prices_of centre.now).energy ≡ (market_of case.now).periods }
     requires radius { IsRadius radius }
-    requires place { place < (market_of case.now).periods }
+    requires index { index < (market_of case.now).periods }
     ensures value { result ≡ most_energy_of (market_of case.now) (mixture_of mixture.now)
-        (prices_of centre.now) radius place
+        (prices_of centre.now) radius index
         +ℤ most_reserve_of (market_of case.now) (mixture_of mixture.now) (prices_of centre.now)
-        radius place }
+        radius index }
     ensures limit { IsUpTo 500000000000000000000000000000000 result }
 {
-    let lacks = lacks_at(case, mixture, place);
+    let lacks = lacks_at(case, mixture, index);
     let lack = Lack {
-        place,
+        index,
         weight: mixture.weight,
         power: lacks.power,
     };
-    let energy = price_interval(case, centre, radius, place);
-    let reserve = price_interval(case, centre, radius, case.periods as usize + place);
-    most_energy(case, lack, energy) + most_reserve(lacks.reserve, reserve)
+    let energy = price_interval(case, centre, radius, index);
+    let reserve = price_interval(case, centre, radius, case.periods as usize + index);
+    most_energy_term(case, lack, energy) + most_reserve_term(lacks.reserve, reserve)
 }
 
 /// The bound on the dual value of all prices in a box, by a mixture: no whole prices within the
@@ -76,8 +76,8 @@ pub fn bound_of_mixture(case: &Case, mixture: &Mixture, centre: &Prices, radius:
     ensures limit { IsBound result }
 {
     let mut sum = cost_of_mixture(case, mixture);
-    for place in 0..case.periods as usize {
-        sum += most_at(case, mixture, centre, radius, place);
+    for index in 0..case.periods as usize {
+        sum += most_at(case, mixture, centre, radius, index);
     }
-    quotient_of(sum, mixture.weight)
+    floor_quotient(sum, mixture.weight)
 }

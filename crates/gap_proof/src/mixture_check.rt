@@ -43,8 +43,8 @@ fn check_entries(unit: &Unit, entries: &[Entry], number: u32) -> Result<(), Entr
     ensures { FindsEntry (entry_refusals (length (thermal_of unit.now).window) number
         (thermal_of unit.now) 1 (map entry_of entries.now)) result }
 {
-    for (place, entry) in entries.iter().enumerate() {
-        check_entry(unit, entry, number, place as u64 + 1)?;
+    for (index, entry) in entries.iter().enumerate() {
+        check_entry(unit, entry, number, index as u64 + 1)?;
     }
     Ok(())
 }
@@ -54,10 +54,10 @@ fn check_all(case: &Case, mixture: &Mixture) -> Result<(), EntryFault>
     requires { HasMixtureShape (market_of case.now) (mixture_of mixture.now) }
     ensures { FindsEntry (mixture_refusals (market_of case.now) (mixture_of mixture.now)) result }
 {
-    for place in 0..case.thermal.len() {
-        let unit = &case.thermal.get(place).unit;
-        let entries = mixture.thermal.get(place).as_slice();
-        check_entries(unit, entries, place as u32 + 1)?;
+    for index in 0..case.thermal.len() {
+        let unit = &case.thermal.get(index).unit;
+        let entries = mixture.thermal.get(index).as_slice();
+        check_entries(unit, entries, index as u32 + 1)?;
     }
     Ok(())
 }

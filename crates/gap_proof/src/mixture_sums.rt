@@ -17,7 +17,7 @@ ghost use Rattle.gap_proof.specs.MixtureSizes.{AreUnitWeights, AreBehind, IsGive
 ghost use Rattle.gap_proof.specs.MixtureSizes.{IsLack, IsCostOfOne, IsMixtureCost};
 
 use crate::mixtures::{Entry, Mixture};
-use crate::wide::product_of;
+use crate::wide::wide_product;
 use plan_check::costs::{costs_of_starts, power_costs};
 use uc_model::cases::Case;
 use uc_model::units::{Response, Unit};
@@ -32,15 +32,15 @@ pub struct Weighed {
 }
 
 // What is given with one more entry.
-fn with_entry(given: Weighed, entry: &Entry, place: usize) -> Weighed
-    requires place { place < length (entry_of entry.now).schedule.on }
+fn given_with_entry(given: Weighed, entry: &Entry, index: usize) -> Weighed
+    requires index { index < length (entry_of entry.now).schedule.on }
     requires weight { IsFrom (pos 0) most_whole entry.now.weight }
     requires power { IsGivenByOne given.power }
     requires reserve { IsGivenByOne given.reserve }
     ensures power { result.power ≡ given.power
-        +ℤ (entry.now.weight *ℤ power_in (entry_of entry.now).schedule (suc place)) }
+        +ℤ (entry.now.weight *ℤ power_in (entry_of entry.now).schedule (suc index)) }
     ensures reserve { result.reserve ≡ given.reserve
-        +ℤ (entry.now.weight *ℤ reserve_in (entry_of entry.now).schedule (suc place)) }
+        +ℤ (entry.now.weight *ℤ reserve_in (entry_of entry.now).schedule (suc index)) }
     ensures power_limit { IsFrom given.power
         (given.power +ℤ (pos 4294967296 *ℤ entry.now.weight)) result.power }
     ensures reserve_limit { IsFrom given.reserve
@@ -48,19 +48,19 @@ fn with_entry(given: Weighed, entry: &Entry, place: usize) -> Weighed
 {
     let response = &entry.response;
     Weighed {
-        power: given.power + product_of(entry.weight, response.power_at(place)),
-        reserve: given.reserve + product_of(entry.weight, response.reserve_at(place)),
+        power: given.power + wide_product(entry.weight, response.power_at(index)),
+        reserve: given.reserve + wide_product(entry.weight, response.reserve_at(index)),
     }
 }
 
-// What the entries of one unit give at a place.
-fn given_by(entries: &[Entry], place: usize) -> Weighed
+// What the entries of one unit give at an index.
+fn given_by_entries(entries: &[Entry], index: usize) -> Weighed
     requires weights { AreUnitWeights (map entry_of entries.now) }
-    requires place { AreBehind place (map entry_of entries.now) }
+    requires index { AreBehind index (map entry_of entries.now) }
     ensures power { result.power
-        ≡ weighed (λ s. power_in s (suc place)) (map entry_of entries.now) }
+        ≡ weighed (λ s. power_in s (suc index)) (map entry_of entries.now) }
     ensures reserve { result.reserve
-        ≡ weighed (λ s. reserve_in s (suc place)) (map entry_of entries.now) }
+        ≡ weighed (λ s. reserve_in s (suc index)) (map entry_of entries.now) }
     ensures power_limit { IsFrom (pos 0) (pos 4294967296000000000000) result.power }
     ensures reserve_limit { IsFrom (pos 0) (pos 4294967296000000000000) result.reserve }
 {
@@ -69,18 +69,18 @@ fn given_by(entries: &[Entry], place: usize) -> Weighed
         reserve: 0,
     };
     for entry in entries {
-        given = with_entry(given, entry, place);
+        given = given_with_entry(given, entry, index);
     }
     given
 }
 
-// What the mixture gives at a place.
-fn given_at(case: &Case, mixture: &Mixture, place: usize) -> Weighed
+// What the mixture gives at an index.
+fn given_by_mixture(case: &Case, mixture: &Mixture, index: usize) -> Weighed
     requires shape { HasMixtureShape (market_of case.now) (mixture_of mixture.now) }
-    requires place { place < (market_of case.now).periods }
-    ensures power { result.power ≡ weighed_over (λ u s. supply_in u s (suc place))
+    requires index { index < (market_of case.now).periods }
+    ensures power { result.power ≡ weighed_over (λ u s. supply_in u s (suc index))
         (market_of case.now) (mixture_of mixture.now) }
-    ensures reserve { result.reserve ≡ weighed_over (λ u s. reserve_in s (suc place))
+    ensures reserve { result.reserve ≡ weighed_over (λ u s. reserve_in s (suc index))
         (market_of case.now) (mixture_of mixture.now) }
     ensures power_limit { IsGiven result.power }
     ensures reserve_limit { IsGiven result.reserve }
@@ -90,7 +90,7 @@ fn given_at(case: &Case, mixture: &Mixture, place: usize) -> Weighed
         reserve: 0,
     };
     for unit in 0..case.thermal.len() {
-        let more = given_by(mixture.thermal.get(unit).as_slice(), place);
+        let more = given_by_entries(mixture.thermal.get(unit).as_slice(), index);
         given = Weighed {
             power: given.power + more.power,
             reserve: given.reserve + more.reserve,
@@ -107,28 +107,28 @@ fn weighted_lack(weight: i64, required: i64, given: i128) -> i128
     ensures value { result ≡ (weight *ℤ required) -ℤ given }
     ensures limit { IsLack result }
 {
-    product_of(weight, required) - given
+    wide_product(weight, required) - given
 }
 
-/// What the mixture lacks of demand and of the required reserve at a place, as often as its weight
+/// What the mixture lacks of demand and of the required reserve at an index, as often as its weight
 /// says: below 0 where it gives more.
-pub fn lacks_at(case: &Case, mixture: &Mixture, place: usize) -> Weighed
+pub fn lacks_at(case: &Case, mixture: &Mixture, index: usize) -> Weighed
     requires shape { HasMixtureShape (market_of case.now) (mixture_of mixture.now) }
-    requires place { place < (market_of case.now).periods }
-    ensures power { result.power ≡ lack (market_of case.now) (mixture_of mixture.now) place }
-    ensures reserve { result.reserve ≡ short (market_of case.now) (mixture_of mixture.now) place }
+    requires index { index < (market_of case.now).periods }
+    ensures power { result.power ≡ lack (market_of case.now) (mixture_of mixture.now) index }
+    ensures reserve { result.reserve ≡ short (market_of case.now) (mixture_of mixture.now) index }
     ensures power_limit { IsLack result.power }
     ensures reserve_limit { IsLack result.reserve }
 {
-    let given = given_at(case, mixture, place);
+    let given = given_by_mixture(case, mixture, index);
     Weighed {
-        power: weighted_lack(mixture.weight, *case.demand.get(place), given.power),
-        reserve: weighted_lack(mixture.weight, *case.reserves.get(place), given.reserve),
+        power: weighted_lack(mixture.weight, *case.demand.get(index), given.power),
+        reserve: weighted_lack(mixture.weight, *case.reserves.get(index), given.reserve),
     }
 }
 
 // What a feasible schedule costs.
-fn cost_of_one(unit: &Unit, response: &Response) -> i64
+fn cost_of_schedule(unit: &Unit, response: &Response) -> i64
     requires horizon { length (schedule_of response.now).on ≤ MOST_PERIODS }
     requires feasible { IsThermalFeasible (thermal_of unit.now)
         (length (schedule_of response.now).on) (schedule_of response.now) }
@@ -150,7 +150,7 @@ fn cost_of_entries(unit: &Unit, entries: &[Entry]) -> i128
 {
     let mut sum: i128 = 0;
     for entry in entries {
-        sum += product_of(entry.weight, cost_of_one(unit, &entry.response));
+        sum += wide_product(entry.weight, cost_of_schedule(unit, &entry.response));
     }
     sum
 }
@@ -163,9 +163,9 @@ pub fn cost_of_mixture(case: &Case, mixture: &Mixture) -> i128
     ensures limit { IsMixtureCost result }
 {
     let mut sum: i128 = 0;
-    for place in 0..case.thermal.len() {
-        let unit = &case.thermal.get(place).unit;
-        sum += cost_of_entries(unit, mixture.thermal.get(place).as_slice());
+    for index in 0..case.thermal.len() {
+        let unit = &case.thermal.get(index).unit;
+        sum += cost_of_entries(unit, mixture.thermal.get(index).as_slice());
     }
     sum
 }

@@ -16,7 +16,7 @@ ghost use Rattle.gap_proof.specs.PlaneSums.{IsRiseSum};
 ghost use Rattle.gap_proof.specs.PlaneSums.{least_bound, most_bound};
 
 use crate::planes::{add_slopes, height_of_row, price_at_place};
-use crate::wide::quotient_of;
+use crate::wide::floor_quotient;
 use plain_lists::lists::Amounts;
 use uc_model::cases::{Case, Row};
 use uc_model::limits::PRICE_LIMIT;
@@ -37,8 +37,8 @@ pub fn clear_slopes(slopes: &mut Amounts)
     ensures zeros { (j : ℕ) → j < length slopes.old.items → int_at slopes.new.items j ≡ pos 0 }
     ensures spare { slopes.new.spare ≡ slopes.old.spare }
 {
-    for place in 0..slopes.len() {
-        slopes.set(place, 0);
+    for index in 0..slopes.len() {
+        slopes.set(index, 0);
     }
 }
 
@@ -77,12 +77,12 @@ pub fn add_row(case: &Case, row: &Row, weight: i64, sums: Sums, slopes: &mut Amo
     }
 }
 
-// The lowest that the price at a place may be.
-fn least_price_at(case: &Case, place: usize) -> i64
-    ensures value { result ≡ lowest_price (market_of case.now) place }
+// The lowest that the price at an index may be.
+fn least_price_at(case: &Case, index: usize) -> i64
+    ensures value { result ≡ lowest_price (market_of case.now) index }
     ensures limits { IsFrom (neg_ℤ price_limit) (pos 0) result }
 {
-    if place < case.periods as usize {
+    if index < case.periods as usize {
         return -PRICE_LIMIT;
     }
     0
@@ -90,25 +90,25 @@ fn least_price_at(case: &Case, place: usize) -> i64
 
 /// The lower end of a price's interval: within the radius of the centre's price, and within the
 /// limits. Places count the energy prices and then the reserve prices, from 0.
-pub fn low_end_of_price(case: &Case, centre: &Prices, radius: i64, place: usize) -> i64
+pub fn low_end_of_price(case: &Case, centre: &Prices, radius: i64, index: usize) -> i64
     requires horizon { length (prices_of centre.now).energy ≡ (market_of case.now).periods }
     requires radius { IsRadius radius }
-    requires place { place < 2 * (market_of case.now).periods }
-    ensures value { result ≡ low_end (market_of case.now) (prices_of centre.now) radius place }
+    requires index { index < 2 * (market_of case.now).periods }
+    ensures value { result ≡ low_end (market_of case.now) (prices_of centre.now) radius index }
     ensures limits { IsFrom (neg_ℤ price_limit) price_limit result }
 {
-    least_price_at(case, place).max(price_at_place(case, centre, place) - radius)
+    least_price_at(case, index).max(price_at_place(case, centre, index) - radius)
 }
 
 /// The upper end of a price's interval.
-pub fn high_end_of_price(case: &Case, centre: &Prices, radius: i64, place: usize) -> i64
+pub fn high_end_of_price(case: &Case, centre: &Prices, radius: i64, index: usize) -> i64
     requires horizon { length (prices_of centre.now).energy ≡ (market_of case.now).periods }
     requires radius { IsRadius radius }
-    requires place { place < 2 * (market_of case.now).periods }
-    ensures value { result ≡ high_end (market_of case.now) (prices_of centre.now) radius place }
+    requires index { index < 2 * (market_of case.now).periods }
+    ensures value { result ≡ high_end (market_of case.now) (prices_of centre.now) radius index }
     ensures limits { IsFrom (neg_ℤ price_limit) price_limit result }
 {
-    PRICE_LIMIT.min(price_at_place(case, centre, place) + radius)
+    PRICE_LIMIT.min(price_at_place(case, centre, index) + radius)
 }
 
 // What a sum of slopes adds at a price.
@@ -143,16 +143,22 @@ fn most_of_slopes(case: &Case, centre: &Prices, radius: i64, slopes: &Amounts) -
     ensures bound { IsRiseSum result }
 {
     let mut total: i128 = 0;
-    for place in 0..2 * case.periods as usize {
-        let low = low_end_of_price(case, centre, radius, place);
-        let high = high_end_of_price(case, centre, radius, place);
-        total += most_between(*slopes.get(place), low, high);
+    for index in 0..2 * case.periods as usize {
+        let low = low_end_of_price(case, centre, radius, index);
+        let high = high_end_of_price(case, centre, radius, index);
+        total += most_between(*slopes.get(index), low, high);
     }
     total
 }
 
 /// The greatest height over the box of the mean of the planes that are summed.
-pub fn bound_by(case: &Case, centre: &Prices, radius: i64, sums: Sums, slopes: &Amounts) -> i128
+pub fn greatest_mean_height(
+    case: &Case,
+    centre: &Prices,
+    radius: i64,
+    sums: Sums,
+    slopes: &Amounts,
+) -> i128
     requires horizon { length (prices_of centre.now).energy ≡ (market_of case.now).periods }
     requires radius { IsRadius radius }
     requires heights { IsHeightSum sums.height }
@@ -165,7 +171,7 @@ pub fn bound_by(case: &Case, centre: &Prices, radius: i64, sums: Sums, slopes: &
         (unsigned_abs sums.weight) }
     ensures limits { IsFrom least_bound most_bound result }
 {
-    quotient_of(
+    floor_quotient(
         sums.height + most_of_slopes(case, centre, radius, slopes),
         sums.weight,
     )

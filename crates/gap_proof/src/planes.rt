@@ -10,39 +10,39 @@ ghost use Rattle.price_space.specs.Sizes.{IsEntry, IsRowOver};
 ghost use Rattle.gap_proof.specs.CertifiedBound.{price_at, slope_at, height_of};
 ghost use Rattle.gap_proof.specs.PlaneSums.{IsRowWithin, IsUpTo, IsWeight, IsHeight, IsSlopeSum};
 
-use crate::wide::product_of;
+use crate::wide::wide_product;
 use plain_lists::lists::Amounts;
 use price_space::lack_of_total;
 use uc_model::cases::{Case, Row};
 use uc_model::units::Prices;
 
-// What the row's totals lack at a price place.
-fn slope_of_row(case: &Case, row: &Row, place: usize) -> i64
+// What the row's totals lack at a price index.
+fn slope_of_row(case: &Case, row: &Row, index: usize) -> i64
     requires row { IsRowOver (market_of case.now) (proposal_of row.now) }
-    requires place { place < 2 * (market_of case.now).periods }
-    ensures value { result ≡ slope_at (market_of case.now) (proposal_of row.now) place }
+    requires index { index < 2 * (market_of case.now).periods }
+    ensures value { result ≡ slope_at (market_of case.now) (proposal_of row.now) index }
     ensures bound { IsEntry result }
 {
     let periods = case.periods as usize;
-    if place < periods {
-        return lack_of_total(*case.demand.get(place), *row.supply.get(place));
+    if index < periods {
+        return lack_of_total(*case.demand.get(index), *row.supply.get(index));
     }
-    let k = place - periods;
+    let k = index - periods;
     lack_of_total(*case.reserves.get(k), *row.reserve.get(k))
 }
 
-/// The price at a place.
-pub fn price_at_place(case: &Case, prices: &Prices, place: usize) -> i64
+/// The price at an index.
+pub fn price_at_place(case: &Case, prices: &Prices, index: usize) -> i64
     requires horizon { length (prices_of prices.now).energy ≡ (market_of case.now).periods }
-    requires place { place < 2 * (market_of case.now).periods }
-    ensures value { result ≡ price_at (market_of case.now) (prices_of prices.now) place }
+    requires index { index < 2 * (market_of case.now).periods }
+    ensures value { result ≡ price_at (market_of case.now) (prices_of prices.now) index }
     ensures limits { IsFrom (neg_ℤ price_limit) price_limit result }
 {
     let periods = case.periods as usize;
-    if place < periods {
-        return *prices.energy.get(place);
+    if index < periods {
+        return *prices.energy.get(index);
     }
-    *prices.reserve.get(place - periods)
+    *prices.reserve.get(index - periods)
 }
 
 // What a slope adds at a price.
@@ -62,26 +62,26 @@ pub fn height_of_row(case: &Case, row: &Row) -> i128
     ensures bound { IsHeight result }
 {
     let mut at_prices: i128 = 0;
-    for place in 0..2 * case.periods as usize {
+    for index in 0..2 * case.periods as usize {
         at_prices += rise_of_slope(
-            slope_of_row(case, row, place),
-            price_at_place(case, &row.prices, place),
+            slope_of_row(case, row, index),
+            price_at_place(case, &row.prices, index),
         );
     }
     row.value - at_prices
 }
 
 // A sum of slopes with one more in it, so many times.
-fn sum_with(sum: i128, weight: i64, slope: i64) -> i128
+fn slope_sum_with(sum: i128, weight: i64, slope: i64) -> i128
     requires sum { IsSlopeSum sum }
     requires weight { IsWeight weight }
     requires slope { IsEntry slope }
     ensures { result ≡ sum +ℤ (weight *ℤ slope) }
 {
-    sum + product_of(weight, slope)
+    sum + wide_product(weight, slope)
 }
 
-/// Adds the row's slopes to the sums at each price place, so many times.
+/// Adds the row's slopes to the sums at each price index, so many times.
 pub fn add_slopes(case: &Case, row: &Row, weight: i64, slopes: &mut Amounts)
     requires row { IsRowOver (market_of case.now) (proposal_of row.now) }
     requires weight { IsWeight weight }
@@ -93,10 +93,10 @@ pub fn add_slopes(case: &Case, row: &Row, weight: i64, slopes: &mut Amounts)
         +ℤ (weight *ℤ slope_at (market_of case.now) (proposal_of row.now) j) }
     ensures spare { slopes.new.spare ≡ slopes.old.spare }
 {
-    for place in 0..2 * case.periods as usize {
+    for index in 0..2 * case.periods as usize {
         slopes.set(
-            place,
-            sum_with(*slopes.get(place), weight, slope_of_row(case, row, place)),
+            index,
+            slope_sum_with(*slopes.get(index), weight, slope_of_row(case, row, index)),
         );
     }
 }

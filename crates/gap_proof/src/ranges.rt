@@ -9,7 +9,7 @@ ghost use Rattle.gap_proof.specs.Candidates.{prices_of_row, range_bound, IsFirst
 ghost use Rattle.gap_proof.specs.PlaneSums.{IsRowWithin, IsRadius, AreSums};
 ghost use Rattle.gap_proof.specs.PlaneSums.{least_bound, most_bound};
 
-use crate::plane_sums::{Sums, add_row, bound_by, clear_slopes};
+use crate::plane_sums::{Sums, add_row, clear_slopes, greatest_mean_height};
 use crate::rows_bound::row_at;
 use plain_lists::lists::Amounts;
 use uc_model::cases::{Case, Row};
@@ -67,7 +67,7 @@ fn bound_by_one_row(
 {
     let row = row_at(rows, number as usize - 1);
     let sums = sums_of(case, row, work);
-    let bound = bound_by(case, &row.prices, radius, sums, work);
+    let bound = greatest_mean_height(case, &row.prices, radius, sums, work);
     Certified {
         first: number,
         last: number,
@@ -126,12 +126,12 @@ fn best_suffix_bound(
     let mut best = Certified {
         first: count as u32,
         last: count as u32,
-        bound: bound_by(case, centre, radius, sums, work),
+        bound: greatest_mean_height(case, centre, radius, sums, work),
     };
-    for place in (0..count - 1).rev() {
-        sums = add_row(case, row_at(rows, place), 1, sums, work);
-        let bound = bound_by(case, centre, radius, sums, work);
-        best = better_range(best, place as u32 + 1, bound);
+    for index in (0..count - 1).rev() {
+        sums = add_row(case, row_at(rows, index), 1, sums, work);
+        let bound = greatest_mean_height(case, centre, radius, sums, work);
+        best = better_range(best, index as u32 + 1, bound);
     }
     best
 }

@@ -7,16 +7,16 @@ ghost use Rattle.gap_proof.specs.Candidates.{prices_of_row};
 ghost use Rattle.gap_proof.specs.CertifiedBound.{certified_bound, AreWeights};
 ghost use Rattle.gap_proof.specs.PlaneSums.{IsRowWithin, IsWeight, IsRadius};
 
-use crate::plane_sums::{Sums, add_row, bound_by, clear_slopes};
+use crate::plane_sums::{Sums, add_row, clear_slopes, greatest_mean_height};
 use plain_lists::lists::{Amounts, Numbers};
 use uc_model::cases::{Case, Row};
 
 /// The row of a place.
-pub fn row_at(rows: &[Row], place: usize) -> &Row
-    requires { place < length rows.now }
-    ensures { slice_get (map proposal_of rows.now) place ≡ Some (proposal_of result.now) }
+pub fn row_at(rows: &[Row], index: usize) -> &Row
+    requires { index < length rows.now }
+    ensures { slice_get (map proposal_of rows.now) index ≡ Some (proposal_of result.now) }
 {
-    &rows[place]
+    &rows[index]
 }
 
 /// The bound on the dual values of all prices in a box, by the mean of the rows' planes with these
@@ -55,9 +55,9 @@ pub fn bound_of(
         height: 0,
         weight: 0,
     };
-    for place in (0..rows.len()).rev() {
-        sums = add_row(case, row_at(rows, place), *weights.get(place), sums, work);
+    for index in (0..rows.len()).rev() {
+        sums = add_row(case, row_at(rows, index), *weights.get(index), sums, work);
     }
     let middle = row_at(rows, centre as usize - 1);
-    bound_by(case, &middle.prices, radius, sums, work)
+    greatest_mean_height(case, &middle.prices, radius, sums, work)
 }

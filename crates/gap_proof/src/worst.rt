@@ -26,11 +26,11 @@ pub struct Interval {
     pub high: i64,
 }
 
-/// What is lacking of demand in the period of a place, for so many times the case.
+/// What is lacking of demand in the period at an index, for so many times the case.
 #[derive(Clone, Copy)]
 pub struct Lack {
-    /// The place of the period, from 0.
-    pub place: usize,
+    /// The index of the period, from 0.
+    pub index: usize,
     /// How many times the case.
     pub weight: i64,
     /// What is lacking, in kilowatts.
@@ -38,31 +38,31 @@ pub struct Lack {
 }
 
 // What an energy price adds.
-fn added_at(case: &Case, lack: Lack, price: i64) -> i128
-    requires place { lack.place < (market_of case.now).periods }
+fn energy_term_at(case: &Case, lack: Lack, price: i64) -> i128
+    requires index { lack.index < (market_of case.now).periods }
     requires weight { IsFrom (pos 0) most_whole lack.weight }
     requires power { IsLack lack.power }
     requires price { IsFrom (neg_ℤ price_limit) price_limit price }
-    ensures value { result ≡ added (market_of case.now) lack.weight lack.power lack.place price }
+    ensures value { result ≡ added (market_of case.now) lack.weight lack.power lack.index price }
     ensures limit { IsAdded result }
 {
     let lacking = i128::from(price) * lack.power;
-    let flat = i128::from(lack.weight) * flat_at(case, lack.place, price);
+    let flat = i128::from(lack.weight) * flat_at(case, lack.index, price);
     lacking - flat
 }
 
 // Whether the next price adds more than this one.
 fn is_rising(case: &Case, lack: Lack, price: i64) -> bool
-    requires place { lack.place < (market_of case.now).periods }
+    requires index { lack.index < (market_of case.now).periods }
     requires weight { IsFrom (pos 0) most_whole lack.weight }
     requires power { IsLack lack.power }
     requires low { neg_ℤ price_limit ≤ℤ price }
     requires high { price <ℤ price_limit }
     ensures { IsTrue result
-        ↔ (added (market_of case.now) lack.weight lack.power lack.place price
-        <ℤ added (market_of case.now) lack.weight lack.power lack.place (price +ℤ pos 1)) }
+        ↔ (added (market_of case.now) lack.weight lack.power lack.index price
+        <ℤ added (market_of case.now) lack.weight lack.power lack.index (price +ℤ pos 1)) }
 {
-    added_at(case, lack, price) < added_at(case, lack, price + 1)
+    energy_term_at(case, lack, price) < energy_term_at(case, lack, price + 1)
 }
 
 // The price so far above the lowest.
@@ -75,15 +75,15 @@ fn price_above(prices: Interval, more: u64) -> i64
 }
 
 /// The most that any whole energy price of the interval adds.
-pub fn most_energy(case: &Case, lack: Lack, prices: Interval) -> i128
-    requires place { lack.place < (market_of case.now).periods }
+pub fn most_energy_term(case: &Case, lack: Lack, prices: Interval) -> i128
+    requires index { lack.index < (market_of case.now).periods }
     requires weight { IsFrom (pos 0) most_whole lack.weight }
     requires power { IsLack lack.power }
     requires low { neg_ℤ price_limit ≤ℤ prices.low }
     requires ordered { prices.low ≤ℤ prices.high }
     requires high { prices.high ≤ℤ price_limit }
     ensures value { result ≡ greatest (unsigned_abs (prices.high -ℤ prices.low))
-        (λ i. added (market_of case.now) lack.weight lack.power lack.place
+        (λ i. added (market_of case.now) lack.weight lack.power lack.index
         (prices.low +ℤ pos i)) }
     ensures limit { IsAdded result }
 {
@@ -97,11 +97,11 @@ pub fn most_energy(case: &Case, lack: Lack, prices: Interval) -> i128
             last = middle;
         }
     }
-    added_at(case, lack, price_above(prices, first))
+    energy_term_at(case, lack, price_above(prices, first))
 }
 
 // What so much reserve that is lacking adds at a price.
-fn reserve_added(lacking: i128, price: i64) -> i128
+fn reserve_term_at(lacking: i128, price: i64) -> i128
     requires lacking { IsLack lacking }
     requires price { IsFrom (neg_ℤ price_limit) price_limit price }
     ensures value { result ≡ lacking *ℤ price }
@@ -111,12 +111,12 @@ fn reserve_added(lacking: i128, price: i64) -> i128
 }
 
 /// The most that a reserve price of the interval adds, which is at one of its ends.
-pub fn most_reserve(lacking: i128, prices: Interval) -> i128
+pub fn most_reserve_term(lacking: i128, prices: Interval) -> i128
     requires lacking { IsLack lacking }
     requires low { IsFrom (neg_ℤ price_limit) price_limit prices.low }
     requires high { IsFrom (neg_ℤ price_limit) price_limit prices.high }
     ensures value { result ≡ int_max (lacking *ℤ prices.low) (lacking *ℤ prices.high) }
     ensures limit { IsReserveAdded result }
 {
-    reserve_added(lacking, prices.low).max(reserve_added(lacking, prices.high))
+    reserve_term_at(lacking, prices.low).max(reserve_term_at(lacking, prices.high))
 }

@@ -5,14 +5,14 @@ ghost use Rattle.hull_input.specs.Answers.{IsFitSearch};
 ghost use Rattle.hull_command.specs.Answers.{HasFound, IsFoundIn};
 
 use crate::answer::FoundInput;
-use crate::settle::settled_input;
+use crate::settle::settle_input;
 use convex_search::{Found, Goal, find_convex};
 use hull_input::{PricedInput, SearchInput};
 use std::alloc::{AllocError, Global};
 
 /// What a search over an input finds, which ends where the distance is at most `within`, and what the
 /// schedule is settled at there.
-pub fn found_input(
+pub fn find_convex_prices(
     alloc: Global,
     search: SearchInput,
     within: u64,
@@ -37,7 +37,7 @@ pub fn found_input(
         bound,
         made,
     } = found;
-    let settled = settled_input(alloc, PricedInput { input, prices })?;
+    let settled = settle_input(alloc, PricedInput { input, prices })?;
     Ok(FoundInput {
         settled,
         goal,

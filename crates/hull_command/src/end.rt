@@ -61,7 +61,7 @@ impl End {
 
 /// Writes the report of a run that has ended, which is left as it was but for its room for an
 /// answer. It takes no memory, and fails only where the sink does.
-pub fn write_done<S: Sink>(done: &mut Done, out: &mut S) -> Result<(), WriteFailed>
+pub fn write_run_report<S: Sink>(done: &mut Done, out: &mut S) -> Result<(), WriteFailed>
     requires { IsEnded done.old.closed.setup done.old }
     ensures text { Writes S.held S.faults S.last out.old out.new result
         (report_text (report_of done.old.closed done.old.settlement)) }
@@ -75,7 +75,7 @@ pub fn write_done<S: Sink>(done: &mut Done, out: &mut S) -> Result<(), WriteFail
 }
 
 /// Writes the text of what a search found.
-fn write_found<S: Sink>(searched: &FoundInput, out: &mut S) -> Result<(), WriteFailed>
+fn write_search_text<S: Sink>(searched: &FoundInput, out: &mut S) -> Result<(), WriteFailed>
     requires { HasFound searched.now }
     ensures { Writes S.held S.faults S.last out.old out.new result
         (found_text searched.now) }
@@ -105,7 +105,7 @@ fn write_answer<S: Sink>(answer: &mut Answer, out: &mut S) -> Result<(), WriteFa
 {
     record_report_is_right();
     match answer {
-        Answer::Price(done) => write_done(done, out),
+        Answer::Price(done) => write_run_report(done, out),
         Answer::Check(input) => write_check(&input.case, input.cost, out),
         Answer::Settle(settled) => {
             let input = &settled.input;
@@ -115,7 +115,7 @@ fn write_answer<S: Sink>(answer: &mut Answer, out: &mut S) -> Result<(), WriteFa
             let SettledInput { input, settled } = &certified.settled;
             write_certificate(&input.case, input.cost, settled, certified.within, out)
         }
-        Answer::Convex(found) => write_found(found, out),
+        Answer::Convex(found) => write_search_text(found, out),
         Answer::Try(number, done) => write_try(*number, &done.closed, &done.settlement, out),
         Answer::Bound(bounded) => {
             write_bound(
@@ -155,7 +155,7 @@ pub fn finish<S: Sink>(answer: Result<Answer, TopFault>, out: &mut S) -> End
 }
 
 /// Hands on what is ready for its run, with nothing written, or writes the line of what refused it.
-pub fn hand_on<S: Sink>(ready: Result<Ready, TopFault>, out: &mut S) -> Before
+pub fn hand_on_to_run<S: Sink>(ready: Result<Ready, TopFault>, out: &mut S) -> Before
     requires { IfOk ready IsReady }
     ensures before { IsHandedOn (Gains S.held S.faults out.old out.new)
         (FallsShort S.held S.faults S.last out.old out.new) ready result }

@@ -23,10 +23,10 @@ mod ready;
 mod settle;
 
 pub use answer::Answer;
-pub use end::{End, finish, write_done};
+pub use end::{End, finish, write_run_report};
 use hull_input::laws::something_may_be_read;
 use hull_io::{Shelf, Sink};
-use prepare::{begin_command, command_of};
+use prepare::{begin_command, command_of_words};
 pub use ready::{Before, Purpose, Ready};
 use std::alloc::Global;
 
@@ -53,7 +53,7 @@ pub fn hull_before_run<F: Shelf, S: Sink>(
     ensures unwritten { IsUntouched result (out.new ≡ out.old) }
 {
     something_may_be_read::<F>();
-    match command_of(alloc, words) {
+    match command_of_words(alloc, words) {
         Ok(command) => begin_command(alloc, shelf, &command, out),
         Err(fault) => Before::Ended(finish(Err(fault), out)),
     }

@@ -20,17 +20,17 @@ ghost use Rattle.hull_command.specs.Rest.{IsOfInputAlone, run_with, IsBefore, Is
 ghost use Rattle.hull_command.specs.Sizes.{HasSizes};
 
 use crate::answer::Answer;
-use crate::certify::certified_input;
-use crate::convex::found_input;
-use crate::end::{finish, hand_on};
+use crate::certify::bound_certify_input;
+use crate::convex::find_convex_prices;
+use crate::end::{finish, hand_on_to_run};
 use crate::ready::{Before, Purpose, Ready};
-use crate::settle::settled_input;
+use crate::settle::settle_input;
 use case_make::make_case;
 use hull_fault::TopFault;
 use hull_input::laws::report_bytes_are_its_text;
 use hull_input::{
-    Input, MixedInput, ReportedRun, read_input, read_mixed, read_priced, read_reported, read_run,
-    read_search, within_work,
+    Input, MixedInput, ReportedRun, read_audit_input, read_certify_input, read_convex_input,
+    read_input, read_run_input, read_settle_input, within_work,
 };
 use hull_io::{Shelf, Sink};
 use hull_words::{
@@ -42,7 +42,7 @@ use std::alloc::{AllocError, Global};
 use uc_model::laws::feasible_plans_have_shape;
 
 /// The command that the words give.
-pub fn command_of(alloc: Global, words: &[String]) -> Result<Command, TopFault>
+pub fn command_of_words(alloc: Global, words: &[String]) -> Result<Command, TopFault>
     ensures given { IfOk result (λ c. words_of (texts words.now) ≡ Ok (asked c)) }
     ensures sizes { IfOk result (λ c. HasSizes (asked c)) }
     ensures refused { IfErr result (λ f. (reads : Reads)
@@ -90,14 +90,14 @@ fn prepare_run<F: Shelf>(
     ensures shelf { IsLaterShelf F.told F.faults shelf.old shelf.new }
 {
     // (by a match, which is cheaper to prove here than `?`)
-    match read_run(alloc, shelf, words) {
+    match read_run_input(alloc, shelf, words) {
         Ok(terms) => Ok(Ready { purpose, terms }),
         Err(fault) => Err(fault),
     }
 }
 
 /// The case and the feasible schedule that a number stands for.
-fn made_input(alloc: Global, number: u64) -> Result<Input, AllocError>
+fn generated_input(alloc: Global, number: u64) -> Result<Input, AllocError>
     ensures made { IfOk result (λ input. planned_of input ≡ made_case number) }
     ensures planned { IfOk result (λ input. IsPlanned input) }
 {
@@ -114,7 +114,7 @@ fn prepare_try(alloc: Global, words: &TryWords) -> Result<Ready, TopFault>
         → IsReadied (command_for (Ok (try (try_asked words.now)))) reads result }
     ensures ready { IfOk result IsReady }
 {
-    let Ok(input) = made_input(alloc, words.number) else {
+    let Ok(input) = generated_input(alloc, words.number) else {
         return Err(TopFault::Memory);
     };
     let terms = within_work(input, words.proposals, words.ahead, words.workers)?;
@@ -135,7 +135,7 @@ fn prepare_audit<F: Shelf>(
     ensures shelf { IsLaterShelf F.told F.faults shelf.old shelf.new }
 {
     report_bytes_are_its_text();
-    let reported = read_reported(alloc, shelf, words)?;
+    let reported = read_audit_input(alloc, shelf, words)?;
     let ReportedRun { terms, report } = reported;
     let purpose = Purpose::Audit(report);
     Ok(Ready { purpose, terms })
@@ -152,8 +152,8 @@ fn answer_settle<F: Shelf>(
     ensures answered { IfOk result (λ answer. IsAnswered answer) }
     ensures shelf { IsLaterShelf F.told F.faults shelf.old shelf.new }
 {
-    let priced = read_priced(alloc, shelf, words)?;
-    let settled = settled_input(alloc, priced)?;
+    let priced = read_settle_input(alloc, shelf, words)?;
+    let settled = settle_input(alloc, priced)?;
     Ok(Answer::Settle(settled))
 }
 
@@ -169,9 +169,9 @@ fn answer_certify<F: Shelf>(
     ensures answered { IfOk result (λ answer. IsAnswered answer) }
     ensures shelf { IsLaterShelf F.told F.faults shelf.old shelf.new }
 {
-    let mixed = read_mixed(alloc, shelf, words)?;
+    let mixed = read_certify_input(alloc, shelf, words)?;
     let MixedInput { priced, mixture } = mixed;
-    let certified = certified_input(alloc, priced, &mixture, words.radius)?;
+    let certified = bound_certify_input(alloc, priced, &mixture, words.radius)?;
     Ok(Answer::Certify(certified))
 }
 
@@ -187,8 +187,8 @@ fn answer_convex<F: Shelf>(
     ensures answered { IfOk result (λ answer. IsAnswered answer) }
     ensures shelf { IsLaterShelf F.told F.faults shelf.old shelf.new }
 {
-    let search = read_search(alloc, shelf, words)?;
-    let found = found_input(alloc, search, words.within)?;
+    let search = read_convex_input(alloc, shelf, words)?;
+    let found = find_convex_prices(alloc, search, words.within)?;
     Ok(Answer::Convex(found))
 }
 
@@ -214,14 +214,20 @@ pub fn begin_command<F: Shelf, S: Sink>(
 {
     match command {
         Command::Check(words) => Before::Ended(finish(answer_check(alloc, shelf, words), out)),
-        Command::Price(words) => hand_on(prepare_run(alloc, shelf, words, Purpose::Price), out),
-        Command::Try(words) => hand_on(prepare_try(alloc, words), out),
+        Command::Price(words) => hand_on_to_run(
+            prepare_run(alloc, shelf, words, Purpose::Price),
+            out,
+        ),
+        Command::Try(words) => hand_on_to_run(prepare_try(alloc, words), out),
         Command::Bound(words) => {
             let purpose = Purpose::Bound(words.radius);
-            hand_on(prepare_run(alloc, shelf, &words.run, purpose), out)
+            hand_on_to_run(prepare_run(alloc, shelf, &words.run, purpose), out)
         }
-        Command::Fixed(words) => hand_on(prepare_run(alloc, shelf, words, Purpose::Fixed), out),
-        Command::Audit(words) => hand_on(prepare_audit(alloc, shelf, words), out),
+        Command::Fixed(words) => hand_on_to_run(
+            prepare_run(alloc, shelf, words, Purpose::Fixed),
+            out,
+        ),
+        Command::Audit(words) => hand_on_to_run(prepare_audit(alloc, shelf, words), out),
         Command::Settle(words) => Before::Ended(finish(answer_settle(alloc, shelf, words), out)),
         Command::Certify(words) => Before::Ended(finish(answer_certify(alloc, shelf, words), out)),
         Command::Convex(words) => Before::Ended(finish(answer_convex(alloc, shelf, words), out)),

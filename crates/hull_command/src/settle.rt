@@ -15,7 +15,7 @@ use uc_model::laws::{dual_values_are_within, plan_costs_are_within};
 use unit_program::bench_for;
 
 /// What the schedule of an input is settled at, at its prices.
-pub fn settled_input(alloc: Global, priced: PricedInput) -> Result<SettledInput, AllocError>
+pub fn settle_input(alloc: Global, priced: PricedInput) -> Result<SettledInput, AllocError>
     requires { IsFitPriced priced }
     ensures input { IfOk result (λ s. s.input ≡ priced.input) }
     ensures settled { IfOk result (λ s. IsSettledAt (market_of s.input.case)

@@ -12,7 +12,7 @@ ghost use Rattle.hull_command.specs.declared.ready.Purpose.TheVariants as purpos
 use crate::audit::right_proposals;
 use answer_workers::Gate;
 use board_core::Terms;
-use board_run::{bounded_run, compared_runs, open_run, run_board};
+use board_run::{open_run, run_and_bound, run_board, run_free_and_fixed};
 use hull_command::Answer;
 use hull_fault::TopFault;
 use report_read::Report;
@@ -67,7 +67,7 @@ pub fn answer_bound<R: Threads + Wait + Sync, G: Gate>(
         terms.budget terms.ahead) nothing_read result }
     ensures answered { IfOk result (λ answer. IsAnswered answer) }
 {
-    Ok(Answer::Bound(bounded_run(rt, alloc, terms, radius, gate)?))
+    Ok(Answer::Bound(run_and_bound(rt, alloc, terms, radius, gate)?))
 }
 
 /// What `hull fixed` answers by its runs.
@@ -82,7 +82,7 @@ pub fn answer_fixed<R: Threads + Wait + Sync, G: Gate>(
         terms.budget terms.ahead) nothing_read result }
     ensures answered { IfOk result (λ answer. IsAnswered answer) }
 {
-    Ok(Answer::Fixed(compared_runs(rt, alloc, terms, gate)?))
+    Ok(Answer::Fixed(run_free_and_fixed(rt, alloc, terms, gate)?))
 }
 
 /// What `hull audit` answers, after its run, of a report.

@@ -15,7 +15,7 @@ mod end;
 mod workers;
 
 use answer_workers::Gate;
-pub use end::{end_ready, finish_run};
+pub use end::{finish_command, finish_run};
 use hull_command::{Before, hull_before_run};
 use hull_io::{Shelf, Sink};
 use std::alloc::Global;
@@ -57,7 +57,7 @@ pub fn hull_run<R: Threads + Wait + Sync, F: Shelf, S: Sink, G: Gate>(
         Before::Ended(end) => end.status(),
         Before::Ready(ready) => {
             let workers = useful_workers(rt, ready.terms.callers);
-            end_ready(rt, alloc, ready, workers, out, gate).status()
+            finish_command(rt, alloc, ready, workers, out, gate).status()
         }
     }
 }

@@ -243,7 +243,7 @@ fn write_entry_fault<S: Sink>(fault: &EntryFault, out: &mut S) -> Result<(), Wri
 }
 
 /// Writes what the line of a fault tells behind its status.
-fn write_told<S: Sink>(fault: &TopFault, out: &mut S) -> Result<(), WriteFailed>
+fn write_fault_details<S: Sink>(fault: &TopFault, out: &mut S) -> Result<(), WriteFailed>
     ensures { Writes S.held S.faults S.last out.old out.new result (fault_told fault.now) }
 {
     match fault {
@@ -284,6 +284,6 @@ pub fn write_fault<S: Sink>(fault: &TopFault, out: &mut S) -> Result<(), WriteFa
 {
     texts_add_up::<S>();
     write_status(fault.status(), out)?;
-    write_told(fault, out)?;
+    write_fault_details(fault, out)?;
     write_whole(out, b"\n")
 }

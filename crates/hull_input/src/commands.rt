@@ -23,7 +23,7 @@ use std::alloc::Global;
 
 /// The terms of the run that words ask for, over the case and the schedule of their files; or the
 /// first fault of a file, or `Work` where the run is above the limit.
-pub fn read_run<F: Shelf>(
+pub fn read_run_input<F: Shelf>(
     alloc: Global,
     shelf: &mut F,
     words: &PriceWords,
@@ -47,7 +47,7 @@ pub fn read_run<F: Shelf>(
 /// The report of its file, and the run that it is to be the report of: with the report's own budget
 /// and proposals ahead, over the case and the schedule of their files. Or the first fault of a file,
 /// or `Work` where the run is above the limit.
-pub fn read_reported<F: Shelf>(
+pub fn read_audit_input<F: Shelf>(
     alloc: Global,
     shelf: &mut F,
     words: &AuditWords,
@@ -72,7 +72,7 @@ pub fn read_reported<F: Shelf>(
 }
 
 /// The case, the schedule and the prices of the files of these names, or their first fault.
-pub fn read_priced<F: Shelf>(
+pub fn read_settle_input<F: Shelf>(
     alloc: Global,
     shelf: &mut F,
     words: &SettleWords,
@@ -95,7 +95,7 @@ pub fn read_priced<F: Shelf>(
 
 /// The case, the schedule, the prices and the mixture of the files of these names, or their first
 /// fault.
-pub fn read_mixed<F: Shelf>(
+pub fn read_certify_input<F: Shelf>(
     alloc: Global,
     shelf: &mut F,
     words: &CertifyWords,
@@ -107,7 +107,7 @@ pub fn read_mixed<F: Shelf>(
     ensures fit { IfOk result IsFitMixed }
     ensures shelf { IsLaterShelf F.told F.faults shelf.old shelf.new }
 {
-    let priced = read_priced(alloc, shelf, &words.names)?;
+    let priced = read_settle_input(alloc, shelf, &words.names)?;
     let mixture_name = words.mixture_name.as_str();
     let mixture = read_mixture_file(alloc, shelf, mixture_name, &priced.input.case)?;
     Ok(MixedInput { priced, mixture })
@@ -115,7 +115,7 @@ pub fn read_mixed<F: Shelf>(
 
 /// The case and the schedule of the files of these names, with the most rounds of the search that
 /// words ask for; or the first fault of a file, or `Work` where the search is above the limit.
-pub fn read_search<F: Shelf>(
+pub fn read_convex_input<F: Shelf>(
     alloc: Global,
     shelf: &mut F,
     words: &ConvexWords,

@@ -8,6 +8,8 @@ mod files;
 mod input;
 pub mod laws;
 
-pub use commands::{read_mixed, read_priced, read_reported, read_run, read_search};
+pub use commands::{
+    read_audit_input, read_certify_input, read_convex_input, read_run_input, read_settle_input,
+};
 pub use files::read_input;
 pub use input::{Input, MixedInput, PricedInput, ReportedRun, SearchInput, within_work};

@@ -9,7 +9,7 @@ ghost use Rattle.std.specs.Prelude.{IfSome, OnErr};
 ghost use Rattle.hull_io.specs.Edge.{Rose, ReadsAt, grown, Writes};
 
 pub use file::{ReadFault, read_whole};
-pub use real::{FileShelf, StdSink, called_words};
+pub use real::{FileShelf, StdSink, argument_words};
 
 /// A read failed.
 #[derive(Debug, Clone, Copy, PartialEq, Eq)]

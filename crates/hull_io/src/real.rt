@@ -91,7 +91,7 @@ impl<'a, R: Files> FileShelf<'a, R> {
 
 /// Whether a call that failed so may go through when it is made again: a signal interrupted it, or
 /// a pipe that doesn't wait had nothing yet, or no room.
-fn may_go_through(error: &io::Error) -> bool {
+fn may_succeed_again(error: &io::Error) -> bool {
     matches!(error.kind(), ErrorKind::Interrupted | ErrorKind::WouldBlock)
 }
 
@@ -101,7 +101,7 @@ fn read_in_time<R: Read>(reader: &mut R, into: &mut [u8]) -> io::Result<usize>
 {
     for _ in 0..u64::MAX {
         match reader.read(into) {
-            Err(error) if may_go_through(&error) => yield_now(),
+            Err(error) if may_succeed_again(&error) => yield_now(),
             read => return read,
         }
     }
@@ -114,7 +114,7 @@ fn write_in_time<W: Write>(writer: &mut W, piece: &[u8]) -> io::Result<usize>
 {
     for _ in 0..u64::MAX {
         match writer.write(piece) {
-            Err(error) if may_go_through(&error) => yield_now(),
+            Err(error) if may_succeed_again(&error) => yield_now(),
             written => return written,
         }
     }
@@ -122,7 +122,7 @@ fn write_in_time<W: Write>(writer: &mut W, piece: &[u8]) -> io::Result<usize>
 }
 
 /// Goes to an offset. At 0 there is no seek, so a pipe can be read too.
-fn go_to<S: Seek>(file: &mut S, offset: u64) -> io::Result<()> {
+fn seek_offset<S: Seek>(file: &mut S, offset: u64) -> io::Result<()> {
     if offset != 0 {
         file.seek(SeekFrom::Start(offset))?;
     }
@@ -132,7 +132,7 @@ fn go_to<S: Seek>(file: &mut S, offset: u64) -> io::Result<()> {
 /// Opens a file at an offset.
 fn open_at<R: Files>(rt: &R, name: &str, offset: u64) -> io::Result<R::File> {
     let mut file = fs::open(rt, name)?;
-    go_to(&mut file, offset)?;
+    seek_offset(&mut file, offset)?;
     Ok(file)
 }
 
@@ -209,7 +209,7 @@ impl<W: Write + Drop> Sink for StdSink<W> {
 /// The words that the program was called with, without its name; `Err` where they can't be had, as
 /// if memory runs out. The system's contract tells nothing of them, so nothing is promised of them
 /// here: that they are those of the call is tested.
-pub fn called_words<R: Env + AllocGlobal>(rt: &R) -> io::Result<Vec<String>> {
+pub fn argument_words<R: Env + AllocGlobal>(rt: &R) -> io::Result<Vec<String>> {
     let mut words = Vec::new(rt.alloc());
     for word in env::args(rt)?.skip(1) {
         words.push(word).map_err(AllocError::from)?;

@@ -15,7 +15,7 @@ use Rattle.gap_proof.specs.declared.mixtures.Mixture.{Mixture}
 use Rattle.uc_model.specs.declared.cases.Case.{Case}
 use Rattle.uc_model.specs.declared.units.NamedUnit.{NamedUnit}
 
--- an item stands at a place
+-- an item stands at an index
 pub record IsItem {X : Type 0} (xs : List X) (k : ℕ) (x : X) : Type 0 where
   pub inside : k < length xs
   pub is : x ≡ get_or xs k x

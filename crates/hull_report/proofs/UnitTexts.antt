@@ -11,7 +11,7 @@ use Rattle.std.proofs.lemmas.List.Concat.{flat_map-append}
 use Rattle.plain_lists.proofs.ListLaws.{none_some, same_item}
 use Rattle.uc_model.specs.declared.cases.Case.{Case}
 
--- a text stands at a place of some
+-- a text stands at an index of some
 pub record Stands (texts : List (List ℕ)) (k : ℕ) (text : List ℕ) : Type 0 where
   pub inside : k < length texts
   pub is : text ≡ get_or texts k text

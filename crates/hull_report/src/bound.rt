@@ -10,7 +10,7 @@ use board_core::Closed;
 use gap_proof::Certified;
 use hull_io::{Sink, WriteFailed};
 use report_form::{Part, write_form};
-use right_report::choice_of;
+use right_report::choice_of_record;
 
 /// What the text tells: how many proposals there are, the number of the chosen one and its dual
 /// value, the radius round its prices, the rows from `first` to `last` whose mean gives the bound,
@@ -88,7 +88,7 @@ pub fn write_bound<S: Sink>(
         (bound_text (length (own_rows closed.now)) (chosen_of closed.now) (value_of closed.now)
         (unsigned_abs radius) certified.now.first certified.now.last certified.now.bound) }
 {
-    let choice = choice_of(closed);
+    let choice = choice_of_record(closed);
     let lines = BoundLines {
         proposals: choice.proposals,
         chosen: choice.chosen,

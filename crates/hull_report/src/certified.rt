@@ -34,7 +34,12 @@ pub(crate) fn least_uplift(cost: i128, bound: i128) -> i128
 
 // What is told of a plan of this cost, of what it is settled at, and of a bound round the prices.
 #[tactic(auto, unfolding(crate::specs::CertifiedText::certificate_of))]
-fn lines_of(case: &Case, cost: i128, settled: &Settled, within: MixtureBound) -> CertificateLines
+fn certificate_lines(
+    case: &Case,
+    cost: i128,
+    settled: &Settled,
+    within: MixtureBound,
+) -> CertificateLines
     requires cost { IsSum cost }
     requires value { IsWorth (settled_of settled.now).row.value }
     requires bound { IsTold within.bound }
@@ -75,6 +80,6 @@ pub fn write_certificate<S: Sink>(
         (certificate_text (certificate_of (market_of case.now) cost (settled_of settled.now)
         (unsigned_abs within.radius) within.bound)) }
 {
-    let lines = lines_of(case, cost, settled, within);
+    let lines = certificate_lines(case, cost, settled, within);
     write_certificate_lines(&lines, out)
 }

@@ -13,12 +13,13 @@ ghost use Rattle.right_report.specs.Told.{IsTold};
 ghost use Rattle.hull_report.specs.ConvexText.{share_line, mixture_line, mixture_lines, convex_of};
 
 use crate::certified::least_uplift;
-use crate::settled::write_all_settled;
+use crate::settled::write_settled_units;
 use gap_proof::{Entry, Mixture};
 use hull_io::{Sink, WriteFailed};
 use price_settle::Settled;
 use report_form::convex::{
-    SearchLines, write_bounded, write_mixed, write_searched, write_share, write_weighed,
+    SearchLines, write_mixture_entry, write_mixture_unit, write_search_before_units,
+    write_search_bound, write_search_totals,
 };
 use report_form::laws::texts_add_up;
 use uc_model::cases::Case;
@@ -37,13 +38,13 @@ pub struct SearchNumbers {
 }
 
 // Writes the entries of a unit.
-fn write_entries<S: Sink>(entries: &[Entry], out: &mut S) -> Result<(), WriteFailed>
+fn write_mixture_entries<S: Sink>(entries: &[Entry], out: &mut S) -> Result<(), WriteFailed>
     ensures { Writes S.held S.faults S.last out.old out.new result
         (flat_map share_text (map share_line (map entry_of entries.now))) }
 {
     texts_add_up::<S>();
     for entry in entries {
-        write_share(entry.weight, &entry.response, out)?;
+        write_mixture_entry(entry.weight, &entry.response, out)?;
     }
     Ok(())
 }
@@ -58,8 +59,8 @@ fn write_unit_mixture<S: Sink>(
         (mixture_text (mixture_line name.now (map entry_of entries.now))) }
 {
     texts_add_up::<S>();
-    write_mixed(name, entries.len() as u64, out)?;
-    write_entries(entries, out)
+    write_mixture_unit(name, entries.len() as u64, out)?;
+    write_mixture_entries(entries, out)
 }
 
 // Writes the mixture of each thermal unit.
@@ -69,16 +70,16 @@ fn write_mixture<S: Sink>(case: &Case, mixture: &Mixture, out: &mut S) -> Result
         (flat_map mixture_text (mixture_lines (market_of case.now) (mixture_of mixture.now))) }
 {
     texts_add_up::<S>();
-    for place in 0..case.thermal.len() {
-        let name = case.thermal.get(place).name.as_str();
-        let entries = mixture.thermal.get(place).as_slice();
+    for index in 0..case.thermal.len() {
+        let name = case.thermal.get(index).name.as_str();
+        let entries = mixture.thermal.get(index).as_slice();
         write_unit_mixture(name, entries, out)?;
     }
     Ok(())
 }
 
 // Writes the lines behind the units.
-fn write_ending<S: Sink>(
+fn write_convex_ending<S: Sink>(
     case: &Case,
     cost: i128,
     settled: &Settled,
@@ -104,7 +105,7 @@ fn write_ending<S: Sink>(
     let gap = cost - value;
     let distance = bound - value;
     let least = least_uplift(cost, bound);
-    write_weighed(
+    write_search_totals(
         settlement.surplus,
         settlement.total,
         gap,
@@ -112,7 +113,7 @@ fn write_ending<S: Sink>(
         out,
     )?;
     write_mixture(case, mixture, out)?;
-    write_bounded(bound, distance, least, out)
+    write_search_bound(bound, distance, least, out)
 }
 
 /// Writes the lines of `hull convex` for a plan that costs so much money, settled at the prices
@@ -146,7 +147,7 @@ pub fn write_convex<S: Sink>(
         rounds: numbers.rounds,
         made: numbers.made,
     };
-    write_searched(&lines, &settled.row, out)?;
-    write_all_settled(case, settled, out)?;
-    write_ending(case, cost, settled, mixture, numbers.bound, out)
+    write_search_before_units(&lines, &settled.row, out)?;
+    write_settled_units(case, settled, out)?;
+    write_convex_ending(case, cost, settled, mixture, numbers.bound, out)
 }

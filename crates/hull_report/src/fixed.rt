@@ -14,7 +14,11 @@ use right_report::Side;
 use uc_model::cases::{Case, UnitRef};
 
 // Writes what each run chose, and the prices.
-fn write_sides<'a, S: Sink>(hull: &'a Side, fixed: &'a Side, out: &mut S) -> Result<(), WriteFailed>
+fn write_fixed_sides<'a, S: Sink>(
+    hull: &'a Side,
+    fixed: &'a Side,
+    out: &mut S,
+) -> Result<(), WriteFailed>
     ensures { Writes S.held S.faults S.last out.old out.new result
         (sides_text (told_of hull.now) (told_of fixed.now)) }
 {
@@ -49,7 +53,7 @@ struct Paid {
 }
 
 // What the unit of a number is paid.
-fn paid_at(hull: &Side, fixed: &Side, number: usize) -> Paid
+fn payment_in_both_runs(hull: &Side, fixed: &Side, number: usize) -> Paid
     requires hull { number < length hull.now.settlement.payments.items }
     requires fixed { number < length fixed.now.settlement.payments.items }
     ensures { (name : List ℕ) → record {
@@ -65,7 +69,7 @@ fn paid_at(hull: &Side, fixed: &Side, number: usize) -> Paid
 }
 
 // What the line of a unit begins with.
-fn line_start(unit: UnitRef<'_>) -> &'static [u8]
+fn start_of_unit_line(unit: UnitRef<'_>) -> &'static [u8]
     ensures { result.now ≡ paid_start (unit_of unit.entry) }
 {
     match unit {
@@ -76,7 +80,7 @@ fn line_start(unit: UnitRef<'_>) -> &'static [u8]
 }
 
 // Writes the line of a unit or a bid. `kind` is what it begins with.
-fn write_paid<'a, S: Sink>(
+fn write_fixed_payment<'a, S: Sink>(
     kind: &'a [u8],
     name: &'a str,
     paid: Paid,
@@ -102,7 +106,7 @@ fn write_paid<'a, S: Sink>(
 }
 
 // Writes the lines of all units and bids, in the order of their numbers.
-fn write_all_paid<S: Sink>(
+fn write_fixed_payments<S: Sink>(
     case: &Case,
     hull: &Side,
     fixed: &Side,
@@ -115,15 +119,15 @@ fn write_all_paid<S: Sink>(
 {
     texts_add_up::<S>();
     for number in 0..case.unit_count() as usize {
-        let paid = paid_at(hull, fixed, number);
+        let paid = payment_in_both_runs(hull, fixed, number);
         let named = case.unit_at(number);
-        write_paid(line_start(named.unit), named.name, paid, out)?;
+        write_fixed_payment(start_of_unit_line(named.unit), named.name, paid, out)?;
     }
     Ok(())
 }
 
 // Writes the sums of each run, and what the schedule costs.
-fn write_sums<S: Sink>(
+fn write_fixed_sums<S: Sink>(
     hull: &Side,
     fixed: &Side,
     cost: i128,
@@ -165,7 +169,7 @@ pub fn write_fixed<S: Sink>(
         (fixed_text (market_of case.now) cost (told_of hull.now) (told_of fixed.now)) }
 {
     texts_add_up::<S>();
-    write_sides(hull, fixed, out)?;
-    write_all_paid(case, hull, fixed, out)?;
-    write_sums(hull, fixed, cost, out)
+    write_fixed_sides(hull, fixed, out)?;
+    write_fixed_payments(case, hull, fixed, out)?;
+    write_fixed_sums(hull, fixed, cost, out)
 }

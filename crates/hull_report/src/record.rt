@@ -17,14 +17,14 @@ use hull_io::{Sink, WriteFailed};
 use price_settle::Settlement;
 use report_form::laws::texts_add_up;
 use report_form::report::{
-    Head, Owed, write_chosen, write_foot, write_head, write_rows, write_unit,
+    Head, Owed, write_chosen, write_report_foot, write_report_head, write_rows, write_unit,
 };
 use report_form::{Part, write_form};
-use right_report::{Choice, choice_of};
+use right_report::{Choice, choice_of_record};
 use uc_model::units::Answered;
 
 // The numbers of the first lines.
-fn head_of(closed: &Closed, proposals: u32) -> Head
+fn report_head_of(closed: &Closed, proposals: u32) -> Head
     ensures periods { result.periods ≡ closed.now.setup.market.periods }
     ensures units { result.units ≡ unit_count closed.now.setup.market }
     ensures budget { result.budget ≡ closed.now.setup.budget }
@@ -55,14 +55,14 @@ fn write_proposals<S: Sink>(closed: &Closed, choice: Choice, out: &mut S) -> Res
         ) }
 {
     texts_add_up::<S>();
-    let head = head_of(closed, choice.proposals);
-    write_head(&head, out)?;
+    let head = report_head_of(closed, choice.proposals);
+    write_report_head(&head, out)?;
     write_rows(closed.rows(), out)?;
     write_chosen(choice.chosen, choice.value, out)
 }
 
 // Leaves a unit's response to a proposal in the buffer, and gives what it is owed.
-fn take_line(
+fn take_unit_line(
     closed: &Closed,
     settlement: &Settlement,
     proposal: u32,
@@ -112,7 +112,7 @@ fn write_unit_lines<S: Sink>(
     texts_add_up::<S>();
     let case = closed.case();
     for number in 0..case.unit_count() {
-        let owed = take_line(closed, settlement, proposal, number, buffer);
+        let owed = take_unit_line(closed, settlement, proposal, number, buffer);
         write_unit(case.unit_at(number as usize), &owed, &buffer.response, out)?;
     }
     Ok(())
@@ -141,10 +141,10 @@ pub fn write_report<S: Sink>(
         ≡ closed.now.setup.market.periods }
 {
     texts_add_up::<S>();
-    let choice = choice_of(closed);
+    let choice = choice_of_record(closed);
     write_proposals(closed, choice, out)?;
     write_unit_lines(closed, settlement, choice.chosen, buffer, out)?;
-    write_foot(settlement.surplus, settlement.total, choice.gap, out)
+    write_report_foot(settlement.surplus, settlement.total, choice.gap, out)
 }
 
 /// Writes the lines of `hull try` for the case that `number` generates: what the report of its
@@ -164,7 +164,7 @@ pub fn write_try<S: Sink>(
     let thermal = case.thermal.len();
     let flat = case.flat.len();
     let cost = closed.cost();
-    let choice = choice_of(closed);
+    let choice = choice_of_record(closed);
     write_form(
         out,
         b"hull-try 1\nnumber %\nperiods % thermal % renewable %\nproposals %\nchosen % value %\n\

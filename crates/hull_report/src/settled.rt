@@ -16,8 +16,8 @@ ghost use Rattle.hull_report.specs.SettledText.{settled_line, settlement_of};
 use hull_io::{Sink, WriteFailed};
 use price_settle::Settled;
 use report_form::laws::texts_add_up;
-use report_form::report::{Owed, write_foot, write_unit};
-use report_form::settlement::write_priced;
+use report_form::report::{Owed, write_report_foot, write_unit};
+use report_form::settlement::write_settlement_before_units;
 use uc_model::cases::Case;
 use uc_model::units::Response;
 
@@ -29,7 +29,7 @@ struct Line<'a> {
 }
 
 // What is told of the unit of a number.
-fn line_at(settled: &Settled, number: usize) -> Line<'_>
+fn settled_line_at(settled: &Settled, number: usize) -> Line<'_>
     requires responses { number < length (settled_of settled.now).responses }
     requires earned { number < length (settled_of settled.now).earned }
     requires scheduled { number < length (settled_of settled.now).scheduled }
@@ -47,7 +47,7 @@ fn line_at(settled: &Settled, number: usize) -> Line<'_>
 }
 
 // Writes the lines of all units and bids, in the order of their numbers.
-pub(crate) fn write_all_settled<S: Sink>(
+pub(crate) fn write_settled_units<S: Sink>(
     case: &Case,
     settled: &Settled,
     out: &mut S,
@@ -65,7 +65,7 @@ pub(crate) fn write_all_settled<S: Sink>(
 {
     texts_add_up::<S>();
     for number in 0..case.unit_count() as usize {
-        let line = line_at(settled, number);
+        let line = settled_line_at(settled, number);
         write_unit(case.unit_at(number), &line.owed, line.response, out)?;
     }
     Ok(())
@@ -91,7 +91,7 @@ pub fn write_settlement<S: Sink>(
     texts_add_up::<S>();
     let gap = cost - settled.row.value;
     let settlement = &settled.settlement;
-    write_priced(case.periods, case.unit_count(), cost, &settled.row, out)?;
-    write_all_settled(case, settled, out)?;
-    write_foot(settlement.surplus, settlement.total, gap, out)
+    write_settlement_before_units(case.periods, case.unit_count(), cost, &settled.row, out)?;
+    write_settled_units(case, settled, out)?;
+    write_report_foot(settlement.surplus, settlement.total, gap, out)
 }

@@ -90,7 +90,7 @@ fn read_word<'a>(
 }
 
 /// Whether the word is an option whose value is the next word.
-fn takes_next(word: &str) -> bool
+fn takes_next_word(word: &str) -> bool
     ensures { result ≡ takes_next word.now }
 {
     matches!(option_parts(word), Some((_, None)))
@@ -131,7 +131,7 @@ fn pass_word<'a>(
     }
     let word = words[index].as_str();
     match read_word(command, given, word, word_at(words, index + 1)) {
-        Ok(read) => Ok((read, takes_next(word))),
+        Ok(read) => Ok((read, takes_next_word(word))),
         Err(code) => Err(WordFault {
             code,
             position: index as u32 + 2,
@@ -163,7 +163,11 @@ fn missing_value(count: u32) -> WordError
 }
 
 // Here and below, what is missing is told before a name takes memory.
-fn check_words(alloc: Global, given: &Given, count: u32) -> Result<CheckWords, WordError>
+fn case_and_schedule_words(
+    alloc: Global,
+    given: &Given,
+    count: u32,
+) -> Result<CheckWords, WordError>
     ensures { Gives check_asked result (or_missing (names_from (found_so_far given.now)) count) }
 {
     let Some(case_name) = given.case_name else {
@@ -178,13 +182,13 @@ fn check_words(alloc: Global, given: &Given, count: u32) -> Result<CheckWords, W
     })
 }
 
-fn price_words(alloc: Global, given: &Given, count: u32) -> Result<PriceWords, WordError>
+fn run_words(alloc: Global, given: &Given, count: u32) -> Result<PriceWords, WordError>
     ensures { Gives price_asked result (or_missing (price_from (found_so_far given.now)) count) }
 {
     let CheckWords {
         case_name,
         schedule_name,
-    } = check_words(alloc, given, count)?;
+    } = case_and_schedule_words(alloc, given, count)?;
     Ok(PriceWords {
         case_name,
         schedule_name,
@@ -221,7 +225,7 @@ fn bound_command(alloc: Global, given: &Given, count: u32) -> Result<Command, Wo
         (or_missing (asked_from CommandKind.Bound (found_so_far given.now)) count) }
 {
     Ok(Command::Bound(BoundWords {
-        run: price_words(alloc, given, count)?,
+        run: run_words(alloc, given, count)?,
         radius: radius_of(given),
     }))
 }
@@ -236,7 +240,7 @@ fn audit_command(alloc: Global, given: &Given, count: u32) -> Result<Command, Wo
     let CheckWords {
         case_name,
         schedule_name,
-    } = check_words(alloc, given, count)?;
+    } = case_and_schedule_words(alloc, given, count)?;
     Ok(Command::Audit(AuditWords {
         case_name,
         schedule_name,
@@ -254,7 +258,7 @@ fn settle_words(alloc: Global, given: &Given, count: u32) -> Result<SettleWords,
     let CheckWords {
         case_name,
         schedule_name,
-    } = check_words(alloc, given, count)?;
+    } = case_and_schedule_words(alloc, given, count)?;
     Ok(SettleWords {
         case_name,
         schedule_name,
@@ -283,7 +287,7 @@ fn convex_command(alloc: Global, given: &Given, count: u32) -> Result<Command, W
     let CheckWords {
         case_name,
         schedule_name,
-    } = check_words(alloc, given, count)?;
+    } = case_and_schedule_words(alloc, given, count)?;
     Ok(Command::Convex(ConvexWords {
         case_name,
         schedule_name,
@@ -293,7 +297,7 @@ fn convex_command(alloc: Global, given: &Given, count: u32) -> Result<Command, W
 }
 
 /// The command with its values, by default where absent.
-fn command_of(
+fn command_of_values(
     alloc: Global,
     command: CommandKind,
     given: &Given,
@@ -302,11 +306,11 @@ fn command_of(
     ensures { Gives asked result (or_missing (asked_from command (found_so_far given.now)) count) }
 {
     match command {
-        CommandKind::Price => Ok(Command::Price(price_words(alloc, given, count)?)),
-        CommandKind::Check => Ok(Command::Check(check_words(alloc, given, count)?)),
+        CommandKind::Price => Ok(Command::Price(run_words(alloc, given, count)?)),
+        CommandKind::Check => Ok(Command::Check(case_and_schedule_words(alloc, given, count)?)),
         CommandKind::Try => try_command(given, count),
         CommandKind::Bound => bound_command(alloc, given, count),
-        CommandKind::Fixed => Ok(Command::Fixed(price_words(alloc, given, count)?)),
+        CommandKind::Fixed => Ok(Command::Fixed(run_words(alloc, given, count)?)),
         CommandKind::Audit => audit_command(alloc, given, count),
         CommandKind::Settle => Ok(Command::Settle(settle_words(alloc, given, count)?)),
         CommandKind::Certify => certify_command(alloc, given, count),
@@ -334,5 +338,5 @@ pub fn read_words(alloc: Global, words: &[String]) -> Result<Command, WordError>
         }));
     };
     let given = read_later(command, later)?;
-    command_of(alloc, command, &given, words.len() as u32)
+    command_of_values(alloc, command, &given, words.len() as u32)
 }

@@ -18,7 +18,7 @@ use law_runs::bounds::{
     run_prices_are_within,
 };
 use plan_check::laws::refusals_are_exact;
-use price_settle::laws::{one_settlement, settlements_add_up};
+use price_settle::laws::{one_settlement, payments_and_surplus_make_the_gap};
 use report_form::laws::text_determines_the_report;
 use report_read::laws::{one_line_differs, one_line_is_in_fault, one_report_has_a_text};
 use right_report::laws::{
@@ -160,7 +160,7 @@ pub fn settlements_hold<F: Shelf, S: Sink>()
     ensures { SettlementsHold F.told F.faults F.last S.held S.faults S.last }
 {
     bytes_are_those_read();
-    settlements_add_up();
+    payments_and_surplus_make_the_gap();
     prices_have_form();
     one_prices();
 }
@@ -175,7 +175,7 @@ pub fn certificates_hold<F: Shelf, S: Sink>()
 {
     words_have_sizes();
     bytes_are_those_read();
-    settlements_add_up();
+    payments_and_surplus_make_the_gap();
     cases_are_within();
     prices_have_form();
     one_prices();
@@ -194,7 +194,7 @@ pub fn searches_hold<F: Shelf, S: Sink>()
     ensures { SearchesHold F.told F.faults F.last S.held S.faults S.last }
 {
     bytes_are_those_read();
-    settlements_add_up();
+    payments_and_surplus_make_the_gap();
     cases_are_within();
     mixture_bound_holds();
     mixture_bound_reaches_centre();

@@ -75,15 +75,15 @@ module _ (g : ThermalUnit) (s : Schedule) where
       let here = on (suc m) (omega arith) (omega arith) in
       let differ : same_flag (on_in g s m) (on_in g s (suc m)) ≡ false =
       ap (λ t. same_flag t (on_in g s (suc m))) before ∙ ap (same_flag (not b)) here ∙ opposite b in
-      let place : suc m + 0 ≡ suc m = omega arith in
-      ap (changed_in g s) place ∙ ap (λ t. cond t (changed_in g s m) (Some (suc m))) differ
+      let index : suc m + 0 ≡ suc m = omega arith in
+      ap (changed_in g s) index ∙ ap (λ t. cond t (changed_in g s m) (Some (suc m))) differ
   changed_run b m (suc d) before on =
       let here = on (suc (suc m + d)) (omega arith) (omega arith) in
       let last = on (suc m + d) (omega arith) (omega arith) in
       let same : same_flag (on_in g s (suc m + d)) (on_in g s (suc (suc m + d))) ≡ true =
       ap (λ t. same_flag t (on_in g s (suc (suc m + d)))) last ∙ ap (same_flag b) here ∙ same_refl b in
-      let place : suc m + suc d ≡ suc (suc m + d) = omega arith in
-      ap (changed_in g s) place ∙ ap (λ t. cond t (changed_in g s (suc m + d)) (Some (suc (suc m + d)))) same
+      let index : suc m + suc d ≡ suc (suc m + d) = omega arith in
+      ap (changed_in g s) index ∙ ap (λ t. cond t (changed_in g s (suc m + d)) (Some (suc (suc m + d)))) same
       ∙ changed_run b m d before (λ j low high. on j low (omega (arith, high)))
 
   -- what the last change says

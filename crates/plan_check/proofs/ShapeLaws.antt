@@ -4,9 +4,9 @@ use Rattle.plan_check.proofs.Common.{schedule_of}
 use Rattle.plan_check.proofs.PlanLaws.{HasLengths}
 
 -- each response of a plan covers the horizon
-pub covers : (responses : List Response) (periods place : ℕ) → All (HasLengths periods) (map schedule_of responses) →
-    place < periods → All (λ (r : Response). place < length (schedule_of r).on) responses
-covers rs periods place lengths lt = λ k d k_in.
+pub covers : (responses : List Response) (periods index : ℕ) → All (HasLengths periods) (map schedule_of responses) →
+    index < periods → All (λ (r : Response). index < length (schedule_of r).on) responses
+covers rs periods index lengths lt = λ k d k_in.
     let count = length-map rs schedule_of in
     let item = get_or-map schedule_of rs k d (schedule_of d) k_in in
     let l = subst (HasLengths periods) item (lengths k (schedule_of d) (omega (arith, count, k_in))) in

@@ -4,7 +4,7 @@ use Rattle.uc_model.specs.Data.{Schedule}
 use Rattle.uc_model.specs.Schedules.{power_in, reserve_in}
 use Rattle.plain_lists.specs.Sums.{total}
 
--- the sum of the powers, and of the reserves, at a place
+-- the sum of the powers, and of the reserves, at an index
 abbrev pub powers_at : List Schedule → ℕ → ℤ
 powers_at ss k = total (map (λ (s : Schedule). power_in s (suc k)) ss)
 

@@ -57,25 +57,25 @@ fn fault_of_rule(code: RuleCode, kind: Kind, unit: u32, period: u32, sides: Side
     }
 }
 
-// What breaks a thermal rule at a place.
-fn thermal_sides(rule: RuleCode, unit: &Unit, response: &Response, place: usize) -> Option<Sides>
-    requires within { place < length (schedule_of response.now).on }
+// What breaks a thermal rule at an index.
+fn thermal_sides(rule: RuleCode, unit: &Unit, response: &Response, index: usize) -> Option<Sides>
+    requires within { index < length (schedule_of response.now).on }
     requires horizon { length (schedule_of response.now).on ≤ MOST_PERIODS }
     requires window { length (thermal_of unit.now).window ≡ length (schedule_of response.now).on }
     ensures { sides_of result ≡ thermal_broken rule (thermal_of unit.now) (schedule_of response.now)
-        place }
+        index }
 {
     match rule {
-        RuleCode::MustRun => rules::must_run_sides(unit, response, place),
-        RuleCode::Initial => rules::initial_sides(unit, response, place),
-        RuleCode::MinUp => rules::min_up_sides(unit, response, place),
-        RuleCode::MinDown => rules::min_down_sides(unit, response, place),
-        RuleCode::Range => rules::range_sides(unit, response, place),
-        RuleCode::StartCap => rules::start_sides(unit, response, place),
-        RuleCode::StopCap => rules::stop_sides(unit, response, place),
-        RuleCode::RampUp => rules::ramp_up_sides(unit, response, place),
-        RuleCode::RampDown => rules::ramp_down_sides(unit, response, place),
-        RuleCode::Window => rules::window_sides(unit, response, place),
+        RuleCode::MustRun => rules::must_run_sides(unit, response, index),
+        RuleCode::Initial => rules::initial_sides(unit, response, index),
+        RuleCode::MinUp => rules::min_up_sides(unit, response, index),
+        RuleCode::MinDown => rules::min_down_sides(unit, response, index),
+        RuleCode::Range => rules::range_sides(unit, response, index),
+        RuleCode::StartCap => rules::start_sides(unit, response, index),
+        RuleCode::StopCap => rules::stop_sides(unit, response, index),
+        RuleCode::RampUp => rules::ramp_up_sides(unit, response, index),
+        RuleCode::RampDown => rules::ramp_down_sides(unit, response, index),
+        RuleCode::Window => rules::window_sides(unit, response, index),
         RuleCode::RenewableRange | RuleCode::Balance | RuleCode::Reserve | RuleCode::BidRange => {
             None
         }
@@ -83,7 +83,7 @@ fn thermal_sides(rule: RuleCode, unit: &Unit, response: &Response, place: usize)
 }
 
 // How far the period that is told lies from the place: a stop is told at the period before it.
-fn shift_of(rule: RuleCode) -> u32
+fn shift_of_rule(rule: RuleCode) -> u32
     ensures value { result ≡ told_shift rule }
     ensures small { result ≤ 1 }
 {
@@ -105,9 +105,9 @@ fn check_rule(
     ensures { Finds (rule_refusals (length (schedule_of response.now).on) number
         (thermal_of unit.now) (schedule_of response.now) rule) result }
 {
-    for place in 0..response.on.len() {
-        if let Some(sides) = thermal_sides(rule, unit, response, place) {
-            let period = place as u32 + shift_of(rule);
+    for index in 0..response.on.len() {
+        if let Some(sides) = thermal_sides(rule, unit, response, index) {
+            let period = index as u32 + shift_of_rule(rule);
             return Err(fault_of_rule(rule, Kind::Thermal, number, period, sides));
         }
     }
@@ -150,25 +150,28 @@ fn check_thermals(case: &Case, plan: &Plan) -> Result<(), RuleFault>
     ensures { Finds (all_thermal (market_of case.now).periods 1 (market_of case.now).thermal
         (schedules_of plan.now)) result }
 {
-    for place in 0..case.thermal.len() {
-        let unit = case.thermal.get(place);
-        let response = plan.responses.get(place);
-        check_thermal(&unit.unit, response, place as u32 + 1)?;
+    for index in 0..case.thermal.len() {
+        let unit = case.thermal.get(index);
+        let response = plan.responses.get(index);
+        check_thermal(&unit.unit, response, index as u32 + 1)?;
     }
     Ok(())
 }
 
-// What breaks the range of a renewable unit at a place: first its least power, then its greatest.
-fn renewable_sides(flat: &Renewable, response: &Response, place: usize) -> Option<Sides>
-    requires schedule { place < length (schedule_of response.now).on }
-    requires range { place < length (renewable_of flat.now).least }
+// What breaks the range of a renewable unit at an index: first its least power, then its greatest.
+fn renewable_sides(flat: &Renewable, response: &Response, index: usize) -> Option<Sides>
+    requires schedule { index < length (schedule_of response.now).on }
+    requires range { index < length (renewable_of flat.now).least }
     ensures { sides_of result ≡ renewable_broken (renewable_of flat.now) (schedule_of response.now)
-        place }
+        index }
 {
-    let power = response.power_at(place);
-    let least = *flat.least.get(place);
-    let most = *flat.most.get(place);
-    rules::first_of(rules::at_most(least, power), rules::at_most(power, most))
+    let power = response.power_at(index);
+    let least = *flat.least.get(index);
+    let most = *flat.most.get(index);
+    rules::first_broken(
+        rules::sides_above_limit(least, power),
+        rules::sides_above_limit(power, most),
+    )
 }
 
 // The first period in which a renewable unit is outside its range.
@@ -179,9 +182,9 @@ fn check_renewable(flat: &Renewable, response: &Response, number: u32) -> Result
         (length (schedule_of response.now).on) 1
         (renewable_broken (renewable_of flat.now) (schedule_of response.now))) result }
 {
-    for place in 0..response.on.len() {
-        if let Some(sides) = renewable_sides(flat, response, place) {
-            let period = place as u32 + 1;
+    for index in 0..response.on.len() {
+        if let Some(sides) = renewable_sides(flat, response, index) {
+            let period = index as u32 + 1;
             return Err(fault_of_rule(
                 RuleCode::RenewableRange,
                 Kind::Renewable,
@@ -201,23 +204,23 @@ fn check_renewables(case: &Case, plan: &Plan) -> Result<(), RuleFault>
         (drop (length (market_of case.now).thermal) (schedules_of plan.now))) result }
 {
     let first = case.thermal.len();
-    for place in 0..case.flat.len() {
-        let flat = case.flat.get(place);
-        let response = plan.responses.get(first + place);
-        check_renewable(&flat.flat, response, place as u32 + 1)?;
+    for index in 0..case.flat.len() {
+        let flat = case.flat.get(index);
+        let response = plan.responses.get(first + index);
+        check_renewable(&flat.flat, response, index as u32 + 1)?;
     }
     Ok(())
 }
 
-// What breaks the limit of a bid at a place.
-fn bid_sides(bid: &Bid, response: &Response, place: usize) -> Option<Sides>
-    requires schedule { place < length (schedule_of response.now).on }
-    requires blocks { place < length (bid_of bid.now).blocks }
-    ensures { sides_of result ≡ bid_broken (bid_of bid.now) (schedule_of response.now) place }
+// What breaks the limit of a bid at an index.
+fn bid_sides(bid: &Bid, response: &Response, index: usize) -> Option<Sides>
+    requires schedule { index < length (schedule_of response.now).on }
+    requires blocks { index < length (bid_of bid.now).blocks }
+    ensures { sides_of result ≡ bid_broken (bid_of bid.now) (schedule_of response.now) index }
 {
-    let power = response.power_at(place);
-    let width = total_width(bid.blocks.get(place).as_slice());
-    rules::at_most(power, width)
+    let power = response.power_at(index);
+    let width = total_width(bid.blocks.get(index).as_slice());
+    rules::sides_above_limit(power, width)
 }
 
 // The first period in which a bid buys more than its blocks.
@@ -227,9 +230,9 @@ fn check_bid(bid: &Bid, response: &Response, number: u32) -> Result<(), RuleFaul
     ensures { Finds (told RuleCode.BidRange Kind.Bid number (length (schedule_of response.now).on) 1
         (bid_broken (bid_of bid.now) (schedule_of response.now))) result }
 {
-    for place in 0..response.on.len() {
-        if let Some(sides) = bid_sides(bid, response, place) {
-            let period = place as u32 + 1;
+    for index in 0..response.on.len() {
+        if let Some(sides) = bid_sides(bid, response, index) {
+            let period = index as u32 + 1;
             return Err(fault_of_rule(RuleCode::BidRange, Kind::Bid, number, period, sides));
         }
     }
@@ -244,10 +247,10 @@ fn check_bids(case: &Case, plan: &Plan) -> Result<(), RuleFault>
         (schedules_of plan.now))) result }
 {
     let first = case.producer_count();
-    for place in 0..case.bids.len() {
-        let bid = case.bids.get(place);
-        let response = plan.responses.get(first + place);
-        check_bid(&bid.bid, response, place as u32 + 1)?;
+    for index in 0..case.bids.len() {
+        let bid = case.bids.get(index);
+        let response = plan.responses.get(first + index);
+        check_bid(&bid.bid, response, index as u32 + 1)?;
     }
     Ok(())
 }
@@ -258,9 +261,9 @@ fn check_balance(case: &Case, plan: &Plan) -> Result<(), RuleFault>
     ensures { Finds (told RuleCode.Balance Kind.Case 0 (market_of case.now).periods 1
         (balance_broken (market_of case.now) (schedules_of plan.now))) result }
 {
-    for place in 0..case.periods {
-        if let Some(sides) = totals::balance_sides(case, plan, place as usize) {
-            return Err(fault_of_rule(RuleCode::Balance, Kind::Case, 0, place + 1, sides));
+    for index in 0..case.periods {
+        if let Some(sides) = totals::balance_sides(case, plan, index as usize) {
+            return Err(fault_of_rule(RuleCode::Balance, Kind::Case, 0, index + 1, sides));
         }
     }
     Ok(())
@@ -272,9 +275,9 @@ fn check_reserve(case: &Case, plan: &Plan) -> Result<(), RuleFault>
     ensures { Finds (told RuleCode.Reserve Kind.Case 0 (market_of case.now).periods 1
         (reserve_broken (market_of case.now) (schedules_of plan.now))) result }
 {
-    for place in 0..case.periods {
-        if let Some(sides) = totals::reserve_sides(case, plan, place as usize) {
-            return Err(fault_of_rule(RuleCode::Reserve, Kind::Case, 0, place + 1, sides));
+    for index in 0..case.periods {
+        if let Some(sides) = totals::reserve_sides(case, plan, index as usize) {
+            return Err(fault_of_rule(RuleCode::Reserve, Kind::Case, 0, index + 1, sides));
         }
     }
     Ok(())

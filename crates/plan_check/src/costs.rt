@@ -17,25 +17,25 @@ ghost use Rattle.plan_check.specs.Costs.{sum_over, thermal_units, bid_units, pro
 ghost use Rattle.plan_check.specs.Costs.{start_cost_at};
 
 use crate::rules;
-use cost_curve::costs::{Leg, envelope_near};
+use cost_curve::costs::{Leg, envelope_from_leg};
 use uc_model::cases::{Case, Plan};
 use uc_model::rules::start_cost;
 use uc_model::units::{Bid, Block, Response, Unit};
 
-// What the power at a place costs. `near` has the leg of the power before it.
-fn power_cost(unit: &Unit, response: &Response, place: usize, near: &mut Option<Leg>) -> i64
+// What the power at an index costs. `near` has the leg of the power before it.
+fn power_cost(unit: &Unit, response: &Response, index: usize, near: &mut Option<Leg>) -> i64
     requires near { IsNear (thermal_of unit.now).points near.old }
-    requires within { place < length (schedule_of response.now).on }
+    requires within { index < length (schedule_of response.now).on }
     requires feasible { IsThermalFeasible (thermal_of unit.now)
         (length (schedule_of response.now).on) (schedule_of response.now) }
-    ensures value { result ≡ production_at (thermal_of unit.now) (schedule_of response.now) place }
+    ensures value { result ≡ production_at (thermal_of unit.now) (schedule_of response.now) index }
     ensures limit { IsCost result }
     ensures near { IsNear (thermal_of unit.now).points near.new }
 {
-    if !response.is_on(place) {
+    if !response.is_on(index) {
         return 0;
     }
-    envelope_near(unit.points.as_slice(), response.power_at(place), near)
+    envelope_from_leg(unit.points.as_slice(), response.power_at(index), near)
 }
 
 /// What the powers of a schedule cost.
@@ -48,43 +48,43 @@ pub fn power_costs(unit: &Unit, response: &Response) -> i64
 {
     let mut near = None;
     let mut sum = 0;
-    for place in 0..response.on.len() {
-        sum += power_cost(unit, response, place, &mut near);
+    for index in 0..response.on.len() {
+        sum += power_cost(unit, response, index, &mut near);
     }
     sum
 }
 
 // How many periods the unit has been off before period 1.
-fn time_before(unit: &Unit) -> u64
+fn time_off_before_horizon(unit: &Unit) -> u64
     ensures { result ≡ (if unit.now.on0 then 0 else unit.now.down0) }
 {
     if unit.on0 { 0 } else { u64::from(unit.down0) }
 }
 
-// How many periods it has been off after the period at a place.
-fn time_after(response: &Response, place: usize, down: u64) -> u64
-    requires within { place < length (schedule_of response.now).on }
+// How many periods it has been off after the period at an index.
+fn time_off_after(response: &Response, index: usize, down: u64) -> u64
+    requires within { index < length (schedule_of response.now).on }
     requires limit { down < 1000000000 }
-    ensures { result ≡ (if slice_index_or (schedule_of response.now).on place false then 0 else suc
+    ensures { result ≡ (if slice_index_or (schedule_of response.now).on index false then 0 else suc
         down) }
 {
-    if response.is_on(place) {
+    if response.is_on(index) {
         return 0;
     }
     down + 1
 }
 
-// What a start at a place costs, after so many periods down.
-fn cost_of_start(unit: &Unit, response: &Response, place: usize, down: u64) -> i64
-    requires within { place < length (schedule_of response.now).on }
-    requires down { down ≡ time_down (thermal_of unit.now) (schedule_of response.now) place }
-    ensures value { result ≡ start_cost_at (thermal_of unit.now) (schedule_of response.now) place }
+// What a start at an index costs, after so many periods down.
+fn cost_of_start(unit: &Unit, response: &Response, index: usize, down: u64) -> i64
+    requires within { index < length (schedule_of response.now).on }
+    requires down { down ≡ time_down (thermal_of unit.now) (schedule_of response.now) index }
+    ensures value { result ≡ start_cost_at (thermal_of unit.now) (schedule_of response.now) index }
     ensures limit { IsStartCost result }
 {
-    if rules::on_in_period(unit, response, place) {
+    if rules::on_in_period(unit, response, index) {
         return 0;
     }
-    if !response.is_on(place) {
+    if !response.is_on(index) {
         return 0;
     }
     start_cost(unit, down)
@@ -96,11 +96,11 @@ pub fn costs_of_starts(unit: &Unit, response: &Response) -> i64
     ensures value { result ≡ start_costs (thermal_of unit.now) (schedule_of response.now) }
     ensures limit { IsFrom (pos 0) (pos 2000000000000000) result }
 {
-    let mut down = time_before(unit);
+    let mut down = time_off_before_horizon(unit);
     let mut sum = 0;
-    for place in 0..response.on.len() {
-        sum += cost_of_start(unit, response, place, down);
-        down = time_after(response, place, down);
+    for index in 0..response.on.len() {
+        sum += cost_of_start(unit, response, index, down);
+        down = time_off_after(response, index, down);
     }
     sum
 }
@@ -113,7 +113,7 @@ struct Bought {
 }
 
 // What is bought with one more block.
-fn with_block(bought: Bought, block: &Block) -> Bought
+fn bought_with_block(bought: Bought, block: &Block) -> Bought
     requires block { IsBlock block.now }
     requires worth { IsFrom (pos 0) (pos 900000000000000000) bought.worth }
     requires rest { IsFrom (pos 0) (pos 4294967296) bought.rest }
@@ -131,7 +131,7 @@ fn with_block(bought: Bought, block: &Block) -> Bought
 }
 
 // What so many kilowatts are worth.
-fn worth_in(blocks: &[Block], power: i64) -> i64
+fn worth_of_power(blocks: &[Block], power: i64) -> i64
     requires blocks { IsBlockList blocks.now }
     requires power { IsFrom (pos 0) (pos 4294967296) power }
     ensures value { result ≡ worth_of blocks.now power }
@@ -142,7 +142,7 @@ fn worth_in(blocks: &[Block], power: i64) -> i64
         rest: power,
     };
     for block in blocks {
-        bought = with_block(bought, block);
+        bought = bought_with_block(bought, block);
     }
     bought.worth
 }
@@ -155,9 +155,9 @@ pub fn worth_of_bid(bid: &Bid, response: &Response) -> i128
     ensures limit { IsFrom (pos 0) (pos 20000000000000000000) result }
 {
     let mut sum = 0;
-    for place in 0..response.on.len() {
-        let blocks = bid.blocks.get(place).as_slice();
-        sum += i128::from(worth_in(blocks, response.power_at(place)));
+    for index in 0..response.on.len() {
+        let blocks = bid.blocks.get(index).as_slice();
+        sum += i128::from(worth_of_power(blocks, response.power_at(index)));
     }
     sum
 }
@@ -171,9 +171,9 @@ fn thermal_costs(case: &Case, plan: &Plan) -> i128
     ensures limit { IsFrom (neg_ℤ (pos 20000000000000000000)) (pos 20000000000000000000) result }
 {
     let mut sum = 0;
-    for place in 0..case.thermal.len() {
-        let unit = &case.thermal.get(place).unit;
-        let response = plan.responses.get(place);
+    for index in 0..case.thermal.len() {
+        let unit = &case.thermal.get(index).unit;
+        let response = plan.responses.get(index);
         sum += i128::from(power_costs(unit, response) + costs_of_starts(unit, response));
     }
     sum
@@ -190,9 +190,9 @@ fn worth_of_bids(case: &Case, plan: &Plan) -> i128
 {
     let first = case.producer_count();
     let mut sum = 0;
-    for place in 0..case.bids.len() {
-        let bid = &case.bids.get(place).bid;
-        sum += worth_of_bid(bid, plan.responses.get(first + place));
+    for index in 0..case.bids.len() {
+        let bid = &case.bids.get(index).bid;
+        sum += worth_of_bid(bid, plan.responses.get(first + index));
     }
     sum
 }

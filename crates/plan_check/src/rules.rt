@@ -18,7 +18,7 @@ use crate::states::{Sides, State};
 use uc_model::units::{Mark, Response, Unit};
 
 /// The numbers where a test fails.
-pub fn sides_unless(holds: bool, left: i64, right: i64) -> Option<Sides>
+pub fn sides_where_false(holds: bool, left: i64, right: i64) -> Option<Sides>
     ensures { sides_of result ≡ refusals.unless holds left right }
 {
     if holds {
@@ -29,10 +29,10 @@ pub fn sides_unless(holds: bool, left: i64, right: i64) -> Option<Sides>
 }
 
 /// The numbers where a value is above its limit.
-pub fn at_most(value: i64, limit: i64) -> Option<Sides>
+pub fn sides_above_limit(value: i64, limit: i64) -> Option<Sides>
     ensures { sides_of result ≡ refusals.unless (int_le value limit) value limit }
 {
-    sides_unless(value <= limit, value, limit)
+    sides_where_false(value <= limit, value, limit)
 }
 
 /// Whether the unit is on in a period; period 0 is the state before the horizon.
@@ -46,24 +46,24 @@ pub fn on_in_period(unit: &Unit, response: &Response, period: usize) -> bool
     response.is_on(period - 1)
 }
 
-// Whether the unit starts in the period at a place.
-fn starts_at(unit: &Unit, response: &Response, place: usize) -> bool
-    requires { place < length (schedule_of response.now).on }
-    ensures { result ≡ starts_in (thermal_of unit.now) (schedule_of response.now) (suc place) }
+// Whether the unit starts in the period at an index.
+fn starts_at(unit: &Unit, response: &Response, index: usize) -> bool
+    requires { index < length (schedule_of response.now).on }
+    ensures { result ≡ starts_in (thermal_of unit.now) (schedule_of response.now) (suc index) }
 {
-    !on_in_period(unit, response, place) && response.is_on(place)
+    !on_in_period(unit, response, index) && response.is_on(index)
 }
 
 // Whether it stops in that period.
-fn stops_at(unit: &Unit, response: &Response, place: usize) -> bool
-    requires { place < length (schedule_of response.now).on }
-    ensures { result ≡ stops_in (thermal_of unit.now) (schedule_of response.now) (suc place) }
+fn stops_at(unit: &Unit, response: &Response, index: usize) -> bool
+    requires { index < length (schedule_of response.now).on }
+    ensures { result ≡ stops_in (thermal_of unit.now) (schedule_of response.now) (suc index) }
 {
-    on_in_period(unit, response, place) && !response.is_on(place)
+    on_in_period(unit, response, index) && !response.is_on(index)
 }
 
 // What is seen in period 0.
-fn state_before(unit: &Unit) -> State
+fn state_before_horizon(unit: &Unit) -> State
     ensures { (s : Schedule) → IsStateIn (thermal_of unit.now) s 0 result }
 {
     if unit.on0 {
@@ -82,14 +82,14 @@ fn state_before(unit: &Unit) -> State
     }
 }
 
-// What is seen in a period of the horizon, which is at a place.
-fn state_at(unit: &Unit, response: &Response, place: usize) -> State
-    requires { place < length (schedule_of response.now).on }
-    ensures { IsStateIn (thermal_of unit.now) (schedule_of response.now) (suc place) result }
+// What is seen in a period of the horizon, which is at an index.
+fn state_at(unit: &Unit, response: &Response, index: usize) -> State
+    requires { index < length (schedule_of response.now).on }
+    ensures { IsStateIn (thermal_of unit.now) (schedule_of response.now) (suc index) result }
 {
-    let on = *response.on.get(place);
-    let power = i64::from(*response.power.get(place));
-    let reserve = i64::from(*response.reserve.get(place));
+    let on = *response.on.get(index);
+    let power = i64::from(*response.power.get(index));
+    let reserve = i64::from(*response.reserve.get(index));
     State {
         on,
         above: if on { power - unit.min_power } else { 0 },
@@ -99,24 +99,24 @@ fn state_at(unit: &Unit, response: &Response, place: usize) -> State
 }
 
 // What is seen in a period; period 0 is the state before the horizon.
-fn state_in(unit: &Unit, response: &Response, period: usize) -> State
+fn state_in_period(unit: &Unit, response: &Response, period: usize) -> State
     requires { period ≤ length (schedule_of response.now).on }
     ensures { IsStateIn (thermal_of unit.now) (schedule_of response.now) period result }
 {
     if period == 0 {
-        return state_before(unit);
+        return state_before_horizon(unit);
     }
     state_at(unit, response, period - 1)
 }
 
 /// A must-run unit is on.
-pub fn must_run_sides(unit: &Unit, response: &Response, place: usize) -> Option<Sides>
-    requires { place < length (schedule_of response.now).on }
+pub fn must_run_sides(unit: &Unit, response: &Response, index: usize) -> Option<Sides>
+    requires { index < length (schedule_of response.now).on }
     ensures { sides_of result ≡ must_run_broken (thermal_of unit.now) (schedule_of response.now)
-        place }
+        index }
 {
-    let on = state_at(unit, response, place).on;
-    sides_unless(!(unit.must_run && !on), 0, 1)
+    let on = state_at(unit, response, index).on;
+    sides_where_false(!(unit.must_run && !on), 0, 1)
 }
 
 // The periods from 1 on in which the unit stays as it was before.
@@ -132,16 +132,16 @@ fn initial_time(unit: &Unit) -> u32
 }
 
 /// A unit stays as it was before the horizon until its minimum time is over.
-pub fn initial_sides(unit: &Unit, response: &Response, place: usize) -> Option<Sides>
-    requires { place < length (schedule_of response.now).on }
+pub fn initial_sides(unit: &Unit, response: &Response, index: usize) -> Option<Sides>
+    requires { index < length (schedule_of response.now).on }
     ensures { sides_of result ≡ initial_broken (thermal_of unit.now) (schedule_of response.now)
-        place }
+        index }
 {
-    if initial_time(unit) as usize <= place {
+    if initial_time(unit) as usize <= index {
         return None;
     }
-    let on = on_in_period(unit, response, place + 1);
-    sides_unless(unit.on0 == on, i64::from(on), i64::from(unit.on0))
+    let on = on_in_period(unit, response, index + 1);
+    sides_where_false(unit.on0 == on, i64::from(on), i64::from(unit.on0))
 }
 
 // The start or stop since which the unit is as it is in a period, where one lies in the horizon.
@@ -169,43 +169,43 @@ fn run_sides(since: Option<usize>, end: usize, minimum: u32) -> Option<Sides>
         None => None,
         Some(start) => {
             let run = end.saturating_sub(start);
-            sides_unless(minimum as usize <= run, run as i64, i64::from(minimum))
+            sides_where_false(minimum as usize <= run, run as i64, i64::from(minimum))
         }
     }
 }
 
 /// A unit that started in the horizon stops only after its minimum time up.
-pub fn min_up_sides(unit: &Unit, response: &Response, place: usize) -> Option<Sides>
-    requires within { place < length (schedule_of response.now).on }
+pub fn min_up_sides(unit: &Unit, response: &Response, index: usize) -> Option<Sides>
+    requires within { index < length (schedule_of response.now).on }
     requires horizon { length (schedule_of response.now).on ≤ MOST_PERIODS }
     ensures { sides_of result ≡ min_up_broken (thermal_of unit.now) (schedule_of response.now)
-        place }
+        index }
 {
-    if !stops_at(unit, response, place) {
+    if !stops_at(unit, response, index) {
         return None;
     }
-    run_sides(change_before(unit, response, place), place + 1, unit.min_up)
+    run_sides(change_before(unit, response, index), index + 1, unit.min_up)
 }
 
 /// A unit that stopped in the horizon starts only after its minimum time down.
-pub fn min_down_sides(unit: &Unit, response: &Response, place: usize) -> Option<Sides>
-    requires within { place < length (schedule_of response.now).on }
+pub fn min_down_sides(unit: &Unit, response: &Response, index: usize) -> Option<Sides>
+    requires within { index < length (schedule_of response.now).on }
     requires horizon { length (schedule_of response.now).on ≤ MOST_PERIODS }
     ensures { sides_of result ≡ min_down_broken (thermal_of unit.now) (schedule_of response.now)
-        place }
+        index }
 {
-    if !starts_at(unit, response, place) {
+    if !starts_at(unit, response, index) {
         return None;
     }
     run_sides(
-        change_before(unit, response, place),
-        place + 1,
+        change_before(unit, response, index),
+        index + 1,
         unit.min_down,
     )
 }
 
 /// The first of two broken rules.
-pub fn first_of(first: Option<Sides>, second: Option<Sides>) -> Option<Sides>
+pub fn first_broken(first: Option<Sides>, second: Option<Sides>) -> Option<Sides>
     ensures { sides_of result ≡ or_else (sides_of first) (sides_of second) }
 {
     match first {
@@ -216,43 +216,46 @@ pub fn first_of(first: Option<Sides>, second: Option<Sides>) -> Option<Sides>
 
 /// An on unit gives at least its least power, and with reserve at most its greatest; an off unit
 /// gives nothing.
-pub fn range_sides(unit: &Unit, response: &Response, place: usize) -> Option<Sides>
-    requires { place < length (schedule_of response.now).on }
+pub fn range_sides(unit: &Unit, response: &Response, index: usize) -> Option<Sides>
+    requires { index < length (schedule_of response.now).on }
     ensures { sides_of result ≡ range_broken (thermal_of unit.now) (schedule_of response.now)
-        place }
+        index }
 {
-    let power = response.power_at(place);
-    let now = state_at(unit, response, place);
+    let power = response.power_at(index);
+    let now = state_at(unit, response, index);
     if now.on {
-        return first_of(
-            at_most(unit.min_power, power),
-            at_most(now.output, unit.max_power),
+        return first_broken(
+            sides_above_limit(unit.min_power, power),
+            sides_above_limit(now.output, unit.max_power),
         );
     }
-    first_of(at_most(power, 0), at_most(now.reserve, 0))
+    first_broken(
+        sides_above_limit(power, 0),
+        sides_above_limit(now.reserve, 0),
+    )
 }
 
 // A limit that isn't above the greatest power.
-fn limit_within(unit: &Unit, limit: i64) -> i64
+fn limit_within_capacity(unit: &Unit, limit: i64) -> i64
     ensures { result ≡ int_min limit unit.now.max_power }
 {
     limit.min(unit.max_power)
 }
 
 /// In a start period the output is within the start limit.
-pub fn start_sides(unit: &Unit, response: &Response, place: usize) -> Option<Sides>
-    requires { place < length (schedule_of response.now).on }
+pub fn start_sides(unit: &Unit, response: &Response, index: usize) -> Option<Sides>
+    requires { index < length (schedule_of response.now).on }
     ensures { sides_of result ≡ start_broken (thermal_of unit.now) (schedule_of response.now)
-        place }
+        index }
 {
-    if on_in_period(unit, response, place) {
+    if on_in_period(unit, response, index) {
         return None;
     }
-    let now = state_at(unit, response, place);
+    let now = state_at(unit, response, index);
     if !now.on {
         return None;
     }
-    at_most(now.output, limit_within(unit, unit.start_limit))
+    sides_above_limit(now.output, limit_within_capacity(unit, unit.start_limit))
 }
 
 /// In the last on period before a stop the output is within the stop limit.
@@ -261,70 +264,70 @@ pub fn stop_sides(unit: &Unit, response: &Response, period: usize) -> Option<Sid
     ensures { sides_of result ≡ stop_broken (thermal_of unit.now) (schedule_of response.now)
         period }
 {
-    let last = state_in(unit, response, period);
+    let last = state_in_period(unit, response, period);
     if !last.on {
         return None;
     }
     if state_at(unit, response, period).on {
         return None;
     }
-    at_most(last.output, limit_within(unit, unit.stop_limit))
+    sides_above_limit(last.output, limit_within_capacity(unit, unit.stop_limit))
 }
 
 // How far the power with reserve rises above the power of the period before.
-fn rise_at(unit: &Unit, response: &Response, place: usize) -> i64
-    requires { place < length (schedule_of response.now).on }
+fn power_rise_at(unit: &Unit, response: &Response, index: usize) -> i64
+    requires { index < length (schedule_of response.now).on }
     ensures { result ≡ above_with_reserve (thermal_of unit.now) (schedule_of response.now)
-        (suc place)
-        -ℤ above_min (thermal_of unit.now) (schedule_of response.now) place }
+        (suc index)
+        -ℤ above_min (thermal_of unit.now) (schedule_of response.now) index }
 {
-    let before = state_in(unit, response, place);
-    let now = state_at(unit, response, place);
+    let before = state_in_period(unit, response, index);
+    let now = state_at(unit, response, index);
     now.above + now.reserve - before.above
 }
 
 // How far the power falls below that of the period before.
-fn fall_at(unit: &Unit, response: &Response, place: usize) -> i64
-    requires { place < length (schedule_of response.now).on }
-    ensures { result ≡ above_min (thermal_of unit.now) (schedule_of response.now) place
-        -ℤ above_min (thermal_of unit.now) (schedule_of response.now) (suc place) }
+fn power_fall_at(unit: &Unit, response: &Response, index: usize) -> i64
+    requires { index < length (schedule_of response.now).on }
+    ensures { result ≡ above_min (thermal_of unit.now) (schedule_of response.now) index
+        -ℤ above_min (thermal_of unit.now) (schedule_of response.now) (suc index) }
 {
-    let before = state_in(unit, response, place);
-    let now = state_at(unit, response, place);
+    let before = state_in_period(unit, response, index);
+    let now = state_at(unit, response, index);
     before.above - now.above
 }
 
 /// The power with reserve rises by at most the ramp.
-pub fn ramp_up_sides(unit: &Unit, response: &Response, place: usize) -> Option<Sides>
-    requires { place < length (schedule_of response.now).on }
+pub fn ramp_up_sides(unit: &Unit, response: &Response, index: usize) -> Option<Sides>
+    requires { index < length (schedule_of response.now).on }
     ensures { sides_of result ≡ ramp_up_broken (thermal_of unit.now) (schedule_of response.now)
-        place }
+        index }
 {
-    let rise = rise_at(unit, response, place);
-    at_most(rise, unit.ramp_up)
+    let rise = power_rise_at(unit, response, index);
+    sides_above_limit(rise, unit.ramp_up)
 }
 
 /// The power falls by at most the ramp.
-pub fn ramp_down_sides(unit: &Unit, response: &Response, place: usize) -> Option<Sides>
-    requires { place < length (schedule_of response.now).on }
+pub fn ramp_down_sides(unit: &Unit, response: &Response, index: usize) -> Option<Sides>
+    requires { index < length (schedule_of response.now).on }
     ensures { sides_of result ≡ ramp_down_broken (thermal_of unit.now) (schedule_of response.now)
-        place }
+        index }
 {
-    let fall = fall_at(unit, response, place);
-    at_most(fall, unit.ramp_down)
+    let fall = power_fall_at(unit, response, index);
+    sides_above_limit(fall, unit.ramp_down)
 }
 
 /// A unit is on where its window says so, and off where it says so.
-pub fn window_sides(unit: &Unit, response: &Response, place: usize) -> Option<Sides>
-    requires within { place < length (schedule_of response.now).on }
+pub fn window_sides(unit: &Unit, response: &Response, index: usize) -> Option<Sides>
+    requires within { index < length (schedule_of response.now).on }
     requires window { length (thermal_of unit.now).window ≡ length (schedule_of response.now).on }
     ensures { sides_of result ≡ window_broken (thermal_of unit.now) (schedule_of response.now)
-        place }
+        index }
 {
-    let on = on_in_period(unit, response, place + 1);
-    match *unit.window.get(place) {
+    let on = on_in_period(unit, response, index + 1);
+    match *unit.window.get(index) {
         Mark::Free => None,
-        Mark::MustOff => sides_unless(!on, 1, 0),
-        Mark::MustOn => sides_unless(on, 0, 1),
+        Mark::MustOff => sides_where_false(!on, 1, 0),
+        Mark::MustOn => sides_where_false(on, 0, 1),
     }
 }

@@ -30,28 +30,28 @@ pub struct Totals {
 }
 
 // The sums with one more schedule.
-fn with_response(totals: Totals, response: &Response, place: usize) -> Totals
-    requires place { place < length (schedule_of response.now).on }
+fn totals_with_response(totals: Totals, response: &Response, index: usize) -> Totals
+    requires index { index < length (schedule_of response.now).on }
     requires power { IsFrom (pos 0) (pos 1000000000000000) totals.power }
     requires reserve { IsFrom (pos 0) (pos 1000000000000000) totals.reserve }
-    ensures power { result.power ≡ totals.power +ℤ power_in (schedule_of response.now) (suc place) }
+    ensures power { result.power ≡ totals.power +ℤ power_in (schedule_of response.now) (suc index) }
     ensures reserve { result.reserve ≡ totals.reserve
-        +ℤ reserve_in (schedule_of response.now) (suc place) }
+        +ℤ reserve_in (schedule_of response.now) (suc index) }
     ensures power_limit { IsFrom (pos 0) (totals.power +ℤ pos 4294967296) result.power }
     ensures reserve_limit { IsFrom (pos 0) (totals.reserve +ℤ pos 4294967296) result.reserve }
 {
     Totals {
-        power: totals.power + response.power_at(place),
-        reserve: totals.reserve + response.reserve_at(place),
+        power: totals.power + response.power_at(index),
+        reserve: totals.reserve + response.reserve_at(index),
     }
 }
 
-// The sums over schedules at a place.
-fn totals_at(responses: &[Response], place: usize) -> Totals
+// The sums over schedules at an index.
+fn totals_at(responses: &[Response], index: usize) -> Totals
     requires count { length responses.now ≤ 20000 }
-    requires place { All (λ (r : Response). place < length (schedule_of r).on) responses.now }
-    ensures power { result.power ≡ powers_at (map schedule_of responses.now) place }
-    ensures reserve { result.reserve ≡ reserves_at (map schedule_of responses.now) place }
+    requires index { All (λ (r : Response). index < length (schedule_of r).on) responses.now }
+    ensures power { result.power ≡ powers_at (map schedule_of responses.now) index }
+    ensures reserve { result.reserve ≡ reserves_at (map schedule_of responses.now) index }
     ensures power_limit { IsFrom (pos 0) (pos 100000000000000) result.power }
     ensures reserve_limit { IsFrom (pos 0) (pos 100000000000000) result.reserve }
 {
@@ -60,35 +60,35 @@ fn totals_at(responses: &[Response], place: usize) -> Totals
         reserve: 0,
     };
     for response in responses {
-        totals = with_response(totals, response, place);
+        totals = totals_with_response(totals, response, index);
     }
     totals
 }
 
-/// The power at a place that the thermal and renewable units give, less what the bids buy, in
+/// The power at an index that the thermal and renewable units give, less what the bids buy, in
 /// kilowatts.
-pub fn net_power(case: &Case, plan: &Plan, place: usize) -> i64
+pub fn net_power(case: &Case, plan: &Plan, index: usize) -> i64
     requires shape { HasPlanShape (market_of case.now) (schedules_of plan.now) }
-    requires within { place < (market_of case.now).periods }
+    requires within { index < (market_of case.now).periods }
     ensures value { result ≡ total_power (units (market_of case.now)) (schedules_of plan.now)
-        place }
+        index }
     ensures limit { IsFrom (neg_ℤ (pos 100000000000000)) (pos 100000000000000) result }
 {
     let producers = case.producer_count();
     let (producing, buying) = plan.responses.as_slice().split_at(producers);
-    let given = totals_at(producing, place);
-    let bought = totals_at(buying, place);
+    let given = totals_at(producing, index);
+    let bought = totals_at(buying, index);
     given.power - bought.power
 }
 
-/// What keeps the powers from summing to demand at a place.
-pub fn balance_sides(case: &Case, plan: &Plan, place: usize) -> Option<Sides>
+/// What keeps the powers from summing to demand at an index.
+pub fn balance_sides(case: &Case, plan: &Plan, index: usize) -> Option<Sides>
     requires shape { HasPlanShape (market_of case.now) (schedules_of plan.now) }
-    requires within { place < (market_of case.now).periods }
-    ensures { sides_of result ≡ balance_broken (market_of case.now) (schedules_of plan.now) place }
+    requires within { index < (market_of case.now).periods }
+    ensures { sides_of result ≡ balance_broken (market_of case.now) (schedules_of plan.now) index }
 {
-    let total = net_power(case, plan, place);
-    let demand = *case.demand.get(place);
+    let total = net_power(case, plan, index);
+    let demand = *case.demand.get(index);
     if total == demand {
         return None;
     }
@@ -107,29 +107,29 @@ pub struct Reserves {
     pub given: i64,
 }
 
-/// The reserves of period `place + 1`.
-pub fn reserves_in(case: &Case, plan: &Plan, place: usize) -> Reserves
+/// The reserves of period `index + 1`.
+pub fn reserves_in(case: &Case, plan: &Plan, index: usize) -> Reserves
     requires shape { HasPlanShape (market_of case.now) (schedules_of plan.now) }
-    requires within { place < (market_of case.now).periods }
-    ensures required { result.required ≡ int_at (market_of case.now).reserves place }
+    requires within { index < (market_of case.now).periods }
+    ensures required { result.required ≡ int_at (market_of case.now).reserves index }
     ensures given { result.given ≡ total_reserve (units (market_of case.now))
-        (schedules_of plan.now) place }
+        (schedules_of plan.now) index }
     ensures required_limit { IsPower result.required }
     ensures given_limit { IsFrom (pos 0) (pos 100000000000000) result.given }
 {
-    let totals = totals_at(plan.responses.as_slice(), place);
+    let totals = totals_at(plan.responses.as_slice(), index);
     Reserves {
-        required: *case.reserves.get(place),
+        required: *case.reserves.get(index),
         given: totals.reserve,
     }
 }
 
-/// What the reserves lack at a place.
-pub fn reserve_sides(case: &Case, plan: &Plan, place: usize) -> Option<Sides>
+/// What the reserves lack at an index.
+pub fn reserve_sides(case: &Case, plan: &Plan, index: usize) -> Option<Sides>
     requires shape { HasPlanShape (market_of case.now) (schedules_of plan.now) }
-    requires within { place < (market_of case.now).periods }
-    ensures { sides_of result ≡ reserve_broken (market_of case.now) (schedules_of plan.now) place }
+    requires within { index < (market_of case.now).periods }
+    ensures { sides_of result ≡ reserve_broken (market_of case.now) (schedules_of plan.now) index }
 {
-    let reserves = reserves_in(case, plan, place);
-    rules::at_most(reserves.required, reserves.given)
+    let reserves = reserves_in(case, plan, index);
+    rules::sides_above_limit(reserves.required, reserves.given)
 }

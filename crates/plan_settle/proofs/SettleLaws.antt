@@ -52,8 +52,8 @@ pub tops_for : AnswersAreTops → (c : Content) (chosen : ℕ) (row : Proposal) 
     ((u : ℕ) → u < unit_count c.setup.market → int_at earned u ≡ (kept_answer c chosen u).earned) → m ≡ c.setup.market →
     xs ≡ earned →
     AllZip (λ (u : AnyUnit) (e : ℤ). IsTop u row.prices e) (units m) xs
-tops_for tops_at c chosen row m earned xs setup legal place is count each same list =
-    let number : chosen ≡ suc (chosen - 1) = omega (arith, place.first) in
+tops_for tops_at c chosen row m earned xs setup legal index is count each same list =
+    let number : chosen ≡ suc (chosen - 1) = omega (arith, index.first) in
     let top = tops_at c (chosen - 1) row setup.some_ahead legal is earned count
     (λ u h. subst (λ (n : ℕ). int_at earned u ≡ (kept_answer c n u).earned) number (each u h)) in
     subst (λ (ys : List ℤ). AllZip (λ (u : AnyUnit) (e : ℤ). IsTop u row.prices e) (units m) ys) (sym list)

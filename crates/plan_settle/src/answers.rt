@@ -12,7 +12,7 @@ use plain_lists::lists::Numbers;
 use uc_model::cases::Case;
 use uc_model::units::{Prices, ResponseList};
 use unit_program::case_laws::units_can_answer;
-use unit_program::{Bench, answer_at};
+use unit_program::{Bench, answer_numbered_unit};
 
 /// Leaves the least best response of each unit and bid at the prices in `responses`, and what it
 /// earns in money in `earned`, in the order of the units' numbers. Both lists have room for them.
@@ -45,7 +45,7 @@ pub fn answer_all(
         let Some(mut answer) = answers.pop() else {
             return;
         };
-        answer_at(bench, &last, case, prices, number, &mut answer);
+        answer_numbered_unit(bench, &last, case, prices, number, &mut answer);
         earned.push(answer.earned);
         responses.push(answer.response);
     }

@@ -42,7 +42,7 @@ pub fn chosen_room(
 
 /// Leaves what each unit earns at best at the prices of a row, in money and in the order of the
 /// units' numbers.
-fn earn_at(closed: &Closed, row: u32, earned: &mut Numbers)
+fn write_earnings_at_row(closed: &Closed, row: u32, earned: &mut Numbers)
     requires first { 1 ≤ row }
     requires last { row ≤ length (own_rows closed.now) }
     requires room { units_in closed.now.setup.market ≤ length earned.old.items + earned.old.spare }
@@ -71,7 +71,7 @@ pub fn settle_chosen(closed: &Closed, earned: &mut Numbers, settlement: &mut Set
     answers_are_tops();
     let rows = closed.rows();
     let chosen = closed.chosen();
-    earn_at(closed, chosen, earned);
+    write_earnings_at_row(closed, chosen, earned);
     let row = &rows[chosen as usize - 1];
     settle(
         closed.case(),

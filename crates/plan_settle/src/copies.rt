@@ -36,14 +36,14 @@ pub fn copied_bid(alloc: Global, bid: &Bid) -> Result<Bid, AllocError>
     ensures { IfOk result (λ b. bid_of b ≡ bid_of bid.now) }
 {
     let mut blocks = BlockLists::make(alloc, bid.blocks.len() as u32)?;
-    for place in 0..bid.blocks.len() {
-        blocks.push(copied_list(alloc, bid.blocks.get(place))?);
+    for index in 0..bid.blocks.len() {
+        blocks.push(copied_list(alloc, bid.blocks.get(index))?);
     }
     Ok(Bid { blocks })
 }
 
 // On where the schedule is on, and off elsewhere.
-fn mark_of(on: bool) -> Mark
+fn mark_of_flag(on: bool) -> Mark
     ensures { result ≡ held_mark on }
 {
     if on { Mark::MustOn } else { Mark::MustOff }
@@ -55,8 +55,8 @@ fn held_window(alloc: Global, on: &Flags) -> Result<Marks, AllocError>
     ensures { IfOk result (λ window. window.items ≡ map held_mark on.now.items) }
 {
     let mut window = Marks::make(alloc, on.len() as u32)?;
-    for place in 0..on.len() {
-        window.push(mark_of(*on.get(place)));
+    for index in 0..on.len() {
+        window.push(mark_of_flag(*on.get(index)));
     }
     Ok(window)
 }

@@ -36,8 +36,8 @@ fn held_units(alloc: Global, case: &Case, plan: &Plan) -> Result<ThermalList, Al
         ≡ zip_with held_named (market_of case.now).thermal (schedules_of plan.now)) }
 {
     let mut units = ThermalList::make(alloc, case.thermal.len() as u32)?;
-    for place in 0..case.thermal.len() {
-        let unit = held_unit_of(alloc, case.thermal.get(place), plan.responses.get(place))?;
+    for index in 0..case.thermal.len() {
+        let unit = held_unit_of(alloc, case.thermal.get(index), plan.responses.get(index))?;
         units.push(unit);
     }
     Ok(units)
@@ -59,8 +59,8 @@ fn copied_flats(alloc: Global, from: &FlatList) -> Result<FlatList, AllocError>
         ≡ map named_renewable_of from.now.items) }
 {
     let mut flats = FlatList::make(alloc, from.len() as u32)?;
-    for place in 0..from.len() {
-        flats.push(copied_named_flat(alloc, from.get(place))?);
+    for index in 0..from.len() {
+        flats.push(copied_named_flat(alloc, from.get(index))?);
     }
     Ok(flats)
 }
@@ -80,8 +80,8 @@ fn copied_bids(alloc: Global, from: &BidList) -> Result<BidList, AllocError>
     ensures { IfOk result (λ list. map named_bid_of list.items ≡ map named_bid_of from.now.items) }
 {
     let mut bids = BidList::make(alloc, from.len() as u32)?;
-    for place in 0..from.len() {
-        bids.push(copied_named_bid(alloc, from.get(place))?);
+    for index in 0..from.len() {
+        bids.push(copied_named_bid(alloc, from.get(index))?);
     }
     Ok(bids)
 }

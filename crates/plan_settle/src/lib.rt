@@ -27,4 +27,4 @@ pub use chosen::{chosen_room, settle_chosen};
 pub use done::Done;
 pub use fix::fix_case;
 pub use settle::settle_at;
-pub use sides::{Sides, hold_commitments, own_side, settled_side, side_room};
+pub use sides::{Sides, hold_commitments, settled_side, side_of_own_run, side_room};

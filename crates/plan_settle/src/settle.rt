@@ -9,7 +9,7 @@ ghost use Rattle.plan_settle.specs.Rooms.{HasRoom};
 
 use crate::answers::answer_all;
 use crate::room::Room;
-use price_settle::{Settled, settle, total_all};
+use price_settle::{Settled, settle, total_responses};
 use price_space::{dual_value, earned_sum};
 use std::alloc::{AllocError, Global};
 use uc_model::cases::{Case, Plan, Row};
@@ -21,7 +21,13 @@ use uc_model::units::Prices;
 use unit_program::Bench;
 
 // The settlement in room that is there.
-fn settle_in(case: &Case, plan: &Plan, prices: Prices, bench: &mut Bench, room: Room) -> Settled
+fn settle_in_room(
+    case: &Case,
+    plan: &Plan,
+    prices: Prices,
+    bench: &mut Bench,
+    room: Room,
+) -> Settled
     requires feasible { IsFeasiblePlan (market_of case.now) (schedules_of plan.now) }
     requires bench { IsBenchOver (market_of case.now) bench.old }
     requires horizon { length (prices_of prices).energy ≡ (market_of case.now).periods }
@@ -45,7 +51,7 @@ fn settle_in(case: &Case, plan: &Plan, prices: Prices, bench: &mut Bench, room: 
     } = room;
     answer_all(bench, case, &prices, spare, &mut responses, &mut earned);
     let responses = Plan { responses };
-    total_all(case, &responses, &mut supply, &mut reserve);
+    total_responses(case, &responses, &mut supply, &mut reserve);
     let value = dual_value(case, &prices, earned_sum(earned.as_slice()));
     settle(case, plan, &prices, earned.as_slice(), &mut settlement);
     let row = Row {
@@ -85,5 +91,5 @@ pub fn settle_at(
     ensures bench { IsBenchOver (market_of case.now) bench.new }
 {
     let room = Room::make(alloc, case)?;
-    Ok(settle_in(case, plan, prices, bench, room))
+    Ok(settle_in_room(case, plan, prices, bench, room))
 }

@@ -40,7 +40,7 @@ pub struct Sides {
 
 /// The side of a run that has ended, with its terms: its chosen prices are copied into the room.
 /// Lets all else of the run go, and takes no memory.
-pub fn own_side(done: Done, room: Prices) -> (Side, Terms)
+pub fn side_of_own_run(done: Done, room: Prices) -> (Side, Terms)
     requires ended { IsEnded done.closed.setup done }
     requires horizon { length (prices_of room).energy ≡ done.closed.setup.market.periods }
     ensures side { IsOwnSide done.closed.setup result.0 }

@@ -15,6 +15,6 @@ paid_for prices amounts =
 abbrev pub earned_in : Market → List Schedule → PriceLists → List ℤ
 earned_in m plan π = zip_with (λ (u : AnyUnit) (s : Schedule). earnings u π s) (units m) plan
 
--- the reserve of all units above the requirement at a place
+-- the reserve of all units above the requirement at an index
 abbrev pub surplus_at : Market → List Schedule → ℕ → ℤ
 surplus_at m plan k = total_reserve (units m) plan k -ℤ int_at m.reserves k

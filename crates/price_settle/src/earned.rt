@@ -29,9 +29,9 @@ fn paid_for_amounts(prices: &Numbers, amounts: &Powers) -> i128
         result }
 {
     let mut sum = 0;
-    for place in 0..amounts.len() {
-        let price = *prices.get(place);
-        let amount = *amounts.get(place);
+    for index in 0..amounts.len() {
+        let price = *prices.get(index);
+        let amount = *amounts.get(index);
         sum += money::worth_at_price(price, i64::from(amount));
     }
     sum

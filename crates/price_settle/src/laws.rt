@@ -15,7 +15,7 @@ pub fn one_settlement()
 }
 
 /// Payments and surplus are the plan's cost less the dual value, and none of them is below 0.
-pub fn settlements_add_up()
+pub fn payments_and_surplus_make_the_gap()
     ensures { SettlementsAddUp }
 {
     payments_make_up_the_gap();

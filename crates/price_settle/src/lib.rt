@@ -16,4 +16,4 @@ mod totals;
 
 pub use settled::Settled;
 pub use settlement::{Settlement, settle};
-pub use totals::total_all;
+pub use totals::total_responses;

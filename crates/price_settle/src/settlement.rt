@@ -68,35 +68,35 @@ impl Settlement {
     }
 }
 
-// The reserve above the requirement at a place, in kilowatts; below 0 where it lacks.
-fn reserve_over(case: &Case, plan: &Plan, place: usize) -> i64
+// The reserve above the requirement at an index, in kilowatts; below 0 where it lacks.
+fn surplus_reserve_at(case: &Case, plan: &Plan, index: usize) -> i64
     requires feasible { IsFeasiblePlan (market_of case.now) (schedules_of plan.now) }
-    requires place { place < (market_of case.now).periods }
-    ensures value { result ≡ surplus_at (market_of case.now) (schedules_of plan.now) place }
+    requires index { index < (market_of case.now).periods }
+    ensures value { result ≡ surplus_at (market_of case.now) (schedules_of plan.now) index }
     ensures limit { IsFrom (neg_ℤ (pos 200000000000000)) (pos 200000000000000) result }
 {
     feasible_plans_have_shape();
-    let reserves = reserves_in(case, plan, place);
+    let reserves = reserves_in(case, plan, index);
     reserves.given - reserves.required
 }
 
 // What the surplus reserve of all periods is worth.
-fn surplus_of(case: &Case, plan: &Plan, prices: &Prices) -> i128
+fn worth_of_surplus(case: &Case, plan: &Plan, prices: &Prices) -> i128
     requires feasible { IsFeasiblePlan (market_of case.now) (schedules_of plan.now) }
     requires horizon { length (prices_of prices.now).energy ≡ (market_of case.now).periods }
     ensures { result ≡ surplus_value (market_of case.now) (schedules_of plan.now)
         (prices_of prices.now) }
 {
     let mut sum = 0;
-    for place in 0..case.periods as usize {
-        let price = *prices.reserve.get(place);
-        sum += worth_at_price(price, reserve_over(case, plan, place));
+    for index in 0..case.periods as usize {
+        let price = *prices.reserve.get(index);
+        sum += worth_at_price(price, surplus_reserve_at(case, plan, index));
     }
     sum
 }
 
 // What the best schedules of the unit of a number earn.
-fn best_of(earned: &[i64], number: usize) -> i64
+fn best_earnings_of(earned: &[i64], number: usize) -> i64
     requires { number < length earned.now }
     ensures { slice_get earned.now number ≡ Some result }
 {
@@ -157,8 +157,8 @@ pub fn settle(case: &Case, plan: &Plan, prices: &Prices, earned: &[i64], into: &
     into.total = 0;
     for number in 0..earned.len() {
         let scheduled = earned_by(case, plan, prices, number);
-        let payment = payment_of(best_of(earned, number), scheduled);
+        let payment = payment_of(best_earnings_of(earned, number), scheduled);
         add_unit(into, scheduled, payment);
     }
-    into.surplus = surplus_of(case, plan, prices);
+    into.surplus = worth_of_surplus(case, plan, prices);
 }

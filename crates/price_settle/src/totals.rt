@@ -12,7 +12,7 @@ use uc_model::cases::{Case, Plan};
 
 /// Leaves the totals of the responses over the periods, in kilowatts, in lists with room for them:
 /// in `supply` the powers of the units less those of the bids, and the reserves in `reserve`.
-pub fn total_all(case: &Case, responses: &Plan, supply: &mut Amounts, reserve: &mut Amounts)
+pub fn total_responses(case: &Case, responses: &Plan, supply: &mut Amounts, reserve: &mut Amounts)
     requires shape { HasPlanShape (market_of case.now) (schedules_of responses.now) }
     requires no_supply { supply.old.items ≡ [] }
     requires supply_room { (market_of case.now).periods ≤ supply.old.spare }
@@ -25,8 +25,8 @@ pub fn total_all(case: &Case, responses: &Plan, supply: &mut Amounts, reserve: &
         ≡ map (total_reserve (units (market_of case.now)) (schedules_of responses.now))
         (range_with_len 0 (market_of case.now).periods) }
 {
-    for place in 0..case.periods as usize {
-        supply.push(i128::from(net_power(case, responses, place)));
-        reserve.push(i128::from(reserves_in(case, responses, place).given));
+    for index in 0..case.periods as usize {
+        supply.push(i128::from(net_power(case, responses, index)));
+        reserve.push(i128::from(reserves_in(case, responses, index).given));
     }
 }

@@ -9,7 +9,7 @@ ghost use Rattle.price_space.specs.Moves.{values_of};
 use uc_model::cases::Row;
 
 // The later place where its row's value is greater.
-fn better_of(rows: &[Row], best: usize, later: usize) -> usize
+fn better_row(rows: &[Row], best: usize, later: usize) -> usize
     requires best { best < length rows.now }
     requires later { later < length rows.now }
     ensures { result ≡ (if int_lt (int_at (values_of (map proposal_of rows.now)) best)
@@ -31,14 +31,14 @@ pub fn greatest_row(rows: &[Row]) -> usize
 {
     let mut best = 0;
     for i in 1..rows.len() {
-        best = better_of(rows, best, i);
+        best = better_row(rows, best, i);
     }
     best
 }
 
 /// The place of the first row with the greatest value among those up to and with `last_row`, where
 /// `best` is that place among those before it, if there are some.
-pub fn greatest_with(rows: &[Row], last: usize, best: usize) -> usize
+pub fn greatest_row_with(rows: &[Row], last: usize, best: usize) -> usize
     requires last { last < length rows.now }
     requires best { 0 < last → IsFirstUpTo (values_of (map proposal_of rows.now)) last best }
     ensures { IsFirstUpTo (values_of (map proposal_of rows.now)) (last + 1) result }
@@ -46,5 +46,5 @@ pub fn greatest_with(rows: &[Row], last: usize, best: usize) -> usize
     if last == 0 {
         return 0;
     }
-    better_of(rows, best, last)
+    better_row(rows, best, last)
 }

@@ -63,7 +63,7 @@ fn reserve_entry(case: &Case, row: &Row, k: usize) -> i64
 }
 
 /// The entry of a product's price, whose place counts from 0.
-pub fn entry_on(case: &Case, row: &Row, product: Product, k: usize) -> i64
+pub fn direction_entry(case: &Case, row: &Row, product: Product, k: usize) -> i64
     requires row { IsRowOver (market_of case.now) (proposal_of row.now) }
     requires place { k < (market_of case.now).periods }
     ensures value { result ≡ direction_on (market_of case.now) (proposal_of row.now) product k }

@@ -25,7 +25,7 @@ mod step;
 mod totals;
 mod value;
 
-pub use best_row::{greatest_row, greatest_with};
+pub use best_row::{greatest_row, greatest_row_with};
 pub use entries::{direction, lack_of_total};
 pub use next::{Moved, next_prices, next_prices_from};
 pub use opening::opening_prices;

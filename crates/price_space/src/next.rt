@@ -29,7 +29,7 @@ pub enum Moved {
 }
 
 // How many rows have come since the first with the greatest value, whose place is `best`.
-fn age_of(rows: &[Row], best: usize) -> usize
+fn rows_since_best(rows: &[Row], best: usize) -> usize
     requires { IsFirstUpTo (values_of (map proposal_of rows.now)) (length rows.now) best }
     ensures { result ≡ age (map proposal_of rows.now) }
 {
@@ -37,7 +37,7 @@ fn age_of(rows: &[Row], best: usize) -> usize
 }
 
 // What a row's value lacks of the cost of the plan.
-fn gap_of(case: &Case, row: &Row, cost: i128) -> i128
+fn gap_of_row(case: &Case, row: &Row, cost: i128) -> i128
     requires row { IsRowBelow (market_of case.now) cost (proposal_of row.now) }
     requires cost { IsWorth cost }
     ensures value { result ≡ cost -ℤ (proposal_of row.now).value }
@@ -47,7 +47,7 @@ fn gap_of(case: &Case, row: &Row, cost: i128) -> i128
 }
 
 // No step is left where the gap or the direction is 0.
-fn is_still(gap: i128, norm: i128) -> bool
+fn has_no_step(gap: i128, norm: i128) -> bool
     ensures { result ≡ ((unsigned_abs gap == 0) || (unsigned_abs norm == 0)) }
 {
     gap == 0 || norm == 0
@@ -106,12 +106,12 @@ pub fn next_prices_from(
     ensures unchanged { result ≡ Moved.Settled → prices_of into.new ≡ prices_of into.old }
 {
     let row = last_row(rows);
-    let gap = gap_of(case, row, cost);
+    let gap = gap_of_row(case, row, cost);
     let norm = norm_of(case, row);
-    if is_still(gap, norm) {
+    if has_no_step(gap, norm) {
         return Moved::Settled;
     }
-    let scale = scale_of(norm, age_of(rows, best));
+    let scale = scale_of(norm, rows_since_best(rows, best));
     let step = Step { gap, scale };
     take_step(case, row, step, Product::Energy, &mut into.energy);
     take_step(case, row, step, Product::Reserve, &mut into.reserve);

@@ -29,7 +29,7 @@ fn opening_price(start: i64, n: u32) -> i64
     price_near(-PRICE_LIMIT, opening_share(start, n))
 }
 
-fn open_energy(start: &Numbers, n: u32, into: &mut Numbers)
+fn write_opening_energy(start: &Numbers, n: u32, into: &mut Numbers)
     requires n { n ≤ MOST_AHEAD }
     requires lengths { length into.old.items ≡ length start.now.items }
     ensures prices { into.new.items ≡ map (opened n) start.now.items }
@@ -60,6 +60,6 @@ pub fn opening_prices(start: &Numbers, n: u32, into: &mut Prices)
     requires lengths { length (prices_of into.old).energy ≡ length start.now.items }
     ensures { prices_of into.new ≡ opening_prices_of start.now.items n }
 {
-    open_energy(start, n, &mut into.energy);
+    write_opening_energy(start, n, &mut into.energy);
     write_zeros(&mut into.reserve);
 }

@@ -69,7 +69,7 @@ fn last_price(units: &[Priced]) -> i64
 }
 
 // The first price up to which the units give what is short, or else the last price, or else 0.
-fn first_reaching(units: &[Priced], short: i64) -> i64
+fn first_price_reaching(units: &[Priced], short: i64) -> i64
     requires rising { IsRising units.now }
     requires powers { All (λ u. IsOutput u.power) units.now }
     requires count { length units.now ≤ MOST_OF_A_KIND }
@@ -86,7 +86,7 @@ fn first_reaching(units: &[Priced], short: i64) -> i64
 }
 
 // A renewable unit's greatest power in a period, whose place counts from 0.
-fn most_at(named: &NamedFlat, k: usize) -> u64
+fn renewable_power_at(named: &NamedFlat, k: usize) -> u64
     requires { k < length (named_renewable_of named.now).unit.most }
     ensures power { pos result ≡ int_at (named_renewable_of named.now).unit.most k }
     ensures bound { result ≤ 1000000000 }
@@ -102,13 +102,13 @@ fn renewable_power(case: &Case, k: usize) -> u64
 {
     let mut power: u64 = 0;
     for named in case.flat.as_slice() {
-        power += most_at(named, k);
+        power += renewable_power_at(named, k);
     }
     power
 }
 
 // What a period's demand lacks of the renewable units' greatest power; it may be below 0.
-fn short_in(case: &Case, k: usize) -> i64
+fn residual_demand(case: &Case, k: usize) -> i64
     requires { k < (market_of case.now).periods }
     ensures { result ≡ int_at (market_of case.now).demand k
         -ℤ renewable_power_of (market_of case.now) k }
@@ -121,7 +121,7 @@ fn start_price(case: &Case, units: &[Priced], k: usize) -> i64
     requires place { k < (market_of case.now).periods }
     ensures { result ≡ start_price_of_market (market_of case.now) k }
 {
-    first_reaching(units, short_in(case, k))
+    first_price_reaching(units, residual_demand(case, k))
 }
 
 /// The start price of each period, in money for a kilowatt: the least full-load price up to which

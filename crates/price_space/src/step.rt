@@ -10,7 +10,7 @@ ghost use Rattle.plain_lists.specs.Sums.{int_at};
 ghost use Rattle.price_space.specs.Moves.{low_of, prices_on, price_after as price_after_step};
 ghost use Rattle.price_space.specs.Sizes.{IsEntry, IsRowOver};
 
-use crate::entries::{Product, direction, entry_on};
+use crate::entries::{Product, direction, direction_entry};
 use plain_lists::lists::Numbers;
 use uc_model::cases::{Case, Row};
 use uc_model::limits::PRICE_LIMIT;
@@ -80,7 +80,7 @@ pub fn move_along(step: Step, entry: i64) -> i128
     step.gap * i128::from(entry) / step.scale
 }
 
-fn low_limit(product: Product) -> i64
+fn least_price_of_product(product: Product) -> i64
     ensures value { result ≡ low_of product }
     ensures bound { IsFrom (neg_ℤ price_limit) price_limit result }
 {
@@ -90,7 +90,7 @@ fn low_limit(product: Product) -> i64
     }
 }
 
-fn price_on(row: &Row, product: Product, k: usize) -> i64
+fn price_of_product(row: &Row, product: Product, k: usize) -> i64
     requires { k < length (proposal_of row.now).prices.energy }
     ensures value { result ≡ int_at (prices_on product (proposal_of row.now)) k }
     ensures bound { IsFrom (neg_ℤ price_limit) price_limit result }
@@ -110,10 +110,10 @@ fn price_after(case: &Case, row: &Row, step: Step, product: Product, k: usize) -
     ensures { result ≡ price_after_step (market_of case.now) (proposal_of row.now) step.gap
         step.scale product k }
 {
-    let by = move_along(step, entry_on(case, row, product, k));
+    let by = move_along(step, direction_entry(case, row, product, k));
     price_near(
-        low_limit(product),
-        i128::from(price_on(row, product, k)) + by,
+        least_price_of_product(product),
+        i128::from(price_of_product(row, product, k)) + by,
     )
 }
 

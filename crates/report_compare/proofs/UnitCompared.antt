@@ -35,29 +35,29 @@ unit_compared first result k l t u s r kind same h =
 
 -- ---- rows one after another
 
-pub rows_step : (line next : ℕ) (result : Result ℕ WrongLine) (place : ℕ) (ps qs : List Proposal) (p q : Proposal) →
-    slice_get ps place ≡ Some p → slice_get qs place ≡ Some q
-    → Compares line (Ok next) (row_lines (suc place) p) (row_lines (suc place) q)
-    → Compares next result (rows_lines (suc (place + 1)) (drop (place + 1) ps))
-    (rows_lines (suc (place + 1)) (drop (place + 1) qs))
-    → Compares line result (rows_lines (suc place) (drop place ps)) (rows_lines (suc place) (drop place qs))
-rows_step line next result place ps qs p q e f here h =
-    let n : suc (place + 1) ≡ suc (suc place) = omega arith in
-    let rest = subst (λ (i : ℕ). Compares next result (rows_lines i (drop (place + 1) ps))
-    (rows_lines i (drop (place + 1) qs))) n h in
-    rw (drop_item ps place p e, drop_item qs place q f)
-    (behind line next result (row_lines (suc place) p) (row_lines (suc place) q)
-    (rows_lines (suc (suc place)) (drop (place + 1) ps)) (rows_lines (suc (suc place)) (drop (place + 1) qs)) here
+pub rows_step : (line next : ℕ) (result : Result ℕ WrongLine) (index : ℕ) (ps qs : List Proposal) (p q : Proposal) →
+    slice_get ps index ≡ Some p → slice_get qs index ≡ Some q
+    → Compares line (Ok next) (row_lines (suc index) p) (row_lines (suc index) q)
+    → Compares next result (rows_lines (suc (index + 1)) (drop (index + 1) ps))
+    (rows_lines (suc (index + 1)) (drop (index + 1) qs))
+    → Compares line result (rows_lines (suc index) (drop index ps)) (rows_lines (suc index) (drop index qs))
+rows_step line next result index ps qs p q e f here h =
+    let n : suc (index + 1) ≡ suc (suc index) = omega arith in
+    let rest = subst (λ (i : ℕ). Compares next result (rows_lines i (drop (index + 1) ps))
+    (rows_lines i (drop (index + 1) qs))) n h in
+    rw (drop_item ps index p e, drop_item qs index q f)
+    (behind line next result (row_lines (suc index) p) (row_lines (suc index) q)
+    (rows_lines (suc (suc index)) (drop (index + 1) ps)) (rows_lines (suc (suc index)) (drop (index + 1) qs)) here
     rest)
 
-pub rows_stop : (line : ℕ) (wrong : WrongLine) (place : ℕ) (ps qs : List Proposal) (p q : Proposal) →
-    slice_get ps place ≡ Some p → slice_get qs place ≡ Some q
-    → Compares line (Err wrong) (row_lines (suc place) p) (row_lines (suc place) q)
-    → Compares line (Err wrong) (rows_lines (suc place) (drop place ps)) (rows_lines (suc place) (drop place qs))
-rows_stop line wrong place ps qs p q e f here =
-    rw (drop_item ps place p e, drop_item qs place q f)
-    (stops line wrong (row_lines (suc place) p) (row_lines (suc place) q)
-    (rows_lines (suc (suc place)) (drop (place + 1) ps)) (rows_lines (suc (suc place)) (drop (place + 1) qs)) here)
+pub rows_stop : (line : ℕ) (wrong : WrongLine) (index : ℕ) (ps qs : List Proposal) (p q : Proposal) →
+    slice_get ps index ≡ Some p → slice_get qs index ≡ Some q
+    → Compares line (Err wrong) (row_lines (suc index) p) (row_lines (suc index) q)
+    → Compares line (Err wrong) (rows_lines (suc index) (drop index ps)) (rows_lines (suc index) (drop index qs))
+rows_stop line wrong index ps qs p q e f here =
+    rw (drop_item ps index p e, drop_item qs index q f)
+    (stops line wrong (row_lines (suc index) p) (row_lines (suc index) q)
+    (rows_lines (suc (suc index)) (drop (index + 1) ps)) (rows_lines (suc (suc index)) (drop (index + 1) qs)) here)
 
 -- ---- units one after another
 
@@ -122,9 +122,9 @@ other_response first k power s r (inr kind) y =
 
 -- ---- where nothing is left
 
-pub rows_end : (line place : ℕ) (ps qs : List Proposal) → length ps ≤ place → length qs ≤ place →
-    Compares line (Ok line) (rows_lines (suc place) (drop place ps)) (rows_lines (suc place) (drop place qs))
-rows_end line place ps qs h k = rw (drop_all ps place h, drop_all qs place k) (refl, omega arith)
+pub rows_end : (line index : ℕ) (ps qs : List Proposal) → length ps ≤ index → length qs ≤ index →
+    Compares line (Ok line) (rows_lines (suc index) (drop index ps)) (rows_lines (suc index) (drop index qs))
+rows_end line index ps qs h k = rw (drop_all ps index h, drop_all qs index k) (refl, omega arith)
 
 pub units_end : (a : Answers) (line number : ℕ) (ms : List Told) (ts : List Title) → length ms ≤ number →
     length ts ≤ number

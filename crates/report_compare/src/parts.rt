@@ -18,14 +18,14 @@ use report_read::Report;
 use uc_model::cases::Case;
 
 // Whether there are so many proposals.
-fn same_length(report: &Report, proposals: usize) -> bool
+fn same_proposal_count(report: &Report, proposals: usize) -> bool
     ensures { Decides result (length report.now.rows.items ≡ proposals) }
 {
     report.rows.len() == proposals
 }
 
 // Whether number and value of the chosen proposal are these.
-fn same_choice(report: &Report, chosen: usize, value: i128) -> bool
+fn same_chosen_proposal(report: &Report, chosen: usize, value: i128) -> bool
     ensures { Decides result ((report.now.chosen ≡ chosen) × (report.now.chosen_value ≡ value)) }
 {
     report.chosen as usize == chosen && report.chosen_value == value
@@ -57,7 +57,7 @@ fn compare_number(first: u32, proposals: usize, report: &Report) -> Result<u32, 
     ensures proposals { IfOk result (λ next. length report.now.rows.items ≡ proposals) }
     ensures next { IfOk result (λ next. next ≡ first + 1) }
 {
-    first_wrong_line(first, &[same_length(report, proposals)])
+    first_wrong_line(first, &[same_proposal_count(report, proposals)])
 }
 
 /// The first seven lines.
@@ -90,7 +90,7 @@ pub fn compare_chosen(
         (chosen_text chosen value ∷ []) }
     ensures next { IfOk result (λ next. next ≡ first + 1) }
 {
-    first_wrong_line(first, &[same_choice(report, chosen, value)])
+    first_wrong_line(first, &[same_chosen_proposal(report, chosen, value)])
 }
 
 /// The last four lines.

@@ -39,7 +39,7 @@ use unit_program::earn_all;
 // The chosen row, and its place among all rows.
 #[derive(Clone, Copy)]
 struct Choice<'a> {
-    place: usize,
+    index: usize,
     row: &'a Row,
 }
 
@@ -56,7 +56,7 @@ fn compare_report(
     requires compare_room { IsDeskFor (market_of case.now) compare_room.old }
     requires earned { length compare_room.old.earned.items ≡ unit_count (market_of case.now) }
     requires rows { length rows.now ≤ MOST_PROPOSALS }
-    requires chosen { choice.now.place ≤ MOST_PROPOSALS }
+    requires chosen { choice.now.index ≤ MOST_PROPOSALS }
     requires horizon { length (prices_of choice.now.row.now.prices).energy ≡ (market_of case.now).periods }
     requires cost { IsWorth cost }
     requires value { IsWorth choice.now.row.now.value }
@@ -70,7 +70,7 @@ fn compare_report(
         (whole_lines (right_of (market_of case.now)
         (answers_of compare_room.old.earned.items compare_room.old.settlement responses)
         (report_of report.now).budget (report_of report.now).ahead cost
-        (map proposal_of rows.now) (choice.now.place + 1) choice.now.row.now.value
+        (map proposal_of rows.now) (choice.now.index + 1) choice.now.row.now.value
         compare_room.old.settlement.surplus compare_room.old.settlement.total)
         (flat_map told_lines (told_from
         (answers_of compare_room.old.earned.items compare_room.old.settlement responses)
@@ -78,7 +78,7 @@ fn compare_report(
 {
     let line = compare_head(case, cost, rows.len(), report)?;
     let line = compare_rows(line, report.rows.as_slice(), rows)?;
-    let line = compare_chosen(line, choice.place + 1, choice.row.value, report)?;
+    let line = compare_chosen(line, choice.index + 1, choice.row.value, report)?;
     let line = compare_units(
         line,
         case,
@@ -141,7 +141,7 @@ pub fn first_difference(
         compare_room.earned.as_slice(),
         &mut compare_room.settlement,
     );
-    let choice = Choice { place: chosen, row };
+    let choice = Choice { index: chosen, row };
     match compare_report(case, cost, rows, &choice, report, compare_room) {
         Ok(_) => None,
         Err(wrong) => Some(wrong.line),

@@ -34,8 +34,8 @@ pub fn compare_rows(first: u32, mine: &[Row], right: &[Row]) -> Result<u32, Wron
     ensures next { IfOk result (λ next. next ≡ first + 5 * length mine.now) }
 {
     let mut line = first;
-    for place in 0..mine.len() {
-        line = compare_row(line, &mine[place], &right[place])?;
+    for index in 0..mine.len() {
+        line = compare_row(line, &mine[index], &right[index])?;
     }
     Ok(line)
 }

@@ -25,7 +25,7 @@ use uc_model::cases::Case;
 use uc_model::kinds::Kind;
 use uc_model::laws::one_schedule_is_least;
 use uc_model::units::{Prices, Response};
-use unit_program::answer_at;
+use unit_program::answer_numbered_unit;
 use unit_program::case_laws::units_can_answer;
 
 // Whether the money is what a unit earns and is owed.
@@ -132,7 +132,7 @@ pub fn compare_units(
     units_can_answer();
     let mut line = first;
     for number in 0..lines.len() {
-        answer_at(
+        answer_numbered_unit(
             &mut compare_room.bench,
             &compare_room.last,
             case,

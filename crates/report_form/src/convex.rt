@@ -8,7 +8,7 @@ ghost use Rattle.report_form.specs.ConvexText.{mixed_text, bounded_text};
 use crate::form::write_form;
 use crate::laws::texts_add_up;
 use crate::parts::Part;
-use crate::settlement::write_levels;
+use crate::settlement::write_prices_and_totals;
 use hull_io::{Sink, WriteFailed};
 use uc_model::cases::Row;
 use uc_model::units::Response;
@@ -34,7 +34,7 @@ pub struct SearchLines {
 
 // Writes the lines before the prices.
 #[tactic(auto, unfolding(crate::specs::ConvexText::search_text))]
-fn write_search<S: Sink>(lines: &SearchLines, out: &mut S) -> Result<(), WriteFailed>
+fn write_search_opening<S: Sink>(lines: &SearchLines, out: &mut S) -> Result<(), WriteFailed>
     ensures { Writes S.held S.faults S.last out.old out.new result
         (search_text lines.now.periods lines.now.units lines.now.cost lines.now.within
         lines.now.rounds lines.now.made) }
@@ -56,7 +56,7 @@ fn write_search<S: Sink>(lines: &SearchLines, out: &mut S) -> Result<(), WriteFa
 /// Writes the lines before the units: what the search was and the prices that it found, with their
 /// dual value and the totals of the best responses.
 #[tactic(auto, unfolding(crate::specs::ConvexText::searched_text))]
-pub fn write_searched<S: Sink>(
+pub fn write_search_before_units<S: Sink>(
     lines: &SearchLines,
     row: &Row,
     out: &mut S,
@@ -66,14 +66,14 @@ pub fn write_searched<S: Sink>(
         lines.now.rounds lines.now.made (proposal_of row.now)) }
 {
     texts_add_up::<S>();
-    write_search(lines, out)?;
-    write_levels(row, out)
+    write_search_opening(lines, out)?;
+    write_prices_and_totals(row, out)
 }
 
 /// Writes the lines behind the units: in money what the surplus reserve of the plan is worth, the
 /// sum of the payments, and the cost of the plan less the dual value; and the mixture's weight.
 #[tactic(auto, unfolding(crate::specs::ConvexText::weighed_text))]
-pub fn write_weighed<S: Sink>(
+pub fn write_search_totals<S: Sink>(
     surplus: i128,
     payments: i128,
     gap: i128,
@@ -97,7 +97,7 @@ pub fn write_weighed<S: Sink>(
 
 /// Writes the line before the entries of a thermal unit, with its name and their number.
 #[tactic(auto, unfolding(crate::specs::ConvexText::mixed_text))]
-pub fn write_mixed<S: Sink>(name: &str, entries: u64, out: &mut S) -> Result<(), WriteFailed>
+pub fn write_mixture_unit<S: Sink>(name: &str, entries: u64, out: &mut S) -> Result<(), WriteFailed>
     ensures { Writes S.held S.faults S.last out.old out.new result
         (mixed_text name.now entries) }
 {
@@ -111,7 +111,7 @@ pub fn write_mixed<S: Sink>(name: &str, entries: u64, out: &mut S) -> Result<(),
 
 /// Writes the lines of an entry: how often it counts, and its schedule.
 #[tactic(auto, unfolding(crate::specs::ConvexText::share_text))]
-pub fn write_share<S: Sink>(
+pub fn write_mixture_entry<S: Sink>(
     weight: i64,
     schedule: &Response,
     out: &mut S,
@@ -137,7 +137,7 @@ pub fn write_share<S: Sink>(
 /// Writes the last lines, in money: the bound on the dual value of all prices, how far it is above
 /// that of the prices found, and what payments and surplus sum to at least.
 #[tactic(auto, unfolding(crate::specs::ConvexText::bounded_text))]
-pub fn write_bounded<S: Sink>(
+pub fn write_search_bound<S: Sink>(
     bound: i128,
     distance: i128,
     least: i128,

@@ -18,7 +18,7 @@ struct Cut<'a> {
 }
 
 // Where the first blank is, if there is one.
-fn blank_in(form: &[u8]) -> Option<usize>
+fn first_blank_in(form: &[u8]) -> Option<usize>
     ensures { result ≡ position is_blank form.now }
 {
     form.iter().position(|byte| *byte == b'%')
@@ -29,10 +29,10 @@ fn cut_at_blank(form: &[u8]) -> Cut<'_>
     ensures before { result.before.now ≡ before_first is_blank form.now }
     ensures behind { result.behind.now ≡ after_first is_blank form.now }
 {
-    match blank_in(form) {
-        Some(place) => Cut {
-            before: &form[..place],
-            behind: &form[place + 1..],
+    match first_blank_in(form) {
+        Some(index) => Cut {
+            before: &form[..index],
+            behind: &form[index + 1..],
         },
         None => Cut {
             before: form,
@@ -41,7 +41,7 @@ fn cut_at_blank(form: &[u8]) -> Cut<'_>
     }
 }
 
-fn add_behind<S: Sink>(
+fn add_text_and_part<S: Sink>(
     out: &mut S,
     piece: &mut Piece,
     text: &[u8],
@@ -54,7 +54,7 @@ fn add_behind<S: Sink>(
     add_part(out, piece, part)
 }
 
-fn write_last<S: Sink>(out: &mut S, piece: Piece, text: &[u8]) -> Result<(), WriteFailed>
+fn write_rest<S: Sink>(out: &mut S, piece: Piece, text: &[u8]) -> Result<(), WriteFailed>
     ensures { Writes S.held S.faults S.last out.old out.new result (piece ++ text.now) }
 {
     let mut piece = piece;
@@ -72,8 +72,8 @@ pub fn write_form<S: Sink>(out: &mut S, form: &[u8], parts: &[Part<'_>]) -> Resu
     let mut rest = form;
     for part in parts {
         let cut = cut_at_blank(rest);
-        add_behind(out, &mut piece, cut.before, part)?;
+        add_text_and_part(out, &mut piece, cut.before, part)?;
         rest = cut.behind;
     }
-    write_last(out, piece, rest)
+    write_rest(out, piece, rest)
 }

@@ -4,7 +4,7 @@ ghost use Rattle.std.specs.List.{flat_map, list_all};
 ghost use Rattle.report_form.specs.Parts.{part_text, hex_of, stands_as_is, escaped, quoted, tally};
 ghost use Rattle.report_form.specs.Pending.{Adds};
 
-use crate::pieces::{Listed, Piece, add_bytes, add_each, add_number, add_worded};
+use crate::pieces::{Listed, Piece, add_bytes, add_items, add_number, add_worded};
 use hull_io::{Sink, WriteFailed};
 
 /// A part of a text.
@@ -101,7 +101,7 @@ fn add_inside<S: Sink>(out: &mut S, piece: &mut Piece, name: &[u8]) -> Result<()
     if is_all_plain(name) {
         add_bytes(out, piece, name)
     } else {
-        add_each(out, piece, name)
+        add_items(out, piece, name)
     }
 }
 
@@ -127,10 +127,10 @@ pub(crate) fn add_part<S: Sink>(
         Part::Text(bytes) => add_bytes(out, piece, bytes),
         Part::Count(n) => add_number(out, piece, n),
         Part::Amount(x) => add_number(out, piece, x),
-        Part::Counts(ns) => add_each(out, piece, ns),
-        Part::Numbers(xs) => add_each(out, piece, xs),
-        Part::Amounts(xs) => add_each(out, piece, xs),
-        Part::Flags(flags) => add_each(out, piece, flags),
+        Part::Counts(ns) => add_items(out, piece, ns),
+        Part::Numbers(xs) => add_items(out, piece, xs),
+        Part::Amounts(xs) => add_items(out, piece, xs),
+        Part::Flags(flags) => add_items(out, piece, flags),
         Part::Tally(word, n) => add_tally(out, piece, word, n),
         Part::Name(name) => add_name(out, piece, name),
     }

@@ -167,7 +167,7 @@ impl Listed for bool {
 }
 
 /// Adds what a list has, one behind the other.
-pub fn add_each<S: Sink, L: Listed>(
+pub fn add_items<S: Sink, L: Listed>(
     out: &mut S,
     piece: &mut Piece,
     items: &[L],

@@ -45,7 +45,7 @@ pub struct Owed {
 
 /// Writes the lines before the proposals.
 #[tactic(auto, unfolding(crate::specs::ReportText::head_text))]
-pub fn write_head<S: Sink>(head: &Head, out: &mut S) -> Result<(), WriteFailed>
+pub fn write_report_head<S: Sink>(head: &Head, out: &mut S) -> Result<(), WriteFailed>
     ensures { Writes S.held S.faults S.last out.old out.new result
         (head_text head.now.periods head.now.units head.now.budget head.now.ahead head.now.cost
         head.now.proposals) }
@@ -94,8 +94,8 @@ pub fn write_rows<S: Sink>(rows: &[Row], out: &mut S) -> Result<(), WriteFailed>
     ensures { Writes S.held S.faults S.last out.old out.new result
         (rows_text 1 (map proposal_of rows.now)) }
 {
-    for (place, row) in rows.iter().enumerate() {
-        write_row(1 + place as u32, row, out)?;
+    for (index, row) in rows.iter().enumerate() {
+        write_row(1 + index as u32, row, out)?;
     }
     Ok(())
 }
@@ -192,7 +192,7 @@ pub fn write_unit<S: Sink>(
 /// Writes the lines behind the units: what the surplus reserve of the plan is worth, the sum of the
 /// payments, and the cost of the plan less the chosen value, in money.
 #[tactic(auto, unfolding(crate::specs::ReportText::foot_text))]
-pub fn write_foot<S: Sink>(
+pub fn write_report_foot<S: Sink>(
     surplus: i128,
     payments: i128,
     gap: i128,

@@ -11,7 +11,7 @@ use uc_model::cases::Row;
 
 // Writes the lines before the prices.
 #[tactic(auto, unfolding(crate::specs::SettlementText::opening_text))]
-fn write_opening<S: Sink>(
+fn write_settlement_opening<S: Sink>(
     periods: u32,
     units: u32,
     cost: i128,
@@ -33,7 +33,7 @@ fn write_opening<S: Sink>(
 
 /// Writes prices with their dual value and the totals of the best responses.
 #[tactic(auto, unfolding(crate::specs::SettlementText::levels_text))]
-pub fn write_levels<S: Sink>(row: &Row, out: &mut S) -> Result<(), WriteFailed>
+pub fn write_prices_and_totals<S: Sink>(row: &Row, out: &mut S) -> Result<(), WriteFailed>
     ensures { Writes S.held S.faults S.last out.old out.new result
         (levels_text (proposal_of row.now)) }
 {
@@ -57,7 +57,7 @@ pub fn write_levels<S: Sink>(row: &Row, out: &mut S) -> Result<(), WriteFailed>
 /// Writes the lines before the units: the number of periods and of units with bids, the cost of the
 /// plan in money, and the prices with their dual value and the totals of the best responses.
 #[tactic(auto, unfolding(crate::specs::SettlementText::priced_text))]
-pub fn write_priced<S: Sink>(
+pub fn write_settlement_before_units<S: Sink>(
     periods: u32,
     units: u32,
     cost: i128,
@@ -68,6 +68,6 @@ pub fn write_priced<S: Sink>(
         (priced_text periods units cost (proposal_of row.now)) }
 {
     texts_add_up::<S>();
-    write_opening(periods, units, cost, out)?;
-    write_levels(row, out)
+    write_settlement_opening(periods, units, cost, out)?;
+    write_prices_and_totals(row, out)
 }

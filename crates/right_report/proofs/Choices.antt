@@ -26,9 +26,9 @@ pub chosen_in : FinishedHasRow → (c : Content) → 1 ≤ c.setup.budget → 1 
     IsChosen c
 chosen_in has_row c budget ahead finished =
     let some = has_row c ahead budget finished in
-    let place = chosen_is (own_rows c) some in
-    let inside = place.1 in
-    let at = place.2 in
+    let index = chosen_is (own_rows c) some in
+    let inside = index.1 in
+    let at = index.2 in
     record { some = some; first = omega (arith, at); last = omega (arith, at, inside) }
 
 row_value : (rows : List Row) (own : List Proposal) (k : ℕ) (row : Row) → map proposal_of rows ≡ own → k < length rows →

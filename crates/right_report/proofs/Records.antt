@@ -207,11 +207,11 @@ module _ (answered : AnswersFit) (made : RowsAreMade) (has_row : FinishedHasRow)
       AreLines c s row (unit_lines (report_of c s))
   lines_are c s row h =
       let some = has_row c h.some_ahead h.some_budget h.finished in
-      let place = chosen_is (own_rows c) some in
-      let at : chosen_of c - 1 ≡ place.0 = omega (arith, place.2) in
+      let index = chosen_is (own_rows c) some in
+      let at : chosen_of c - 1 ≡ index.0 = omega (arith, index.2) in
       let is = subst (λ (n : ℕ). slice_get (own_rows c) n ≡ Some row) at h.chosen in
-      let same = all_lines c s ∙ ap (λ (n : ℕ). lines_from (line_of c s n) 0 (all_names c.setup.market)) place.2 in
-      subst (AreLines c s row) (sym same) (are_lines c s row place.0 h is)
+      let same = all_lines c s ∙ ap (λ (n : ℕ). lines_from (line_of c s n) 0 (all_names c.setup.market)) index.2 in
+      subst (AreLines c s row) (sym same) (are_lines c s row index.0 h is)
 
   pub record_is_right : RecordReportIsRight
   unfolding report_of

@@ -195,10 +195,10 @@ right_reports_exist runs one m plan budget ahead feasible some_budget some_ahead
     let run = runs m (plan_cost m plan) budget ahead plan some_ahead feasible.feasible in
     let rows = run.0 in
     let top = one rows (some_row m (plan_cost m plan) budget ahead rows some_budget run.1) in
-    let place : chosen_number rows - 1 ≡ top.0 = let is = top.2 in omega (arith, is) in
+    let index : chosen_number rows - 1 ≡ top.0 = let is = top.2 in omega (arith, is) in
     let row = get_or rows top.0 no_row in
     let chosen : slice_get rows (chosen_number rows - 1) ≡ Some row =
-    ap (slice_get rows) place ∙ slice_get-get_or rows top.0 no_row top.1 in
+    ap (slice_get rows) index ∙ slice_get-get_or rows top.0 no_row top.1 in
     let next = run.1.right.each top.0 no_row top.1 in
     let plans = length_same (λ (u : AnyUnit) (s : Schedule). IsFeasible u m.periods s) (units m) plan
     feasible.feasible in

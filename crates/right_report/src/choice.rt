@@ -25,7 +25,7 @@ pub struct Choice {
 
 /// What the record of a finished board chooses: the first proposal with the greatest dual value,
 /// which is at most 10^35 in magnitude. Takes no memory.
-pub fn choice_of(closed: &Closed) -> Choice
+pub fn choice_of_record(closed: &Closed) -> Choice
     requires { has_finished closed.now ≡ true }
     ensures proposals { result.proposals ≡ length (own_rows closed.now) }
     ensures most { result.proposals ≤ MOST_PROPOSALS }

@@ -8,5 +8,5 @@ mod choice;
 pub mod laws;
 mod side;
 
-pub use choice::{Choice, choice_of};
+pub use choice::{Choice, choice_of_record};
 pub use side::{Side, chosen_side};

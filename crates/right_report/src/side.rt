@@ -4,7 +4,7 @@ ghost use Rattle.board_store.specs.Calls.{has_finished};
 ghost use Rattle.uc_model.specs.PlainUnits.{prices_of};
 ghost use Rattle.right_report.specs.RightSide.{TellsChoice};
 
-use crate::choice::choice_of;
+use crate::choice::choice_of_record;
 use board_core::Closed;
 use board_store::laws::rows_are_within;
 use plain_lists::lists::copy_list;
@@ -59,7 +59,7 @@ pub fn chosen_side(closed: &Closed, room: Prices, settlement: Settlement) -> Sid
     ensures settlement { result.settlement ≡ settlement }
 {
     rows_are_within();
-    let choice = choice_of(closed);
+    let choice = choice_of_record(closed);
     let row = &closed.rows()[choice.chosen as usize - 1];
     let mut prices = room;
     copy_prices(&row.prices, &mut prices);

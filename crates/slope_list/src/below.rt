@@ -8,10 +8,10 @@ ghost use Rattle.slope_list.specs.Cursors.{AreWithin};
 ghost use Rattle.slope_list.specs.Below.{IsReached, IsNowhereAbove, IsShift};
 
 use crate::cursor::{Reached, seek_power};
-use crate::piece::{Piece, Start, last_power, level_along};
+use crate::piece::{Piece, Start, last_power, level_within_piece};
 
 /// Whether a value with the shift is above another one.
-fn is_over(value: i64, shift: i64, other: i64) -> bool
+fn exceeds_other(value: i64, shift: i64, other: i64) -> bool
     requires value { IsAmount value }
     requires shift { IsShift shift }
     ensures { IsFalse result → (value +ℤ shift) ≤ℤ other }
@@ -20,7 +20,7 @@ fn is_over(value: i64, shift: i64, other: i64) -> bool
 }
 
 /// Goes on to another power of the same piece.
-fn go_on(pieces: &[Piece], start: Start, at: i64, from: Reached, end: i64) -> Reached
+fn advance_to_power(pieces: &[Piece], start: Start, at: i64, from: Reached, end: i64) -> Reached
     requires slopes { AreSlopes start.first pieces.now }
     requires within { AreWithin start pieces.now }
     requires reached { IsReached start pieces.now at from }
@@ -40,7 +40,7 @@ fn go_on(pieces: &[Piece], start: Start, at: i64, from: Reached, end: i64) -> Re
     };
     Reached {
         next,
-        value: level_along(from.value, piece, at, end),
+        value: level_within_piece(from.value, piece, at, end),
     }
 }
 
@@ -69,15 +69,15 @@ pub fn is_below(pieces: &[Piece], start: Start, others: &[Piece], other: Start, 
     let mut at = other.first;
     let mut here = seek_power(pieces, start, at);
     let mut there = seek_power(others, other, at);
-    if is_over(here.value, shift, there.value) {
+    if exceeds_other(here.value, shift, there.value) {
         return false;
     }
     while there.next < others.len() {
         let end = pieces[here.next].end.min(others[there.next].end);
-        here = go_on(pieces, start, at, here, end);
-        there = go_on(others, other, at, there, end);
+        here = advance_to_power(pieces, start, at, here, end);
+        there = advance_to_power(others, other, at, there, end);
         at = end;
-        if is_over(here.value, shift, there.value) {
+        if exceeds_other(here.value, shift, there.value) {
             return false;
         }
     }

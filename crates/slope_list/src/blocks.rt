@@ -3,7 +3,7 @@ ghost use Rattle.std.specs.Prelude.{◌≡◌, ◌≤◌, ◌≤ℤ◌, ◌<ℤ�
 ghost use Rattle.slope_list.specs.Curve.{curve_value, end_of, IsLimitedCurve};
 ghost use Rattle.slope_list.specs.Blocks.{IsInBlock};
 
-use crate::piece::{Piece, level_along};
+use crate::piece::{Piece, level_within_piece};
 use uc_model::units::Curve;
 
 /// A block of the curve.
@@ -45,7 +45,7 @@ pub fn find_power(curve: &Curve, at: i64) -> Found
         };
         if at < piece.end {
             return Found {
-                value: level_along(value, piece, from, at),
+                value: level_within_piece(value, piece, from, at),
                 span: Span {
                     index,
                     end: piece.end,
@@ -53,7 +53,7 @@ pub fn find_power(curve: &Curve, at: i64) -> Found
                 },
             };
         }
-        value = level_along(value, piece, from, piece.end);
+        value = level_within_piece(value, piece, from, piece.end);
         from = piece.end;
     }
     Found {

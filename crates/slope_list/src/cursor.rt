@@ -3,7 +3,7 @@ ghost use Rattle.std.specs.Prelude.{◌≡◌, ◌≤ℤ◌};
 ghost use Rattle.slope_list.specs.Pieces.{last_power, function_of, AreSlopes};
 ghost use Rattle.slope_list.specs.Cursors.{IsPlaced, AreWithin, IsValley};
 
-use crate::piece::{Piece, Start, end_at, level_along};
+use crate::piece::{Piece, Start, end_of_pieces, level_within_piece};
 
 /// A power of the function, and the index of the piece that goes on there.
 #[derive(Clone, Copy)]
@@ -26,7 +26,7 @@ pub fn end_of_fall(pieces: &[Piece], start: Start) -> Cursor
         next += 1;
     }
     Cursor {
-        at: end_at(pieces, start.first, next),
+        at: end_of_pieces(pieces, start.first, next),
         next,
     }
 }
@@ -54,12 +54,12 @@ pub fn seek_power(pieces: &[Piece], start: Start, at: i64) -> Reached
     let mut next = 0;
     while next < pieces.len() && pieces[next].end <= at {
         let piece = pieces[next];
-        value = level_along(value, piece, from, piece.end);
+        value = level_within_piece(value, piece, from, piece.end);
         from = piece.end;
         next += 1;
     }
     if next < pieces.len() {
-        value = level_along(value, pieces[next], from, at);
+        value = level_within_piece(value, pieces[next], from, at);
     }
     Reached { next, value }
 }

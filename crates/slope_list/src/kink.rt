@@ -19,7 +19,7 @@ pub(crate) struct Part {
 }
 
 /// Where the reserve meets its cap, or before all powers where reserve isn't paid for.
-fn bend_for(step: Step) -> i64
+fn reserve_bend_power(step: Step) -> i64
     requires fair { IsFairStep step }
     ensures paid { pos 0 <ℤ step.reserve_price → result ≡ bend_of step }
     ensures free { step.reserve_price ≤ℤ pos 0 → result ≡ negsuc 9223372036854775807 }
@@ -36,7 +36,7 @@ pub(crate) fn piece_less_reserve(piece: Piece, cursor: Cursor, step: Step) -> Pi
     requires gentle { IsGentle piece.slope }
     ensures { IsLowered step cursor.at piece result }
 {
-    let bend = bend_for(step);
+    let bend = reserve_bend_power(step);
     if cursor.at >= bend {
         return piece;
     }
@@ -47,7 +47,7 @@ pub(crate) fn piece_less_reserve(piece: Piece, cursor: Cursor, step: Step) -> Pi
 }
 
 /// The part from a power on, after the worth of the reserve is taken off.
-pub(crate) fn part_at(pieces: &[Piece], cursor: Cursor, step: Step) -> Part
+pub(crate) fn part_less_reserve(pieces: &[Piece], cursor: Cursor, step: Step) -> Part
     requires next { cursor.next < length pieces.now }
     requires to { cursor.at <ℤ (piece pieces.now cursor.next).end }
     requires fair { IsFairStep step }
@@ -91,7 +91,7 @@ pub fn turning_power(pieces: &[Piece], start: Start, step: Step) -> i64
 {
     let mut cursor = end_of_fall(pieces, start);
     while cursor.next < pieces.len() {
-        let part = part_at(pieces, cursor, step);
+        let part = part_less_reserve(pieces, cursor, step);
         if part.slope >= 0 {
             return cursor.at;
         }

@@ -23,7 +23,7 @@ pub struct Start {
 
 /// The level at a power, where it was known at another power of the same piece. Powers are in
 /// kilowatts, levels in millionths of the currency.
-pub fn level_along(level: i64, piece: Piece, from: i64, to: i64) -> i64
+pub fn level_within_piece(level: i64, piece: Piece, from: i64, to: i64) -> i64
     requires { CanGo level piece.slope from to }
     ensures { result ≡ level +ℤ piece.slope *ℤ (to -ℤ from) }
 {
@@ -31,7 +31,7 @@ pub fn level_along(level: i64, piece: Piece, from: i64, to: i64) -> i64
 }
 
 /// Where as many of the first pieces end, in kilowatts.
-pub fn end_at(pieces: &[Piece], first: i64, count: usize) -> i64
+pub fn end_of_pieces(pieces: &[Piece], first: i64, count: usize) -> i64
     requires { count ≤ length pieces.now }
     ensures { result ≡ end_at first pieces.now count }
 {
@@ -46,5 +46,5 @@ pub fn end_at(pieces: &[Piece], first: i64, count: usize) -> i64
 pub fn last_power(pieces: &[Piece], first: i64) -> i64
     ensures { result ≡ last_power first pieces.now }
 {
-    end_at(pieces, first, pieces.len())
+    end_of_pieces(pieces, first, pieces.len())
 }

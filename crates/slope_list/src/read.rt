@@ -8,7 +8,7 @@ ghost use Rattle.slope_list.specs.Pieces.{last_power, function_of, table_of, Are
 ghost use Rattle.slope_list.specs.Cursors.{AreWithin};
 
 use crate::cursor::{end_of_fall, seek_power};
-use crate::piece::{Piece, Start, last_power, level_along};
+use crate::piece::{Piece, Start, last_power, level_within_piece};
 
 /// A power and the value there.
 #[derive(Clone, Copy)]
@@ -45,14 +45,14 @@ pub fn is_above(pieces: &[Piece], start: Start, shift: i64, limit: i64) -> bool
         if piece.slope >= 0 {
             return true;
         }
-        value = level_along(value, *piece, at, piece.end);
+        value = level_within_piece(value, *piece, at, piece.end);
         at = piece.end;
     }
     exceeds_limit(value, shift, limit)
 }
 
 /// The value at a power of the interval.
-fn spot_at(pieces: &[Piece], start: Start, at: i64) -> Spot
+fn spot_at_power(pieces: &[Piece], start: Start, at: i64) -> Spot
     requires slopes { AreSlopes start.first pieces.now }
     requires from { start.first ≤ℤ at }
     requires to { at ≤ℤ last_power start.first pieces.now }
@@ -79,7 +79,7 @@ pub fn least_spot(pieces: &[Piece], start: Start) -> Spot
         if piece.slope >= 0 {
             return Spot { at, value };
         }
-        value = level_along(value, *piece, at, piece.end);
+        value = level_within_piece(value, *piece, at, piece.end);
         at = piece.end;
     }
     Spot { at, value }
@@ -99,5 +99,5 @@ pub fn least_in(pieces: &[Piece], start: Start, lo: i64, hi: i64) -> Option<Spot
         return None;
     }
     let at = low.max(high.min(end_of_fall(pieces, start).at));
-    Some(spot_at(pieces, start, at))
+    Some(spot_at_power(pieces, start, at))
 }

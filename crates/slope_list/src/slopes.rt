@@ -9,7 +9,7 @@ use crate::below;
 use crate::piece::{self, Piece, Start};
 use crate::piece_laws::pieces_begin_and_end;
 use crate::read::{self, Spot};
-use crate::step::{Made, Stepped, slope_step};
+use crate::step::{Made, Stepped, write_stepped_pieces};
 use crate::step_terms::Step;
 use std::alloc::{AllocError, Global};
 use std::mem;
@@ -87,7 +87,7 @@ pub struct Lowest {
 }
 
 /// The least value of what a step has drawn.
-fn lowest_of(pieces: &[Piece], stepped: Stepped) -> Option<Lowest>
+fn lowest_after_step(pieces: &[Piece], stepped: Stepped) -> Option<Lowest>
     requires slopes { IfSome stepped.made (ArePiecesAfter pieces.now) }
     requires within { IfSome stepped.made (AreWithinAfter pieces.now) }
     requires room { IfSome stepped.made (λ d. d.used ≤ length pieces.now) }
@@ -169,7 +169,7 @@ impl Slopes {
         };
         lengthen_pieces(&mut spare.pieces, made.used + curve.blocks.len() + 3);
         let pieces = &self.pieces[..made.used];
-        let stepped = slope_step(pieces, made.start, step, curve, &mut spare.pieces);
+        let stepped = write_stepped_pieces(pieces, made.start, step, curve, &mut spare.pieces);
         self.made = stepped.made;
         self.turn = stepped.turn;
         mem::swap(&mut self.pieces, &mut spare.pieces);
@@ -192,8 +192,8 @@ impl Slopes {
         };
         lengthen_pieces(&mut spare.pieces, made.used + curve.blocks.len() + 3);
         let pieces = &self.pieces[..made.used];
-        let stepped = slope_step(pieces, made.start, step, curve, &mut spare.pieces);
-        lowest_of(&spare.pieces, stepped)
+        let stepped = write_stepped_pieces(pieces, made.start, step, curve, &mut spare.pieces);
+        lowest_after_step(&spare.pieces, stepped)
     }
 
     /// The least value and its least power, or None on an empty interval.

@@ -51,7 +51,7 @@ pub(crate) struct Opening {
 
 /// The value after a step at a power, where the value before it at the nearest power is known, and
 /// the cost of the power.
-fn level_of(step: Step, value: i64, near: i64, at: i64, cost: i64) -> i64
+fn value_after_step(step: Step, value: i64, near: i64, at: i64, cost: i64) -> i64
     requires fair { IsFairStep step }
     requires value { IsFrom (neg_ℤ SPELL_LIMIT) SPELL_LIMIT value }
     requires near { IsOutput near }
@@ -67,7 +67,7 @@ fn level_of(step: Step, value: i64, near: i64, at: i64, cost: i64) -> i64
 }
 
 /// Finds the first power after a step, and the value there.
-pub(crate) fn open_step(window: &Window<'_>, curve: &Curve, low: i64) -> Opening
+pub(crate) fn first_power_after_step(window: &Window<'_>, curve: &Curve, low: i64) -> Opening
     requires limited { IsLimitedCurve curve.now }
     requires from { window.now.start.first ≤ℤ (low +ℤ window.now.step.ramp_down) }
     requires to { low ≤ℤ window.now.high }
@@ -97,13 +97,13 @@ pub(crate) fn open_step(window: &Window<'_>, curve: &Curve, low: i64) -> Opening
             used: 0,
             span: found.span,
         },
-        level: level_of(step, reached.value, near, low, found.value),
+        level: value_after_step(step, reached.value, near, low, found.value),
     }
 }
 
 /// Writes the pieces of the function after a step. There is room for as many pieces as before, one
 /// for each block of the curve, and 3.
-pub fn slope_step(
+pub fn write_stepped_pieces(
     pieces: &[Piece],
     start: Start,
     step: Step,
@@ -140,7 +140,7 @@ pub fn slope_step(
         turn,
         high,
     };
-    let opening = open_step(&window, curve, low);
+    let opening = first_power_after_step(&window, curve, low);
     let used = draw_step(&window, curve, opening.cursor, opening.pen, out);
     Stepped {
         made: Some(Made {

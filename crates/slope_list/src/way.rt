@@ -12,7 +12,7 @@ ghost use Rattle.slope_list.specs.Way.{IsFurther};
 ghost use Rattle.slope_list.specs.Runs.{IsNear, IsRun};
 
 use crate::cursor::Cursor;
-use crate::draw::{Pen, put_pieces};
+use crate::draw::{Pen, write_part_pieces};
 use crate::piece::Piece;
 use crate::run::{Run, next_run};
 use crate::window::{Window, is_flat, past_flat};
@@ -26,7 +26,7 @@ pub(crate) struct Way {
 }
 
 /// Writes a piece of a run.
-fn put_piece(curve: &Curve, run: Run, piece: Piece, pen: Pen, out: &mut [Piece]) -> Pen
+fn write_run_piece(curve: &Curve, run: Run, piece: Piece, pen: Pen, out: &mut [Piece]) -> Pen
     requires limited { IsLimitedCurve curve.now }
     requires rise { pen.at <ℤ (piece.end +ℤ run.shift) }
     requires block { IsInBlock curve.now pen.at pen.span }
@@ -43,7 +43,7 @@ fn put_piece(curve: &Curve, run: Run, piece: Piece, pen: Pen, out: &mut [Piece])
     ensures block { IsInBlock curve.now (piece.end +ℤ run.shift) result.span }
     ensures used { result.used + pen.span.index ≤ pen.used + result.span.index + 1 }
 {
-    put_pieces(
+    write_part_pieces(
         curve,
         piece.slope + run.slope,
         piece.end + run.shift,
@@ -53,7 +53,7 @@ fn put_piece(curve: &Curve, run: Run, piece: Piece, pen: Pen, out: &mut [Piece])
 }
 
 /// Writes the pieces of a run, the last of them up to where the run ends.
-fn draw_run(window: &Window<'_>, curve: &Curve, run: Run, from: Way, out: &mut [Piece]) -> Way
+fn write_run(window: &Window<'_>, curve: &Curve, run: Run, from: Way, out: &mut [Piece]) -> Way
     requires limited { IsLimitedCurve curve.now }
     requires costs { HasCosts curve.now from.pen.at window.now.high }
     requires block { IsInBlock curve.now from.pen.at from.pen.span }
@@ -69,7 +69,7 @@ fn draw_run(window: &Window<'_>, curve: &Curve, run: Run, from: Way, out: &mut [
     let mut pen = from.pen;
     while cursor.next < pieces.len() && pieces[cursor.next].end <= run.until {
         let piece = pieces[cursor.next];
-        pen = put_piece(curve, run, piece, pen, out);
+        pen = write_run_piece(curve, run, piece, pen, out);
         cursor = Cursor {
             at: piece.end,
             next: cursor.next + 1,
@@ -80,7 +80,7 @@ fn draw_run(window: &Window<'_>, curve: &Curve, run: Run, from: Way, out: &mut [
             end: run.until,
             slope: pieces[cursor.next].slope,
         };
-        pen = put_piece(curve, run, rest, pen, out);
+        pen = write_run_piece(curve, run, rest, pen, out);
     }
     Way {
         cursor: Cursor {
@@ -92,7 +92,7 @@ fn draw_run(window: &Window<'_>, curve: &Curve, run: Run, from: Way, out: &mut [
 }
 
 /// Writes the flat part.
-fn draw_flat(window: &Window<'_>, curve: &Curve, from: Way, out: &mut [Piece]) -> Way
+fn write_flat_part(window: &Window<'_>, curve: &Curve, from: Way, out: &mut [Piece]) -> Way
     requires limited { IsLimitedCurve curve.now }
     requires costs { HasCosts curve.now from.pen.at window.now.high }
     requires block { IsInBlock curve.now from.pen.at from.pen.span }
@@ -109,7 +109,7 @@ fn draw_flat(window: &Window<'_>, curve: &Curve, from: Way, out: &mut [Piece]) -
     let end = (cursor.at + window.step.ramp_up).min(window.high);
     Way {
         cursor,
-        pen: put_pieces(curve, window.step.slope, end, from.pen, out),
+        pen: write_part_pieces(curve, window.step.slope, end, from.pen, out),
     }
 }
 
@@ -126,10 +126,10 @@ fn advance_way(window: &Window<'_>, curve: &Curve, way: Way, out: &mut [Piece]) 
     ensures { IsFurther window.now curve.now out.old out.new way result }
 {
     if is_flat(window, way.cursor, way.pen.at) {
-        return draw_flat(window, curve, way, out);
+        return write_flat_part(window, curve, way, out);
     }
     let run = next_run(window, way.cursor);
-    draw_run(window, curve, run, way, out)
+    write_run(window, curve, run, way, out)
 }
 
 /// Writes the pieces of the function after a step from the pen on, and answers how many there are.

@@ -5,7 +5,7 @@ ghost use Rattle.slope_list.specs.Cursors.{IsPlaced};
 ghost use Rattle.slope_list.specs.Window.{IsStepOver, IsFlat};
 
 use crate::cursor::Cursor;
-use crate::kink::part_at;
+use crate::kink::part_less_reserve;
 use crate::piece::{Piece, Start};
 use crate::step_terms::Step;
 
@@ -32,7 +32,7 @@ pub fn past_flat(window: &Window<'_>, cursor: Cursor) -> Cursor
     ensures next { cursor.next ≤ result.next }
 {
     if cursor.next < window.pieces.len() {
-        let part = part_at(window.pieces, cursor, window.step);
+        let part = part_less_reserve(window.pieces, cursor, window.step);
         if part.slope == 0 {
             return part.then;
         }

@@ -3,7 +3,7 @@ use Rattle.spell_run.proofs.Common.{◌≡◌, ℕ, suc, ◌<◌, List, length, 
 use Rattle.spell_run.proofs.Common.{cond-true, Logged, Trace, entry_at, left_from, left_by, AreLogged, IsTrace}
 use Rattle.spell_run.proofs.LogLaws.{left_before}
 
--- what the entry at a place says is what was left of the last period
+-- what the entry at an index says is what was left of the last period
 last_left : (log : List Logged) (i n m : ℕ) → n ≡ suc m → left_from log i n m ≡ (entry_at log i).passed
 last_left log i n m z = ap (λ (n : ℕ). left_from log i n m) z ∙ cond-true (eqb m m) _ _ (eq-eqb m m refl)
 

@@ -36,9 +36,9 @@ pub record IsChosen (s : Step) (f : Table) (k : ℕ) (x y : ℤ) (d d' : Schedul
   pub least : IsLeastIn (x -ℤ s.ramp_up) (x +ℤ s.ramp_down) kinked value y
   pub written : IsWritten k x (best_reserve s.reserve_price s.cap s.ramp_up y x) d d'
 
--- whether a stop follows the period at a place, where the spell's last period is before the end
+-- whether a stop follows the period at an index, where the spell's last period is before the end
 abbrev pub stops_at : ℕ → ℕ → ℕ → Bool
-stops_at last periods place = nat_lt last periods && (last == suc place)
+stops_at last periods index = nat_lt last periods && (last == suc index)
 
 -- d and d' have the same powers in the periods after k up to last
 abbrev pub HasSamePowersAfter : ℕ → ℕ → Schedule → Schedule → Type 0

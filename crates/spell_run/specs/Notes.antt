@@ -39,7 +39,7 @@ IsEndNoted g π first k n e =
     (record { turn = e.turn; first = n.first; last = n.last }) after
     × IsLeast after e.value e.at
 
--- what was left at a place
+-- what was left at an index
 abbrev pub passed_at : List Passed → ℕ → Passed
 passed_at ps k =
     slice_index_or ps k (record {

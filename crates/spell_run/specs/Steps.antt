@@ -21,7 +21,7 @@ cap_at g starts stops = cap_of g starts stops +ℤ g.min_power
 -- the numbers of a step over the period at that place: before a stop the power can't be more than a
 -- fall above the least one
 abbrev pub step_at : ThermalUnit → PriceLists → ℕ → Bool → Bool → Step
-step_at g π place starts stops = record {
+step_at g π index starts stops = record {
   least = g.min_power;
   most =
       if stops then int_min (cap_at g starts stops) (g.min_power +ℤ g.ramp_down) else cap_at g
@@ -29,8 +29,8 @@ step_at g π place starts stops = record {
   cap = cap_at g starts stops;
   ramp_up = g.ramp_up;
   ramp_down = g.ramp_down;
-  reserve_price = int_at π.reserve place;
-  slope = int_at π.reserve place -ℤ int_at π.energy place;
+  reserve_price = int_at π.reserve index;
+  slope = int_at π.reserve index -ℤ int_at π.energy index;
 }
 
 -- after power q a period may have power p and reserve r

@@ -17,9 +17,9 @@ ghost use Rattle.spell_run.specs.Steps.{step_at, IsFairStep};
 ghost use Rattle.uc_model.specs.Limits.{IsOutput};
 ghost use Rattle.uc_model.specs.PlainUnits.{thermal_of, prices_of, schedule_of};
 
-use crate::notes::{Logged, Note, Trace, first_of};
-use crate::step::{Step, starts_in, step_of};
-use crate::write::write_best;
+use crate::notes::{Logged, Note, Trace, first_entries};
+use crate::step::{Step, starts_in_period, step_over_period};
+use crate::write::write_best_reserve;
 use cost_curve::laws::envelope_is_cost;
 use uc_model::units::{Answered, Prices, Unit};
 
@@ -27,7 +27,7 @@ use uc_model::units::{Answered, Prices, Unit};
 #[derive(Clone, Copy)]
 struct Visit {
     /// The period's place.
-    place: usize,
+    index: usize,
     /// Whether the unit stops after it.
     stops: bool,
     /// What its step left.
@@ -61,27 +61,33 @@ fn cheapest_before(step: Step, note: Note, power: i64) -> i64
 
 /// Writes a period with its power, and answers the cheapest power before it.
 fn write_period(unit: &Unit, prices: &Prices, first: u32, visit: Visit, into: &mut Answered) -> i64
-    requires place { visit.place < length (prices_of prices.now).energy }
-    requires order { first ≤ suc visit.place }
+    requires index { visit.index < length (prices_of prices.now).energy }
+    requires order { first ≤ suc visit.index }
     requires noted { (after : Table)
-        × IsNoted (thermal_of unit.now) (prices_of prices.now) first visit.place visit.stops
+        × IsNoted (thermal_of unit.now) (prices_of prices.now) first visit.index visit.stops
         visit.note after
         × ((v : ℤ) × (value_of after visit.power ≡ Some v)) }
-    requires into { visit.place < length (schedule_of into.old.response).on }
+    requires into { visit.index < length (schedule_of into.old.response).on }
     ensures chosen { (after : Table) (v : ℤ)
-        (n : IsNoted (thermal_of unit.now) (prices_of prices.now) first visit.place visit.stops
+        (n : IsNoted (thermal_of unit.now) (prices_of prices.now) first visit.index visit.stops
         visit.note after) → value_of after visit.power ≡ Some v →
         IsChosen
-        (step_at (thermal_of unit.now) (prices_of prices.now) visit.place
-        (first == suc visit.place) visit.stops)
-        n.before visit.place visit.power result (schedule_of into.old.response)
+        (step_at (thermal_of unit.now) (prices_of prices.now) visit.index
+        (first == suc visit.index) visit.stops)
+        n.before visit.index visit.power result (schedule_of into.old.response)
         (schedule_of into.new.response) }
     ensures earned { into.new.earned ≡ into.old.earned }
 {
-    let place = visit.place;
-    let step = step_of(unit, prices, place, starts_in(first, place), visit.stops);
+    let index = visit.index;
+    let step = step_over_period(
+        unit,
+        prices,
+        index,
+        starts_in_period(first, index),
+        visit.stops,
+    );
     let before = cheapest_before(step, visit.note, visit.power);
-    write_best(into, place, step, before, visit.power);
+    write_best_reserve(into, index, step, before, visit.power);
     before
 }
 
@@ -117,7 +123,7 @@ pub fn write_spell(
         (schedule_of into.new.response) }
     ensures earned { into.new.earned ≡ into.old.earned }
 {
-    let trace = first_of(left.log, left.trace, last - first.saturating_sub(1));
+    let trace = first_entries(left.log, left.trace, last - first.saturating_sub(1));
     let entry = left.log[trace.last as usize];
     let Some(lowest) = entry.passed.end else {
         return;
@@ -131,7 +137,7 @@ pub fn write_spell(
     envelope_is_cost();
     let stops = (last as usize) < prices.energy.len();
     let visit = Visit {
-        place: end,
+        index: end,
         stops,
         note,
         power: lowest.at,
@@ -141,7 +147,7 @@ pub fn write_spell(
     for back in 1..last + 1 - first.max(1) {
         let entry = left.log[at as usize];
         let visit = Visit {
-            place: end - back as usize,
+            index: end - back as usize,
             stops: false,
             note: entry.passed.note,
             power,

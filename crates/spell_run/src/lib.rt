@@ -14,4 +14,4 @@ pub mod write;
 
 pub use backtrack::{SpellTrace, write_spell};
 pub use notes::{Log, Logged, Note, Passage, Passed, Trace};
-pub use running::{begin_spell, end_and_run, run_over};
+pub use running::{begin_spell, run_over_and_end, run_over_period};

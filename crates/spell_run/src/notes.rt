@@ -21,8 +21,8 @@ pub struct Note {
 pub struct Passage {
     /// The first period of the spell; 0 stands for one that goes on from before period 1.
     pub first: u32,
-    /// The place of the period.
-    pub place: usize,
+    /// The index of the period.
+    pub index: usize,
 }
 
 /// What a spell leaves of a period for backtracking.
@@ -67,7 +67,7 @@ impl Trace {
 }
 
 /// Leaves one entry more of a spell, for which the log has memory, and answers all of the spell.
-pub fn leave_entry(log: &mut Log, trace: Trace, passed: Passed) -> Trace
+pub fn log_entry(log: &mut Log, trace: Trace, passed: Passed) -> Trace
     requires spare { 1 ≤ log.old.spare }
     requires small { length log.old.items < 2 ^ 32 }
     requires few { suc trace.count < 2 ^ 32 }
@@ -94,7 +94,7 @@ pub fn leave_entry(log: &mut Log, trace: Trace, passed: Passed) -> Trace
 }
 
 /// The first entries of a spell in a log, so many of them.
-pub fn first_of(log: &[Logged], trace: Trace, count: u32) -> Trace
+pub fn first_entries(log: &[Logged], trace: Trace, count: u32) -> Trace
     requires trace { IsTrace log.now trace }
     requires fewer { count ≤ trace.count }
     ensures trace { IsTrace log.now result }

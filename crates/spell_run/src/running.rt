@@ -12,7 +12,7 @@ ghost use Rattle.uc_model.specs.Data.{PriceLists};
 ghost use Rattle.uc_model.specs.PlainUnits.{thermal_of, prices_of};
 
 use crate::notes::{Note, Passage, Passed};
-use crate::step::{is_alike, starts_in, step_of};
+use crate::step::{differs_in_range_alone, starts_in_period, step_over_period};
 use cost_curve::laws::envelope_is_cost;
 use slope_list::{Lowest, Slopes, Spare, Spot};
 use uc_model::units::{Curve, Prices, Unit};
@@ -48,7 +48,7 @@ pub fn begin_spell(unit: &Unit, first: u32, running: &mut Slopes)
 }
 
 /// The first and the last power of a function; both are 0 on an empty interval.
-fn interval_of(running: &Slopes) -> Interval
+fn power_interval(running: &Slopes) -> Interval
     ensures first { (x v : ℤ) → value_of (shown running.now) x ≡ Some v → (w : ℤ)
         × IsFirst (shown running.now) result.first w }
     ensures last { (x v : ℤ) → value_of (shown running.now) x ≡ Some v
@@ -65,11 +65,11 @@ fn interval_of(running: &Slopes) -> Interval
     Interval { first, last }
 }
 
-/// Takes a spell over the period at a place, as far as no stop follows, and answers what the step
+/// Takes a spell over the period at an index, as far as no stop follows, and answers what the step
 /// leaves for backtracking, which is open where no power is left. `curve` is the curve of the unit's
 /// points.
 #[inline(always)]
-pub fn run_over(
+pub fn run_over_period(
     unit: &Unit,
     curve: &Curve,
     prices: &Prices,
@@ -78,24 +78,28 @@ pub fn run_over(
     spare: &mut Spare,
 ) -> Note
     requires curve { IsCostCurve (thermal_of unit.now).points curve.now }
-    requires place { passage.place < length (prices_of prices.now).energy }
-    requires order { passage.first ≤ suc passage.place }
-    requires frontier { IsFrontier (thermal_of unit.now) (prices_of prices.now) passage.first passage.place
+    requires index { passage.index < length (prices_of prices.now).energy }
+    requires order { passage.first ≤ suc passage.index }
+    requires frontier { IsFrontier (thermal_of unit.now) (prices_of prices.now) passage.first passage.index
         (shown running.old) }
     requires room { MayGrow (length curve.now.blocks.items + 3) running.old spare.old }
-    ensures frontier { IsFrontier (thermal_of unit.now) (prices_of prices.now) passage.first (suc passage.place)
+    ensures frontier { IsFrontier (thermal_of unit.now) (prices_of prices.now) passage.first (suc passage.index)
         (shown running.new) }
     ensures noted { (x v : ℤ) → value_of (shown running.old) x ≡ Some v →
-        IsNoted (thermal_of unit.now) (prices_of prices.now) passage.first passage.place false result
+        IsNoted (thermal_of unit.now) (prices_of prices.now) passage.first passage.index false result
         (shown running.new) }
     ensures grown { IsGrown (length curve.now.blocks.items + 3) running.old running.new spare.old
         spare.new }
 {
     envelope_is_cost();
-    let Passage { first, place } = passage;
-    let starts = starts_in(first, place);
-    let before = interval_of(running);
-    running.step(step_of(unit, prices, place, starts, false), curve, spare);
+    let Passage { first, index } = passage;
+    let starts = starts_in_period(first, index);
+    let before = power_interval(running);
+    running.step(
+        step_over_period(unit, prices, index, starts, false),
+        curve,
+        spare,
+    );
     Note {
         turn: running.turn(),
         first: before.first,
@@ -104,7 +108,7 @@ pub fn run_over(
 }
 
 /// A least value of a function after a step with this turn.
-fn lowest_at(spot: Option<Spot>, turn: i64) -> Option<Lowest>
+fn lowest_at_turn(spot: Option<Spot>, turn: i64) -> Option<Lowest>
     ensures none { IfNone result (spot ≡ None) }
     ensures some { IfSome result (λ r. (spot ≡ Some (record { at = r.at; value = r.value }))
         × (r.turn ≡ turn)) }
@@ -119,14 +123,14 @@ fn lowest_at(spot: Option<Spot>, turn: i64) -> Option<Lowest>
     }
 }
 
-/// Takes a spell over the period at a place, as `run_over` does, and answers what it leaves for the
+/// Takes a spell over the period at an index, as `run_over_period` does, and answers what it leaves for the
 /// way back, with the least net cost of the spells that end with the period, with a stop after it
 /// where the prices go on; None exactly where no dispatch is there.
 ///
 /// A stop after the period lowers its cap. Where it doesn't, or where reserve isn't paid for, the
 /// costs up to a stop are those of the function itself at the powers that a stop allows; otherwise
 /// they are found beside it.
-pub fn end_and_run(
+pub fn run_over_and_end(
     unit: &Unit,
     curve: &Curve,
     prices: &Prices,
@@ -135,40 +139,40 @@ pub fn end_and_run(
     spare: &mut Spare,
 ) -> Passed
     requires curve { IsCostCurve (thermal_of unit.now).points curve.now }
-    requires place { passage.place < length (prices_of prices.now).energy }
-    requires order { passage.first ≤ suc passage.place }
-    requires frontier { IsFrontier (thermal_of unit.now) (prices_of prices.now) passage.first passage.place
+    requires index { passage.index < length (prices_of prices.now).energy }
+    requires order { passage.first ≤ suc passage.index }
+    requires frontier { IsFrontier (thermal_of unit.now) (prices_of prices.now) passage.first passage.index
         (shown running.old) }
     requires room { MayGrow (length curve.now.blocks.items + 3) running.old spare.old }
     ensures answer { IsSpellAnswer (thermal_of unit.now) (prices_of prices.now)
-        (length (prices_of prices.now).energy) passage.first (suc passage.place) (end_cost result.end) }
-    ensures within { IfSome result.end (λ e. IsSpellWithin passage.first (suc passage.place) e.value) }
+        (length (prices_of prices.now).energy) passage.first (suc passage.index) (end_cost result.end) }
+    ensures within { IfSome result.end (λ e. IsSpellWithin passage.first (suc passage.index) e.value) }
     ensures ended { IfSome result.end
-        (IsEndNoted (thermal_of unit.now) (prices_of prices.now) passage.first passage.place result.note) }
-    ensures frontier { IsFrontier (thermal_of unit.now) (prices_of prices.now) passage.first (suc passage.place)
+        (IsEndNoted (thermal_of unit.now) (prices_of prices.now) passage.first passage.index result.note) }
+    ensures frontier { IsFrontier (thermal_of unit.now) (prices_of prices.now) passage.first (suc passage.index)
         (shown running.new) }
     ensures noted { (x v : ℤ) → value_of (shown running.old) x ≡ Some v →
-        IsNoted (thermal_of unit.now) (prices_of prices.now) passage.first passage.place false result.note
+        IsNoted (thermal_of unit.now) (prices_of prices.now) passage.first passage.index false result.note
         (shown running.new) }
     ensures grown { IsGrown (length curve.now.blocks.items + 3) running.old running.new spare.old
         spare.new }
 {
     envelope_is_cost();
-    let Passage { first, place } = passage;
-    if place + 1 == prices.energy.len() {
-        let note = run_over(unit, curve, prices, passage, running, spare);
-        let end = lowest_at(running.least(), note.turn);
+    let Passage { first, index } = passage;
+    if index + 1 == prices.energy.len() {
+        let note = run_over_period(unit, curve, prices, passage, running, spare);
+        let end = lowest_at_turn(running.least(), note.turn);
         return Passed { note, end };
     }
-    let starts = starts_in(first, place);
-    let on = step_of(unit, prices, place, starts, false);
-    let last = step_of(unit, prices, place, starts, true);
-    if is_alike(on, last) {
-        let note = run_over(unit, curve, prices, passage, running, spare);
-        let end = lowest_at(running.least_in(last.least, last.most), note.turn);
+    let starts = starts_in_period(first, index);
+    let on = step_over_period(unit, prices, index, starts, false);
+    let last = step_over_period(unit, prices, index, starts, true);
+    if differs_in_range_alone(on, last) {
+        let note = run_over_period(unit, curve, prices, passage, running, spare);
+        let end = lowest_at_turn(running.least_in(last.least, last.most), note.turn);
         return Passed { note, end };
     }
     let end = running.least_beside(last, curve, spare);
-    let note = run_over(unit, curve, prices, passage, running, spare);
+    let note = run_over_period(unit, curve, prices, passage, running, spare);
     Passed { note, end }
 }

@@ -10,24 +10,24 @@ pub use slope_list::step_terms::Step;
 use uc_model::rules::cap;
 use uc_model::units::{Prices, Unit};
 
-/// Whether a spell starts in the period at a place; `first` 0 stands for one that goes on from
+/// Whether a spell starts in the period at an index; `first` 0 stands for one that goes on from
 /// before period 1.
-pub fn starts_in(first: u32, place: usize) -> bool
-    requires { suc place < 2 ^ 32 }
-    ensures { result ≡ (first == suc place) }
+pub fn starts_in_period(first: u32, index: usize) -> bool
+    requires { suc index < 2 ^ 32 }
+    ensures { result ≡ (first == suc index) }
 {
-    first as usize == place + 1
+    first as usize == index + 1
 }
 
 /// The greatest power with reserve in a period where the unit starts, or stops after it.
-fn cap_in(unit: &Unit, starts: bool, stops: bool) -> i64
+fn cap_in_period(unit: &Unit, starts: bool, stops: bool) -> i64
     ensures { result ≡ cap_at (thermal_of unit.now) starts stops }
 {
     cap(unit, starts, stops) + unit.min_power
 }
 
 /// The greatest power under a cap: before a stop it is within a fall of the least power.
-fn most_in(unit: &Unit, cap: i64, stops: bool) -> i64
+fn greatest_power_in_period(unit: &Unit, cap: i64, stops: bool) -> i64
     ensures { result ≡ (if stops then int_min cap (unit.now.min_power +ℤ unit.now.ramp_down) else
         cap) }
 {
@@ -38,20 +38,26 @@ fn most_in(unit: &Unit, cap: i64, stops: bool) -> i64
     }
 }
 
-/// The step over the period at a place of the horizon, where the unit starts in it, or stops after
+/// The step over the period at an index of the horizon, where the unit starts in it, or stops after
 /// it.
-pub fn step_of(unit: &Unit, prices: &Prices, place: usize, starts: bool, stops: bool) -> Step
-    requires { place < length (prices_of prices.now).energy }
-    ensures step { result ≡ step_at (thermal_of unit.now) (prices_of prices.now) place starts
+pub fn step_over_period(
+    unit: &Unit,
+    prices: &Prices,
+    index: usize,
+    starts: bool,
+    stops: bool,
+) -> Step
+    requires { index < length (prices_of prices.now).energy }
+    ensures step { result ≡ step_at (thermal_of unit.now) (prices_of prices.now) index starts
         stops }
     ensures fair { IsFairStep result }
 {
-    let cap = cap_in(unit, starts, stops);
-    let energy_price = *prices.energy.get(place);
-    let reserve_price = *prices.reserve.get(place);
+    let cap = cap_in_period(unit, starts, stops);
+    let energy_price = *prices.energy.get(index);
+    let reserve_price = *prices.reserve.get(index);
     Step {
         least: unit.min_power,
-        most: most_in(unit, cap, stops),
+        most: greatest_power_in_period(unit, cap, stops),
         cap,
         ramp_up: unit.ramp_up,
         ramp_down: unit.ramp_down,
@@ -62,7 +68,7 @@ pub fn step_of(unit: &Unit, prices: &Prices, place: usize, starts: bool, stops: 
 
 /// Whether a step before a stop differs from one without in the range of the power alone: reserve
 /// isn't paid for, or the cap is the same.
-pub fn is_alike(on: Step, last: Step) -> bool
+pub fn differs_in_range_alone(on: Step, last: Step) -> bool
     ensures { OnTrue result ((on.reserve_price ≡ pos 0) ⊎ (last.cap ≡ on.cap)) }
 {
     on.reserve_price == 0 || last.cap == on.cap

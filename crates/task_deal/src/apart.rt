@@ -10,7 +10,7 @@ use crate::seat::Seat;
 
 /// Puts jobs, deques and purses on lists of their own, in the other order. The accounts of the
 /// source are joined.
-pub(crate) fn take_apart<J: Drop>(
+pub(crate) fn split_members<J: Drop>(
     source: &Source,
     owner: &mut SourcePass,
     members: Vec<Member<J>>,
@@ -51,7 +51,7 @@ pub(crate) fn take_apart<J: Drop>(
 }
 
 /// Makes members of jobs, deques and purses, in the other order. Each gets a pass of the source.
-pub(crate) fn put_together<J: Drop>(
+pub(crate) fn make_members<J: Drop>(
     source: &Source,
     owner: &mut SourcePass,
     jobs: &mut Vec<J>,

@@ -5,11 +5,11 @@ ghost use Rattle.plain_lists.specs.declared.limits.TheConstants.{MOST_UNITS};
 ghost use Rattle.task_deal.specs.Hands.{AreSetOut};
 ghost use Rattle.task_deal.specs.Jobs.{IsDealt};
 
-use crate::apart::{put_together, take_apart};
-use crate::drain::{check_all, drain_all};
+use crate::apart::{make_members, split_members};
+use crate::drain::{check_deques, run_numbers_left};
 use crate::job::Job;
 use crate::member::{Member, work_all};
-use crate::open::{fill_all, open_deques};
+use crate::open::{fill_purses, open_deques};
 use crate::pour::pour_source;
 use crate::rule::{Deque, Shared, SourcePass, ThiefPass};
 use crate::settle::settle_purses;
@@ -31,7 +31,7 @@ struct Hands {
 }
 
 // The numbers below `tasks` in the source, and a deque and a purse for each of `count` jobs.
-fn set_out<R: Wait>(
+fn set_out_numbers<R: Wait>(
     rt: &R,
     alloc: Global,
     tasks: u32,
@@ -42,7 +42,7 @@ fn set_out<R: Wait>(
     let (source, owner) = pour_source(rt, alloc, tasks)?;
     let (mut owns, thieves) = open_deques(alloc, count)?;
     let shared = Shared { source, thieves };
-    let purses = fill_all(alloc, &shared, &mut owns, count)?;
+    let purses = fill_purses(alloc, &shared, &mut owns, count)?;
     let hands = Hands {
         owner,
         owns,
@@ -52,7 +52,7 @@ fn set_out<R: Wait>(
 }
 
 // Deals what is set out to the jobs. Takes no memory: `members` has room for all of them.
-fn run_all<J: Job + Send + Drop, R: Threads + Wait + Sync>(
+fn run_members<J: Job + Send + Drop, R: Threads + Wait + Sync>(
     rt: &R,
     shared: &Shared,
     tasks: u32,
@@ -73,7 +73,7 @@ fn run_all<J: Job + Send + Drop, R: Threads + Wait + Sync>(
         mut purses,
     } = hands;
     let mut members = members;
-    put_together(
+    make_members(
         &shared.source,
         &mut owner,
         jobs,
@@ -82,7 +82,7 @@ fn run_all<J: Job + Send + Drop, R: Threads + Wait + Sync>(
         &mut members,
     );
     work_all(rt, shared, tasks, &mut members);
-    take_apart(
+    split_members(
         &shared.source,
         &mut owner,
         members,
@@ -91,8 +91,8 @@ fn run_all<J: Job + Send + Drop, R: Threads + Wait + Sync>(
         &mut purses,
     );
     settle_purses(shared, &mut owns, purses);
-    check_all(shared, &mut owns);
-    drain_all(rt, shared, tasks, &mut owner, &mut owns, jobs);
+    check_deques(shared, &mut owns);
+    run_numbers_left(rt, shared, tasks, &mut owner, &mut owns, jobs);
 }
 
 /// Deals the numbers below `tasks` to the jobs, each of which runs its share in a thread of its
@@ -121,8 +121,8 @@ pub fn deal_all<J: Job + Send + Drop, R: Threads + Wait + Sync>(
 {
     let count = jobs.len();
     let members = Vec::with_capacity(alloc, count)?;
-    let (shared, hands) = set_out(rt, alloc, tasks, count)?;
+    let (shared, hands) = set_out_numbers(rt, alloc, tasks, count)?;
     // Nothing may fail from here on.
-    run_all(rt, &shared, tasks, hands, members, jobs);
+    run_members(rt, &shared, tasks, hands, members, jobs);
     Ok(())
 }

@@ -16,8 +16,8 @@ use crossbeam_deque::Steal;
 use std::sync::Wait;
 use std::thread;
 
-// Of the deque at a place no more were taken than were put.
-fn check_at(shared: &Shared, owns: &mut Vec<Deque>, at: usize)
+// Of the deque at an index no more were taken than were put.
+fn check_deque_at(shared: &Shared, owns: &mut Vec<Deque>, at: usize)
     requires at { at < length owns.old.items }
     requires stands { let last = length owns.old.items in
         Each (Stands shared.now.thieves.items 0) 0 last owns.old.items }
@@ -32,7 +32,7 @@ fn check_at(shared: &Shared, owns: &mut Vec<Deque>, at: usize)
 }
 
 /// Of no deque more was taken than was put.
-pub(crate) fn check_all(shared: &Shared, owns: &mut Vec<Deque>)
+pub(crate) fn check_deques(shared: &Shared, owns: &mut Vec<Deque>)
     requires stands { let last = length owns.old.items in
         Each (Stands shared.now.thieves.items 0) 0 last owns.old.items }
     ensures count { length owns.new.items ≡ length owns.old.items }
@@ -42,7 +42,7 @@ pub(crate) fn check_all(shared: &Shared, owns: &mut Vec<Deque>)
     ensures fits { All (λ w. Fits (worker_view w)) owns.new.items }
 {
     for at in 0..owns.len() {
-        check_at(shared, owns, at);
+        check_deque_at(shared, owns, at);
     }
 }
 
@@ -88,7 +88,7 @@ fn drain_source<J: Job, R: Wait>(rt: &R, source: &Source, pass: &mut SourcePass,
     unreachable!()
 }
 
-fn drain_at<J: Job, R: Wait>(
+fn drain_deque_at<J: Job, R: Wait>(
     rt: &R,
     shared: &Shared,
     tasks: u32,
@@ -136,7 +136,7 @@ fn drain_first<J: Job, R: Wait>(
 
 /// The first job runs all that the threads left. Then the numbers are dealt to the jobs as they
 /// were before, `first`.
-pub(crate) fn drain_all<J: Job, R: Wait>(
+pub(crate) fn run_numbers_left<J: Job, R: Wait>(
     rt: &R,
     shared: &Shared,
     tasks: u32,
@@ -156,6 +156,6 @@ pub(crate) fn drain_all<J: Job, R: Wait>(
 {
     drain_first(rt, shared, tasks, owner, owns, jobs);
     for at in 0..owns.len() {
-        drain_at(rt, shared, tasks, owns, jobs, at);
+        drain_deque_at(rt, shared, tasks, owns, jobs, at);
     }
 }

@@ -30,8 +30,8 @@ pub(crate) fn open_deques(
     Ok((owns, thieves))
 }
 
-// A pass with one part, of the deque at a place. Before it each deque has one part more out.
-fn fork_at(shared: &Shared, owns: &mut Vec<Deque>, out: usize, at: usize) -> ThiefPass
+// A pass with one part, of the deque at an index. Before it each deque has one part more out.
+fn fork_pass_at(shared: &Shared, owns: &mut Vec<Deque>, out: usize, at: usize) -> ThiefPass
     requires at { at < length shared.now.thieves.items }
     requires count { length owns.old.items ≡ length shared.now.thieves.items }
     requires low { Each (Stands shared.now.thieves.items (out + 1)) 0 at owns.old.items }
@@ -67,14 +67,14 @@ fn fill_purse(
 {
     let mut purse = Vec::new(alloc);
     for at in 0..shared.thieves.len() {
-        let pass = fork_at(shared, owns, out, at);
+        let pass = fork_pass_at(shared, owns, out, at);
         purse.push(pass)?;
     }
     Ok(purse)
 }
 
 /// A purse for each worker.
-pub(crate) fn fill_all(
+pub(crate) fn fill_purses(
     alloc: Global,
     shared: &Shared,
     owns: &mut Vec<Deque>,

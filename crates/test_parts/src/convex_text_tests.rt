@@ -6,7 +6,8 @@ use crate::same::same;
 use crate::small_cases::{one_price, one_response};
 use plain_lists::lists::{Amounts, Flags};
 use report_form::convex::{
-    SearchLines, write_bounded, write_mixed, write_searched, write_share, write_weighed,
+    SearchLines, write_mixture_entry, write_mixture_unit, write_search_before_units,
+    write_search_bound, write_search_totals,
 };
 use report_form::report::{Owed, write_unit};
 use std::alloc::{AllocError, Global};
@@ -49,7 +50,7 @@ fn write_front(rt: &impl Abort, alloc: Global, sink: &mut MemorySink) -> Result<
         supply: Amounts::filled(alloc, 1, 3000)?,
         reserve: Amounts::filled(alloc, 1, 0)?,
     };
-    same(rt, write_searched(&lines, &row, sink), Ok(()));
+    same(rt, write_search_before_units(&lines, &row, sink), Ok(()));
     Ok(())
 }
 
@@ -81,22 +82,26 @@ fn write_units(
 fn write_back(rt: &impl Abort, alloc: Global, sink: &mut MemorySink) -> Result<(), AllocError> {
     same(
         rt,
-        write_weighed(0, 145_500_000, 145_500_000, 20, sink),
+        write_search_totals(0, 145_500_000, 145_500_000, 20, sink),
         Ok(()),
     );
-    same(rt, write_mixed("G1", 3, sink), Ok(()));
-    same(rt, write_share(11, &off(alloc)?, sink), Ok(()));
+    same(rt, write_mixture_unit("G1", 3, sink), Ok(()));
+    same(rt, write_mixture_entry(11, &off(alloc)?, sink), Ok(()));
     same(
         rt,
-        write_share(5, &one_response(alloc, 12_000, 8000)?, sink),
+        write_mixture_entry(5, &one_response(alloc, 12_000, 8000)?, sink),
         Ok(()),
     );
     same(
         rt,
-        write_share(4, &one_response(alloc, 20_000, 0)?, sink),
+        write_mixture_entry(4, &one_response(alloc, 20_000, 0)?, sink),
         Ok(()),
     );
-    same(rt, write_bounded(704_500_000, 0, 145_500_000, sink), Ok(()));
+    same(
+        rt,
+        write_search_bound(704_500_000, 0, 145_500_000, sink),
+        Ok(()),
+    );
     Ok(())
 }
 

@@ -75,7 +75,7 @@ firsts : (most p : ℕ) (xs : List ℕ) →
 firsts most zero xs = omega arith
 firsts most (suc p) xs = let e = ap (λ (z : ℕ). suc most * z) (firsts most p xs) in omega (arith, e)
 
--- one more at a place, and first items before it
+-- one more at an index, and first items before it
 pub after-one_more : (most p x : ℕ) (xs : List ℕ) → x < most →
     suc (after_of most (replicate p 0 ++ (suc x ∷ xs))) ≡ after_of most (replicate p most ++ (x ∷ xs))
 after-one_more most p x xs h =

@@ -186,7 +186,7 @@ module _ (g : ThermalUnit) (π : PriceLists) (most : ℕ) (unit : IsThermalUnit 
             let as_good = best.greatest s (h.feasible refl) in
             elim (h.first refl other best.feasible (omega arith)) [
               | inl less ↦ omega (arith, ints, less, mine, as_good)
-              | inr r ↦ let place = r.1 in omega (arith, place, later)
+              | inr r ↦ let index = r.1 in omega (arith, index, later)
             ];
       }
 

@@ -13,67 +13,67 @@ use uc_model::rules::cap;
 use uc_model::units::{Response, Unit};
 
 // Nothing is given in an off period.
-fn off_holds(response: &Response, place: usize) -> bool
-    requires { place < length response.now.on.items }
-    ensures { IsTrue result ↔ (IsFalse (slice_index_or (schedule_of response.now).on place false)
-        → (slice_index (schedule_of response.now).power place ≡ 0)
-        × (slice_index (schedule_of response.now).reserve place ≡ 0)) }
+fn off_holds(response: &Response, index: usize) -> bool
+    requires { index < length response.now.on.items }
+    ensures { IsTrue result ↔ (IsFalse (slice_index_or (schedule_of response.now).on index false)
+        → (slice_index (schedule_of response.now).power index ≡ 0)
+        × (slice_index (schedule_of response.now).reserve index ≡ 0)) }
 {
-    is_on(response, place) || (*response.power.get(place) == 0 && *response.reserve.get(place) == 0)
+    is_on(response, index) || (*response.power.get(index) == 0 && *response.reserve.get(index) == 0)
 }
 
 // The power is at least the least one.
-fn least_holds(unit: &Unit, response: &Response, place: usize) -> bool
-    requires { place < length response.now.on.items }
+fn least_holds(unit: &Unit, response: &Response, index: usize) -> bool
+    requires { index < length response.now.on.items }
     ensures { IsTrue result
-        ↔ (IsTrue (on_in (thermal_of unit.now) (schedule_of response.now) (suc place))
-        → pos 0 ≤ℤ above_min (thermal_of unit.now) (schedule_of response.now) (suc place)) }
+        ↔ (IsTrue (on_in (thermal_of unit.now) (schedule_of response.now) (suc index))
+        → pos 0 ≤ℤ above_min (thermal_of unit.now) (schedule_of response.now) (suc index)) }
 {
-    !is_on(response, place) || above(unit, response, place) >= 0
+    !is_on(response, index) || above(unit, response, index) >= 0
 }
 
 // The power with the reserve is at most the greatest one.
-fn greatest_holds(unit: &Unit, response: &Response, place: usize) -> bool
-    requires { place < length response.now.on.items }
+fn greatest_holds(unit: &Unit, response: &Response, index: usize) -> bool
+    requires { index < length response.now.on.items }
     ensures { IsTrue result
-        ↔ (IsTrue (on_in (thermal_of unit.now) (schedule_of response.now) (suc place))
-        → above_with_reserve (thermal_of unit.now) (schedule_of response.now) (suc place)
+        ↔ (IsTrue (on_in (thermal_of unit.now) (schedule_of response.now) (suc index))
+        → above_with_reserve (thermal_of unit.now) (schedule_of response.now) (suc index)
         ≤ℤ cap_of (thermal_of unit.now) false false) }
 {
-    !is_on(response, place) || above_all(unit, response, place) <= cap(unit, false, false)
+    !is_on(response, index) || above_all(unit, response, index) <= cap(unit, false, false)
 }
 
 // In a start period they are within the start limit.
-fn start_holds(unit: &Unit, response: &Response, place: usize) -> bool
-    requires { place < length response.now.on.items }
+fn start_holds(unit: &Unit, response: &Response, index: usize) -> bool
+    requires { index < length response.now.on.items }
     ensures { IsTrue result
-        ↔ (IsTrue (starts_in (thermal_of unit.now) (schedule_of response.now) (suc place))
-        → above_with_reserve (thermal_of unit.now) (schedule_of response.now) (suc place)
+        ↔ (IsTrue (starts_in (thermal_of unit.now) (schedule_of response.now) (suc index))
+        → above_with_reserve (thermal_of unit.now) (schedule_of response.now) (suc index)
         ≤ℤ cap_of (thermal_of unit.now) true false) }
 {
-    !starts(unit, response, place) || above_all(unit, response, place) <= cap(unit, true, false)
+    !starts(unit, response, index) || above_all(unit, response, index) <= cap(unit, true, false)
 }
 
 // Whether the unit stops in the period after a place.
-fn stops_next(unit: &Unit, response: &Response, place: usize) -> bool
-    requires place { place < length response.now.on.items }
+fn stops_next(unit: &Unit, response: &Response, index: usize) -> bool
+    requires index { index < length response.now.on.items }
     requires limit { length response.now.on.items ≤ 168 }
-    ensures { IsTrue result ↔ (IsPeriod (schedule_of response.now) (suc (suc place))
-        × IsTrue (stops_in (thermal_of unit.now) (schedule_of response.now) (suc (suc place)))) }
+    ensures { IsTrue result ↔ (IsPeriod (schedule_of response.now) (suc (suc index))
+        × IsTrue (stops_in (thermal_of unit.now) (schedule_of response.now) (suc (suc index)))) }
 {
-    place + 1 < response.on.len() && stops(unit, response, place + 1)
+    index + 1 < response.on.len() && stops(unit, response, index + 1)
 }
 
 // In the last period before a stop they are within the stop limit.
-fn stop_holds(unit: &Unit, response: &Response, place: usize) -> bool
-    requires place { place < length response.now.on.items }
+fn stop_holds(unit: &Unit, response: &Response, index: usize) -> bool
+    requires index { index < length response.now.on.items }
     requires limit { length response.now.on.items ≤ 168 }
-    ensures { IsTrue result ↔ (IsPeriod (schedule_of response.now) (suc (suc place))
-        → IsTrue (stops_in (thermal_of unit.now) (schedule_of response.now) (suc (suc place)))
-        → above_with_reserve (thermal_of unit.now) (schedule_of response.now) (suc place)
+    ensures { IsTrue result ↔ (IsPeriod (schedule_of response.now) (suc (suc index))
+        → IsTrue (stops_in (thermal_of unit.now) (schedule_of response.now) (suc (suc index)))
+        → above_with_reserve (thermal_of unit.now) (schedule_of response.now) (suc index)
         ≤ℤ cap_of (thermal_of unit.now) false true) }
 {
-    !stops_next(unit, response, place) || above_all(unit, response, place) <= cap(unit, false, true)
+    !stops_next(unit, response, index) || above_all(unit, response, index) <= cap(unit, false, true)
 }
 
 // Whether a power rises by at most so much from one period to the next.
@@ -86,44 +86,44 @@ fn rises_within(from: i64, to: i64, ramp: i64) -> bool
 }
 
 // The power with the reserve rises by at most the ramp.
-fn ramp_up_holds(unit: &Unit, response: &Response, place: usize) -> bool
-    requires { place < length response.now.on.items }
+fn ramp_up_holds(unit: &Unit, response: &Response, index: usize) -> bool
+    requires { index < length response.now.on.items }
     ensures { IsTrue result
-        ↔ ((above_with_reserve (thermal_of unit.now) (schedule_of response.now) (suc place)
-        -ℤ above_min (thermal_of unit.now) (schedule_of response.now) place) ≤ℤ unit.now.ramp_up) }
+        ↔ ((above_with_reserve (thermal_of unit.now) (schedule_of response.now) (suc index)
+        -ℤ above_min (thermal_of unit.now) (schedule_of response.now) index) ≤ℤ unit.now.ramp_up) }
 {
-    let before = above_before(unit, response, place);
-    let now = above_all(unit, response, place);
+    let before = above_before(unit, response, index);
+    let now = above_all(unit, response, index);
     rises_within(before, now, unit.ramp_up)
 }
 
 // The power falls by at most the ramp.
-fn ramp_down_holds(unit: &Unit, response: &Response, place: usize) -> bool
-    requires { place < length response.now.on.items }
+fn ramp_down_holds(unit: &Unit, response: &Response, index: usize) -> bool
+    requires { index < length response.now.on.items }
     ensures { IsTrue result
-        ↔ ((above_min (thermal_of unit.now) (schedule_of response.now) place
-        -ℤ above_min (thermal_of unit.now) (schedule_of response.now) (suc place))
+        ↔ ((above_min (thermal_of unit.now) (schedule_of response.now) index
+        -ℤ above_min (thermal_of unit.now) (schedule_of response.now) (suc index))
         ≤ℤ unit.now.ramp_down) }
 {
-    let before = above_before(unit, response, place);
-    let now = above(unit, response, place);
+    let before = above_before(unit, response, index);
+    let now = above(unit, response, index);
     rises_within(now, before, unit.ramp_down)
 }
 
-/// Whether the powers and reserves keep each dispatch rule in the period at a place.
-pub fn keeps_dispatch(unit: &Unit, response: &Response, place: usize) -> bool
-    requires place { place < length response.now.on.items }
+/// Whether the powers and reserves keep each dispatch rule in the period at an index.
+pub fn keeps_dispatch(unit: &Unit, response: &Response, index: usize) -> bool
+    requires index { index < length response.now.on.items }
     requires limit { length response.now.on.items ≤ 168 }
     ensures { IsTrue result ↔ KeepsDispatchAt (thermal_of unit.now) (schedule_of response.now)
-        place }
+        index }
 {
-    off_holds(response, place)
-        && least_holds(unit, response, place)
-        && greatest_holds(unit, response, place)
-        && start_holds(unit, response, place)
-        && stop_holds(unit, response, place)
-        && ramp_up_holds(unit, response, place)
-        && ramp_down_holds(unit, response, place)
+    off_holds(response, index)
+        && least_holds(unit, response, index)
+        && greatest_holds(unit, response, index)
+        && start_holds(unit, response, index)
+        && stop_holds(unit, response, index)
+        && ramp_up_holds(unit, response, index)
+        && ramp_down_holds(unit, response, index)
 }
 
 // The greatest output before the horizon of a unit that stops in the first period.

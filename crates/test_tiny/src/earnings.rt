@@ -47,57 +47,57 @@ fn worth(price: i64, kilowatts: i64) -> i128
     i128::from(price) * i128::from(kilowatts)
 }
 
-fn energy_price(prices: &Prices, place: usize) -> i64
-    requires { place < length prices.now.energy.items }
-    ensures value { result ≡ int_at (prices_of prices.now).energy place }
+fn energy_price(prices: &Prices, index: usize) -> i64
+    requires { index < length prices.now.energy.items }
+    ensures value { result ≡ int_at (prices_of prices.now).energy index }
     ensures bound { IsFrom (neg_ℤ price_limit) price_limit result }
 {
-    *prices.energy.get(place)
+    *prices.energy.get(index)
 }
 
-fn reserve_price(prices: &Prices, place: usize) -> i64
-    requires { place < length prices.now.energy.items }
-    ensures value { result ≡ int_at (prices_of prices.now).reserve place }
+fn reserve_price(prices: &Prices, index: usize) -> i64
+    requires { index < length prices.now.energy.items }
+    ensures value { result ≡ int_at (prices_of prices.now).reserve index }
     ensures bound { IsFrom (neg_ℤ price_limit) price_limit result }
 {
-    *prices.reserve.get(place)
+    *prices.reserve.get(index)
 }
 
-// What the prices pay in the period at a place.
-fn revenue(prices: &Prices, response: &Response, place: usize) -> i128
-    requires place { place < length response.now.on.items }
+// What the prices pay in the period at an index.
+fn revenue(prices: &Prices, response: &Response, index: usize) -> i128
+    requires index { index < length response.now.on.items }
     requires horizon { length response.now.on.items ≡ length prices.now.energy.items }
-    ensures value { result ≡ revenue_in (prices_of prices.now) (schedule_of response.now) place }
+    ensures value { result ≡ revenue_in (prices_of prices.now) (schedule_of response.now) index }
     ensures bound { IsFrom (neg_ℤ (pos 1208925819614629174706176)) (pos 1208925819614629174706176)
         result }
 {
-    let energy = worth(energy_price(prices, place), power(response, place));
-    let reserve = worth(reserve_price(prices, place), reserve(response, place));
+    let energy = worth(energy_price(prices, index), power(response, index));
+    let reserve = worth(reserve_price(prices, index), reserve(response, index));
     plus(energy, reserve)
 }
 
-// What the power of the period at a place costs.
-fn production(unit: &Unit, response: &Response, place: usize) -> i128
-    requires { place < length response.now.on.items }
-    ensures value { result ≡ production_in (thermal_of unit.now) (schedule_of response.now) place }
+// What the power of the period at an index costs.
+fn production(unit: &Unit, response: &Response, index: usize) -> i128
+    requires { index < length response.now.on.items }
+    ensures value { result ≡ production_in (thermal_of unit.now) (schedule_of response.now) index }
     ensures bound { IsFrom (neg_ℤ (pos 2417851639229258349412352)) (pos 2417851639229258349412352)
         result }
 {
-    if is_on(response, place) {
-        cost_of_power(unit.points.as_slice(), *response.power.get(place))
+    if is_on(response, index) {
+        cost_of_power(unit.points.as_slice(), *response.power.get(index))
     } else {
         0
     }
 }
 
-// For how many periods the unit has been off before the period at a place.
-fn periods_down(unit: &Unit, response: &Response, place: usize) -> u64
-    requires place { place ≤ length response.now.on.items }
+// For how many periods the unit has been off before the period at an index.
+fn periods_down(unit: &Unit, response: &Response, index: usize) -> u64
+    requires index { index ≤ length response.now.on.items }
     requires limit { length response.now.on.items ≤ 168 }
-    ensures { result ≡ time_down (thermal_of unit.now) (schedule_of response.now) place }
+    ensures { result ≡ time_down (thermal_of unit.now) (schedule_of response.now) index }
 {
     let mut down = if unit.on0 { 0 } else { u64::from(unit.down0) };
-    for earlier in 0..place {
+    for earlier in 0..index {
         down = if is_on(response, earlier) {
             0
         } else {
@@ -107,36 +107,36 @@ fn periods_down(unit: &Unit, response: &Response, place: usize) -> u64
     down
 }
 
-// What a start in the period at a place costs.
-fn start(unit: &Unit, response: &Response, place: usize) -> i128
-    requires place { place < length response.now.on.items }
+// What a start in the period at an index costs.
+fn start(unit: &Unit, response: &Response, index: usize) -> i128
+    requires index { index < length response.now.on.items }
     requires limit { length response.now.on.items ≤ 168 }
-    ensures value { result ≡ start_in (thermal_of unit.now) (schedule_of response.now) place }
+    ensures value { result ≡ start_in (thermal_of unit.now) (schedule_of response.now) index }
     ensures bound { IsFrom (neg_ℤ (pos 1208925819614629174706176)) (pos 1208925819614629174706176)
         result }
 {
-    if starts(unit, response, place) {
-        i128::from(start_cost(unit, periods_down(unit, response, place)))
+    if starts(unit, response, index) {
+        i128::from(start_cost(unit, periods_down(unit, response, index)))
     } else {
         0
     }
 }
 
-// What is earned in the period at a place.
-fn net(unit: &Unit, prices: &Prices, response: &Response, place: usize) -> i128
-    requires place { place < length response.now.on.items }
+// What is earned in the period at an index.
+fn net(unit: &Unit, prices: &Prices, response: &Response, index: usize) -> i128
+    requires index { index < length response.now.on.items }
     requires horizon { length response.now.on.items ≡ length prices.now.energy.items }
     ensures value { result ≡ net_in (thermal_of unit.now) (prices_of prices.now)
-        (schedule_of response.now) place }
+        (schedule_of response.now) index }
     ensures bound { IsFrom (neg_ℤ (pos 4835703278458516698824704)) (pos 4835703278458516698824704)
         result }
 {
     let _limits = prices.energy.len();
     let costs = plus(
-        production(unit, response, place),
-        start(unit, response, place),
+        production(unit, response, index),
+        start(unit, response, index),
     );
-    minus(revenue(prices, response, place), costs)
+    minus(revenue(prices, response, index), costs)
 }
 
 /// What a response over the horizon of the prices earns, in money: what the prices pay for its
@@ -147,8 +147,8 @@ pub fn earnings_of(unit: &Unit, prices: &Prices, response: &Response) -> i128
         (schedule_of response.now) }
 {
     let mut earned = 0;
-    for place in 0..prices.energy.len() {
-        earned = plus(earned, net(unit, prices, response, place));
+    for index in 0..prices.energy.len() {
+        earned = plus(earned, net(unit, prices, response, index));
     }
     earned
 }

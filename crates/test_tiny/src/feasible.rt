@@ -8,13 +8,13 @@ use crate::commitment::keeps_commitment;
 use crate::dispatch::{keeps_dispatch, may_stop_at_once};
 use uc_model::units::{Response, Unit};
 
-// Whether the period at a place keeps each rule.
-fn keeps_rules_at(unit: &Unit, response: &Response, place: usize) -> bool
-    requires place { place < length response.now.on.items }
+// Whether the period at an index keeps each rule.
+fn keeps_rules_at(unit: &Unit, response: &Response, index: usize) -> bool
+    requires index { index < length response.now.on.items }
     requires lengths { length response.now.on.items ≡ length unit.now.window.items }
-    ensures { IsTrue result ↔ KeepsRulesAt (thermal_of unit.now) (schedule_of response.now) place }
+    ensures { IsTrue result ↔ KeepsRulesAt (thermal_of unit.now) (schedule_of response.now) index }
 {
-    keeps_commitment(unit, response, place) && keeps_dispatch(unit, response, place)
+    keeps_commitment(unit, response, index) && keeps_dispatch(unit, response, index)
 }
 
 // Whether each period does.
@@ -22,8 +22,8 @@ fn keeps_rules(unit: &Unit, response: &Response) -> bool
     requires { length response.now.on.items ≡ length unit.now.window.items }
     ensures { IsTrue result ↔ KeepsRules (thermal_of unit.now) (schedule_of response.now) }
 {
-    for place in 0..unit.window.len() {
-        if !keeps_rules_at(unit, response, place) {
+    for index in 0..unit.window.len() {
+        if !keeps_rules_at(unit, response, index) {
             return false;
         }
     }

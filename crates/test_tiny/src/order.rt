@@ -19,13 +19,13 @@ fn next_numbers(list: &mut Powers, most: u32) -> bool
     ensures again { IsFalse result → suc (after_of most list.new.items)
         ≡ list_count most (length list.old.items) }
 {
-    for place in 0..list.len() {
-        let number = *list.get(place);
+    for index in 0..list.len() {
+        let number = *list.get(index);
         if number < most {
-            list.set(place, number + 1);
+            list.set(index, number + 1);
             return true;
         }
-        list.set(place, 0);
+        list.set(index, 0);
     }
     false
 }
@@ -37,12 +37,12 @@ fn next_flags(list: &mut Flags) -> bool
         ≡ after_of 1 (map flag list.old.items) }
     ensures last { IsFalse result → after_of 1 (map flag list.old.items) ≡ 0 }
 {
-    for place in 0..list.len() {
-        if !*list.get(place) {
-            list.set(place, true);
+    for index in 0..list.len() {
+        if !*list.get(index) {
+            list.set(index, true);
             return true;
         }
-        list.set(place, false);
+        list.set(index, false);
     }
     false
 }

@@ -247,21 +247,21 @@ pub fn small_prices(alloc: Global, energy: &[i16], reserve: &[u16]) -> Result<Pr
         ≡ pos (slice_index reserve.now k))) }
 {
     let mut small = Prices::make(alloc, energy.len() as u32)?;
-    for place in 0..energy.len() {
-        set_price(&mut small, place, energy[place], reserve[place]);
+    for index in 0..energy.len() {
+        set_price(&mut small, index, energy[index], reserve[index]);
     }
     Ok(small)
 }
 
-// Writes the prices of the period at a place.
-fn set_price(prices: &mut Prices, place: usize, energy: i16, reserve: u16)
-    requires { place < length prices.old.energy.items }
-    ensures energy { prices.new.energy.items ≡ slice_set prices.old.energy.items place energy }
-    ensures reserve { prices.new.reserve.items ≡ slice_set prices.old.reserve.items place
+// Writes the prices of the period at an index.
+fn set_price(prices: &mut Prices, index: usize, energy: i16, reserve: u16)
+    requires { index < length prices.old.energy.items }
+    ensures energy { prices.new.energy.items ≡ slice_set prices.old.energy.items index energy }
+    ensures reserve { prices.new.reserve.items ≡ slice_set prices.old.reserve.items index
         (pos reserve) }
 {
-    prices.energy.set(place, i64::from(energy));
-    prices.reserve.set(place, i64::from(reserve));
+    prices.energy.set(index, i64::from(energy));
+    prices.reserve.set(index, i64::from(reserve));
 }
 
 /// A renewable unit over one period.

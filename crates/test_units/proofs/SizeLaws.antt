@@ -10,8 +10,8 @@ mono : (a b c d : ℕ) → a ≤ b → c ≤ d → a * c ≤ b * d
 mono a b c d h i = mul-le-mul h i
 
 -- a step over a place below the end
-pub one_more : (place periods blocks : ℕ) → place < periods → (place + 1) * blocks ≤ periods * blocks
-one_more place periods blocks low = mono (place + 1) periods blocks blocks (omega (arith, low)) (omega arith)
+pub one_more : (index periods blocks : ℕ) → index < periods → (index + 1) * blocks ≤ periods * blocks
+one_more index periods blocks low = mono (index + 1) periods blocks blocks (omega (arith, low)) (omega arith)
 
 -- a unit's curve has at most two blocks between two points
 pub charge_of : (blocks points : ℕ) → 1 ≤ points → blocks ≤ 2 * (points - 1) → blocks + 5 ≤ 2 * points + 3

@@ -4,22 +4,22 @@ use Rattle.test_units.proofs.Common.{length, get_or, set, Option, None, sym, ap,
 use Rattle.test_units.proofs.Common.{get_or-set_other, cases_lt, entry_of, spell_first}
 
 -- one more entry
-module _ (xs ys : List (Option ℤ)) (place : ℕ) (o : Option ℤ) (is : ys ≡ set xs place o) where
-  pub entry_other : (k : ℕ) → k ≢ place → get_or ys k None ≡ get_or xs k None
-  entry_other k ne = ap (λ (zs : List (Option ℤ)). get_or zs k None) is ∙ get_or-set_other xs place k o None ne
+module _ (xs ys : List (Option ℤ)) (index : ℕ) (o : Option ℤ) (is : ys ≡ set xs index o) where
+  pub entry_other : (k : ℕ) → k ≢ index → get_or ys k None ≡ get_or xs k None
+  entry_other k ne = ap (λ (zs : List (Option ℤ)). get_or zs k None) is ∙ get_or-set_other xs index k o None ne
 
-  pub entry_same : place < length xs → get_or ys place None ≡ o
-  entry_same low = ap (λ (zs : List (Option ℤ)). get_or zs place None) is ∙ get_or-set_same xs place o None low
+  pub entry_same : index < length xs → get_or ys index None ≡ o
+  entry_same low = ap (λ (zs : List (Option ℤ)). get_or zs index None) is ∙ get_or-set_same xs index o None low
 
-  pub entries_more : (P : ℕ → Option ℤ → Type 0) (first : ℕ) → place < length xs →
-      ((k : ℕ) → first ≤ suc k → k < place → P k (get_or xs k None)) → P place o →
-      (k : ℕ) → first ≤ suc k → k < place + 1 → P k (get_or ys k None)
-  entries_more P first low before here k from until = elim (cases_lt k place) [
-    | inl less ↦ let ne : k ≢ place = omega (arith, less) in
+  pub entries_more : (P : ℕ → Option ℤ → Type 0) (first : ℕ) → index < length xs →
+      ((k : ℕ) → first ≤ suc k → k < index → P k (get_or xs k None)) → P index o →
+      (k : ℕ) → first ≤ suc k → k < index + 1 → P k (get_or ys k None)
+  entries_more P first low before here k from until = elim (cases_lt k index) [
+    | inl less ↦ let ne : k ≢ index = omega (arith, less) in
         subst (λ (e : Option ℤ). P k e) (sym (entry_other k ne)) (before k from less)
     | inr most ↦
-        let z : place ≡ k = omega (arith, most, until) in
-        subst (λ (j : ℕ). P j (get_or ys j None)) z (subst (λ (e : Option ℤ). P place e) (sym (entry_same low)) here)
+        let z : index ≡ k = omega (arith, most, until) in
+        subst (λ (j : ℕ). P j (get_or ys j None)) z (subst (λ (e : Option ℤ). P index e) (sym (entry_same low)) here)
   ]
 
 -- entries by place are entries by last period

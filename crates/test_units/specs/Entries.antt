@@ -47,13 +47,13 @@ pub record IsSpellOf (g : ThermalUnit) (periods : ℕ) (s : Spell) : Type 0 wher
 
 -- the cheapest way from a place to the end of a spell is written, on in each period and at a cost
 -- within bounds; or there is none, and nothing is written
-abbrev pub HasWay : ThermalUnit → PriceLists → Spell → (place : ℕ) → Table → (old new : Schedule) → Option Found →
+abbrev pub HasWay : ThermalUnit → PriceLists → Spell → (index : ℕ) → Table → (old new : Schedule) → Option Found →
     Type 0
-HasWay g π s place f old new best =
+HasWay g π s index f old new best =
     MatchOption best (HasNoDispatch g (length π.energy) (spell_first s.started s.first) s.last × (new ≡ old))
-    (λ found. IsWayFrom g π (spell_first s.started s.first) place s.last f new found.power found.cost
+    (λ found. IsWayFrom g π (spell_first s.started s.first) index s.last f new found.power found.cost
     × IsSpellWithin (spell_first s.started s.first) s.last found.cost
-    × IsOnFromTo (suc place) s.last new)
+    × IsOnFromTo (suc index) s.last new)
 
 -- no power before a step leads to power x
 pub record IsUnreached (s : Step) (f : Table) (x : ℤ) : Type 0 where

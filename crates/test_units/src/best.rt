@@ -21,8 +21,8 @@ use crate::spell::Spell;
 use crate::step::{add_kink, beginning, starts_at, stepped};
 use cost_curve::laws::envelope_is_cost;
 use slope_list::step_terms::Step;
-use spell_run::step::step_of;
-use spell_run::write::write_best;
+use spell_run::step::step_over_period;
+use spell_run::write::write_best_reserve;
 use std::alloc::AllocError;
 use test_shapes::Shape;
 use test_shapes::laws::{frames_join, others_stay};
@@ -54,21 +54,21 @@ fn choose<S: Shape>(
     home: &mut S::Home,
     before: &mut S,
     step: Step,
-    place: usize,
+    index: usize,
     found: Found,
     into: &mut Answered,
 ) -> Result<Option<Found>, AllocError>
     requires here { S.is_in home.old before.old }
     requires step { IsFairStep step }
     requires small { IsSmall (S.function home.old before.old) }
-    requires place { place < length (schedule_of into.old.response).on }
+    requires index { index < length (schedule_of into.old.response).on }
     requires found { IsFrom step.least step.cap found.power }
     ensures chosen { IfOk result (λ best. MatchOption best
         (IsUnreached step (S.function home.old before.old) found.power)
-        (λ chosen. IsChosen step (S.function home.old before.old) place found.power chosen.power
+        (λ chosen. IsChosen step (S.function home.old before.old) index found.power chosen.power
         (schedule_of into.old.response) (schedule_of into.new.response))) }
     ensures cost { IfOk result (λ best. IfSome best (λ chosen. chosen.cost ≡ found.cost)) }
-    ensures outside { IsSameOutside (suc place) (suc place) (schedule_of into.old.response)
+    ensures outside { IsSameOutside (suc index) (suc index) (schedule_of into.old.response)
         (schedule_of into.new.response) }
     ensures earned { into.new.earned ≡ into.old.earned }
     ensures here { S.is_in home.new before.new }
@@ -83,7 +83,7 @@ fn choose<S: Shape>(
     let most = found.power + step.ramp_down;
     match before.least_in(home, least, most) {
         Some((_, power)) => {
-            write_best(into, place, step, power, found.power);
+            write_best_reserve(into, index, step, power, found.power);
             Ok(Some(Found {
                 cost: found.cost,
                 power,
@@ -93,29 +93,29 @@ fn choose<S: Shape>(
     }
 }
 
-/// The step of a spell over the period at a place.
-fn step_in(unit: &Unit, prices: &Prices, spell: &Spell, place: usize) -> Step
-    requires place { place < length (prices_of prices.now).energy }
+/// The step of a spell over the period at an index.
+fn step_in(unit: &Unit, prices: &Prices, spell: &Spell, index: usize) -> Step
+    requires index { index < length (prices_of prices.now).energy }
     requires stops { spell.now.stops ≡ nat_lt spell.now.last
         (length (prices_of prices.now).energy) }
-    ensures step { result ≡ step_at (thermal_of unit.now) (prices_of prices.now) place
-        (spell_first spell.now.started spell.now.first == suc place)
-        (stops_at spell.now.last (length (prices_of prices.now).energy) place) }
+    ensures step { result ≡ step_at (thermal_of unit.now) (prices_of prices.now) index
+        (spell_first spell.now.started spell.now.first == suc index)
+        (stops_at spell.now.last (length (prices_of prices.now).energy) index) }
     ensures fair { IsFairStep result }
 {
-    let starts = starts_at(spell.first, spell.started, place);
-    let stops = spell.stops && spell.last as usize == place + 1;
-    step_of(unit, prices, place, starts, stops)
+    let starts = starts_at(spell.first, spell.started, index);
+    let stops = spell.stops && spell.last as usize == index + 1;
+    step_over_period(unit, prices, index, starts, stops)
 }
 
-/// Writes the last period of a spell, at a place, cheapest with what comes before it.
+/// Writes the last period of a spell, at an index, cheapest with what comes before it.
 fn last_period<S: Shape>(
     home: &mut S::Home,
     unit: &Unit,
     curve: &Curve,
     prices: &Prices,
     spell: &Spell,
-    place: usize,
+    index: usize,
     before: &mut S,
     into: &mut Answered,
 ) -> Result<Option<Found>, AllocError>
@@ -123,16 +123,16 @@ fn last_period<S: Shape>(
     requires curve { IsCostCurve (thermal_of unit.now).points curve.now }
     requires spell { IsSpellOf (thermal_of unit.now) (length (prices_of prices.now).energy)
         spell.now }
-    requires from { spell.now.first ≤ suc place }
-    requires until { suc place ≡ spell.now.last }
+    requires from { spell.now.first ≤ suc index }
+    requires until { suc index ≡ spell.now.last }
     requires into { length (schedule_of into.old.response).on
         ≡ length (prices_of prices.now).energy }
     requires frontier { IsFrontier (thermal_of unit.now) (prices_of prices.now)
-        (spell_first spell.now.started spell.now.first) place (S.function home.old before.old) }
-    ensures way { IfOk result (HasWay (thermal_of unit.now) (prices_of prices.now) spell.now place
+        (spell_first spell.now.started spell.now.first) index (S.function home.old before.old) }
+    ensures way { IfOk result (HasWay (thermal_of unit.now) (prices_of prices.now) spell.now index
         (S.function home.old before.old) (schedule_of into.old.response)
         (schedule_of into.new.response)) }
-    ensures outside { IsSameOutside (suc place) spell.now.last (schedule_of into.old.response)
+    ensures outside { IsSameOutside (suc index) spell.now.last (schedule_of into.old.response)
         (schedule_of into.new.response) }
     ensures earned { into.new.earned ≡ into.old.earned }
     ensures here { S.is_in home.new before.new }
@@ -147,12 +147,12 @@ fn last_period<S: Shape>(
     envelope_is_cost();
     frames_join::<S>();
     others_stay::<S>();
-    let step = step_in(unit, prices, spell, place);
+    let step = step_in(unit, prices, spell, index);
     let after: S = stepped(home, before, step, curve)?;
     let found = end_of(home, &after);
     after.give_back(home);
     match found {
-        Some(found) => choose(home, before, step, place, found, into),
+        Some(found) => choose(home, before, step, index, found, into),
         None => Ok(None),
     }
 }
@@ -164,7 +164,7 @@ fn way_from<S: Shape>(
     curve: &Curve,
     prices: &Prices,
     spell: &Spell,
-    place: usize,
+    index: usize,
     before: &mut S,
     into: &mut Answered,
 ) -> Result<Option<Found>, AllocError>
@@ -172,35 +172,35 @@ fn way_from<S: Shape>(
     requires curve { IsCostCurve (thermal_of unit.now).points curve.now }
     requires spell { IsSpellOf (thermal_of unit.now) (length (prices_of prices.now).energy)
         spell.now }
-    requires from { spell.now.first ≤ suc place }
-    requires until { suc place ≤ spell.now.last }
+    requires from { spell.now.first ≤ suc index }
+    requires until { suc index ≤ spell.now.last }
     requires into { length (schedule_of into.old.response).on
         ≡ length (prices_of prices.now).energy }
     requires frontier { IsFrontier (thermal_of unit.now) (prices_of prices.now)
-        (spell_first spell.now.started spell.now.first) place (S.function home.old before.old) }
-    ensures way { IfOk result (HasWay (thermal_of unit.now) (prices_of prices.now) spell.now place
+        (spell_first spell.now.started spell.now.first) index (S.function home.old before.old) }
+    ensures way { IfOk result (HasWay (thermal_of unit.now) (prices_of prices.now) spell.now index
         (S.function home.old before.old) (schedule_of into.old.response)
         (schedule_of into.new.response)) }
-    ensures outside { IsSameOutside (suc place) spell.now.last (schedule_of into.old.response)
+    ensures outside { IsSameOutside (suc index) spell.now.last (schedule_of into.old.response)
         (schedule_of into.new.response) }
     ensures earned { into.new.earned ≡ into.old.earned }
     ensures here { S.is_in home.new before.new }
     ensures frame { Frame S.Home.cell_list S.is_in S.numbers (S.numbers home.old before.old)
         (S.numbers home.new before.new) home.old home.new }
     ensures sure { (most : ℕ) → S.Home.counts ≡ true
-        → S.cells before.old + (spell.now.last - place) * (length curve.now.blocks.items + 5)
+        → S.cells before.old + (spell.now.last - index) * (length curve.now.blocks.items + 5)
         ≤ most →
-        (spell.now.last - place) * most ≤ S.Home.sure home.old → IsOk result }
+        (spell.now.last - index) * most ≤ S.Home.sure home.old → IsOk result }
     ensures balance { S.Home.counts ≡ true
         → S.Home.sure home.new + S.cells before.new ≡ S.Home.sure home.old + S.cells before.old }
 {
-    if place + 1 == spell.last as usize {
-        return last_period(home, unit, curve, prices, spell, place, before, into);
+    if index + 1 == spell.last as usize {
+        return last_period(home, unit, curve, prices, spell, index, before, into);
     }
     envelope_is_cost();
     frames_join::<S>();
     others_stay::<S>();
-    let step = step_in(unit, prices, spell, place);
+    let step = step_in(unit, prices, spell, index);
     let mut after: S = stepped(home, before, step, curve)?;
     let found = way_from(
         home,
@@ -208,13 +208,13 @@ fn way_from<S: Shape>(
         curve,
         prices,
         spell,
-        place + 1,
+        index + 1,
         &mut after,
         into,
     );
     after.give_back(home);
     match found? {
-        Some(found) => choose(home, before, step, place, found, into),
+        Some(found) => choose(home, before, step, index, found, into),
         None => Ok(None),
     }
 }
@@ -272,8 +272,8 @@ pub fn spell_best<S: Shape>(
 {
     frames_join::<S>();
     let mut start: S = beginning(home, unit, spell.started)?;
-    let place = spell.first as usize - 1;
-    let found = way_from(home, unit, curve, prices, spell, place, &mut start, into);
+    let index = spell.first as usize - 1;
+    let found = way_from(home, unit, curve, prices, spell, index, &mut start, into);
     start.give_back(home);
     match found? {
         Some(found) => Ok(Some(found.cost)),

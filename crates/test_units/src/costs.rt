@@ -17,7 +17,7 @@ use crate::spell::SpellCosts;
 use crate::step::{beginning, starts_at, stepped, take_step};
 use cost_curve::laws::envelope_is_cost;
 use slope_list::step_terms::Step;
-use spell_run::step::{is_alike, step_of};
+use spell_run::step::{differs_in_range_alone, step_over_period};
 use std::alloc::AllocError;
 use test_shapes::Shape;
 use test_shapes::laws::{frames_join, others_stay};
@@ -72,7 +72,7 @@ fn cost_after<S: Shape>(
     Ok(cost)
 }
 
-/// Takes the step over the period at a place, as far as no stop follows.
+/// Takes the step over the period at an index, as far as no stop follows.
 fn run_on<S: Shape>(
     home: &mut S::Home,
     unit: &Unit,
@@ -80,17 +80,17 @@ fn run_on<S: Shape>(
     prices: &Prices,
     first: u32,
     started: bool,
-    place: usize,
+    index: usize,
     running: &mut S,
 ) -> Result<(), AllocError>
     requires here { S.is_in home.old running.old }
     requires curve { IsCostCurve (thermal_of unit.now).points curve.now }
-    requires place { place < length (prices_of prices.now).energy }
-    requires order { spell_first started first ≤ suc place }
+    requires index { index < length (prices_of prices.now).energy }
+    requires order { spell_first started first ≤ suc index }
     requires frontier { IsFrontier (thermal_of unit.now) (prices_of prices.now)
-        (spell_first started first) place (S.function home.old running.old) }
+        (spell_first started first) index (S.function home.old running.old) }
     ensures ok { OnOk result (IsFrontier (thermal_of unit.now) (prices_of prices.now)
-        (spell_first started first) (suc place) (S.function home.new running.new)) }
+        (spell_first started first) (suc index) (S.function home.new running.new)) }
     ensures here { S.is_in home.new running.new }
     ensures frame { Frame S.Home.cell_list S.is_in S.numbers (S.numbers home.old running.old)
         (S.numbers home.new running.new) home.old home.new }
@@ -100,16 +100,16 @@ fn run_on<S: Shape>(
         (S.Home.sure home.old) (S.cells running.old) (S.Home.sure home.new) (S.cells running.new) }
 {
     envelope_is_cost();
-    let starts = starts_at(first, started, place);
+    let starts = starts_at(first, started, index);
     take_step(
         home,
         running,
-        step_of(unit, prices, place, starts, false),
+        step_over_period(unit, prices, index, starts, false),
         curve,
     )
 }
 
-/// The least cost of the spells that end with the period at a place, found by a step that knows of
+/// The least cost of the spells that end with the period at an index, found by a step that knows of
 /// the stop after it.
 fn cost_to_stop<S: Shape>(
     home: &mut S::Home,
@@ -118,17 +118,17 @@ fn cost_to_stop<S: Shape>(
     prices: &Prices,
     first: u32,
     started: bool,
-    place: usize,
+    index: usize,
     running: &S,
 ) -> Result<Option<i64>, AllocError>
     requires here { S.is_in home.old running.now }
     requires curve { IsCostCurve (thermal_of unit.now).points curve.now }
-    requires place { suc place < length (prices_of prices.now).energy }
-    requires order { spell_first started first ≤ suc place }
+    requires index { suc index < length (prices_of prices.now).energy }
+    requires order { spell_first started first ≤ suc index }
     requires frontier { IsFrontier (thermal_of unit.now) (prices_of prices.now)
-        (spell_first started first) place (S.function home.old running.now) }
+        (spell_first started first) index (S.function home.old running.now) }
     ensures answer { IfOk result (IsSpellCost (thermal_of unit.now) (prices_of prices.now)
-        (spell_first started first) (suc place)) }
+        (spell_first started first) (suc index)) }
     ensures frame { Frame S.Home.cell_list S.is_in S.numbers [] [] home.old home.new }
     ensures sure { S.Home.counts ≡ true
         → S.cells running.now + (length curve.now.blocks.items + 5) ≤ S.Home.sure home.old
@@ -136,16 +136,16 @@ fn cost_to_stop<S: Shape>(
     ensures balance { S.Home.counts ≡ true → S.Home.sure home.new ≡ S.Home.sure home.old }
 {
     envelope_is_cost();
-    let starts = starts_at(first, started, place);
+    let starts = starts_at(first, started, index);
     cost_after(
         home,
         running,
-        step_of(unit, prices, place, starts, true),
+        step_over_period(unit, prices, index, starts, true),
         curve,
     )
 }
 
-/// Takes the step over the period at a place, and answers the least cost of the spells that end
+/// Takes the step over the period at an index, and answers the least cost of the spells that end
 /// with it.
 ///
 /// A stop after the period lowers its cap. Where it doesn't, or where reserve isn't paid for, the
@@ -158,19 +158,19 @@ fn pass<S: Shape>(
     prices: &Prices,
     first: u32,
     started: bool,
-    place: usize,
+    index: usize,
     running: &mut S,
 ) -> Result<Option<i64>, AllocError>
     requires here { S.is_in home.old running.old }
     requires curve { IsCostCurve (thermal_of unit.now).points curve.now }
-    requires place { place < length (prices_of prices.now).energy }
-    requires order { spell_first started first ≤ suc place }
+    requires index { index < length (prices_of prices.now).energy }
+    requires order { spell_first started first ≤ suc index }
     requires frontier { IsFrontier (thermal_of unit.now) (prices_of prices.now)
-        (spell_first started first) place (S.function home.old running.old) }
+        (spell_first started first) index (S.function home.old running.old) }
     ensures ok { OnOk result (IsFrontier (thermal_of unit.now) (prices_of prices.now)
-        (spell_first started first) (suc place) (S.function home.new running.new)) }
+        (spell_first started first) (suc index) (S.function home.new running.new)) }
     ensures answer { IfOk result (IsSpellCost (thermal_of unit.now) (prices_of prices.now)
-        (spell_first started first) (suc place)) }
+        (spell_first started first) (suc index)) }
     ensures here { S.is_in home.new running.new }
     ensures frame { Frame S.Home.cell_list S.is_in S.numbers (S.numbers home.old running.old)
         (S.numbers home.new running.new) home.old home.new }
@@ -181,21 +181,21 @@ fn pass<S: Shape>(
         (S.Home.sure home.old) (S.cells running.old) (S.Home.sure home.new) (S.cells running.new) }
 {
     envelope_is_cost();
-    if place + 1 == prices.energy.len() {
-        run_on(home, unit, curve, prices, first, started, place, running)?;
+    if index + 1 == prices.energy.len() {
+        run_on(home, unit, curve, prices, first, started, index, running)?;
         return Ok(least_cost(home, running));
     }
-    let starts = starts_at(first, started, place);
-    let on = step_of(unit, prices, place, starts, false);
-    let last = step_of(unit, prices, place, starts, true);
-    if is_alike(on, last) {
-        run_on(home, unit, curve, prices, first, started, place, running)?;
+    let starts = starts_at(first, started, index);
+    let on = step_over_period(unit, prices, index, starts, false);
+    let last = step_over_period(unit, prices, index, starts, true);
+    if differs_in_range_alone(on, last) {
+        run_on(home, unit, curve, prices, first, started, index, running)?;
         return Ok(least_cost_in(home, running, last.least, last.most));
     }
     frames_join::<S>();
     others_stay::<S>();
-    let cost = cost_to_stop(home, unit, curve, prices, first, started, place, running)?;
-    run_on(home, unit, curve, prices, first, started, place, running)?;
+    let cost = cost_to_stop(home, unit, curve, prices, first, started, index, running)?;
+    run_on(home, unit, curve, prices, first, started, index, running)?;
     Ok(cost)
 }
 
@@ -217,15 +217,15 @@ fn fill<S: Shape>(
     requires room { length (prices_of prices.now).energy ≤ length into.old.items }
     requires frontier { IsFrontier (thermal_of unit.now) (prices_of prices.now)
         (spell_first started first) (first - 1) (S.function home.old running.old) }
-    ensures answers { OnOk result ((place : ℕ) → first ≤ suc place
-        → place < length (prices_of prices.now).energy →
+    ensures answers { OnOk result ((index : ℕ) → first ≤ suc index
+        → index < length (prices_of prices.now).energy →
         IsSpellCost (thermal_of unit.now) (prices_of prices.now) (spell_first started first)
-        (suc place) (slice_index_or into.new.items place None)) }
+        (suc index) (slice_index_or into.new.items index None)) }
     ensures length { length into.new.items ≡ length into.old.items }
-    ensures others { (place : ℕ) → (suc place < first)
-        ⊎ (length (prices_of prices.now).energy ≤ place) →
-        slice_index_or into.new.items place None
-        ≡ slice_index_or into.old.items place None }
+    ensures others { (index : ℕ) → (suc index < first)
+        ⊎ (length (prices_of prices.now).energy ≤ index) →
+        slice_index_or into.new.items index None
+        ≡ slice_index_or into.old.items index None }
     ensures here { S.is_in home.new running.new }
     ensures frame { Frame S.Home.cell_list S.is_in S.numbers (S.numbers home.old running.old)
         (S.numbers home.new running.new) home.old home.new }
@@ -236,9 +236,9 @@ fn fill<S: Shape>(
         → S.Home.sure home.new + S.cells running.new ≡ S.Home.sure home.old + S.cells running.old }
 {
     frames_join::<S>();
-    for place in first as usize - 1..prices.energy.len() {
-        let cost = pass(home, unit, curve, prices, first, started, place, running)?;
-        into.set(place, cost);
+    for index in first as usize - 1..prices.energy.len() {
+        let cost = pass(home, unit, curve, prices, first, started, index, running)?;
+        into.set(index, cost);
     }
     Ok(())
 }
@@ -247,15 +247,15 @@ fn fill<S: Shape>(
 fn clear_before(first: u32, into: &mut SpellCosts)
     requires some { 1 ≤ first }
     requires room { first ≤ length into.old.items + 1 }
-    ensures before { (place : ℕ) → suc place < first
-        → slice_index_or into.new.items place None ≡ None }
-    ensures others { (place : ℕ) → first ≤ suc place →
-        slice_index_or into.new.items place None
-        ≡ slice_index_or into.old.items place None }
+    ensures before { (index : ℕ) → suc index < first
+        → slice_index_or into.new.items index None ≡ None }
+    ensures others { (index : ℕ) → first ≤ suc index →
+        slice_index_or into.new.items index None
+        ≡ slice_index_or into.old.items index None }
     ensures length { length into.new.items ≡ length into.old.items }
 {
-    for place in 0..first as usize - 1 {
-        into.set(place, None);
+    for index in 0..first as usize - 1 {
+        into.set(index, None);
     }
 }
 

@@ -13,7 +13,7 @@ use crate::{SpellCosts, spell_costs};
 use std::alloc::AllocError;
 use test_shapes::Shape;
 use uc_model::units::{Curve, Prices, Unit};
-use unit_rows::commitment::may_end;
+use unit_rows::commitment::may_end_spell;
 use unit_rows::table::{Entry, Table, begin_table};
 use unit_table::laws::stops_at_once_cost_nothing;
 
@@ -54,7 +54,7 @@ fn add_spells_from<S: Shape>(
         return Ok(());
     }
     // Where the longest spell is too short to stop, each is.
-    if !may_end(unit, periods, first, until) {
+    if !may_end_spell(unit, periods, first, until) {
         return Ok(());
     }
     spell_costs::<S>(home, unit, curve, prices, first.max(1), first > 0, costs)?;

@@ -57,22 +57,22 @@ impl SpellCosts {
         self.costs.len()
     }
 
-    /// The cost at a place below the length.
-    pub fn get(&self, place: usize) -> &Option<i64>
-        requires { place < length self.now.items }
-        ensures item { slice_get self.now.items place ≡ Some result.now }
-        ensures value { slice_index_or self.now.items place result.now ≡ result.now }
+    /// The cost at an index below the length.
+    pub fn get(&self, index: usize) -> &Option<i64>
+        requires { index < length self.now.items }
+        ensures item { slice_get self.now.items index ≡ Some result.now }
+        ensures value { slice_index_or self.now.items index result.now ≡ result.now }
     {
-        self.costs.get(place)
+        self.costs.get(index)
     }
 
-    /// Writes the cost at a place below the length.
-    pub fn set(&mut self, place: usize, cost: Option<i64>)
-        requires { place < length self.old.items }
-        ensures items { self.new.items ≡ slice_set self.old.items place cost }
+    /// Writes the cost at an index below the length.
+    pub fn set(&mut self, index: usize, cost: Option<i64>)
+        requires { index < length self.old.items }
+        ensures items { self.new.items ≡ slice_set self.old.items index cost }
         ensures spare { self.new.spare ≡ self.old.spare }
     {
-        self.costs.set(place, cost);
+        self.costs.set(index, cost);
     }
 
     /// Adds a cost at the end, where there is room for it.

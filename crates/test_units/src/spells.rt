@@ -11,8 +11,10 @@ ghost use Rattle.unit_rows.specs.Ends.{IsEntry, IsLeastEntry};
 ghost use Rattle.unit_rows.specs.declared.table.Entry.{Entry};
 
 use uc_model::units::{Mark, Unit};
-use unit_rows::commitment::{may_end, off_from, time_off};
-use unit_rows::table::{Ended, Entry, Table, lesser_entry, put_ended, start_after, sum_of};
+use unit_rows::commitment::{may_end_spell, off_from, periods_off};
+use unit_rows::table::{
+    Ended, Entry, Table, cost_of_start_after, keep_lesser_end, lesser_entry, sum_of_costs,
+};
 
 // How many of the marks from a place on come before the first `MustOff`, and the place where they
 // end.
@@ -25,9 +27,9 @@ fn before_must_off(marks: &[Mark], from: u32) -> u32
     ensures next { result < length marks.now → mark_in marks.now (suc result) ≡ Mark.MustOff }
 {
     let end = marks.len() as u32;
-    for place in from..end {
-        if marks[place as usize] == Mark::MustOff {
-            return place;
+    for index in from..end {
+        if marks[index as usize] == Mark::MustOff {
+            return index;
         }
     }
     end
@@ -59,8 +61,8 @@ fn entry_after(unit: &Unit, rows: &[Option<Ended>], last: u32, before: u32) -> O
 {
     match rows[last as usize] {
         Some(ended) => {
-            if u64::from(unit.min_down) <= time_off(unit, last, before) {
-                Some(sum_of(ended.cost, start_after(unit, last, before)))
+            if u64::from(unit.min_down) <= periods_off(unit, last, before) {
+                Some(sum_of_costs(ended.cost, cost_of_start_after(unit, last, before)))
             } else {
                 None
             }
@@ -100,7 +102,7 @@ fn net_of(unit: &Unit, periods: u32, first: u32, last: u32, costs: &[Option<i64>
         → (last < periods → (thermal_of unit.now).min_up ≤ on_time (thermal_of unit.now) first last)
         → result ≡ Some c }
 {
-    if may_end(unit, periods, first, last) {
+    if may_end_spell(unit, periods, first, last) {
         costs[last as usize - 1]
     } else {
         None
@@ -138,11 +140,11 @@ pub fn add_spells(
     for last in first.max(1)..until + 1 {
         if let Some(net) = net_of(unit, periods, first, last, costs) {
             let ended = Ended {
-                cost: sum_of(entry.cost, net),
+                cost: sum_of_costs(entry.cost, net),
                 first,
                 before: entry.last,
             };
-            put_ended(table, last, ended);
+            keep_lesser_end(table, last, ended);
         }
     }
 }

@@ -12,12 +12,12 @@ use test_shapes::Shape;
 use test_shapes::laws::frames_join;
 use uc_model::units::{Curve, Unit};
 
-/// Whether a spell starts in the period at a place.
-pub(crate) fn starts_at(first: u32, started: bool, place: usize) -> bool
-    requires { suc place < 2 ^ 32 }
-    ensures { result ≡ (spell_first started first == suc place) }
+/// Whether a spell starts in the period at an index.
+pub(crate) fn starts_at(first: u32, started: bool, index: usize) -> bool
+    requires { suc index < 2 ^ 32 }
+    ensures { result ≡ (spell_first started first == suc index) }
 {
-    started && first as usize == place + 1
+    started && first as usize == index + 1
 }
 
 /// Takes the worth of the best reserve off. Where reserve isn't paid for there is nothing to do.

@@ -132,7 +132,7 @@ fn number_token(
 
 /// Behind the letter and the sign of an exponent.
 #[tactic(auto, unfolding(crate::specs::Numbers::power_digits))]
-fn power_digits(
+fn numeral_behind_power_sign(
     negative: bool,
     whole: &[u8],
     fraction: &[u8],
@@ -161,17 +161,17 @@ fn numeral_with_power(negative: bool, whole: &[u8], fraction: &[u8], bytes: &[u8
     ensures { numeral_of result ≡ power_spec negative whole.now fraction.now bytes.now }
 {
     if begins_with(b'-', bytes) {
-        power_digits(negative, whole, fraction, true, bytes_from(bytes, 1))
+        numeral_behind_power_sign(negative, whole, fraction, true, bytes_from(bytes, 1))
     } else if begins_with(b'+', bytes) {
-        power_digits(negative, whole, fraction, false, bytes_from(bytes, 1))
+        numeral_behind_power_sign(negative, whole, fraction, false, bytes_from(bytes, 1))
     } else {
-        power_digits(negative, whole, fraction, false, bytes)
+        numeral_behind_power_sign(negative, whole, fraction, false, bytes)
     }
 }
 
 /// Behind the fraction.
 #[tactic(auto, unfolding(crate::specs::Numbers::behind_fraction))]
-fn behind_fraction(negative: bool, whole: &[u8], fraction: &[u8], bytes: &[u8]) -> Numeral
+fn numeral_behind_fraction(negative: bool, whole: &[u8], fraction: &[u8], bytes: &[u8]) -> Numeral
     requires whole { AreDigits whole.now }
     requires fraction { AreDigits fraction.now }
     requires few { length fraction.now < 2 ^ 30 }
@@ -188,19 +188,19 @@ fn behind_fraction(negative: bool, whole: &[u8], fraction: &[u8], bytes: &[u8]) 
 
 /// Behind the whole part.
 #[tactic(auto, unfolding(crate::specs::Numbers::behind_whole))]
-fn behind_whole(negative: bool, whole: &[u8], bytes: &[u8]) -> Numeral
+fn numeral_behind_whole(negative: bool, whole: &[u8], bytes: &[u8]) -> Numeral
     requires whole { AreDigits whole.now }
     requires few { length bytes.now < 2 ^ 30 }
     ensures { numeral_of result ≡ behind_whole_spec negative whole.now bytes.now }
 {
     if !begins_with(b'.', bytes) {
-        return behind_fraction(negative, whole, &bytes[..0], bytes);
+        return numeral_behind_fraction(negative, whole, &bytes[..0], bytes);
     }
     let (fraction, others) = split_digits(bytes_from(bytes, 1));
     if fraction.is_empty() {
         return Numeral::Bad;
     }
-    behind_fraction(negative, whole, fraction, others)
+    numeral_behind_fraction(negative, whole, fraction, others)
 }
 
 /// Behind the sign.
@@ -211,7 +211,7 @@ fn unsigned_numeral(negative: bool, bytes: &[u8]) -> Numeral
 {
     let (whole, others) = split_digits(bytes);
     if is_whole_part(whole) {
-        behind_whole(negative, whole, others)
+        numeral_behind_whole(negative, whole, others)
     } else {
         Numeral::Bad
     }

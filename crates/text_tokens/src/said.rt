@@ -10,7 +10,7 @@ use crate::quoted::Quoted;
 use crate::strings::{Said, piece_at, plain_string};
 
 /// The bytes behind what a piece says, where they begin with that.
-fn behind_said(bytes: &[u8], said: Said) -> Option<&[u8]>
+fn bytes_behind_said(bytes: &[u8], said: Said) -> Option<&[u8]>
     ensures some { IfSome result (λ others. bytes.now ≡ said_by said ++ others.now) }
     ensures none { IfNone result ((more : List ℕ) → bytes.now ≡ said_by said ++ more → ⊥) }
 {
@@ -28,7 +28,7 @@ fn behind_said(bytes: &[u8], said: Said) -> Option<&[u8]>
 }
 
 /// How many bytes in front are the same in a string and a text, and stand for themselves.
-fn same_len(bytes: &[u8], text: &[u8]) -> usize
+fn common_prefix_len(bytes: &[u8], text: &[u8]) -> usize
     ensures within { result ≤ length text.now }
     ensures same { take result text.now ≡ take result bytes.now }
     ensures front { string_from 0 bytes.now
@@ -71,7 +71,7 @@ impl<'a> Quoted<'a> {
         ensures { result ≡ bytes_eq (said self.entry.bytes.now) text.now }
     {
         let bytes = self.bytes;
-        let mut at = same_len(bytes, text);
+        let mut at = common_prefix_len(bytes, text);
         if at < bytes.len() && is_plain(bytes[at]) {
             return false;
         }
@@ -80,7 +80,7 @@ impl<'a> Quoted<'a> {
             let Some(piece) = piece_at(bytes_from(bytes, at)) else {
                 unreachable!();
             };
-            let Some(others) = behind_said(wanted, piece.said) else {
+            let Some(others) = bytes_behind_said(wanted, piece.said) else {
                 return false;
             };
             wanted = others;

@@ -76,7 +76,7 @@ fn four_digits(a: u8, b: u8, c: u8, d: u8) -> Option<u32>
 }
 
 #[tactic(auto, unfolding(crate::specs::Strings::unit_at))]
-fn unit_at(bytes: &[u8]) -> Option<u32>
+fn escaped_unit_at(bytes: &[u8]) -> Option<u32>
     ensures is { result ≡ unit_spec bytes.now }
     ensures small { IfSome result (λ n. n < 65536) }
     ensures long { IfSome result (λ _. 4 ≤ length bytes.now) }
@@ -88,13 +88,13 @@ fn unit_at(bytes: &[u8]) -> Option<u32>
     four_digits(bytes[0], bytes[1], bytes[2], bytes[3])
 }
 
-fn is_high(unit: u32) -> bool
+fn is_high_surrogate(unit: u32) -> bool
     ensures { result ≡ high_unit unit }
 {
     0xD800 <= unit && unit <= 0xDBFF
 }
 
-fn is_low(unit: u32) -> bool
+fn is_low_surrogate(unit: u32) -> bool
     ensures { result ≡ low_unit unit }
 {
     0xDC00 <= unit && unit <= 0xDFFF
@@ -122,19 +122,19 @@ fn surrogate_pair(high: u32, low: u32) -> Option<Piece>
     ensures utf8 { IfSome result (λ p. IsUtf8 (said_by p.said)) }
     ensures short { IfSome result (λ p. length (said_by p.said) ≤ 4) }
 {
-    if !is_low(low) {
+    if !is_low_surrogate(low) {
         return None;
     }
     character_piece(65536 + 1024 * (high - 0xD800) + (low - 0xDC00), 12)
 }
 
 #[tactic(auto, unfolding(crate::specs::Strings::second_at))]
-fn second_at(bytes: &[u8]) -> Option<u32>
+fn low_surrogate_at(bytes: &[u8]) -> Option<u32>
     ensures is { result ≡ second_spec bytes.now }
     ensures ascii { IfSome result (λ _. slice_index bytes.now 5 < 128) }
 {
     if byte_or_zero(bytes, 0) == b'\\' && byte_or_zero(bytes, 1) == b'u' {
-        unit_at(bytes_from(bytes, 2))
+        escaped_unit_at(bytes_from(bytes, 2))
     } else {
         None
     }
@@ -148,11 +148,11 @@ fn unit_piece(unit: u32, bytes: &[u8]) -> Option<Piece>
     ensures utf8 { IfSome result (λ p. IsUtf8 (said_by p.said)) }
     ensures short { IfSome result (λ p. length (said_by p.said) ≤ 4) }
 {
-    if is_high(unit) {
-        let low = second_at(bytes)?;
+    if is_high_surrogate(unit) {
+        let low = low_surrogate_at(bytes)?;
         return surrogate_pair(unit, low);
     }
-    if is_low(unit) {
+    if is_low_surrogate(unit) {
         return None;
     }
     character_piece(unit, 6)
@@ -175,7 +175,7 @@ fn escape_at(bytes: &[u8]) -> Option<Piece>
             len: 2,
         });
     }
-    let unit = unit_at(bytes_from(bytes, 1))?;
+    let unit = escaped_unit_at(bytes_from(bytes, 1))?;
     unit_piece(unit, bytes_from(bytes, 5))
 }
 

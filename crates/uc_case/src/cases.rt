@@ -165,7 +165,7 @@ fn read_keyed_case(alloc: Global, c: &Keys) -> Result<Case, FieldStop>
 
 /// The case of a tree's root, or the fault of the first test that fails.
 #[tactic(auto, unfolding(crate::specs::Cases::case_of))]
-pub fn case_of_tree(alloc: Global, root: Branch<'_>) -> Result<Case, FieldStop>
+pub fn case_of_json_tree(alloc: Global, root: Branch<'_>) -> Result<Case, FieldStop>
     ensures { Gives market_of result (case_of (view root.entry)) }
 {
     let at = unit_site(Field::Whole, Kind::Case, 0);

@@ -132,7 +132,7 @@ impl Listed for NamedBid {
 }
 
 /// Adds the units or bids of these members to a list that is empty and has room for them.
-fn read_into<N: Listed + Drop>(
+fn read_units_into<N: Listed + Drop>(
     alloc: Global,
     at: Site,
     members: &[Member<'_>],
@@ -172,7 +172,7 @@ fn read_members<N: Listed + Drop>(
         (each_member at.field at.kind (N.reading periods) (member_views members.now)) }
 {
     let mut list: ReservedList<N> = ReservedList::make(alloc, members.len() as u32)?;
-    read_into(alloc, at, members, periods, &mut list)?;
+    read_units_into(alloc, at, members, periods, &mut list)?;
     Ok(list)
 }
 

@@ -7,7 +7,7 @@ ghost use Rattle.uc_case.specs.CaseFiles.{IsCaseOf, IfRead};
 ghost use Rattle.uc_text.specs.Files.{FileFault};
 ghost use Rattle.uc_field.specs.declared.fault.FieldFault.{FieldFault as PlainFault};
 
-use crate::cases::case_of_tree;
+use crate::cases::case_of_json_tree;
 use crate::fault::CaseFault;
 use crate::laws::one_case;
 use std::alloc::Global;
@@ -31,10 +31,10 @@ pub fn read_case(alloc: Global, bytes: &[u8]) -> Result<Case, CaseFault>
         → IfRead market_of result (λ s. s ≡ r) }
 {
     one_case();
-    read_file(alloc, bytes)
+    case_of_bytes(alloc, bytes)
 }
 
-fn read_file(alloc: Global, bytes: &[u8]) -> Result<Case, CaseFault>
+fn case_of_bytes(alloc: Global, bytes: &[u8]) -> Result<Case, CaseFault>
     requires { length bytes.now ≤ MOST_BYTES }
     ensures { IfRead market_of result (λ r. IsCaseOf bytes.now r) }
 {
@@ -43,7 +43,7 @@ fn read_file(alloc: Global, bytes: &[u8]) -> Result<Case, CaseFault>
         Err(TextError::Fault(fault)) => return Err(CaseFault::Text(fault)),
         Err(TextError::Memory) => return Err(CaseFault::Memory),
     };
-    match case_of_tree(alloc, tree.root()) {
+    match case_of_json_tree(alloc, tree.root()) {
         Ok(case) => Ok(case),
         Err(Stop::Fault(fault)) => Err(CaseFault::Field(fault)),
         Err(Stop::Memory) => Err(CaseFault::Memory),

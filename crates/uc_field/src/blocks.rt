@@ -14,7 +14,7 @@ ghost use Rattle.uc_field.specs.Lists.{block, block_in, period_blocks, blocks};
 
 use crate::fault::{CaseCode, Field, Site};
 use crate::forms::{FieldStop, amount_under, full_list, members_of};
-use crate::items::{Item, read_few};
+use crate::items::{Item, read_items_up_to};
 use crate::keys::Keys;
 use crate::limits::{BLOCKS, POWER, PRICE};
 use std::alloc::Global;
@@ -73,7 +73,7 @@ fn read_period(alloc: Global, at: Site, branch: Branch<'_>) -> Result<Blocks, Fi
     ensures fits { IfOk result (λ bs. IsBlockList bs.items) }
     ensures value { Gives (λ bs. bs.items) result (period_blocks at [] (view branch.entry)) }
 {
-    let blocks = read_few::<Block>(alloc, at, branch, BLOCKS)?;
+    let blocks = read_items_up_to::<Block>(alloc, at, branch, BLOCKS)?;
     if total_width(blocks.as_slice()) > POWER_LIMIT {
         return Err(at.stop(CaseCode::TooLarge));
     }
@@ -81,7 +81,7 @@ fn read_period(alloc: Global, at: Site, branch: Branch<'_>) -> Result<Blocks, Fi
 }
 
 /// Adds the blocks of each period to a list that is empty and has room for them.
-fn read_into(
+fn read_blocks_into(
     alloc: Global,
     at: Site,
     branches: &[Branch<'_>],
@@ -111,7 +111,7 @@ fn read_periods(alloc: Global, at: Site, branches: &[Branch<'_>]) -> Result<Bloc
         (items period_blocks at (views branches.now)) }
 {
     let mut lists = BlockLists::make(alloc, branches.len() as u32)?;
-    read_into(alloc, at, branches, &mut lists)?;
+    read_blocks_into(alloc, at, branches, &mut lists)?;
     Ok(lists)
 }
 

@@ -30,7 +30,7 @@ pub trait Item: Sized {
 }
 
 /// Adds the items of a list to one that is empty and has room for them.
-fn read_into<I: Item + Drop>(
+fn read_items_into<I: Item + Drop>(
     alloc: Global,
     at: Site,
     branches: &[Branch<'_>],
@@ -64,7 +64,7 @@ fn read_branches<I: Item + Drop>(
     ensures value { Gives (λ l. l.items) result (each (I.reading at) [] (views branches.now)) }
 {
     let mut list = ReservedList::make(alloc, branches.len() as u32)?;
-    read_into(alloc, at, branches, &mut list)?;
+    read_items_into(alloc, at, branches, &mut list)?;
     Ok(list)
 }
 
@@ -86,7 +86,7 @@ pub fn read_items<I: Item + Drop>(
 
 /// The items of a list of at most so many; `TooLarge` where it has more.
 #[tactic(auto, unfolding(crate::specs::Forms::few))]
-pub fn read_few<I: Item + Drop>(
+pub fn read_items_up_to<I: Item + Drop>(
     alloc: Global,
     at: Site,
     branch: Branch<'_>,

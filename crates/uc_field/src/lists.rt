@@ -17,7 +17,7 @@ use crate::fault::{CaseCode, Field, Site};
 use crate::forms::{
     FieldStop, amount_under, cost_under, full_list, members_of, read_power, time_under,
 };
-use crate::items::{Item, read_few, read_items};
+use crate::items::{Item, read_items, read_items_up_to};
 use crate::keys::Keys;
 use crate::limits::{COST, LAGS, POINTS, POWER, TIME};
 use plain_lists::lists::Numbers;
@@ -74,7 +74,7 @@ pub fn read_startup(alloc: Global, u: &Keys) -> Result<Lags, FieldStop>
         (key (keys u.now.at (member_views u.now.members.items)) Field.Startup startup) }
 {
     let branch = u.value(Field::Startup)?;
-    read_few::<Lag>(alloc, u.at.field(Field::Startup), branch, LAGS)
+    read_items_up_to::<Lag>(alloc, u.at.field(Field::Startup), branch, LAGS)
 }
 
 /// Whether kilowatts are below those of the last of these points.
@@ -123,7 +123,7 @@ impl Item for Point {
 }
 
 /// Whether the points begin above the least power or end below the greatest.
-fn misses_ends(low: i64, high: i64, points: &[Point]) -> bool
+fn curve_misses_ends(low: i64, high: i64, points: &[Point]) -> bool
     ensures { result ≡ ends_miss low high points.now }
 {
     let first_misses = match points.first() {
@@ -149,8 +149,8 @@ pub fn read_piecewise(alloc: Global, u: &Keys, low: i64, high: i64) -> Result<Po
 {
     let at = u.at.field(Field::PiecewiseProduction);
     let branch = u.value(Field::PiecewiseProduction)?;
-    let points = read_few::<Point>(alloc, at, branch, POINTS)?;
-    if misses_ends(low, high, points.as_slice()) {
+    let points = read_items_up_to::<Point>(alloc, at, branch, POINTS)?;
+    if curve_misses_ends(low, high, points.as_slice()) {
         return Err(at.stop(CaseCode::CurveEnds));
     }
     Ok(points)

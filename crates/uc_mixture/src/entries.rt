@@ -51,7 +51,7 @@ fn entry_parts<'a>(members: &[Member<'a>], periods: u32) -> Option<(Branch<'a>, 
 /// The entry of a weight and lists. `Weight` where the weight isn't a whole number from 0 to the
 /// whole, and then `PlanNumber` at the first wrong item.
 #[tactic(auto, unfolding(crate::specs::Tables::weighed))]
-fn read_weighed(
+fn read_weighted_entry(
     alloc: Global,
     at: ShareSite,
     frame: Frame,
@@ -92,7 +92,7 @@ fn read_entry(
     };
     let members = object.members(alloc)?;
     match entry_parts(&members, frame.periods) {
-        Some((heavy, lists)) => read_weighed(alloc, at, frame, heavy, lists),
+        Some((heavy, lists)) => read_weighted_entry(alloc, at, frame, heavy, lists),
         None => Err(at.stop(ShareCode::Shape(ShapeCode::PlanShape))),
     }
 }
@@ -120,7 +120,7 @@ fn read_entries(
     Ok(entries)
 }
 
-fn some_list<'a>(branch: Branch<'a>) -> Option<ListBranch<'a>>
+fn non_empty_list<'a>(branch: Branch<'a>) -> Option<ListBranch<'a>>
     ensures { option_map items_in result ≡ some_list_spec (view branch.entry) }
 {
     let list = branch.list()?;
@@ -141,7 +141,7 @@ pub fn read_unit(
     ensures fits { IfOk result (λ l. AreEntries frame.periods frame.whole (entries_of l)) }
     ensures value { Gives entries_of result (unit_entries frame at (view branch.entry)) }
 {
-    let Some(list) = some_list(branch) else {
+    let Some(list) = non_empty_list(branch) else {
         return Err(at.stop(ShareCode::Shape(ShapeCode::PlanShape)));
     };
     let branches = list.items(alloc)?;

@@ -90,7 +90,11 @@ fn check_units(
 
 /// The mixture of a tree's root, or the fault of the first test that fails.
 #[tactic(auto, unfolding(crate::specs::Tables::mixture_in))]
-pub fn mixture_of_tree(alloc: Global, case: &Case, root: Branch<'_>) -> Result<Mixture, ShareStop>
+pub fn mixture_of_json_tree(
+    alloc: Global,
+    case: &Case,
+    root: Branch<'_>,
+) -> Result<Mixture, ShareStop>
     ensures shape { IfOk result (λ x. HasMixtureShape (market_of case.now) (mixture_of x)) }
     ensures value { Gives mixture_of result (mixture_in (market_of case.now) (view root.entry)) }
 {

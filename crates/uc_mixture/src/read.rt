@@ -9,7 +9,7 @@ ghost use Rattle.uc_mixture.specs.declared.fault.ShareFault.{ShareFault as Plain
 
 use crate::fault::MixtureFault;
 use crate::laws::one_mixture;
-use crate::mixtures::mixture_of_tree;
+use crate::mixtures::mixture_of_json_tree;
 use gap_proof::Mixture;
 use std::alloc::Global;
 use uc_model::cases::Case;
@@ -36,10 +36,10 @@ pub fn read_mixture(alloc: Global, case: &Case, bytes: &[u8]) -> Result<Mixture,
         → IfRead mixture_of result (λ s. s ≡ r) }
 {
     one_mixture();
-    read_file(alloc, case, bytes)
+    mixture_of_bytes(alloc, case, bytes)
 }
 
-fn read_file(alloc: Global, case: &Case, bytes: &[u8]) -> Result<Mixture, MixtureFault>
+fn mixture_of_bytes(alloc: Global, case: &Case, bytes: &[u8]) -> Result<Mixture, MixtureFault>
     requires { length bytes.now ≤ MOST_BYTES }
     ensures shape { IfOk result (λ x. HasMixtureShape (market_of case.now) (mixture_of x)) }
     ensures answer { IfRead mixture_of result
@@ -50,7 +50,7 @@ fn read_file(alloc: Global, case: &Case, bytes: &[u8]) -> Result<Mixture, Mixtur
         Err(TextError::Fault(fault)) => return Err(MixtureFault::Text(fault)),
         Err(TextError::Memory) => return Err(MixtureFault::Memory),
     };
-    match mixture_of_tree(alloc, case, tree.root()) {
+    match mixture_of_json_tree(alloc, case, tree.root()) {
         Ok(mixture) => Ok(mixture),
         Err(Stop::Fault(fault)) => Err(MixtureFault::Share(fault)),
         Err(Stop::Memory) => Err(MixtureFault::Memory),

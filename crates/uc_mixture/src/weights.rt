@@ -12,7 +12,7 @@ use text_tokens::{Decimal, is_whole, whole};
 use uc_text::Branch;
 
 #[tactic(auto, using(crate::proofs::WeightLaws::within))]
-fn weight_of(d: Decimal, least: i64, most: i64) -> Option<i64>
+fn weight_from_decimal(d: Decimal, least: i64, most: i64) -> Option<i64>
     requires least { pos 0 ≤ℤ least }
     requires most { IsFrom (pos 0) (pos (10 ^ 18)) most }
     ensures fits { IfSome result (λ w. IsFrom least most w) }
@@ -38,12 +38,12 @@ pub fn weight_at(branch: Branch<'_>, least: i64, most: i64) -> Option<i64>
     ensures value { result ≡ weight_in least most (view branch.entry) }
 {
     match branch.number() {
-        Some(d) => weight_of(d, least, most),
+        Some(d) => weight_from_decimal(d, least, most),
         None => None,
     }
 }
 
-fn sum_of(entries: &[Entry]) -> i128
+fn sum_of_weights(entries: &[Entry]) -> i128
     requires { AreLow (map entry_of entries.now) }
     ensures { result ≡ weight_sum (map entry_of entries.now) }
 {
@@ -59,5 +59,5 @@ pub fn sum_to(entries: &[Entry], whole: i64) -> bool
     requires { AreLow (map entry_of entries.now) }
     ensures { result ≡ int_eq (weight_sum (map entry_of entries.now)) whole }
 {
-    sum_of(entries) == i128::from(whole)
+    sum_of_weights(entries) == i128::from(whole)
 }

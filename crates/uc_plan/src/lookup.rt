@@ -67,7 +67,7 @@ impl<'a> Values<'a> {
 }
 
 /// The members of an object by their keys.
-fn by_key<'a>(alloc: Global, members: &[Member<'a>]) -> Result<Values<'a>, AllocError>
+fn values_by_key<'a>(alloc: Global, members: &[Member<'a>]) -> Result<Values<'a>, AllocError>
     ensures { IfOk result (λ v. (q : List ℕ)
         → option_map view (get_by_text v.by_key q) ≡ value_under q (member_views members.now)) }
 {
@@ -91,7 +91,7 @@ fn names_of<'a, N: Named>(alloc: Global, units: &'a [N]) -> Result<Names<'a>, Al
 }
 
 /// The position of the first member whose key isn't one of the names, or 0.
-fn first_stranger(
+fn first_unknown_name(
     alloc: Global,
     names: &Names<'_>,
     known: &[Member<'_>],
@@ -112,7 +112,7 @@ fn first_stranger(
 }
 
 /// The position of the first member of an object whose key isn't the name of a unit, or 0.
-pub fn stranger_in<N: Named>(
+pub fn first_unknown_member<N: Named>(
     alloc: Global,
     object: ObjectBranch<'_>,
     units: &[N],
@@ -122,7 +122,7 @@ pub fn stranger_in<N: Named>(
 {
     let names = names_of(alloc, units)?;
     let members = object.members(alloc)?;
-    first_stranger(alloc, &names, &members)
+    first_unknown_name(alloc, &names, &members)
 }
 
 /// The values of an object.
@@ -131,5 +131,5 @@ pub fn values_of<'a>(alloc: Global, object: ObjectBranch<'a>) -> Result<Values<'
         → option_map view (get_by_text v.by_key q) ≡ value_under q (members_in object.entry)) }
 {
     let members = object.members(alloc)?;
-    by_key(alloc, &members)
+    values_by_key(alloc, &members)
 }

@@ -16,7 +16,7 @@ ghost use Rattle.uc_plan.specs.Plans.{all_schedules, plan_of};
 ghost use Rattle.uc_plan.specs.Views.{groups_of};
 
 use crate::fault::{ShapeCode, ShapeSite, ShapeStop};
-use crate::lookup::{Values, stranger_in, values_of};
+use crate::lookup::{Values, first_unknown_member, values_of};
 use crate::named::Named;
 use crate::shapes::{Groups, read_groups};
 use crate::units::read_schedule;
@@ -39,7 +39,7 @@ pub fn check_names<N: Named>(
     ensures { Gives (λ _. tt) result
         (all_known kind (map N.name_of units.now) (members_in object.entry)) }
 {
-    let position = stranger_in(alloc, object, units)?;
+    let position = first_unknown_member(alloc, object, units)?;
     if position > 0 {
         // There is no room for an object of so many members.
         let Ok(unit) = u32::try_from(position) else {
@@ -161,7 +161,7 @@ fn all_responses(alloc: Global, case: &Case, groups: Groups<'_>) -> Result<Respo
 
 /// The plan of a tree's root, or the fault of the first test that fails.
 #[tactic(auto, unfolding(crate::specs::Plans::plan_of))]
-pub fn plan_of_tree(alloc: Global, case: &Case, root: Branch<'_>) -> Result<Plan, ShapeStop>
+pub fn plan_of_json_tree(alloc: Global, case: &Case, root: Branch<'_>) -> Result<Plan, ShapeStop>
     ensures shape { IfOk result (λ p. HasPlanShape (market_of case.now) (schedules_of p)) }
     ensures value { Gives schedules_of result (plan_of (market_of case.now) (view root.entry)) }
 {

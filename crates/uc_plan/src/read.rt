@@ -10,7 +10,7 @@ ghost use Rattle.uc_plan.specs.declared.fault.ShapeFault.{ShapeFault as PlainFau
 
 use crate::fault::PlanFault;
 use crate::laws::one_plan;
-use crate::plans::plan_of_tree;
+use crate::plans::plan_of_json_tree;
 use std::alloc::Global;
 use uc_model::cases::{Case, Plan};
 use uc_text::stop::Stop;
@@ -34,10 +34,10 @@ pub fn read_plan(alloc: Global, case: &Case, bytes: &[u8]) -> Result<Plan, PlanF
         → IsPlanOf (market_of case.now) bytes.now r → IfRead schedules_of result (λ s. s ≡ r) }
 {
     one_plan();
-    read_file(alloc, case, bytes)
+    plan_of_bytes(alloc, case, bytes)
 }
 
-fn read_file(alloc: Global, case: &Case, bytes: &[u8]) -> Result<Plan, PlanFault>
+fn plan_of_bytes(alloc: Global, case: &Case, bytes: &[u8]) -> Result<Plan, PlanFault>
     requires { length bytes.now ≤ MOST_BYTES }
     ensures shape { IfOk result (λ p. HasPlanShape (market_of case.now) (schedules_of p)) }
     ensures answer { IfRead schedules_of result (λ r. IsPlanOf (market_of case.now) bytes.now r) }
@@ -47,7 +47,7 @@ fn read_file(alloc: Global, case: &Case, bytes: &[u8]) -> Result<Plan, PlanFault
         Err(TextError::Fault(fault)) => return Err(PlanFault::Text(fault)),
         Err(TextError::Memory) => return Err(PlanFault::Memory),
     };
-    match plan_of_tree(alloc, case, tree.root()) {
+    match plan_of_json_tree(alloc, case, tree.root()) {
         Ok(plan) => Ok(plan),
         Err(Stop::Fault(fault)) => Err(PlanFault::Shape(fault)),
         Err(Stop::Memory) => Err(PlanFault::Memory),

@@ -76,7 +76,11 @@ fn read_reserve(alloc: Global, members: &[Member<'_>], periods: u32) -> Result<N
 
 /// The prices of a tree's root, or the fault of the first test that fails.
 #[tactic(auto, unfolding(crate::specs::Tables::prices_in))]
-pub fn prices_of_tree(alloc: Global, root: Branch<'_>, periods: u32) -> Result<Prices, PriceStop>
+pub fn prices_of_json_tree(
+    alloc: Global,
+    root: Branch<'_>,
+    periods: u32,
+) -> Result<Prices, PriceStop>
     requires some { 1 ≤ periods }
     requires horizon { periods ≤ MOST_PERIODS }
     ensures count { IfOk result (λ p. length (prices_of p).energy ≡ periods) }

@@ -10,7 +10,7 @@ ghost use Rattle.uc_prices.specs.declared.fault.PriceFault.{PriceFault as PlainF
 
 use crate::fault::PricesFault;
 use crate::laws::one_prices;
-use crate::lists::prices_of_tree;
+use crate::lists::prices_of_json_tree;
 use std::alloc::Global;
 use uc_model::units::Prices;
 use uc_text::stop::Stop;
@@ -34,10 +34,10 @@ pub fn read_prices(alloc: Global, bytes: &[u8], periods: u32) -> Result<Prices, 
         → IsPricesOf periods bytes.now r → IfRead prices_of result (λ s. s ≡ r) }
 {
     one_prices();
-    read_file(alloc, bytes, periods)
+    prices_of_bytes(alloc, bytes, periods)
 }
 
-fn read_file(alloc: Global, bytes: &[u8], periods: u32) -> Result<Prices, PricesFault>
+fn prices_of_bytes(alloc: Global, bytes: &[u8], periods: u32) -> Result<Prices, PricesFault>
     requires bytes { length bytes.now ≤ MOST_BYTES }
     requires some { 1 ≤ periods }
     requires horizon { periods ≤ MOST_PERIODS }
@@ -49,7 +49,7 @@ fn read_file(alloc: Global, bytes: &[u8], periods: u32) -> Result<Prices, Prices
         Err(TextError::Fault(fault)) => return Err(PricesFault::Text(fault)),
         Err(TextError::Memory) => return Err(PricesFault::Memory),
     };
-    match prices_of_tree(alloc, tree.root(), periods) {
+    match prices_of_json_tree(alloc, tree.root(), periods) {
         Ok(prices) => Ok(prices),
         Err(Stop::Fault(fault)) => Err(PricesFault::Price(fault)),
         Err(Stop::Memory) => Err(PricesFault::Memory),

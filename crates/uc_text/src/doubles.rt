@@ -30,7 +30,7 @@ fn names_ascend(names: &[Name<'_>]) -> bool
 }
 
 /// The first double name, where each is compared with all before it.
-fn first_of_few(alloc: Global, names: &[Name<'_>]) -> Result<usize, AllocError>
+fn first_double_of_few(alloc: Global, names: &[Name<'_>]) -> Result<usize, AllocError>
     ensures { IfOk result (λ n. IsFirst (names_said names.now) n) }
 {
     for (index, name) in names.iter().enumerate() {
@@ -42,7 +42,7 @@ fn first_of_few(alloc: Global, names: &[Name<'_>]) -> Result<usize, AllocError>
 }
 
 /// The keys of the names, in their order.
-fn keys_of(alloc: Global, names: &[Name<'_>]) -> Result<Vec<u64>, AllocError>
+fn hash_keys_of(alloc: Global, names: &[Name<'_>]) -> Result<Vec<u64>, AllocError>
     requires { length names.now ≤ 16777216 }
     ensures { IfOk result (λ keys. AreKeys (names_said names.now) keys.items) }
 {
@@ -54,7 +54,7 @@ fn keys_of(alloc: Global, names: &[Name<'_>]) -> Result<Vec<u64>, AllocError>
     Ok(keys)
 }
 
-fn index_of(key: u64) -> usize
+fn index_in_key(key: u64) -> usize
     ensures { result ≡ key % 16777216 }
 {
     (key % SPAN) as usize
@@ -75,11 +75,11 @@ fn is_double(alloc: Global, names: &[Name<'_>], keys: &[u64], key: u64) -> Resul
         → slice_index_or (names_said names.now) (slice_index_or keys.now p 0 % 16777216) []
         ≢ slice_index_or (names_said names.now) (key % 16777216) []) }
 {
-    let index = index_of(key);
+    let index = index_in_key(key);
     let mut back = keys.len();
     'back: while back > 0 && keys[back - 1] / SPAN == key / SPAN {
         back -= 1;
-        let other = index_of(keys[back]);
+        let other = index_in_key(keys[back]);
         if other < index && says_same(alloc, names[other].quoted, names[index].quoted)? {
             return Ok(true);
         }
@@ -88,7 +88,11 @@ fn is_double(alloc: Global, names: &[Name<'_>], keys: &[u64], key: u64) -> Resul
 }
 
 /// The first double name, by the keys of all names in ascending order.
-fn first_by_keys(alloc: Global, names: &[Name<'_>], keys: &[u64]) -> Result<usize, AllocError>
+fn first_double_by_keys(
+    alloc: Global,
+    names: &[Name<'_>],
+    keys: &[u64],
+) -> Result<usize, AllocError>
     requires few { length names.now ≤ 16777216 }
     requires keys { AreKeys (names_said names.now) keys.now }
     requires sorted { IsNonDecreasing keys.now }
@@ -96,7 +100,7 @@ fn first_by_keys(alloc: Global, names: &[Name<'_>], keys: &[u64]) -> Result<usiz
 {
     let mut found = names.len();
     for (place, key) in keys.iter().enumerate() {
-        let index = index_of(*key);
+        let index = index_in_key(*key);
         if index < found && is_double(alloc, names, &keys[..place], *key)? {
             found = index;
         }
@@ -105,13 +109,13 @@ fn first_by_keys(alloc: Global, names: &[Name<'_>], keys: &[u64]) -> Result<usiz
 }
 
 /// The first double name, by the order of the names' hashes.
-fn first_of_many(alloc: Global, names: &[Name<'_>]) -> Result<usize, AllocError>
+fn first_double_of_many(alloc: Global, names: &[Name<'_>]) -> Result<usize, AllocError>
     requires { length names.now ≤ 16777216 }
     ensures { IfOk result (λ n. IsFirst (names_said names.now) n) }
 {
-    let mut keys = keys_of(alloc, names)?;
+    let mut keys = hash_keys_of(alloc, names)?;
     keys.sort_unstable();
-    first_by_keys(alloc, names, &keys)
+    first_double_by_keys(alloc, names, &keys)
 }
 
 /// The index of the first name that says the same as one before it, and how many names there are
@@ -124,7 +128,7 @@ pub fn first_double(alloc: Global, names: &[Name<'_>]) -> Result<usize, AllocErr
     }
     // No text has more names than keys can tell.
     if names.len() <= FEW || names.len() as u64 > SPAN {
-        return first_of_few(alloc, names);
+        return first_double_of_few(alloc, names);
     }
-    first_of_many(alloc, names)
+    first_double_of_many(alloc, names)
 }

@@ -21,7 +21,7 @@ pub struct Name<'a> {
 }
 
 #[tactic(auto, unfolding(crate::specs::Known::hash_of))]
-fn hash_of(bytes: &[u8]) -> u64
+fn hash_of_bytes(bytes: &[u8]) -> u64
     ensures { result ≡ hash_spec bytes.now }
 {
     let mut hasher = DefaultHasher::new();
@@ -34,10 +34,10 @@ pub fn name_hash(alloc: Global, name: Quoted<'_>) -> Result<u64, AllocError>
     ensures { IfOk result (λ hash. hash ≡ hash_spec (said name.entry.bytes.now)) }
 {
     if let Some(text) = name.plain() {
-        return Ok(hash_of(text));
+        return Ok(hash_of_bytes(text));
     }
     let text = text_of(alloc, name)?;
-    Ok(hash_of(text.as_bytes()))
+    Ok(hash_of_bytes(text.as_bytes()))
 }
 
 /// Whether one of the names says this text.

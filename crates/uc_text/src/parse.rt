@@ -281,10 +281,10 @@ pub fn read_tree(alloc: Global, bytes: &[u8]) -> Result<Tree<'_>, TextError>
     // What has a first fault is refused with it.
     ensures refused { (f : TextFault) → IsFirstFault 32 bytes.now f → GivesFault result f }
 {
-    read_all(alloc, bytes)
+    read_whole_text(alloc, bytes)
 }
 
-fn read_all(alloc: Global, bytes: &[u8]) -> Result<Tree<'_>, TextError>
+fn read_whole_text(alloc: Global, bytes: &[u8]) -> Result<Tree<'_>, TextError>
     requires { length bytes.now ≤ MOST_BYTES }
     ensures found { IfOk result (λ v. IsText 32 bytes.now (tree_view v)) }
     ensures fault { IfFault result (λ f. IsFirstFault 32 bytes.now f) }

@@ -31,7 +31,7 @@ pub struct Backtracks<'a> {
 
 // Writes a dispatch of least net cost of the spell from `first` to `last`; nothing where it ends
 // before period 1.
-fn write_left(
+fn write_spell_dispatch(
     unit: &Unit,
     prices: &Prices,
     backtracks: Backtracks,
@@ -64,7 +64,7 @@ fn write_left(
 }
 
 // Writes the spells that the table names, from the one that ends with period `last` back.
-fn write_back(
+fn write_earlier_spells(
     unit: &Unit,
     prices: &Prices,
     rows: &[Option<Ended>],
@@ -96,18 +96,18 @@ fn write_back(
     if is_all_off(unit, last) {
         return;
     }
-    write_left(unit, prices, backtracks, ended.first, last, into);
+    write_spell_dispatch(unit, prices, backtracks, ended.first, last, into);
     if ended.first == 0 {
         return;
     }
-    write_back(unit, prices, rows, backtracks, ended.before, into);
+    write_earlier_spells(unit, prices, rows, backtracks, ended.before, into);
 }
 
 /// Leaves in `into` the least best response, which the table names from the earliest of its least
 /// ends, and what it earns. Unit, prices and `into` are over the same T periods, `end` is that end
 /// and within the limits of the rows, and `backtracks` has what backtracking from each needs.
 /// Takes no memory.
-pub fn write_noted(
+pub fn write_best_response(
     unit: &Unit,
     prices: &Prices,
     rows: &[Option<Ended>],
@@ -134,6 +134,6 @@ pub fn write_noted(
 {
     limits_keep_rows();
     turn_all_off(into);
-    write_back(unit, prices, rows, backtracks, end.last, into);
+    write_earlier_spells(unit, prices, rows, backtracks, end.last, into);
     into.earned = earnings_of_cost(end.cost);
 }

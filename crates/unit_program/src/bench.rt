@@ -9,7 +9,7 @@ ghost use Rattle.unit_table.specs.Live.{left_at, AreTraces, HaveRoom};
 ghost use Rattle.unit_rows.specs.Rows.{cost_at, first_at};
 ghost use Rattle.unit_table.specs.Runners.{CanBacktrack};
 
-use crate::backtrack::{Backtracks, write_noted};
+use crate::backtrack::{Backtracks, write_best_response};
 use crate::kept::{Kept, NO_BOUND};
 use crate::last::LastAnswers;
 use crate::least_end::least_end;
@@ -20,11 +20,11 @@ use spell_run::Trace;
 use std::alloc::{AllocError, Global};
 use uc_model::laws::earnings_are_within;
 use uc_model::units::{Answered, Blocks, Curve, Prices, Unit};
-use unit_rows::limits::fill_limits;
+use unit_rows::limits::fill_cost_limits;
 use unit_rows::origins::Origins;
 use unit_rows::table::{Entry, Table};
 use unit_table::laws::limits_keep_rows;
-use unit_table::periods::fill_by_periods;
+use unit_table::periods::fill_table;
 use unit_table::question::Question;
 use unit_table::roster::Roster;
 use unit_table::runner::Runner;
@@ -102,14 +102,14 @@ fn fill_bench(bench: &mut Bench, unit: &Unit, prices: &Prices, most: i64)
         → IsBenchFor periods points bench.new }
 {
     curve_into(unit.points.as_slice(), &mut bench.curve);
-    fill_limits(unit, prices, most, &mut bench.limits);
+    fill_cost_limits(unit, prices, most, &mut bench.limits);
     let question = Question {
         unit,
         curve: &bench.curve,
         prices,
         limits: &bench.limits,
     };
-    fill_by_periods(
+    fill_table(
         &question,
         &mut bench.origins,
         &mut bench.roster,
@@ -120,7 +120,7 @@ fn fill_bench(bench: &mut Bench, unit: &Unit, prices: &Prices, most: i64)
 }
 
 // An end, if it costs at most an amount.
-fn at_most(end: Option<Entry>, most: i64) -> Option<Entry>
+fn end_at_most(end: Option<Entry>, most: i64) -> Option<Entry>
     ensures some { IfSome result (λ e. (end ≡ Some e) × (e.cost ≤ℤ most)) }
     ensures none { IfNone result ((e : Entry) → end ≡ Some e → (most +ℤ pos 1) ≤ℤ e.cost) }
 {
@@ -137,7 +137,7 @@ fn at_most(end: Option<Entry>, most: i64) -> Option<Entry>
 }
 
 // Fills a bench as far as some amount asks, and answers the least end, if it costs at most that.
-fn find_within(bench: &mut Bench, unit: &Unit, prices: &Prices, most: i64) -> Option<Entry>
+fn find_end_within(bench: &mut Bench, unit: &Unit, prices: &Prices, most: i64) -> Option<Entry>
     requires horizon { length (thermal_of unit.now).window ≡ length (prices_of prices.now).energy }
     requires most { IsFrom (neg_ℤ (pos 4000000000000000000)) (pos 4000000000000000000) most }
     requires bench { IsBenchFor (length (prices_of prices.now).energy)
@@ -151,7 +151,7 @@ fn find_within(bench: &mut Bench, unit: &Unit, prices: &Prices, most: i64) -> Op
     limits_keep_rows();
     fill_bench(bench, unit, prices, most);
     let periods = prices.energy.len() as u32;
-    at_most(least_end(unit, periods, bench.table.as_slice()), most)
+    end_at_most(least_end(unit, periods, bench.table.as_slice()), most)
 }
 
 impl Bench {
@@ -228,10 +228,10 @@ impl Bench {
     {
         earnings_are_within();
         let guess = self.kept.guess(prices);
-        if let Some(end) = find_within(self, unit, prices, guess) {
+        if let Some(end) = find_end_within(self, unit, prices, guess) {
             return Some(end);
         }
-        find_within(self, unit, prices, NO_BOUND)
+        find_end_within(self, unit, prices, NO_BOUND)
     }
 
     /// Leaves in `into` the least best response, by backtracking from its end, and what it earns.
@@ -250,7 +250,7 @@ impl Bench {
         let runners = self.runners.as_slice();
         let log = self.shared.log.as_slice();
         let backtracks = Backtracks { runners, log };
-        write_noted(unit, prices, self.table.as_slice(), backtracks, end, into);
+        write_best_response(unit, prices, self.table.as_slice(), backtracks, end, into);
     }
 
     /// Keeps the answer to prices of the unit of a number for the next time, if it can.

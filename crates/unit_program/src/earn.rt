@@ -8,7 +8,7 @@ ghost use Rattle.unit_program.specs.Tops.{HasSchedules, IsBenchOver, AreTops};
 use crate::bench::Bench;
 use crate::case_laws::units_can_answer;
 use crate::last::LastAnswers;
-use crate::unit_answer::answer_at;
+use crate::unit_answer::answer_numbered_unit;
 use plain_lists::lists::Numbers;
 use uc_model::cases::Case;
 use uc_model::units::{Answered, Prices};
@@ -38,7 +38,7 @@ pub fn earn_all(
     units_can_answer();
     into.clear();
     for number in 0..case.unit_count() as usize {
-        answer_at(bench, last, case, prices, number, buffer);
+        answer_numbered_unit(bench, last, case, prices, number, buffer);
         into.push(buffer.earned);
     }
 }

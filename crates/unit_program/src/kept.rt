@@ -35,14 +35,14 @@ impl Drop for Kept {
 }
 
 // What prices pay for a power and a reserve in the periods that all have.
-fn paid_for(prices: &Prices, power: &[u32], reserve: &[u32]) -> i64 {
+fn paid_for_powers(prices: &Prices, power: &[u32], reserve: &[u32]) -> i64 {
     let both = power.len().min(reserve.len());
     let energy = prices.energy.as_slice();
     let held = prices.reserve.as_slice();
     let mut paid: i64 = 0;
-    for place in 0..both.min(energy.len()).min(held.len()) {
-        let for_power = energy[place].saturating_mul(i64::from(power[place]));
-        let for_reserve = held[place].saturating_mul(i64::from(reserve[place]));
+    for index in 0..both.min(energy.len()).min(held.len()) {
+        let for_power = energy[index].saturating_mul(i64::from(power[index]));
+        let for_reserve = held[index].saturating_mul(i64::from(reserve[index]));
         paid = paid.saturating_add(for_power.saturating_add(for_reserve));
     }
     paid
@@ -50,8 +50,8 @@ fn paid_for(prices: &Prices, power: &[u32], reserve: &[u32]) -> i64 {
 
 // Copies powers to those places that both have.
 fn copy_powers(from: &[u32], into: &mut Powers) {
-    for place in 0..from.len().min(into.len()) {
-        into.set(place, from[place]);
+    for index in 0..from.len().min(into.len()) {
+        into.set(index, from[index]);
     }
 }
 
@@ -80,7 +80,7 @@ impl Kept {
         if !self.is_some {
             return NO_BOUND;
         }
-        let paid = paid_for(prices, self.power.as_slice(), self.reserve.as_slice());
+        let paid = paid_for_powers(prices, self.power.as_slice(), self.reserve.as_slice());
         self.cost.saturating_sub(paid).clamp(-NO_BOUND, NO_BOUND)
     }
 
@@ -89,7 +89,7 @@ impl Kept {
         let response = &answered.response;
         copy_powers(response.power.as_slice(), &mut self.power);
         copy_powers(response.reserve.as_slice(), &mut self.reserve);
-        let paid = paid_for(prices, self.power.as_slice(), self.reserve.as_slice());
+        let paid = paid_for_powers(prices, self.power.as_slice(), self.reserve.as_slice());
         self.cost = paid.saturating_sub(answered.earned);
         self.is_some = true;
     }

@@ -12,7 +12,7 @@ use unit_rows::commitment::off_from;
 use unit_rows::table::{Ended, Entry, lesser_entry};
 
 // The cost of all, where `last` is the last on period.
-fn end_at(rows: &[Option<Ended>], last: u32) -> Option<i64>
+fn end_cost_at(rows: &[Option<Ended>], last: u32) -> Option<i64>
     requires { last < length rows.now }
     ensures { result ≡ cost_at rows.now last }
 {
@@ -36,7 +36,7 @@ pub fn least_end(unit: &Unit, periods: u32, rows: &[Option<Ended>]) -> Option<En
 {
     let mut least: Option<Entry> = None;
     for last in off_from(unit, periods)..periods + 1 {
-        least = lesser_entry(least, end_at(rows, last), last);
+        least = lesser_entry(least, end_cost_at(rows, last), last);
     }
     least
 }
@@ -57,10 +57,10 @@ pub fn turn_all_off(into: &mut Answered)
     ensures length { length (schedule_of into.new.response).on
         ≡ length (schedule_of into.old.response).on }
 {
-    for place in 0..into.response.on.len() {
-        into.response.on.set(place, false);
-        into.response.power.set(place, 0);
-        into.response.reserve.set(place, 0);
+    for index in 0..into.response.on.len() {
+        into.response.on.set(index, false);
+        into.response.power.set(index, 0);
+        into.response.reserve.set(index, 0);
     }
 }
 

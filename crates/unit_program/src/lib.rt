@@ -32,4 +32,4 @@ pub use case_bench::{bench_for, most_points};
 pub use choice::least_on_bench;
 pub use earn::earn_all;
 pub use last::LastAnswers;
-pub use unit_answer::{answer_at, answer_unit};
+pub use unit_answer::{answer_numbered_unit, answer_unit};

@@ -48,7 +48,7 @@ pub fn answer_unit(
 }
 
 // Which way the unit's powers count.
-fn flow_of(unit: UnitRef<'_>) -> Flow
+fn flow_of_unit(unit: UnitRef<'_>) -> Flow
     ensures { (s : Schedule) (k : ℕ) → supply_in (unit_of unit.entry) s (suc k)
         ≡ amount_of result (slice_index s.power k) }
 {
@@ -63,7 +63,7 @@ fn flow_of(unit: UnitRef<'_>) -> Flow
 /// earns in money. Tells which way its powers count. No unit is without a feasible schedule; the
 /// bench suffices for each thermal unit, and does so afterwards. Prices and `into` are over the
 /// periods of the case. The answer is the same whatever the last answers are. Takes no memory.
-pub fn answer_at(
+pub fn answer_numbered_unit(
     bench: &mut Bench,
     last: &LastAnswers,
     case: &Case,
@@ -83,5 +83,5 @@ pub fn answer_at(
 {
     let unit = case.unit_at(number).unit;
     answer_unit(bench, last, number as u32, unit, prices, into);
-    flow_of(unit)
+    flow_of_unit(unit)
 }

@@ -99,18 +99,18 @@ pub record AreLimitsFrom (g : ThermalUnit) (π : PriceLists) (most : ℤ) (from 
       int_at limits (suc k) ≤ℤ (int_at limits k +ℤ net_cost g π d (suc k))
 
 module _ (g : ThermalUnit) (π : PriceLists) (most : ℤ) where
-  pub limits_more : (place : ℕ) (old new : List ℤ) (limit least : ℤ) → place < length π.energy → place < length old →
-      new ≡ set old place (limit -ℤ least) → limit ≡ int_at old (suc place) → least ≤ℤ pos 0 →
-      ((d : Schedule) → IsInRange g d place → least ≤ℤ net_cost g π d (suc place)) →
-      AreLimitsFrom g π most (suc place) old → AreLimitsFrom g π most place new
-  limits_more place old new limit least low room is limit_is none each h =
-      let here : int_at new place ≡ limit -ℤ least = rw is (get_or-set_same old place (limit -ℤ least) (pos 0) room) in
-      let other : (j : ℕ) → j ≢ place → int_at new j ≡ int_at old j = λ j not.
-      rw is (get_or-set_other old place j (limit -ℤ least) (pos 0) not) in
-      let next = other (suc place) (λ z. omega arith) in
+  pub limits_more : (index : ℕ) (old new : List ℤ) (limit least : ℤ) → index < length π.energy → index < length old →
+      new ≡ set old index (limit -ℤ least) → limit ≡ int_at old (suc index) → least ≤ℤ pos 0 →
+      ((d : Schedule) → IsInRange g d index → least ≤ℤ net_cost g π d (suc index)) →
+      AreLimitsFrom g π most (suc index) old → AreLimitsFrom g π most index new
+  limits_more index old new limit least low room is limit_is none each h =
+      let here : int_at new index ≡ limit -ℤ least = rw is (get_or-set_same old index (limit -ℤ least) (pos 0) room) in
+      let other : (j : ℕ) → j ≢ index → int_at new j ≡ int_at old j = λ j not.
+      rw is (get_or-set_other old index j (limit -ℤ least) (pos 0) not) in
+      let next = other (suc index) (λ z. omega arith) in
       record {
         end = other (length π.energy) (λ z. omega arith) ∙ h.end;
-        falls = λ k from until. elim (cases_eq k place) [
+        falls = λ k from until. elim (cases_eq k index) [
           | inl z ↦ rw z (omega signed)
           | inr not ↦
               let a = other k not in
@@ -118,7 +118,7 @@ module _ (g : ThermalUnit) (π : PriceLists) (most : ℤ) where
               let falls = h.falls k (omega arith) until in
               omega signed
         ];
-        step = λ k d from until range. elim (cases_eq k place) [
+        step = λ k d from until range. elim (cases_eq k index) [
           | inl z ↦ let net = each d (rw z at range) in rw z (omega signed)
           | inr not ↦
               let a = other k not in
@@ -146,15 +146,15 @@ price_stored energy reserve e r =
 pub min_low : {x w : ℤ} → x ≡ w → int_min x (pos 0) ≤ℤ w
 min_low is = omega bounded
 
-pub period_net : (g : ThermalUnit) (π : PriceLists) (place : ℕ) (energy reserve least : ℤ) →
-    slice_get π.energy place ≡ Some energy → slice_get π.reserve place ≡ Some reserve →
+pub period_net : (g : ThermalUnit) (π : PriceLists) (index : ℕ) (energy reserve least : ℤ) →
+    slice_get π.energy index ≡ Some energy → slice_get π.reserve index ≡ Some reserve →
     ((p r : ℤ) → g.min_power ≤ℤ p → (p +ℤ r) ≤ℤ g.max_power → pos 0 ≤ℤ r →
     least ≤ℤ (envelope g.points p -ℤ ((energy *ℤ p) +ℤ (reserve *ℤ r)))) →
-    (d : Schedule) → IsInRange g d place → least ≤ℤ net_cost g π d (suc place)
-period_net g π place energy reserve least at_energy at_reserve each d range =
-    let e : int_at π.energy place ≡ energy = get_or_from_slice_get π.energy place energy (pos 0) at_energy in
-    let r : int_at π.reserve place ≡ reserve = get_or_from_slice_get π.reserve place reserve (pos 0) at_reserve in
-    rw (e, r) (each (power_in d (suc place)) (reserve_in d (suc place)) range.least range.most (omega signed))
+    (d : Schedule) → IsInRange g d index → least ≤ℤ net_cost g π d (suc index)
+period_net g π index energy reserve least at_energy at_reserve each d range =
+    let e : int_at π.energy index ≡ energy = get_or_from_slice_get π.energy index energy (pos 0) at_energy in
+    let r : int_at π.reserve index ≡ reserve = get_or_from_slice_get π.reserve index reserve (pos 0) at_reserve in
+    rw (e, r) (each (power_in d (suc index)) (reserve_in d (suc index)) range.least range.most (omega signed))
 
 -- one point more: what is at most its net and the least before it is at most each
 pub net_beside : (points : List Point) (at : ℕ) (none : Point) (price before net least : ℤ) →

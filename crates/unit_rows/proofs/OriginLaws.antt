@@ -190,19 +190,19 @@ module _ (g : ThermalUnit) (ends : ℕ → Option ℤ) (k : ℕ) (os : Origins) 
   module _ (n : Origin) (origin : IsOrigin g ends k n) (only : (last : ℕ) → IsRipe g k last → last ≡ n.last)
       (later : (i : ℕ) (o : Origin) → i < os.count → slice_get os.list.items i ≡ Some o → o.last < n.last)
       (room : os.count ≤ length os.list.items) (os' : Origins) (put : IsOriginPut n os os') where
-    -- what stands at a place of the new list
+    -- what stands at an index of the new list
     stands : (i : ℕ) (o : Origin) → i < os'.count → slice_get os'.list.items i ≡ Some o →
-        ((i < put.place) × (slice_get os.list.items i ≡ Some o)) ⊎ ((i ≡ put.place) × (n ≡ o))
+        ((i < put.index) × (slice_get os.list.items i ≡ Some o)) ⊎ ((i ≡ put.index) × (n ≡ o))
     stands i o low is =
-        elim (cases_lt i (put.place)) [
+        elim (cases_lt i (put.index)) [
           | inl less ↦ inl (less, sym (put.before i less) ∙ is)
           | inr most ↦
-              let z : i ≡ put.place = omega arith in
+              let z : i ≡ put.index = omega arith in
               let there' = ap (slice_get os'.list.items) z in
               inr (z, (cc))
         ]
 
-    old_low : (i : ℕ) → i < put.place → i < os.count
+    old_low : (i : ℕ) → i < put.index → i < os.count
     old_low i low = (omega arith)
 
     each' : (i : ℕ) (o : Origin) → i < os'.count → slice_get os'.list.items i ≡ Some o → IsOrigin g ends k o
@@ -214,7 +214,7 @@ module _ (g : ThermalUnit) (ends : ℕ → Option ℤ) (k : ℕ) (os : Origins) 
     -- what holds of each two of the old list, and of each that comes before the new one, holds of each two now
     pairs : (P : Origin → Origin → Type 0) → ((i j : ℕ) (a b : Origin) → i < j → j < os.count →
         slice_get os.list.items i ≡ Some a → slice_get os.list.items j ≡ Some b → P a b) →
-        ((i : ℕ) (a : Origin) → i < put.place → slice_get os.list.items i ≡ Some a → P a n) →
+        ((i : ℕ) (a : Origin) → i < put.index → slice_get os.list.items i ≡ Some a → P a n) →
         (i j : ℕ) (a b : Origin) → i < j → j < os'.count → slice_get os'.list.items i ≡ Some a →
         slice_get os'.list.items j ≡ Some b → P a b
     pairs P old new i j a b before low is is' = elim (stands j b low is') [
@@ -231,54 +231,54 @@ module _ (g : ThermalUnit) (ends : ℕ → Option ℤ) (k : ℕ) (os : Origins) 
     ]
 
     -- all before the new one cost no more
-    cheaper : IsTrue os.is_rising → (i : ℕ) (a : Origin) → i < put.place → slice_get os.list.items i ≡ Some a →
+    cheaper : IsTrue os.is_rising → (i : ℕ) (a : Origin) → i < put.index → slice_get os.list.items i ≡ Some a →
         a.cost ≤ℤ n.cost
-    cheaper rising i a low is = elim (cases_eq (suc i) (put.place)) [
+    cheaper rising i a low is = elim (cases_eq (suc i) (put.index)) [
       | inl z ↦ put.cheaper rising i a (sym z) is
       | inr other ↦
-          let p = put.place - 1 in
-          let some : put.place ≡ suc p = omega arith in
+          let p = put.index - 1 in
+          let some : put.index ≡ suc p = omega arith in
           let b = there os.list.items p (omega arith) in
           let near = put.cheaper rising p b.0 some b.1 in
           let far = right.order.cost rising i p a b.0 (omega arith) (omega arith) is b.1 in
           omega (arith, ints)
     ]
 
-    new_low : put.place < os'.count
+    new_low : put.index < os'.count
     new_low = (omega arith)
 
     all' : (o : Origin) → IsOrigin g ends k o → HasOrigin os' o
     all' o is = elim (others o is) [
       | inl ripe ↦ record {
-        place = put.place;
+        index = put.index;
         origin = n;
         low = new_low;
         is = put.here;
         best = inl (sym (only o.last ripe));
       }
-      | inr has ↦ elim (cases_lt (has.place) (put.place)) [
+      | inr has ↦ elim (cases_lt (has.index) (put.index)) [
         | inl less ↦ record {
-          place = has.place;
+          index = has.index;
           origin = has.origin;
           low = (omega arith);
-          is = put.before has.place less ∙ has.is;
+          is = put.before has.index less ∙ has.is;
           best = elim (has.best) [
             | inl same ↦ inl same
             | inr more ↦ inr (cc, more.1, more.2)
           ];
         }
         | inr most ↦
-            let dear = put.dearer has.place has.origin most has.low has.is in
+            let dear = put.dearer has.index has.origin most has.low has.is in
             let less = dear.1 in
-            let after = later has.place has.origin has.low has.is in
+            let after = later has.index has.origin has.low has.is in
             record {
-              place = put.place;
+              index = put.index;
               origin = n;
               low = new_low;
               is = put.here;
               best = elim (has.best) [
                 | inl same ↦
-                    let e = (right.each has.place has.origin has.low has.is).ended in
+                    let e = (right.each has.index has.origin has.low has.is).ended in
                     let g' = ap ends same in
                     let cost : has.origin.cost ≡ o.cost = (cc) in
                     inr (cc, omega arith, omega (arith, ints))
@@ -395,7 +395,7 @@ module _ (g : ThermalUnit) (k : ℕ) (os : Origins) where
         ((has.origin.last ≡ o.last) × (entry_of has.origin ≡ entry_of o)) ⊎
         ((entry_of has.origin +ℤ pos 1) ≤ℤ entry_of o)
     beside o is has =
-        let a = now.right.each has.place has.origin has.low has.is in
+        let a = now.right.each has.index has.origin has.low has.is in
         elim (has.best) [
           | inl same ↦
               let h = ap ends same in
@@ -416,14 +416,14 @@ module _ (g : ThermalUnit) (k : ℕ) (os : Origins) where
         let o : Origin = record { last = last; cost = h.value } in
         let is_origin : IsOrigin g ends k o = record { ended = h.ended; gap = rw z at h.gap } in
         let has = now.all o is_origin in
-        let low = all.complete has.place has.origin has.low has.is in
+        let low = all.complete has.index has.origin has.low has.is in
         let same : low.0 ≡ r = (cc) in
         let same_cost = ap (λ (r : Entry). r.cost) same in
         let start = ap (λ (b : ℕ). start_cost_after g last b) z in
         elim (beside o is_origin has) [
           | inl equal ↦ (
             omega (arith, ints),
-            λ cost. (let early = all.earliest r has.place has.origin is has.low has.is
+            λ cost. (let early = all.earliest r has.index has.origin is has.low has.is
                 (omega (arith, ints)) in omega arith),
           )
           | inr less ↦ (omega (arith, ints), λ cost. absurd (omega (arith, ints)))
@@ -460,6 +460,6 @@ module _ (g : ThermalUnit) (k : ℕ) (os : Origins) where
           let z : h.before ≡ k = omega arith in
           let o : Origin = record { last = entry.0; cost = h.value } in
           let has = now.all o (record { ended = h.ended; gap = rw z at h.gap }) in
-          let low = all.complete has.place has.origin has.low has.is in
+          let low = all.complete has.index has.origin has.low has.is in
           cc
     ]

@@ -8,9 +8,9 @@ use Rattle.plain_lists.specs.Sums.{int_at}
 -- the production cost of a power less what the prices pay for it and a reserve, in the period at
 -- that place
 abbrev pub net_cost_at : ThermalUnit → PriceLists → ℕ → ℤ → ℤ → ℤ
-net_cost_at g π place power reserve =
-    envelope g.points power -ℤ ((int_at π.energy place *ℤ power)
-    +ℤ (int_at π.reserve place *ℤ reserve))
+net_cost_at g π index power reserve =
+    envelope g.points power -ℤ ((int_at π.energy index *ℤ power)
+    +ℤ (int_at π.reserve index *ℤ reserve))
 
 -- the same of a period of a dispatch
 abbrev pub net_cost : ThermalUnit → PriceLists → Schedule → ℕ → ℤ

@@ -29,10 +29,10 @@ pub record IsOrigin (g : ThermalUnit) (ends : ℕ → Option ℤ) (k : ℕ) (o :
 
 -- one of the list is this end, or a later one that costs less, which is never the dearer start
 pub record HasOrigin (os : Origins) (o : Origin) : Type 0 where
-  pub place : ℕ
+  pub index : ℕ
   pub origin : Origin
-  pub low : place < os.count
-  pub is : slice_get os.list.items place ≡ Some origin
+  pub low : index < os.count
+  pub is : slice_get os.list.items index ≡ Some origin
   pub best : (origin.last ≡ o.last)
       ⊎ (IsTrue os.is_rising × (o.last < origin.last) × ((origin.cost +ℤ pos 1) ≤ℤ o.cost))
 
@@ -65,17 +65,17 @@ pub record AreOriginsWithin (k : ℕ) (os : Origins) : Type 0 where
   pub cost : (i : ℕ) (o : Origin) → i < os.count → slice_get os.list.items i ≡ Some o →
       IsWithinTimes (2 * o.last + 2) o.cost
 
--- an end is put into the list at a place: where it takes that of others, they cost more
+-- an end is put into the list at an index: where it takes that of others, they cost more
 pub record IsOriginPut (o : Origin) (old new : Origins) : Type 0 where
-  pub place : ℕ
-  pub within : place ≤ old.count
-  pub count : new.count ≡ suc place
-  pub here : slice_get new.list.items place ≡ Some o
-  pub before : (i : ℕ) → i < place → slice_get new.list.items i ≡ slice_get old.list.items i
-  pub dearer : (i : ℕ) (a : Origin) → place ≤ i → i < old.count →
+  pub index : ℕ
+  pub within : index ≤ old.count
+  pub count : new.count ≡ suc index
+  pub here : slice_get new.list.items index ≡ Some o
+  pub before : (i : ℕ) → i < index → slice_get new.list.items i ≡ slice_get old.list.items i
+  pub dearer : (i : ℕ) (a : Origin) → index ≤ i → i < old.count →
       slice_get old.list.items i ≡ Some a →
       IsTrue old.is_rising × ((o.cost +ℤ pos 1) ≤ℤ a.cost)
-  pub cheaper : IsTrue old.is_rising → (i : ℕ) (a : Origin) → place ≡ suc i →
+  pub cheaper : IsTrue old.is_rising → (i : ℕ) (a : Origin) → index ≡ suc i →
       slice_get old.list.items i ≡ Some a → a.cost ≤ℤ o.cost
   pub is_rising : new.is_rising ≡ old.is_rising
   pub off_from : new.off_from ≡ old.off_from

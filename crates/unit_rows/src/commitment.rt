@@ -18,9 +18,9 @@ fn last_must_on(marks: &[Mark], until: u32) -> u32
     ensures last { (t : ℕ) → result < t → t ≤ until → mark_in marks.now t ≡ Mark.MustOn → ⊥ }
 {
     let mut last = 0;
-    for place in 0..until {
-        if marks[place as usize] == Mark::MustOn {
-            last = place + 1;
+    for index in 0..until {
+        if marks[index as usize] == Mark::MustOn {
+            last = index + 1;
         }
     }
     last
@@ -41,31 +41,31 @@ pub fn off_from(unit: &Unit, until: u32) -> u32
     last_must_on(unit.window.as_slice(), until)
 }
 
-/// Whether the period at a place is marked `MustOff`.
-pub fn is_must_off(unit: &Unit, place: u32) -> bool
-    requires { place < length (thermal_of unit.now).window }
-    ensures yes { IsTrue result → mark_in (thermal_of unit.now).window (suc place) ≡ Mark.MustOff }
-    ensures no { IsFalse result → mark_in (thermal_of unit.now).window (suc place) ≡ Mark.MustOff
+/// Whether the period at an index is marked `MustOff`.
+pub fn is_must_off(unit: &Unit, index: u32) -> bool
+    requires { index < length (thermal_of unit.now).window }
+    ensures yes { IsTrue result → mark_in (thermal_of unit.now).window (suc index) ≡ Mark.MustOff }
+    ensures no { IsFalse result → mark_in (thermal_of unit.now).window (suc index) ≡ Mark.MustOff
         → ⊥ }
 {
-    unit.window.as_slice()[place as usize] == Mark::MustOff
+    unit.window.as_slice()[index as usize] == Mark::MustOff
 }
 
-/// Whether the unit must be on in the period at a place.
-pub fn must_be_on(unit: &Unit, place: u32) -> bool
-    requires { place < length (thermal_of unit.now).window }
+/// Whether the unit must be on in the period at an index.
+pub fn must_be_on(unit: &Unit, index: u32) -> bool
+    requires { index < length (thermal_of unit.now).window }
     ensures yes { IsTrue result →
         IsTrue unit.now.must_run
-        ⊎ (mark_in (thermal_of unit.now).window (suc place) ≡ Mark.MustOn) }
+        ⊎ (mark_in (thermal_of unit.now).window (suc index) ≡ Mark.MustOn) }
     ensures no { IsFalse result →
         IsFalse unit.now.must_run
-        × (mark_in (thermal_of unit.now).window (suc place) ≡ Mark.MustOn → ⊥) }
+        × (mark_in (thermal_of unit.now).window (suc index) ≡ Mark.MustOn → ⊥) }
 {
-    unit.must_run || unit.window.as_slice()[place as usize] == Mark::MustOn
+    unit.must_run || unit.window.as_slice()[index as usize] == Mark::MustOn
 }
 
 /// The time off at the end of a period in periods, where `last` is the last on period.
-pub fn time_off(unit: &Unit, last: u32, period: u32) -> u64
+pub fn periods_off(unit: &Unit, last: u32, period: u32) -> u64
     requires { last ≤ period }
     ensures { result ≡ off_time (thermal_of unit.now) last period }
 {
@@ -88,7 +88,7 @@ pub fn stop_just_released(unit: &Unit, period: u32) -> Option<u32>
     if period > unit.min_down {
         return Some(period - unit.min_down);
     }
-    let down = time_off(unit, 0, period);
+    let down = periods_off(unit, 0, period);
     if down < u64::from(unit.min_down) {
         return None;
     }
@@ -99,7 +99,7 @@ pub fn stop_just_released(unit: &Unit, period: u32) -> Option<u32>
 }
 
 // The time on at the end of a spell in periods.
-fn time_on(unit: &Unit, first: u32, last: u32) -> u64
+fn periods_on(unit: &Unit, first: u32, last: u32) -> u64
     requires { first ≤ last }
     ensures { result ≡ on_time (thermal_of unit.now) first last }
 {
@@ -116,22 +116,22 @@ pub fn is_long_enough(unit: &Unit, first: u32, last: u32) -> bool
     ensures { IsTrue result
         ↔ ((thermal_of unit.now).min_up ≤ on_time (thermal_of unit.now) first last) }
 {
-    u64::from(unit.min_up) <= time_on(unit, first, last)
+    u64::from(unit.min_up) <= periods_on(unit, first, last)
 }
 
 /// Whether the unit has been on for long enough to stop after a spell, or the horizon ends with it.
-pub fn may_end(unit: &Unit, periods: u32, first: u32, last: u32) -> bool
+pub fn may_end_spell(unit: &Unit, periods: u32, first: u32, last: u32) -> bool
     requires { first ≤ last }
     ensures yes { IsTrue result → last < periods
         → (thermal_of unit.now).min_up ≤ on_time (thermal_of unit.now) first last }
     ensures no { IsFalse result → (last < periods)
         × (on_time (thermal_of unit.now) first last < (thermal_of unit.now).min_up) }
 {
-    last >= periods || time_on(unit, first, last) >= u64::from(unit.min_up)
+    last >= periods || periods_on(unit, first, last) >= u64::from(unit.min_up)
 }
 
 /// Whether a unit that is on before the horizon may stop in period 1, as far as its output goes.
-pub fn stops_at_once(unit: &Unit) -> bool
+pub fn may_stop_at_once(unit: &Unit) -> bool
     ensures yes { IsTrue result → StopsAtOnce (thermal_of unit.now) }
     ensures no { IsFalse result → StopsAtOnce (thermal_of unit.now) → ⊥ }
 {

@@ -20,7 +20,7 @@ use plain_lists::lists::Numbers;
 use uc_model::units::{Point, Prices, Unit};
 
 // What a point costs less what its power is worth at a price.
-fn net_of(point: &Point, price: i64) -> i64
+fn net_cost_of_point(point: &Point, price: i64) -> i64
     requires point { IsPoint point.now }
     requires price { IsFrom (neg_ℤ GAIN_LIMIT) GAIN_LIMIT price }
     ensures value { result ≡ point.now.cost -ℤ (price *ℤ point.now.at) }
@@ -30,7 +30,7 @@ fn net_of(point: &Point, price: i64) -> i64
 }
 
 // At most what any of the points costs less what its power is worth at a price.
-fn least_net(points: &[Point], price: i64) -> i64
+fn least_net_cost(points: &[Point], price: i64) -> i64
     requires points { All IsPoint points.now }
     requires price { IsFrom (neg_ℤ GAIN_LIMIT) GAIN_LIMIT price }
     ensures least { All (λ (p : Point). result ≤ℤ (p.cost -ℤ (price *ℤ p.at))) points.now }
@@ -38,7 +38,7 @@ fn least_net(points: &[Point], price: i64) -> i64
 {
     let mut least = 20_010_000_000_000_000;
     for point in points {
-        least = net_of(point, price).min(least);
+        least = net_cost_of_point(point, price).min(least);
     }
     least
 }
@@ -55,14 +55,14 @@ struct Known {
 
 // Up to which price, or from which one on, an end of the points has the least net cost: the new
 // one, if it has it there.
-fn known_at(known: i64, price: i64, net: i64, least: i64) -> i64
+fn known_until_price(known: i64, price: i64, net: i64, least: i64) -> i64
     ensures { (result ≡ known) ⊎ ((result ≡ price) × (net ≡ least)) }
 {
     if net == least { price } else { known }
 }
 
-// As `least_net`, without a look at all points where one of their ends is known to have the least.
-fn known_net(points: &[Point], price: i64, known: &mut Known) -> i64
+// As `least_net_cost`, without a look at all points where one of their ends is known to have the least.
+fn least_net_cost_known(points: &[Point], price: i64, known: &mut Known) -> i64
     requires some { 1 ≤ length points.now }
     requires points { All IsPoint points.now }
     requires ordered { ArePointsOrdered points.now }
@@ -72,23 +72,23 @@ fn known_net(points: &[Point], price: i64, known: &mut Known) -> i64
     ensures bound { IsFrom (neg_ℤ (pos 20010000000000000)) (pos 20010000000000000) result }
     ensures known { AreKnown points.now known.new.first_to known.new.last_from }
 {
-    let first = net_of(&points[0], price);
+    let first = net_cost_of_point(&points[0], price);
     if price <= known.first_to {
         return first;
     }
-    let last = net_of(&points[points.len() - 1], price);
+    let last = net_cost_of_point(&points[points.len() - 1], price);
     if price >= known.last_from {
         return last;
     }
-    let least = least_net(points, price);
-    known.first_to = known_at(known.first_to, price, first, least);
-    known.last_from = known_at(known.last_from, price, last, least);
+    let least = least_net_cost(points, price);
+    known.first_to = known_until_price(known.first_to, price, first, least);
+    known.last_from = known_until_price(known.last_from, price, last, least);
     least
 }
 
 // At most 0, and at most what a period at those prices costs where the unit is on, whatever its
 // power and reserve.
-fn least_of_period(unit: &Unit, energy: i64, reserve: i64, known: &mut Known) -> i64
+fn least_cost_of_period(unit: &Unit, energy: i64, reserve: i64, known: &mut Known) -> i64
     requires energy { IsFrom (neg_ℤ PRICE_LIMIT) PRICE_LIMIT energy }
     requires reserve { IsFrom (pos 0) PRICE_LIMIT reserve }
     requires known { AreKnown unit.now.points.items known.old.first_to known.old.last_from }
@@ -99,14 +99,14 @@ fn least_of_period(unit: &Unit, energy: i64, reserve: i64, known: &mut Known) ->
         result ≤ℤ (envelope (thermal_of unit.now).points p -ℤ ((energy *ℤ p) +ℤ (reserve *ℤ r))) }
 {
     envelope_earns_as_points();
-    let least = known_net(unit.points.as_slice(), energy - reserve, known);
+    let least = least_net_cost_known(unit.points.as_slice(), energy - reserve, known);
     (least - reserve * unit.max_power).min(0)
 }
 
 /// Writes the limits of a unit at prices over T periods: at place t what all up to the end of
 /// period t may cost where the whole costs at most `most`, in money. There are at least T + 1
 /// places. `most` is within 4 * 10^18.
-pub fn fill_limits(unit: &Unit, prices: &Prices, most: i64, limits: &mut Numbers)
+pub fn fill_cost_limits(unit: &Unit, prices: &Prices, most: i64, limits: &mut Numbers)
     requires most { IsFrom (neg_ℤ (pos 4000000000000000000)) (pos 4000000000000000000) most }
     requires room { length (prices_of prices.now).energy < length limits.old.items }
     ensures limits { AreLimits (thermal_of unit.now) (prices_of prices.now) most
@@ -121,9 +121,9 @@ pub fn fill_limits(unit: &Unit, prices: &Prices, most: i64, limits: &mut Numbers
     };
     limits.set(periods, limit);
     for back in 0..periods {
-        let place = periods - 1 - back;
-        let energy = *prices.energy.get(place);
-        limit -= least_of_period(unit, energy, *prices.reserve.get(place), &mut known);
-        limits.set(place, limit);
+        let index = periods - 1 - back;
+        let energy = *prices.energy.get(index);
+        limit -= least_cost_of_period(unit, energy, *prices.reserve.get(index), &mut known);
+        limits.set(index, limit);
     }
 }

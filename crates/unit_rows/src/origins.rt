@@ -14,7 +14,7 @@ ghost use Rattle.unit_rows.specs.Rows.{cost_at, IsWithinTimes};
 ghost use Rattle.unit_rows.specs.Ends.{IsEntry, IsLeastEntry};
 
 use crate::commitment::{must_be_on, stop_just_released};
-use crate::table::{Ended, Entry, lesser_entry, start_after, sum_of};
+use crate::table::{Ended, Entry, cost_of_start_after, lesser_entry, sum_of_costs};
 use plain_lists::lists::ReservedList;
 use std::alloc::{AllocError, Global};
 use uc_model::units::{Lag, Unit};
@@ -53,11 +53,11 @@ impl Drop for Origins {
 }
 
 // Whether a start never costs less after a longer time off: no lag costs less than the one before.
-fn are_rising(lags: &[Lag]) -> bool
+fn start_costs_rise(lags: &[Lag]) -> bool
     ensures { IsTrue result → IsRising lags.now }
 {
-    for place in 1..lags.len() {
-        if lags[place].cost < lags[place - 1].cost {
+    for index in 1..lags.len() {
+        if lags[index].cost < lags[index - 1].cost {
             return false;
         }
     }
@@ -94,9 +94,9 @@ impl Origins {
             return self.count;
         }
         for back in 0..self.count {
-            let place = self.count - back;
-            if self.list.get(place as usize - 1).cost <= cost {
-                return place;
+            let index = self.count - back;
+            if self.list.get(index as usize - 1).cost <= cost {
+                return index;
             }
         }
         0
@@ -109,9 +109,9 @@ impl Origins {
         ensures put { IsOriginPut origin self.old self.new }
         ensures length { length self.new.list.items ≡ length self.old.list.items }
     {
-        let place = self.place_for(origin.cost);
-        self.list.set(place as usize, origin);
-        self.count = place + 1;
+        let index = self.place_for(origin.cost);
+        self.list.set(index as usize, origin);
+        self.count = index + 1;
     }
 
     // Puts in the end since which the unit has been off for long enough only now, if there is one.
@@ -153,25 +153,25 @@ impl Origins {
     {
         self.count = 0;
         self.off_from = 0;
-        self.is_rising = are_rising(unit.lags.as_slice());
+        self.is_rising = start_costs_rise(unit.lags.as_slice());
         self.take_ripe(unit, 0, rows);
     }
 
-    /// Goes on to the origins of a start after the period at a place.
-    pub fn go_on(&mut self, unit: &Unit, place: u32, rows: &[Option<Ended>])
-        requires end { place < length (thermal_of unit.now).window }
-        requires rows { suc place < length rows.now }
-        requires room { suc place < length self.old.list.items }
-        requires origins { AreOrigins (thermal_of unit.now) (cost_at rows.now) place self.old }
-        ensures origins { AreOrigins (thermal_of unit.now) (cost_at rows.now) (suc place) self.new }
+    /// Goes on to the origins of a start after the period at an index.
+    pub fn go_on(&mut self, unit: &Unit, index: u32, rows: &[Option<Ended>])
+        requires end { index < length (thermal_of unit.now).window }
+        requires rows { suc index < length rows.now }
+        requires room { suc index < length self.old.list.items }
+        requires origins { AreOrigins (thermal_of unit.now) (cost_at rows.now) index self.old }
+        ensures origins { AreOrigins (thermal_of unit.now) (cost_at rows.now) (suc index) self.new }
         ensures length { length self.new.list.items ≡ length self.old.list.items }
     {
-        if must_be_on(unit, place) {
+        if must_be_on(unit, index) {
             self.count = 0;
-            self.off_from = place + 1;
+            self.off_from = index + 1;
             return;
         }
-        self.take_ripe(unit, place + 1, rows);
+        self.take_ripe(unit, index + 1, rows);
     }
 
     /// Whether one of the ends costs no more than a limit. A start after any other one costs more.
@@ -180,8 +180,8 @@ impl Origins {
         ensures { IsFalse result → (i : ℕ) (o : Origin) → i < self.now.count →
             slice_get self.now.list.items i ≡ Some o → (limit +ℤ pos 1) ≤ℤ o.cost }
     {
-        for place in 0..self.count {
-            if self.list.get(place as usize).cost <= limit {
+        for index in 0..self.count {
+            if self.list.get(index as usize).cost <= limit {
                 return true;
             }
         }
@@ -203,9 +203,9 @@ impl Origins {
         ensures bound { IfSome result (λ e. IsWithinTimes (2 * period + 3) e.cost) }
     {
         let mut least: Option<Entry> = None;
-        for place in 0..self.count {
-            let origin = *self.list.get(place as usize);
-            let cost = sum_of(origin.cost, start_after(unit, origin.last, period));
+        for index in 0..self.count {
+            let origin = *self.list.get(index as usize);
+            let cost = sum_of_costs(origin.cost, cost_of_start_after(unit, origin.last, period));
             least = lesser_entry(least, Some(cost), origin.last);
         }
         least

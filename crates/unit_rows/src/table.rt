@@ -10,7 +10,7 @@ ghost use Rattle.unit_rows.specs.Ends.{HasAtMost};
 ghost use Rattle.unit_rows.specs.declared.table.Ended.{Ended};
 ghost use Rattle.unit_rows.specs.declared.table.Entry.{Entry};
 
-use crate::commitment::{stops_at_once, time_off};
+use crate::commitment::{may_stop_at_once, periods_off};
 use plain_lists::lists::ReservedList;
 use uc_model::rules::start_cost;
 use uc_model::units::Unit;
@@ -36,16 +36,16 @@ pub struct Entry {
 }
 
 /// The cost of a start in the period after `before`, in money.
-pub fn start_after(unit: &Unit, last: u32, before: u32) -> i64
+pub fn cost_of_start_after(unit: &Unit, last: u32, before: u32) -> i64
     requires { last ≤ before }
     ensures value { result ≡ start_cost_after (thermal_of unit.now) last before }
     ensures bound { IsWithinTimes 1 result }
 {
-    start_cost(unit, time_off(unit, last, before))
+    start_cost(unit, periods_off(unit, last, before))
 }
 
 /// The sum of two costs within bounds.
-pub fn sum_of(a: i64, b: i64) -> i64
+pub fn sum_of_costs(a: i64, b: i64) -> i64
     requires a { IsWithinTimes 400 a }
     requires b { IsWithinTimes 400 b }
     ensures { result ≡ a +ℤ b }
@@ -79,7 +79,7 @@ pub fn lesser_entry(least: Option<Entry>, cost: Option<i64>, last: u32) -> Optio
 
 // Whether the cost is at most that in the table, or none is there: of equal ones the later first
 // period is taken.
-fn is_taken(row: Option<Ended>, cost: i64) -> bool
+fn takes_place_of(row: Option<Ended>, cost: i64) -> bool
     ensures yes { IsTrue result → (r : Ended) → row ≡ Some r → cost ≤ℤ r.cost }
     ensures no { IsFalse result → (r : Ended) × (row ≡ Some r) × ((r.cost +ℤ pos 1) ≤ℤ cost) }
 {
@@ -90,7 +90,7 @@ fn is_taken(row: Option<Ended>, cost: i64) -> bool
 }
 
 /// Puts what ends with period `last` into the table, if its cost is at most the cost there.
-pub fn put_ended(table: &mut Table, last: u32, ended: Ended)
+pub fn keep_lesser_end(table: &mut Table, last: u32, ended: Ended)
     requires room { last < length table.old.items }
     requires within { AreWithin table.old.items }
     requires bound { IsWithinTimes (2 * last + 2) ended.cost }
@@ -105,14 +105,14 @@ pub fn put_ended(table: &mut Table, last: u32, ended: Ended)
     ensures within { AreWithin table.new.items }
     ensures length { length table.new.items ≡ length table.old.items }
 {
-    if is_taken(table.as_slice()[last as usize], ended.cost) {
+    if takes_place_of(table.as_slice()[last as usize], ended.cost) {
         table.set(last as usize, Some(ended));
     }
 }
 
 /// Puts a spell to period `last`, entered at a cost, into the table, if there is one: the lesser
 /// cost stays, and of equal ones the later.
-pub fn put_end(table: &mut Table, last: u32, first: u32, entry: &Entry, net: Option<i64>)
+pub fn keep_spell_end(table: &mut Table, last: u32, first: u32, entry: &Entry, net: Option<i64>)
     requires room { last < length table.old.items }
     requires order { first ≤ last }
     requires small { last ≤ MOST_PERIODS }
@@ -129,11 +129,11 @@ pub fn put_end(table: &mut Table, last: u32, first: u32, entry: &Entry, net: Opt
 {
     if let Some(net) = net {
         let ended = Ended {
-            cost: sum_of(entry.cost, net),
+            cost: sum_of_costs(entry.cost, net),
             first,
             before: entry.last,
         };
-        put_ended(table, last, ended);
+        keep_lesser_end(table, last, ended);
     }
 }
 
@@ -142,17 +142,17 @@ fn clear_rows(table: &mut Table)
     ensures none { (l : ℕ) → row_at table.new.items l ≡ None }
     ensures length { length table.new.items ≡ length table.old.items }
 {
-    for place in 0..table.len() {
-        table.set(place, None);
+    for index in 0..table.len() {
+        table.set(index, None);
     }
 }
 
 // What ends before period 1: a unit that is off since before the horizon, or a spell that doesn't
 // go on.
-fn first_row(unit: &Unit) -> Option<Ended>
+fn row_before_horizon(unit: &Unit) -> Option<Ended>
     ensures { IsFirstRow (thermal_of unit.now) result }
 {
-    if unit.on0 && !(unit.up0 >= unit.min_up && stops_at_once(unit)) {
+    if unit.on0 && !(unit.up0 >= unit.min_up && may_stop_at_once(unit)) {
         return None;
     }
     Some(Ended {
@@ -171,5 +171,5 @@ pub fn begin_table(unit: &Unit, table: &mut Table)
     ensures length { length table.new.items ≡ length table.old.items }
 {
     clear_rows(table);
-    table.set(0, first_row(unit));
+    table.set(0, row_before_horizon(unit));
 }

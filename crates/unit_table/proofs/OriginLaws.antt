@@ -39,8 +39,8 @@ entry_beyond g ends k os starts now lags limit beyond e entry = elim (entry.1) [
       let is_origin : IsOrigin g ends k o = record
       { ended = h.ended; gap = rw z at h.gap } in
       let has = now.all o is_origin in
-      let a = now.right.each has.place has.origin has.low has.is in
-      let high = beyond has.place has.origin has.low has.is in
+      let a = now.right.each has.index has.origin has.low has.is in
+      let high = beyond has.index has.origin has.low has.is in
       let start = (starts g.lags (off_time g entry.0 h.before) lags).at_least in
       elim (has.best) [
         | inl same ↦

@@ -244,13 +244,13 @@ module _ (a : Asked) (rows₀ : List (Option Ended)) (runners₀ : List Runner)
       left = λ j f from low is. omega arith;
     }
 
-    module _ (roomy₀ : AreRoomy (periods_of a) a.place a.charge runners₀) where
+    module _ (roomy₀ : AreRoomy (periods_of a) a.index a.charge runners₀) where
       run_skip : (n m : ℕ) (rows : List (Option Ended)) (runners : List Runner) (log : Reserved Logged) → n ≤ m →
           ((f : ℕ) → n ≤ f → f < m → live_at runners₀ f ≡ None) →
           IsRunTo a rows₀ runners₀ log₀ n rows runners log →
           IsRunTo a rows₀ runners₀ log₀ m rows runners log
       run_skip n m rows runners log more none run = record {
-        row = row_further a.unit a.prices (periods_of a) (live_at runners₀) n m (suc a.place) _ _ _ more none run.row;
+        row = row_further a.unit a.prices (periods_of a) (live_at runners₀) n m (suc a.index) _ _ _ more none run.row;
         others = run.others;
         within = run.within;
         rows_length = run.rows_length;

@@ -20,33 +20,33 @@ module _ (a : Asked) where
     pub record IsRunTo (n : ℕ) (rows : List (Option Ended)) (runners : List Runner) (log : Reserved Logged) :
         Type 0 where
       pub row : IsRowTo a (live_at runners₀) n rows
-      pub others : (l : ℕ) → l ≢ suc a.place → row_at rows l ≡ row_at rows₀ l
+      pub others : (l : ℕ) → l ≢ suc a.index → row_at rows l ≡ row_at rows₀ l
       pub within : AreWithin rows
       pub rows_length : length rows ≡ length rows₀
       pub goes : (f : ℕ) (r : Going) → f < n → live_at runners₀ f ≡ Some r →
-          IsGoneOn a.unit a.prices a.place f r (live_at runners f)
+          IsGoneOn a.unit a.prices a.index f r (live_at runners f)
       pub off : (f : ℕ) → f < n → live_at runners₀ f ≡ None → live_at runners f ≡ None
       pub rest : (f : ℕ) → n ≤ f → slice_get runners f ≡ slice_get runners₀ f
       pub roomy : (f : ℕ) (r : Runner) → f < n → slice_get runners f ≡ Some r →
-          IsRoomy (periods_of a) (suc a.place) a.charge f r
-      pub ends : (v : ℤ) → cost_at rows (suc a.place) ≡ Some v →
-          IsEndLeft a.unit a.prices (first_at rows (suc a.place)) a.place
-          (since (first_at rows (suc a.place)) (left_at log.items runners (first_at rows (suc a.place))) a.place)
+          IsRoomy (periods_of a) (suc a.index) a.charge f r
+      pub ends : (v : ℤ) → cost_at rows (suc a.index) ≡ Some v →
+          IsEndLeft a.unit a.prices (first_at rows (suc a.index)) a.index
+          (since (first_at rows (suc a.index)) (left_at log.items runners (first_at rows (suc a.index))) a.index)
       pub noted : (f : ℕ) (r : Going) (x v : ℤ) → f < n → live_at runners₀ f ≡ Some r →
-          value_of r.function x ≡ Some v → IsOnNoted a.unit a.prices f a.place
-          (since f (left_at log.items runners f) a.place).note
-      pub left : (f k : ℕ) → k ≢ a.place - (f - 1) → left_at log.items runners f k ≡ left_at log₀.items runners₀ f k
+          value_of r.function x ≡ Some v → IsOnNoted a.unit a.prices f a.index
+          (since f (left_at log.items runners f) a.index).note
+      pub left : (f k : ℕ) → k ≢ a.index - (f - 1) → left_at log.items runners f k ≡ left_at log₀.items runners₀ f k
       pub traces : AreTraces log.items runners
       pub entries : length log.items ≤ length log₀.items + n
       pub log_same : length log.items + log.spare ≡ length log₀.items + log₀.spare
       pub keeps : (room : ℕ) → HaveRoom room runners₀ → HaveRoom room runners
       pub count_same : length runners ≡ length runners₀
 
-    pub run_begins : AreWithin rows₀ → cost_at rows₀ (suc a.place) ≡ None → AreTraces log₀.items runners₀ →
+    pub run_begins : AreWithin rows₀ → cost_at rows₀ (suc a.index) ≡ None → AreTraces log₀.items runners₀ →
         IsRunTo 0 rows₀ runners₀ log₀
     run_begins within none traces = record {
-      row = row_none a.unit a.prices (periods_of a) (live_at runners₀) 0 (suc a.place) (cost_at rows₀ (suc a.place))
-          (first_at rows₀ (suc a.place)) (before_at rows₀ (suc a.place)) none;
+      row = row_none a.unit a.prices (periods_of a) (live_at runners₀) 0 (suc a.index) (cost_at rows₀ (suc a.index))
+          (first_at rows₀ (suc a.index)) (before_at rows₀ (suc a.index)) none;
       others = λ l other. refl;
       within = within;
       rows_length = refl;
@@ -86,8 +86,8 @@ module _ (a : Asked) where
           within = one.more.within;
           rows_length = one.more.rows_length ∙ so_far.rows_length;
           goes = λ f r low. at_last (λ (f : ℕ). live_at runners₀ f ≡ Some r →
-              IsGoneOn a.unit a.prices a.place f r (live_at runners' f)) n f low
-              (λ less is. subst (IsGoneOn a.unit a.prices a.place f r) (sym (ap going_of (same f less)))
+              IsGoneOn a.unit a.prices a.index f r (live_at runners' f)) n f low
+              (λ less is. subst (IsGoneOn a.unit a.prices a.index f r) (sym (ap going_of (same f less)))
               (so_far.goes f r less is))
               (λ is. one.goes r (here ∙ is));
           off = λ f low. at_last (λ (f : ℕ). live_at runners₀ f ≡ None →
@@ -96,34 +96,34 @@ module _ (a : Asked) where
               (λ is. one.off (here ∙ is));
           rest = λ f from. one.rest f (λ z. omega arith) ∙ so_far.rest f (omega arith);
           roomy = λ f r low. at_last (λ (f : ℕ). slice_get runners' f ≡ Some r →
-              IsRoomy (periods_of a) (suc a.place) a.charge f r) n f low
+              IsRoomy (periods_of a) (suc a.index) a.charge f r) n f low
               (λ less is. so_far.roomy f r less (sym (same f less) ∙ is))
               (λ is. one.roomy r is);
           ends = λ v is. elim (one.ends) [
             | inl kept ↦
-                let was : cost_at rows (suc a.place) ≡ Some v = sym
-                (cost-same rows' rows (suc a.place) (suc a.place) kept) ∙ is in
-                let first : first_at rows' (suc a.place) ≡ first_at rows (suc a.place) = first-same rows' rows
-                (suc a.place) (suc a.place) kept
+                let was : cost_at rows (suc a.index) ≡ Some v = sym
+                (cost-same rows' rows (suc a.index) (suc a.index) kept) ∙ is in
+                let first : first_at rows' (suc a.index) ≡ first_at rows (suc a.index) = first-same rows' rows
+                (suc a.index) (suc a.index) kept
                 in
                 let before = (so_far.row.sound v was).2 in
-                let left = one.left_others (first_at rows (suc a.place)) (a.place - (first_at rows (suc a.place) - 1))
+                let left = one.left_others (first_at rows (suc a.index)) (a.index - (first_at rows (suc a.index) - 1))
                 (λ z. omega arith) in
-                subst (λ (f : ℕ). IsEndLeft a.unit a.prices f a.place
-                (since f (left_at log'.items runners' f) a.place)) (sym first)
-                (subst (IsEndLeft a.unit a.prices (first_at rows (suc a.place)) a.place) (sym left) (so_far.ends v was))
-            | inr named ↦ subst (λ (f : ℕ). IsEndLeft a.unit a.prices f a.place
-                (since f (left_at log'.items runners' f) a.place)) (sym named.0)
+                subst (λ (f : ℕ). IsEndLeft a.unit a.prices f a.index
+                (since f (left_at log'.items runners' f) a.index)) (sym first)
+                (subst (IsEndLeft a.unit a.prices (first_at rows (suc a.index)) a.index) (sym left) (so_far.ends v was))
+            | inr named ↦ subst (λ (f : ℕ). IsEndLeft a.unit a.prices f a.index
+                (since f (left_at log'.items runners' f) a.index)) (sym named.0)
                 named.1
           ];
           noted = λ f r x v low. at_last (λ (f : ℕ). live_at runners₀ f ≡ Some r → value_of r.function x ≡ Some v →
-              IsOnNoted a.unit a.prices f a.place (since f (left_at log'.items runners' f) a.place).note) n f low
-              (λ less is there. rw (one.left_others f (a.place - (f - 1)) (λ z. omega arith))
+              IsOnNoted a.unit a.prices f a.index (since f (left_at log'.items runners' f) a.index).note) n f low
+              (λ less is there. rw (one.left_others f (a.index - (f - 1)) (λ z. omega arith))
               (so_far.noted f r x v less is there))
               (λ is there. one.noted r x v (here ∙ is) there);
           left = λ f k other. elim (cases_eq f n) [
             | inl z ↦ ap (λ (f : ℕ). left_at log'.items runners' f k) z ∙
-                one.left k (λ y. other (y ∙ ap (λ f. a.place - (f - 1)) (sym z))) ∙
+                one.left k (λ y. other (y ∙ ap (λ f. a.index - (f - 1)) (sym z))) ∙
                 sym (ap (λ (f : ℕ). left_at log.items runners f k) z) ∙ so_far.left f k other
             | inr apart ↦ one.left_others f k apart ∙ so_far.left f k other
           ];
@@ -136,11 +136,11 @@ module _ (a : Asked) where
 
     -- none begins later
     module _ (rows : List (Option Ended)) (runners : List Runner) (log : Reserved Logged)
-        (all : IsRunTo (suc (suc a.place)) rows runners log)
-        (none : (f : ℕ) (r : Going) → live_at runners₀ f ≡ Some r → f < suc (suc a.place))
-        (roomy₀ : AreRoomy (periods_of a) a.place a.charge runners₀) where
-      all_roomy : AreRoomy (periods_of a) (suc a.place) a.charge runners
-      all_roomy f r is = elim (cases_lt f (suc (suc a.place))) [
+        (all : IsRunTo (suc (suc a.index)) rows runners log)
+        (none : (f : ℕ) (r : Going) → live_at runners₀ f ≡ Some r → f < suc (suc a.index))
+        (roomy₀ : AreRoomy (periods_of a) a.index a.charge runners₀) where
+      all_roomy : AreRoomy (periods_of a) (suc a.index) a.charge runners
+      all_roomy f r is = elim (cases_lt f (suc (suc a.index))) [
         | inl less ↦ all.roomy f r less is
         | inr from ↦
             let before : slice_get runners₀ f ≡ Some r = sym (all.rest f from) ∙ is in
@@ -163,7 +163,7 @@ module _ (a : Asked) where
         within = all.within;
         rows_length = all.rows_length;
         goes = λ f r is. all.goes f r (none f r is) is;
-        off = λ f is. elim (cases_lt f (suc (suc a.place))) [
+        off = λ f is. elim (cases_lt f (suc (suc a.index))) [
           | inl less ↦ all.off f less is
           | inr from ↦ ap going_of (all.rest f from) ∙ is
         ];
@@ -205,14 +205,14 @@ module _ (a : Asked) (rows rows' : List (Option Ended)) (runners : List Runner) 
         ] refl)
 
     pub run_written : IsRowMore a i (going_of (Some old)) rows rows' →
-        ((r : Going) → going_of (Some old) ≡ Some r → IsGoneOn a.unit a.prices a.place i r (going_of (Some b))) →
-        (row_at rows' (suc a.place) ≡ row_at rows (suc a.place)) ⊎
-        ((first_at rows' (suc a.place) ≡ i) × IsEndLeft a.unit a.prices i a.place
-        (since i (left_by log'.items b.trace) a.place)) →
+        ((r : Going) → going_of (Some old) ≡ Some r → IsGoneOn a.unit a.prices a.index i r (going_of (Some b))) →
+        (row_at rows' (suc a.index) ≡ row_at rows (suc a.index)) ⊎
+        ((first_at rows' (suc a.index) ≡ i) × IsEndLeft a.unit a.prices i a.index
+        (since i (left_by log'.items b.trace) a.index)) →
         ((x v : ℤ) → value_of (shown old.running) x ≡ Some v →
-        IsOnNoted a.unit a.prices i a.place (since i (left_by log'.items b.trace) a.place).note) →
-        AreTraces log.items runners → IsEntryMore log log' old.trace b.trace → old.trace.count ≡ a.place - (i - 1) →
-        IsRoomy (periods_of a) (suc a.place) a.charge i b → room_of b.running ≡ room_of old.running →
+        IsOnNoted a.unit a.prices i a.index (since i (left_by log'.items b.trace) a.index).note) →
+        AreTraces log.items runners → IsEntryMore log log' old.trace b.trace → old.trace.count ≡ a.index - (i - 1) →
+        IsRoomy (periods_of a) (suc a.index) a.charge i b → room_of b.running ≡ room_of old.running →
         IsOneRun a i rows rows' runners (slice_set runners i b) log log'
     run_written more goes ends noted traces entry count roomy same =
         let live = ap going_of at in
@@ -224,11 +224,11 @@ module _ (a : Asked) (rows rows' : List (Option Ended)) (runners : List Runner) 
           roomy = λ r is. (let same : b ≡ r = (let h = here in cc) in rw same at roomy);
           ends = elim ends [
             | inl kept ↦ inl kept
-            | inr named ↦ inr (named.0, rw (same_left (a.place - (i - 1))) named.1)
+            | inr named ↦ inr (named.0, rw (same_left (a.index - (i - 1))) named.1)
           ];
           noted = λ r x v is there.
               let same_state : state_of old ≡ r = (let live = live_from runners i old at on in cc) in
-              rw (same_left (a.place - (i - 1)))
+              rw (same_left (a.index - (i - 1)))
               (noted x v (ap (λ (r : Going). value_of r.function x) same_state ∙ there));
           left = λ k other. same_left k ∙ entry.earlier k (λ z. other (z ∙ count)) ∙
               sym (ap (λ o. left_of log.items o k) at);
@@ -246,11 +246,11 @@ module _ (a : Asked) (rows rows' : List (Option Ended)) (runners : List Runner) 
 
   -- it is off
   pub run_skipped : live_at runners i ≡ None → AreWithin rows →
-      ((r : Runner) → slice_get runners i ≡ Some r → IsRoomy (periods_of a) a.place a.charge i r) →
+      ((r : Runner) → slice_get runners i ≡ Some r → IsRoomy (periods_of a) a.index a.charge i r) →
       AreTraces log.items runners → IsOneRun a i rows rows runners runners log log
   run_skipped off within roomy traces = record {
     more = record {
-      row = λ live is row. row_skip a.unit a.prices (periods_of a) live i (suc a.place) _ _ _ row
+      row = λ live is row. row_skip a.unit a.prices (periods_of a) live i (suc a.index) _ _ _ row
           (λ r d on spell dispatch. (let none = is ∙ off in cc));
       others = λ l other. refl;
       within = within;

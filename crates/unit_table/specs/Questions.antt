@@ -23,14 +23,14 @@ charge_of q = length q.curve.now.blocks.items + 3
 abbrev pub limits_in : Question → ℕ → ℤ
 limits_in q = int_at q.limits.now.items
 
--- what is asked at a place of the horizon: of which unit, at which prices, within which limits, and
+-- what is asked at an index of the horizon: of which unit, at which prices, within which limits, and
 -- with how many pieces more for a period
 pub record Asked : Type 0 where
   pub unit : ThermalUnit
   pub prices : PriceLists
   pub limits : ℕ → ℤ
   pub charge : ℕ
-  pub place : ℕ
+  pub index : ℕ
 
 abbrev pub periods_of : Asked → ℕ
 periods_of a = length a.prices.energy
@@ -41,8 +41,8 @@ asked_at q t = record {
   prices = prices_in q;
   limits = limits_in q;
   charge = charge_of q;
-  place = t;
+  index = t;
 }
 
 abbrev pub asked : Period → Asked
-asked p = asked_at p.question.now p.place
+asked p = asked_at p.question.now p.index

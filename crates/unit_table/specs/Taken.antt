@@ -1,5 +1,5 @@
 -- What a period changes: its row of the table, and the runners that are on (this project's
--- profile). The period at a place is the one after so many.
+-- profile). The period at an index is the one after so many.
 use Rattle.std.specs.Prelude.{◌≡◌, ◌≢◌, ℕ, suc, ◌+◌, ◌-◌, ◌*◌, ◌^◌, ◌<◌, ◌≤◌, ◌⊎◌, ℤ, IsTrue, List}
 use Rattle.std.specs.Prelude.{length, slice_get, Option, Some, None}
 use Rattle.plain_lists.specs.Reserved.{Reserved}
@@ -47,23 +47,23 @@ pub record AreKept (old new : List Runner) : Type 0 where
 
 -- the runner that begins with `first` may go over the period
 pub record IsReady (a : Asked) (first : ℕ) (r : Going) : Type 0 where
-  pub order : first ≤ suc a.place
-  pub frontier : IsFrontier a.unit a.prices first a.place r.function
-  pub may : MayBeOn a.unit first (suc a.place)
+  pub order : first ≤ suc a.index
+  pub frontier : IsFrontier a.unit a.prices first a.index r.function
+  pub may : MayBeOn a.unit first (suc a.index)
   pub within : IsWithinTimes (2 * first + 1) r.cost
 
 -- the period's row is that of the runners that begin before period n
 abbrev pub IsRowTo : Asked → (ℕ → Option Going) → ℕ → List (Option Ended) → Type 0
 IsRowTo a live n rows =
-    IsRowOf a.unit a.prices (periods_of a) live n (suc a.place) (cost_at rows (suc a.place))
-    (first_at rows (suc a.place)) (before_at rows (suc a.place))
+    IsRowOf a.unit a.prices (periods_of a) live n (suc a.index) (cost_at rows (suc a.index))
+    (first_at rows (suc a.index)) (before_at rows (suc a.index))
 
 -- the period's row is that of one runner more, and no other row is changed
 pub record IsRowMore (a : Asked) (n : ℕ) (here : Option Going) (rows rows' : List (Option Ended))
     : Type 0 where
   pub row : (live : ℕ → Option Going) → live n ≡ here → IsRowTo a live n rows →
       IsRowTo a live (suc n) rows'
-  pub others : (l : ℕ) → l ≢ suc a.place → row_at rows' l ≡ row_at rows l
+  pub others : (l : ℕ) → l ≢ suc a.index → row_at rows' l ≡ row_at rows l
   pub within : AreWithin rows'
   pub rows_length : length rows' ≡ length rows
 
@@ -89,17 +89,17 @@ pub record IsOneRun (a : Asked) (n : ℕ) (rows rows' : List (Option Ended))
     (runners runners' : List Runner) (log log' : Reserved Logged) : Type 0 where
   pub more : IsRowMore a n (live_at runners n) rows rows'
   pub goes : (r : Going) → live_at runners n ≡ Some r →
-      IsGoneOn a.unit a.prices a.place n r (live_at runners' n)
+      IsGoneOn a.unit a.prices a.index n r (live_at runners' n)
   pub off : live_at runners n ≡ None → live_at runners' n ≡ None
   pub rest : (f : ℕ) → f ≢ n → slice_get runners' f ≡ slice_get runners f
   pub roomy : (r : Runner) → slice_get runners' n ≡ Some r →
-      IsRoomy (periods_of a) (suc a.place) a.charge n r
-  pub ends : (row_at rows' (suc a.place) ≡ row_at rows (suc a.place))
-      ⊎ ((first_at rows' (suc a.place) ≡ n) × IsEndLeft a.unit a.prices n a.place
-      (since n (left_at log'.items runners' n) a.place))
+      IsRoomy (periods_of a) (suc a.index) a.charge n r
+  pub ends : (row_at rows' (suc a.index) ≡ row_at rows (suc a.index))
+      ⊎ ((first_at rows' (suc a.index) ≡ n) × IsEndLeft a.unit a.prices n a.index
+      (since n (left_at log'.items runners' n) a.index))
   pub noted : (r : Going) (x v : ℤ) → live_at runners n ≡ Some r → value_of r.function x ≡ Some v →
-      IsOnNoted a.unit a.prices n a.place (since n (left_at log'.items runners' n) a.place).note
-  pub left : (k : ℕ) → k ≢ a.place - (n - 1) → left_at log'.items runners' n k ≡ left_at log.items
+      IsOnNoted a.unit a.prices n a.index (since n (left_at log'.items runners' n) a.index).note
+  pub left : (k : ℕ) → k ≢ a.index - (n - 1) → left_at log'.items runners' n k ≡ left_at log.items
       runners n k
   pub left_others : (f k : ℕ) → f ≢ n → left_at log'.items runners' f k ≡ left_at log.items runners
       f k
@@ -113,39 +113,39 @@ pub record IsOneRun (a : Asked) (n : ℕ) (rows rows' : List (Option Ended))
 -- names it left what backtracking needs
 pub record IsRunOver (a : Asked) (rows rows' : List (Option Ended))
     (runners runners' : List Runner) (log log' : Reserved Logged) : Type 0 where
-  pub row : IsRowTo a (live_at runners) (suc (suc a.place)) rows'
-  pub others : (l : ℕ) → l ≢ suc a.place → row_at rows' l ≡ row_at rows l
+  pub row : IsRowTo a (live_at runners) (suc (suc a.index)) rows'
+  pub others : (l : ℕ) → l ≢ suc a.index → row_at rows' l ≡ row_at rows l
   pub within : AreWithin rows'
   pub rows_length : length rows' ≡ length rows
   pub goes : (f : ℕ) (r : Going) → live_at runners f ≡ Some r →
-      IsGoneOn a.unit a.prices a.place f r (live_at runners' f)
+      IsGoneOn a.unit a.prices a.index f r (live_at runners' f)
   pub off : (f : ℕ) → live_at runners f ≡ None → live_at runners' f ≡ None
-  pub ends : (v : ℤ) → cost_at rows' (suc a.place) ≡ Some v →
-      IsEndLeft a.unit a.prices (first_at rows' (suc a.place)) a.place
-      (since (first_at rows' (suc a.place)) (left_at log'.items runners'
-      (first_at rows' (suc a.place))) a.place)
+  pub ends : (v : ℤ) → cost_at rows' (suc a.index) ≡ Some v →
+      IsEndLeft a.unit a.prices (first_at rows' (suc a.index)) a.index
+      (since (first_at rows' (suc a.index)) (left_at log'.items runners'
+      (first_at rows' (suc a.index))) a.index)
   pub noted : (f : ℕ) (r : Going) (x v : ℤ) → live_at runners f ≡ Some r →
-      value_of r.function x ≡ Some v → IsOnNoted a.unit a.prices f a.place
-      (since f (left_at log'.items runners' f) a.place).note
-  pub left : (f k : ℕ) → k ≢ a.place - (f - 1) → left_at log'.items runners' f k ≡ left_at
+      value_of r.function x ≡ Some v → IsOnNoted a.unit a.prices f a.index
+      (since f (left_at log'.items runners' f) a.index).note
+  pub left : (f k : ℕ) → k ≢ a.index - (f - 1) → left_at log'.items runners' f k ≡ left_at
       log.items runners f k
   pub traces : AreTraces log'.items runners'
-  pub entries : length log'.items ≤ length log.items + suc (suc a.place)
+  pub entries : length log'.items ≤ length log.items + suc (suc a.index)
   pub log_same : length log'.items + log'.spare ≡ length log.items + log.spare
-  pub roomy : AreRoomy (periods_of a) (suc a.place) a.charge runners'
+  pub roomy : AreRoomy (periods_of a) (suc a.index) a.charge runners'
   pub keeps : (room : ℕ) → HaveRoom room runners → HaveRoom room runners'
   pub count_same : length runners' ≡ length runners
 
 -- the table is filled up to the place, the runners go on from there, and backtracking is left
 pub record IsSweptTo (a : Asked) (rows : List (Option Ended))
     (runners : List Runner) (roster : Roster) (log : List Logged) : Type 0 where
-  pub filled : IsFilledTo a.unit a.prices a.limits a.place rows (live_at runners)
-  pub noted : AreAllNoted a.unit a.prices a.place (live_at runners) (left_at log runners)
-  pub backtracks : CanBacktrack a.unit a.prices a.place (cost_at rows) (first_at rows) (left_at log runners)
+  pub filled : IsFilledTo a.unit a.prices a.limits a.index rows (live_at runners)
+  pub noted : AreAllNoted a.unit a.prices a.index (live_at runners) (left_at log runners)
+  pub backtracks : CanBacktrack a.unit a.prices a.index (cost_at rows) (first_at rows) (left_at log runners)
   pub traces : AreTraces log runners
-  pub entries : 2 * length log ≤ a.place * (a.place + 3)
-  pub roomy : AreRoomy (periods_of a) a.place a.charge runners
-  pub roster_is : IsRoster (live_at runners) (suc a.place) roster
+  pub entries : 2 * length log ≤ a.index * (a.index + 3)
+  pub roomy : AreRoomy (periods_of a) a.index a.charge runners
+  pub roster_is : IsRoster (live_at runners) (suc a.index) roster
 
 -- there are more than so many rows, runners and places for ends and first periods
 pub record AreLonger (periods : ℕ) (rows : List (Option Ended))

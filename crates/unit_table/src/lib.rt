@@ -12,7 +12,7 @@ pub mod roster;
 pub mod runner;
 pub mod shared;
 
-pub use periods::fill_by_periods;
+pub use periods::fill_table;
 pub use question::{Period, Question};
 pub use runner::Runner;
 pub use shared::Shared;

@@ -27,8 +27,8 @@ ghost use Rattle.unit_rows.specs.Ends.{IsLeastEntry};
 use crate::question::{Period, Question};
 use crate::roster::Roster;
 use crate::runner::{
-    Runner, begin_at, drop_beyond, forget_all, is_less, is_undercut, prune_runners, run_runners,
-    stop_all,
+    Runner, begin_runner_of_period, drop_runners_beyond, forget_runners, is_lesser_cost,
+    is_start_undercut, prune_runners, run_runners, stop_runners,
 };
 use crate::shared::Shared;
 use spell_run::Log;
@@ -39,83 +39,83 @@ use unit_rows::commitment::is_must_off;
 use unit_rows::origins::Origins;
 use unit_rows::table::{Entry, Table, begin_table};
 
-// Begins the runner of the period after the one at a place after its least entry, if that is within
+// Begins the runner of the period after the one at an index after its least entry, if that is within
 // the limit and no runner undercuts it.
 fn start_after(
     unit: &Unit,
-    place: u32,
+    index: u32,
     entry: &Entry,
     limit: i64,
     roster: &mut Roster,
     runners: &mut [Runner],
 )
-    requires small_place { place < MOST_PERIODS }
-    requires runners { suc place < length runners.old }
-    requires list { suc place < length roster.old.firsts.items }
-    requires roster { IsRoster (live_at runners.old) (suc place) roster.old }
-    requires bound { IsWithinTimes (2 * place + 3) entry.now.cost }
+    requires small_place { index < MOST_PERIODS }
+    requires runners { suc index < length runners.old }
+    requires list { suc index < length roster.old.firsts.items }
+    requires roster { IsRoster (live_at runners.old) (suc index) roster.old }
+    requires bound { IsWithinTimes (2 * index + 3) entry.now.cost }
     requires small { AreSmall (live_at runners.old) }
     ensures stands { (π : PriceLists) (limits : ℕ → ℤ) (ends : ℕ → Option ℤ)
-        → limits place ≡ limit →
-        IsLeastEntry (thermal_of unit.now) ends (suc place) entry.now.last entry.now.cost →
-        AreRunners (thermal_of unit.now) π limits ends (live_at runners.old) place
-        (suc place) →
-        AreRunners (thermal_of unit.now) π limits ends (live_at runners.new) place
-        (suc (suc place)) }
-    ensures others { (f : ℕ) → f ≢ suc place → live_at runners.new f ≡ live_at runners.old f }
+        → limits index ≡ limit →
+        IsLeastEntry (thermal_of unit.now) ends (suc index) entry.now.last entry.now.cost →
+        AreRunners (thermal_of unit.now) π limits ends (live_at runners.old) index
+        (suc index) →
+        AreRunners (thermal_of unit.now) π limits ends (live_at runners.new) index
+        (suc (suc index)) }
+    ensures others { (f : ℕ) → f ≢ suc index → live_at runners.new f ≡ live_at runners.old f }
     ensures kept { AreKept runners.old runners.new }
-    ensures roster { IsRoster (live_at runners.new) (suc (suc place)) roster.new }
+    ensures roster { IsRoster (live_at runners.new) (suc (suc index)) roster.new }
     ensures list { length roster.new.firsts.items ≡ length roster.old.firsts.items }
 {
-    if is_less(limit, entry.cost) {
+    if is_lesser_cost(limit, entry.cost) {
         return;
     }
-    if is_undercut(runners, roster, unit.min_power, entry.cost) {
+    if is_start_undercut(runners, roster, unit.min_power, entry.cost) {
         return;
     }
-    begin_at(unit, place + 1, entry, roster, runners);
+    begin_runner_of_period(unit, index + 1, entry, roster, runners);
 }
 
-// Begins the runner of the period after the one at a place, if a spell may begin there within the
+// Begins the runner of the period after the one at an index, if a spell may begin there within the
 // limit and no runner undercuts it.
 fn start_runner(
     unit: &Unit,
-    place: u32,
+    index: u32,
     limit: i64,
     origins: &Origins,
     roster: &mut Roster,
     runners: &mut [Runner],
 )
-    requires small_place { place < MOST_PERIODS }
-    requires list { suc place < length roster.old.firsts.items }
-    requires roster { IsRoster (live_at runners.old) (suc place) roster.old }
-    requires within { AreOriginsWithin place origins.now }
+    requires small_place { index < MOST_PERIODS }
+    requires list { suc index < length roster.old.firsts.items }
+    requires roster { IsRoster (live_at runners.old) (suc index) roster.old }
+    requires within { AreOriginsWithin index origins.now }
     requires order { AreInOrder origins.now }
-    requires runners { suc place < length runners.old }
+    requires runners { suc index < length runners.old }
     requires small { AreSmall (live_at runners.old) }
     ensures stands { (π : PriceLists) (limits : ℕ → ℤ) (ends : ℕ → Option ℤ)
-        → limits place ≡ limit →
-        AreOrigins (thermal_of unit.now) ends place origins.now →
-        AreRunners (thermal_of unit.now) π limits ends (live_at runners.old) place
-        (suc place) →
-        AreRunners (thermal_of unit.now) π limits ends (live_at runners.new) place
-        (suc (suc place)) }
-    ensures others { (f : ℕ) → f ≢ suc place → live_at runners.new f ≡ live_at runners.old f }
+        → limits index ≡ limit →
+        AreOrigins (thermal_of unit.now) ends index origins.now →
+        AreRunners (thermal_of unit.now) π limits ends (live_at runners.old) index
+        (suc index) →
+        AreRunners (thermal_of unit.now) π limits ends (live_at runners.new) index
+        (suc (suc index)) }
+    ensures others { (f : ℕ) → f ≢ suc index → live_at runners.new f ≡ live_at runners.old f }
     ensures kept { AreKept runners.old runners.new }
-    ensures roster { IsRoster (live_at runners.new) (suc (suc place)) roster.new }
+    ensures roster { IsRoster (live_at runners.new) (suc (suc index)) roster.new }
     ensures list { length roster.new.firsts.items ≡ length roster.old.firsts.items }
 {
     start_costs_are_within();
     if !origins.is_within(limit) {
         return;
     }
-    match origins.least(unit, place) {
-        Some(entry) => start_after(unit, place, &entry, limit, roster, runners),
+    match origins.least(unit, index) {
+        Some(entry) => start_after(unit, index, &entry, limit, roster, runners),
         None => {}
     }
 }
 
-// Fills the row of the period at a place.
+// Fills the row of the period at an index.
 fn take_period(
     period: &Period,
     origins: &Origins,
@@ -131,27 +131,27 @@ fn take_period(
         (asked period.now).limits }
     requires now { IsSweptTo (asked period.now) table.old.items runners.old roster.old
         shared.old.log.items }
-    requires origins { AreOrigins (asked period.now).unit (cost_at table.old.items) period.now.place
+    requires origins { AreOrigins (asked period.now).unit (cost_at table.old.items) period.now.index
         origins.now }
-    ensures now { IsSweptTo (asked_at period.now.question.now (suc period.now.place))
+    ensures now { IsSweptTo (asked_at period.now.question.now (suc period.now.index))
         table.new.items runners.new roster.new shared.new.log.items }
-    ensures others { (l : ℕ) → l ≢ suc period.now.place → row_at table.new.items l ≡ row_at table.old.items l }
+    ensures others { (l : ℕ) → l ≢ suc period.now.index → row_at table.new.items l ≡ row_at table.old.items l }
     ensures spare { space_of shared.new.spare ≡ space_of shared.old.spare }
     ensures same { AreAsLong table.old.items table.new.items runners.old runners.new
         roster.old roster.new shared.old.log shared.new.log }
 {
     let question = period.question;
-    let place = period.place;
-    if is_must_off(question.unit, place) {
-        stop_all(runners);
+    let index = period.index;
+    if is_must_off(question.unit, index) {
+        stop_runners(runners);
         roster.clear();
         return;
     }
     runs_go_on();
     dispatches_go_on();
     dispatches_are_runs();
-    let limit = *question.limits.get(place as usize);
-    start_runner(question.unit, place, limit, origins, roster, runners);
+    let limit = *question.limits.get(index as usize);
+    start_runner(question.unit, index, limit, origins, roster, runners);
     run_runners(
         period,
         roster,
@@ -160,18 +160,18 @@ fn take_period(
         &mut shared.spare,
         &mut shared.log,
     );
-    drop_beyond(
-        place + 1,
-        *question.limits.get(place as usize + 1),
+    drop_runners_beyond(
+        index + 1,
+        *question.limits.get(index as usize + 1),
         roster,
         runners,
     );
-    prune_runners(question.unit, place + 1, roster, runners);
+    prune_runners(question.unit, index + 1, roster, runners);
     roster.keep(runners);
 }
 
 // Begins the runner of the spells that go on from before the horizon, where the unit is on then.
-fn go_on(unit: &Unit, roster: &mut Roster, runners: &mut [Runner])
+fn continue_initial_spell(unit: &Unit, roster: &mut Roster, runners: &mut [Runner])
     requires some { 1 ≤ length runners.old }
     requires list { 1 ≤ length roster.old.firsts.items }
     requires none { roster.old.count ≡ 0 }
@@ -184,12 +184,12 @@ fn go_on(unit: &Unit, roster: &mut Roster, runners: &mut [Runner])
 {
     if unit.on0 {
         let entry = Entry { cost: 0, last: 0 };
-        begin_at(unit, 0, &entry, roster, runners);
+        begin_runner_of_period(unit, 0, &entry, roster, runners);
     }
 }
 
 // The table and the runners before the first period.
-fn begin_all(
+fn begin_horizon(
     unit: &Unit,
     roster: &mut Roster,
     runners: &mut [Runner],
@@ -211,10 +211,10 @@ fn begin_all(
         roster.old roster.new log.old log.new }
 {
     begin_table(unit, table);
-    forget_all(runners);
+    forget_runners(runners);
     log.clear();
     roster.clear();
-    go_on(unit, roster, runners);
+    continue_initial_spell(unit, roster, runners);
 }
 
 /// Fills the table for a question over T periods, as far as its rows are within the limits of some
@@ -222,7 +222,7 @@ fn begin_all(
 /// pieces as `shared`, T (B + 3) at least where the curve has B blocks; `origins`, `roster` and the
 /// log of `shared` have room for T periods, and `table` has at least T + 1 rows. Leaves in the log
 /// what backtracking from each row needs. Takes no memory.
-pub fn fill_by_periods(
+pub fn fill_table(
     question: &Question,
     origins: &mut Origins,
     roster: &mut Roster,
@@ -251,15 +251,15 @@ pub fn fill_by_periods(
 {
     start_costs_are_within();
     let unit = question.unit;
-    begin_all(unit, roster, runners, table, &mut shared.log);
+    begin_horizon(unit, roster, runners, table, &mut shared.log);
     origins.begin(unit, table.as_slice());
     let periods = question.prices.energy.len() as u32;
-    for place in 0..periods {
+    for index in 0..periods {
         let period = Period {
             question: &*question,
-            place,
+            index,
         };
         take_period(&period, origins, roster, runners, table, shared);
-        origins.go_on(unit, place, table.as_slice());
+        origins.go_on(unit, index, table.as_slice());
     }
 }

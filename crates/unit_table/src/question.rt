@@ -25,6 +25,6 @@ pub struct Question<'a> {
 #[derive(Clone, Copy)]
 pub struct Period<'a> {
     pub question: &'a Question<'a>,
-    pub place: u32,
-    ghost inside: { place < length (prices_of question.now.prices.now).energy },
+    pub index: u32,
+    ghost inside: { index < length (prices_of question.now.prices.now).energy },
 }

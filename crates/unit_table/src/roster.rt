@@ -66,8 +66,8 @@ impl Roster {
         ensures length { length self.new.firsts.items ≡ length self.old.firsts.items }
     {
         let mut kept = 0;
-        for place in 0..self.count {
-            let first = *self.firsts.get(place as usize);
+        for index in 0..self.count {
+            let first = *self.firsts.get(index as usize);
             if runner_at(runners, first).is_on {
                 self.firsts.set(kept as usize, first);
                 kept += 1;

@@ -31,13 +31,13 @@ ghost use Rattle.unit_table.specs.Taken.{IsRunOver};
 use crate::question::Period;
 use crate::roster::Roster;
 use slope_list::{Lowest, Slopes, Spare};
-use spell_run::notes::leave_entry;
-use spell_run::{Log, Passage, Passed, Trace, begin_spell, end_and_run, run_over};
+use spell_run::notes::log_entry;
+use spell_run::{Log, Passage, Passed, Trace, begin_spell, run_over_and_end, run_over_period};
 use uc_model::units::Unit;
-use unit_rows::commitment::{is_long_enough, may_end};
-use unit_rows::table::{Entry, Table, put_end, sum_of};
+use unit_rows::commitment::{is_long_enough, may_end_spell};
+use unit_rows::table::{Entry, Table, keep_spell_end, sum_of_costs};
 
-/// The spells that begin with one period; its place in a list of runners is that period, and 0
+/// The spells that begin with one period; its index in a list of runners is that period, and 0
 /// stands for spells that go on from before the horizon. Where it isn't on, the rest is open.
 pub struct Runner {
     pub is_on: bool,
@@ -98,8 +98,8 @@ pub(crate) fn runner_at(runners: &[Runner], first: u32) -> &Runner
     &runners[first as usize]
 }
 
-// Begins the runner at a place after an entry.
-fn begin_in(unit: &Unit, first: u32, entry: &Entry, runners: &mut [Runner])
+// Begins the runner at an index after an entry.
+fn begin_listed_runner(unit: &Unit, first: u32, entry: &Entry, runners: &mut [Runner])
     requires end { first < length runners.old }
     ensures begun { (r : Going) × (live_at runners.new first ≡ Some r)
         × IsBegun (thermal_of unit.now) first entry.now.last entry.now.cost r }
@@ -111,7 +111,7 @@ fn begin_in(unit: &Unit, first: u32, entry: &Entry, runners: &mut [Runner])
 
 /// Begins the runner of a period after an entry, and puts the period into the roster, which has
 /// earlier ones.
-pub(crate) fn begin_at(
+pub(crate) fn begin_runner_of_period(
     unit: &Unit,
     first: u32,
     entry: &Entry,
@@ -129,19 +129,19 @@ pub(crate) fn begin_at(
     ensures roster { IsRoster (live_at runners.new) (suc first) roster.new }
     ensures list { length roster.new.firsts.items ≡ length roster.old.firsts.items }
 {
-    begin_in(unit, first, entry, runners);
+    begin_listed_runner(unit, first, entry, runners);
     roster.add(first);
 }
 
-// Stops the runner at a place.
-fn stop_at(runners: &mut [Runner], place: usize)
-    requires { place < length runners.old }
-    ensures off { live_at runners.new place ≡ None }
-    ensures others { (f : ℕ) → f ≢ place → live_at runners.new f ≡ live_at runners.old f }
+// Stops the runner at an index.
+fn stop_runner_at(runners: &mut [Runner], index: usize)
+    requires { index < length runners.old }
+    ensures off { live_at runners.new index ≡ None }
+    ensures others { (f : ℕ) → f ≢ index → live_at runners.new f ≡ live_at runners.old f }
     ensures fewer { AreFewer (live_at runners.old) (live_at runners.new) }
     ensures kept { AreKept runners.old runners.new }
 {
-    stop_runner(&mut runners[place]);
+    stop_runner(&mut runners[index]);
 }
 
 // Stops a runner, and forgets what it left.
@@ -154,35 +154,35 @@ fn forget_runner(runner: &mut Runner)
     runner.trace = Trace::none();
 }
 
-// Stops the runner at a place, and forgets what it left.
-fn forget_at(runners: &mut [Runner], place: usize)
-    requires { place < length runners.old }
-    ensures off { live_at runners.new place ≡ None }
-    ensures none { (r : Runner) → slice_get runners.new place ≡ Some r → r.trace.count ≡ 0 }
-    ensures others { (f : ℕ) → f ≢ place → slice_get runners.new f ≡ slice_get runners.old f }
+// Stops the runner at an index, and forgets what it left.
+fn forget_runner_at(runners: &mut [Runner], index: usize)
+    requires { index < length runners.old }
+    ensures off { live_at runners.new index ≡ None }
+    ensures none { (r : Runner) → slice_get runners.new index ≡ Some r → r.trace.count ≡ 0 }
+    ensures others { (f : ℕ) → f ≢ index → slice_get runners.new f ≡ slice_get runners.old f }
     ensures rooms { HaveSameRooms runners.old runners.new }
 {
-    forget_runner(&mut runners[place]);
+    forget_runner(&mut runners[index]);
 }
 
 /// Stops all runners, and forgets what they left.
-pub fn forget_all(runners: &mut [Runner])
+pub fn forget_runners(runners: &mut [Runner])
     ensures off { (first : ℕ) → live_at runners.new first ≡ None }
     ensures none { (first : ℕ) (r : Runner) → slice_get runners.new first ≡ Some r → r.trace.count ≡ 0 }
     ensures rooms { HaveSameRooms runners.old runners.new }
 {
-    for place in 0..runners.len() {
-        forget_at(runners, place);
+    for index in 0..runners.len() {
+        forget_runner_at(runners, index);
     }
 }
 
 /// Stops all runners.
-pub fn stop_all(runners: &mut [Runner])
+pub fn stop_runners(runners: &mut [Runner])
     ensures off { (first : ℕ) → live_at runners.new first ≡ None }
     ensures kept { AreKept runners.old runners.new }
 {
-    for place in 0..runners.len() {
-        stop_at(runners, place);
+    for index in 0..runners.len() {
+        stop_runner_at(runners, index);
     }
 }
 
@@ -202,7 +202,7 @@ fn value_at_first(running: &Slopes, power: i64) -> Option<i64>
     }
 }
 
-pub(crate) fn is_less(a: i64, b: i64) -> bool
+pub(crate) fn is_lesser_cost(a: i64, b: i64) -> bool
     ensures { IsTrue result → (a +ℤ pos 1) ≤ℤ b }
 {
     a < b
@@ -217,13 +217,13 @@ fn undercuts_start(runner: &Runner, power: i64, cost: i64) -> bool
         (IsUnder power cost (state_of runner.now)) }
 {
     match value_at_first(&runner.running, power) {
-        Some(value) => is_less(sum_of(runner.cost, value), cost),
+        Some(value) => is_lesser_cost(sum_of_costs(runner.cost, value), cost),
         None => false,
     }
 }
 
 // Whether the runner that begins with a period is on, and undercuts a cost at a power.
-fn undercuts_from(runners: &[Runner], first: u32, power: i64, cost: i64) -> bool
+fn runner_undercuts(runners: &[Runner], first: u32, power: i64, cost: i64) -> bool
     requires room { first < length runners.now }
     requires small { AreSmall (live_at runners.now) }
     ensures { OnTrue result ((r : Going) × (live_at runners.now first ≡ Some r)
@@ -237,63 +237,63 @@ fn undercuts_from(runners: &[Runner], first: u32, power: i64, cost: i64) -> bool
 }
 
 /// Whether one of the runners of a roster is at a power, its first, for less than a cost.
-pub fn is_undercut(runners: &[Runner], roster: &Roster, power: i64, cost: i64) -> bool
+pub fn is_start_undercut(runners: &[Runner], roster: &Roster, power: i64, cost: i64) -> bool
     requires roster { IsRoster (live_at runners.now) (length runners.now) roster.now }
     requires small { AreSmall (live_at runners.now) }
     ensures { OnTrue result ((first : ℕ) × (r : Going)
         × (live_at runners.now first ≡ Some r) × IsUnder power cost r) }
 {
-    for place in 0..roster.count {
-        if undercuts_from(runners, *roster.firsts.get(place as usize), power, cost) {
+    for index in 0..roster.count {
+        if runner_undercuts(runners, *roster.firsts.get(index as usize), power, cost) {
             return true;
         }
     }
     false
 }
 
-// Takes a runner over the period at a place, and answers what is left for backtracking, with the
+// Takes a runner over the period at an index, and answers what is left for backtracking, with the
 // least net cost of the spells that end with the period, where the unit may stop after it.
-fn run_one(period: &Period, first: u32, running: &mut Slopes, spare: &mut Spare) -> Passed
-    requires order { first ≤ suc period.now.place }
+fn step_runner(period: &Period, first: u32, running: &mut Slopes, spare: &mut Spare) -> Passed
+    requires order { first ≤ suc period.now.index }
     requires frontier { IsFrontier (asked period.now).unit (asked period.now).prices first
-        period.now.place (shown running.old) }
+        period.now.index (shown running.old) }
     requires room { MayGrow (asked period.now).charge running.old spare.old }
-    ensures answer { (suc period.now.place < periods_of (asked period.now) →
+    ensures answer { (suc period.now.index < periods_of (asked period.now) →
         (asked period.now).unit.min_up ≤ on_time (asked period.now).unit first
-        (suc period.now.place)) → IsSpellAnswer (asked period.now).unit (asked period.now).prices
-        (periods_of (asked period.now)) first (suc period.now.place) (end_cost result.end) }
-    ensures may { IfSome result.end (λ _. suc period.now.place < periods_of (asked period.now) →
+        (suc period.now.index)) → IsSpellAnswer (asked period.now).unit (asked period.now).prices
+        (periods_of (asked period.now)) first (suc period.now.index) (end_cost result.end) }
+    ensures may { IfSome result.end (λ _. suc period.now.index < periods_of (asked period.now) →
         (asked period.now).unit.min_up ≤ on_time (asked period.now).unit first
-        (suc period.now.place)) }
-    ensures within { IfSome result.end (λ e. IsSpellWithin first (suc period.now.place) e.value) }
+        (suc period.now.index)) }
+    ensures within { IfSome result.end (λ e. IsSpellWithin first (suc period.now.index) e.value) }
     ensures ended { IfSome result.end (IsEndNoted (asked period.now).unit (asked period.now).prices
-        first period.now.place result.note) }
+        first period.now.index result.note) }
     ensures noted { (x v : ℤ) → value_of (shown running.old) x ≡ Some v
-        → IsOnNoted (asked period.now).unit (asked period.now).prices first period.now.place
+        → IsOnNoted (asked period.now).unit (asked period.now).prices first period.now.index
         result.note }
     ensures frontier { IsFrontier (asked period.now).unit (asked period.now).prices first
-        (suc period.now.place) (shown running.new) }
+        (suc period.now.index) (shown running.new) }
     ensures grown { IsGrown (asked period.now).charge running.old running.new spare.old spare.new }
 {
     let question = period.question;
-    let place = period.place;
+    let index = period.index;
     let unit = question.unit;
     let curve = question.curve;
     let prices = question.prices;
     let passage = Passage {
         first,
-        place: place as usize,
+        index: index as usize,
     };
-    if may_end(unit, prices.energy.len() as u32, first, place + 1) {
-        end_and_run(unit, curve, prices, passage, running, spare)
+    if may_end_spell(unit, prices.energy.len() as u32, first, index + 1) {
+        run_over_and_end(unit, curve, prices, passage, running, spare)
     } else {
-        let note = run_over(unit, curve, prices, passage, running, spare);
+        let note = run_over_period(unit, curve, prices, passage, running, spare);
         Passed { note, end: None }
     }
 }
 
 // The cost of an end.
-fn cost_of(end: Option<Lowest>) -> Option<i64>
+fn cost_of_end(end: Option<Lowest>) -> Option<i64>
     ensures { result ≡ end_cost end }
 {
     match end {
@@ -316,7 +316,7 @@ fn stop_if_ended(runner: &mut Runner)
     }
 }
 
-// Takes a runner that is on over the period at a place, leaves in the log what its backtracking needs,
+// Takes a runner that is on over the period at an index, leaves in the log what its backtracking needs,
 // and puts the spells that end with the period into the table.
 fn take_runner(
     period: &Period,
@@ -328,7 +328,7 @@ fn take_runner(
 )
     requires on { runner.old.is_on ≡ true }
     requires ready { IsReady (asked period.now) first (state_of runner.old) }
-    requires room { IsRoomy (periods_of (asked period.now)) period.now.place
+    requires room { IsRoomy (periods_of (asked period.now)) period.now.index
         (asked period.now).charge first runner.old }
     requires alike { space_of spare.old ≡ room_of runner.old.running }
     requires rows { periods_of (asked period.now) < length table.old.items }
@@ -339,18 +339,18 @@ fn take_runner(
     ensures more { IsRowMore (asked period.now) first (going_of (Some runner.old)) table.old.items
         table.new.items }
     ensures goes { (r : Going) → going_of (Some runner.old) ≡ Some r
-        → IsGoneOn (asked period.now).unit (asked period.now).prices period.now.place first r
+        → IsGoneOn (asked period.now).unit (asked period.now).prices period.now.index first r
         (going_of (Some runner.new)) }
-    ensures ends { (row_at table.new.items (suc period.now.place)
-        ≡ row_at table.old.items (suc period.now.place))
-        ⊎ ((first_at table.new.items (suc period.now.place) ≡ first)
-        × IsEndLeft (asked period.now).unit (asked period.now).prices first period.now.place (since
-        first (left_by log.new.items runner.new.trace) period.now.place)) }
+    ensures ends { (row_at table.new.items (suc period.now.index)
+        ≡ row_at table.old.items (suc period.now.index))
+        ⊎ ((first_at table.new.items (suc period.now.index) ≡ first)
+        × IsEndLeft (asked period.now).unit (asked period.now).prices first period.now.index (since
+        first (left_by log.new.items runner.new.trace) period.now.index)) }
     ensures noted { (x v : ℤ) → value_of (shown runner.old.running) x ≡ Some v
-        → IsOnNoted (asked period.now).unit (asked period.now).prices first period.now.place (since
-        first (left_by log.new.items runner.new.trace) period.now.place).note }
+        → IsOnNoted (asked period.now).unit (asked period.now).prices first period.now.index (since
+        first (left_by log.new.items runner.new.trace) period.now.index).note }
     ensures entry { IsEntryMore log.old log.new runner.old.trace runner.new.trace }
-    ensures room { IsRoomy (periods_of (asked period.now)) (suc period.now.place)
+    ensures room { IsRoomy (periods_of (asked period.now)) (suc period.now.index)
         (asked period.now).charge first runner.new }
     ensures same { room_of runner.new.running ≡ room_of runner.old.running }
     ensures spare { space_of spare.new ≡ space_of spare.old }
@@ -359,15 +359,15 @@ fn take_runner(
         cost: runner.cost,
         last: runner.before,
     };
-    let passed = run_one(period, first, &mut runner.running, spare);
-    let place = period.place;
-    runner.trace = leave_entry(log, runner.trace, passed);
-    put_end(table, place + 1, first, &entry, cost_of(passed.end));
+    let passed = step_runner(period, first, &mut runner.running, spare);
+    let index = period.index;
+    runner.trace = log_entry(log, runner.trace, passed);
+    keep_spell_end(table, index + 1, first, &entry, cost_of_end(passed.end));
     stop_if_ended(runner);
 }
 
-// Takes the runner that begins with a period over the period at a place, if it is on.
-fn run_at(
+// Takes the runner that begins with a period over the period at an index, if it is on.
+fn run_runner_at(
     period: &Period,
     first: u32,
     runners: &mut [Runner],
@@ -379,7 +379,7 @@ fn run_at(
     requires ready { (r : Going) → live_at runners.old first ≡ Some r
         → IsReady (asked period.now) first r }
     requires room { (r : Runner) → slice_get runners.old first ≡ Some r
-        → IsRoomy (periods_of (asked period.now)) period.now.place (asked period.now).charge first r }
+        → IsRoomy (periods_of (asked period.now)) period.now.index (asked period.now).charge first r }
     requires alike { (r : Runner) → slice_get runners.old first ≡ Some r
         → space_of spare.old ≡ room_of r.running }
     requires rows { periods_of (asked period.now) < length table.old.items }
@@ -401,7 +401,7 @@ fn run_at(
     }
 }
 
-/// Takes all runners that begin up to the period at a place over it, and fills its row. The roster
+/// Takes all runners that begin up to the period at an index over it, and fills its row. The roster
 /// has all that are on.
 pub fn run_runners(
     period: &Period,
@@ -411,26 +411,26 @@ pub fn run_runners(
     spare: &mut Spare,
     log: &mut Log,
 )
-    requires open { mark_in (asked period.now).unit.window (suc period.now.place) ≡ MustOff → ⊥ }
+    requires open { mark_in (asked period.now).unit.window (suc period.now.index) ≡ MustOff → ⊥ }
     requires runners { periods_of (asked period.now) < length runners.old }
     requires now { (limits : ℕ → ℤ) × AreRunners (asked period.now).unit (asked period.now).prices
-        limits (cost_at table.old.items) (live_at runners.old) period.now.place (suc
-        (suc period.now.place)) }
-    requires roster { IsRoster (live_at runners.old) (suc (suc period.now.place)) roster.now }
-    requires room { AreRoomy (periods_of (asked period.now)) period.now.place
+        limits (cost_at table.old.items) (live_at runners.old) period.now.index (suc
+        (suc period.now.index)) }
+    requires roster { IsRoster (live_at runners.old) (suc (suc period.now.index)) roster.now }
+    requires room { AreRoomy (periods_of (asked period.now)) period.now.index
         (asked period.now).charge runners.old }
     requires have { HaveRoom (space_of spare.old) runners.old }
-    requires log { IsLogFor (suc (suc period.now.place)) log.old runners.old }
+    requires log { IsLogFor (suc (suc period.now.index)) log.old runners.old }
     requires rows { periods_of (asked period.now) < length table.old.items }
     requires within { AreWithin table.old.items }
-    requires none { cost_at table.old.items (suc period.now.place) ≡ None }
+    requires none { cost_at table.old.items (suc period.now.index) ≡ None }
     ensures run { IsRunOver (asked period.now) table.old.items table.new.items runners.old
         runners.new log.old log.new }
     ensures spare { space_of spare.new ≡ space_of spare.old }
 {
     for index in 0..roster.count {
         let first = *roster.firsts.get(index as usize);
-        run_at(period, first, runners, table, spare, log);
+        run_runner_at(period, first, runners, table, spare, log);
     }
 }
 
@@ -464,7 +464,7 @@ fn is_dominated(unit: &Unit, period: u32, first: u32, late: &Runner, early: &Run
 }
 
 // Stops a runner where a later one stands for it, and answers the earliest one that is on then.
-fn prune_one(
+fn prune_runner(
     unit: &Unit,
     period: u32,
     early: u32,
@@ -491,7 +491,7 @@ fn prune_one(
     }
     if let Some(first) = late {
         if is_dominated(unit, period, first, runner_at(runners, first), runner) {
-            stop_at(runners, early as usize);
+            stop_runner_at(runners, early as usize);
             return Some(first);
         }
     }
@@ -514,12 +514,12 @@ pub fn prune_runners(unit: &Unit, period: u32, roster: &Roster, runners: &mut [R
     let mut late = None;
     for back in 0..roster.count {
         let first = *roster.firsts.get((roster.count - back) as usize - 1);
-        late = prune_one(unit, period, first, late, runners);
+        late = prune_runner(unit, period, first, late, runners);
     }
 }
 
 // Whether a runner is above a cost at each power.
-fn is_beyond(runner: &Runner, limit: i64) -> bool
+fn is_beyond_limit(runner: &Runner, limit: i64) -> bool
     requires bound { IsWithinTimes 400 runner.now.cost }
     requires values { (x v : ℤ) → value_of (shown runner.now.running) x ≡ Some v
         → IsWithinTimes 400 v }
@@ -529,7 +529,7 @@ fn is_beyond(runner: &Runner, limit: i64) -> bool
 }
 
 // Stops the runner that begins with a period, if it is above the limit at each power.
-fn drop_at(limit: i64, first: u32, runners: &mut [Runner])
+fn drop_runner_at(limit: i64, first: u32, runners: &mut [Runner])
     requires end { first < length runners.old }
     requires small { AreSmall (live_at runners.old) }
     ensures stands { (g : ThermalUnit) (π : PriceLists) (limits : ℕ → ℤ) (ends : ℕ
@@ -543,14 +543,14 @@ fn drop_at(limit: i64, first: u32, runners: &mut [Runner])
     if !runner.is_on {
         return;
     }
-    if is_beyond(runner, limit) {
-        stop_at(runners, first as usize);
+    if is_beyond_limit(runner, limit) {
+        stop_runner_at(runners, first as usize);
     }
 }
 
 /// Stops each runner that is above the limit of a period at each power. The roster has all that are
 /// on.
-pub fn drop_beyond(period: u32, limit: i64, roster: &Roster, runners: &mut [Runner])
+pub fn drop_runners_beyond(period: u32, limit: i64, roster: &Roster, runners: &mut [Runner])
     requires end { period < length runners.old }
     requires small { AreSmall (live_at runners.old) }
     requires roster { IsRoster (live_at runners.old) (suc period) roster.now }
@@ -561,7 +561,7 @@ pub fn drop_beyond(period: u32, limit: i64, roster: &Roster, runners: &mut [Runn
     ensures fewer { AreFewer (live_at runners.old) (live_at runners.new) }
     ensures kept { AreKept runners.old runners.new }
 {
-    for place in 0..roster.count {
-        drop_at(limit, *roster.firsts.get(place as usize), runners);
+    for index in 0..roster.count {
+        drop_runner_at(limit, *roster.firsts.get(index as usize), runners);
     }
 }

@@ -25,7 +25,7 @@ impl Drop for Shared {
 
 /// Room enough for the entries of a log: at each period one for each runner that began by then, the
 /// one that was on before the horizon among them. (One more spares a proof that the product is even.)
-fn most_entries(periods: u32) -> u32
+fn most_log_entries(periods: u32) -> u32
     requires { periods ≤ MOST_PERIODS }
     ensures { periods * (periods + 3) ≤ 2 * result }
 {
@@ -42,7 +42,7 @@ impl Shared {
         ensures log { IfOk result (λ s. HasRoomFor periods s.log) }
     {
         let spare = Spare::make(alloc, pieces)?;
-        let log = ReservedList::make(alloc, most_entries(periods))?;
+        let log = ReservedList::make(alloc, most_log_entries(periods))?;
         Ok(Shared { spare, log })
     }
 }

@@ -11,27 +11,27 @@ loop-init g c = (
   (omega arith, λ k d low high. absurd (omega (arith, high))),
 )
 
-pub returns-in-Some-ended_by-clause-worked : goal.returns-in-Some-ended_by-clause-worked
-returns-in-Some-ended_by-clause-worked g c =
-    works_on c.args.worker.now c.loop.worker c.next_visit-outcome.new.worker c.loop.invariant.3
-    c.next_visit-outcome.ensures.worked
+pub returns-in-Some-end_told_by_claim-clause-worked : goal.returns-in-Some-end_told_by_claim-clause-worked
+returns-in-Some-end_told_by_claim-clause-worked g c =
+    works_on c.args.worker.now c.loop.worker c.visit_or_wait-outcome.new.worker c.loop.invariant.3
+    c.visit_or_wait-outcome.ensures.worked
 
-pub returns-in-Some-ended_by-clause-ended : goal.returns-in-Some-ended_by-clause-ended
-returns-in-Some-ended_by-clause-ended g c =
-    c.in-Some-ended_by.ensures.ended c.next_visit-outcome.new.worker c.next_visit-outcome.ensures.told
+pub returns-in-Some-end_told_by_claim-clause-ended : goal.returns-in-Some-end_told_by_claim-clause-ended
+returns-in-Some-end_told_by_claim-clause-ended g c =
+    c.in-Some-end_told_by_claim.ensures.ended c.visit_or_wait-outcome.new.worker c.visit_or_wait-outcome.ensures.told
 
 pub loop-preserved : goal.loop-preserved
 loop-preserved g c =
     let a = c.loop.invariant in
-    let visited = c.next_visit-outcome.new.worker in
-    let claimed = c.next_visit-outcome.ensures.worked in
-    let answers = c.answer_each.ensures in
-    let answered = seat_stays visited c.answer_each.new.worker answers.seat answers.parts in (
+    let visited = c.visit_or_wait-outcome.new.worker in
+    let claimed = c.visit_or_wait-outcome.ensures.worked in
+    let answers = c.answer_held_tasks.ensures in
+    let answered = seat_stays visited c.answer_held_tasks.new.worker answers.seat answers.parts in (
       a.0,
       a.1,
-      still_of c.args.board.now visited c.answer_each.new.worker
+      still_of c.args.board.now visited c.answer_held_tasks.new.worker
           (still_of c.args.board.now c.loop.worker visited a.2 claimed) answered,
-      works_on c.args.worker.now visited c.answer_each.new.worker
+      works_on c.args.worker.now visited c.answer_held_tasks.new.worker
           (works_on c.args.worker.now c.loop.worker visited a.3 claimed) answered,
       answers.answered,
     )

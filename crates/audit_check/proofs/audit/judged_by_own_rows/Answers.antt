@@ -26,7 +26,7 @@ unfolding report_of
 right_rows-requires-clause-ahead g c = λ κs out. (c.requires.bounds.ahead_at_least, c.requires.bounds.ahead_at_most)
 
 pub make-requires-2 : goal.make-requires-2
-make-requires-2 g c = c.last_bench.ensures (market_of c.args.case.now) c.right_rows.ensures.jobs
+make-requires-2 g c = c.bench_of_last_job.ensures (market_of c.args.case.now) c.right_rows.ensures.jobs
 
 pub verdict_of_rows-audit-requires-clause-run : goal.verdict_of_rows-audit-requires-clause-run
 unfolding report_of

@@ -2,19 +2,19 @@ use Rattle.audit_check.proofs.Common.{List, length, sym, ap, ◌∙◌, subst, w
 use Rattle.audit_check.proofs.Common.{AreFor, HaveBegun}
 use Rattle.audit_check.proofs.row.begin_jobs.Goals as goal
 
-pub begin_all-requires-clause-jobs : goal.begin_all-requires-clause-jobs
-begin_all-requires-clause-jobs c = subst (λ (xs : List Answerer). AreFor (market_of c.args.case.now) xs)
+pub begin_each_job-requires-clause-jobs : goal.begin_each_job-requires-clause-jobs
+begin_each_job-requires-clause-jobs c = subst (λ (xs : List Answerer). AreFor (market_of c.args.case.now) xs)
     (sym c.as_mut_slice.ensures.value) c.requires.jobs
 
 pub returns-clause-count : goal.returns-clause-count
 returns-clause-count c =
     let lent = c.as_mut_slice.ensures in
-    let same = with_items_is c.args.jobs.now c.begin_all.new.jobs (c.begin_all.ensures.count ∙ lent.len) in
-    ap length same ∙ c.begin_all.ensures.count ∙ ap length lent.value
+    let same = with_items_is c.args.jobs.now c.begin_each_job.new.jobs (c.begin_each_job.ensures.count ∙ lent.len) in
+    ap length same ∙ c.begin_each_job.ensures.count ∙ ap length lent.value
 
 pub returns-clause-begun : goal.returns-clause-begun
 returns-clause-begun c =
     let lent = c.as_mut_slice.ensures in
-    let same = with_items_is c.args.jobs.now c.begin_all.new.jobs (c.begin_all.ensures.count ∙ lent.len) in
+    let same = with_items_is c.args.jobs.now c.begin_each_job.new.jobs (c.begin_each_job.ensures.count ∙ lent.len) in
     subst (λ (xs : List Answerer). HaveBegun (market_of c.args.case.now) (prices_of c.args.prices.now) xs) (sym same)
-    c.begin_all.ensures.begun
+    c.begin_each_job.ensures.begun

@@ -5,8 +5,8 @@ use Rattle.uc_model.specs.declared.cases.Row.{Row}
 use Rattle.audit_check.proofs.Lemmas.{row_below, goes_on, ends_at_budget, ends_settled, cost_worth, one_longer}
 use Rattle.audit_check.proofs.rows.right_rows.Goals as goal
 
-pub next_into-requires-clause-cost : goal.next_into-requires-clause-cost
-next_into-requires-clause-cost g c =
+pub write_next_prices-requires-clause-cost : goal.write_next_prices-requires-clause-cost
+write_next_prices-requires-clause-cost g c =
     rw (to_z-of_z w128 c.args.cost c.ranges.cost)
     (cost_worth c.plan_costs_are_within.ensures (market_of c.args.case.now) c.args.cost c.args.case.now.valid
     c.requires.cost)
@@ -16,17 +16,18 @@ loop-preserved g c =
     let m = market_of c.args.case.now in
     let known = c.loop.invariant in
     let rows = map proposal_of c.loop.rows.items in
-    let yes : IsTrue c.next_into.result = search rules in
+    let yes : IsTrue c.write_next_prices.result = search rules in
     let r = proposal_of c.in_ok-row.row in
-    let π = prices_of c.next_into.new.into in
+    let π = prices_of c.write_next_prices.new.into in
     let after : IsNextProposal m c.args.cost c.args.ahead (map proposal_of c.as_slice.result.now) π =
-    rw (to_z-of_z w128 c.args.cost c.ranges.cost) at (c.next_into.ensures.next yes) in
+    rw (to_z-of_z w128 c.args.cost c.ranges.cost) at (c.write_next_prices.ensures.next yes) in
     let next = subst (λ (xs : List Row). IsNextProposal m c.args.cost c.args.ahead (map proposal_of xs) π)
     c.as_slice.ensures after in
     let at = c.in_ok-row.ensures.row in
     let below = row_below c.units_are_within.ensures c.outputs_are_within.ensures c.totals_are_within.ensures
     c.dual_values_are_within.ensures c.dual_is_at_most_cost.ensures
-    m c.args.cost π r c.args.case.now.valid c.next_into.new.into.valid c.next_into.ensures.horizon c.requires.cost at in
+    m c.args.cost π r c.args.case.now.valid c.write_next_prices.new.into.valid c.write_next_prices.ensures.horizon
+    c.requires.cost at in
     let more = goes_on m c.args.cost c.args.ahead c.requires.ahead.0 rows
     (rw (to_z-of_z w128 c.args.cost c.ranges.cost) at known.run) π r next at below in
     let pushed : map proposal_of c.push.new.self.items ≡ rows ++ r ∷ [] = ap (map proposal_of) c.push.ensures.items ∙
@@ -46,14 +47,14 @@ loop-preserved g c =
       jobs = c.in_ok-row.ensures.jobs;
     }
 
-pub returns-then-not-next_into-clause-run : goal.returns-then-not-next_into-clause-run
-returns-then-not-next_into-clause-run g c =
+pub returns-then-not-write_next_prices-clause-run : goal.returns-then-not-write_next_prices-clause-run
+returns-then-not-write_next_prices-clause-run g c =
     let m = market_of c.args.case.now in
     let known = c.loop.invariant in
     let rows = map proposal_of c.loop.rows.items in
-    let no : IsFalse c.next_into.result = search rules in
+    let no : IsFalse c.write_next_prices.result = search rules in
     let after : IsLast m c.args.cost c.args.ahead (map proposal_of c.as_slice.result.now) =
-    rw (to_z-of_z w128 c.args.cost c.ranges.cost) at (c.next_into.ensures.last no) in
+    rw (to_z-of_z w128 c.args.cost c.ranges.cost) at (c.write_next_prices.ensures.last no) in
     let last = subst (λ (xs : List Row). IsLast m c.args.cost c.args.ahead (map proposal_of xs)) c.as_slice.ensures
     after in
     let was = known.long in

@@ -5,8 +5,8 @@ use Rattle.board_core.proofs.Common.{setup_of}
 use Rattle.board_core.proofs.Lemmas.{full_is, not_full, rows_next, round_more, full_to, rows_count, prices_count}
 use Rattle.board_core.proofs.advance.advance_proposals.Goals as goal
 
-pub close_next-requires-clause-more : goal.close_next-requires-clause-more
-close_next-requires-clause-more c =
+pub close_next_proposal-requires-clause-more : goal.close_next_proposal-requires-clause-more
+close_next_proposal-requires-clause-more c =
     let b = setup_of c.args.terms.now in
     let units = unit_count b.market in
     let counts = c.args.counts.now in
@@ -23,12 +23,12 @@ close_next-requires-clause-more c =
     let more : l.closed < l.opened = omega (arith, first, longer) in
     more
 
-pub close_next-requires-clause-earned_count : goal.close_next-requires-clause-earned_count
-close_next-requires-clause-earned_count c = ap (λ (z : Sums). length z.earned) c.loop-ledger.invariant.sums ∙
+pub close_next_proposal-requires-clause-earned_count : goal.close_next_proposal-requires-clause-earned_count
+close_next_proposal-requires-clause-earned_count c = ap (λ (z : Sums). length z.earned) c.loop-ledger.invariant.sums ∙
     c.requires.earned_count
 
-pub close_next-requires-clause-earned : goal.close_next-requires-clause-earned
-close_next-requires-clause-earned c =
+pub close_next_proposal-requires-clause-earned : goal.close_next_proposal-requires-clause-earned
+close_next_proposal-requires-clause-earned c =
     let l = c.loop-ledger.ledger in
     let test = c.loop-ledger-test.true in
     let now = c.closed.ensures in
@@ -43,8 +43,8 @@ returns-else-counts-closed-clause-done c = λ _.
     (λ e. c.if-counts-closed.false (subst (λ (k : ℕ). get_or counts k 0 ≡ units) (sym c.closed-in-loop-ledger.ensures) e
     ∙ sym c.unit_count-units.ensures.value))
 
-pub open_next-requires-clause-rows : goal.open_next-requires-clause-rows
-open_next-requires-clause-rows c =
+pub open_next_proposal-requires-clause-rows : goal.open_next_proposal-requires-clause-rows
+open_next_proposal-requires-clause-rows c =
     let b = setup_of c.args.terms.now in
     let units = unit_count b.market in
     let counts = c.args.counts.now in
@@ -73,7 +73,7 @@ open_next-requires-clause-rows c =
     (full_to b (c.board_laws.ensures.of b) ahead units counts s f I.round full_m) in
     let mine = subst (λ (z : Sums). below (rows_by (rules_of b) (row_in b.market z) (suc m))) (sym I.sums) given in
     let rows = subst below (sym (rows_next b (c.board_laws.ensures.of b) ahead units counts s f I.round more_m)) mine in
-    subst below (sym (ap (λ (z : Fronts). z.rows) c.close_next.ensures.fronts)) rows
+    subst below (sym (ap (λ (z : Fronts). z.rows) c.close_next_proposal.ensures.fronts)) rows
 
 pub loop-ledger-preserved : goal.loop-ledger-preserved
 loop-ledger-preserved c =
@@ -102,16 +102,17 @@ loop-ledger-preserved c =
     let more_m : m < length f.prices = omega (arith, rc, pc, more) in
     let new = round_more b (c.board_laws.ensures.of b) ahead units counts s f I.round (omega (arith, rc, within)) more_m
     full_m in
-    let fronts : fronts_of c.open_next.new.ledger ≡ with_round b s f =
-    c.open_next.ensures.fronts ∙ ap (with_opened b) c.close_next.ensures.fronts in
-    let sums : sums_of c.open_next.new.ledger ≡ s = c.open_next.ensures.sums ∙ c.close_next.ensures.sums in
-    let kept = c.close_next.ensures.opened in
-    let grown = c.open_next.ensures.opened in
+    let fronts : fronts_of c.open_next_proposal.new.ledger ≡ with_round b s f =
+    c.open_next_proposal.ensures.fronts ∙ ap (with_opened b) c.close_next_proposal.ensures.fronts in
+    let sums : sums_of c.open_next_proposal.new.ledger ≡ s = c.open_next_proposal.ensures.sums ∙
+    c.close_next_proposal.ensures.sums in
+    let kept = c.close_next_proposal.ensures.opened in
+    let grown = c.open_next_proposal.ensures.opened in
     record {
-      round = subst (λ (z : Fronts). IsRound b units counts (sums_of c.open_next.new.ledger) z) (sym fronts)
+      round = subst (λ (z : Fronts). IsRound b units counts (sums_of c.open_next_proposal.new.ledger) z) (sym fronts)
           (subst (λ (z : Sums). IsRound b units counts z (with_round b s f)) (sym sums) new);
       sums = sums ∙ I.sums;
-      ledger = c.open_next.ensures.ledger;
+      ledger = c.open_next_proposal.ensures.ledger;
       opened = omega (arith, longer, kept, grown);
-      horizon = c.open_next.ensures.horizon;
+      horizon = c.open_next_proposal.ensures.horizon;
     }

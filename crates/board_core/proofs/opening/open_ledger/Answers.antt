@@ -4,14 +4,14 @@ use Rattle.board_core.proofs.Common.{blank_ledger, with_openings}
 use Rattle.board_core.proofs.Lemmas.{same_ledger}
 use Rattle.board_core.proofs.opening.open_ledger.Goals as goal
 
-pub open_first-requires-clause-start : goal.open_first-requires-clause-start
-open_first-requires-clause-start c =
+pub open_first_proposals-requires-clause-start : goal.open_first_proposals-requires-clause-start
+open_first_proposals-requires-clause-start c =
     let m = market_of c.args.case.now in
     ap (λ (xs : List ℤ). length xs) c.in_ok-start.ensures ∙ length-map-range_with_len _ 0 m.periods ∙
     sym c.requires.horizon
 
-pub open_first-requires-clause-blank : goal.open_first-requires-clause-blank
-open_first-requires-clause-blank c =
+pub open_first_proposals-requires-clause-blank : goal.open_first_proposals-requires-clause-blank
+open_first_proposals-requires-clause-blank c =
     let m = market_of c.args.case.now in
     let start = c.in_ok-start.start.items in
     let long : length start ≡ m.periods = ap (λ (xs : List ℤ). length xs) c.in_ok-start.ensures ∙
@@ -35,10 +35,10 @@ returns-clause-ledger c =
     let first : l0 ≡ blank_ledger m.periods c.args.budget =
     same_ledger l0.proposals (replicate c.args.budget (blank m.periods)) l0.earned (replicate c.args.budget (pos 0))
     l0.closed 0 l0.opened 0 E.proposals E.earned E.closed E.opened in
-    c.open_first.ensures.ledger ∙ ap (λ (z : LedgerValue). with_openings start z c.min.result) first ∙
+    c.open_first_proposals.ensures.ledger ∙ ap (λ (z : LedgerValue). with_openings start z c.min.result) first ∙
     ap (with_openings start (blank_ledger m.periods c.args.budget)) count
     ∙ ap (λ (xs : List ℤ). with_openings xs (blank_ledger m.periods c.args.budget) (min c.args.budget c.args.ahead))
     c.in_ok-start.ensures
 
 pub returns-clause-horizon : goal.returns-clause-horizon
-returns-clause-horizon c = c.open_first.ensures.horizon ∙ c.requires.horizon
+returns-clause-horizon c = c.open_first_proposals.ensures.horizon ∙ c.requires.horizon

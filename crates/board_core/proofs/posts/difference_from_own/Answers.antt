@@ -3,8 +3,8 @@ use Rattle.board_core.proofs.Common.{setup_of}
 use Rattle.board_core.proofs.Lemmas.{no_difference}
 use Rattle.board_core.proofs.posts.difference_from_own.Goals as goal
 
-pub copy_task-requires-clause-horizon : goal.copy_task-requires-clause-horizon
-copy_task-requires-clause-horizon c = ap (λ (π : PriceLists). length π.energy) (c.prices-prices.ensures (blank 0)) ∙
+pub fill_task-requires-clause-horizon : goal.fill_task-requires-clause-horizon
+fill_task-requires-clause-horizon c = ap (λ (π : PriceLists). length π.energy) (c.prices-prices.ensures (blank 0)) ∙
     c.requires.horizon (blank 0)
 
 pub returns-then-is_unit_of-clause-differs : goal.returns-then-is_unit_of-clause-differs

@@ -4,12 +4,12 @@ use Rattle.board_run.proofs.fixed.hull_side.Goals as goal
 
 pub returns-clause-side : goal.returns-clause-side
 returns-clause-side g c =
-    subst (λ (b : Setup). IsOwnSide b c.own_side.result.0) (c.run_board.ensures.setup ∙ c.in_ok-opened.ensures)
-    c.own_side.ensures.side
+    subst (λ (b : Setup). IsOwnSide b c.side_of_own_run.result.0) (c.run_board.ensures.setup ∙ c.in_ok-opened.ensures)
+    c.side_of_own_run.ensures.side
 
 pub returns-clause-terms : goal.returns-clause-terms
-returns-clause-terms g c = c.own_side.ensures.terms ∙ c.run_board.ensures.setup ∙ c.in_ok-opened.ensures
+returns-clause-terms g c = c.side_of_own_run.ensures.terms ∙ c.run_board.ensures.setup ∙ c.in_ok-opened.ensures
 
-pub own_side-requires-clause-horizon : goal.own_side-requires-clause-horizon
-own_side-requires-clause-horizon g c = ap length c.in_ok-room.ensures.energy ∙ length-replicate _ _ ∙ sym
+pub side_of_own_run-requires-clause-horizon : goal.side_of_own_run-requires-clause-horizon
+side_of_own_run-requires-clause-horizon g c = ap length c.in_ok-room.ensures.energy ∙ length-replicate _ _ ∙ sym
     (ap (λ (b : Setup). b.market.periods) (c.run_board.ensures.setup ∙ c.in_ok-opened.ensures))

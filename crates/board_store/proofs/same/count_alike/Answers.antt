@@ -5,8 +5,8 @@ use Rattle.board_store.proofs.Lemmas.{numbers_of, same_cons, same_under}
 use Rattle.board_store.proofs.Numbers.{periods_length}
 use Rattle.board_store.proofs.same.count_alike.Goals as goal
 
-pub alike_periods-requires-clause-counts : goal.alike_periods-requires-clause-counts
-alike_periods-requires-clause-counts c = λ k d lt.
+pub count_alike_periods-requires-clause-counts : goal.count_alike_periods-requires-clause-counts
+count_alike_periods-requires-clause-counts c = λ k d lt.
     let b = c.args.own.now.bid in
     subst (λ (bs : List Block). length bs ≤ 8) (get_or-map items_in b.blocks.items k d (items_in d) lt)
     ((b.valid.blocks k (items_in d) (omega (arith, lt, length-map b.blocks.items items_in))).count)
@@ -17,7 +17,7 @@ overflow_add-result-2 c =
     let few = t.prices.valid.horizon.at_most in
     let both = t.prices.valid.lengths in
     let over = t.bid_horizon in
-    let long = c.alike_periods.ensures.own_long in
+    let long = c.count_alike_periods.ensures.own_long in
     let most = periods_length (map items_in t.bid.blocks.items) (λ k d lt. (t.bid.valid.blocks k d lt).count) in
     let energy = c.len.ensures in
     let reserve = c.len-2.ensures in
@@ -33,7 +33,7 @@ returns c =
     let there : task_unit task ≡ Bid (bid_of task.bid) =
     ap (λ (k : UnitKind). chosen_unit k task.thermal task.flat task.bid) c.in-Bid-kind.is in
     let same : π ≡ prices_of task.prices = c.same_prices.ensures.0 c.if-not-same_prices.false in
-    let n = c.alike_periods.result in
+    let n = c.count_alike_periods.result in
     let before = π.energy ++ π.reserve in
     let count : suc (length before + suc n) ≡ 2 + (c.len.result + c.len-2.result) + n =
     let energy = c.len.ensures in let reserve = c.len-2.ensures in
@@ -41,6 +41,6 @@ returns c =
     let S = same_cons (pos (length π.energy)) _ _ _
     (same_under before _ _ _ (length before + suc n) refl
     (same_cons (pos 2) (numbers_of own.bid.blocks.items) (numbers_of task.bid.blocks.items) n
-    c.alike_periods.ensures)) in
+    c.count_alike_periods.ensures)) in
     subst (λ (z : AnyUnit × PriceLists × AnyUnit × ℕ). AreSame (task_numbers π z.0) (task_numbers z.1 z.2) z.3)
     (λ i. (sym here i, same i, sym there i, count i)) S

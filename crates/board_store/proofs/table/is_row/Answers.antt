@@ -2,14 +2,14 @@ use Rattle.board_store.proofs.Common.{◌+◌, refl, arith, false≢true}
 use Rattle.board_store.proofs.Lemmas.{told_no, told_yes, later_whole, run_here}
 use Rattle.board_store.proofs.table.is_row.Goals as goal
 
-pub returns-then-not-are_all : goal.returns-then-not-are_all
-returns-then-not-are_all g c =
+pub returns-then-not-are_cells_all : goal.returns-then-not-are_cells_all
+returns-then-not-are_cells_all g c =
     let l = c.loop-seen in
     let m = c.min.result in
     let no = told_no c.args.lengths.now c.args.values.now l.at c.args.row.now l.seen m (l.seen + m)
     c.index-values-at.result c.requires.pairs (omega (arith, c.loop-seen-test.true)) l.invariant.whole
     c.index-values-at.is c.min.ensures refl in
-    (λ yes. absurd (false≢true yes), λ is. c.if-not-are_all.ensures.1 (no (l.invariant.told.0 is)))
+    (λ yes. absurd (false≢true yes), λ is. c.if-not-are_cells_all.ensures.1 (no (l.invariant.told.0 is)))
 
 pub loop-seen-preserved : goal.loop-seen-preserved
 loop-seen-preserved g c =
@@ -17,7 +17,7 @@ loop-seen-preserved g c =
     let m = c.min.result in
     let t = told_yes c.args.lengths.now c.args.values.now l.at c.args.row.now l.seen m (l.seen + m)
     c.index-values-at.result c.requires.pairs (omega (arith, c.loop-seen-test.true)) l.invariant.whole
-    c.index-values-at.is c.min.ensures refl (c.if-not-are_all.ensures.0 refl) in
+    c.index-values-at.is c.min.ensures refl (c.if-not-are_cells_all.ensures.0 refl) in
     record {
       whole =
           later_whole c.args.lengths.now c.args.values.now l.at c.args.row.now l.seen m (l.seen + m)

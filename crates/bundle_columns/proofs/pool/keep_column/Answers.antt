@@ -10,8 +10,8 @@ get-requires c =
     let lt = place_within m.thermal c.args.number c.requires.fit.unit c.requires.fit.is in
     omega (arith, count, lt)
 
-pub next_place-place-requires : goal.next_place-place-requires
-next_place-place-requires c =
+pub next_place-index-requires : goal.next_place-index-requires
+next_place-index-requires c =
     let m = market_of c.args.case.now in
     let lt = place_within m.thermal c.args.number c.requires.fit.unit c.requires.fit.is in
     let same = c.requires.pool.thermal in

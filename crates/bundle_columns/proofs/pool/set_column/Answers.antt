@@ -21,19 +21,19 @@ get_mut-requires c =
     let lt = place_within m.thermal c.args.number c.requires.fit.unit c.requires.fit.is in
     omega (arith, count, lt)
 
-pub set_schedule-requires-clause-place : goal.set_schedule-requires-clause-place
-set_schedule-requires-clause-place c =
+pub set_schedule-requires-clause-index : goal.set_schedule-requires-clause-index
+set_schedule-requires-clause-index c =
     let m = market_of c.args.case.now in
     let long = entry_count m.periods (places_in c.args.pool.now) c.requires.fit.unit.unit c.get_mut.result.now
     (kept c) in
-    let lt = c.requires.place in
+    let lt = c.requires.index in
     omega (arith, long, lt)
 
 pub set_schedule-requires-clause-horizon : goal.set_schedule-requires-clause-horizon
 set_schedule-requires-clause-horizon c = λ d at.
     over_at (market_of c.args.case.now).periods (places_in c.args.pool.now) c.requires.fit.unit.unit
     c.get_mut.result.now
-    c.args.place d (kept c) at ∙ sym c.requires.fit.feasible.schedule.on
+    c.args.index d (kept c) at ∙ sym c.requires.fit.feasible.schedule.on
 
 pub set_column-requires-clause-unit : goal.set_column-requires-clause-unit
 set_column-requires-clause-unit c =
@@ -50,7 +50,7 @@ returns c =
     let was = kept_of m places c.args.pool.now.columns.weight c.args.pool.now.columns.thermal.items c.args.number unit
     c.get_mut.result.now c.requires.pool.columns c.requires.fit.is c.get_mut.ensures.item in
     let now = subst (λ (es : List WeighedSchedule). AreKept m.periods places unit.unit es) (sym c.set_schedule.ensures)
-    (kept_rescheduled m.periods places unit.unit (entries_of c.get_mut.result.now) c.args.place
+    (kept_rescheduled m.periods places unit.unit (entries_of c.get_mut.result.now) c.args.index
     (schedule_of c.args.response.now) c.requires.fit.feasible was) in
     record {
       some = c.requires.pool.some;

@@ -4,20 +4,20 @@ use Rattle.bundle_columns.proofs.weights.gather_weight.Goals as goal
 
 pub move_weight-requires-clause-amount : goal.move_weight-requires-clause-amount
 move_weight-requires-clause-amount c =
-    let within = giver_within (entries_of c.loop-place.entries) c.loop-place.place c.loop-place.invariant.shares in
+    let within = giver_within (entries_of c.loop-index.entries) c.loop-index.index c.loop-index.invariant.shares in
     let fits : FitsSigned w64 c.weight_at-amount.result = search rules in
     let is = to_z-of_z w64 c.weight_at-amount.result fits ∙ c.weight_at-amount.ensures in
     let low = within.at_least in
     record { at_least = omega (arith, ints, is, low); at_most = omega (arith, ints, is) }
 
-pub loop-place-preserved : goal.loop-place-preserved
-loop-place-preserved c =
-    let count = c.loop-place.invariant.count in
+pub loop-index-preserved : goal.loop-index-preserved
+loop-index-preserved c =
+    let count = c.loop-index.invariant.count in
     let more = c.move_weight.ensures.count in
     record {
-      stays = stays_on (entries_of c.args.entries.now) (entries_of c.loop-place.entries) (entries_of
+      stays = stays_on (entries_of c.args.entries.now) (entries_of c.loop-index.entries) (entries_of
           c.move_weight.new.entries)
-          c.loop-place.invariant.stays c.move_weight.ensures.stays;
+          c.loop-index.invariant.stays c.move_weight.ensures.stays;
       shares = c.move_weight.ensures.shares;
       count = omega (arith, count, more);
     }

@@ -1,5 +1,5 @@
 use Rattle.bundle_columns.proofs.Common.{◌<◌, length}
 use Rattle.bundle_columns.proofs.weights.greatest_place.Given as goal
 
-abbrev pub invariant-loop-place : goal.invariant-loop-place
-invariant-loop-place l = l.best < length l.numbers.items
+abbrev pub invariant-loop-index : goal.invariant-loop-index
+invariant-loop-index l = l.best < length l.numbers.items

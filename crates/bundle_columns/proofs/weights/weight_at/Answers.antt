@@ -6,4 +6,4 @@ pub returns : goal.returns
 returns c =
     let fits : FitsSigned w64 c.get.result.now.weight = search rules in
     to_z-of_z w64 c.get.result.now.weight fits ∙
-    weight_is c.args.entries.now.items c.args.place c.get.result.now c.get.ensures.item
+    weight_is c.args.entries.now.items c.args.index c.get.result.now c.get.ensures.item

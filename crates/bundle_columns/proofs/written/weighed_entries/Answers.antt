@@ -9,20 +9,20 @@ use Rattle.bundle_columns.proofs.written.weighed_entries.Goals as goal
 pub push_weighed-requires-clause-periods : goal.push_weighed-requires-clause-periods
 push_weighed-requires-clause-periods c =
     item_of (λ (e : WeighedSchedule). length e.schedule.on ≤ MOST_PERIODS) (entries_of c.args.from.now)
-    c.loop-place.place
+    c.loop-index.index
     (entry_of c.get.result.now) c.requires.periods
-    (map_item entry_of c.args.from.now.items c.loop-place.place c.get.result.now c.get.ensures.item)
+    (map_item entry_of c.args.from.now.items c.loop-index.index c.get.result.now c.get.ensures.item)
 
-pub loop-place-preserved : goal.loop-place-preserved
-loop-place-preserved c =
+pub loop-index-preserved : goal.loop-index-preserved
+loop-index-preserved c =
     let es = entries_of c.args.from.now in
-    let k = c.loop-place.place in
+    let k = c.loop-index.index in
     let e = entry_of c.get.result.now in
-    let room = c.loop-place.invariant.room in
+    let room = c.loop-index.invariant.room in
     let spare = c.in_ok-push_weighed.ensures.spare in
     record {
       so_far = c.in_ok-push_weighed.ensures.entries ∙
-          ap (λ (l : List WeighedSchedule). l ++ weighed_of (e ∷ [])) c.loop-place.invariant.so_far ∙
+          ap (λ (l : List WeighedSchedule). l ++ weighed_of (e ∷ [])) c.loop-index.invariant.so_far ∙
           sym (weighed_more es k e (map_item entry_of c.args.from.now.items k c.get.result.now c.get.ensures.item));
       room = omega (arith, room, spare);
     }
@@ -31,6 +31,6 @@ pub returns : goal.returns
 returns c =
     let es = entries_of c.args.from.now in
     let count = length-map c.args.from.now.items entry_of in
-    let end = c.len-place-end.ensures in
-    let last = c.loop-place-test.false in
-    c.loop-place.invariant.so_far ∙ ap weighed_of (take_all c.loop-place.place es (omega (arith, count, end, last)))
+    let end = c.len-index-end.ensures in
+    let last = c.loop-index-test.false in
+    c.loop-index.invariant.so_far ∙ ap weighed_of (take_all c.loop-index.index es (omega (arith, count, end, last)))

@@ -7,8 +7,8 @@ most_is : (g h : Lcg) (k x y : ℕ) → x ≡ draw 5 100 (word_at g 0) → h ≡
     y ≡ draw 0 100 (word_at h 0) → 1000 * x * y / 100 ≡ most_at g 0 k
 unfolding most_at capacity_at
 most_is g h k x y first moved next =
-    let place : 1 + k + 0 ≡ 0 + 1 + k = omega arith in
-    let word = word_after (1 + k) g h moved ∙ ap (word_at g) place in
+    let index : 1 + k + 0 ≡ 0 + 1 + k = omega arith in
+    let word = word_after (1 + k) g h moved ∙ ap (word_at g) index in
     ap (λ (n : ℕ). 1000 * n * y / 100) first ∙
     ap (λ (n : ℕ). 1000 * draw 5 100 (word_at g 0) * n / 100) (next ∙ ap (draw 0 100) word)
 

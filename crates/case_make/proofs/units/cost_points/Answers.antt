@@ -2,16 +2,16 @@ use Rattle.case_make.proofs.Common.{◌+◌, [], ◌∷◌, ◌++◌, List, map,
 use Rattle.case_make.proofs.Common.{range_with_len, Point, point_of}
 use Rattle.case_make.proofs.units.cost_points.Goals as goal
 
-pub loop-place-preserved : goal.loop-place-preserved
-loop-place-preserved c =
+pub loop-index-preserved : goal.loop-index-preserved
+loop-index-preserved c =
     let d = c.args.draws.now in
-    let next = c.loop-place.place + 1 in
-    let room = c.loop-place.invariant.room in
-    let spare = c.push-in-loop-place.ensures.spare in
+    let next = c.loop-index.index + 1 in
+    let room = c.loop-index.invariant.room in
+    let spare = c.push-in-loop-index.ensures.spare in
     record {
-      so_far = c.push-in-loop-place.ensures.items
-          ∙ ap (λ (xs : List Point). xs ++ c.cost_point-in-loop-place.result ∷ []) c.loop-place.invariant.so_far
-          ∙ ap (λ (p : Point). map (point_of d) (range_with_len 0 next) ++ p ∷ []) c.cost_point-in-loop-place.ensures
+      so_far = c.push-in-loop-index.ensures.items
+          ∙ ap (λ (xs : List Point). xs ++ c.cost_point-in-loop-index.result ∷ []) c.loop-index.invariant.so_far
+          ∙ ap (λ (p : Point). map (point_of d) (range_with_len 0 next) ++ p ∷ []) c.cost_point-in-loop-index.ensures
           ∙ sym (map-range_with_len_more (point_of d) 0 next next (omega arith));
       last_cost = c.next_cost-cost.ensures;
       room = omega (arith, room, spare);

@@ -6,14 +6,15 @@ use Rattle.bundle_columns.proofs.Pooling.{fit_at}
 use Rattle.unit_program.proofs.Lemmas.{answer_top, tops_pushed}
 use Rattle.convex_search.proofs.oracle.answer_all.Goals as goal
 
-pub answer_at-flow-requires-clause-some : goal.answer_at-flow-requires-clause-some
-answer_at-flow-requires-clause-some c = c.units_can_answer.ensures (market_of c.args.case.now) c.requires.some
+pub answer_numbered_unit-flow-requires-clause-some : goal.answer_numbered_unit-flow-requires-clause-some
+answer_numbered_unit-flow-requires-clause-some c = c.units_can_answer.ensures (market_of c.args.case.now)
+    c.requires.some
 
 pub keep_answer-kept-requires-clause-fit : goal.keep_answer-kept-requires-clause-fit
 keep_answer-kept-requires-clause-fit c = λ lt.
     let m = market_of c.args.case.now in
-    let at = c.answer_at-flow.ensures.answer in
-    let s = schedule_of c.answer_at-flow.new.into.response in
+    let at = c.answer_numbered_unit-flow.ensures.answer in
+    let s = schedule_of c.answer_numbered_unit-flow.new.into.response in
     fit_at c.units_are_numbered.ensures m c.loop-number.number at.unit s lt at.is
     (subst (λ (n : ℕ). IsFeasible at.unit n s) c.requires.horizon at.fit.best.feasible)
 
@@ -22,21 +23,21 @@ loop-number-preserved c =
     let m = market_of c.args.case.now in
     let π = prices_of c.args.prices.now in
     let number = c.loop-number.number in
-    let a = c.answer_at-flow.new.into in
-    let at = c.answer_at-flow.ensures.answer in
+    let a = c.answer_numbered_unit-flow.new.into in
+    let at = c.answer_numbered_unit-flow.ensures.answer in
     let room = c.loop-number.invariant.room in
     let all = c.loop-number.invariant.earned in
     let spare = c.push.ensures.spare in
     let more = ap length c.push.ensures.items ∙ length_more c.loop-number.oracle.earned.items _ in
     let long = c.deref_mut-in-loop-number.ensures.len in
-    let kept = c.add_given.auto.given in
+    let kept = c.add_response_totals.auto.given in
     let rows = c.loop-number.invariant.given in
     record {
       tops = tops_pushed m π number c.loop-number.oracle.earned.items c.push.new.self.items at.unit a.earned
-          c.loop-number.invariant.tops at.is (answer_top m π number c.answer_at-flow.result a at)
+          c.loop-number.invariant.tops at.is (answer_top m π number c.answer_numbered_unit-flow.result a at)
           (rw (to_z-of_z w64 a.earned (search rules)) at c.push.ensures.items);
-      bench = c.answer_at-flow.ensures.bench;
-      answer = c.answer_at-flow.ensures.into;
+      bench = c.answer_numbered_unit-flow.ensures.bench;
+      answer = c.answer_numbered_unit-flow.ensures.into;
       room = omega (arith, room, spare);
       earned = omega (arith, all, spare, more);
       given = simp (length-take, length-append, length-drop) (omega (arith, long, kept, rows));

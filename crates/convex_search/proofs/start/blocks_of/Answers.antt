@@ -14,5 +14,5 @@ get-requires-2 c =
     (map_item named_bid_of c.args.case.now.bids.items c.args.number c.get.result.now c.get.ensures.item) in
     let long = over.1 in
     let same = length-map c.get.result.now.bid.blocks.items items_in in
-    let lt = c.requires.place in
+    let lt = c.requires.index in
     omega (arith, long, same, lt)

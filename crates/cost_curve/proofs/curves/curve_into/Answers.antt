@@ -7,9 +7,9 @@ use Rattle.cost_curve.proofs.curves.curve_into.Goals as goal
 pub walk-init : goal.walk-init
 walk-init c =
     let ps = c.args.points.now in
-    let i = c.first_place-from.result in
-    let lt = c.first_place-from.ensures.within in
-    let start = c.first_place-from.ensures.start in
+    let i = c.first_envelope_point-from.result in
+    let lt = c.first_envelope_point-from.ensures.within in
+    let start = c.first_envelope_point-from.ensures.start in
     let are = c.requires.points in
     let hq : IsPoint (point_at ps i) = are.points i _ lt in
     let at_least = hq.at.at_least in
@@ -47,7 +47,7 @@ pub walk-preserved : goal.walk-preserved
 walk-preserved c =
     let ps = c.args.points.now in
     let i = c.walk.from in
-    let j = c.in-Some.edge.place in
+    let j = c.in-Some.edge.index in
     let t = c.in-Some.edge.slope.price in
     let w = c.in-Some.edge.slope.width in
     let known = c.walk.invariant in
@@ -80,7 +80,7 @@ pub returns-clause-curve : goal.returns-clause-curve
 returns-clause-curve c =
     let ps = c.args.points.now in
     let known = c.walk.invariant in
-    let last = subst (λ way. IsWayOn ps c.walk.from (length ps) way) c.in_default.is c.way_on.ensures in
+    let last = subst (λ way. IsWayOn ps c.walk.from (length ps) way) c.in_default.is c.next_edge.ensures in
     IsCostCurve-built c.envelope_is_greatest.ensures c.power_costs_are_within.ensures ps c.requires.points c.walk.into
     c.walk.from known.price known.within last known.starts known.built known.few
 
@@ -88,7 +88,7 @@ pub returns-clause-evaluates : goal.returns-clause-evaluates
 returns-clause-evaluates c =
     let ps = c.args.points.now in
     let known = c.walk.invariant in
-    let last = subst (λ way. IsWayOn ps c.walk.from (length ps) way) c.in_default.is c.way_on.ensures in
+    let last = subst (λ way. IsWayOn ps c.walk.from (length ps) way) c.in_default.is c.next_edge.ensures in
     CanEvaluate-curve c.envelope_is_greatest.ensures c.power_costs_are_within.ensures ps c.requires.points c.walk.into
     (IsCostCurve-built c.envelope_is_greatest.ensures c.power_costs_are_within.ensures ps c.requires.points
     c.walk.into c.walk.from known.price known.within last known.starts known.built known.few)

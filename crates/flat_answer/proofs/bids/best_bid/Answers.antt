@@ -6,11 +6,11 @@ pub loop-k-preserved : goal.loop-k-preserved
 loop-k-preserved c =
     answered_next (length c.args.prices.now.energy.items) (bid_can (bid_of c.args.bid.now))
     (bid_earns (bid_of c.args.bid.now) (prices_of c.args.prices.now)) c.loop-k.k
-    (schedule_of c.loop-k.into.response) c.loop-k.into.earned c.choice_in-choice.result.power
-    c.choice_in-choice.result.earned
-    (schedule_of c.keep_choice.new.into.response) c.keep_choice.new.into.earned
-    c.loop-k.invariant (omega arith) c.choice_in-choice.ensures c.keep_choice.ensures.schedule
-    c.keep_choice.ensures.earned
+    (schedule_of c.loop-k.into.response) c.loop-k.into.earned c.bid_choice_in_period-choice.result.power
+    c.bid_choice_in_period-choice.result.earned
+    (schedule_of c.write_choice.new.into.response) c.write_choice.new.into.earned
+    c.loop-k.invariant (omega arith) c.bid_choice_in_period-choice.ensures c.write_choice.ensures.schedule
+    c.write_choice.ensures.earned
 
 pub returns-clause-least : goal.returns-clause-least
 returns-clause-least c =
@@ -28,8 +28,8 @@ returns-clause-earned c =
     (bid_by_place (bid_of c.args.bid.now) (prices_of c.args.prices.now))
     (omega arith) c.loop-k.invariant).earned_is
 
-pub keep_choice-requires-clause-so_far : goal.keep_choice-requires-clause-so_far
-keep_choice-requires-clause-so_far c =
+pub write_choice-requires-clause-so_far : goal.write_choice-requires-clause-so_far
+write_choice-requires-clause-so_far c =
     let few = c.args.prices.now.valid.horizon.at_most in
     let turn = c.loop-k-test.true in
     let end = c.len-k-end.ensures in

@@ -19,21 +19,21 @@ get-requires-in-loop-number c =
     m.bids c.loop-number.number _ c.args.case.now.valid.bids at in
     let long = limits.1 in
     let mapped = length-map c.get.result.now.bid.blocks.items items_in in
-    let lt = c.requires.place in
+    let lt = c.requires.index in
     omega (arith, long, mapped, lt)
 
 pub bid_earnings-requires-clause-blocks : goal.bid_earnings-requires-clause-blocks
 bid_earnings-requires-clause-blocks c =
     subst IsBlockList (sym c.as_slice-blocks.ensures)
-    (item_of IsBlockList (bid_of c.get.result.now.bid).blocks c.args.place (items_in c.get-in-loop-number.result.now)
+    (item_of IsBlockList (bid_of c.get.result.now.bid).blocks c.args.index (items_in c.get-in-loop-number.result.now)
     c.get.result.now.bid.valid.blocks
-    (map_item items_in c.get.result.now.bid.blocks.items c.args.place c.get-in-loop-number.result.now
+    (map_item items_in c.get.result.now.bid.blocks.items c.args.index c.get-in-loop-number.result.now
     c.get-in-loop-number.ensures.item))
 
 pub loop-number-preserved : goal.loop-number-preserved
 loop-number-preserved c =
     let m = market_of c.args.case.now in
-    let k = c.args.place in
+    let k = c.args.index in
     let i = c.loop-number.number in
     let q = c.ranges.price in
     let s : FitsSigned w64 c.bid_earnings.result = search rules in
@@ -76,7 +76,7 @@ loop-number-preserved c =
 pub returns-clause-value : goal.returns-clause-value
 returns-clause-value c =
     let m = market_of c.args.case.now in
-    let k = c.args.place in
+    let k = c.args.index in
     let i = c.loop-number.number in
     let q = c.ranges.price in
     let mapped = length-map c.args.case.now.bids.items named_bid_of in

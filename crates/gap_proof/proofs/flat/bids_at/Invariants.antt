@@ -4,7 +4,7 @@ use Rattle.gap_proof.proofs.flat.bids_at.Given as goal
 
 abbrev pub invariant-loop-number : goal.invariant-loop-number
 invariant-loop-number l = record {
-  is : l.sum ≡ total (map (λ (n : NamedBidUnit). best_bought (blocks_at n.unit l.place) l.price)
+  is : l.sum ≡ total (map (λ (n : NamedBidUnit). best_bought (blocks_at n.unit l.index) l.price)
       (take l.number (market_of l.case).bids));
   limit : IsFrom (pos 0) (pos (20000000000000000 * l.number)) l.sum;
 }

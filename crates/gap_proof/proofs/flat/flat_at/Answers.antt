@@ -13,7 +13,7 @@ returns-clause-value c =
     let b = c.renewables_at.ensures.limit.at_most in
     let x = c.bids_at.ensures.limit.at_least in
     let y = c.bids_at.ensures.limit.at_most in
-    let sum : c.renewables_at.result +ℤ c.bids_at.result ≡ flat (market_of c.args.case.now) c.args.place c.args.price =
+    let sum : c.renewables_at.result +ℤ c.bids_at.result ≡ flat (market_of c.args.case.now) c.args.index c.args.price =
     omega (arith, ints, sold, bought) in
     let within : IsWithin 123000000000000000000 (c.renewables_at.result +ℤ c.bids_at.result) =
     record { at_least = omega (arith, ints, a, x); at_most = omega (arith, ints, b, y) } in

@@ -18,8 +18,8 @@ pub overflow_mul-by_least : goal.overflow_mul-by_least
 overflow_mul-by_least c =
     let q = c.ranges.price in
     let fl : FitsSigned w64 c.get.result.now = search rules in
-    let wl = earned c.args.flat.now.least.items c.args.place c.args.price c.get.result.now c.args.flat.now.valid.least
-    c.requires.place c.requires.price c.get.ensures.item in
+    let wl = earned c.args.flat.now.least.items c.args.index c.args.price c.get.result.now c.args.flat.now.valid.least
+    c.requires.index c.requires.price c.get.ensures.item in
     let ql = fits (c.args.price *ℤ c.get.result.now) wl in
     simp to_z-of_z ql
 
@@ -27,9 +27,9 @@ pub overflow_mul-by_most : goal.overflow_mul-by_most
 overflow_mul-by_most c =
     let q = c.ranges.price in
     let fm : FitsSigned w64 c.get-2.result.now = search rules in
-    let lt = c.requires.place in
+    let lt = c.requires.index in
     let long = c.args.flat.now.valid.lengths in
-    let wm = earned c.args.flat.now.most.items c.args.place c.args.price c.get-2.result.now c.args.flat.now.valid.most
+    let wm = earned c.args.flat.now.most.items c.args.index c.args.price c.get-2.result.now c.args.flat.now.valid.most
     (omega (arith, lt, long)) c.requires.price c.get-2.ensures.item in
     let qm = fits (c.args.price *ℤ c.get-2.result.now) wm in
     simp to_z-of_z qm
@@ -37,14 +37,14 @@ overflow_mul-by_most c =
 pub returns-clause-value : goal.returns-clause-value
 returns-clause-value c =
     let r = renewable_of c.args.flat.now in
-    let k = c.args.place in
+    let k = c.args.index in
     let q = c.ranges.price in
     let fl : FitsSigned w64 c.get.result.now = search rules in
     let fm : FitsSigned w64 c.get-2.result.now = search rules in
     let f : FitsSigned w64 c.max.result = search rules in
     let least = get_or_from_slice_get c.args.flat.now.least.items k c.get.result.now (pos 0) c.get.ensures.item in
     let most = get_or_from_slice_get c.args.flat.now.most.items k c.get-2.result.now (pos 0) c.get-2.ensures.item in
-    let lt = c.requires.place in
+    let lt = c.requires.index in
     let long = c.args.flat.now.valid.lengths in
     let wl = earned c.args.flat.now.least.items k c.args.price c.get.result.now c.args.flat.now.valid.least lt
     c.requires.price c.get.ensures.item in
@@ -59,12 +59,12 @@ returns-clause-value c =
 
 pub returns-clause-limit : goal.returns-clause-limit
 returns-clause-limit c =
-    let k = c.args.place in
+    let k = c.args.index in
     let q = c.ranges.price in
     let fl : FitsSigned w64 c.get.result.now = search rules in
     let fm : FitsSigned w64 c.get-2.result.now = search rules in
     let f : FitsSigned w64 c.max.result = search rules in
-    let lt = c.requires.place in
+    let lt = c.requires.index in
     let long = c.args.flat.now.valid.lengths in
     let wl = earned c.args.flat.now.least.items k c.args.price c.get.result.now c.args.flat.now.valid.least lt
     c.requires.price c.get.ensures.item in

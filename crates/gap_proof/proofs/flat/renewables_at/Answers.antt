@@ -8,8 +8,8 @@ use Rattle.uc_model.specs.PlainUnits.{named_renewable_of}
 use Rattle.gap_proof.proofs.MixtureSumLaws.{total_more}
 use Rattle.gap_proof.proofs.flat.renewables_at.Goals as goal
 
-pub renewable_earnings-requires-clause-place : goal.renewable_earnings-requires-clause-place
-renewable_earnings-requires-clause-place c =
+pub renewable_earnings-requires-clause-index : goal.renewable_earnings-requires-clause-index
+renewable_earnings-requires-clause-index c =
     let m = market_of c.args.case.now in
     let at = map_item named_renewable_of c.args.case.now.flat.items c.loop-number.number c.get.result.now
     c.get.ensures.item in
@@ -17,13 +17,13 @@ renewable_earnings-requires-clause-place c =
     (length n.unit.least ≡ c.args.case.now.periods)) m.flat c.loop-number.number _ c.args.case.now.valid.flat
     at in
     let long = limits.1 in
-    let lt = c.requires.place in
+    let lt = c.requires.index in
     omega (arith, long, lt)
 
 pub loop-number-preserved : goal.loop-number-preserved
 loop-number-preserved c =
     let m = market_of c.args.case.now in
-    let k = c.args.place in
+    let k = c.args.index in
     let i = c.loop-number.number in
     let q = c.ranges.price in
     let s : FitsSigned w64 c.renewable_earnings.result = search rules in
@@ -70,8 +70,8 @@ returns-clause-value c =
     let test = c.loop-number-test.false in
     let end = c.len-number-end.ensures in
     let so_far : cast_signed w128 c.loop-number.sum-bits ≡ total
-    (map (λ (n : NamedRenewableUnit). best_sold n.unit c.args.place c.args.price) (take i m.flat)) =
+    (map (λ (n : NamedRenewableUnit). best_sold n.unit c.args.index c.args.price) (take i m.flat)) =
     simp to_z-of_z at c.loop-number.invariant.is in
-    let whole = ap (λ l. total (map (λ (n : NamedRenewableUnit). best_sold n.unit c.args.place c.args.price) l))
+    let whole = ap (λ l. total (map (λ (n : NamedRenewableUnit). best_sold n.unit c.args.index c.args.price) l))
     (take_all i m.flat (omega (arith, mapped, test, end))) in
     so_far ∙ whole

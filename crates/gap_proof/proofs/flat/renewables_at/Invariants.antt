@@ -5,6 +5,6 @@ use Rattle.gap_proof.proofs.flat.renewables_at.Given as goal
 abbrev pub invariant-loop-number : goal.invariant-loop-number
 invariant-loop-number l = record {
   is : l.sum ≡ total
-      (map (λ (n : NamedRenewableUnit). best_sold n.unit l.place l.price) (take l.number (market_of l.case).flat));
+      (map (λ (n : NamedRenewableUnit). best_sold n.unit l.index l.price) (take l.number (market_of l.case).flat));
   limit : IsWithin (10000000000000000 * l.number) l.sum;
 }

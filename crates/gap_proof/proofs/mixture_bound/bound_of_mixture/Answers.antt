@@ -16,8 +16,8 @@ bound_is m x π radius n e =
     ap (λ (t : ℕ). floor_div (mixture_cost m x +ℤ sum_below t
     (λ k. most_energy m x π radius k +ℤ most_reserve m x π radius k)) (unsigned_abs x.whole)) e
 
-pub loop-place-init : goal.loop-place-init
-loop-place-init c =
+pub loop-index-init : goal.loop-index-init
+loop-index-init c =
     let m = market_of c.args.case.now in
     let x = mixture_of c.args.mixture.now in
     let π = prices_of c.args.centre.now in
@@ -36,67 +36,67 @@ loop-place-init c =
 pub overflow_add-sum : goal.overflow_add-sum
 overflow_add-sum c =
     let few = c.args.case.now.valid.horizon.at_most in
-    let test = c.loop-place-test.true in
+    let test = c.loop-index-test.true in
     let f : FitsSigned w128 c.most_at-sum.result = search rules in
-    let a = c.loop-place.invariant.limit.at_least in
-    let b = c.loop-place.invariant.limit.at_most in
+    let a = c.loop-index.invariant.limit.at_least in
+    let b = c.loop-index.invariant.limit.at_most in
     let u = c.most_at-sum.ensures.limit.at_least in
     let v = c.most_at-sum.ensures.limit.at_most in
     let within : IsWithin 100000000000000000000000000000000000
-    (cast_signed w128 c.loop-place.sum-bits +ℤ c.most_at-sum.result) =
+    (cast_signed w128 c.loop-index.sum-bits +ℤ c.most_at-sum.result) =
     record {
       at_least = omega (arith, ints, a, u, few, test);
       at_most =
           omega (arith, ints, b, v, few, test);
     } in
     let fits = fits_within w128 100000000000000000000000000000000000
-    (cast_signed w128 c.loop-place.sum-bits +ℤ c.most_at-sum.result) within (omega arith) in
+    (cast_signed w128 c.loop-index.sum-bits +ℤ c.most_at-sum.result) within (omega arith) in
     simp to_z-of_z fits
 
-pub loop-place-preserved : goal.loop-place-preserved
-loop-place-preserved c =
+pub loop-index-preserved : goal.loop-index-preserved
+loop-index-preserved c =
     let m = market_of c.args.case.now in
     let x = mixture_of c.args.mixture.now in
     let π = prices_of c.args.centre.now in
     let q = c.args.radius in
-    let k = c.loop-place.place in
+    let k = c.loop-index.index in
     let rq = c.ranges.radius in
     let few = c.args.case.now.valid.horizon.at_most in
-    let test = c.loop-place-test.true in
+    let test = c.loop-index-test.true in
     let f : FitsSigned w128 c.most_at-sum.result = search rules in
     let term : ℕ → ℤ = λ j. most_energy m x π q j +ℤ most_reserve m x π q j in
-    let so_far : cast_signed w128 c.loop-place.sum-bits ≡ mixture_cost m x +ℤ sum_below k term =
-    simp to_z-of_z at c.loop-place.invariant.is in
+    let so_far : cast_signed w128 c.loop-index.sum-bits ≡ mixture_cost m x +ℤ sum_below k term =
+    simp to_z-of_z at c.loop-index.invariant.is in
     let value = simp to_z-of_z at c.most_at-sum.ensures.value in
     let more : sum_below (k + 1) term ≡ sum_below k term +ℤ term k = ap (λ (n : ℕ). sum_below n term) (add-one k) in
-    let a = c.loop-place.invariant.limit.at_least in
-    let b = c.loop-place.invariant.limit.at_most in
+    let a = c.loop-index.invariant.limit.at_least in
+    let b = c.loop-index.invariant.limit.at_most in
     let u = c.most_at-sum.ensures.limit.at_least in
     let v = c.most_at-sum.ensures.limit.at_most in
-    let sum : cast_signed w128 c.loop-place.sum-bits +ℤ c.most_at-sum.result ≡ mixture_cost m x +ℤ sum_below (k + 1)
+    let sum : cast_signed w128 c.loop-index.sum-bits +ℤ c.most_at-sum.result ≡ mixture_cost m x +ℤ sum_below (k + 1)
     term = omega (arith, ints, so_far, value, more) in
     let limit : IsWithin (7000000000000000000000000000000000 + 500000000000000000000000000000000 * (k + 1))
-    (cast_signed w128 c.loop-place.sum-bits +ℤ c.most_at-sum.result) =
+    (cast_signed w128 c.loop-index.sum-bits +ℤ c.most_at-sum.result) =
     record { at_least = omega (arith, ints, a, u); at_most = omega (arith, ints, b, v) } in
     let l = limit.at_least in
     let h = limit.at_most in
     let within : IsWithin 100000000000000000000000000000000000
-    (cast_signed w128 c.loop-place.sum-bits +ℤ c.most_at-sum.result) =
+    (cast_signed w128 c.loop-index.sum-bits +ℤ c.most_at-sum.result) =
     record { at_least = omega (arith, ints, l, few, test); at_most = omega (arith, ints, h, few, test) } in
     let fits = fits_within w128 100000000000000000000000000000000000
-    (cast_signed w128 c.loop-place.sum-bits +ℤ c.most_at-sum.result) within (omega arith) in
+    (cast_signed w128 c.loop-index.sum-bits +ℤ c.most_at-sum.result) within (omega arith) in
     record { is = simp to_z-of_z sum; limit = simp to_z-of_z limit }
 
 pub returns-clause-limit : goal.returns-clause-limit
 returns-clause-limit c =
     let few = c.args.case.now.valid.horizon.at_most in
-    let end = c.loop-place.auto.place-end in
-    let a = c.loop-place.invariant.limit.at_least in
-    let b = c.loop-place.invariant.limit.at_most in
-    let within : IsWithin 100000000000000000000000000000000000 (cast_signed w128 c.loop-place.sum-bits) =
+    let end = c.loop-index.auto.index-end in
+    let a = c.loop-index.invariant.limit.at_least in
+    let b = c.loop-index.invariant.limit.at_most in
+    let within : IsWithin 100000000000000000000000000000000000 (cast_signed w128 c.loop-index.sum-bits) =
     record { at_least = omega (arith, ints, a, few, end); at_most = omega (arith, ints, b, few, end) } in
-    let f : FitsSigned w128 c.quotient_of.result = search rules in
-    simp to_z-of_z (c.quotient_of.ensures.limit 100000000000000000000000000000000000 within)
+    let f : FitsSigned w128 c.floor_quotient.result = search rules in
+    simp to_z-of_z (c.floor_quotient.ensures.limit 100000000000000000000000000000000000 within)
 
 pub returns-clause-bound : goal.returns-clause-bound
 returns-clause-bound c =
@@ -105,16 +105,16 @@ returns-clause-bound c =
     let π = prices_of c.args.centre.now in
     let q = c.args.radius in
     let rq = c.ranges.radius in
-    let k = c.loop-place.place in
-    let f : FitsSigned w128 c.quotient_of.result = search rules in
+    let k = c.loop-index.index in
+    let f : FitsSigned w128 c.floor_quotient.result = search rules in
     let qw : FitsSigned w64 c.args.mixture.now.weight = search rules in
     let term : ℕ → ℤ = λ j. most_energy m x π q j +ℤ most_reserve m x π q j in
-    let so_far : cast_signed w128 c.loop-place.sum-bits ≡ mixture_cost m x +ℤ sum_below k term =
-    simp to_z-of_z at c.loop-place.invariant.is in
-    let value = simp to_z-of_z at c.quotient_of.ensures.value in
-    let test = c.loop-place-test.false in
-    let end = c.loop-place.auto.place-end in
+    let so_far : cast_signed w128 c.loop-index.sum-bits ≡ mixture_cost m x +ℤ sum_below k term =
+    simp to_z-of_z at c.loop-index.invariant.is in
+    let value = simp to_z-of_z at c.floor_quotient.ensures.value in
+    let test = c.loop-index-test.false in
+    let end = c.loop-index.auto.index-end in
     let all : k ≡ m.periods = omega (arith, test, end) in
-    let bound : c.quotient_of.result ≡ mixture_bound m x π q =
+    let bound : c.floor_quotient.result ≡ mixture_bound m x π q =
     value ∙ ap (λ (z : ℤ). floor_div z (unsigned_abs x.whole)) so_far ∙ bound_is m x π q k all in
     simp to_z-of_z bound

@@ -24,8 +24,8 @@ reserve_is m x π radius k low high lacking e f g =
     ∙ ap (λ (z : ℤ). int_max (lacking *ℤ z) (lacking *ℤ high_end m π radius (m.periods + k))) e
     ∙ ap (λ (z : ℤ). int_max (z *ℤ low_end m π radius (m.periods + k)) (z *ℤ high_end m π radius (m.periods + k))) g
 
-pub most_energy-requires-clause-weight : goal.most_energy-requires-clause-weight
-most_energy-requires-clause-weight c =
+pub most_energy_term-requires-clause-weight : goal.most_energy_term-requires-clause-weight
+most_energy_term-requires-clause-weight c =
     let qw : FitsSigned w64 c.args.mixture.now.weight = search rules in
     let a = c.requires.shape.whole.at_least in
     let weight : IsFrom (pos 0) (pos 1000000000000) c.args.mixture.now.weight =
@@ -38,7 +38,7 @@ returns-clause-value c =
     let x = mixture_of c.args.mixture.now in
     let π = prices_of c.args.centre.now in
     let q = c.args.radius in
-    let k = c.args.place in
+    let k = c.args.index in
     let rq = c.ranges.radius in
     let lacks = c.lacks_at-lacks.result in
     let e = c.price_interval-energy.result in
@@ -50,43 +50,46 @@ returns-clause-value c =
     let eh : FitsSigned w64 c.price_interval-energy.result.high = search rules in
     let rl : FitsSigned w64 c.price_interval-reserve.result.low = search rules in
     let rh : FitsSigned w64 c.price_interval-reserve.result.high = search rules in
-    let f : FitsSigned w128 c.most_energy.result = search rules in
-    let g : FitsSigned w128 c.most_reserve.result = search rules in
-    let a = c.most_energy.ensures.limit.at_least in
-    let b = c.most_energy.ensures.limit.at_most in
-    let u = c.most_reserve.ensures.limit.at_least in
-    let v = c.most_reserve.ensures.limit.at_most in
-    let within : IsWithin 500000000000000000000000000000000 (c.most_energy.result +ℤ c.most_reserve.result) =
+    let f : FitsSigned w128 c.most_energy_term.result = search rules in
+    let g : FitsSigned w128 c.most_reserve_term.result = search rules in
+    let a = c.most_energy_term.ensures.limit.at_least in
+    let b = c.most_energy_term.ensures.limit.at_most in
+    let u = c.most_reserve_term.ensures.limit.at_least in
+    let v = c.most_reserve_term.ensures.limit.at_most in
+    let within : IsWithin 500000000000000000000000000000000 (c.most_energy_term.result +ℤ c.most_reserve_term.result) =
     record { at_least = omega (arith, ints, a, u); at_most = omega (arith, ints, b, v) } in
-    let fits = fits_within w128 500000000000000000000000000000000 (c.most_energy.result +ℤ c.most_reserve.result) within
+    let fits = fits_within w128 500000000000000000000000000000000
+    (c.most_energy_term.result +ℤ c.most_reserve_term.result) within
     (omega arith) in
-    let energy = simp to_z-of_z at c.most_energy.ensures.value in
-    let reserve = simp to_z-of_z at c.most_reserve.ensures.value in
+    let energy = simp to_z-of_z at c.most_energy_term.ensures.value in
+    let reserve = simp to_z-of_z at c.most_reserve_term.ensures.value in
     let energy_low = simp to_z-of_z at c.price_interval-energy.ensures.low in
     let energy_high = simp to_z-of_z at c.price_interval-energy.ensures.high in
     let reserve_low = simp to_z-of_z at c.price_interval-reserve.ensures.low in
     let reserve_high = simp to_z-of_z at c.price_interval-reserve.ensures.high in
     let power = c.lacks_at-lacks.ensures.power in
     let spare = c.lacks_at-lacks.ensures.reserve in
-    let one : c.most_energy.result ≡ most_energy m x π q k =
+    let one : c.most_energy_term.result ≡ most_energy m x π q k =
     energy ∙ energy_is m x π q k e.low e.high lacks.power energy_low energy_high power in
-    let two : c.most_reserve.result ≡ most_reserve m x π q k =
+    let two : c.most_reserve_term.result ≡ most_reserve m x π q k =
     reserve ∙ reserve_is m x π q k r.low r.high lacks.reserve reserve_low reserve_high spare in
-    let sum : c.most_energy.result +ℤ c.most_reserve.result ≡ most_energy m x π q k +ℤ most_reserve m x π q k =
+    let sum : c.most_energy_term.result +ℤ c.most_reserve_term.result ≡ most_energy m x π q k +ℤ most_reserve m x π
+    q k =
     omega (arith, ints, one, two) in
     simp to_z-of_z sum
 
 pub returns-clause-limit : goal.returns-clause-limit
 returns-clause-limit c =
-    let f : FitsSigned w128 c.most_energy.result = search rules in
-    let g : FitsSigned w128 c.most_reserve.result = search rules in
-    let a = c.most_energy.ensures.limit.at_least in
-    let b = c.most_energy.ensures.limit.at_most in
-    let x = c.most_reserve.ensures.limit.at_least in
-    let y = c.most_reserve.ensures.limit.at_most in
-    let within : IsWithin 500000000000000000000000000000000 (c.most_energy.result +ℤ c.most_reserve.result) =
+    let f : FitsSigned w128 c.most_energy_term.result = search rules in
+    let g : FitsSigned w128 c.most_reserve_term.result = search rules in
+    let a = c.most_energy_term.ensures.limit.at_least in
+    let b = c.most_energy_term.ensures.limit.at_most in
+    let x = c.most_reserve_term.ensures.limit.at_least in
+    let y = c.most_reserve_term.ensures.limit.at_most in
+    let within : IsWithin 500000000000000000000000000000000 (c.most_energy_term.result +ℤ c.most_reserve_term.result) =
     record { at_least = omega (arith, ints, a, x); at_most = omega (arith, ints, b, y) } in
-    let fits = fits_within w128 500000000000000000000000000000000 (c.most_energy.result +ℤ c.most_reserve.result) within
+    let fits = fits_within w128 500000000000000000000000000000000
+    (c.most_energy_term.result +ℤ c.most_reserve_term.result) within
     (omega arith) in
     simp to_z-of_z within
 
@@ -94,20 +97,20 @@ returns-clause-limit c =
 pub overflow_add-case : goal.overflow_add-case
 overflow_add-case c = search rules
 
-pub most_energy-requires-clause-low : goal.most_energy-requires-clause-low
-most_energy-requires-clause-low c = search rules
+pub most_energy_term-requires-clause-low : goal.most_energy_term-requires-clause-low
+most_energy_term-requires-clause-low c = search rules
 
-pub most_energy-requires-clause-ordered : goal.most_energy-requires-clause-ordered
-most_energy-requires-clause-ordered c = search rules
+pub most_energy_term-requires-clause-ordered : goal.most_energy_term-requires-clause-ordered
+most_energy_term-requires-clause-ordered c = search rules
 
-pub most_energy-requires-clause-high : goal.most_energy-requires-clause-high
-most_energy-requires-clause-high c = search rules
+pub most_energy_term-requires-clause-high : goal.most_energy_term-requires-clause-high
+most_energy_term-requires-clause-high c = search rules
 
-pub most_reserve-requires-clause-low : goal.most_reserve-requires-clause-low
-most_reserve-requires-clause-low c = search rules
+pub most_reserve_term-requires-clause-low : goal.most_reserve_term-requires-clause-low
+most_reserve_term-requires-clause-low c = search rules
 
-pub most_reserve-requires-clause-high : goal.most_reserve-requires-clause-high
-most_reserve-requires-clause-high c = search rules
+pub most_reserve_term-requires-clause-high : goal.most_reserve_term-requires-clause-high
+most_reserve_term-requires-clause-high c = search rules
 
 pub overflow_add-result : goal.overflow_add-result
 overflow_add-result c = search rules

@@ -13,28 +13,28 @@ use Rattle.gap_proof.specs.MixtureRefused.{EntryRefusal, entry_refusals, all_ent
 use Rattle.gap_proof.proofs.RefusedLaws.{drop_from}
 use Rattle.gap_proof.proofs.mixture_check.check_all.Goals as goal
 
-pub get-requires-in-loop-place : goal.get-requires-in-loop-place
-get-requires-in-loop-place c =
+pub get-requires-in-loop-index : goal.get-requires-in-loop-index
+get-requires-in-loop-index c =
     let m = market_of c.args.case.now in
     let x = mixture_of c.args.mixture.now in
     let same = length_same (λ (n : NamedThermalUnit) (es : List WeighedSchedule). AreEntries m.periods x.whole es)
     m.thermal x.entries c.requires.entries in
     let a = length-map c.args.case.now.thermal.items named_thermal_of in
     let b = length-map c.args.mixture.now.thermal.items entries_of in
-    let test = c.loop-place-test.true in
-    let end = c.len-place-end.ensures in
+    let test = c.loop-index-test.true in
+    let end = c.len-index-end.ensures in
     omega (arith, same, a, b, test, end)
 
 pub check_entries-requires : goal.check_entries-requires
 check_entries-requires c =
     let m = market_of c.args.case.now in
     let x = mixture_of c.args.mixture.now in
-    let k = c.loop-place.place in
+    let k = c.loop-index.index in
     let n = named_thermal_of c.get.result.now in
-    let es = entries_of c.get-in-loop-place.result.now in
+    let es = entries_of c.get-in-loop-index.result.now in
     let at_n = map_item named_thermal_of c.args.case.now.thermal.items k c.get.result.now c.get.ensures.item in
-    let at_es = map_item entries_of c.args.mixture.now.thermal.items k c.get-in-loop-place.result.now
-    c.get-in-loop-place.ensures.item in
+    let at_es = map_item entries_of c.args.mixture.now.thermal.items k c.get-in-loop-index.result.now
+    c.get-in-loop-index.ensures.item in
     let read = zip_item (λ (q : NamedThermalUnit) (l : List WeighedSchedule). AreEntries m.periods x.whole l) m.thermal
     x.entries k n es c.requires.entries at_n at_es in
     let long = (item_of (λ (q : NamedThermalUnit). IsThermalUnit q.unit × (length q.unit.window ≡ m.periods)) m.thermal
@@ -66,39 +66,39 @@ pub returns-in_err-check_entries : goal.returns-in_err-check_entries
 returns-in_err-check_entries c =
     let m = market_of c.args.case.now in
     let x = mixture_of c.args.mixture.now in
-    let k = c.loop-place.place in
+    let k = c.loop-index.index in
     let n = named_thermal_of c.get.result.now in
-    let es = entries_of c.get-in-loop-place.result.now in
+    let es = entries_of c.get-in-loop-index.result.now in
     let at_n = map_item named_thermal_of c.args.case.now.thermal.items k c.get.result.now c.get.ensures.item in
-    let at_es = map_item entries_of c.args.mixture.now.thermal.items k c.get-in-loop-place.result.now
-    c.get-in-loop-place.ensures.item in
+    let at_es = map_item entries_of c.args.mixture.now.thermal.items k c.get-in-loop-index.result.now
+    c.get-in-loop-index.ensures.item in
     let long = (item_of (λ (q : NamedThermalUnit). IsThermalUnit q.unit × (length q.unit.window ≡ m.periods)) m.thermal
     k n c.args.case.now.valid.thermal at_n).1 in
     let same = same_checked (length n.unit.window) m.periods (k + 1) n.unit c.as_slice-entries.result.now
-    c.get-in-loop-place.result.now.items long c.as_slice-entries.ensures in
+    c.get-in-loop-index.result.now.items long c.as_slice-entries.ensures in
     let here = entry_refusals m.periods (k + 1) n.unit 1 es in
     let p = err_from_is_err_and c.from_residual.result c.from_residual.ensures.1 in
     rw (p.1, p.2)
-    (ap (λ (l : List EntryRefusal). slice_get l 0) (c.loop-place.invariant ∙ split_at m x.entries k n es at_n at_es)
+    (ap (λ (l : List EntryRefusal). slice_get l 0) (c.loop-index.invariant ∙ split_at m x.entries k n es at_n at_es)
     ∙ first_left here (all_entries m.periods (suc (k + 1)) (drop (k + 1) m.thermal) (drop (k + 1) x.entries)) _
     (ap (λ (l : List EntryRefusal). slice_get l 0) (sym same) ∙ c.in_err-check_entries.ensures))
 
-pub loop-place-preserved : goal.loop-place-preserved
-loop-place-preserved c =
+pub loop-index-preserved : goal.loop-index-preserved
+loop-index-preserved c =
     let m = market_of c.args.case.now in
     let x = mixture_of c.args.mixture.now in
-    let k = c.loop-place.place in
+    let k = c.loop-index.index in
     let n = named_thermal_of c.get.result.now in
-    let es = entries_of c.get-in-loop-place.result.now in
+    let es = entries_of c.get-in-loop-index.result.now in
     let at_n = map_item named_thermal_of c.args.case.now.thermal.items k c.get.result.now c.get.ensures.item in
-    let at_es = map_item entries_of c.args.mixture.now.thermal.items k c.get-in-loop-place.result.now
-    c.get-in-loop-place.ensures.item in
+    let at_es = map_item entries_of c.args.mixture.now.thermal.items k c.get-in-loop-index.result.now
+    c.get-in-loop-index.ensures.item in
     let long = (item_of (λ (q : NamedThermalUnit). IsThermalUnit q.unit × (length q.unit.window ≡ m.periods)) m.thermal
     k n c.args.case.now.valid.thermal at_n).1 in
     let same = same_checked (length n.unit.window) m.periods (k + 1) n.unit c.as_slice-entries.result.now
-    c.get-in-loop-place.result.now.items long c.as_slice-entries.ensures in
+    c.get-in-loop-index.result.now.items long c.as_slice-entries.ensures in
     let next : suc (k + 1) ≡ k + 1 + 1 = omega arith in
     let behind = all_entries m.periods (suc (k + 1)) (drop (k + 1) m.thermal) (drop (k + 1) x.entries) in
-    c.loop-place.invariant ∙ split_at m x.entries k n es at_n at_es
+    c.loop-index.invariant ∙ split_at m x.entries k n es at_n at_es
     ∙ ap (λ (l : List EntryRefusal). l ++ behind) (sym same ∙ c.in_ok-check_entries.ensures)
     ∙ ap (λ (j : ℕ). all_entries m.periods j (drop (k + 1) m.thermal) (drop (k + 1) x.entries)) next

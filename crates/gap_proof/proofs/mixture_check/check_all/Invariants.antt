@@ -3,8 +3,8 @@ use Rattle.gap_proof.specs.Mixtures.{mixture_of}
 use Rattle.gap_proof.specs.MixtureRefused.{all_entries, mixture_refusals}
 use Rattle.gap_proof.proofs.mixture_check.check_all.Given as goal
 
-abbrev pub invariant-loop-place : goal.invariant-loop-place
-invariant-loop-place l =
+abbrev pub invariant-loop-index : goal.invariant-loop-index
+invariant-loop-index l =
     mixture_refusals (market_of l.case) (mixture_of l.mixture)
-    ≡ all_entries (market_of l.case).periods (l.place + 1) (drop l.place (market_of l.case).thermal)
-    (drop l.place (mixture_of l.mixture).entries)
+    ≡ all_entries (market_of l.case).periods (l.index + 1) (drop l.index (market_of l.case).thermal)
+    (drop l.index (mixture_of l.mixture).entries)

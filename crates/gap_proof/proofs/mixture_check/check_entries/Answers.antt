@@ -13,39 +13,39 @@ pub check_entry-requires : goal.check_entry-requires
 check_entry-requires c =
     record {
       over = item_of (λ (e : WeighedSchedule). IsOver (length c.args.unit.now.window.items) e.schedule)
-          (map entry_of c.args.entries.now) c.loop-place.place (entry_of c.index-entries-place.result) c.requires.over
-          (entry_at c.args.entries.now c.loop-place.place c.index-entries-place.result c.loop-place-test.true
-          c.index-entries-place.is);
+          (map entry_of c.args.entries.now) c.loop-index.index (entry_of c.index-entries-index.result) c.requires.over
+          (entry_at c.args.entries.now c.loop-index.index c.index-entries-index.result c.loop-index-test.true
+          c.index-entries-index.is);
     }
 
 pub returns-in_err-check_entry : goal.returns-in_err-check_entry
 returns-in_err-check_entry c =
     let T = length c.args.unit.now.window.items in
     let g = thermal_of c.args.unit.now in
-    let k = c.loop-place.place in
+    let k = c.loop-index.index in
     let es = map entry_of c.args.entries.now in
-    let x = entry_of c.index-entries-place.result in
-    let at = entry_at c.args.entries.now k c.index-entries-place.result c.loop-place-test.true
-    c.index-entries-place.is in
+    let x = entry_of c.index-entries-index.result in
+    let at = entry_at c.args.entries.now k c.index-entries-index.result c.loop-index-test.true
+    c.index-entries-index.is in
     let p = err_from_is_err_and c.from_residual.result c.from_residual.ensures.1 in
     rw (p.1, p.2)
     (ap (λ (l : List EntryRefusal). slice_get l 0)
-    (c.loop-place.invariant ∙ ap (λ (l : List WeighedSchedule). entry_refusals T c.args.number g (k + 1) l)
+    (c.loop-index.invariant ∙ ap (λ (l : List WeighedSchedule). entry_refusals T c.args.number g (k + 1) l)
     (drop_from es k x at) ∙ refusals_split T c.args.number g (k + 1) x (drop (k + 1) es))
     ∙ first_left (entry_refusals T c.args.number g (k + 1) (x ∷ []))
     (entry_refusals T c.args.number g (suc (k + 1)) (drop (k + 1) es)) _ c.in_err-check_entry.ensures)
 
-pub loop-place-preserved : goal.loop-place-preserved
-loop-place-preserved c =
+pub loop-index-preserved : goal.loop-index-preserved
+loop-index-preserved c =
     let T = length c.args.unit.now.window.items in
     let g = thermal_of c.args.unit.now in
-    let k = c.loop-place.place in
+    let k = c.loop-index.index in
     let es = map entry_of c.args.entries.now in
-    let x = entry_of c.index-entries-place.result in
-    let at = entry_at c.args.entries.now k c.index-entries-place.result c.loop-place-test.true
-    c.index-entries-place.is in
+    let x = entry_of c.index-entries-index.result in
+    let at = entry_at c.args.entries.now k c.index-entries-index.result c.loop-index-test.true
+    c.index-entries-index.is in
     let next : suc (k + 1) ≡ k + 1 + 1 = omega arith in
-    c.loop-place.invariant ∙ ap (λ (l : List WeighedSchedule). entry_refusals T c.args.number g (k + 1) l)
+    c.loop-index.invariant ∙ ap (λ (l : List WeighedSchedule). entry_refusals T c.args.number g (k + 1) l)
     (drop_from es k x at) ∙ refusals_split T c.args.number g (k + 1) x (drop (k + 1) es)
     ∙ ap (λ (l : List EntryRefusal). l ++ entry_refusals T c.args.number g (suc (k + 1)) (drop (k + 1) es))
     c.in_ok-check_entry.ensures

@@ -8,8 +8,8 @@ use Rattle.gap_proof.specs.Mixtures.{entry_of}
 use Rattle.gap_proof.proofs.MixtureSumLaws.{IsShare, entry_at, total_more, share_more, share_within}
 use Rattle.gap_proof.proofs.mixture_sums.cost_of_entries.Goals as goal
 
-pub cost_of_one-requires-clause-horizon : goal.cost_of_one-requires-clause-horizon
-cost_of_one-requires-clause-horizon c =
+pub cost_of_schedule-requires-clause-horizon : goal.cost_of_schedule-requires-clause-horizon
+cost_of_schedule-requires-clause-horizon c =
     let g = thermal_of c.args.unit.now in
     let T = length c.args.unit.now.window.items in
     let at = entry_at c.args.entries.now c.loop-entry.entry-index c.entry-item.result c.loop-entry-test.true
@@ -20,8 +20,8 @@ cost_of_one-requires-clause-horizon c =
     let few = c.requires.horizon in
     omega (arith, on, few)
 
-pub cost_of_one-requires-clause-feasible : goal.cost_of_one-requires-clause-feasible
-cost_of_one-requires-clause-feasible c =
+pub cost_of_schedule-requires-clause-feasible : goal.cost_of_schedule-requires-clause-feasible
+cost_of_schedule-requires-clause-feasible c =
     let g = thermal_of c.args.unit.now in
     let T = length c.args.unit.now.window.items in
     let at = entry_at c.args.entries.now c.loop-entry.entry-index c.entry-item.result c.loop-entry-test.true
@@ -38,17 +38,17 @@ overflow_add-sum c =
     let x = entry_of c.entry-item.result in
     let at = entry_at c.args.entries.now i c.entry-item.result c.loop-entry-test.true c.entry-item.is in
     let qw : FitsSigned w64 c.entry-item.result.weight = search rules in
-    let qc : FitsSigned w64 c.cost_of_one.result = search rules in
-    let f : FitsSigned w128 c.product_of-sum.result = search rules in
-    let e = simp to_z-of_z at c.product_of-sum.ensures in
-    let share = share_more 1700000000000000000 i es x (cast_signed w128 c.loop-entry.sum-bits) c.cost_of_one.result
-    c.requires.weights at c.cost_of_one.ensures.limit c.loop-entry.invariant.limit in
+    let qc : FitsSigned w64 c.cost_of_schedule.result = search rules in
+    let f : FitsSigned w128 c.wide_product-sum.result = search rules in
+    let e = simp to_z-of_z at c.wide_product-sum.ensures in
+    let share = share_more 1700000000000000000 i es x (cast_signed w128 c.loop-entry.sum-bits) c.cost_of_schedule.result
+    c.requires.weights at c.cost_of_schedule.ensures.limit c.loop-entry.invariant.limit in
     let within : IsWithin 1700000000000000000000000000000
-    (cast_signed w128 c.loop-entry.sum-bits +ℤ c.product_of-sum.result) =
+    (cast_signed w128 c.loop-entry.sum-bits +ℤ c.wide_product-sum.result) =
     rw e (share_within 1700000000000000000 (i + 1) es
-    (cast_signed w128 c.loop-entry.sum-bits +ℤ (x.weight *ℤ c.cost_of_one.result)) c.requires.weights share) in
+    (cast_signed w128 c.loop-entry.sum-bits +ℤ (x.weight *ℤ c.cost_of_schedule.result)) c.requires.weights share) in
     let fits = fits_within w128 1700000000000000000000000000000
-    (cast_signed w128 c.loop-entry.sum-bits +ℤ c.product_of-sum.result) within (omega arith) in
+    (cast_signed w128 c.loop-entry.sum-bits +ℤ c.wide_product-sum.result) within (omega arith) in
     simp to_z-of_z fits
 
 pub loop-entry-preserved : goal.loop-entry-preserved
@@ -59,26 +59,26 @@ loop-entry-preserved c =
     let x = entry_of c.entry-item.result in
     let at = entry_at c.args.entries.now i c.entry-item.result c.loop-entry-test.true c.entry-item.is in
     let qw : FitsSigned w64 c.entry-item.result.weight = search rules in
-    let qc : FitsSigned w64 c.cost_of_one.result = search rules in
-    let f : FitsSigned w128 c.product_of-sum.result = search rules in
-    let e = simp to_z-of_z at c.product_of-sum.ensures in
+    let qc : FitsSigned w64 c.cost_of_schedule.result = search rules in
+    let f : FitsSigned w128 c.wide_product-sum.result = search rules in
+    let e = simp to_z-of_z at c.wide_product-sum.ensures in
     let so_far : cast_signed w128 c.loop-entry.sum-bits ≡ weighed (cost_of (Thermal g)) (take i es) =
     c.loop-entry.invariant.is in
     let more = total_more (λ (q : WeighedSchedule). q.weight *ℤ cost_of (Thermal g) q.schedule) es i x at in
-    let value = c.cost_of_one.ensures.value in
-    let step : c.product_of-sum.result ≡ x.weight *ℤ cost_of (Thermal g) x.schedule =
+    let value = c.cost_of_schedule.ensures.value in
+    let step : c.wide_product-sum.result ≡ x.weight *ℤ cost_of (Thermal g) x.schedule =
     e ∙ ap (λ (z : ℤ). x.weight *ℤ z) value in
-    let sum : cast_signed w128 c.loop-entry.sum-bits +ℤ c.product_of-sum.result ≡ weighed (cost_of (Thermal g))
+    let sum : cast_signed w128 c.loop-entry.sum-bits +ℤ c.wide_product-sum.result ≡ weighed (cost_of (Thermal g))
     (take (i + 1) es) = omega (arith, ints, so_far, step, more) in
-    let share = share_more 1700000000000000000 i es x (cast_signed w128 c.loop-entry.sum-bits) c.cost_of_one.result
-    c.requires.weights at c.cost_of_one.ensures.limit c.loop-entry.invariant.limit in
+    let share = share_more 1700000000000000000 i es x (cast_signed w128 c.loop-entry.sum-bits) c.cost_of_schedule.result
+    c.requires.weights at c.cost_of_schedule.ensures.limit c.loop-entry.invariant.limit in
     let limit : IsShare 1700000000000000000 (i + 1) es
-    (cast_signed w128 c.loop-entry.sum-bits +ℤ c.product_of-sum.result) =
+    (cast_signed w128 c.loop-entry.sum-bits +ℤ c.wide_product-sum.result) =
     rw e share in
     let within = share_within 1700000000000000000 (i + 1) es
-    (cast_signed w128 c.loop-entry.sum-bits +ℤ c.product_of-sum.result) c.requires.weights limit in
+    (cast_signed w128 c.loop-entry.sum-bits +ℤ c.wide_product-sum.result) c.requires.weights limit in
     let fits = fits_within w128 1700000000000000000000000000000
-    (cast_signed w128 c.loop-entry.sum-bits +ℤ c.product_of-sum.result) within (omega arith) in
+    (cast_signed w128 c.loop-entry.sum-bits +ℤ c.wide_product-sum.result) within (omega arith) in
     record { is = simp to_z-of_z sum; limit = simp to_z-of_z limit }
 
 pub returns-clause-limit : goal.returns-clause-limit

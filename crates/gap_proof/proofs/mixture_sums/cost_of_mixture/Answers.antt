@@ -13,28 +13,28 @@ use Rattle.gap_proof.specs.MixtureSizes.{AreUnitWeights}
 use Rattle.gap_proof.proofs.MixtureSumLaws.{zip_more, weights_of}
 use Rattle.gap_proof.proofs.mixture_sums.cost_of_mixture.Goals as goal
 
-pub get-requires-in-loop-place : goal.get-requires-in-loop-place
-get-requires-in-loop-place c =
+pub get-requires-in-loop-index : goal.get-requires-in-loop-index
+get-requires-in-loop-index c =
     let m = market_of c.args.case.now in
     let x = mixture_of c.args.mixture.now in
     let same = length_same (λ (n : NamedThermalUnit) (es : List WeighedSchedule). AreEntries m.periods x.whole es)
     m.thermal x.entries c.requires.shape.entries in
     let a = length-map c.args.case.now.thermal.items named_thermal_of in
     let b = length-map c.args.mixture.now.thermal.items entries_of in
-    let test = c.loop-place-test.true in
-    let end = c.len-place-end.ensures in
+    let test = c.loop-index-test.true in
+    let end = c.len-index-end.ensures in
     omega (arith, same, a, b, test, end)
 
 pub cost_of_entries-sum-requires-clause-weights : goal.cost_of_entries-sum-requires-clause-weights
 cost_of_entries-sum-requires-clause-weights c =
     let m = market_of c.args.case.now in
     let x = mixture_of c.args.mixture.now in
-    let k = c.loop-place.place in
+    let k = c.loop-index.index in
     let n = named_thermal_of c.get.result.now in
-    let es = entries_of c.get-in-loop-place.result.now in
+    let es = entries_of c.get-in-loop-index.result.now in
     let at_n = map_item named_thermal_of c.args.case.now.thermal.items k c.get.result.now c.get.ensures.item in
-    let at_es = map_item entries_of c.args.mixture.now.thermal.items k c.get-in-loop-place.result.now
-    c.get-in-loop-place.ensures.item in
+    let at_es = map_item entries_of c.args.mixture.now.thermal.items k c.get-in-loop-index.result.now
+    c.get-in-loop-index.ensures.item in
     let read = zip_item (λ (q : NamedThermalUnit) (l : List WeighedSchedule). AreEntries m.periods x.whole l) m.thermal
     x.entries k n es c.requires.shape.entries at_n at_es in
     subst (λ (l : List Entry). AreUnitWeights (map entry_of l)) (sym c.as_slice.ensures)
@@ -44,12 +44,12 @@ pub cost_of_entries-sum-requires-clause-feasible : goal.cost_of_entries-sum-requ
 cost_of_entries-sum-requires-clause-feasible c =
     let m = market_of c.args.case.now in
     let x = mixture_of c.args.mixture.now in
-    let k = c.loop-place.place in
+    let k = c.loop-index.index in
     let n = named_thermal_of c.get.result.now in
-    let es = entries_of c.get-in-loop-place.result.now in
+    let es = entries_of c.get-in-loop-index.result.now in
     let at_n = map_item named_thermal_of c.args.case.now.thermal.items k c.get.result.now c.get.ensures.item in
-    let at_es = map_item entries_of c.args.mixture.now.thermal.items k c.get-in-loop-place.result.now
-    c.get-in-loop-place.ensures.item in
+    let at_es = map_item entries_of c.args.mixture.now.thermal.items k c.get-in-loop-index.result.now
+    c.get-in-loop-index.ensures.item in
     let mixed = zip_item (λ (q : NamedThermalUnit) (l : List WeighedSchedule). AreMixed m.periods x.whole q.unit l)
     m.thermal x.entries k n es c.requires.feasible.mixed at_n at_es in
     let long = (item_of (λ (q : NamedThermalUnit). IsThermalUnit q.unit × (length q.unit.window ≡ m.periods)) m.thermal
@@ -63,65 +63,65 @@ pub overflow_add-sum : goal.overflow_add-sum
 overflow_add-sum c =
     let few = c.args.case.now.valid.thermal_count in
     let mapped = length-map c.args.case.now.thermal.items named_thermal_of in
-    let test = c.loop-place-test.true in
-    let end = c.len-place-end.ensures in
+    let test = c.loop-index-test.true in
+    let end = c.len-index-end.ensures in
     let f : FitsSigned w128 c.cost_of_entries-sum.result = search rules in
-    let a = c.loop-place.invariant.limit.at_least in
-    let b = c.loop-place.invariant.limit.at_most in
+    let a = c.loop-index.invariant.limit.at_least in
+    let b = c.loop-index.invariant.limit.at_most in
     let x = c.cost_of_entries-sum.ensures.limit.at_least in
     let y = c.cost_of_entries-sum.ensures.limit.at_most in
     let within : IsWithin 7000000000000000000000000000000000
-    (cast_signed w128 c.loop-place.sum-bits +ℤ c.cost_of_entries-sum.result) =
+    (cast_signed w128 c.loop-index.sum-bits +ℤ c.cost_of_entries-sum.result) =
     record {
       at_least = omega (arith, ints, a, x, few, mapped, test, end);
       at_most =
           omega (arith, ints, b, y, few, mapped, test, end);
     } in
     let fits = fits_within w128 7000000000000000000000000000000000
-    (cast_signed w128 c.loop-place.sum-bits +ℤ c.cost_of_entries-sum.result) within (omega arith) in
+    (cast_signed w128 c.loop-index.sum-bits +ℤ c.cost_of_entries-sum.result) within (omega arith) in
     simp to_z-of_z fits
 
-pub loop-place-preserved : goal.loop-place-preserved
-loop-place-preserved c =
+pub loop-index-preserved : goal.loop-index-preserved
+loop-index-preserved c =
     let m = market_of c.args.case.now in
     let x = mixture_of c.args.mixture.now in
-    let k = c.loop-place.place in
+    let k = c.loop-index.index in
     let n = named_thermal_of c.get.result.now in
-    let es = entries_of c.get-in-loop-place.result.now in
+    let es = entries_of c.get-in-loop-index.result.now in
     let at_n = map_item named_thermal_of c.args.case.now.thermal.items k c.get.result.now c.get.ensures.item in
-    let at_es = map_item entries_of c.args.mixture.now.thermal.items k c.get-in-loop-place.result.now
-    c.get-in-loop-place.ensures.item in
+    let at_es = map_item entries_of c.args.mixture.now.thermal.items k c.get-in-loop-index.result.now
+    c.get-in-loop-index.ensures.item in
     let few = c.args.case.now.valid.thermal_count in
     let mapped = length-map c.args.case.now.thermal.items named_thermal_of in
-    let test = c.loop-place-test.true in
-    let end = c.len-place-end.ensures in
+    let test = c.loop-index-test.true in
+    let end = c.len-index-end.ensures in
     let f : FitsSigned w128 c.cost_of_entries-sum.result = search rules in
     let more = zip_more (λ (q : NamedThermalUnit) (l : List WeighedSchedule). weighed (cost_of (Thermal q.unit)) l)
     m.thermal x.entries k n es at_n at_es in
-    let so_far : cast_signed w128 c.loop-place.sum-bits ≡ total
+    let so_far : cast_signed w128 c.loop-index.sum-bits ≡ total
     (zip_with (λ (q : NamedThermalUnit) (l : List WeighedSchedule). weighed (cost_of (Thermal q.unit)) l)
-    (take k m.thermal) x.entries) = c.loop-place.invariant.is in
+    (take k m.thermal) x.entries) = c.loop-index.invariant.is in
     let value = c.cost_of_entries-sum.ensures.value in
     let same = ap (λ (l : List Entry). weighed (cost_of (Thermal n.unit)) (map entry_of l)) c.as_slice.ensures in
-    let a = c.loop-place.invariant.limit.at_least in
-    let b = c.loop-place.invariant.limit.at_most in
+    let a = c.loop-index.invariant.limit.at_least in
+    let b = c.loop-index.invariant.limit.at_most in
     let u = c.cost_of_entries-sum.ensures.limit.at_least in
     let v = c.cost_of_entries-sum.ensures.limit.at_most in
-    let sum : cast_signed w128 c.loop-place.sum-bits +ℤ c.cost_of_entries-sum.result ≡ total
+    let sum : cast_signed w128 c.loop-index.sum-bits +ℤ c.cost_of_entries-sum.result ≡ total
     (zip_with (λ (q : NamedThermalUnit) (l : List WeighedSchedule). weighed (cost_of (Thermal q.unit)) l)
     (take (k + 1) m.thermal) x.entries) = omega (arith, ints, more, so_far, value, same) in
     let limit : IsWithin (1700000000000000000000000000000 * (k + 1))
-    (cast_signed w128 c.loop-place.sum-bits +ℤ c.cost_of_entries-sum.result) =
+    (cast_signed w128 c.loop-index.sum-bits +ℤ c.cost_of_entries-sum.result) =
     record { at_least = omega (arith, ints, a, u); at_most = omega (arith, ints, b, v) } in
     let l = limit.at_least in
     let h = limit.at_most in
     let within : IsWithin 7000000000000000000000000000000000
-    (cast_signed w128 c.loop-place.sum-bits +ℤ c.cost_of_entries-sum.result) =
+    (cast_signed w128 c.loop-index.sum-bits +ℤ c.cost_of_entries-sum.result) =
     record {
       at_least = omega (arith, ints, l, few, mapped, test, end);
       at_most =
           omega (arith, ints, h, few, mapped, test, end);
     } in
     let fits = fits_within w128 7000000000000000000000000000000000
-    (cast_signed w128 c.loop-place.sum-bits +ℤ c.cost_of_entries-sum.result) within (omega arith) in
+    (cast_signed w128 c.loop-index.sum-bits +ℤ c.cost_of_entries-sum.result) within (omega arith) in
     record { is = simp to_z-of_z sum; limit = simp to_z-of_z limit }

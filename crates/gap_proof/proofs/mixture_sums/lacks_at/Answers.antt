@@ -6,32 +6,32 @@ use Rattle.gap_proof.proofs.mixture_sums.lacks_at.Goals as goal
 pub returns-clause-power : goal.returns-clause-power
 returns-clause-power c =
     let x = c.args.mixture.now.weight in
-    let k = c.args.place in
+    let k = c.args.index in
     let demand = c.args.case.now.demand.items in
     let f : FitsSigned w128 c.weighted_lack.result = search rules in
     let fx : FitsSigned w64 x = search rules in
     let fd : FitsSigned w64 c.get.result.now = search rules in
-    let fg : FitsSigned w128 c.given_at-given.result.power = search rules in
+    let fg : FitsSigned w128 c.given_by_mixture-given.result.power = search rules in
     let is = simp to_z-of_z at c.weighted_lack.ensures.value in
     let at = get_or_from_slice_get demand k c.get.result.now (pos 0) c.get.ensures.item in
     simp to_z-of_z
-    (is ∙ ap (λ (z : ℤ). (x *ℤ z) -ℤ c.given_at-given.result.power) (sym at)
-    ∙ ap (λ (z : ℤ). (x *ℤ int_at demand k) -ℤ z) c.given_at-given.ensures.power)
+    (is ∙ ap (λ (z : ℤ). (x *ℤ z) -ℤ c.given_by_mixture-given.result.power) (sym at)
+    ∙ ap (λ (z : ℤ). (x *ℤ int_at demand k) -ℤ z) c.given_by_mixture-given.ensures.power)
 
 pub returns-clause-reserve : goal.returns-clause-reserve
 returns-clause-reserve c =
     let x = c.args.mixture.now.weight in
-    let k = c.args.place in
+    let k = c.args.index in
     let reserves = c.args.case.now.reserves.items in
     let f : FitsSigned w128 c.weighted_lack-2.result = search rules in
     let fx : FitsSigned w64 x = search rules in
     let fd : FitsSigned w64 c.get-2.result.now = search rules in
-    let fg : FitsSigned w128 c.given_at-given.result.reserve = search rules in
+    let fg : FitsSigned w128 c.given_by_mixture-given.result.reserve = search rules in
     let is = simp to_z-of_z at c.weighted_lack-2.ensures.value in
     let at = get_or_from_slice_get reserves k c.get-2.result.now (pos 0) c.get-2.ensures.item in
     simp to_z-of_z
-    (is ∙ ap (λ (z : ℤ). (x *ℤ z) -ℤ c.given_at-given.result.reserve) (sym at)
-    ∙ ap (λ (z : ℤ). (x *ℤ int_at reserves k) -ℤ z) c.given_at-given.ensures.reserve)
+    (is ∙ ap (λ (z : ℤ). (x *ℤ z) -ℤ c.given_by_mixture-given.result.reserve) (sym at)
+    ∙ ap (λ (z : ℤ). (x *ℤ int_at reserves k) -ℤ z) c.given_by_mixture-given.ensures.reserve)
 
 -- (found by what is tried without an answer too, but slowly)
 pub weighted_lack-requires-clause-weight : goal.weighted_lack-requires-clause-weight
@@ -53,11 +53,11 @@ weighted_lack-requires-2-clause-weight c =
 pub weighted_lack-requires-clause-required : goal.weighted_lack-requires-clause-required
 weighted_lack-requires-clause-required c =
     let fd : FitsSigned w64 c.get.result.now = search rules in
-    simp to_z-of_z (item_of IsPower c.args.case.now.demand.items c.args.place c.get.result.now
+    simp to_z-of_z (item_of IsPower c.args.case.now.demand.items c.args.index c.get.result.now
     c.args.case.now.valid.demand c.get.ensures.item)
 
 pub weighted_lack-requires-2-clause-required : goal.weighted_lack-requires-2-clause-required
 weighted_lack-requires-2-clause-required c =
     let fd : FitsSigned w64 c.get-2.result.now = search rules in
-    simp to_z-of_z (item_of IsPower c.args.case.now.reserves.items c.args.place c.get-2.result.now
+    simp to_z-of_z (item_of IsPower c.args.case.now.reserves.items c.args.index c.get-2.result.now
     c.args.case.now.valid.reserves c.get-2.ensures.item)

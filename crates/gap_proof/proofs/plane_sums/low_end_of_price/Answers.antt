@@ -18,7 +18,7 @@ returns-clause-value c =
     let e = simp to_z-of_z at c.max.ensures in
     simp to_z-of_z
     (e.value ∙ ap (λ (z : ℤ). int_max z (c.price_at_place.result -ℤ c.args.radius)) c.least_price_at.ensures.value
-    ∙ ap (λ (z : ℤ). int_max (lowest_price (market_of c.args.case.now) c.args.place) (z -ℤ c.args.radius))
+    ∙ ap (λ (z : ℤ). int_max (lowest_price (market_of c.args.case.now) c.args.index) (z -ℤ c.args.radius))
     c.price_at_place.ensures.value)
 
 pub returns-clause-limits : goal.returns-clause-limits

@@ -7,18 +7,18 @@ use Rattle.gap_proof.proofs.plane_sums.most_of_slopes.Goals as goal
 pub most_between-total-requires-clause-slope : goal.most_between-total-requires-clause-slope
 most_between-total-requires-clause-slope c =
     let f : FitsSigned w128 c.get.result.now = search rules in
-    let test = c.loop-place-test.true in
+    let test = c.loop-index-test.true in
     let wide = c.requires.length in
     let size = subst IsSlopeSum c.get.ensures.value
-    (c.requires.slopes c.loop-place.place c.get.result.now (omega (arith, test, wide))) in
+    (c.requires.slopes c.loop-index.index c.get.result.now (omega (arith, test, wide))) in
     simp to_z-of_z size
 
-pub loop-place-preserved : goal.loop-place-preserved
-loop-place-preserved c =
+pub loop-index-preserved : goal.loop-index-preserved
+loop-index-preserved c =
     let m = market_of c.args.case.now in
     let π = prices_of c.args.centre.now in
     let q = c.args.radius in
-    let k = c.loop-place.place in
+    let k = c.loop-index.index in
     let xs = c.args.slopes.now.items in
     let f : ℕ → ℤ = λ j. int_max (int_at xs j *ℤ low_end m π q j) (int_at xs j *ℤ high_end m π q j) in
     let rq = c.ranges.radius in
@@ -26,8 +26,8 @@ loop-place-preserved c =
     let h : FitsSigned w64 c.low_end_of_price-low.result = search rules in
     let i : FitsSigned w64 c.high_end_of_price-high.result = search rules in
     let t : FitsSigned w128 c.most_between-total.result = search rules in
-    let so_far : cast_signed w128 c.loop-place.total-bits ≡ sum_below k f =
-    simp to_z-of_z at c.loop-place.invariant.so_far in
+    let so_far : cast_signed w128 c.loop-index.total-bits ≡ sum_below k f =
+    simp to_z-of_z at c.loop-index.invariant.so_far in
     let low = simp to_z-of_z at c.low_end_of_price-low.ensures.value in
     let high = simp to_z-of_z at c.high_end_of_price-high.ensures.value in
     let value = simp to_z-of_z at c.most_between-total.ensures.value in
@@ -38,12 +38,12 @@ loop-place-preserved c =
     ∙ ap (λ (z : ℤ). int_max (int_at xs k *ℤ z) (int_at xs k *ℤ c.high_end_of_price-high.result)) low
     ∙ ap (λ (z : ℤ). int_max (int_at xs k *ℤ low_end m π q k) (int_at xs k *ℤ z)) high in
     let few = c.args.case.now.valid.horizon.at_most in
-    let test = c.loop-place-test.true in
-    let step = sum_step 10000000000000000000000000000000 k 336 (cast_signed w128 c.loop-place.total-bits)
-    c.most_between-total.result c.loop-place.invariant.bound c.most_between-total.ensures.bound
+    let test = c.loop-index-test.true in
+    let step = sum_step 10000000000000000000000000000000 k 336 (cast_signed w128 c.loop-index.total-bits)
+    c.most_between-total.result c.loop-index.invariant.bound c.most_between-total.ensures.bound
     (omega (arith, few, test)) (omega arith) in
     let fits = step.fits in
     let more : sum_below (k + 1) f ≡ sum_below k f +ℤ f k = ap (λ (n : ℕ). sum_below n f) (add-one k) in
-    let sum : cast_signed w128 c.loop-place.total-bits +ℤ c.most_between-total.result ≡ sum_below (k + 1) f =
+    let sum : cast_signed w128 c.loop-index.total-bits +ℤ c.most_between-total.result ≡ sum_below (k + 1) f =
     omega (arith, ints, more, so_far, term) in
     record { so_far = simp to_z-of_z sum; bound = simp to_z-of_z step.within }

@@ -3,40 +3,40 @@ use Rattle.gap_proof.proofs.Common.{w64, w128, market_of, proposal_of, int_at, s
 use Rattle.gap_proof.proofs.Lemmas.{before_turn, added_more}
 use Rattle.gap_proof.proofs.planes.add_slopes.Goals as goal
 
-pub sum_with-requires-clause-sum : goal.sum_with-requires-clause-sum
-sum_with-requires-clause-sum c =
+pub slope_sum_with-requires-clause-sum : goal.slope_sum_with-requires-clause-sum
+slope_sum_with-requires-clause-sum c =
     let f : FitsSigned w128 c.get.result.now = search rules in
-    let test = c.loop-place-test.true in
+    let test = c.loop-index-test.true in
     let length_is = c.requires.length in
     let size =
     subst IsSlopeSum
-    (sym (before_turn c.args.slopes.now.items c.loop-place.slopes.items _ c.loop-place.place c.get.result.now
-    c.loop-place.invariant.added c.get.ensures.item))
-    (c.requires.sums c.loop-place.place (pos 0) (omega (arith, test, length_is))) in
+    (sym (before_turn c.args.slopes.now.items c.loop-index.slopes.items _ c.loop-index.index c.get.result.now
+    c.loop-index.invariant.added c.get.ensures.item))
+    (c.requires.sums c.loop-index.index (pos 0) (omega (arith, test, length_is))) in
     simp to_z-of_z size
 
-pub loop-place-preserved : goal.loop-place-preserved
-loop-place-preserved c =
+pub loop-index-preserved : goal.loop-index-preserved
+loop-index-preserved c =
     let m = market_of c.args.case.now in
     let r = proposal_of c.args.row.now in
-    let k = c.loop-place.place in
+    let k = c.loop-index.index in
     let w = c.ranges.weight in
     let f : FitsSigned w128 c.get.result.now = search rules in
     let d : FitsSigned w64 c.slope_of_row.result = search rules in
-    let g : FitsSigned w128 c.sum_with.result = search rules in
-    let known = simp to_z-of_z at c.loop-place.invariant.added in
+    let g : FitsSigned w128 c.slope_sum_with.result = search rules in
+    let known = simp to_z-of_z at c.loop-index.invariant.added in
     let is = simp to_z-of_z at c.set.ensures.items in
-    let called = simp to_z-of_z at c.sum_with.ensures in
-    let value : c.sum_with.result ≡ int_at c.args.slopes.now.items k +ℤ (c.args.weight *ℤ slope_at m r k) =
+    let called = simp to_z-of_z at c.slope_sum_with.ensures in
+    let value : c.slope_sum_with.result ≡ int_at c.args.slopes.now.items k +ℤ (c.args.weight *ℤ slope_at m r k) =
     called ∙ ap (λ (z : ℤ). z +ℤ (c.args.weight *ℤ c.slope_of_row.result))
-    (before_turn c.args.slopes.now.items c.loop-place.slopes.items _ k c.get.result.now known c.get.ensures.item) ∙
+    (before_turn c.args.slopes.now.items c.loop-index.slopes.items _ k c.get.result.now known c.get.ensures.item) ∙
     ap (λ (z : ℤ). int_at c.args.slopes.now.items k +ℤ (c.args.weight *ℤ z)) c.slope_of_row.ensures.value in
-    let test = c.loop-place-test.true in
+    let test = c.loop-index-test.true in
     let length_is = c.requires.length in
     let same = known.same_length in
-    let next = added_more c.args.slopes.now.items c.loop-place.slopes.items c.set.new.self.items
-    (λ j. c.args.weight *ℤ slope_at m r j) k c.sum_with.result known (omega (arith, test, length_is, same)) is
+    let next = added_more c.args.slopes.now.items c.loop-index.slopes.items c.set.new.self.items
+    (λ j. c.args.weight *ℤ slope_at m r j) k c.slope_sum_with.result known (omega (arith, test, length_is, same)) is
     value in
     let spare = c.set.ensures.spare in
-    let held = c.loop-place.invariant.spare in
+    let held = c.loop-index.invariant.spare in
     record { added = simp to_z-of_z next; spare = spare ∙ held }

@@ -13,8 +13,8 @@ sums_of-sums-requires-clause-row c =
     item_of (IsRowWithin (market_of c.args.case.now)) (map proposal_of c.args.rows.now) (length c.args.rows.now - 1)
     (proposal_of c.row_at.result.now) c.requires.rows (omega (arith, mapped, some)) c.row_at.ensures
 
-pub bound_by-requires : goal.bound_by-requires
-bound_by-requires c =
+pub greatest_mean_height-requires : goal.greatest_mean_height-requires
+greatest_mean_height-requires c =
     let m = market_of c.args.case.now in
     let r = proposal_of c.row_at.result.now in
     let q = c.ranges.radius in
@@ -31,29 +31,29 @@ bound_by-requires c =
           c.sums_of-sums.new.slopes.items sums (omega arith);
     }
 
-pub loop-place-init : goal.loop-place-init
-loop-place-init c =
+pub loop-index-init : goal.loop-index-init
+loop-index-init c =
     let m = market_of c.args.case.now in
     let rows = map proposal_of c.args.rows.now in
     let n = length c.args.rows.now in
     let π = prices_of c.args.centre.now in
     let q = c.ranges.radius in
-    let f : FitsSigned w128 c.bound_by.result = search rules in
+    let f : FitsSigned w128 c.greatest_mean_height.result = search rules in
     let mapped = length-map c.args.rows.now proposal_of in
     let some = c.requires.some in
     let first = back_first m rows n (proposal_of c.row_at.result.now) c.sums_of-sums.result.height
     c.sums_of-sums.result.weight c.sums_of-sums.new.slopes.items some (sym mapped) c.row_at.ensures
     c.sums_of-sums.ensures.sums in
-    let e = simp to_z-of_z at c.bound_by.ensures.value in
+    let e = simp to_z-of_z at c.greatest_mean_height.ensures.value in
     let value = back_value m rows n (n - 1) c.sums_of-sums.result.height c.sums_of-sums.result.weight
     c.sums_of-sums.new.slopes.items (sym mapped) (omega arith) first π c.args.radius in
     let back : (length c.args.rows.now - 1) + 1 ≡ length c.args.rows.now = omega (arith, some) in
-    let least = least_one (back_bounds m rows π c.args.radius n) (n - 1) n c.bound_by.result (sym back)
+    let least = least_one (back_bounds m rows π c.args.radius n) (n - 1) n c.greatest_mean_height.result (sym back)
     (e ∙ value ∙ ap (back_bounds m rows π c.args.radius n) back) in
     record {
       sums = first;
       best = simp to_z-of_z least;
-      limit = simp to_z-of_z c.bound_by.ensures.limits.at_least;
+      limit = simp to_z-of_z c.greatest_mean_height.ensures.limits.at_least;
       last = refl;
       spare = c.sums_of-sums.ensures.spare;
     }
@@ -63,43 +63,43 @@ add_row-sums-requires c =
     let m = market_of c.args.case.now in
     let rows = map proposal_of c.args.rows.now in
     let n = length c.args.rows.now in
-    let i = c.loop-place.place in
+    let i = c.loop-index.index in
     let mapped = length-map c.args.rows.now proposal_of in
-    let low = c.loop-place-test.true in
-    let end = c.loop-place.auto.place in
+    let low = c.loop-index-test.true in
+    let end = c.loop-index.auto.index in
     let few = c.requires.count in
-    let sums = c.loop-place.invariant.sums in
+    let sums = c.loop-index.invariant.sums in
     record {
-      row = item_of (IsRowWithin m) rows (i - 1) (proposal_of c.row_at-in-loop-place.result.now) c.requires.rows
-          (omega (arith, mapped, low, end)) c.row_at-in-loop-place.ensures;
+      row = item_of (IsRowWithin m) rows (i - 1) (proposal_of c.row_at-in-loop-index.result.now) c.requires.rows
+          (omega (arith, mapped, low, end)) c.row_at-in-loop-index.ensures;
       weight = record { at_least = omega (arith, ints); at_most = omega (arith, ints) };
-      heights = back_height m rows n i c.loop-place.sums.height c.loop-place.sums.weight c.loop-place.work.items
+      heights = back_height m rows n i c.loop-index.sums.height c.loop-index.sums.weight c.loop-index.work.items
           (sym mapped) (omega (arith, end)) sums few;
-      weights = back_weight m rows n i c.loop-place.sums.height c.loop-place.sums.weight c.loop-place.work.items
+      weights = back_weight m rows n i c.loop-index.sums.height c.loop-index.sums.weight c.loop-index.work.items
           (sym mapped) (omega (arith, end)) sums few;
       length = sums.same_length;
-      slopes = back_slopes m rows n i c.loop-place.sums.height c.loop-place.sums.weight c.loop-place.work.items
+      slopes = back_slopes m rows n i c.loop-index.sums.height c.loop-index.sums.weight c.loop-index.work.items
           (sym mapped) (omega (arith, end)) sums few;
     }
 
-pub bound_by-bound-requires : goal.bound_by-bound-requires
-bound_by-bound-requires c =
+pub greatest_mean_height-bound-requires : goal.greatest_mean_height-bound-requires
+greatest_mean_height-bound-requires c =
     let m = market_of c.args.case.now in
     let rows = map proposal_of c.args.rows.now in
     let n = length c.args.rows.now in
-    let i = c.loop-place.place in
+    let i = c.loop-index.index in
     let q = c.ranges.radius in
     let mapped = length-map c.args.rows.now proposal_of in
-    let low = c.loop-place-test.true in
-    let end = c.loop-place.auto.place in
+    let low = c.loop-index-test.true in
+    let end = c.loop-index.auto.index in
     let few = c.requires.count in
     let some = c.requires.some in
-    let row = item_of (IsRowWithin m) rows (i - 1) (proposal_of c.row_at-in-loop-place.result.now) c.requires.rows
-    (omega (arith, mapped, low, end)) c.row_at-in-loop-place.ensures in
-    let next = back_more m rows n i c.loop-place.sums.height c.loop-place.sums.weight c.loop-place.work.items
-    (sym mapped) (omega (arith, end)) c.loop-place.invariant.sums
-    (proposal_of c.row_at-in-loop-place.result.now) c.add_row-sums.result.height c.add_row-sums.result.weight
-    c.add_row-sums.new.slopes.items low c.row_at-in-loop-place.ensures c.args.case.now.valid row.row
+    let row = item_of (IsRowWithin m) rows (i - 1) (proposal_of c.row_at-in-loop-index.result.now) c.requires.rows
+    (omega (arith, mapped, low, end)) c.row_at-in-loop-index.ensures in
+    let next = back_more m rows n i c.loop-index.sums.height c.loop-index.sums.weight c.loop-index.work.items
+    (sym mapped) (omega (arith, end)) c.loop-index.invariant.sums
+    (proposal_of c.row_at-in-loop-index.result.now) c.add_row-sums.result.height c.add_row-sums.result.weight
+    c.add_row-sums.new.slopes.items low c.row_at-in-loop-index.ensures c.args.case.now.valid row.row
     c.add_row-sums.ensures.height c.add_row-sums.ensures.step c.add_row-sums.ensures.weight
     c.add_row-sums.ensures.length c.add_row-sums.ensures.slopes in
     record {
@@ -114,48 +114,50 @@ bound_by-bound-requires c =
           c.add_row-sums.new.slopes.items (sym mapped) (omega (arith, end)) next few;
     }
 
-pub loop-place-preserved : goal.loop-place-preserved
-loop-place-preserved c =
+pub loop-index-preserved : goal.loop-index-preserved
+loop-index-preserved c =
     let m = market_of c.args.case.now in
     let rows = map proposal_of c.args.rows.now in
     let n = length c.args.rows.now in
     let π = prices_of c.args.centre.now in
-    let i = c.loop-place.place in
+    let i = c.loop-index.index in
     let q = c.ranges.radius in
-    let f : FitsSigned w128 c.bound_by-bound.result = search rules in
+    let f : FitsSigned w128 c.greatest_mean_height-bound.result = search rules in
     let mapped = length-map c.args.rows.now proposal_of in
-    let low = c.loop-place-test.true in
-    let end = c.loop-place.auto.place in
-    let row = item_of (IsRowWithin m) rows (i - 1) (proposal_of c.row_at-in-loop-place.result.now) c.requires.rows
-    (omega (arith, mapped, low, end)) c.row_at-in-loop-place.ensures in
-    let next = back_more m rows n i c.loop-place.sums.height c.loop-place.sums.weight c.loop-place.work.items
-    (sym mapped) (omega (arith, end)) c.loop-place.invariant.sums
-    (proposal_of c.row_at-in-loop-place.result.now) c.add_row-sums.result.height c.add_row-sums.result.weight
-    c.add_row-sums.new.slopes.items low c.row_at-in-loop-place.ensures c.args.case.now.valid row.row
+    let low = c.loop-index-test.true in
+    let end = c.loop-index.auto.index in
+    let row = item_of (IsRowWithin m) rows (i - 1) (proposal_of c.row_at-in-loop-index.result.now) c.requires.rows
+    (omega (arith, mapped, low, end)) c.row_at-in-loop-index.ensures in
+    let next = back_more m rows n i c.loop-index.sums.height c.loop-index.sums.weight c.loop-index.work.items
+    (sym mapped) (omega (arith, end)) c.loop-index.invariant.sums
+    (proposal_of c.row_at-in-loop-index.result.now) c.add_row-sums.result.height c.add_row-sums.result.weight
+    c.add_row-sums.new.slopes.items low c.row_at-in-loop-index.ensures c.args.case.now.valid row.row
     c.add_row-sums.ensures.height c.add_row-sums.ensures.step c.add_row-sums.ensures.weight
     c.add_row-sums.ensures.length c.add_row-sums.ensures.slopes in
-    let e = simp to_z-of_z at c.bound_by-bound.ensures.value in
+    let e = simp to_z-of_z at c.greatest_mean_height-bound.ensures.value in
     let value = back_value m rows n (i - 1) c.add_row-sums.result.height c.add_row-sums.result.weight
     c.add_row-sums.new.slopes.items (sym mapped) (omega (arith, end)) next π c.args.radius in
     let taken = simp to_z-of_z at c.better_range-best.ensures.taken in
     let kept = simp to_z-of_z at c.better_range-best.ensures.kept in
-    let known = simp to_z-of_z at c.loop-place.invariant.best in
-    let least = least_more (back_bounds m rows π c.args.radius n) i n c.loop-place.best.first
+    let known = simp to_z-of_z at c.loop-index.invariant.best in
+    let least = least_more (back_bounds m rows π c.args.radius n) i n c.loop-index.best.first
     c.better_range-best.result.first
-    c.loop-place.best.bound c.bound_by-bound.result c.better_range-best.result.bound low known (e ∙ value) taken
+    c.loop-index.best.bound c.greatest_mean_height-bound.result c.better_range-best.result.bound low known
+    (e ∙ value) taken
     kept in
-    let bounded = c.loop-place.invariant.limit in
-    let limit = least_from least_bound c.loop-place.best.bound c.bound_by-bound.result c.better_range-best.result.bound
-    c.loop-place.best.first c.better_range-best.result.first ((i - 1) + 1) bounded
-    c.bound_by-bound.ensures.limits.at_least taken kept in
+    let bounded = c.loop-index.invariant.limit in
+    let limit = least_from least_bound c.loop-index.best.bound c.greatest_mean_height-bound.result
+    c.better_range-best.result.bound
+    c.loop-index.best.first c.better_range-best.result.first ((i - 1) + 1) bounded
+    c.greatest_mean_height-bound.ensures.limits.at_least taken kept in
     let last = c.better_range-best.ensures.last in
     let spare = c.add_row-sums.ensures.spare in
     record {
       sums = next;
       best = simp to_z-of_z least;
       limit = limit;
-      last = last ∙ c.loop-place.invariant.last;
-      spare = spare ∙ c.loop-place.invariant.spare;
+      last = last ∙ c.loop-index.invariant.last;
+      spare = spare ∙ c.loop-index.invariant.spare;
     }
 
 pub returns : goal.returns
@@ -163,17 +165,17 @@ unfolding back_bounds
 returns c =
     let q = c.ranges.radius in
     let wide = c.requires.work in
-    let known = simp to_z-of_z at c.loop-place.invariant.best in
-    let test = c.loop-place-test.false in
+    let known = simp to_z-of_z at c.loop-index.invariant.best in
+    let test = c.loop-index-test.false in
     let from = known.from in
     record {
       from_one = omega (arith, from);
       to_last = known.to;
-      last = c.loop-place.invariant.last;
+      last = c.loop-index.invariant.last;
       bound = known.is;
       least = λ j low high. known.least j (omega (arith, low, test)) high;
       earlier = λ j low below. known.earlier j (omega (arith, low, test)) below;
-      least_limit = c.loop-place.invariant.limit;
-      work = c.loop-place.invariant.sums.same_length ∙ sym wide;
-      spare = c.loop-place.invariant.spare;
+      least_limit = c.loop-index.invariant.limit;
+      work = c.loop-index.invariant.sums.same_length ∙ sym wide;
+      spare = c.loop-index.invariant.spare;
     }

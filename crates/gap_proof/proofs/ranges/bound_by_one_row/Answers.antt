@@ -12,8 +12,8 @@ sums_of-sums-requires-clause-row c =
     item_of (IsRowWithin (market_of c.args.case.now)) (map proposal_of c.args.rows.now) (c.args.number - 1)
     (proposal_of c.row_at-row.result.now) c.requires.rows (omega (arith, mapped, first, last)) c.row_at-row.ensures
 
-pub bound_by-bound-requires : goal.bound_by-bound-requires
-bound_by-bound-requires c =
+pub greatest_mean_height-bound-requires : goal.greatest_mean_height-bound-requires
+greatest_mean_height-bound-requires c =
     let m = market_of c.args.case.now in
     let r = proposal_of c.row_at-row.result.now in
     let mapped = length-map c.args.rows.now proposal_of in
@@ -40,9 +40,9 @@ returns c =
     let rows = map proposal_of c.args.rows.now in
     let r = proposal_of c.row_at-row.result.now in
     let q = c.ranges.radius in
-    let f : FitsSigned w128 c.bound_by-bound.result = search rules in
+    let f : FitsSigned w128 c.greatest_mean_height-bound.result = search rules in
     let sums = c.sums_of-sums.ensures.sums in
-    let e = simp to_z-of_z at c.bound_by-bound.ensures.value in
+    let e = simp to_z-of_z at c.greatest_mean_height-bound.ensures.value in
     let is = bound_is m (pos 1 ∷ []) (r ∷ []) c.sums_of-sums.result.height c.sums_of-sums.result.weight
     c.sums_of-sums.new.slopes.items sums r.prices c.args.radius in
     let one = one_bound m rows r.prices c.args.radius c.args.number r c.requires.from_one c.row_at-row.ensures in
@@ -55,7 +55,7 @@ returns c =
       first = refl;
       last = refl;
       bound = simp to_z-of_z bound;
-      limits = simp to_z-of_z c.bound_by-bound.ensures.limits;
+      limits = simp to_z-of_z c.greatest_mean_height-bound.ensures.limits;
       work = sums.same_length ∙ sym wide;
       spare = c.sums_of-sums.ensures.spare;
     }

@@ -6,8 +6,8 @@ use Rattle.gap_proof.proofs.Lemmas.{drop_at, item_of, none_left, row_prices, sum
 use Rattle.gap_proof.proofs.Lemmas.{weight_size, slope_sizes, bound_is}
 use Rattle.gap_proof.proofs.rows_bound.bound_of.Goals as goal
 
-pub loop-place-init : goal.loop-place-init
-loop-place-init c =
+pub loop-index-init : goal.loop-index-init
+loop-index-init c =
     let m = market_of c.args.case.now in
     let ws = c.args.weights.now.items in
     let rows = map proposal_of c.args.rows.now in
@@ -28,43 +28,43 @@ add_row-sums-requires c =
     let m = market_of c.args.case.now in
     let ws = c.args.weights.now.items in
     let rows = map proposal_of c.args.rows.now in
-    let i = c.loop-place.place in
+    let i = c.loop-index.index in
     let mapped = length-map c.args.rows.now proposal_of in
     let count = c.requires.weights.count in
     let few = c.requires.count in
-    let low = c.loop-place-test.true in
-    let high = c.loop-place.auto.place in
+    let low = c.loop-index-test.true in
+    let high = c.loop-index.auto.index in
     let rest = length-drop i rows in
     let left : length (drop i rows) ≤ 10000 = omega (arith, rest, mapped, few) in
     let f : FitsSigned w64 c.get.result.now = search rules in
     let size = item_of IsWeight ws (i - 1) c.get.result.now c.requires.weight_sizes
     (omega (arith, low, high, mapped, count)) c.get.ensures.item in
-    let sums = c.loop-place.invariant.sums in
+    let sums = c.loop-index.invariant.sums in
     record {
       row = item_of (IsRowWithin m) rows (i - 1) (proposal_of c.row_at.result.now) c.requires.rows
           (omega (arith, low, high, mapped)) c.row_at.ensures;
       weight = simp to_z-of_z size;
-      heights = height_size m (drop i ws) (drop i rows) c.loop-place.sums.height c.loop-place.sums.weight
-          c.loop-place.work.items sums left;
-      weights = weight_size m (drop i ws) (drop i rows) c.loop-place.sums.height c.loop-place.sums.weight
-          c.loop-place.work.items sums left;
+      heights = height_size m (drop i ws) (drop i rows) c.loop-index.sums.height c.loop-index.sums.weight
+          c.loop-index.work.items sums left;
+      weights = weight_size m (drop i ws) (drop i rows) c.loop-index.sums.height c.loop-index.sums.weight
+          c.loop-index.work.items sums left;
       length = sums.same_length;
-      slopes = slope_sizes m (drop i ws) (drop i rows) c.loop-place.sums.height c.loop-place.sums.weight
-          c.loop-place.work.items sums left;
+      slopes = slope_sizes m (drop i ws) (drop i rows) c.loop-index.sums.height c.loop-index.sums.weight
+          c.loop-index.work.items sums left;
     }
 
-pub loop-place-preserved : goal.loop-place-preserved
-loop-place-preserved c =
+pub loop-index-preserved : goal.loop-index-preserved
+loop-index-preserved c =
     let m = market_of c.args.case.now in
     let ws = c.args.weights.now.items in
     let rows = map proposal_of c.args.rows.now in
-    let i = c.loop-place.place in
+    let i = c.loop-index.index in
     let x = c.get.result.now in
     let r = proposal_of c.row_at.result.now in
     let mapped = length-map c.args.rows.now proposal_of in
     let count = c.requires.weights.count in
-    let low = c.loop-place-test.true in
-    let high = c.loop-place.auto.place in
+    let low = c.loop-index-test.true in
+    let high = c.loop-index.auto.index in
     let f : FitsSigned w64 c.get.result.now = search rules in
     let size = item_of IsWeight ws (i - 1) c.get.result.now c.requires.weight_sizes
     (omega (arith, low, high, mapped, count)) c.get.ensures.item in
@@ -74,13 +74,13 @@ loop-place-preserved c =
     let step = simp to_z-of_z at c.add_row-sums.ensures.step in
     let weight = simp to_z-of_z at c.add_row-sums.ensures.weight in
     let slopes = simp to_z-of_z at c.add_row-sums.ensures.slopes in
-    let next = sums_more m (drop i ws) (drop i rows) c.loop-place.sums.height c.loop-place.sums.weight
-    c.loop-place.work.items c.loop-place.invariant.sums
+    let next = sums_more m (drop i ws) (drop i rows) c.loop-index.sums.height c.loop-index.sums.weight
+    c.loop-index.work.items c.loop-index.invariant.sums
     c.get.result.now (proposal_of c.row_at.result.now) c.add_row-sums.result.height c.add_row-sums.result.weight
     c.add_row-sums.new.slopes.items
     c.args.case.now.valid row.row size height step weight c.add_row-sums.ensures.length slopes in
     let spare = c.add_row-sums.ensures.spare in
-    let held = c.loop-place.invariant.spare in
+    let held = c.loop-index.invariant.spare in
     record {
       sums = rw (
         drop_at ws i x low (omega (arith, high, mapped, count)) c.get.ensures.item,
@@ -96,8 +96,8 @@ all_summed m ws rows i height weight slopes h e =
     let none : i ≡ 0 = omega (arith, e) in
     subst (λ (n : ℕ). AreSums m (drop n ws) (drop n rows) height weight slopes) none h
 
-pub bound_by-requires : goal.bound_by-requires
-bound_by-requires c =
+pub greatest_mean_height-requires : goal.greatest_mean_height-requires
+greatest_mean_height-requires c =
     let m = market_of c.args.case.now in
     let ws = c.args.weights.now.items in
     let rows = map proposal_of c.args.rows.now in
@@ -107,22 +107,22 @@ bound_by-requires c =
     let last = c.requires.to_last in
     let left : length (map proposal_of c.args.rows.now) ≤ 10000 = omega (arith, mapped, few) in
     let q = c.ranges.radius in
-    let sums = all_summed m ws rows c.loop-place.place c.loop-place.sums.height c.loop-place.sums.weight
-    c.loop-place.work.items c.loop-place.invariant.sums c.loop-place-test.false in
+    let sums = all_summed m ws rows c.loop-index.index c.loop-index.sums.height c.loop-index.sums.weight
+    c.loop-index.work.items c.loop-index.invariant.sums c.loop-index-test.false in
     let some = c.requires.weights.some in
     let is = sums.weights in
-    let weight = weight_size m ws rows c.loop-place.sums.height c.loop-place.sums.weight c.loop-place.work.items sums
+    let weight = weight_size m ws rows c.loop-index.sums.height c.loop-index.sums.weight c.loop-index.work.items sums
     left in
     let most = weight.at_most in
     record {
       horizon = (item_of (IsRowWithin m) rows (c.args.centre - 1) (proposal_of c.row_at-middle.result.now)
           c.requires.rows (omega (arith, mapped, first, last)) c.row_at-middle.ensures).row.horizon;
       radius = simp to_z-of_z c.requires.radius;
-      heights = height_size m ws rows c.loop-place.sums.height c.loop-place.sums.weight c.loop-place.work.items sums
+      heights = height_size m ws rows c.loop-index.sums.height c.loop-index.sums.weight c.loop-index.work.items sums
           left;
       weights = record { at_least = omega (arith, ints, some, is); at_most = most };
       length = sums.same_length;
-      slopes = slope_sizes m ws rows c.loop-place.sums.height c.loop-place.sums.weight c.loop-place.work.items sums
+      slopes = slope_sizes m ws rows c.loop-index.sums.height c.loop-index.sums.weight c.loop-index.work.items sums
           left;
     }
 
@@ -132,12 +132,12 @@ returns c =
     let ws = c.args.weights.now.items in
     let rows = map proposal_of c.args.rows.now in
     let q = c.ranges.radius in
-    let f : FitsSigned w128 c.bound_by.result = search rules in
-    let sums = all_summed m ws rows c.loop-place.place c.loop-place.sums.height c.loop-place.sums.weight
-    c.loop-place.work.items c.loop-place.invariant.sums c.loop-place-test.false in
+    let f : FitsSigned w128 c.greatest_mean_height.result = search rules in
+    let sums = all_summed m ws rows c.loop-index.index c.loop-index.sums.height c.loop-index.sums.weight
+    c.loop-index.work.items c.loop-index.invariant.sums c.loop-index-test.false in
     let prices = row_prices rows c.args.centre (proposal_of c.row_at-middle.result.now) c.row_at-middle.ensures in
-    let e = simp to_z-of_z at c.bound_by.ensures.value in
-    let is = bound_is m ws rows c.loop-place.sums.height c.loop-place.sums.weight c.loop-place.work.items sums
+    let e = simp to_z-of_z at c.greatest_mean_height.ensures.value in
+    let is = bound_is m ws rows c.loop-index.sums.height c.loop-index.sums.weight c.loop-index.work.items sums
     (proposal_of c.row_at-middle.result.now).prices c.args.radius in
     let bound = e ∙ is ∙ ap (λ (π : PriceLists). certified_bound m rows ws π c.args.radius) prices in
     let wide = c.requires.work in
@@ -145,5 +145,5 @@ returns c =
     record {
       bound = simp to_z-of_z bound;
       work = sums.same_length ∙ sym wide;
-      spare = c.loop-place.invariant.spare ∙ spare;
+      spare = c.loop-index.invariant.spare ∙ spare;
     }

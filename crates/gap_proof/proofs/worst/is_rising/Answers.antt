@@ -19,23 +19,23 @@ less_test a b x y e f = (
 pub returns : goal.returns
 returns c =
     let q = c.ranges.price in
-    let a : FitsSigned w128 c.added_at.result = search rules in
-    let b : FitsSigned w128 c.added_at-2.result = search rules in
+    let a : FitsSigned w128 c.energy_term_at.result = search rules in
+    let b : FitsSigned w128 c.energy_term_at-2.result = search rules in
     let low = c.requires.low in
     let high = c.requires.high in
     let within : IsWithin 10000000 (c.args.price +ℤ pos 1) =
     record { at_least = omega (arith, ints, low); at_most = omega (arith, ints, high) } in
     let fits = fits_within w64 10000000 (c.args.price +ℤ pos 1) within (omega arith) in
-    let e = simp to_z-of_z at c.added_at.ensures.value in
-    let f = simp to_z-of_z at c.added_at-2.ensures.value in
-    simp to_z-of_z (less_test c.added_at.result c.added_at-2.result _ _ e f)
+    let e = simp to_z-of_z at c.energy_term_at.ensures.value in
+    let f = simp to_z-of_z at c.energy_term_at-2.ensures.value in
+    simp to_z-of_z (less_test c.energy_term_at.result c.energy_term_at-2.result _ _ e f)
 
 -- (found at once by this search alone, and slowly by all that is tried without an answer)
-pub added_at-requires-clause-price : goal.added_at-requires-clause-price
-added_at-requires-clause-price c = search rules
+pub energy_term_at-requires-clause-price : goal.energy_term_at-requires-clause-price
+energy_term_at-requires-clause-price c = search rules
 
 pub overflow_add-price : goal.overflow_add-price
 overflow_add-price c = search rules
 
-pub added_at-requires-2-clause-price : goal.added_at-requires-2-clause-price
-added_at-requires-2-clause-price c = search rules
+pub energy_term_at-requires-2-clause-price : goal.energy_term_at-requires-2-clause-price
+energy_term_at-requires-2-clause-price c = search rules

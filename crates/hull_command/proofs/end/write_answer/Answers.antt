@@ -23,7 +23,7 @@ returns-in-Price g c =
     let done = c.in-Price.done in
     written_as c.args.answer.now (Price done) c.in-Price.is (report_text (report_of done.closed done.settlement))
     (run_text c.record_report_is_right.ensures report_text done (subst IsAnswered c.in-Price.is c.requires))
-    c.write_done.ensures.text
+    c.write_run_report.ensures.text
 
 pub returns-in-Check : goal.returns-in-Check
 returns-in-Check g c =
@@ -54,7 +54,7 @@ returns-in-Certify g c =
 pub returns-in-Convex : goal.returns-in-Convex
 returns-in-Convex g c =
     written_as c.args.answer.now (Convex c.in-Convex.found) c.in-Convex.is (found_text c.in-Convex.found) refl
-    c.write_found.ensures
+    c.write_search_text.ensures
 
 pub returns-in-Try : goal.returns-in-Try
 returns-in-Try g c =

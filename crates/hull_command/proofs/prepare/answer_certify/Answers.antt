@@ -7,13 +7,13 @@ use Rattle.hull_command.proofs.prepare.answer_certify.Goals as goal
 
 pub returns-in_err-mixed-clause-answers : goal.returns-in_err-mixed-clause-answers
 returns-in_err-mixed-clause-answers g c =
-    handed_on (HasAnswer g.F.Shelf.told g.F.Shelf.faults g.F.Shelf.last c.args.shelf.now c.read_mixed.new.shelf
+    handed_on (HasAnswer g.F.Shelf.told g.F.Shelf.faults g.F.Shelf.last c.args.shelf.now c.read_certify_input.new.shelf
     (Ok (certify (certify_asked c.args.words.now))))
     c.from_residual.result c.in_err-mixed.field-0.0 c.from_residual.ensures.1 c.in_err-mixed.ensures.answers
 
 pub returns-in_err-certified-clause-answers : goal.returns-in_err-certified-clause-answers
 returns-in_err-certified-clause-answers g c =
-    handed_on (HasAnswer g.F.Shelf.told g.F.Shelf.faults g.F.Shelf.last c.args.shelf.now c.read_mixed.new.shelf
+    handed_on (HasAnswer g.F.Shelf.told g.F.Shelf.faults g.F.Shelf.last c.args.shelf.now c.read_certify_input.new.shelf
     (Ok (certify (certify_asked c.args.words.now))))
     c.from_residual-in_err-certified.result Memory c.from_residual-in_err-certified.ensures.1
     (c.in_ok-mixed.ensures.answers.0, c.in_ok-mixed.ensures.answers.1, inr refl)

@@ -6,13 +6,13 @@ use Rattle.hull_command.proofs.prepare.answer_convex.Goals as goal
 
 pub returns-in_err-search-clause-answers : goal.returns-in_err-search-clause-answers
 returns-in_err-search-clause-answers g c =
-    handed_on (HasAnswer g.F.Shelf.told g.F.Shelf.faults g.F.Shelf.last c.args.shelf.now c.read_search.new.shelf
+    handed_on (HasAnswer g.F.Shelf.told g.F.Shelf.faults g.F.Shelf.last c.args.shelf.now c.read_convex_input.new.shelf
     (Ok (convex (convex_asked c.args.words.now))))
     c.from_residual.result c.in_err-search.field-0.0 c.from_residual.ensures.1 c.in_err-search.ensures.answers
 
 pub returns-in_err-found-clause-answers : goal.returns-in_err-found-clause-answers
 returns-in_err-found-clause-answers g c =
-    handed_on (HasAnswer g.F.Shelf.told g.F.Shelf.faults g.F.Shelf.last c.args.shelf.now c.read_search.new.shelf
+    handed_on (HasAnswer g.F.Shelf.told g.F.Shelf.faults g.F.Shelf.last c.args.shelf.now c.read_convex_input.new.shelf
     (Ok (convex (convex_asked c.args.words.now))))
     c.from_residual-in_err-found.result Memory c.from_residual-in_err-found.ensures.1
     (c.in_ok-search.ensures.answers.0, c.in_ok-search.ensures.answers.1, inr refl)

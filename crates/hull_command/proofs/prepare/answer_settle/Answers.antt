@@ -6,13 +6,13 @@ use Rattle.hull_command.proofs.prepare.answer_settle.Goals as goal
 
 pub returns-in_err-priced-clause-answers : goal.returns-in_err-priced-clause-answers
 returns-in_err-priced-clause-answers g c =
-    handed_on (HasAnswer g.F.Shelf.told g.F.Shelf.faults g.F.Shelf.last c.args.shelf.now c.read_priced.new.shelf
+    handed_on (HasAnswer g.F.Shelf.told g.F.Shelf.faults g.F.Shelf.last c.args.shelf.now c.read_settle_input.new.shelf
     (Ok (settle (settle_asked c.args.words.now))))
     c.from_residual.result c.in_err-priced.field-0.0 c.from_residual.ensures.1 c.in_err-priced.ensures.answers
 
 pub returns-in_err-settled-clause-answers : goal.returns-in_err-settled-clause-answers
 returns-in_err-settled-clause-answers g c =
-    handed_on (HasAnswer g.F.Shelf.told g.F.Shelf.faults g.F.Shelf.last c.args.shelf.now c.read_priced.new.shelf
+    handed_on (HasAnswer g.F.Shelf.told g.F.Shelf.faults g.F.Shelf.last c.args.shelf.now c.read_settle_input.new.shelf
     (Ok (settle (settle_asked c.args.words.now))))
     c.from_residual-in_err-settled.result Memory c.from_residual-in_err-settled.ensures.1
     (c.in_ok-priced.ensures.answers.0, c.in_ok-priced.ensures.answers.1, inr refl)

@@ -17,9 +17,9 @@ returns-in-Check-clause-unread g c =
 
 pub returns-in-Price-clause-before : goal.returns-in-Price-clause-before
 returns-in-Price-clause-before g c =
-    before_as c.args.command.now (Price c.in-Price.words) c.in-Price.is _ _ _ _ c.hand_on.result
-    (handed_as (Ok (asked (Price c.in-Price.words))) _ _ _ _ c.prepare_run.result c.hand_on.result tt
-    c.prepare_run.ensures.ready c.prepare_run.ensures.prepared c.hand_on.ensures.before)
+    before_as c.args.command.now (Price c.in-Price.words) c.in-Price.is _ _ _ _ c.hand_on_to_run.result
+    (handed_as (Ok (asked (Price c.in-Price.words))) _ _ _ _ c.prepare_run.result c.hand_on_to_run.result tt
+    c.prepare_run.ensures.ready c.prepare_run.ensures.prepared c.hand_on_to_run.ensures.before)
 
 pub returns-in-Price-clause-unread : goal.returns-in-Price-clause-unread
 returns-in-Price-clause-unread g c =
@@ -27,11 +27,12 @@ returns-in-Price-clause-unread g c =
 
 pub returns-in-Bound-clause-before : goal.returns-in-Bound-clause-before
 returns-in-Bound-clause-before g c =
-    before_as c.args.command.now (Bound c.in-Bound.words) c.in-Bound.is _ _ _ _ c.hand_on-in-Bound.result
-    (handed_as (Ok (asked (Bound c.in-Bound.words))) _ _ _ _ c.prepare_run-in-Bound.result c.hand_on-in-Bound.result tt
+    before_as c.args.command.now (Bound c.in-Bound.words) c.in-Bound.is _ _ _ _ c.hand_on_to_run-in-Bound.result
+    (handed_as (Ok (asked (Bound c.in-Bound.words))) _ _ _ _ c.prepare_run-in-Bound.result
+    c.hand_on_to_run-in-Bound.result tt
     c.prepare_run-in-Bound.ensures.ready
     (rw (to_z-of_z w64 c.in-Bound.words.radius (search rules)) at c.prepare_run-in-Bound.ensures.prepared)
-    c.hand_on-in-Bound.ensures.before)
+    c.hand_on_to_run-in-Bound.ensures.before)
 
 pub returns-in-Bound-clause-unread : goal.returns-in-Bound-clause-unread
 returns-in-Bound-clause-unread g c =
@@ -39,9 +40,11 @@ returns-in-Bound-clause-unread g c =
 
 pub returns-in-Fixed-clause-before : goal.returns-in-Fixed-clause-before
 returns-in-Fixed-clause-before g c =
-    before_as c.args.command.now (Fixed c.in-Fixed.words) c.in-Fixed.is _ _ _ _ c.hand_on-in-Fixed.result
-    (handed_as (Ok (asked (Fixed c.in-Fixed.words))) _ _ _ _ c.prepare_run-in-Fixed.result c.hand_on-in-Fixed.result tt
-    c.prepare_run-in-Fixed.ensures.ready c.prepare_run-in-Fixed.ensures.prepared c.hand_on-in-Fixed.ensures.before)
+    before_as c.args.command.now (Fixed c.in-Fixed.words) c.in-Fixed.is _ _ _ _ c.hand_on_to_run-in-Fixed.result
+    (handed_as (Ok (asked (Fixed c.in-Fixed.words))) _ _ _ _ c.prepare_run-in-Fixed.result
+    c.hand_on_to_run-in-Fixed.result tt
+    c.prepare_run-in-Fixed.ensures.ready c.prepare_run-in-Fixed.ensures.prepared
+    c.hand_on_to_run-in-Fixed.ensures.before)
 
 pub returns-in-Fixed-clause-unread : goal.returns-in-Fixed-clause-unread
 returns-in-Fixed-clause-unread g c =
@@ -49,9 +52,9 @@ returns-in-Fixed-clause-unread g c =
 
 pub returns-in-Audit-clause-before : goal.returns-in-Audit-clause-before
 returns-in-Audit-clause-before g c =
-    before_as c.args.command.now (Audit c.in-Audit.words) c.in-Audit.is _ _ _ _ c.hand_on-in-Audit.result
-    (handed_as (Ok (asked (Audit c.in-Audit.words))) _ _ _ _ c.prepare_audit.result c.hand_on-in-Audit.result tt
-    c.prepare_audit.ensures.ready c.prepare_audit.ensures.prepared c.hand_on-in-Audit.ensures.before)
+    before_as c.args.command.now (Audit c.in-Audit.words) c.in-Audit.is _ _ _ _ c.hand_on_to_run-in-Audit.result
+    (handed_as (Ok (asked (Audit c.in-Audit.words))) _ _ _ _ c.prepare_audit.result c.hand_on_to_run-in-Audit.result tt
+    c.prepare_audit.ensures.ready c.prepare_audit.ensures.prepared c.hand_on_to_run-in-Audit.ensures.before)
 
 pub returns-in-Audit-clause-unread : goal.returns-in-Audit-clause-unread
 returns-in-Audit-clause-unread g c =
@@ -89,9 +92,9 @@ returns-in-Convex-clause-unread g c =
 
 pub returns-in-Try-clause-before : goal.returns-in-Try-clause-before
 returns-in-Try-clause-before g c =
-    before_as c.args.command.now (Try c.in-Try.words) c.in-Try.is _ _ _ _ c.hand_on-in-Try.result
+    before_as c.args.command.now (Try c.in-Try.words) c.in-Try.is _ _ _ _ c.hand_on_to_run-in-Try.result
     (handed_as (Ok (asked (Try c.in-Try.words))) (g.F.Shelf.told c.args.shelf.now)
     (λ name. Rose g.F.Shelf.last (g.F.Shelf.faults c.args.shelf.now name) (g.F.Shelf.faults c.args.shelf.now name)) _ _
-    c.prepare_try.result c.hand_on-in-Try.result tt
+    c.prepare_try.result c.hand_on_to_run-in-Try.result tt
     c.prepare_try.ensures.ready (nothing_read, λ file. tt, c.prepare_try.ensures.prepared nothing_read)
-    c.hand_on-in-Try.ensures.before)
+    c.hand_on_to_run-in-Try.ensures.before)

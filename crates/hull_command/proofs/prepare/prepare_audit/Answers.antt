@@ -5,7 +5,7 @@ use Rattle.hull_command.proofs.prepare.prepare_audit.Goals as goal
 
 pub returns-in_err-reported-clause-prepared : goal.returns-in_err-reported-clause-prepared
 returns-in_err-reported-clause-prepared g c =
-    handed_on (HasReadied g.F.Shelf.told g.F.Shelf.faults g.F.Shelf.last c.args.shelf.now c.read_reported.new.shelf
+    handed_on (HasReadied g.F.Shelf.told g.F.Shelf.faults g.F.Shelf.last c.args.shelf.now c.read_audit_input.new.shelf
     (Ok (audit (audit_asked c.args.words.now))))
     c.from_residual.result c.in_err-reported.field-0.0 c.from_residual.ensures.1 (
       c.in_err-reported.ensures.answers.0,

@@ -4,8 +4,8 @@ use Rattle.hull_engine.proofs.Common.{IsCommandAnswer, rest_with, nothing_read, 
 use Rattle.hull_command.specs.declared.ready.Purpose.TheVariants.{Bound}
 use Rattle.hull_engine.proofs.answers.answer_bound.Goals as goal
 
-pub returns-in_err-bounded_run-clause-answers : goal.returns-in_err-bounded_run-clause-answers
-returns-in_err-bounded_run-clause-answers g c =
+pub returns-in_err-run_and_bound-clause-answers : goal.returns-in_err-run_and_bound-clause-answers
+returns-in_err-run_and_bound-clause-answers g c =
     let terms = c.args.terms in
     handed_on (IsCommandAnswer (rest_with (Bound c.args.radius) (planned_run terms) terms.budget terms.ahead)
     nothing_read)
@@ -13,7 +13,7 @@ returns-in_err-bounded_run-clause-answers g c =
 
 pub returns-clause-answers : goal.returns-clause-answers
 returns-clause-answers g c =
-    let b = c.in_ok-bounded_run in (
+    let b = c.in_ok-run_and_bound in (
       planned_run c.args.terms,
       refl,
       bound_texts c.args.terms b.field-0.done.closed.setup c.args.terms.budget c.args.terms.ahead b.field-0.radius

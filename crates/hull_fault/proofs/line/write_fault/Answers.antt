@@ -8,16 +8,16 @@ returns-in_err-write_status g c =
     first_of_three c.texts_add_up.ensures (status_told (status_of f)) (fault_told f) (codes "\n") _
     c.from_residual.ensures.0 (rw c.status.ensures at c.in_err-write_status.ensures.err)
 
-pub returns-in_err-write_told : goal.returns-in_err-write_told
-returns-in_err-write_told g c =
+pub returns-in_err-write_fault_details : goal.returns-in_err-write_fault_details
+returns-in_err-write_fault_details g c =
     let f = c.args.fault.now in
     second_of_three c.texts_add_up.ensures (status_told (status_of f)) (fault_told f) (codes "\n") _
-    c.from_residual-in_err-write_told.ensures.0 c.in_err-write_told.ensures.err
+    c.from_residual-in_err-write_fault_details.ensures.0 c.in_err-write_fault_details.ensures.err
     (rw c.status.ensures at c.in_ok-write_status.ensures.ok)
 
 pub returns : goal.returns
 returns g c =
     let f = c.args.fault.now in
     last_of_three c.texts_add_up.ensures (status_told (status_of f)) (fault_told f) (codes "\n") _ c.write_whole.ensures
-    c.in_ok-write_told.ensures.ok
+    c.in_ok-write_fault_details.ensures.ok
     (rw c.status.ensures at c.in_ok-write_status.ensures.ok)

@@ -6,16 +6,16 @@ use Rattle.hull_report.proofs.Lemmas.{gains_at_item, exit_at_item, all_items, mi
 use Rattle.plain_lists.proofs.ListLaws.{length_same}
 use Rattle.hull_report.proofs.convex.write_mixture.Goals as goal
 
-pub get-requires-in-loop-place : goal.get-requires-in-loop-place
-get-requires-in-loop-place g c =
+pub get-requires-in-loop-index : goal.get-requires-in-loop-index
+get-requires-in-loop-index g c =
     let m = market_of c.args.case.now in
     let x = mixture_of c.args.mixture.now in
     let same = length_same (λ (n : NamedThermalUnit) (es : List WeighedSchedule). AreEntries m.periods x.whole es)
     m.thermal x.entries c.requires.entries in
     let a = length-map c.args.case.now.thermal.items named_thermal_of in
     let b = length-map c.args.mixture.now.thermal.items entries_of in
-    let test = c.loop-place-test.true in
-    let end = c.len-place-end.ensures in
+    let test = c.loop-index-test.true in
+    let end = c.len-index-end.ensures in
     omega (arith, same, a, b, test, end)
 
 pub returns-in_err-write_unit_mixture : goal.returns-in_err-write_unit_mixture
@@ -24,29 +24,29 @@ returns-in_err-write_unit_mixture g c =
     let x = c.args.mixture.now in
     let name = c.as_str-name.result.now in
     let es = c.as_slice-entries.result.now in
-    let here = mixture_at case x c.loop-place.place c.get.result.now c.get-in-loop-place.result.now name es
-    c.get.ensures.item c.get-in-loop-place.ensures.item c.as_str-name.ensures c.as_slice-entries.ensures in
-    exit_at_item c.texts_add_up.ensures mixture_text (mixture_lines (market_of case) (mixture_of x)) c.loop-place.place
+    let here = mixture_at case x c.loop-index.index c.get.result.now c.get-in-loop-index.result.now name es
+    c.get.ensures.item c.get-in-loop-index.ensures.item c.as_str-name.ensures c.as_slice-entries.ensures in
+    exit_at_item c.texts_add_up.ensures mixture_text (mixture_lines (market_of case) (mixture_of x)) c.loop-index.index
     (mixture_line name (map entry_of es)) _ c.from_residual.ensures.0 here.inside here.is
-    c.in_err-write_unit_mixture.ensures.err c.loop-place.invariant
+    c.in_err-write_unit_mixture.ensures.err c.loop-index.invariant
 
-pub loop-place-preserved : goal.loop-place-preserved
-loop-place-preserved g c =
+pub loop-index-preserved : goal.loop-index-preserved
+loop-index-preserved g c =
     let case = c.args.case.now in
     let x = c.args.mixture.now in
     let name = c.as_str-name.result.now in
     let es = c.as_slice-entries.result.now in
-    let here = mixture_at case x c.loop-place.place c.get.result.now c.get-in-loop-place.result.now name es
-    c.get.ensures.item c.get-in-loop-place.ensures.item c.as_str-name.ensures c.as_slice-entries.ensures in
-    gains_at_item c.texts_add_up.ensures mixture_text (mixture_lines (market_of case) (mixture_of x)) c.loop-place.place
+    let here = mixture_at case x c.loop-index.index c.get.result.now c.get-in-loop-index.result.now name es
+    c.get.ensures.item c.get-in-loop-index.ensures.item c.as_str-name.ensures c.as_slice-entries.ensures in
+    gains_at_item c.texts_add_up.ensures mixture_text (mixture_lines (market_of case) (mixture_of x)) c.loop-index.index
     (mixture_line name (map entry_of es)) here.inside here.is c.in_ok-write_unit_mixture.ensures.ok
-    c.loop-place.invariant
+    c.loop-index.invariant
 
 pub returns : goal.returns
 returns g c =
     let case = c.args.case.now in
     let x = c.args.mixture.now in
     let long = no_more_mixtures case x c.requires in
-    let end = c.len-place-end.ensures in
-    all_items mixture_text (mixture_lines (market_of case) (mixture_of x)) c.loop-place.place (omega (arith, long, end))
-    c.loop-place.invariant
+    let end = c.len-index-end.ensures in
+    all_items mixture_text (mixture_lines (market_of case) (mixture_of x)) c.loop-index.index (omega (arith, long, end))
+    c.loop-index.invariant

@@ -5,7 +5,7 @@ use Rattle.hull_report.proofs.record.write_report.Goals as goal
 
 pub returns-in_err-write_proposals-clause-text : goal.returns-in_err-write_proposals-clause-text
 returns-in_err-write_proposals-clause-text g c =
-    let e = c.choice_of-choice.ensures in
+    let e = c.choice_of_record-choice.ensures in
     let held = g.S.Sink.held in
     subst (Writes held g.S.Sink.faults g.S.Sink.last c.args.out.now c.write_proposals.new.out
     c.from_residual.result) (whole_report c.args.closed.now c.args.settlement.now)
@@ -16,7 +16,7 @@ returns-in_err-write_proposals-clause-text g c =
 
 pub returns-in_err-write_unit_lines-clause-text : goal.returns-in_err-write_unit_lines-clause-text
 returns-in_err-write_unit_lines-clause-text g c =
-    let e = c.choice_of-choice.ensures in
+    let e = c.choice_of_record-choice.ensures in
     let held = g.S.Sink.held in
     subst (Writes held g.S.Sink.faults g.S.Sink.last c.args.out.now c.write_unit_lines.new.out
     c.from_residual-in_err-write_unit_lines.result) (whole_report c.args.closed.now c.args.settlement.now)
@@ -30,16 +30,16 @@ returns-in_err-write_unit_lines-clause-text g c =
 
 pub returns-clause-text : goal.returns-clause-text
 returns-clause-text g c =
-    let e = c.choice_of-choice.ensures in
+    let e = c.choice_of_record-choice.ensures in
     let held = g.S.Sink.held in
     let foot = rw (
       to_z-of_z w128 c.args.settlement.now.surplus (search rules),
       to_z-of_z w128 c.args.settlement.now.total (search rules),
-      to_z-of_z w128 c.choice_of-choice.result.gap (search rules),
+      to_z-of_z w128 c.choice_of_record-choice.result.gap (search rules),
       e.gap,
-    ) at c.write_foot.ensures in
-    subst (Writes held g.S.Sink.faults g.S.Sink.last c.args.out.now c.write_foot.new.out
-    c.write_foot.result) (whole_report c.args.closed.now c.args.settlement.now)
+    ) at c.write_report_foot.ensures in
+    subst (Writes held g.S.Sink.faults g.S.Sink.last c.args.out.now c.write_report_foot.new.out
+    c.write_report_foot.result) (whole_report c.args.closed.now c.args.settlement.now)
     (last_of_three c.texts_add_up.ensures _ _ _ _ foot
     (subst (Gains held g.S.Sink.faults c.write_proposals.new.out c.write_unit_lines.new.out)
     (ap (units_text c.args.closed.now c.args.settlement.now) e.chosen) c.in_ok-write_unit_lines.ensures.text.ok)

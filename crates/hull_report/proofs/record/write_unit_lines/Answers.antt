@@ -12,7 +12,7 @@ returns-in_err-write_unit-clause-text g c =
     (line_stands unit_text (line_of c.args.closed.now c.args.settlement.now c.args.proposal) _
     c.args.closed.now.setup.market c.case-case.ensures c.loop-number.number
     (unit_of c.unit_at.result.unit) c.unit_at.result.name.now _ c.unit_at.ensures.unit c.unit_at.ensures.name
-    (c.take_line-owed.ensures.line c.unit_at.result.name.now))
+    (c.take_unit_line-owed.ensures.line c.unit_at.result.name.now))
     _ (units_told (line_of c.args.closed.now c.args.settlement.now c.args.proposal) c.args.closed.now.setup.market)
     _ c.from_residual.ensures.0 c.in_err-write_unit.ensures.err c.loop-number.invariant.gained
 
@@ -25,9 +25,9 @@ loop-number-preserved g c = record {
       (line_stands unit_text (line_of c.args.closed.now c.args.settlement.now c.args.proposal) _
       c.args.closed.now.setup.market c.case-case.ensures c.loop-number.number
       (unit_of c.unit_at.result.unit) c.unit_at.result.name.now _ c.unit_at.ensures.unit c.unit_at.ensures.name
-      (c.take_line-owed.ensures.line c.unit_at.result.name.now))
+      (c.take_unit_line-owed.ensures.line c.unit_at.result.name.now))
       c.in_ok-write_unit.ensures.ok c.loop-number.invariant.gained;
-  horizon = c.take_line-owed.ensures.horizon;
+  horizon = c.take_unit_line-owed.ensures.horizon;
 }
 
 pub returns-clause-text : goal.returns-clause-text

@@ -23,4 +23,4 @@ returns c =
     rw (words_of-found c.args.words.now c.in-Some.later.now c.in-Some.first.now c.as_str.result.now
     c.in-Some-named.command (found_so_far c.in_ok-given.given)
     c.in-Some.ensures.cases.0 c.as_str.ensures.value c.in-Some-named.ensures c.in_ok-given.ensures.read)
-    c.command_of.ensures
+    c.command_of_values.ensures

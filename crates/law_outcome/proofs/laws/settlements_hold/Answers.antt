@@ -4,5 +4,6 @@ use Rattle.law_outcome.proofs.laws.settlements_hold.Goals as goal
 
 pub returns : goal.returns
 returns g c words old new before after n h a same =
-    settlement_holds c.bytes_are_those_read.ensures c.settlements_add_up.ensures c.prices_have_form.ensures
+    settlement_holds c.bytes_are_those_read.ensures c.payments_and_surplus_make_the_gap.ensures
+    c.prices_have_form.ensures
     c.one_prices.ensures a _ _ _ _ (words_of words) n h.reads h.end h.are_reads h.ends h.status_is same

@@ -4,9 +4,9 @@ use Rattle.plan_check.proofs.check.bid_sides.Goals as goal
 limits : (c : goal.After-as_slice) → IsBlockList c.as_slice.result.now
 limits c =
     subst IsBlockList (sym c.as_slice.ensures)
-    (item_of IsBlockList (bid_of c.args.bid.now).blocks c.args.place (items_in c.get.result.now)
+    (item_of IsBlockList (bid_of c.args.bid.now).blocks c.args.index (items_in c.get.result.now)
     c.args.bid.now.valid.blocks
-    (map_item items_in c.args.bid.now.blocks.items c.args.place c.get.result.now c.get.ensures.item))
+    (map_item items_in c.args.bid.now.blocks.items c.args.index c.get.result.now c.get.ensures.item))
 
 pub total_width-width-requires-clause-count : goal.total_width-width-requires-clause-count
 total_width-width-requires-clause-count c = (limits c).count

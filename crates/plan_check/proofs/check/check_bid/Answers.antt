@@ -8,13 +8,13 @@ pub returns-in-Some : goal.returns-in-Some
 returns-in-Some c =
     let r = bid_of c.args.bid.now in
     let s = schedule_of c.args.response.now in
-    let lt : c.loop-place.place < length c.args.response.now.on.items = search rules in
+    let lt : c.loop-index.index < length c.args.response.now.on.items = search rules in
     told_first BidRange kinds.Bid c.args.number (length c.args.response.now.on.items) 1 (bid_broken r s)
-    c.loop-place.place (c.in-Some.sides.left, c.in-Some.sides.right) lt c.loop-place.invariant (sym c.in-Some.ensures) ∙
+    c.loop-index.index (c.in-Some.sides.left, c.in-Some.sides.right) lt c.loop-index.invariant (sym c.in-Some.ensures) ∙
     ap Some (sym c.fault_of_rule.ensures)
 
 pub returns : goal.returns
 returns c =
     told_none BidRange kinds.Bid c.args.number (length c.args.response.now.on.items) 1
     (bid_broken (bid_of c.args.bid.now) (schedule_of c.args.response.now))
-    (λ k lt. c.loop-place.invariant k (omega (arith, lt)))
+    (λ k lt. c.loop-index.invariant k (omega (arith, lt)))

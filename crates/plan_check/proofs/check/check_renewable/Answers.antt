@@ -8,14 +8,14 @@ pub returns-in-Some : goal.returns-in-Some
 returns-in-Some c =
     let r = renewable_of c.args.flat.now in
     let s = schedule_of c.args.response.now in
-    let lt : c.loop-place.place < length c.args.response.now.on.items = search rules in
+    let lt : c.loop-index.index < length c.args.response.now.on.items = search rules in
     told_first RenewableRange kinds.Renewable c.args.number (length c.args.response.now.on.items) 1
     (renewable_broken r s)
-    c.loop-place.place (c.in-Some.sides.left, c.in-Some.sides.right) lt c.loop-place.invariant (sym c.in-Some.ensures) ∙
+    c.loop-index.index (c.in-Some.sides.left, c.in-Some.sides.right) lt c.loop-index.invariant (sym c.in-Some.ensures) ∙
     ap Some (sym c.fault_of_rule.ensures)
 
 pub returns : goal.returns
 returns c =
     told_none RenewableRange kinds.Renewable c.args.number (length c.args.response.now.on.items) 1
     (renewable_broken (renewable_of c.args.flat.now) (schedule_of c.args.response.now))
-    (λ k lt. c.loop-place.invariant k (omega (arith, lt)))
+    (λ k lt. c.loop-index.invariant k (omega (arith, lt)))

@@ -8,10 +8,10 @@ pub returns-in-Some : goal.returns-in-Some
 returns-in-Some c =
     let g = thermal_of c.args.unit.now in
     let s = schedule_of c.args.response.now in
-    let lt : c.loop-place.place < length c.args.response.now.on.items = search rules in
+    let lt : c.loop-index.index < length c.args.response.now.on.items = search rules in
     told_first c.args.rule kinds.Thermal c.args.number (length c.args.response.now.on.items) (told_shift c.args.rule)
     (thermal_broken c.args.rule g s)
-    c.loop-place.place (c.in-Some.sides.left, c.in-Some.sides.right) lt c.loop-place.invariant (sym c.in-Some.ensures)
+    c.loop-index.index (c.in-Some.sides.left, c.in-Some.sides.right) lt c.loop-index.invariant (sym c.in-Some.ensures)
     ∙ ap Some
     (sym (c.fault_of_rule.ensures ∙
     ap (λ (shift : ℕ). record {
@@ -19,15 +19,15 @@ returns-in-Some c =
       kind = kinds.Thermal;
       unit = c.args.number;
       period =
-          c.loop-place.place + shift;
+          c.loop-index.index + shift;
       left = c.in-Some.sides.left;
       right = c.in-Some.sides.right;
     })
-    c.shift_of.ensures.value))
+    c.shift_of_rule.ensures.value))
 
 pub returns : goal.returns
 returns c =
     let g = thermal_of c.args.unit.now in
     let s = schedule_of c.args.response.now in
     told_none c.args.rule kinds.Thermal c.args.number (length c.args.response.now.on.items) (told_shift c.args.rule)
-    (thermal_broken c.args.rule g s) (λ k lt. c.loop-place.invariant k (omega (arith, lt)))
+    (thermal_broken c.args.rule g s) (λ k lt. c.loop-index.invariant k (omega (arith, lt)))

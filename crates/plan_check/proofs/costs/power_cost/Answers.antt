@@ -4,17 +4,17 @@ use Rattle.uc_model.specs.declared.units.Point.{Point}
 use Rattle.plan_check.proofs.Lemmas.{power_spans}
 use Rattle.plan_check.proofs.costs.power_cost.Goals as goal
 
-pub envelope_near-requires-clause-within : goal.envelope_near-requires-clause-within
-envelope_near-requires-clause-within c =
+pub envelope_from_leg-requires-clause-within : goal.envelope_from_leg-requires-clause-within
+envelope_from_leg-requires-clause-within c =
     let g = thermal_of c.args.unit.now in
     let s = schedule_of c.args.response.now in
-    let on : on_in (thermal_of c.args.unit.now) (schedule_of c.args.response.now) (suc c.args.place) ≡ true =
+    let on : on_in (thermal_of c.args.unit.now) (schedule_of c.args.response.now) (suc c.args.index) ≡ true =
     search rules in
-    let spans = power_spans g s c.args.place c.args.unit.now.valid c.requires.feasible c.requires.within on in
+    let spans = power_spans g s c.args.index c.args.unit.now.valid c.requires.feasible c.requires.within on in
     let f : FitsSigned w64 c.power_at.result = search rules in
     let x_is = to_z-of_z w64 c.power_at.result f ∙ c.power_at.ensures.value in
     subst (λ (x : ℤ). Spans c.as_slice.result.now x x) (sym x_is)
-    (subst (λ (ps : List Point). Spans ps (power_in s (suc c.args.place)) (power_in s (suc c.args.place)))
+    (subst (λ (ps : List Point). Spans ps (power_in s (suc c.args.index)) (power_in s (suc c.args.index)))
     (sym c.as_slice.ensures) spans)
 
 -- (found at once by this search alone, and slowly by all that is tried without an answer)
@@ -27,8 +27,8 @@ returns-clause-limit c = search rules
 pub returns-clause-near : goal.returns-clause-near
 returns-clause-near c = search rules
 
-pub envelope_near-requires-clause-points : goal.envelope_near-requires-clause-points
-envelope_near-requires-clause-points c = search rules
+pub envelope_from_leg-requires-clause-points : goal.envelope_from_leg-requires-clause-points
+envelope_from_leg-requires-clause-points c = search rules
 
-pub envelope_near-requires-clause-near : goal.envelope_near-requires-clause-near
-envelope_near-requires-clause-near c = search rules
+pub envelope_from_leg-requires-clause-near : goal.envelope_from_leg-requires-clause-near
+envelope_from_leg-requires-clause-near c = search rules

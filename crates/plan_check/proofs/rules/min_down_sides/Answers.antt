@@ -6,11 +6,11 @@ pub returns-then-not-starts_at : goal.returns-then-not-starts_at
 returns-then-not-starts_at c =
     let g = thermal_of c.args.unit.now in
     let s = schedule_of c.args.response.now in
-    sym (min_down-none g s c.args.place (sym c.if-not-starts_at.ensures))
+    sym (min_down-none g s c.args.index (sym c.if-not-starts_at.ensures))
 
 pub returns : goal.returns
 returns c =
     let g = thermal_of c.args.unit.now in
     let s = schedule_of c.args.response.now in
-    c.run_sides.ensures ∙ ap (λ o. run_broken o (c.args.place + 1) g.min_down) c.change_before.ensures ∙
-    sym (min_down-ends g s c.args.place (sym c.if-not-starts_at.ensures))
+    c.run_sides.ensures ∙ ap (λ o. run_broken o (c.args.index + 1) g.min_down) c.change_before.ensures ∙
+    sym (min_down-ends g s c.args.index (sym c.if-not-starts_at.ensures))

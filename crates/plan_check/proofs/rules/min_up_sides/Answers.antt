@@ -6,11 +6,11 @@ pub returns-then-not-stops_at : goal.returns-then-not-stops_at
 returns-then-not-stops_at c =
     let g = thermal_of c.args.unit.now in
     let s = schedule_of c.args.response.now in
-    sym (min_up-none g s c.args.place (sym c.if-not-stops_at.ensures))
+    sym (min_up-none g s c.args.index (sym c.if-not-stops_at.ensures))
 
 pub returns : goal.returns
 returns c =
     let g = thermal_of c.args.unit.now in
     let s = schedule_of c.args.response.now in
-    c.run_sides.ensures ∙ ap (λ o. run_broken o (c.args.place + 1) g.min_up) c.change_before.ensures ∙
-    sym (min_up-ends g s c.args.place (sym c.if-not-stops_at.ensures))
+    c.run_sides.ensures ∙ ap (λ o. run_broken o (c.args.index + 1) g.min_up) c.change_before.ensures ∙
+    sym (min_up-ends g s c.args.index (sym c.if-not-stops_at.ensures))

@@ -13,12 +13,12 @@ returns c =
     search rules in
     let l = int_min g.stop_limit g.max_power in
     let f : FitsSigned w64 c.args.unit.now.stop_limit = search rules in
-    let limit = simp to_z-of_z at c.limit_within.ensures in
-    let f1 : FitsSigned w64 c.state_in-last.result.output = search rules in
-    let f2 : FitsSigned w64 c.limit_within.result = search rules in
-    let told = simp to_z-of_z at c.at_most.ensures in
-    told ∙ ap (λ (o : ℤ). unless (int_le o c.limit_within.result) o c.limit_within.result)
-    c.state_in-last.ensures.output
+    let limit = simp to_z-of_z at c.limit_within_capacity.ensures in
+    let f1 : FitsSigned w64 c.state_in_period-last.result.output = search rules in
+    let f2 : FitsSigned w64 c.limit_within_capacity.result = search rules in
+    let told = simp to_z-of_z at c.sides_above_limit.ensures in
+    told ∙ ap (λ (o : ℤ). unless (int_le o c.limit_within_capacity.result) o c.limit_within_capacity.result)
+    c.state_in_period-last.ensures.output
     ∙ ap (λ (x : ℤ). unless (int_le (output_in g s t) x) (output_in g s t) x) limit
     ∙ sym (ap (λ (b : Bool). cond b (unless (int_le (output_in g s t) l) (output_in g s t) l) None)
     (stops_from g s t on off))

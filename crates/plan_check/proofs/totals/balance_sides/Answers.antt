@@ -7,7 +7,7 @@ pub returns : goal.returns
 returns c =
     let m = market_of c.args.case.now in
     let ps = schedules_of c.args.plan.now in
-    let k = c.args.place in
+    let k = c.args.index in
     let f1 : FitsSigned w64 c.net_power-total.result = search rules in
     let f2 : FitsSigned w64 c.get-demand.result.now = search rules in
     let value = c.net_power-total.ensures.value in

@@ -4,10 +4,10 @@ use Rattle.plan_check.proofs.totals.reserve_sides.Goals as goal
 pub returns : goal.returns
 returns c =
     let m = market_of c.args.case.now in
-    let k = c.args.place in
+    let k = c.args.index in
     let f1 : FitsSigned w64 c.reserves_in-reserves.result.required = search rules in
     let f2 : FitsSigned w64 c.reserves_in-reserves.result.given = search rules in
-    let told = simp to_z-of_z at c.at_most.ensures in
+    let told = simp to_z-of_z at c.sides_above_limit.ensures in
     let reserves = c.reserves_in-reserves in
     told ∙ ap (λ (a : ℤ). unless (int_le a reserves.result.given) a reserves.result.given) reserves.ensures.required
     ∙ ap (λ (b : ℤ). unless (int_le (int_at m.reserves k) b) (int_at m.reserves k) b) reserves.ensures.given

@@ -7,9 +7,9 @@ pub loop-response-preserved : goal.loop-response-preserved
 loop-response-preserved c =
     let rs = c.args.responses.now in
     let i = c.loop-response.response-index in
-    let k = c.args.place in
+    let k = c.args.index in
     let x = c.response-item.result in
-    let called = c.with_response-totals.ensures in
+    let called = c.totals_with_response-totals.ensures in
     let more = take_more rs i x c.loop-response-test.true ∙
     ap (λ (y : Response). take i rs ++ y ∷ []) (sym c.response-item.is) in
     let powers = ap (λ (l : List Response). powers_at (map schedule_of l) k) more ∙

@@ -4,11 +4,11 @@ use Rattle.plan_settle.proofs.Common.{Answered}
 use Rattle.plan_settle.proofs.Answered.{answers_more, popped}
 use Rattle.plan_settle.proofs.answers.answer_all.Goals as goal
 
-pub answer_at-requires-clause-some : goal.answer_at-requires-clause-some
-answer_at-requires-clause-some c = c.units_can_answer.ensures (market_of c.args.case.now) c.requires.some
+pub answer_numbered_unit-requires-clause-some : goal.answer_numbered_unit-requires-clause-some
+answer_numbered_unit-requires-clause-some c = c.units_can_answer.ensures (market_of c.args.case.now) c.requires.some
 
-pub answer_at-requires-clause-into : goal.answer_at-requires-clause-into
-answer_at-requires-clause-into c =
+pub answer_numbered_unit-requires-clause-into : goal.answer_numbered_unit-requires-clause-into
+answer_numbered_unit-requires-clause-into c =
     let P : Answered → Type 0 = λ a. length (schedule_of a.response).on ≡ (market_of c.args.case.now).periods in
     (popped P c.pop.new.self.items c.in-Some.answer
     (subst (λ (xs : List Answered). All P xs) c.in-Some.ensures.items c.loop-number.invariant.periods)).1
@@ -18,7 +18,7 @@ loop-number-preserved c =
     let m = market_of c.args.case.now in
     let π = prices_of c.args.prices.now in
     let P : Answered → Type 0 = λ a. length (schedule_of a.response).on ≡ (market_of c.args.case.now).periods in
-    let a = c.answer_at.new.into in
+    let a = c.answer_numbered_unit.new.into in
     let f : FitsSigned w64 a.earned = search rules in
     let earned = rw (to_z-of_z w64 a.earned f) at c.push.ensures.items in
     let responses = ap (map schedule_of) c.push-in-loop-number.ensures.items ∙
@@ -32,9 +32,9 @@ loop-number-preserved c =
     record {
       answers = answers_more m π c.loop-number.number (map schedule_of c.loop-number.responses.items)
           (map schedule_of c.push-in-loop-number.new.self.items) c.loop-number.earned.items c.push.new.self.items
-          c.answer_at.result a
-          c.loop-number.invariant.answers c.answer_at.ensures.answer responses earned;
-      bench = c.answer_at.ensures.bench;
+          c.answer_numbered_unit.result a
+          c.loop-number.invariant.answers c.answer_numbered_unit.ensures.answer responses earned;
+      bench = c.answer_numbered_unit.ensures.bench;
       left = omega (arith, shorter, left);
       periods = (popped P c.pop.new.self.items c.in-Some.answer
           (subst (λ (xs : List Answered). All P xs) c.in-Some.ensures.items c.loop-number.invariant.periods)).0;

@@ -7,13 +7,13 @@ chosen-chosen-requires c =
     (chosen_place c.finished_has_row.ensures c.one_row_is_chosen.ensures c.args.closed.now _ c.rows-rows.ensures.setup
     c.requires.finished refl).some
 
-pub earn_at-requires-clause-first : goal.earn_at-requires-clause-first
-earn_at-requires-clause-first c =
+pub write_earnings_at_row-requires-clause-first : goal.write_earnings_at_row-requires-clause-first
+write_earnings_at_row-requires-clause-first c =
     (chosen_place c.finished_has_row.ensures c.one_row_is_chosen.ensures c.args.closed.now c.chosen-chosen.result
     c.rows-rows.ensures.setup c.requires.finished c.chosen-chosen.ensures).first
 
-pub earn_at-requires-clause-last : goal.earn_at-requires-clause-last
-earn_at-requires-clause-last c =
+pub write_earnings_at_row-requires-clause-last : goal.write_earnings_at_row-requires-clause-last
+write_earnings_at_row-requires-clause-last c =
     (chosen_place c.finished_has_row.ensures c.one_row_is_chosen.ensures c.args.closed.now c.chosen-chosen.result
     c.rows-rows.ensures.setup c.requires.finished c.chosen-chosen.ensures).last
 
@@ -24,10 +24,10 @@ overflow_sub-row c =
 
 pub bounds-rows-chosen : goal.bounds-rows-chosen
 bounds-rows-chosen c =
-    let place = chosen_place c.finished_has_row.ensures c.one_row_is_chosen.ensures c.args.closed.now
+    let index = chosen_place c.finished_has_row.ensures c.one_row_is_chosen.ensures c.args.closed.now
     c.chosen-chosen.result c.rows-rows.ensures.setup c.requires.finished c.chosen-chosen.ensures in
-    let first = place.first in
-    let last = place.last in
+    let first = index.first in
+    let last = index.last in
     omega (arith, first, last, ap length c.rows-rows.ensures.rows, length-map c.rows-rows.result.now proposal_of)
 
 pub settle-requires-clause-horizon : goal.settle-requires-clause-horizon
@@ -35,10 +35,10 @@ settle-requires-clause-horizon c =
     let closed = c.args.closed.now in
     let chosen = c.chosen-chosen.result in
     let row = c.index-rows-chosen.result in
-    let place = chosen_place c.finished_has_row.ensures c.one_row_is_chosen.ensures closed chosen
+    let index = chosen_place c.finished_has_row.ensures c.one_row_is_chosen.ensures closed chosen
     c.rows-rows.ensures.setup c.requires.finished c.chosen-chosen.ensures in
-    let first = place.first in
-    let last = place.last in
+    let first = index.first in
+    let last = index.last in
     let there = row_at_place closed c.rows-rows.result.now chosen row c.rows-rows.ensures.rows
     (omega (
       arith,
@@ -55,10 +55,10 @@ settle-requires-clause-best c =
     let closed = c.args.closed.now in
     let chosen = c.chosen-chosen.result in
     let row = c.index-rows-chosen.result in
-    let place = chosen_place c.finished_has_row.ensures c.one_row_is_chosen.ensures closed chosen
+    let index = chosen_place c.finished_has_row.ensures c.one_row_is_chosen.ensures closed chosen
     c.rows-rows.ensures.setup c.requires.finished c.chosen-chosen.ensures in
-    let first = place.first in
-    let last = place.last in
+    let first = index.first in
+    let last = index.last in
     let there = row_at_place closed c.rows-rows.result.now chosen row c.rows-rows.ensures.rows
     (omega (
       arith,
@@ -68,8 +68,9 @@ settle-requires-clause-best c =
       length-map c.rows-rows.result.now proposal_of,
     )) c.index-rows-chosen.is in
     tops_for c.answers_are_tops.ensures closed chosen (proposal_of row) (market_of c.case.result.now)
-    c.earn_at.new.earned.items c.as_slice.result.now
-    c.rows-rows.ensures.setup c.rows-rows.ensures.legal place there c.earn_at.ensures.count c.earn_at.ensures.each
+    c.write_earnings_at_row.new.earned.items c.as_slice.result.now
+    c.rows-rows.ensures.setup c.rows-rows.ensures.legal index there c.write_earnings_at_row.ensures.count
+    c.write_earnings_at_row.ensures.each
     c.case.ensures c.as_slice.ensures
 
 pub returns : goal.returns
@@ -77,10 +78,10 @@ returns c =
     let closed = c.args.closed.now in
     let chosen = c.chosen-chosen.result in
     let row = c.index-rows-chosen.result in
-    let place = chosen_place c.finished_has_row.ensures c.one_row_is_chosen.ensures closed chosen
+    let index = chosen_place c.finished_has_row.ensures c.one_row_is_chosen.ensures closed chosen
     c.rows-rows.ensures.setup c.requires.finished c.chosen-chosen.ensures in
-    let first = place.first in
-    let last = place.last in
+    let first = index.first in
+    let last = index.last in
     let there = row_at_place closed c.rows-rows.result.now chosen row c.rows-rows.ensures.rows
     (omega (
       arith,

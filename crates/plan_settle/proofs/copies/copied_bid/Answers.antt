@@ -6,8 +6,8 @@ use Rattle.plan_settle.proofs.copies.copied_bid.Goals as goal
 pub copied_list-requires : goal.copied_list-requires
 copied_list-requires c =
     let bs = c.args.bid.now.blocks.items in
-    let k = c.loop-place.place in
-    let lt : c.loop-place.place < length c.args.bid.now.blocks.items = omega arith in
+    let k = c.loop-index.index in
+    let lt : c.loop-index.index < length c.args.bid.now.blocks.items = omega arith in
     let mapped = length-map c.args.bid.now.blocks.items items_in in
     let few = (c.args.bid.now.valid.blocks k [] (omega (arith, lt, mapped))).count in
     let item = ap (λ (b : List Block). length b)

@@ -2,9 +2,9 @@ use Rattle.plan_settle.proofs.Common.{◌≡◌, ◌+◌, ◌≤◌, length, map
 use Rattle.plan_settle.proofs.Common.{zip_with, held_named}
 use Rattle.plan_settle.proofs.fix.held_units.Given as goal
 
-abbrev pub invariant-loop-place : goal.invariant-loop-place
-invariant-loop-place l = record {
-  held : map named_thermal_of l.units.items ≡ take l.place
+abbrev pub invariant-loop-index : goal.invariant-loop-index
+invariant-loop-index l = record {
+  held : map named_thermal_of l.units.items ≡ take l.index
       (zip_with held_named (market_of l.case).thermal (schedules_of l.plan));
-  room : length l.case.thermal.items ≤ l.place + l.units.spare;
+  room : length l.case.thermal.items ≤ l.index + l.units.spare;
 }

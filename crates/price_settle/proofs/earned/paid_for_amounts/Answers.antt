@@ -3,9 +3,9 @@ use Rattle.price_settle.proofs.Common.{arith, ints, to_z-of_z, get_or_from_slice
 use Rattle.price_settle.proofs.Common.{int_at, sum_more, item_of, product_within}
 use Rattle.price_settle.proofs.earned.paid_for_amounts.Goals as goal
 
-pub loop-place-preserved : goal.loop-place-preserved
-loop-place-preserved c =
-    let k = c.loop-place.place in
+pub loop-index-preserved : goal.loop-index-preserved
+loop-index-preserved c =
+    let k = c.loop-index.index in
     let f1 : FitsSigned w64 c.get-price.result.now = search rules in
     let f2 : FitsSigned w64 c.from.result = search rules in
     let price = get_or_from_slice_get c.args.prices.now.items k c.get-price.result.now (pos 0)
@@ -17,7 +17,7 @@ loop-place-preserved c =
     (slice_index c.args.amounts.now.items k) =
     paid ∙ ap (λ (z : ℤ). z *ℤ c.from.result) (sym price) ∙
     ap (λ (z : ℤ). int_at c.args.prices.now.items k *ℤ z) (wide ∙ ap pos (sym amount)) in
-    let known = c.loop-place.invariant in
+    let known = c.loop-index.invariant in
     let is = known.is in
     let low = known.limit.at_least in
     let high = known.limit.at_most in
@@ -30,8 +30,8 @@ loop-place-preserved c =
     let call_low = call.at_least in
     let call_high = call.at_most in
     let horizon = c.requires.horizon in
-    let test = c.loop-place-test.true in
-    let len = c.len-place-end.ensures in
+    let test = c.loop-index-test.true in
+    let len = c.len-index-end.ensures in
     let more = sum_more k (λ j. int_at c.args.prices.now.items j *ℤ pos (slice_index c.args.amounts.now.items j)) in
     record {
       is = omega (arith, ints, is, low, high, value, paid, call_low, call_high, more, horizon, test, len);

@@ -51,10 +51,10 @@ earned_by-scheduled-requires-clause-number c =
 pub payment_of-payment-requires-clause-best : goal.payment_of-payment-requires-clause-best
 payment_of-payment-requires-clause-best c =
     let m = market_of c.args.case.now in
-    let f : FitsSigned w64 c.best_of.result = search rules in
+    let f : FitsSigned w64 c.best_earnings_of.result = search rules in
     let within = best_within c.earnings_are_within.ensures (prices_of c.args.prices.now) c.args.prices.now.valid
-    (units m) c.args.earned.now c.loop-number.number c.best_of.result
-    (c.units_are_within.ensures m c.args.case.now.valid) c.requires.best c.best_of.ensures in
+    (units m) c.args.earned.now c.loop-number.number c.best_earnings_of.result
+    (c.units_are_within.ensures m c.args.case.now.valid) c.requires.best c.best_earnings_of.ensures in
     simp to_z-of_z within
 
 pub add_unit-requires-clause-scheduled_room : goal.add_unit-requires-clause-scheduled_room
@@ -95,11 +95,11 @@ loop-number-preserved c =
     let xs = earned_in m ps (prices_of c.args.prices.now) in
     let k = c.loop-number.number in
     let r = c.earned_by-scheduled.result in
-    let best = c.best_of.result in
+    let best = c.best_earnings_of.result in
     let known = c.loop-number.invariant in
     let done = c.loop-number.into.scheduled.items in
     let f1 : FitsSigned w64 c.earned_by-scheduled.result = search rules in
-    let f2 : FitsSigned w64 c.best_of.result = search rules in
+    let f2 : FitsSigned w64 c.best_earnings_of.result = search rules in
     let f3 : FitsSigned w64 c.payment_of-payment.result = search rules in
     let scheduled = simp to_z-of_z at c.add_unit.ensures.scheduled in
     let payments = simp to_z-of_z at c.add_unit.ensures.payments in
@@ -121,7 +121,7 @@ loop-number-preserved c =
     (c.feasible_plans_have_shape.ensures m ps c.requires.feasible) in
     let lt : k < length xs = omega (arith, count, test, last) in
     let item = get_or_from_slice_get xs k r (pos 0) c.earned_by-scheduled.ensures.value in
-    let at = ap (slice_get c.args.earned.now) number ∙ c.best_of.ensures in
+    let at = ap (slice_get c.args.earned.now) number ∙ c.best_earnings_of.ensures in
     let totals = ap total payments ∙ total-push c.loop-number.into.payments.items c.payment_of-payment.result in
     record {
       scheduled = scheduled ∙ ap (λ (l : List ℤ). l ++ r ∷ []) known.scheduled ∙
@@ -151,13 +151,13 @@ returns-clause-settled c =
     let last = earned_length m ps (prices_of c.args.prices.now) (c.units_are_numbered.ensures m)
     (c.feasible_plans_have_shape.ensures m ps c.requires.feasible) in
     let test = c.loop-number-test.false in
-    let f : FitsSigned w128 c.surplus_of-into.result = search rules in
+    let f : FitsSigned w128 c.worth_of_surplus-into.result = search rules in
     record {
       tops = c.args.earned.now;
       best = c.requires.best;
       scheduled_is = known.scheduled ∙ take_all c.loop-number.number xs (omega (arith, count, last, test));
       payments_are = known.payments;
-      surplus_is = to_z-of_z w128 c.surplus_of-into.result f ∙ c.surplus_of-into.ensures;
+      surplus_is = to_z-of_z w128 c.worth_of_surplus-into.result f ∙ c.worth_of_surplus-into.ensures;
       sum_is = known.total;
     }
 

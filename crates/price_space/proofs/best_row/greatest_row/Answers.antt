@@ -4,8 +4,8 @@ use Rattle.price_space.proofs.best_row.greatest_row.Goals as goal
 
 pub loop-i-preserved : goal.loop-i-preserved
 loop-i-preserved c =
-    first_more (values_of (map proposal_of c.args.rows.now)) c.loop-i.i c.loop-i.best c.better_of-best.result
-    c.loop-i.invariant c.better_of-best.ensures
+    first_more (values_of (map proposal_of c.args.rows.now)) c.loop-i.i c.loop-i.best c.better_row-best.result
+    c.loop-i.invariant c.better_row-best.ensures
 
 pub returns-clause-up_to : goal.returns-clause-up_to
 returns-clause-up_to c =

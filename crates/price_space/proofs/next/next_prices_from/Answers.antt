@@ -15,8 +15,8 @@ below m rows best r cost first rows_below at =
     let some = first.within in
     last_below m (map proposal_of rows) r cost rows_below (omega (arith, lengths, some)) at
 
-pub gap_of-gap-requires-clause-row : goal.gap_of-gap-requires-clause-row
-gap_of-gap-requires-clause-row c =
+pub gap_of_row-gap-requires-clause-row : goal.gap_of_row-gap-requires-clause-row
+gap_of_row-gap-requires-clause-row c =
     let cost = c.ranges.cost in
     simp to_z-of_z (below (market_of c.args.case.now) c.args.rows.now c.args.best
     (proposal_of c.last_row-row.result.now)
@@ -30,8 +30,8 @@ norm_of-norm-requires c =
 pub scale_of-scale-requires : goal.scale_of-scale-requires
 scale_of-scale-requires c = search rules
 
-pub returns-then-is_still-clause-settled : goal.returns-then-is_still-clause-settled
-returns-then-is_still-clause-settled c = search rules
+pub returns-then-has_no_step-clause-settled : goal.returns-then-has_no_step-clause-settled
+returns-then-has_no_step-clause-settled c = search rules
 
 pub returns-clause-settled : goal.returns-clause-settled
 returns-clause-settled c = search rules
@@ -52,16 +52,16 @@ returns-clause-made c = λ _.
     let r = proposal_of c.last_row-row.result.now in
     let rows = map proposal_of c.args.rows.now in
     let cost = c.ranges.cost in
-    let a : FitsSigned w128 c.gap_of-gap.result = search rules in
+    let a : FitsSigned w128 c.gap_of_row-gap.result = search rules in
     let b : FitsSigned w128 c.norm_of-norm.result = search rules in
     let d : FitsSigned w128 c.scale_of-scale.result = search rules in
-    let gap_is = simp to_z-of_z at c.gap_of-gap.ensures.value in
+    let gap_is = simp to_z-of_z at c.gap_of_row-gap.ensures.value in
     let scale_is = simp to_z-of_z at c.scale_of-scale.ensures.value in
     let e = simp to_z-of_z at c.take_step.ensures.prices in
     let f = simp to_z-of_z at c.take_step-2.ensures.prices in
-    stepped_is m rows r c.args.cost c.gap_of-gap.result c.scale_of-scale.result c.take_step.new.into.items
+    stepped_is m rows r c.args.cost c.gap_of_row-gap.result c.scale_of-scale.result c.take_step.new.into.items
     c.take_step-2.new.into.items c.last_row-row.ensures gap_is
     (scale_is
-    ∙ ap (λ (z : ℤ). z *ℤ pos (2 ^ min 20 (c.age_of.result / 10))) c.norm_of-norm.ensures.value
-    ∙ ap (λ (n : ℕ). squared_length m r *ℤ pos (2 ^ min 20 (n / 10))) c.age_of.ensures)
+    ∙ ap (λ (z : ℤ). z *ℤ pos (2 ^ min 20 (c.rows_since_best.result / 10))) c.norm_of-norm.ensures.value
+    ∙ ap (λ (n : ℕ). squared_length m r *ℤ pos (2 ^ min 20 (n / 10))) c.rows_since_best.ensures)
     e f

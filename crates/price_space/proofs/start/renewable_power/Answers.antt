@@ -2,8 +2,8 @@ use Rattle.price_space.proofs.Common.{◌≡◌, ◌<◌, List, length, get_or, 
 use Rattle.price_space.proofs.Lemmas.{flat_horizon, most_more}
 use Rattle.price_space.proofs.start.renewable_power.Goals as goal
 
-pub most_at-power-requires : goal.most_at-power-requires
-most_at-power-requires c =
+pub renewable_power_at-power-requires : goal.renewable_power_at-power-requires
+renewable_power_at-power-requires c =
     let same = c.as_slice-named-items.ensures in
     let lengths = ap (length {A = NamedFlat}) same in
     let test = c.loop-named-test.true in
@@ -26,6 +26,6 @@ loop-named-preserved c =
     let more = most_more c.args.k c.args.case.now.flat.items c.loop-named.named-index c.named-item.result within is in
     let so_far = c.loop-named.invariant.so_far in
     let bound = c.loop-named.invariant.bound in
-    let power = c.most_at-power.ensures.power in
-    let few = c.most_at-power.ensures.bound in
+    let power = c.renewable_power_at-power.ensures.power in
+    let few = c.renewable_power_at-power.ensures.bound in
     record { so_far = omega (arith, ints, more, so_far, power); bound = omega (arith, bound, few) }

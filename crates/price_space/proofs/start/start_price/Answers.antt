@@ -4,22 +4,23 @@ use Rattle.price_space.proofs.Lemmas.{giving, rising_outputs, rising_count}
 use Rattle.price_space.proofs.RuleLaws.{start_is, start_moved}
 use Rattle.price_space.proofs.start.start_price.Goals as goal
 
-pub first_reaching-requires-clause-powers : goal.first_reaching-requires-clause-powers
-first_reaching-requires-clause-powers c =
+pub first_price_reaching-requires-clause-powers : goal.first_price_reaching-requires-clause-powers
+first_price_reaching-requires-clause-powers c =
     rising_outputs (market_of c.args.case.now) c.args.units.now c.args.case.now.valid c.requires.units
 
-pub first_reaching-requires-clause-count : goal.first_reaching-requires-clause-count
-first_reaching-requires-clause-count c =
+pub first_price_reaching-requires-clause-count : goal.first_price_reaching-requires-clause-count
+first_price_reaching-requires-clause-count c =
     rising_count (market_of c.args.case.now) c.args.units.now c.args.case.now.valid c.requires.units
 
 pub returns : goal.returns
 returns c =
     let m = market_of c.args.case.now in
-    let a : FitsSigned w64 c.short_in.result = search rules in
-    let b : FitsSigned w64 c.first_reaching.result = search rules in
-    let found = simp to_z-of_z at c.first_reaching.ensures in
-    let start = subst (λ (z : ℤ). IsStartPrice c.args.units.now z c.first_reaching.result) c.short_in.ensures found in
+    let a : FitsSigned w64 c.residual_demand.result = search rules in
+    let b : FitsSigned w64 c.first_price_reaching.result = search rules in
+    let found = simp to_z-of_z at c.first_price_reaching.ensures in
+    let start = subst (λ (z : ℤ). IsStartPrice c.args.units.now z c.first_price_reaching.result)
+    c.residual_demand.ensures found in
     let own = start_moved (priced_units_of m) c.args.units.now
-    (int_at m.demand c.args.k -ℤ renewable_power_of m c.args.k) c.first_reaching.result
+    (int_at m.demand c.args.k -ℤ renewable_power_of m c.args.k) c.first_price_reaching.result
     c.requires.units.permutation start in
-    simp to_z-of_z (sym (start_is m c.args.k c.first_reaching.result (giving m c.args.case.now.valid) own))
+    simp to_z-of_z (sym (start_is m c.args.k c.first_price_reaching.result (giving m c.args.case.now.valid) own))

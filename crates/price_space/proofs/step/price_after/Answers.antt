@@ -9,18 +9,18 @@ returns c =
     let m = market_of c.args.case.now in
     let r = proposal_of c.args.row.now in
     let a : FitsSigned w64 c.price_near.result = search rules in
-    let b : FitsSigned w64 c.low_limit.result = search rules in
-    let d : FitsSigned w64 c.price_on.result = search rules in
-    let e : FitsSigned w64 c.entry_on.result = search rules in
+    let b : FitsSigned w64 c.least_price_of_product.result = search rules in
+    let d : FitsSigned w64 c.price_of_product.result = search rules in
+    let e : FitsSigned w64 c.direction_entry.result = search rules in
     let f : FitsSigned w128 c.from.result = search rules in
     let g : FitsSigned w128 c.move_along-by.result = search rules in
-    let from_is : c.from.result ≡ c.price_on.result = simp to_z-of_z at c.from.ensures in
-    let price = c.price_on.ensures.value in
-    let low = c.price_on.ensures.bound.at_least in
-    let high = c.price_on.ensures.bound.at_most in
+    let from_is : c.from.result ≡ c.price_of_product.result = simp to_z-of_z at c.from.ensures in
+    let price = c.price_of_product.ensures.value in
+    let low = c.price_of_product.ensures.bound.at_least in
+    let high = c.price_of_product.ensures.bound.at_most in
     let least = c.move_along-by.ensures.bound.at_least in
     let most = c.move_along-by.ensures.bound.at_most in
-    let by_is : c.move_along-by.result ≡ int_div (c.args.step.gap *ℤ c.entry_on.result) c.args.step.scale =
+    let by_is : c.move_along-by.result ≡ int_div (c.args.step.gap *ℤ c.direction_entry.result) c.args.step.scale =
     simp to_z-of_z at c.move_along-by.ensures.value in
     let within : IsWithin 40000000000000000000000000000010000000 (c.from.result +ℤ c.move_along-by.result) =
     record {
@@ -30,13 +30,15 @@ returns c =
     } in
     let fits = fits_within w128 40000000000000000000000000000010000000 (c.from.result +ℤ c.move_along-by.result) within
     (omega arith) in
-    let near : c.price_near.result ≡ clamped c.low_limit.result price_limit (c.from.result +ℤ c.move_along-by.result) =
+    let near : c.price_near.result ≡ clamped c.least_price_of_product.result price_limit
+    (c.from.result +ℤ c.move_along-by.result) =
     simp to_z-of_z at c.price_near.ensures.value in
-    let entry = ap (λ (z : ℤ). int_div (c.args.step.gap *ℤ z) c.args.step.scale) c.entry_on.ensures.value in
+    let entry = ap (λ (z : ℤ). int_div (c.args.step.gap *ℤ z) c.args.step.scale) c.direction_entry.ensures.value in
     let sum : c.from.result +ℤ c.move_along-by.result ≡ int_at (prices_on c.args.product r) c.args.k +ℤ int_div
     (c.args.step.gap *ℤ direction_on m r c.args.product c.args.k) c.args.step.scale =
     ap (λ (z : ℤ). z +ℤ c.move_along-by.result) (from_is ∙ price) ∙
     ap (λ (z : ℤ). int_at (prices_on c.args.product r) c.args.k +ℤ z) (by_is ∙ entry) in
     simp to_z-of_z (near
-    ∙ ap (λ (l : ℤ). clamped l price_limit (c.from.result +ℤ c.move_along-by.result)) c.low_limit.ensures.value
+    ∙ ap (λ (l : ℤ). clamped l price_limit (c.from.result +ℤ c.move_along-by.result))
+    c.least_price_of_product.ensures.value
     ∙ ap (λ (z : ℤ). clamped (low_of c.args.product) price_limit z) sum)

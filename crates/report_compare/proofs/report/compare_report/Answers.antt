@@ -18,7 +18,7 @@ returns-in_err-line c = λ (responses : List Schedule) fits.
     let r = report_of c.args.report.now in
     let compare_room = c.args.compare_room.now in
     let a = answers_of compare_room.earned.items compare_room.settlement responses in
-    let q = right_of m a r.budget r.ahead c.args.cost (map proposal_of c.args.rows.now) (c.args.choice.now.place + 1)
+    let q = right_of m a r.budget r.ahead c.args.cost (map proposal_of c.args.rows.now) (c.args.choice.now.index + 1)
     c.args.choice.now.row.now.value compare_room.settlement.surplus compare_room.settlement.total in
     let p = err_from_is_err_and c.from_residual.result c.from_residual.ensures.1 in
     let head = rw (to_z-of_z w128 c.args.cost c.ranges.cost) at c.in_err-line.ensures.lines in
@@ -35,7 +35,7 @@ returns-in_err-line-2 c = λ (responses : List Schedule) fits.
     let r = report_of c.args.report.now in
     let compare_room = c.args.compare_room.now in
     let a = answers_of compare_room.earned.items compare_room.settlement responses in
-    let q = right_of m a r.budget r.ahead c.args.cost (map proposal_of c.args.rows.now) (c.args.choice.now.place + 1)
+    let q = right_of m a r.budget r.ahead c.args.cost (map proposal_of c.args.rows.now) (c.args.choice.now.index + 1)
     c.args.choice.now.row.now.value compare_room.settlement.surplus compare_room.settlement.total in
     let p = err_from_is_err_and c.from_residual-in_err-line-2.result c.from_residual-in_err-line-2.ensures.1 in
     let head = rw (to_z-of_z w128 c.args.cost c.ranges.cost) at c.in_ok-line.ensures.lines in
@@ -53,7 +53,7 @@ returns-in_err-line-3 c = λ (responses : List Schedule) fits.
     let r = report_of c.args.report.now in
     let compare_room = c.args.compare_room.now in
     let a = answers_of compare_room.earned.items compare_room.settlement responses in
-    let q = right_of m a r.budget r.ahead c.args.cost (map proposal_of c.args.rows.now) (c.args.choice.now.place + 1)
+    let q = right_of m a r.budget r.ahead c.args.cost (map proposal_of c.args.rows.now) (c.args.choice.now.index + 1)
     c.args.choice.now.row.now.value compare_room.settlement.surplus compare_room.settlement.total in
     let p = err_from_is_err_and c.from_residual-in_err-line-3.result c.from_residual-in_err-line-3.ensures.1 in
     let head = rw (to_z-of_z w128 c.args.cost c.ranges.cost) at c.in_ok-line.ensures.lines in
@@ -72,7 +72,7 @@ returns-in_err-line-4 c = λ (responses : List Schedule) fits.
     let r = report_of c.args.report.now in
     let compare_room = c.args.compare_room.now in
     let a = answers_of compare_room.earned.items compare_room.settlement responses in
-    let q = right_of m a r.budget r.ahead c.args.cost (map proposal_of c.args.rows.now) (c.args.choice.now.place + 1)
+    let q = right_of m a r.budget r.ahead c.args.cost (map proposal_of c.args.rows.now) (c.args.choice.now.index + 1)
     c.args.choice.now.row.now.value compare_room.settlement.surplus compare_room.settlement.total in
     let p = err_from_is_err_and c.from_residual-in_err-line-4.result c.from_residual-in_err-line-4.ensures.1 in
     let head = rw (to_z-of_z w128 c.args.cost c.ranges.cost) at c.in_ok-line.ensures.lines in
@@ -93,7 +93,7 @@ returns c = λ (responses : List Schedule) fits.
     let r = report_of c.args.report.now in
     let compare_room = c.args.compare_room.now in
     let a = answers_of compare_room.earned.items compare_room.settlement responses in
-    let q = right_of m a r.budget r.ahead c.args.cost (map proposal_of c.args.rows.now) (c.args.choice.now.place + 1)
+    let q = right_of m a r.budget r.ahead c.args.cost (map proposal_of c.args.rows.now) (c.args.choice.now.index + 1)
     c.args.choice.now.row.now.value compare_room.settlement.surplus compare_room.settlement.total in
     let head = rw (to_z-of_z w128 c.args.cost c.ranges.cost) at c.in_ok-line.ensures.lines in
     let rows = rw c.as_slice.ensures at c.in_ok-line-2.ensures.lines in

@@ -119,8 +119,8 @@ compare_report-requires-clause-chosen c =
     let long = length-map c.args.rows.now proposal_of in
     let within = c.requires.run.within in
     let most = c.requires.bounds.budget_at_most in
-    let place = c.greatest_row-chosen.ensures.place in
-    omega (arith, long, within, most, place)
+    let index = c.greatest_row-chosen.ensures.place in
+    omega (arith, long, within, most, index)
 
 pub earn_all-requires-clause-horizon : goal.earn_all-requires-clause-horizon
 earn_all-requires-clause-horizon c = long (goal.at.earn_all-requires-clause-horizon c).After-index-rows-chosen

@@ -3,11 +3,11 @@ use Rattle.report_compare.proofs.Common.{WrongLine}
 use Rattle.report_compare.proofs.rows.compare_rows.Given as goal
 
 -- what is told of the rows left is told of all
-abbrev pub invariant-loop-place : goal.invariant-loop-place
-invariant-loop-place l = record {
+abbrev pub invariant-loop-index : goal.invariant-loop-index
+invariant-loop-index l = record {
   rest : (result : Result ℕ WrongLine)
-      → Compares l.line result (rows_lines (suc l.place) (drop l.place (map proposal_of l.mine)))
-      (rows_lines (suc l.place) (drop l.place (map proposal_of l.right)))
+      → Compares l.line result (rows_lines (suc l.index) (drop l.index (map proposal_of l.mine)))
+      (rows_lines (suc l.index) (drop l.index (map proposal_of l.right)))
       → Compares l.first result (rows_lines 1 (map proposal_of l.mine)) (rows_lines 1 (map proposal_of l.right));
-  line : l.line ≡ l.first + 5 * l.place;
+  line : l.line ≡ l.first + 5 * l.index;
 }

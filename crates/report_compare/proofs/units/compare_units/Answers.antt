@@ -11,9 +11,9 @@ returns-in_err-line-clause-lines c = λ (responses : List Schedule) fits.
     let mine = c.index-lines-number.result in
     let a = answers_of c.args.compare_room.now.earned.items c.args.compare_room.now.settlement responses in
     let t : Title = record { kind = c.title_at-title.result.kind; name = c.title_at-title.result.name.now } in
-    let at = c.answer_at.ensures.answer in
+    let at = c.answer_numbered_unit.ensures.answer in
     let same = c.one_schedule_is_least.ensures at.unit (prices_of c.args.prices.now)
-    (schedule_of c.answer_at.new.into.response) _ at.fit
+    (schedule_of c.answer_numbered_unit.new.into.response) _ at.fit
     (zip_at (λ u s. Fits u (prices_of c.args.prices.now) s) (units m) responses number at.unit idle fits at.is)
     in
     let due = due_lines a number t.kind t.name _ _ _ _
@@ -36,7 +36,7 @@ loop-number-preserved c =
     let number = c.loop-number.number in
     let mine = c.index-lines-number.result in
     let t : Title = record { kind = c.title_at-title.result.kind; name = c.title_at-title.result.name.now } in
-    let at = c.answer_at.ensures.answer in
+    let at = c.answer_numbered_unit.ensures.answer in
     let known = c.in_ok-line.ensures in
     let few = known.few in
     let line = c.loop-number.invariant.line in
@@ -44,7 +44,7 @@ loop-number-preserved c =
       rest = λ (responses : List Schedule) fits result h.
           let a = answers_of c.args.compare_room.now.earned.items c.args.compare_room.now.settlement responses in
           let same = c.one_schedule_is_least.ensures at.unit (prices_of c.args.prices.now)
-          (schedule_of c.answer_at.new.into.response) _ at.fit
+          (schedule_of c.answer_numbered_unit.new.into.response) _ at.fit
           (zip_at (λ u s. Fits u (prices_of c.args.prices.now) s) (units m) responses number at.unit idle fits
           at.is) in
           let due = due_lines a number t.kind t.name _ _ _ _
@@ -59,8 +59,8 @@ loop-number-preserved c =
           (subst (λ (z : List (List ℕ)). Compares c.loop-number.line (Ok c.in_ok-line.line) (told_lines (told_of mine))
           z) due known.lines) h);
       compare_room = record {
-        bench = c.answer_at.ensures.bench;
-        answer = c.answer_at.ensures.into;
+        bench = c.answer_numbered_unit.ensures.bench;
+        answer = c.answer_numbered_unit.ensures.into;
         earned = c.loop-number.invariant.compare_room.earned;
         scheduled = c.loop-number.invariant.compare_room.scheduled;
         payments = c.loop-number.invariant.compare_room.payments;
@@ -83,5 +83,5 @@ returns-clause-lines c = λ (responses : List Schedule) fits.
     c.loop-number.line number
     (map told_of c.args.lines.now) (titles m) (omega (arith, done, mine)) (omega (arith, done, count, right)))
 
-pub answer_at-requires-clause-some : goal.answer_at-requires-clause-some
-answer_at-requires-clause-some c = c.units_can_answer.ensures (market_of c.args.case.now) c.requires.some
+pub answer_numbered_unit-requires-clause-some : goal.answer_numbered_unit-requires-clause-some
+answer_numbered_unit-requires-clause-some c = c.units_can_answer.ensures (market_of c.args.case.now) c.requires.some

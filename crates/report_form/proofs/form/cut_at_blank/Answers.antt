@@ -3,13 +3,15 @@ use Rattle.report_form.proofs.FormLemmas.{before_blank, behind_blank, before_non
 use Rattle.report_form.proofs.form.cut_at_blank.Goals as goal
 
 pub returns-in-Some-clause-before : goal.returns-in-Some-clause-before
-returns-in-Some-clause-before c = before_blank c.args.form.now c.in-Some.place (sym c.blank_in.ensures ∙ c.in-Some.is)
+returns-in-Some-clause-before c = before_blank c.args.form.now c.in-Some.index
+    (sym c.first_blank_in.ensures ∙ c.in-Some.is)
 
 pub returns-in-Some-clause-behind : goal.returns-in-Some-clause-behind
-returns-in-Some-clause-behind c = behind_blank c.args.form.now c.in-Some.place (sym c.blank_in.ensures ∙ c.in-Some.is)
+returns-in-Some-clause-behind c = behind_blank c.args.form.now c.in-Some.index
+    (sym c.first_blank_in.ensures ∙ c.in-Some.is)
 
 pub returns-in-None-clause-before : goal.returns-in-None-clause-before
-returns-in-None-clause-before c = before_none c.args.form.now (sym c.blank_in.ensures ∙ c.in-None.is)
+returns-in-None-clause-before c = before_none c.args.form.now (sym c.first_blank_in.ensures ∙ c.in-None.is)
 
 pub returns-in-None-clause-behind : goal.returns-in-None-clause-behind
-returns-in-None-clause-behind c = behind_none c.args.form.now (sym c.blank_in.ensures ∙ c.in-None.is)
+returns-in-None-clause-behind c = behind_none c.args.form.now (sym c.first_blank_in.ensures ∙ c.in-None.is)

@@ -22,8 +22,8 @@ seek_power-there-requires-clause-to c =
     (omega arith) (omega arith) in
     omega (arith, ints)
 
-pub is_over-requires-clause-value : goal.is_over-requires-clause-value
-is_over-requires-clause-value c =
+pub exceeds_other-requires-clause-value : goal.exceeds_other-requires-clause-value
+exceeds_other-requires-clause-value c =
     let fv : FitsSigned w64 c.seek_power-here.result.value = search rules in
     rw (to_z-of_z w64 c.seek_power-here.result.value fv)
     (reached_amount c.args.start c.args.pieces.now c.requires.slopes c.requires.within
@@ -61,56 +61,61 @@ inside c = goes_on c.args.start c.args.pieces.now c.args.other c.args.others.now
 pub bounds-pieces-here : goal.bounds-pieces-here
 bounds-pieces-here c = inside (goal.at.bounds-pieces-here c).In-loop-there
 
-pub go_on-here-requires-clause-next : goal.go_on-here-requires-clause-next
-go_on-here-requires-clause-next c = inside (goal.at.go_on-here-requires-clause-next c).In-loop-there
+pub advance_to_power-here-requires-clause-next : goal.advance_to_power-here-requires-clause-next
+advance_to_power-here-requires-clause-next c = inside (goal.at.advance_to_power-here-requires-clause-next
+    c).In-loop-there
 
-pub go_on-here-requires-clause-rise : goal.go_on-here-requires-clause-rise
-go_on-here-requires-clause-rise c =
+pub advance_to_power-here-requires-clause-rise : goal.advance_to_power-here-requires-clause-rise
+advance_to_power-here-requires-clause-rise c =
     let was = c.loop-there.invariant in
     end_ahead c.args.start c.args.pieces.now c.args.other c.args.others.now c.requires.other_slopes
     c.if-not-domain_covers.ensures.last (to_z w64 c.loop-there.at-bits) c.loop-there.here was.here c.loop-there.there
     was.there c.loop-there-test.true
     (to_z w64 (of_z w64 c.min-end.result)) (omega (arith, ints, clamps))
 
-pub is_over-requires-in-loop-there-clause-value : goal.is_over-requires-in-loop-there-clause-value
-is_over-requires-in-loop-there-clause-value c =
-    let fv : FitsSigned w64 c.go_on-here.result.value = search rules in
-    rw (to_z-of_z w64 c.go_on-here.result.value fv)
+pub exceeds_other-requires-in-loop-there-clause-value : goal.exceeds_other-requires-in-loop-there-clause-value
+exceeds_other-requires-in-loop-there-clause-value c =
+    let fv : FitsSigned w64 c.advance_to_power-here.result.value = search rules in
+    rw (to_z-of_z w64 c.advance_to_power-here.result.value fv)
     (reached_amount c.args.start c.args.pieces.now c.requires.slopes c.requires.within
-    (to_z w64 (of_z w64 c.min-end.result)) c.go_on-here.result c.go_on-here.ensures.reached)
+    (to_z w64 (of_z w64 c.min-end.result)) c.advance_to_power-here.result c.advance_to_power-here.ensures.reached)
 
 pub loop-there-smaller : goal.loop-there-smaller
 loop-there-smaller c =
-    fewer (length c.args.pieces.now) (length c.args.others.now) c.loop-there.here.next c.go_on-here.result.next
-    c.loop-there.there.next c.go_on-there.result.next (inside (goal.at.loop-there-smaller c).In-loop-there)
+    fewer (length c.args.pieces.now) (length c.args.others.now) c.loop-there.here.next
+    c.advance_to_power-here.result.next
+    c.loop-there.there.next c.advance_to_power-there.result.next (inside (goal.at.loop-there-smaller c).In-loop-there)
     c.loop-there-test.true
-    c.go_on-here.ensures.later c.go_on-there.ensures.later c.go_on-here.ensures.reached.placed.some
-    c.go_on-there.ensures.reached.placed.some
+    c.advance_to_power-here.ensures.later c.advance_to_power-there.ensures.later
+    c.advance_to_power-here.ensures.reached.placed.some
+    c.advance_to_power-there.ensures.reached.placed.some
     (elim (end_of_one (piece c.args.pieces.now c.loop-there.here.next).end
     (piece c.args.others.now c.loop-there.there.next).end (to_z w64 (of_z w64 c.min-end.result))
     (omega (arith, ints, clamps))) [
-      | inl p ↦ inl (c.go_on-here.ensures.past p)
-      | inr p ↦ inr (c.go_on-there.ensures.past p)
+      | inl p ↦ inl (c.advance_to_power-here.ensures.past p)
+      | inr p ↦ inr (c.advance_to_power-there.ensures.past p)
     ])
 
 pub loop-there-preserved : goal.loop-there-preserved
 loop-there-preserved c =
     let was = c.loop-there.invariant in
-    let fv : FitsSigned w64 c.go_on-here.result.value = search rules in
-    let fw : FitsSigned w64 c.go_on-there.result.value = search rules in
-    let ev = to_z-of_z w64 c.go_on-here.result.value fv in
-    let ew = to_z-of_z w64 c.go_on-there.result.value fw in
+    let fv : FitsSigned w64 c.advance_to_power-here.result.value = search rules in
+    let fw : FitsSigned w64 c.advance_to_power-there.result.value = search rules in
+    let ev = to_z-of_z w64 c.advance_to_power-here.result.value fv in
+    let ew = to_z-of_z w64 c.advance_to_power-there.result.value fw in
     let es = to_z-of_z w64 c.args.shift c.ranges.shift in
-    let over : (c.go_on-here.result.value +ℤ to_z w64 (of_z w64 c.args.shift)) ≤ℤ c.go_on-there.result.value =
-    (rw (ev, ew) at c.if-is_over-2.ensures) (search rules) in
+    let over : (c.advance_to_power-here.result.value +ℤ to_z w64 (of_z w64 c.args.shift)) ≤ℤ
+    c.advance_to_power-there.result.value =
+    (rw (ev, ew) at c.if-exceeds_other-2.ensures) (search rules) in
     record {
       from = (let f = was.from in omega (arith, ints));
-      here = c.go_on-here.ensures.reached;
-      there = c.go_on-there.ensures.reached;
+      here = c.advance_to_power-here.ensures.reached;
+      there = c.advance_to_power-there.ensures.reached;
       under = under_on c.args.start c.args.pieces.now c.args.other c.args.others.now (to_z w64 (of_z w64 c.args.shift))
           (to_z w64 c.loop-there.at-bits) (to_z w64 (of_z w64 c.min-end.result))
           (piece c.args.pieces.now c.loop-there.here.next).slope (piece c.args.others.now c.loop-there.there.next).slope
-          c.go_on-here.ensures.line c.go_on-there.ensures.line was.from was.under (omega (arith, ints));
+          c.advance_to_power-here.ensures.line c.advance_to_power-there.ensures.line was.from was.under
+          (omega (arith, ints));
     }
 
 pub returns : goal.returns

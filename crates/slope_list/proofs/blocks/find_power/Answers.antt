@@ -46,11 +46,11 @@ overflow_add-piece c =
     rw c.as_slice-block-items.ensures (fits_stop c.args.curve.now c.requires.limited c.loop-index.index h.inside _ _
     c.loop-index.invariant.from_is c.loop-index.invariant.value_is)
 
-pub level_along-requires : goal.level_along-requires
-level_along-requires c =
+pub level_within_piece-requires : goal.level_within_piece-requires
+level_within_piece-requires c =
     let cv = c.args.curve.now in
     let was = c.loop-index.invariant in
-    let h = here (goal.at.level_along-requires c).In-loop-index in
+    let h = here (goal.at.level_within_piece-requires c).In-loop-index in
     let fp : FitsSigned w64 (block cv.blocks.items c.loop-index.index).price = search rules in
     let price = to_z-of_z w64 (block cv.blocks.items c.loop-index.index).price fp in
     let items = c.as_slice-block-items.ensures in
@@ -71,22 +71,22 @@ returns-then-at-piece c =
     let items = c.as_slice-block-items.ensures in
     let below = test_true c.args.at (cv.at +ℤ width_to cv.blocks.items (suc k)) _ _ h.at h.stop
     (rw items at c.if-at-piece.true) in
-    let fr : FitsSigned w64 c.level_along.result = search rules in
-    let got : c.level_along.result ≡ to_z w64 c.loop-index.value-bits +ℤ (block cv.blocks.items k).price *ℤ
-    (c.args.at -ℤ to_z w64 c.loop-index.from-bits) = rw (items, price, h.at) at c.level_along.ensures in
+    let fr : FitsSigned w64 c.level_within_piece.result = search rules in
+    let got : c.level_within_piece.result ≡ to_z w64 c.loop-index.value-bits +ℤ (block cv.blocks.items k).price *ℤ
+    (c.args.at -ℤ to_z w64 c.loop-index.from-bits) = rw (items, price, h.at) at c.level_within_piece.ensures in
     record {
       value = value_to cv c.requires.limited k inside _ _ was.from_is was.value_is c.args.at h.low
-          (lt_le c.args.at _ below) ∙ ap Some (sym got ∙ sym (to_z-of_z w64 c.level_along.result fr));
+          (lt_le c.args.at _ below) ∙ ap Some (sym got ∙ sym (to_z-of_z w64 c.level_within_piece.result fr));
       blocks = omega arith;
       block = λ _. rw items (record { inside = inside; begun = rw was.from_is at h.low; ends = h.stop; price = price });
     }
 
-pub level_along-value-requires : goal.level_along-value-requires
-level_along-value-requires c =
+pub level_within_piece-value-requires : goal.level_within_piece-value-requires
+level_within_piece-value-requires c =
     let cv = c.args.curve.now in
     let was = c.loop-index.invariant in
     let k = c.loop-index.index in
-    let h = here (goal.at.level_along-value-requires c).In-loop-index in
+    let h = here (goal.at.level_within_piece-value-requires c).In-loop-index in
     let fp : FitsSigned w64 (block cv.blocks.items k).price = search rules in
     let price = to_z-of_z w64 (block cv.blocks.items k).price fp in
     let up = block_rises cv c.requires.limited k h.inside _ _ was.from_is was.value_is in
@@ -105,16 +105,16 @@ loop-index-preserved c =
     let items = c.as_slice-block-items.ensures in
     let past = test_false c.args.at (cv.at +ℤ width_to cv.blocks.items (suc k)) _ _ h.at h.stop
     (rw items at c.if-at-piece.false) in
-    let fr : FitsSigned w64 c.level_along-value.result = search rules in
-    let got : c.level_along-value.result ≡ to_z w64 c.loop-index.value-bits +ℤ (block cv.blocks.items k).price *ℤ
+    let fr : FitsSigned w64 c.level_within_piece-value.result = search rules in
+    let got : c.level_within_piece-value.result ≡ to_z w64 c.loop-index.value-bits +ℤ (block cv.blocks.items k).price *ℤ
     ((cv.at +ℤ width_to cv.blocks.items (suc k)) -ℤ to_z w64 c.loop-index.from-bits) =
-    rw (items, price, h.stop) at c.level_along-value.ensures in
+    rw (items, price, h.stop) at c.level_within_piece-value.ensures in
     let next : (cv.at +ℤ width_to cv.blocks.items (suc k)) ≡ cv.at +ℤ width_to cv.blocks.items (k + 1) =
     ap (λ (n : ℕ). cv.at +ℤ width_to cv.blocks.items n) {x = suc k} {y = k + 1} (omega arith) in
     let on = rise_on cv c.requires.limited k h.inside _ _ was.from_is was.value_is in
     let rise : (rise_to cv.blocks.items (suc k) +ℤ cv.value) ≡ rise_to cv.blocks.items (k + 1) +ℤ cv.value =
     ap (λ (n : ℕ). rise_to cv.blocks.items n +ℤ cv.value) {x = suc k} {y = k + 1} (omega arith) in
-    rw (items, h.stop, h.at, to_z-of_z w64 c.level_along-value.result fr)
+    rw (items, h.stop, h.at, to_z-of_z w64 c.level_within_piece-value.result fr)
     (record { from_is = next; value_is = got ∙ on ∙ rise; low = past })
 
 pub returns : goal.returns

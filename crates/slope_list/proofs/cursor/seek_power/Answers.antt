@@ -18,8 +18,8 @@ loop-next-init c =
           sym (along_first c.args.start.first c.args.start.level c.args.pieces.now c.requires.slopes);
     })
 
-pub level_along-value-requires : goal.level_along-value-requires
-level_along-value-requires c =
+pub level_within_piece-value-requires : goal.level_within_piece-value-requires
+level_within_piece-value-requires c =
     let was = c.loop-next.invariant in
     let ps = c.args.pieces.now in
     let k = c.loop-next.next in
@@ -41,7 +41,7 @@ loop-next-preserved c =
     let end = (piece ps k).end in
     let fe : FitsSigned w64 end = search rules in
     let ee = to_z-of_z w64 end fe in
-    let fr : FitsSigned w64 c.level_along-value.result = search rules in
+    let fr : FitsSigned w64 c.level_within_piece-value.result = search rules in
     let at : to_z w64 c.loop-next.from-bits ≡ end_at c.args.start.first ps k = was.from_is in
     let level : to_z w64 c.loop-next.value-bits ≡ function_of c.args.start ps (to_z w64 c.loop-next.from-bits) =
     was.value_is in
@@ -49,9 +49,9 @@ loop-next-preserved c =
     let on = level_from c.args.start ps c.requires.slopes c.requires.within k c.loop-next-test.true end
     (omega (arith, ints)) (omega (arith, ints)) (to_z w64 c.loop-next.value-bits)
     (to_z w64 c.loop-next.from-bits) at level in
-    let got : c.level_along-value.result ≡ to_z w64 c.loop-next.value-bits +ℤ (piece ps k).slope *ℤ
-    (end -ℤ to_z w64 c.loop-next.from-bits) = rw ee at c.level_along-value.ensures in
-    rw (ee, to_z-of_z w64 c.level_along-value.result fr)
+    let got : c.level_within_piece-value.result ≡ to_z w64 c.loop-next.value-bits +ℤ (piece ps k).slope *ℤ
+    (end -ℤ to_z w64 c.loop-next.from-bits) = rw ee at c.level_within_piece-value.ensures in
+    rw (ee, to_z-of_z w64 c.level_within_piece-value.result fr)
     (record {
       some = omega arith;
       from_is = sym (ap (end_at c.args.start.first ps) {x = k + 1} {y = suc k} (omega arith));
@@ -59,8 +59,8 @@ loop-next-preserved c =
       value_is = got ∙ sym on;
     })
 
-pub level_along-value-requires-then-next-pieces : goal.level_along-value-requires-then-next-pieces
-level_along-value-requires-then-next-pieces c =
+pub level_within_piece-value-requires-then-next-pieces : goal.level_within_piece-value-requires-then-next-pieces
+level_within_piece-value-requires-then-next-pieces c =
     let was = c.loop-next.invariant in
     let ps = c.args.pieces.now in
     let k = c.loop-next.next in
@@ -81,7 +81,7 @@ returns-then-next-pieces-clause-value c =
     let was = c.loop-next.invariant in
     let ps = c.args.pieces.now in
     let k = c.loop-next.next in
-    let fr : FitsSigned w64 c.level_along-value-then-next-pieces.result = search rules in
+    let fr : FitsSigned w64 c.level_within_piece-value-then-next-pieces.result = search rules in
     let at : to_z w64 c.loop-next.from-bits ≡ end_at c.args.start.first ps k = was.from_is in
     let level : to_z w64 c.loop-next.value-bits ≡ function_of c.args.start ps (to_z w64 c.loop-next.from-bits) =
     was.value_is in
@@ -92,9 +92,10 @@ returns-then-next-pieces-clause-value c =
     ] in
     let on = level_from c.args.start ps c.requires.slopes c.requires.within k c.if-next-pieces.true c.args.at
     (omega (arith, ints)) high (to_z w64 c.loop-next.value-bits) (to_z w64 c.loop-next.from-bits) at level in
-    let got : c.level_along-value-then-next-pieces.result ≡ to_z w64 c.loop-next.value-bits +ℤ (piece ps k).slope *ℤ
-    (c.args.at -ℤ to_z w64 c.loop-next.from-bits) = rw ea at c.level_along-value-then-next-pieces.ensures in
-    to_z-of_z w64 c.level_along-value-then-next-pieces.result fr ∙ got ∙ sym on
+    let got : c.level_within_piece-value-then-next-pieces.result ≡ to_z w64 c.loop-next.value-bits +ℤ
+    (piece ps k).slope *ℤ
+    (c.args.at -ℤ to_z w64 c.loop-next.from-bits) = rw ea at c.level_within_piece-value-then-next-pieces.ensures in
+    to_z-of_z w64 c.level_within_piece-value-then-next-pieces.result fr ∙ got ∙ sym on
 
 pub returns-then-next-pieces-clause-placed : goal.returns-then-next-pieces-clause-placed
 returns-then-next-pieces-clause-placed c =

@@ -10,8 +10,8 @@ loop-piece-init c =
     rw (to_z-of_z w64 c.args.start.first f, to_z-of_z w64 c.args.start.level g)
     (fallen_none c.args.start c.args.pieces.now c.requires.slopes)
 
-pub level_along-value-requires : goal.level_along-value-requires
-level_along-value-requires c =
+pub level_within_piece-value-requires : goal.level_within_piece-value-requires
+level_within_piece-value-requires c =
     let end = (piece c.args.pieces.now c.loop-piece.piece-index).end in
     let fe : FitsSigned w64 end = search rules in
     rw (to_z-of_z w64 end fe) (fallen_goes c.args.start c.args.pieces.now c.requires.slopes c.loop-piece.piece-index _ _
@@ -21,11 +21,12 @@ pub loop-piece-preserved : goal.loop-piece-preserved
 loop-piece-preserved c =
     let end = (piece c.args.pieces.now c.loop-piece.piece-index).end in
     let fe : FitsSigned w64 end = search rules in
-    let fr : FitsSigned w64 c.level_along-value.result = search rules in
+    let fr : FitsSigned w64 c.level_within_piece-value.result = search rules in
     let ee = to_z-of_z w64 end fe in
-    rw (ee, to_z-of_z w64 c.level_along-value.result fr)
+    rw (ee, to_z-of_z w64 c.level_within_piece-value.result fr)
     (fallen_on c.args.start c.args.pieces.now c.requires.slopes c.loop-piece.piece-index _ _ c.loop-piece.invariant
-    c.requires.within c.loop-piece-test.true c.level_along-value.result (rw ee at c.level_along-value.ensures)
+    c.requires.within c.loop-piece-test.true c.level_within_piece-value.result
+    (rw ee at c.level_within_piece-value.ensures)
     (omega (arith, ints)))
 
 pub exceeds_limit-requires-clause-value : goal.exceeds_limit-requires-clause-value

@@ -2,8 +2,8 @@ use Rattle.slope_list.proofs.Common.{arith, rules, ints, ◌<ℤ◌, ◌≤ℤ�
 use Rattle.slope_list.proofs.Lemmas.{falling_at, rising_at}
 use Rattle.slope_list.proofs.way.advance_way.Goals as goal
 
-pub draw_flat-requires-clause-short : goal.draw_flat-requires-clause-short
-draw_flat-requires-clause-short c =
+pub write_flat_part-requires-clause-short : goal.write_flat_part-requires-clause-short
+write_flat_part-requires-clause-short c =
     let f : FitsSigned w64 c.args.way.pen.at = search rules in
     rw (to_z-of_z w64 c.args.way.pen.at f) at (c.is_flat.ensures.flat c.if-is_flat.true).1
 
@@ -22,8 +22,8 @@ next_run-run-requires-clause-rises c = λ rises.
     let high = c.requires.high in
     omega (arith, ints)
 
-pub draw_run-requires-clause-at : goal.draw_run-requires-clause-at
-draw_run-requires-clause-at c =
+pub write_run-requires-clause-at : goal.write_run-requires-clause-at
+write_run-requires-clause-at c =
     let w = c.args.window.now in
     let way = c.args.way in
     let is_up = w.valid.fair.ramp_up.at_least in

@@ -7,11 +7,11 @@ use Rattle.spell_run.proofs.backtrack.write_period.Goals.{Start, After-cheapest_
 
 -- the power is one of the step
 range : (c : Start) → IsOutput c.args.visit.power ×
-    (c.args.visit.power ≤ℤ cap_at (thermal_of c.args.unit.now) (eqb c.args.first (suc c.args.visit.place))
+    (c.args.visit.power ≤ℤ cap_at (thermal_of c.args.unit.now) (eqb c.args.first (suc c.args.visit.index))
     c.args.visit.stops)
 range c =
     let noted = c.requires.noted in
-    power_range c.args.unit.now.valid c.args.prices.now.valid c.requires.place c.requires.order noted.1
+    power_range c.args.unit.now.valid c.args.prices.now.valid c.requires.index c.requires.order noted.1
     c.args.visit.power noted.2.1
 
 stored_out : (c : Start) → IsOutput (to_z w64 (of_z w64 c.args.visit.power))
@@ -25,46 +25,47 @@ IsNear s n x y = (f : Table) (va p w : ℤ) → IsTurn s f n.turn → IsFirst f 
 near : (s : Step) (n : Note) (x y : ℤ) → FitsSigned w64 x → IsNear s n (to_z w64 (of_z w64 x)) y → IsNear s n x y
 near s n x y fits h = simp to_z-of_z at h
 
-near_before : (c : After-cheapest_before-before) → IsNear c.step_of-step.result c.args.visit.note c.args.visit.power
+near_before : (c : After-cheapest_before-before) → IsNear c.step_over_period-step.result c.args.visit.note
+    c.args.visit.power
     c.cheapest_before-before.result
-near_before c = near c.step_of-step.result c.args.visit.note c.args.visit.power c.cheapest_before-before.result
+near_before c = near c.step_over_period-step.result c.args.visit.note c.args.visit.power c.cheapest_before-before.result
     (search rules) c.cheapest_before-before.ensures
 
 -- the power before is within limits
 out : (c : After-cheapest_before-before) → IsOutput c.cheapest_before-before.result
 out c =
     let noted = c.requires.noted in
-    before_out c.args.unit.now.valid c.args.prices.now.valid c.requires.place c.requires.order noted.1
-    c.args.visit.power noted.2.1 c.step_of-step.ensures.step c.starts_in.ensures (near_before c)
+    before_out c.args.unit.now.valid c.args.prices.now.valid c.requires.index c.requires.order noted.1
+    c.args.visit.power noted.2.1 c.step_over_period-step.ensures.step c.starts_in_period.ensures (near_before c)
 
 pub cheapest_before-before-requires-clause-power : goal.cheapest_before-before-requires-clause-power
 cheapest_before-before-requires-clause-power c = stored_out
     (goal.at.cheapest_before-before-requires-clause-power c).Start
 
-pub write_best-requires-clause-power : goal.write_best-requires-clause-power
-write_best-requires-clause-power c = stored_out (goal.at.write_best-requires-clause-power c).Start
+pub write_best_reserve-requires-clause-power : goal.write_best_reserve-requires-clause-power
+write_best_reserve-requires-clause-power c = stored_out (goal.at.write_best_reserve-requires-clause-power c).Start
 
-pub write_best-requires-clause-before : goal.write_best-requires-clause-before
-write_best-requires-clause-before c =
-    let before = out (goal.at.write_best-requires-clause-before c).After-cheapest_before-before in
+pub write_best_reserve-requires-clause-before : goal.write_best_reserve-requires-clause-before
+write_best_reserve-requires-clause-before c =
+    let before = out (goal.at.write_best_reserve-requires-clause-before c).After-cheapest_before-before in
     rw (output_stored before) before
 
-pub write_best-requires-clause-under : goal.write_best-requires-clause-under
-write_best-requires-clause-under c =
-    let at = goal.at.write_best-requires-clause-under c in
+pub write_best_reserve-requires-clause-under : goal.write_best_reserve-requires-clause-under
+write_best_reserve-requires-clause-under c =
+    let at = goal.at.write_best_reserve-requires-clause-under c in
     let noted = c.requires.noted in
-    let under = before_under c.args.unit.now.valid c.args.prices.now.valid c.requires.place c.requires.order noted.1
-    c.args.visit.power noted.2.1 c.step_of-step.ensures.step c.starts_in.ensures
+    let under = before_under c.args.unit.now.valid c.args.prices.now.valid c.requires.index c.requires.order noted.1
+    c.args.visit.power noted.2.1 c.step_over_period-step.ensures.step c.starts_in_period.ensures
     (near_before at.After-cheapest_before-before) in
     let e = output_stored (range at.Start).0 in
     omega signed
 
-pub write_best-requires-clause-rise : goal.write_best-requires-clause-rise
-write_best-requires-clause-rise c =
-    let at = goal.at.write_best-requires-clause-rise c in
+pub write_best_reserve-requires-clause-rise : goal.write_best_reserve-requires-clause-rise
+write_best_reserve-requires-clause-rise c =
+    let at = goal.at.write_best_reserve-requires-clause-rise c in
     let noted = c.requires.noted in
-    let rise = before_rise c.args.unit.now.valid c.args.prices.now.valid c.requires.place c.requires.order noted.1
-    c.args.visit.power noted.2.1 c.step_of-step.ensures.step c.starts_in.ensures
+    let rise = before_rise c.args.unit.now.valid c.args.prices.now.valid c.requires.index c.requires.order noted.1
+    c.args.visit.power noted.2.1 c.step_over_period-step.ensures.step c.starts_in_period.ensures
     (near_before at.After-cheapest_before-before) in
     let e = output_stored (range at.Start).0 in
     let h = output_stored (out at.After-cheapest_before-before) in
@@ -72,6 +73,6 @@ write_best-requires-clause-rise c =
 
 pub returns-clause-chosen : goal.returns-clause-chosen
 returns-clause-chosen c = λ after v noted there.
-    chosen_noted c.args.unit.now.valid c.args.prices.now.valid c.requires.place c.requires.order noted
-    c.args.visit.power there c.step_of-step.ensures.step c.starts_in.ensures
-    (near_before (goal.at.returns-clause-chosen c).After-cheapest_before-before) c.write_best.ensures.written
+    chosen_noted c.args.unit.now.valid c.args.prices.now.valid c.requires.index c.requires.order noted
+    c.args.visit.power there c.step_over_period-step.ensures.step c.starts_in_period.ensures
+    (near_before (goal.at.returns-clause-chosen c).After-cheapest_before-before) c.write_best_reserve.ensures.written

@@ -20,59 +20,59 @@ whole c =
 pub bounds-left-trace : goal.bounds-left-trace
 bounds-left-trace c =
     let skipped = c.saturating_sub.ensures in
-    let told = c.first_of-trace.ensures in
+    let told = c.first_entries-trace.ensures in
     let log = c.args.left.log.now in
     let whole = c.args.left.trace in
     let n = c.args.last - (c.args.first - 1) in
     let m = (c.args.last - 1) - (c.args.first - 1) in
     let z : n ≡ suc m = (let order = c.requires.order in let some = c.requires.some in omega arith) in
-    let rest = rest_first log whole c.first_of-trace.result n (rw skipped at told.count) told.trace
+    let rest = rest_first log whole c.first_entries-trace.result n (rw skipped at told.count) told.trace
     (rw skipped at told.same) in
-    rest_within log whole c.first_of-trace.result.last n m z rest
+    rest_within log whole c.first_entries-trace.result.last n m z rest
 
 -- it has an end
 pub returns-in_default-clause-best : goal.returns-in_default-clause-best
 returns-in_default-clause-best c =
     let skipped = c.saturating_sub.ensures in
-    let told = c.first_of-trace.ensures in
+    let told = c.first_entries-trace.ensures in
     let log = c.args.left.log.now in
     let whole = c.args.left.trace in
     let n = c.args.last - (c.args.first - 1) in
     let m = (c.args.last - 1) - (c.args.first - 1) in
     let z : n ≡ suc m = (let order = c.requires.order in let some = c.requires.some in omega arith) in
-    let rest = rest_first log whole c.first_of-trace.result n (rw skipped at told.count) told.trace
+    let rest = rest_first log whole c.first_entries-trace.result n (rw skipped at told.count) told.trace
     (rw skipped at told.same) in
-    let entry = rest_entry log whole c.first_of-trace.result.last n m z rest in
+    let entry = rest_entry log whole c.first_entries-trace.result.last n m z rest in
     let end = ap (λ (p : Passed). p.end) (sym entry) ∙ c.requires.noted.is_end in
     absurd (c.in_default.not-Some c.requires.noted.lowest end)
 
 pub returns-in_default-clause-on : goal.returns-in_default-clause-on
 returns-in_default-clause-on c =
     let skipped = c.saturating_sub.ensures in
-    let told = c.first_of-trace.ensures in
+    let told = c.first_entries-trace.ensures in
     let log = c.args.left.log.now in
     let whole = c.args.left.trace in
     let n = c.args.last - (c.args.first - 1) in
     let m = (c.args.last - 1) - (c.args.first - 1) in
     let z : n ≡ suc m = (let order = c.requires.order in let some = c.requires.some in omega arith) in
-    let rest = rest_first log whole c.first_of-trace.result n (rw skipped at told.count) told.trace
+    let rest = rest_first log whole c.first_entries-trace.result n (rw skipped at told.count) told.trace
     (rw skipped at told.same) in
-    let entry = rest_entry log whole c.first_of-trace.result.last n m z rest in
+    let entry = rest_entry log whole c.first_entries-trace.result.last n m z rest in
     let end = ap (λ (p : Passed). p.end) (sym entry) ∙ c.requires.noted.is_end in
     absurd (c.in_default.not-Some c.requires.noted.lowest end)
 
 pub write_period-power-requires-clause-noted : goal.write_period-power-requires-clause-noted
 write_period-power-requires-clause-noted c =
     let skipped = c.saturating_sub.ensures in
-    let told = c.first_of-trace.ensures in
+    let told = c.first_entries-trace.ensures in
     let log = c.args.left.log.now in
     let whole = c.args.left.trace in
     let n = c.args.last - (c.args.first - 1) in
     let m = (c.args.last - 1) - (c.args.first - 1) in
     let z : n ≡ suc m = (let order = c.requires.order in let some = c.requires.some in omega arith) in
-    let rest = rest_first log whole c.first_of-trace.result n (rw skipped at told.count) told.trace
+    let rest = rest_first log whole c.first_entries-trace.result n (rw skipped at told.count) told.trace
     (rw skipped at told.same) in
-    let entry = rest_entry log whole c.first_of-trace.result.last n m z rest in
+    let entry = rest_entry log whole c.first_entries-trace.result.last n m z rest in
     let e = end_stored c.args.unit.now.valid c.args.prices.now.valid c.requires.order c.requires.some c.requires.end
     c.requires.noted (ap (λ (p : Passed). p.end) entry ∙ c.in-Some.is) in
     rw (c.len.ensures, sym entry) (e.0, e.1, (c.in-Some.lowest.value, e.2.there))
@@ -80,15 +80,15 @@ write_period-power-requires-clause-noted c =
 pub loop-back-init : goal.loop-back-init
 loop-back-init c =
     let skipped = c.saturating_sub.ensures in
-    let told = c.first_of-trace.ensures in
+    let told = c.first_entries-trace.ensures in
     let log = c.args.left.log.now in
     let whole = c.args.left.trace in
     let n = c.args.last - (c.args.first - 1) in
     let m = (c.args.last - 1) - (c.args.first - 1) in
     let z : n ≡ suc m = (let order = c.requires.order in let some = c.requires.some in omega arith) in
-    let rest = rest_first log whole c.first_of-trace.result n (rw skipped at told.count) told.trace
+    let rest = rest_first log whole c.first_entries-trace.result n (rw skipped at told.count) told.trace
     (rw skipped at told.same) in
-    let entry = rest_entry log whole c.first_of-trace.result.last n m z rest in
+    let entry = rest_entry log whole c.first_entries-trace.result.last n m z rest in
     let fits : FitsSigned w64 c.write_period-power.result = search rules in
     let chosen = rw (c.len.ensures, sym entry) at c.write_period-power.ensures.chosen in
     let from = written_last c.args.unit.now.valid c.args.prices.now.valid c.requires.order c.requires.some
@@ -97,7 +97,7 @@ loop-back-init c =
     record {
       from = simp to_z-of_z from;
       earned = c.write_period-power.ensures.earned;
-      rest = subst (IsRest log whole _) less (rest_before log whole c.first_of-trace.result.last n m z rest);
+      rest = subst (IsRest log whole _) less (rest_before log whole c.first_entries-trace.result.last n m z rest);
     }
 
 -- ---- one period back

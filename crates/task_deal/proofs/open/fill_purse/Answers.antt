@@ -10,7 +10,7 @@ loop-at-init c =
 
 pub loop-at-preserved : goal.loop-at-preserved
 loop-at-preserved c =
-    let p = c.fork_at-pass in
+    let p = c.fork_pass_at-pass in
     let e : c.push.new.self.items ≡ c.loop-at.purse.items ++ p.result ∷ [] = search rules in
     subst (λ l. Filling c.args.shared.now.thieves.items c.args.out (c.loop-at.at + 1) c.args.owns.now.items
     p.new.owns.items l) (sym e)

@@ -3,20 +3,20 @@ use Rattle.test_tiny.proofs.Common.{cast_signed, FitsSigned, thermal_of, schedul
 use Rattle.test_tiny.proofs.EarningsLaws.{earnings-net}
 use Rattle.test_tiny.proofs.earnings.earnings_of.Goals as goal
 
-pub loop-place-preserved : goal.loop-place-preserved
-loop-place-preserved c =
+pub loop-index-preserved : goal.loop-index-preserved
+loop-index-preserved c =
     let a : FitsSigned w128 c.plus-earned.result = search rules in
     let b : FitsSigned w128 c.net.result = search rules in
     let f : ℕ → ℤ = net_in (thermal_of c.args.unit.now) (prices_of c.args.prices.now)
     (schedule_of c.args.response.now) in
-    let more : sum_below (c.loop-place.place + 1) f ≡ sum_below c.loop-place.place f +ℤ f c.loop-place.place =
-    ap (λ (n : ℕ). sum_below n f) (add-one c.loop-place.place) in
-    let so : cast_signed w128 c.loop-place.earned-bits ≡ sum_below c.loop-place.place f =
-    c.loop-place.invariant.so_far in
-    let value : c.net.result ≡ f c.loop-place.place = c.net.ensures.value in
+    let more : sum_below (c.loop-index.index + 1) f ≡ sum_below c.loop-index.index f +ℤ f c.loop-index.index =
+    ap (λ (n : ℕ). sum_below n f) (add-one c.loop-index.index) in
+    let so : cast_signed w128 c.loop-index.earned-bits ≡ sum_below c.loop-index.index f =
+    c.loop-index.invariant.so_far in
+    let value : c.net.result ≡ f c.loop-index.index = c.net.ensures.value in
     let sum = c.plus-earned.ensures in
-    let low = c.loop-place.invariant.bound.at_least in
-    let high = c.loop-place.invariant.bound.at_most in
+    let low = c.loop-index.invariant.bound.at_least in
+    let high = c.loop-index.invariant.bound.at_most in
     let low' = c.net.ensures.bound.at_least in
     let high' = c.net.ensures.bound.at_most in
     record {
@@ -30,8 +30,8 @@ loop-place-preserved c =
 
 pub returns : goal.returns
 returns c =
-    let all : c.loop-place.place ≡ length c.args.response.now.on.items =
-    omega (arith, c.loop-place-test.false, c.loop-place.auto.place-end, c.requires) in
-    c.loop-place.invariant.so_far
+    let all : c.loop-index.index ≡ length c.args.response.now.on.items =
+    omega (arith, c.loop-index-test.false, c.loop-index.auto.index-end, c.requires) in
+    c.loop-index.invariant.so_far
     ∙ earnings-net (thermal_of c.args.unit.now) (prices_of c.args.prices.now) (schedule_of c.args.response.now)
-    c.loop-place.place all
+    c.loop-index.index all

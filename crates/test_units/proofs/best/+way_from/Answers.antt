@@ -12,7 +12,7 @@ use Rattle.test_units.proofs.best.+way_from.Goals.{In_ok-after, After-give_back,
 -- the period at the place, and the step over it
 period : (g : Over) (t : ℕ) (c : In_ok-after g t) →
     IsPeriod (thermal_of c.args.unit.now) (prices_of c.args.prices.now)
-    (spell_first c.args.spell.now.started c.args.spell.now.first) c.args.place c.args.spell.now.last
+    (spell_first c.args.spell.now.started c.args.spell.now.first) c.args.index c.args.spell.now.last
     c.args.curve.now c.step_in-step.result
     (g.S.Shape.function c.args.home.now c.args.before.now) (g.S.Shape.function c.stepped.new.home c.in_ok-after.after)
 period g t c =
@@ -24,7 +24,7 @@ period g t c =
       curve = c.requires.curve;
       law = c.envelope_is_cost.ensures;
       within = omega (arith, until, end);
-      from = first_from c.args.spell.now.started c.args.spell.now.first c.args.place c.requires.from;
+      from = first_from c.args.spell.now.started c.args.spell.now.first c.args.index c.requires.from;
       step_is = c.step_in-step.ensures.step;
       frontier = c.requires.frontier;
       step = c.in_ok-after.ensures.ok;
@@ -43,12 +43,12 @@ same g t c =
 -- the way on from the next place, within the bounds and on in its periods
 later : (g : Over) (t : ℕ) (c : In-Some g t) →
     IsWayFrom (thermal_of c.args.unit.now) (prices_of c.args.prices.now)
-    (spell_first c.args.spell.now.started c.args.spell.now.first) (suc c.args.place) c.args.spell.now.last
+    (spell_first c.args.spell.now.started c.args.spell.now.first) (suc c.args.index) c.args.spell.now.last
     (g.S.Shape.function c.stepped.new.home c.in_ok-after.after)
     (schedule_of c.way_from-found.new.into.response) c.in-Some.found.power c.in-Some.found.cost
     × IsSpellWithin (spell_first c.args.spell.now.started c.args.spell.now.first) c.args.spell.now.last
     c.in-Some.found.cost
-    × IsOnFromTo (suc (suc c.args.place)) c.args.spell.now.last (schedule_of c.way_from-found.new.into.response)
+    × IsOnFromTo (suc (suc c.args.index)) c.args.spell.now.last (schedule_of c.way_from-found.new.into.response)
 later g t c =
     let unit = thermal_of c.args.unit.now in
     let prices = prices_of c.args.prices.now in
@@ -56,21 +56,21 @@ later g t c =
     let last = c.args.spell.now.last in
     let after = g.S.Shape.function c.stepped.new.home c.in_ok-after.after in
     let d = schedule_of c.way_from-found.new.into.response in
-    let next : c.args.place + 1 ≡ suc c.args.place = omega arith in
+    let next : c.args.index + 1 ≡ suc c.args.index = omega arith in
     subst (λ (t : ℕ). IsWayFrom unit prices first t last after d c.in-Some.found.power c.in-Some.found.cost ×
     IsSpellWithin first last c.in-Some.found.cost × IsOnFromTo (suc t) last d) next
     (MatchOption-at_some (HasNoDispatch unit (length prices.energy) first last ×
     (d ≡ schedule_of c.args.into.now.response))
-    (λ (found : Found). IsWayFrom unit prices first (c.args.place + 1) last after d found.power found.cost ×
-    IsSpellWithin first last found.cost × IsOnFromTo (suc (c.args.place + 1)) last d) c.in-Some.found c.in-Some.is
+    (λ (found : Found). IsWayFrom unit prices first (c.args.index + 1) last after d found.power found.cost ×
+    IsSpellWithin first last found.cost × IsOnFromTo (suc (c.args.index + 1)) last d) c.in-Some.found c.in-Some.is
     c.in_ok-found.ensures.way)
 
 -- what the way from the next place leaves as it was
 outside : (g : Over) (t : ℕ) (c : After-give_back g t) →
-    IsSameOutside (suc (suc c.args.place)) c.args.spell.now.last (schedule_of c.args.into.now.response)
+    IsSameOutside (suc (suc c.args.index)) c.args.spell.now.last (schedule_of c.args.into.now.response)
     (schedule_of c.way_from-found.new.into.response)
 outside g t c =
-    let next : c.args.place + 1 ≡ suc c.args.place = omega arith in
+    let next : c.args.index + 1 ≡ suc c.args.index = omega arith in
     subst (λ (k : ℕ). IsSameOutside (suc k) c.args.spell.now.last (schedule_of c.args.into.now.response)
     (schedule_of c.way_from-found.new.into.response)) next c.way_from-found.ensures.outside
 
@@ -95,8 +95,8 @@ returns-in_err-after-clause-frame g t c =
 
 pub way_from-found-requires : goal.way_from-found-requires
 way_from-found-requires g t c =
-    let below : suc c.args.place < c.args.spell.now.last = omega arith in
-    let next : suc c.args.place ≡ c.args.place + 1 = omega arith in
+    let below : suc c.args.index < c.args.spell.now.last = omega arith in
+    let next : suc c.args.index ≡ c.args.index + 1 = omega arith in
     let front =
     subst (λ (t : ℕ). IsFrontier (thermal_of c.args.unit.now) (prices_of c.args.prices.now)
     (spell_first c.args.spell.now.started c.args.spell.now.first) t
@@ -117,7 +117,7 @@ returns-in_err-found-clause-frame g t c =
 
 pub returns-in_err-found-clause-outside : goal.returns-in_err-found-clause-outside
 returns-in_err-found-clause-outside g t c =
-    outside_wider c.args.place c.args.spell.now.last _ _
+    outside_wider c.args.index c.args.spell.now.last _ _
     (outside g t (goal.at.returns-in_err-found-clause-outside g t c).After-give_back)
 
 pub choose-requires-clause-here : goal.choose-requires-clause-here
@@ -139,7 +139,7 @@ pub returns-in-Some-clause-way : goal.returns-in-Some-clause-way
 returns-in-Some-clause-way g t c =
     let at = goal.at.returns-in-Some-clause-way g t c in
     let p = period g t at.In_ok-after in
-    let below : suc c.args.place < c.args.spell.now.last = omega arith in
+    let below : suc c.args.index < c.args.spell.now.last = omega arith in
     let d = schedule_of c.way_from-found.new.into.response in
     let d' = schedule_of c.choose.new.into.response in
     let way = later g t at.In-Some in
@@ -167,7 +167,7 @@ returns-in-None-clause-here g t c = (same g t (goal.at.returns-in-None-clause-he
 
 pub returns-in-None-clause-outside : goal.returns-in-None-clause-outside
 returns-in-None-clause-outside g t c =
-    outside_wider c.args.place c.args.spell.now.last _ _
+    outside_wider c.args.index c.args.spell.now.last _ _
     (outside g t (goal.at.returns-in-None-clause-outside g t c).After-give_back)
 
 pub returns-in-None-clause-frame : goal.returns-in-None-clause-frame
@@ -177,37 +177,37 @@ returns-in-None-clause-frame g t c =
     (join _ _ _ _ _ _ c.way_from-found.ensures.frame c.give_back.ensures.frame) in
     kept c.others_stay.ensures c.args.home.now c.give_back.new.home c.args.before.now frame c.requires.here
 
-pub returns-then-place-spell-clause-sure : goal.returns-then-place-spell-clause-sure
-returns-then-place-spell-clause-sure g t c = λ most counts room enough.
+pub returns-then-index-spell-clause-sure : goal.returns-then-index-spell-clause-sure
+returns-then-index-spell-clause-sure g t c = λ most counts room enough.
     let until = c.requires.until in
-    let left : 1 ≤ c.args.spell.now.last - c.args.place = omega (arith, until) in
+    let left : 1 ≤ c.args.spell.now.last - c.args.index = omega (arith, until) in
     c.last_period.ensures.sure counts
-    (next_fits (c.args.spell.now.last - c.args.place) (length c.args.curve.now.blocks.items + 5) most
+    (next_fits (c.args.spell.now.last - c.args.index) (length c.args.curve.now.blocks.items + 5) most
     (g.S.Shape.cells c.args.before.now) 0 (g.S.Home.Cells.sure c.args.home.now) 0 left room enough)
 
 pub returns-in_err-after-clause-sure : goal.returns-in_err-after-clause-sure
 returns-in_err-after-clause-sure g t c = λ most counts room enough.
     let until = c.requires.until in
-    let left : 1 ≤ c.args.spell.now.last - c.args.place = omega (arith, until) in
+    let left : 1 ≤ c.args.spell.now.last - c.args.index = omega (arith, until) in
     absurd (never_both c.stepped.result _ c.in_err-after.was
     (c.stepped.ensures.sure counts
-    (next_fits (c.args.spell.now.last - c.args.place) (length c.args.curve.now.blocks.items + 5) most
+    (next_fits (c.args.spell.now.last - c.args.index) (length c.args.curve.now.blocks.items + 5) most
     (g.S.Shape.cells c.args.before.now) 0 (g.S.Home.Cells.sure c.args.home.now) 0 left room enough)))
 
 pub returns-in_err-found-clause-sure : goal.returns-in_err-found-clause-sure
 returns-in_err-found-clause-sure g t c = λ most counts room enough.
     let until = c.requires.until in
-    let left : 1 ≤ c.args.spell.now.last - c.args.place = omega (arith, until) in
+    let left : 1 ≤ c.args.spell.now.last - c.args.index = omega (arith, until) in
     let taken = c.in_ok-after.ensures.balance counts in
-    let next : (c.args.spell.now.last - c.args.place) - 1 ≡ c.args.spell.now.last - (c.args.place + 1) = omega arith in
+    let next : (c.args.spell.now.last - c.args.index) - 1 ≡ c.args.spell.now.last - (c.args.index + 1) = omega arith in
     let room' =
     subst (λ (n : ℕ). g.S.Shape.cells c.in_ok-after.after + n * (length c.args.curve.now.blocks.items + 5)
-    ≤ most) next (rest_room (c.args.spell.now.last - c.args.place) (length c.args.curve.now.blocks.items + 5)
+    ≤ most) next (rest_room (c.args.spell.now.last - c.args.index) (length c.args.curve.now.blocks.items + 5)
     most (g.S.Shape.cells c.args.before.now) (g.S.Shape.cells c.in_ok-after.after)
     (g.S.Home.Cells.sure c.args.home.now) (g.S.Home.Cells.sure c.stepped.new.home) left room enough taken.0
     taken.1) in
     let enough' = subst (λ (n : ℕ). n * most ≤ g.S.Home.Cells.sure c.stepped.new.home) next
-    (rest_enough (c.args.spell.now.last - c.args.place) (length c.args.curve.now.blocks.items + 5) most
+    (rest_enough (c.args.spell.now.last - c.args.index) (length c.args.curve.now.blocks.items + 5) most
     (g.S.Shape.cells c.args.before.now) (g.S.Shape.cells c.in_ok-after.after)
     (g.S.Home.Cells.sure c.args.home.now) (g.S.Home.Cells.sure c.stepped.new.home) left room enough taken.0
     taken.1) in
@@ -217,8 +217,8 @@ returns-in_err-found-clause-sure g t c = λ most counts room enough.
 pub returns-in-Some-clause-sure : goal.returns-in-Some-clause-sure
 returns-in-Some-clause-sure g t c = λ most counts room enough.
     let until = c.requires.until in
-    let left : 1 ≤ c.args.spell.now.last - c.args.place = omega (arith, until) in
-    let one = one_fits (c.args.spell.now.last - c.args.place) (length c.args.curve.now.blocks.items + 5) most
+    let left : 1 ≤ c.args.spell.now.last - c.args.index = omega (arith, until) in
+    let one = one_fits (c.args.spell.now.last - c.args.index) (length c.args.curve.now.blocks.items + 5) most
     (g.S.Shape.cells c.args.before.now) 0 (g.S.Home.Cells.sure c.args.home.now) 0 left room enough
     (omega arith) in
     let taken = (c.in_ok-after.ensures.balance counts).1 in

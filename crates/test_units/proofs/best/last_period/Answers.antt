@@ -9,7 +9,7 @@ use Rattle.test_units.proofs.best.last_period.Goals.{In_ok-after, In-Some}
 -- the period at the place, and the step over it
 period : (g : Over) (c : In_ok-after g) →
     IsPeriod (thermal_of c.args.unit.now) (prices_of c.args.prices.now)
-    (spell_first c.args.spell.now.started c.args.spell.now.first) c.args.place c.args.spell.now.last
+    (spell_first c.args.spell.now.started c.args.spell.now.first) c.args.index c.args.spell.now.last
     c.args.curve.now c.step_in-step.result
     (g.S.Shape.function c.args.home.now c.args.before.now) (g.S.Shape.function c.stepped.new.home c.in_ok-after.after)
 period g c =
@@ -21,7 +21,7 @@ period g c =
       curve = c.requires.curve;
       law = c.envelope_is_cost.ensures;
       within = omega (arith, until, end);
-      from = first_from c.args.spell.now.started c.args.spell.now.first c.args.place c.requires.from;
+      from = first_from c.args.spell.now.started c.args.spell.now.first c.args.index c.requires.from;
       step_is = c.step_in-step.ensures.step;
       frontier = c.requires.frontier;
       step = c.in_ok-after.ensures.ok;

@@ -6,15 +6,15 @@ use Rattle.test_units.proofs.costs.cost_to_stop.Goals as goal
 
 pub cost_after-requires-clause-curve : goal.cost_after-requires-clause-curve
 cost_after-requires-clause-curve g c =
-    let place = c.requires.place in
-    cost_is c.starts_at-starts.result true c.step_of.ensures.step c.args.unit.now.valid c.args.prices.now.valid
-    (omega (arith, place)) c.requires.curve c.envelope_is_cost.ensures
+    let index = c.requires.index in
+    cost_is c.starts_at-starts.result true c.step_over_period.ensures.step c.args.unit.now.valid c.args.prices.now.valid
+    (omega (arith, index)) c.requires.curve c.envelope_is_cost.ensures
 
 pub cost_after-requires-clause-small : goal.cost_after-requires-clause-small
 cost_after-requires-clause-small g c =
     let horizon = c.args.prices.now.valid.horizon.at_most in
-    let place = c.requires.place in
-    small_frontier (omega (arith, horizon, place)) c.requires.frontier
+    let index = c.requires.index in
+    small_frontier (omega (arith, horizon, index)) c.requires.frontier
 
 pub returns-clause-answer : goal.returns-clause-answer
 returns-clause-answer g c =
@@ -22,14 +22,14 @@ returns-clause-answer g c =
     let prices = prices_of c.args.prices.now in
     let first = spell_first c.args.started c.args.first in
     let before = g.S.Shape.function c.args.home.now c.args.running.now in
-    let place = c.requires.place in
-    let within : c.args.place < length prices.energy = omega (arith, place) in
+    let index = c.requires.index in
+    let within : c.args.index < length prices.energy = omega (arith, index) in
     IfOk-weaker c.cost_after.result (λ (cost : Option ℤ). (after : Table) ×
-    IsStepped c.step_of.result c.args.curve.now before after × IsLeastCost after cost)
-    (IsSpellCost unit prices first (suc c.args.place))
+    IsStepped c.step_over_period.result c.args.curve.now before after × IsLeastCost after cost)
+    (IsSpellCost unit prices first (suc c.args.index))
     (λ cost found.
     answer_of_step c.args.unit.now.valid c.args.prices.now.valid c.requires.curve c.envelope_is_cost.ensures within
     c.requires.order c.requires.frontier
-    (sym (lt-ltb (suc c.args.place) (length prices.energy) place))
-    (rw (c.step_of.ensures.step, c.starts_at-starts.ensures) at found.1) cost found.2)
+    (sym (lt-ltb (suc c.args.index) (length prices.energy) index))
+    (rw (c.step_over_period.ensures.step, c.starts_at-starts.ensures) at found.1) cost found.2)
     c.cost_after.ensures.ok

@@ -3,28 +3,29 @@ use Rattle.test_units.proofs.Common.{prices_of, IsFrontier, spell_first}
 use Rattle.test_units.proofs.Lemmas.{never_both, alike_of, range_of, stays, kept, answer_at_end, answer_alike}
 use Rattle.test_units.proofs.costs.pass.Goals as goal
 
-pub returns-then-place-len-clause-answer : goal.returns-then-place-len-clause-answer
-returns-then-place-len-clause-answer g c =
-    let end : suc c.args.place ≡ length c.args.prices.now.energy.items = omega arith in
+pub returns-then-index-len-clause-answer : goal.returns-then-index-len-clause-answer
+returns-then-index-len-clause-answer g c =
+    let end : suc c.args.index ≡ length c.args.prices.now.energy.items = omega arith in
     answer_at_end c.args.unit.now.valid c.args.prices.now.valid c.requires.curve c.envelope_is_cost.ensures
-    c.requires.place c.requires.order c.in_ok-run_on.ensures.ok end c.least_cost.result c.least_cost.ensures
+    c.requires.index c.requires.order c.in_ok-run_on.ensures.ok end c.least_cost.result c.least_cost.ensures
 
-pub returns-then-is_alike-clause-answer : goal.returns-then-is_alike-clause-answer
-returns-then-is_alike-clause-answer g c =
+pub returns-then-differs_in_range_alone-clause-answer : goal.returns-then-differs_in_range_alone-clause-answer
+returns-then-differs_in_range_alone-clause-answer g c =
     let unit = thermal_of c.args.unit.now in
     let prices = prices_of c.args.prices.now in
     let first = spell_first c.args.started c.args.first in
-    let place = c.args.place in
-    let before : suc place < length c.args.prices.now.energy.items = omega arith in
-    let after = g.S.Shape.function c.run_on-then-is_alike.new.home c.run_on-then-is_alike.new.running in
+    let index = c.args.index in
+    let before : suc index < length c.args.prices.now.energy.items = omega arith in
+    let after = g.S.Shape.function c.run_on-then-differs_in_range_alone.new.home
+    c.run_on-then-differs_in_range_alone.new.running in
     let starts = c.starts_at-starts.result in
-    let alike = alike_of unit prices place c.step_of-last.ensures.step c.starts_at-starts.ensures
-    c.step_of-on.ensures.step c.if-is_alike.ensures in
-    let least = range_of unit prices place starts (eqb first (suc place)) c.step_of-last.result
-    c.step_of-last.ensures.step c.starts_at-starts.ensures c.step_of-last.ensures.fair after
+    let alike = alike_of unit prices index c.step_over_period-last.ensures.step c.starts_at-starts.ensures
+    c.step_over_period-on.ensures.step c.if-differs_in_range_alone.ensures in
+    let least = range_of unit prices index starts (eqb first (suc index)) c.step_over_period-last.result
+    c.step_over_period-last.ensures.step c.starts_at-starts.ensures c.step_over_period-last.ensures.fair after
     c.least_cost_in.result c.least_cost_in.ensures in
     answer_alike c.args.unit.now.valid c.args.prices.now.valid c.requires.curve c.envelope_is_cost.ensures
-    c.requires.place c.requires.order c.in_ok-run_on-2.ensures.ok before alike c.least_cost_in.result least
+    c.requires.index c.requires.order c.in_ok-run_on-2.ensures.ok before alike c.least_cost_in.result least
 
 pub returns-in_err-cost-clause-frame : goal.returns-in_err-cost-clause-frame
 returns-in_err-cost-clause-frame g c =
@@ -36,7 +37,7 @@ run_on-requires-2-clause-frontier g c =
     let same = stays c.others_stay.ensures c.args.home.now c.cost_to_stop.new.home c.args.running.now
     c.cost_to_stop.ensures.frame c.requires.here in
     subst (λ (f : Table). IsFrontier (thermal_of c.args.unit.now) (prices_of c.args.prices.now)
-    (spell_first c.args.started c.args.first) c.args.place f) (sym same.function_same) c.requires.frontier
+    (spell_first c.args.started c.args.first) c.args.index f) (sym same.function_same) c.requires.frontier
 
 pub returns-in_err-run_on-3-clause-frame : goal.returns-in_err-run_on-3-clause-frame
 returns-in_err-run_on-3-clause-frame g c =
@@ -56,8 +57,8 @@ returns-in_err-run_on-clause-sure g c = λ counts enough. absurd
 
 pub returns-in_err-run_on-2-clause-sure : goal.returns-in_err-run_on-2-clause-sure
 returns-in_err-run_on-2-clause-sure g c =
-    λ counts enough. absurd (never_both c.run_on-then-is_alike.result _ c.in_err-run_on-2.was
-    (c.run_on-then-is_alike.ensures.sure counts (omega (arith, enough))))
+    λ counts enough. absurd (never_both c.run_on-then-differs_in_range_alone.result _ c.in_err-run_on-2.was
+    (c.run_on-then-differs_in_range_alone.ensures.sure counts (omega (arith, enough))))
 
 pub returns-in_err-cost-clause-sure : goal.returns-in_err-cost-clause-sure
 returns-in_err-cost-clause-sure g c = λ counts enough. absurd

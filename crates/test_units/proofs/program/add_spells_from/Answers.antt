@@ -12,11 +12,11 @@ returns-then-until-max-clause-added g c =
     c.open_until-until.ensures l
     (omega (arith, one)) spell) c.requires.within
 
-pub returns-then-not-may_end-clause-added : goal.returns-then-not-may_end-clause-added
-returns-then-not-may_end-clause-added g c =
+pub returns-then-not-may_end_spell-clause-added : goal.returns-then-not-may_end_spell-clause-added
+returns-then-not-may_end_spell-clause-added g c =
     let u = thermal_of c.args.unit.now in
     let T = length c.args.prices.now.energy.items in
-    let short = c.may_end.ensures.no c.if-not-may_end.true in
+    let short = c.may_end_spell.ensures.no c.if-not-may_end_spell.true in
     added_none u (prices_of c.args.prices.now) c.args.first c.args.entry.now.last c.args.entry.now.cost
     c.args.table.now.items
     (λ l one spell. none_long_enough u T c.args.first c.open_until-until.result (sym c.requires.horizon)

@@ -4,8 +4,8 @@ use Rattle.test_units.proofs.Lemmas.{update_skip, update_more, update_all, spell
 use Rattle.test_units.proofs.spells.add_spells.Goals as goal
 use Rattle.test_units.proofs.spells.add_spells.Goals.{in-Some, in_default}
 
-pub sum_of-requires-clause-b : goal.sum_of-requires-clause-b
-sum_of-requires-clause-b c =
+pub sum_of_costs-requires-clause-b : goal.sum_of_costs-requires-clause-b
+sum_of_costs-requires-clause-b c =
     let net = (c.net_of.ensures.some c.in-Some.net c.in-Some.is).0 in
     let within = c.requires.net_bound c.loop-last.last c.in-Some.net (omega arith) (omega arith) net in
     let fits : FitsSigned w64 c.in-Some.net = search rules in
@@ -13,16 +13,17 @@ sum_of-requires-clause-b c =
     record { at_least = omega (arith, ints); at_most = omega (arith, ints) } in
     simp to_z-of_z r
 
-pub put_ended-requires-clause-bound : goal.put_ended-requires-clause-bound
-put_ended-requires-clause-bound c =
+pub keep_lesser_end-requires-clause-bound : goal.keep_lesser_end-requires-clause-bound
+keep_lesser_end-requires-clause-bound c =
     let order : c.args.first ≤ c.loop-last.last = omega arith in
     let net = (c.net_of.ensures.some c.in-Some.net c.in-Some.is).0 in
     let within = c.requires.net_bound c.loop-last.last c.in-Some.net order (omega arith) net in
-    let fits : FitsSigned w64 c.sum_of.result = search rules in
+    let fits : FitsSigned w64 c.sum_of_costs.result = search rules in
     let fits_net : FitsSigned w64 c.in-Some.net = search rules in
     let fits_entry : FitsSigned w64 c.args.entry.now.cost = search rules in
-    let sum : c.sum_of.result ≡ c.args.entry.now.cost +ℤ c.in-Some.net = simp to_z-of_z at c.sum_of.ensures in
-    let r : IsWithinTimes (2 * c.loop-last.last + 2) c.sum_of.result =
+    let sum : c.sum_of_costs.result ≡ c.args.entry.now.cost +ℤ c.in-Some.net = simp to_z-of_z at
+    c.sum_of_costs.ensures in
+    let r : IsWithinTimes (2 * c.loop-last.last + 2) c.sum_of_costs.result =
     record { at_least = omega (arith, ints, sum, order); at_most = omega (arith, ints, sum, order) } in
     simp to_z-of_z r
 
@@ -45,11 +46,11 @@ loop-last-preserved c =
           rw w.table-is (record {
             update = update_more u c.args.periods c.args.first c.args.entry.now.last c.args.entry.now.cost nets
                 c.args.table.now.items c.loop-last.last w.in-Some.net spell net.0
-                _ cost refl refl c.loop-last.table.items w.put_ended.new.table.items c.loop-last.invariant.update
-                w.put_ended.ensures.others w.put_ended.ensures.here w.put_ended.ensures.old w.put_ended.ensures.added
-                w.put_ended.ensures.latest
-                w.put_ended.ensures.within;
-            length_is = w.put_ended.ensures.length ∙ length_is;
+                _ cost refl refl c.loop-last.table.items w.keep_lesser_end.new.table.items c.loop-last.invariant.update
+                w.keep_lesser_end.ensures.others w.keep_lesser_end.ensures.here w.keep_lesser_end.ensures.old w.keep_lesser_end.ensures.added
+                w.keep_lesser_end.ensures.latest
+                w.keep_lesser_end.ensures.within;
+            length_is = w.keep_lesser_end.ensures.length ∙ length_is;
           })
       | in_default w ↦
           rw w.table-is (record {

@@ -4,4 +4,4 @@ use Rattle.uc_mixture.proofs.read.read_mixture.Goals as goal
 
 pub returns-clause-only : goal.returns-clause-only
 returns-clause-only c = λ r is. is_only c.one_mixture.ensures (market_of c.args.case.now) c.args.bytes.now
-    c.read_file.result c.read_file.ensures.answer r is
+    c.mixture_of_bytes.result c.mixture_of_bytes.ensures.answer r is

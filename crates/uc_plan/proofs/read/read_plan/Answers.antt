@@ -4,4 +4,4 @@ use Rattle.uc_plan.proofs.read.read_plan.Goals as goal
 
 pub returns-clause-only : goal.returns-clause-only
 returns-clause-only c = λ r is. is_only c.one_plan.ensures (market_of c.args.case.now) c.args.bytes.now
-    c.read_file.result c.read_file.ensures.answer r is
+    c.plan_of_bytes.result c.plan_of_bytes.ensures.answer r is

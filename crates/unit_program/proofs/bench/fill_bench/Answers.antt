@@ -8,8 +8,8 @@ use Rattle.std.specs.Vec.{with_items}
 use Rattle.unit_program.proofs.Lemmas.{charge_less, bench_kept}
 use Rattle.unit_program.proofs.bench.fill_bench.Goals as goal
 
-pub fill_by_periods-requires-clause-room : goal.fill_by_periods-requires-clause-room
-fill_by_periods-requires-clause-room c =
+pub fill_table-requires-clause-room : goal.fill_table-requires-clause-room
+fill_table-requires-clause-room c =
     let periods = length c.args.prices.now.energy.items in
     let points = length c.args.unit.now.points.items in
     let blocks = length c.curve_into.new.into.blocks.items in
@@ -17,62 +17,62 @@ fill_by_periods-requires-clause-room c =
     let less = charge_less periods points blocks few in
     omega (arith, less, c.requires.bench.space)
 
-pub fill_by_periods-requires-clause-have : goal.fill_by_periods-requires-clause-have
-fill_by_periods-requires-clause-have c =
+pub fill_table-requires-clause-have : goal.fill_table-requires-clause-have
+fill_table-requires-clause-have c =
     subst (λ (xs : List Runner). HaveRoom (space_of c.args.bench.now.shared.spare) xs)
     (sym c.as_mut_slice.ensures.value) c.requires.bench.room
 
 pub returns-clause-bench : goal.returns-clause-bench
 returns-clause-bench c = λ periods points b.
     let lent = c.as_mut_slice.ensures in
-    let same = with_items_is c.args.bench.now.runners c.fill_by_periods.new.runners
-    (c.fill_by_periods.ensures.same.count_same ∙ lent.len) in
+    let same = with_items_is c.args.bench.now.runners c.fill_table.new.runners
+    (c.fill_table.ensures.same.count_same ∙ lent.len) in
     bench_kept periods points c.args.bench.now
     (record {
       curve = c.curve_into.new.into;
       runners = with_items c.args.bench.now.runners
-          c.fill_by_periods.new.runners;
-      shared = c.fill_by_periods.new.shared;
-      origins = c.fill_by_periods.new.origins;
-      roster = c.fill_by_periods.new.roster;
-      table = c.fill_by_periods.new.table;
-      limits = c.fill_limits.new.limits;
+          c.fill_table.new.runners;
+      shared = c.fill_table.new.shared;
+      origins = c.fill_table.new.origins;
+      roster = c.fill_table.new.roster;
+      table = c.fill_table.new.table;
+      limits = c.fill_cost_limits.new.limits;
       kept = c.args.bench.now.kept;
     })
-    (sym c.curve_into.ensures.room) (ap length same ∙ c.fill_by_periods.ensures.same.count_same ∙ ap length lent.value)
+    (sym c.curve_into.ensures.room) (ap length same ∙ c.fill_table.ensures.same.count_same ∙ ap length lent.value)
     (λ room have.
     subst (λ (xs : List Runner). HaveRoom room xs) (sym same)
-    (c.fill_by_periods.ensures.same.keeps room
-    (subst (λ (xs : List Runner). HaveRoom room xs) (sym lent.value) have))) c.fill_by_periods.ensures.spare
-    c.fill_by_periods.ensures.same.log_same
-    c.fill_by_periods.ensures.same.rows_length c.fill_by_periods.ensures.list c.fill_by_periods.ensures.same.firsts_same
-    c.fill_limits.ensures.length b
+    (c.fill_table.ensures.same.keeps room
+    (subst (λ (xs : List Runner). HaveRoom room xs) (sym lent.value) have))) c.fill_table.ensures.spare
+    c.fill_table.ensures.same.log_same
+    c.fill_table.ensures.same.rows_length c.fill_table.ensures.list c.fill_table.ensures.same.firsts_same
+    c.fill_cost_limits.ensures.length b
 
 pub returns-clause-backtracks : goal.returns-clause-backtracks
 returns-clause-backtracks c =
     let lent = c.as_mut_slice.ensures in
-    let same = with_items_is c.args.bench.now.runners c.fill_by_periods.new.runners
-    (c.fill_by_periods.ensures.same.count_same ∙ lent.len) in
+    let same = with_items_is c.args.bench.now.runners c.fill_table.new.runners
+    (c.fill_table.ensures.same.count_same ∙ lent.len) in
     subst (λ (xs : List Runner). CanBacktrack (thermal_of c.args.unit.now) (prices_of c.args.prices.now)
-    (length c.args.prices.now.energy.items) (cost_at c.fill_by_periods.new.table.items)
-    (first_at c.fill_by_periods.new.table.items) (left_at c.fill_by_periods.new.shared.log.items xs)) (sym same)
-    c.fill_by_periods.ensures.backtracks
+    (length c.args.prices.now.energy.items) (cost_at c.fill_table.new.table.items)
+    (first_at c.fill_table.new.table.items) (left_at c.fill_table.new.shared.log.items xs)) (sym same)
+    c.fill_table.ensures.backtracks
 
 pub returns-clause-traces : goal.returns-clause-traces
 returns-clause-traces c =
     let lent = c.as_mut_slice.ensures in
-    let same = with_items_is c.args.bench.now.runners c.fill_by_periods.new.runners
-    (c.fill_by_periods.ensures.same.count_same ∙ lent.len) in
-    subst (AreTraces c.fill_by_periods.new.shared.log.items) (sym same) c.fill_by_periods.ensures.traces
+    let same = with_items_is c.args.bench.now.runners c.fill_table.new.runners
+    (c.fill_table.ensures.same.count_same ∙ lent.len) in
+    subst (AreTraces c.fill_table.new.shared.log.items) (sym same) c.fill_table.ensures.traces
 
 pub returns-clause-filled : goal.returns-clause-filled
 returns-clause-filled c =
     let fits : FitsSigned w64 c.args.most = search rules in
-    let limits = rw (to_z-of_z w64 c.args.most fits) at c.fill_limits.ensures.limits in
-    c.fill_by_periods.ensures.filled c.args.most limits
+    let limits = rw (to_z-of_z w64 c.args.most fits) at c.fill_cost_limits.ensures.limits in
+    c.fill_table.ensures.filled c.args.most limits
 
-pub fill_by_periods-requires-clause-long : goal.fill_by_periods-requires-clause-long
-fill_by_periods-requires-clause-long c =
+pub fill_table-requires-clause-long : goal.fill_table-requires-clause-long
+fill_table-requires-clause-long c =
     let bench = c.requires.bench in
     record {
       rows_end = bench.rows;

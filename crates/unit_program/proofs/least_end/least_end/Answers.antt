@@ -14,7 +14,7 @@ pub loop-last-preserved : goal.loop-last-preserved
 loop-last-preserved c =
     let chosen = c.lesser_entry-least.ensures in
     one_more (thermal_of c.args.unit.now) c.args.periods (cost_at c.args.rows.now) c.loop-last.last c.loop-last.least
-    c.lesser_entry-least.result c.end_at.result c.end_at.ensures
+    c.lesser_entry-least.result c.end_cost_at.result c.end_cost_at.ensures
     (c.off_from-last.ensures.yes c.loop-last.last c.loop-last.auto.last (omega arith)) c.loop-last.invariant
     chosen.from chosen.old chosen.added chosen.kept
 

@@ -11,7 +11,7 @@ pub returns-then-down-from-2-clause-only : goal.returns-then-down-from-2-clause-
 returns-then-down-from-2-clause-only c = λ last ripe.
     let few = c.if-period-unit.false in
     let some = c.if-period-gt0.true in
-    let down = c.time_off-down.ensures in
+    let down = c.periods_off-down.ensures in
     let long = c.if-down-from-2.true in
     absurd (none_before (thermal_of c.args.unit.now) c.args.unit.now.valid.min_down_is_one_or_more c.args.period few
     some (search (arith, down, long)) last ripe)

@@ -4,16 +4,17 @@ use Rattle.unit_rows.proofs.table.begin_table.Goals as goal
 
 pub returns-clause-first : goal.returns-clause-first
 returns-clause-first c =
-    (begun (thermal_of c.args.unit.now) c.clear_rows.new.table.items c.set.new.self.items c.first_row.result
-    c.set.ensures.items (omega arith) c.clear_rows.ensures.none c.first_row.ensures).0
+    (begun (thermal_of c.args.unit.now) c.clear_rows.new.table.items c.set.new.self.items c.row_before_horizon.result
+    c.set.ensures.items (omega arith) c.clear_rows.ensures.none c.row_before_horizon.ensures).0
 
 pub returns-clause-rest : goal.returns-clause-rest
 returns-clause-rest c =
-    (begun (thermal_of c.args.unit.now) c.clear_rows.new.table.items c.set.new.self.items c.first_row.result
-    c.set.ensures.items (omega arith) c.clear_rows.ensures.none c.first_row.ensures).1
+    (begun (thermal_of c.args.unit.now) c.clear_rows.new.table.items c.set.new.self.items c.row_before_horizon.result
+    c.set.ensures.items (omega arith) c.clear_rows.ensures.none c.row_before_horizon.ensures).1
 
 pub returns-clause-within : goal.returns-clause-within
 returns-clause-within c =
-    let b = begun (thermal_of c.args.unit.now) c.clear_rows.new.table.items c.set.new.self.items c.first_row.result
-    c.set.ensures.items (omega arith) c.clear_rows.ensures.none c.first_row.ensures in
+    let b = begun (thermal_of c.args.unit.now) c.clear_rows.new.table.items c.set.new.self.items
+    c.row_before_horizon.result
+    c.set.ensures.items (omega arith) c.clear_rows.ensures.none c.row_before_horizon.ensures in
     within_first (thermal_of c.args.unit.now) c.set.new.self.items b.0 b.1

@@ -5,66 +5,67 @@ use Rattle.unit_table.proofs.Lemmas.{kept_none, still_listed}
 use Rattle.unit_table.proofs.Lemmas.{start_undercut, start_beyond, started}
 use Rattle.unit_table.proofs.periods.start_after.Goals as goal
 
-pub returns-then-is_undercut-clause-stands : goal.returns-then-is_undercut-clause-stands
-returns-then-is_undercut-clause-stands c = λ π limits ends here least now.
+pub returns-then-is_start_undercut-clause-stands : goal.returns-then-is_start_undercut-clause-stands
+returns-then-is_start_undercut-clause-stands c = λ π limits ends here least now.
     let fits_power : FitsSigned w64 c.args.unit.now.min_power = search rules in
     let fits_cost : FitsSigned w64 c.args.entry.now.cost = search rules in
     let found : (f : ℕ) × (r : Going) × (live_at c.args.runners.now f ≡ Some r) × IsUnder
-    c.args.unit.now.min_power c.args.entry.now.cost r = simp to_z-of_z at c.if-is_undercut.ensures in
-    start_undercut (thermal_of c.args.unit.now) π limits ends c.args.place (live_at c.args.runners.now)
+    c.args.unit.now.min_power c.args.entry.now.cost r = simp to_z-of_z at c.if-is_start_undercut.ensures in
+    start_undercut (thermal_of c.args.unit.now) π limits ends c.args.index (live_at c.args.runners.now)
     (live_at c.args.runners.now) now
     c.args.entry.now.last c.args.entry.now.cost least found.0 found.1 found.3.0 found.2 found.3.1 found.3.2
 
 pub returns-clause-stands : goal.returns-clause-stands
 returns-clause-stands c = λ π limits ends here least now.
     let fits_cost : FitsSigned w64 c.args.entry.now.cost = search rules in
-    let begun = c.begin_at.ensures.begun in
-    started (thermal_of c.args.unit.now) π limits ends c.args.place (c.args.place + 1) (omega arith)
-    (live_at c.args.runners.now) (live_at c.begin_at.new.runners) c.args.entry.now.last c.args.entry.now.cost begun.0
-    begun.1 begun.2 c.begin_at.ensures.others c.requires.bound least now
+    let begun = c.begin_runner_of_period.ensures.begun in
+    started (thermal_of c.args.unit.now) π limits ends c.args.index (c.args.index + 1) (omega arith)
+    (live_at c.args.runners.now) (live_at c.begin_runner_of_period.new.runners) c.args.entry.now.last
+    c.args.entry.now.cost begun.0
+    begun.1 begun.2 c.begin_runner_of_period.ensures.others c.requires.bound least now
 
-pub is_undercut-requires-clause-roster : goal.is_undercut-requires-clause-roster
-is_undercut-requires-clause-roster c =
-    still_listed (live_at c.args.runners.now) (live_at c.args.runners.now) (suc c.args.place)
+pub is_start_undercut-requires-clause-roster : goal.is_start_undercut-requires-clause-roster
+is_start_undercut-requires-clause-roster c =
+    still_listed (live_at c.args.runners.now) (live_at c.args.runners.now) (suc c.args.index)
     (length c.args.runners.now) c.args.roster.now (omega arith) (λ f off. off) c.requires.roster
 
-pub returns-then-is_undercut-clause-roster : goal.returns-then-is_undercut-clause-roster
-returns-then-is_undercut-clause-roster c =
-    still_listed (live_at c.args.runners.now) (live_at c.args.runners.now) (suc c.args.place)
-    (suc (suc c.args.place)) c.args.roster.now (omega arith) (λ f off. off) c.requires.roster
+pub returns-then-is_start_undercut-clause-roster : goal.returns-then-is_start_undercut-clause-roster
+returns-then-is_start_undercut-clause-roster c =
+    still_listed (live_at c.args.runners.now) (live_at c.args.runners.now) (suc c.args.index)
+    (suc (suc c.args.index)) c.args.roster.now (omega arith) (λ f off. off) c.requires.roster
 
-pub begin_at-requires-clause-roster : goal.begin_at-requires-clause-roster
-begin_at-requires-clause-roster c = rw add-one c.requires.roster
+pub begin_runner_of_period-requires-clause-roster : goal.begin_runner_of_period-requires-clause-roster
+begin_runner_of_period-requires-clause-roster c = rw add-one c.requires.roster
 
 pub returns-clause-roster : goal.returns-clause-roster
-returns-clause-roster c = rw add-one at c.begin_at.ensures.roster
+returns-clause-roster c = rw add-one at c.begin_runner_of_period.ensures.roster
 
-pub returns-then-is_less-clause-stands : goal.returns-then-is_less-clause-stands
-returns-then-is_less-clause-stands c = λ π limits ends here least now.
+pub returns-then-is_lesser_cost-clause-stands : goal.returns-then-is_lesser_cost-clause-stands
+returns-then-is_lesser_cost-clause-stands c = λ π limits ends here least now.
     let fits_limit : FitsSigned w64 c.args.limit = search rules in
     let fits_cost : FitsSigned w64 c.args.entry.now.cost = search rules in
     let less : (c.args.limit +ℤ pos 1) ≤ℤ c.args.entry.now.cost = simp to_z-of_z at
-    (c.is_less.ensures c.if-is_less.true) in
-    start_beyond (thermal_of c.args.unit.now) π limits ends c.args.place (live_at c.args.runners.now)
+    (c.is_lesser_cost.ensures c.if-is_lesser_cost.true) in
+    start_beyond (thermal_of c.args.unit.now) π limits ends c.args.index (live_at c.args.runners.now)
     (live_at c.args.runners.now) now
     c.args.entry.now.last c.args.entry.now.cost least (omega (arith, ints))
 
-pub returns-then-is_less-clause-roster : goal.returns-then-is_less-clause-roster
-returns-then-is_less-clause-roster c =
-    still_listed (live_at c.args.runners.now) (live_at c.args.runners.now) (suc c.args.place)
-    (suc (suc c.args.place)) c.args.roster.now (omega arith) (λ f off. off) c.requires.roster
+pub returns-then-is_lesser_cost-clause-roster : goal.returns-then-is_lesser_cost-clause-roster
+returns-then-is_lesser_cost-clause-roster c =
+    still_listed (live_at c.args.runners.now) (live_at c.args.runners.now) (suc c.args.index)
+    (suc (suc c.args.index)) c.args.roster.now (omega arith) (λ f off. off) c.requires.roster
 
-pub returns-then-is_undercut-clause-kept : goal.returns-then-is_undercut-clause-kept
-returns-then-is_undercut-clause-kept c = kept_none c.args.runners.now
+pub returns-then-is_start_undercut-clause-kept : goal.returns-then-is_start_undercut-clause-kept
+returns-then-is_start_undercut-clause-kept c = kept_none c.args.runners.now
 
-pub returns-then-is_less-clause-kept : goal.returns-then-is_less-clause-kept
-returns-then-is_less-clause-kept c = kept_none c.args.runners.now
+pub returns-then-is_lesser_cost-clause-kept : goal.returns-then-is_lesser_cost-clause-kept
+returns-then-is_lesser_cost-clause-kept c = kept_none c.args.runners.now
 
 pub returns-clause-others : goal.returns-clause-others
-returns-clause-others c = rw add-one at c.begin_at.ensures.others
+returns-clause-others c = rw add-one at c.begin_runner_of_period.ensures.others
 
-pub returns-then-is_undercut-clause-others : goal.returns-then-is_undercut-clause-others
-returns-then-is_undercut-clause-others c = λ f other. refl
+pub returns-then-is_start_undercut-clause-others : goal.returns-then-is_start_undercut-clause-others
+returns-then-is_start_undercut-clause-others c = λ f other. refl
 
-pub returns-then-is_less-clause-others : goal.returns-then-is_less-clause-others
-returns-then-is_less-clause-others c = λ f other. refl
+pub returns-then-is_lesser_cost-clause-others : goal.returns-then-is_lesser_cost-clause-others
+returns-then-is_lesser_cost-clause-others c = λ f other. refl

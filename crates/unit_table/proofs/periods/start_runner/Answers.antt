@@ -11,13 +11,13 @@ returns-in-Some-clause-stands c = λ π limits ends here origins now.
 
 pub returns-in-None-clause-stands : goal.returns-in-None-clause-stands
 returns-in-None-clause-stands c = λ π limits ends here origins now.
-    none_starts (thermal_of c.args.unit.now) π limits ends c.args.place (live_at c.args.runners.now)
+    none_starts (thermal_of c.args.unit.now) π limits ends c.args.index (live_at c.args.runners.now)
     (live_at c.args.runners.now) now (λ e. c.in-None.ensures.none ends e origins)
 
 pub returns-in-None-clause-roster : goal.returns-in-None-clause-roster
 returns-in-None-clause-roster c =
-    still_listed (live_at c.args.runners.now) (live_at c.args.runners.now) (suc c.args.place)
-    (suc (suc c.args.place)) c.args.roster.now (omega arith) (λ f off. off) c.requires.roster
+    still_listed (live_at c.args.runners.now) (live_at c.args.runners.now) (suc c.args.index)
+    (suc (suc c.args.index)) c.args.roster.now (omega arith) (λ f off. off) c.requires.roster
 
 pub returns-then-not-is_within-clause-stands : goal.returns-then-not-is_within-clause-stands
 returns-then-not-is_within-clause-stands c = λ π limits ends here origins now.
@@ -25,16 +25,16 @@ returns-then-not-is_within-clause-stands c = λ π limits ends here origins now.
     let told = simp to_z-of_z at c.if-not-is_within.ensures in
     let far : (i : ℕ) (o : Origin) → i < c.args.origins.now.count → slice_get c.args.origins.now.list.items i ≡ Some o →
     (c.args.limit +ℤ pos 1) ≤ℤ o.cost = told refl in
-    starts_beyond (thermal_of c.args.unit.now) π limits ends c.args.place (live_at c.args.runners.now)
+    starts_beyond (thermal_of c.args.unit.now) π limits ends c.args.index (live_at c.args.runners.now)
     (live_at c.args.runners.now) now
-    (λ e entry. (let above = entry_beyond (thermal_of c.args.unit.now) ends c.args.place c.args.origins.now
+    (λ e entry. (let above = entry_beyond (thermal_of c.args.unit.now) ends c.args.index c.args.origins.now
     c.start_costs_are_within.ensures origins
     c.args.unit.now.valid.lags c.args.limit far e entry in omega (arith, ints)))
 
 pub returns-then-not-is_within-clause-roster : goal.returns-then-not-is_within-clause-roster
 returns-then-not-is_within-clause-roster c =
-    still_listed (live_at c.args.runners.now) (live_at c.args.runners.now) (suc c.args.place)
-    (suc (suc c.args.place)) c.args.roster.now (omega arith) (λ f off. off) c.requires.roster
+    still_listed (live_at c.args.runners.now) (live_at c.args.runners.now) (suc c.args.index)
+    (suc (suc c.args.index)) c.args.roster.now (omega arith) (λ f off. off) c.requires.roster
 
 pub returns-in-None-clause-kept : goal.returns-in-None-clause-kept
 returns-in-None-clause-kept c = kept_none c.args.runners.now

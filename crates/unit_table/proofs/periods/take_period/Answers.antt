@@ -21,36 +21,36 @@ returns-then-is_must_off-clause-now c =
     let old = c.args.runners.now in
     let log = c.args.shared.now.log.items in
     let now = c.requires.now in
-    let off = c.stop_all.ensures.off in
-    let kept = c.stop_all.ensures.kept in
-    let none = now.filled.table.none (suc c.args.period.now.place) (omega arith) in
+    let off = c.stop_runners.ensures.off in
+    let kept = c.stop_runners.ensures.kept in
+    let none = now.filled.table.none (suc c.args.period.now.index) (omega arith) in
     record {
       filled = period_off g π (limits_in c.args.period.now.question.now) c.args.period.now.question.now.unit.now.valid
-          c.args.period.now.place rows
+          c.args.period.now.index rows
           (live_at old) now.filled c.args.period.now.inside
-          (live_at c.stop_all.new.runners) off (c.is_must_off.ensures.yes c.if-is_must_off.true);
+          (live_at c.stop_runners.new.runners) off (c.is_must_off.ensures.yes c.if-is_must_off.true);
       noted = λ f r on x v there k from until. (let none = off f in absurd (cc));
-      backtracks = ways_same g π (suc c.args.period.now.place) (cost_at rows) (first_at rows) (left_at log old)
-          (left_at log c.stop_all.new.runners) (kept_left _ _ kept log)
-          (ways_none g π c.args.period.now.place (cost_at rows) (first_at rows) (left_at log old) none now.backtracks);
+      backtracks = ways_same g π (suc c.args.period.now.index) (cost_at rows) (first_at rows) (left_at log old)
+          (left_at log c.stop_runners.new.runners) (kept_left _ _ kept log)
+          (ways_none g π c.args.period.now.index (cost_at rows) (first_at rows) (left_at log old) none now.backtracks);
       traces = kept_trails _ _ kept log now.traces;
-      entries = entries_more (length log) c.args.period.now.place (length log) now.entries (omega arith);
-      roomy = still_roomy (periods_in c.args.period.now.question.now) c.args.period.now.place
-          (suc c.args.period.now.place)
-          (charge_of c.args.period.now.question.now) c.stop_all.new.runners (omega arith) off
-          (kept_roomy _ _ kept (periods_in c.args.period.now.question.now) c.args.period.now.place
+      entries = entries_more (length log) c.args.period.now.index (length log) now.entries (omega arith);
+      roomy = still_roomy (periods_in c.args.period.now.question.now) c.args.period.now.index
+          (suc c.args.period.now.index)
+          (charge_of c.args.period.now.question.now) c.stop_runners.new.runners (omega arith) off
+          (kept_roomy _ _ kept (periods_in c.args.period.now.question.now) c.args.period.now.index
           (charge_of c.args.period.now.question.now) (λ f. inl (inr (off f))) now.roomy);
-      roster_is = none_listed (live_at c.stop_all.new.runners) (suc (suc c.args.period.now.place)) c.clear.new.self
+      roster_is = none_listed (live_at c.stop_runners.new.runners) (suc (suc c.args.period.now.index)) c.clear.new.self
           c.clear.ensures.count off;
     }
 
 pub returns-then-is_must_off-clause-same : goal.returns-then-is_must_off-clause-same
 returns-then-is_must_off-clause-same c = record {
   rows_length = refl;
-  count_same = c.stop_all.ensures.kept.count_same;
+  count_same = c.stop_runners.ensures.kept.count_same;
   firsts_same = ap (λ l. length l.items) c.clear.ensures.firsts;
   log_same = refl;
-  keeps = kept_room _ _ c.stop_all.ensures.kept;
+  keeps = kept_room _ _ c.stop_runners.ensures.kept;
 }
 
 -- ---- the runners, step by step
@@ -63,24 +63,24 @@ limit_at limits k x fits is = get_or_from_slice_get limits k x (pos 0) is ∙ sy
 begun : (c : After-start_runner) → AreRunners (unit_of c.args.period.now.question.now)
     (prices_in c.args.period.now.question.now)
     (limits_in c.args.period.now.question.now) (cost_at c.args.table.now.items) (live_at c.start_runner.new.runners)
-    c.args.period.now.place
-    (suc (suc c.args.period.now.place))
+    c.args.period.now.index
+    (suc (suc c.args.period.now.index))
 begun c = c.start_runner.ensures.stands (prices_in c.args.period.now.question.now)
     (limits_in c.args.period.now.question.now)
     (cost_at c.args.table.now.items)
-    (limit_at c.args.period.now.question.now.limits.now.items c.args.period.now.place c.get-limit.result.now
+    (limit_at c.args.period.now.question.now.limits.now.items c.args.period.now.index c.get-limit.result.now
     (search rules) c.get-limit.ensures.item) c.requires.origins c.requires.now.filled.runners
 
 -- and over the period
 ran : (c : After-run_runners) → AreRunners (unit_of c.args.period.now.question.now)
     (prices_in c.args.period.now.question.now)
     (limits_in c.args.period.now.question.now) (cost_at c.args.table.now.items) (live_at c.start_runner.new.runners)
-    c.args.period.now.place
-    (suc (suc c.args.period.now.place)) →
+    c.args.period.now.index
+    (suc (suc c.args.period.now.index)) →
     AreRunners (unit_of c.args.period.now.question.now) (prices_in c.args.period.now.question.now)
     (limits_in c.args.period.now.question.now) (cost_at c.args.table.now.items) (live_at c.run_runners.new.runners)
-    (suc c.args.period.now.place)
-    (suc (suc c.args.period.now.place))
+    (suc c.args.period.now.index)
+    (suc (suc c.args.period.now.index))
 ran c now = period_run _ _ _ c.args.period.now.question.now.unit.now.valid _ _ _ c.requires.now.filled
     c.args.period.now.inside
     c.run_runners.new.table.items _ _ now c.requires.limits.0 c.requires.limits.1 c.runs_go_on.ensures
@@ -89,14 +89,14 @@ ran c now = period_run _ _ _ c.args.period.now.question.now.unit.now.valid _ _ _
 ran_small : (c : After-run_runners) →
     AreRunners (unit_of c.args.period.now.question.now) (prices_in c.args.period.now.question.now)
     (limits_in c.args.period.now.question.now) (cost_at c.args.table.now.items) (live_at c.start_runner.new.runners)
-    c.args.period.now.place
-    (suc (suc c.args.period.now.place)) → AreSmall (live_at c.run_runners.new.runners)
-ran_small c now = small_of _ _ _ _ _ (suc c.args.period.now.place) (suc (suc c.args.period.now.place)) (omega arith)
+    c.args.period.now.index
+    (suc (suc c.args.period.now.index)) → AreSmall (live_at c.run_runners.new.runners)
+ran_small c now = small_of _ _ _ _ _ (suc c.args.period.now.index) (suc (suc c.args.period.now.index)) (omega arith)
     (omega arith) (ran c now)
 
 pub start_runner-requires-clause-within : goal.start_runner-requires-clause-within
 start_runner-requires-clause-within c =
-    origins_within (unit_of c.args.period.now.question.now) c.args.table.now.items c.args.period.now.place
+    origins_within (unit_of c.args.period.now.question.now) c.args.table.now.items c.args.period.now.index
     c.args.origins.now
     c.requires.origins c.requires.now.filled.within (omega arith)
 
@@ -104,13 +104,13 @@ pub start_runner-requires-clause-small : goal.start_runner-requires-clause-small
 start_runner-requires-clause-small c =
     small_of (unit_of c.args.period.now.question.now) (prices_in c.args.period.now.question.now)
     (limits_in c.args.period.now.question.now) _
-    (live_at c.args.runners.now) c.args.period.now.place (suc c.args.period.now.place)
+    (live_at c.args.runners.now) c.args.period.now.index (suc c.args.period.now.index)
     (omega arith) (omega arith) c.requires.now.filled.runners
 
 pub run_runners-requires-clause-room : goal.run_runners-requires-clause-room
 run_runners-requires-clause-room c =
-    kept_roomy _ _ c.start_runner.ensures.kept (periods_in c.args.period.now.question.now) c.args.period.now.place
-    (charge_of c.args.period.now.question.now) (λ f. elim (cases_eq f (suc c.args.period.now.place)) [
+    kept_roomy _ _ c.start_runner.ensures.kept (periods_in c.args.period.now.question.now) c.args.period.now.index
+    (charge_of c.args.period.now.question.now) (λ f. elim (cases_eq f (suc c.args.period.now.index)) [
       | inl z ↦ inr (omega arith)
       | inr other ↦ inl (inl (c.start_runner.ensures.others f other))
     ]) c.requires.now.roomy
@@ -121,9 +121,9 @@ run_runners-requires-clause-log c =
     let few = c.requires.now.entries in
     record {
       traces = kept_trails _ _ c.start_runner.ensures.kept log.items c.requires.now.traces;
-      spare = entries_fit (length log.items) log.spare c.args.period.now.place
+      spare = entries_fit (length log.items) log.spare c.args.period.now.index
           (periods_in c.args.period.now.question.now) c.args.period.now.inside few c.requires.long.log_end;
-      small = entries_small (length log.items) c.args.period.now.place few (omega arith);
+      small = entries_small (length log.items) c.args.period.now.index few (omega arith);
     }
 
 pub run_runners-requires-clause-have : goal.run_runners-requires-clause-have
@@ -134,44 +134,44 @@ run_runners-requires-clause-now c =
     (limits_in c.args.period.now.question.now, begun (goal.at.run_runners-requires-clause-now c).After-start_runner)
 
 pub run_runners-requires-clause-none : goal.run_runners-requires-clause-none
-run_runners-requires-clause-none c = c.requires.now.filled.table.none (suc c.args.period.now.place) (omega arith)
+run_runners-requires-clause-none c = c.requires.now.filled.table.none (suc c.args.period.now.index) (omega arith)
 
 pub run_runners-requires-clause-open : goal.run_runners-requires-clause-open
 run_runners-requires-clause-open c = c.is_must_off.ensures.no c.if-is_must_off.false
 
-pub drop_beyond-requires-clause-small : goal.drop_beyond-requires-clause-small
-drop_beyond-requires-clause-small c =
-    let at = goal.at.drop_beyond-requires-clause-small c in
+pub drop_runners_beyond-requires-clause-small : goal.drop_runners_beyond-requires-clause-small
+drop_runners_beyond-requires-clause-small c =
+    let at = goal.at.drop_runners_beyond-requires-clause-small c in
     ran_small at.After-run_runners (begun at.After-start_runner)
 
 pub prune_runners-requires-clause-small : goal.prune_runners-requires-clause-small
 prune_runners-requires-clause-small c =
     let at = goal.at.prune_runners-requires-clause-small c in
-    fewer_small _ _ c.drop_beyond.ensures.fewer (ran_small at.After-run_runners (begun at.After-start_runner))
+    fewer_small _ _ c.drop_runners_beyond.ensures.fewer (ran_small at.After-run_runners (begun at.After-start_runner))
 
-pub drop_beyond-requires-clause-roster : goal.drop_beyond-requires-clause-roster
-drop_beyond-requires-clause-roster c =
+pub drop_runners_beyond-requires-clause-roster : goal.drop_runners_beyond-requires-clause-roster
+drop_runners_beyond-requires-clause-roster c =
     still_listed (live_at c.start_runner.new.runners) (live_at c.run_runners.new.runners)
-    (suc (suc c.args.period.now.place))
-    (suc (c.args.period.now.place + 1)) c.start_runner.new.roster (omega arith)
+    (suc (suc c.args.period.now.index))
+    (suc (c.args.period.now.index + 1)) c.start_runner.new.roster (omega arith)
     c.run_runners.ensures.run.off c.start_runner.ensures.roster
 
 pub prune_runners-requires-clause-roster : goal.prune_runners-requires-clause-roster
 prune_runners-requires-clause-roster c =
-    still_listed (live_at c.start_runner.new.runners) (live_at c.drop_beyond.new.runners)
-    (suc (suc c.args.period.now.place))
-    (suc (c.args.period.now.place + 1)) c.start_runner.new.roster (omega arith)
-    (λ f off. fewer_off _ _ c.drop_beyond.ensures.fewer f (c.run_runners.ensures.run.off f off))
+    still_listed (live_at c.start_runner.new.runners) (live_at c.drop_runners_beyond.new.runners)
+    (suc (suc c.args.period.now.index))
+    (suc (c.args.period.now.index + 1)) c.start_runner.new.roster (omega arith)
+    (λ f off. fewer_off _ _ c.drop_runners_beyond.ensures.fewer f (c.run_runners.ensures.run.off f off))
     c.start_runner.ensures.roster
 
 pub keep-requires-clause-roster : goal.keep-requires-clause-roster
 keep-requires-clause-roster c = (
-  suc (suc c.args.period.now.place),
+  suc (suc c.args.period.now.index),
   omega arith,
   still_listed (live_at c.start_runner.new.runners) (live_at c.prune_runners.new.runners)
-      (suc (suc c.args.period.now.place))
-      (suc (suc c.args.period.now.place)) c.start_runner.new.roster (omega arith)
-      (λ f off. fewer_off _ _ (fewer_then _ _ _ c.drop_beyond.ensures.fewer c.prune_runners.ensures.fewer) f
+      (suc (suc c.args.period.now.index))
+      (suc (suc c.args.period.now.index)) c.start_runner.new.roster (omega arith)
+      (λ f off. fewer_off _ _ (fewer_then _ _ _ c.drop_runners_beyond.ensures.fewer c.prune_runners.ensures.fewer) f
       (c.run_runners.ensures.run.off f off)) c.start_runner.ensures.roster,
 )
 
@@ -186,35 +186,35 @@ returns-clause-now c =
     let rows = c.args.table.now.items in
     let now = begun at.After-start_runner in
     let ran_on = ran at.After-run_runners now in
-    let next_is = limit_at c.args.period.now.question.now.limits.now.items (c.args.period.now.place + 1)
+    let next_is = limit_at c.args.period.now.question.now.limits.now.items (c.args.period.now.index + 1)
     c.get.result.now
     (search rules)
     c.get.ensures.item in
     let pruned = rw add-one at (c.prune_runners.ensures.stands π limits (cost_at rows)
-    (suc (suc c.args.period.now.place))
-    (c.drop_beyond.ensures.stands g π limits (cost_at rows) (c.args.period.now.place + 1)
-    (suc (suc c.args.period.now.place))
+    (suc (suc c.args.period.now.index))
+    (c.drop_runners_beyond.ensures.stands g π limits (cost_at rows) (c.args.period.now.index + 1)
+    (suc (suc c.args.period.now.index))
     next_is
     (rw add-one ran_on))) in
     let rows' = c.run_runners.new.table.items in
     let run = c.run_runners.ensures.run in
-    let kept = kept_then _ _ _ c.drop_beyond.ensures.kept c.prune_runners.ensures.kept in
-    let fewer = fewer_then _ _ _ c.drop_beyond.ensures.fewer c.prune_runners.ensures.fewer in
+    let kept = kept_then _ _ _ c.drop_runners_beyond.ensures.kept c.prune_runners.ensures.kept in
+    let fewer = fewer_then _ _ _ c.drop_runners_beyond.ensures.fewer c.prune_runners.ensures.fewer in
     let log = c.args.shared.now.log.items in
     let log' = c.run_runners.new.log.items in
     let old_left = left_at log c.args.runners.now in
     let start_left = left_at log c.start_runner.new.runners in
     let ran_left = left_at log' c.run_runners.new.runners in
-    let left = ways_same g π c.args.period.now.place (cost_at rows) (first_at rows) old_left start_left
+    let left = ways_same g π c.args.period.now.index (cost_at rows) (first_at rows) old_left start_left
     (kept_left _ _ c.start_runner.ensures.kept log) c.requires.now.backtracks in
-    let started = noted_start g π c.args.period.now.place (live_at c.args.runners.now)
+    let started = noted_start g π c.args.period.now.index (live_at c.args.runners.now)
     (live_at c.start_runner.new.runners)
     old_left start_left c.start_runner.ensures.others (kept_left _ _ c.start_runner.ensures.kept log)
     c.requires.now.noted in
-    let noted = noted_all g π c.args.period.now.place (live_at c.start_runner.new.runners)
+    let noted = noted_all g π c.args.period.now.index (live_at c.start_runner.new.runners)
     (live_at c.run_runners.new.runners) start_left ran_left (λ f r on. (now.right f r on).1.frontier) run.goes run.off
     run.left run.noted started in
-    let backtracks = ways_more g π c.args.period.now.place (suc (suc c.args.period.now.place)) (cost_at rows)
+    let backtracks = ways_more g π c.args.period.now.index (suc (suc c.args.period.now.index)) (cost_at rows)
     (cost_at rows')
     (first_at rows)
     (first_at rows') _ start_left ran_left (live_at c.start_runner.new.runners) limits now started run.row run.ends
@@ -227,26 +227,26 @@ returns-clause-now c =
           rows' _ (live_at c.run_runners.new.runners) now c.requires.limits.0 c.requires.limits.1
           c.dispatches_go_on.ensures c.dispatches_are_runs.ensures (live_at c.prune_runners.new.runners) pruned run.row
           run.others run.within;
-      noted = noted_fewer g π (suc c.args.period.now.place) (live_at c.run_runners.new.runners)
+      noted = noted_fewer g π (suc c.args.period.now.index) (live_at c.run_runners.new.runners)
           (live_at c.prune_runners.new.runners) ran_left (left_at log' c.prune_runners.new.runners) fewer
           (kept_left _ _ kept log')
           noted;
-      backtracks = ways_same g π (suc c.args.period.now.place) (cost_at rows') (first_at rows') ran_left
+      backtracks = ways_same g π (suc c.args.period.now.index) (cost_at rows') (first_at rows') ran_left
           (left_at log' c.prune_runners.new.runners) (kept_left _ _ kept log') backtracks;
       traces = kept_trails _ _ kept log' run.traces;
-      entries = entries_more (length log) c.args.period.now.place (length log') c.requires.now.entries run.entries;
-      roomy = kept_roomy _ _ kept (periods_in c.args.period.now.question.now) (suc c.args.period.now.place)
+      entries = entries_more (length log) c.args.period.now.index (length log') c.requires.now.entries run.entries;
+      roomy = kept_roomy _ _ kept (periods_in c.args.period.now.question.now) (suc c.args.period.now.index)
           (charge_of c.args.period.now.question.now) (λ f. inl (fewer f)) run.roomy;
-      roster_is = c.keep.ensures.roster (suc (suc c.args.period.now.place))
+      roster_is = c.keep.ensures.roster (suc (suc c.args.period.now.index))
           (still_listed (live_at c.start_runner.new.runners) (live_at c.prune_runners.new.runners)
-          (suc (suc c.args.period.now.place))
-          (suc (suc c.args.period.now.place)) c.start_runner.new.roster (omega arith)
+          (suc (suc c.args.period.now.index))
+          (suc (suc c.args.period.now.index)) c.start_runner.new.roster (omega arith)
           (λ f off. fewer_off _ _ fewer f (run.off f off)) c.start_runner.ensures.roster);
     }
 
 pub returns-clause-same : goal.returns-clause-same
 returns-clause-same c =
-    let kept = kept_then _ _ _ c.drop_beyond.ensures.kept c.prune_runners.ensures.kept in
+    let kept = kept_then _ _ _ c.drop_runners_beyond.ensures.kept c.prune_runners.ensures.kept in
     record {
       rows_length = c.run_runners.ensures.run.rows_length;
       count_same = kept.count_same ∙ c.run_runners.ensures.run.count_same ∙ c.start_runner.ensures.kept.count_same;
@@ -259,13 +259,13 @@ returns-clause-same c =
 
 -- ---- places and lengths
 
-pub drop_beyond-requires-clause-end : goal.drop_beyond-requires-clause-end
-drop_beyond-requires-clause-end c =
+pub drop_runners_beyond-requires-clause-end : goal.drop_runners_beyond-requires-clause-end
+drop_runners_beyond-requires-clause-end c =
     let same = c.run_runners.ensures.run.count_same ∙ c.start_runner.ensures.kept.count_same in
     omega arith
 
 pub prune_runners-requires-clause-end : goal.prune_runners-requires-clause-end
 prune_runners-requires-clause-end c =
-    let same = c.drop_beyond.ensures.kept.count_same ∙ c.run_runners.ensures.run.count_same ∙
+    let same = c.drop_runners_beyond.ensures.kept.count_same ∙ c.run_runners.ensures.run.count_same ∙
     c.start_runner.ensures.kept.count_same in
     omega arith

@@ -8,19 +8,19 @@ loop-back-preserved c =
     let roster = c.args.roster.now in
     let first = c.get-first.result.now in
     record {
-      fewer = fewer_then _ _ _ c.loop-back.invariant.fewer c.prune_one-late.ensures.fewer;
-      kept = kept_then _ _ _ c.loop-back.invariant.kept c.prune_one-late.ensures.kept;
+      fewer = fewer_then _ _ _ c.loop-back.invariant.fewer c.prune_runner-late.ensures.fewer;
+      kept = kept_then _ _ _ c.loop-back.invariant.kept c.prune_runner-late.ensures.kept;
       late = if_some_more (λ l. (first ≤ l) × (l ≤ c.args.period) ×
-          ((r : Going) × (live_at c.prune_one-late.new.runners l ≡ Some r)))
+          ((r : Going) × (live_at c.prune_runner-late.new.runners l ≡ Some r)))
           (λ l. ((j h : ℕ) → j + (c.loop-back.back + 1) < roster.count → slice_get roster.firsts.items j ≡ Some h →
-          h < l) × (l ≤ c.args.period) × ((r : Going) × (live_at c.prune_one-late.new.runners l ≡ Some r)))
+          h < l) × (l ≤ c.args.period) × ((r : Going) × (live_at c.prune_runner-late.new.runners l ≡ Some r)))
           (λ l h. (
             (λ j f before is. (let earlier = list.rising j (roster.count - c.loop-back.back - 1) f
                 first (omega arith) (omega arith) is c.get-first.ensures.item in omega arith)),
             h.1,
             h.2,
-          )) c.prune_one-late.result c.prune_one-late.ensures.late;
-      stands = λ π limits ends n now. c.prune_one-late.ensures.stands π limits ends n
+          )) c.prune_runner-late.result c.prune_runner-late.ensures.late;
+      stands = λ π limits ends n now. c.prune_runner-late.ensures.stands π limits ends n
           (c.loop-back.invariant.stands π limits ends n now);
     }
 
@@ -32,14 +32,14 @@ loop-back-init c = record {
   stands = λ π limits ends n now. now;
 }
 
-pub prune_one-late-requires-clause-early : goal.prune_one-late-requires-clause-early
-prune_one-late-requires-clause-early c =
+pub prune_runner-late-requires-clause-early : goal.prune_runner-late-requires-clause-early
+prune_runner-late-requires-clause-early c =
     let below = c.requires.roster.below (c.args.roster.now.count - c.loop-back.back - 1) c.get-first.result.now
     (omega arith) c.get-first.ensures.item in
     omega arith
 
-pub prune_one-late-requires-clause-late : goal.prune_one-late-requires-clause-late
-prune_one-late-requires-clause-late c =
+pub prune_runner-late-requires-clause-late : goal.prune_runner-late-requires-clause-late
+prune_runner-late-requires-clause-late c =
     let roster = c.args.roster.now in
     let first = c.get-first.result.now in
     if_some_more (λ l. ((j h : ℕ) → j + c.loop-back.back < roster.count → slice_get roster.firsts.items j ≡ Some h →
@@ -48,5 +48,5 @@ prune_one-late-requires-clause-late c =
     (λ l h. (h.0 (roster.count - c.loop-back.back - 1) first (omega arith) c.get-first.ensures.item, h.1, h.2))
     c.loop-back.late c.loop-back.invariant.late
 
-pub prune_one-late-requires-clause-small : goal.prune_one-late-requires-clause-small
-prune_one-late-requires-clause-small c = fewer_small _ _ c.loop-back.invariant.fewer c.requires.small
+pub prune_runner-late-requires-clause-small : goal.prune_runner-late-requires-clause-small
+prune_runner-late-requires-clause-small c = fewer_small _ _ c.loop-back.invariant.fewer c.requires.small

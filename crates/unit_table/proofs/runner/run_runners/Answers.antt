@@ -8,18 +8,18 @@ loop-index-init c =
     record {
       run = none_run a c.args.table.now.items c.args.runners.now c.args.log.now
           c.args.roster.now
-          (suc (suc c.args.period.now.place))
+          (suc (suc c.args.period.now.index))
           (run_begins a c.args.table.now.items c.args.runners.now c.args.log.now
           c.requires.within c.requires.none c.requires.log.traces);
       space = refl;
     }
 
-pub run_at-requires-clause-ready : goal.run_at-requires-clause-ready
-run_at-requires-clause-ready c = λ r is.
+pub run_runner_at-requires-clause-ready : goal.run_runner_at-requires-clause-ready
+run_runner_at-requires-clause-ready c = λ r is.
     let first = c.get-first.result.now in
     let run = run_before (asked c.args.period.now)
     c.args.table.now.items c.args.runners.now c.args.log.now c.requires.room c.args.roster.now
-    (suc (suc c.args.period.now.place))
+    (suc (suc c.args.period.now.index))
     c.requires.roster
     c.loop-index.index c.loop-index.table.items c.loop-index.runners c.loop-index.log c.loop-index.invariant.run
     c.loop-index-test.true
@@ -30,17 +30,17 @@ run_at-requires-clause-ready c = λ r is.
     record {
       order = omega arith;
       frontier = runner.1.frontier;
-      may = may_next (unit_of c.args.period.now.question.now) first c.args.period.now.place c.requires.open
+      may = may_next (unit_of c.args.period.now.question.now) first c.args.period.now.index c.requires.open
           runner.1.may;
       within = runner.1.within;
     }
 
-pub run_at-requires-clause-room : goal.run_at-requires-clause-room
-run_at-requires-clause-room c = λ r is.
+pub run_runner_at-requires-clause-room : goal.run_runner_at-requires-clause-room
+run_runner_at-requires-clause-room c = λ r is.
     let first = c.get-first.result.now in
     let run = run_before (asked c.args.period.now)
     c.args.table.now.items c.args.runners.now c.args.log.now c.requires.room c.args.roster.now
-    (suc (suc c.args.period.now.place))
+    (suc (suc c.args.period.now.index))
     c.requires.roster
     c.loop-index.index c.loop-index.table.items c.loop-index.runners c.loop-index.log c.loop-index.invariant.run
     c.loop-index-test.true
@@ -48,12 +48,12 @@ run_at-requires-clause-room c = λ r is.
     c.get-first.ensures.item in
     c.requires.room first r (sym (run.rest first (omega arith)) ∙ is)
 
-pub run_at-requires-clause-alike : goal.run_at-requires-clause-alike
-run_at-requires-clause-alike c = λ r is.
+pub run_runner_at-requires-clause-alike : goal.run_runner_at-requires-clause-alike
+run_runner_at-requires-clause-alike c = λ r is.
     let first = c.get-first.result.now in
     let run = run_before (asked c.args.period.now)
     c.args.table.now.items c.args.runners.now c.args.log.now c.requires.room c.args.roster.now
-    (suc (suc c.args.period.now.place))
+    (suc (suc c.args.period.now.index))
     c.requires.roster
     c.loop-index.index c.loop-index.table.items c.loop-index.runners c.loop-index.log c.loop-index.invariant.run
     c.loop-index-test.true
@@ -61,12 +61,12 @@ run_at-requires-clause-alike c = λ r is.
     c.get-first.ensures.item in
     c.loop-index.invariant.space ∙ c.requires.have first r (sym (run.rest first (omega arith)) ∙ is)
 
-pub run_at-requires-clause-log : goal.run_at-requires-clause-log
-run_at-requires-clause-log c =
+pub run_runner_at-requires-clause-log : goal.run_runner_at-requires-clause-log
+run_runner_at-requires-clause-log c =
     let first = c.get-first.result.now in
     let run = run_before (asked c.args.period.now)
     c.args.table.now.items c.args.runners.now c.args.log.now c.requires.room c.args.roster.now
-    (suc (suc c.args.period.now.place))
+    (suc (suc c.args.period.now.index))
     c.requires.roster
     c.loop-index.index c.loop-index.table.items c.loop-index.runners c.loop-index.log c.loop-index.invariant.run
     c.loop-index-test.true
@@ -83,13 +83,13 @@ pub loop-index-preserved : goal.loop-index-preserved
 loop-index-preserved c = record {
   run = one_run (asked c.args.period.now)
       c.args.table.now.items c.args.runners.now c.args.log.now c.requires.room c.args.roster.now
-      (suc (suc c.args.period.now.place))
+      (suc (suc c.args.period.now.index))
       c.requires.roster
       c.loop-index.index c.loop-index.table.items c.loop-index.runners c.loop-index.log c.loop-index.invariant.run
       c.loop-index-test.true
       c.get-first.result.now c.get-first.ensures.item
-      c.run_at.new.table.items c.run_at.new.runners c.run_at.new.log c.run_at.ensures.run;
-  space = c.run_at.ensures.spare ∙ c.loop-index.invariant.space;
+      c.run_runner_at.new.table.items c.run_runner_at.new.runners c.run_runner_at.new.log c.run_runner_at.ensures.run;
+  space = c.run_runner_at.ensures.spare ∙ c.loop-index.invariant.space;
 }
 
 pub returns-clause-run : goal.returns-clause-run
@@ -101,13 +101,13 @@ returns-clause-run c =
     run_over a rows runners log c.loop-index.table.items c.loop-index.runners
     c.loop-index.log
     (run_whole a rows runners log c.requires.room c.args.roster.now
-    (suc (suc c.args.period.now.place)) c.requires.roster
+    (suc (suc c.args.period.now.index)) c.requires.roster
     c.loop-index.index c.loop-index.table.items c.loop-index.runners c.loop-index.log c.loop-index.invariant.run
     c.loop-index-test.false)
     (λ f r is. (c.requires.now.1.right f r is).0) c.requires.room
 
-pub run_at-requires-clause-runners : goal.run_at-requires-clause-runners
-run_at-requires-clause-runners c =
+pub run_runner_at-requires-clause-runners : goal.run_runner_at-requires-clause-runners
+run_runner_at-requires-clause-runners c =
     let below = c.requires.roster.below c.loop-index.index c.get-first.result.now (omega arith)
     c.get-first.ensures.item in
     omega arith

@@ -4,7 +4,7 @@ use Rattle.unit_table.proofs.runner.run_runners.Given as goal
 
 abbrev pub invariant-loop-index : goal.invariant-loop-index
 invariant-loop-index l = record {
-  run : IsListRun (asked l.period) l.fn.table.items l.fn.runners l.fn.log l.roster (suc (suc l.period.place))
+  run : IsListRun (asked l.period) l.fn.table.items l.fn.runners l.fn.log l.roster (suc (suc l.period.index))
       l.index l.table.items l.runners l.log;
   space : space_of l.spare ≡ space_of l.fn.spare;
 }

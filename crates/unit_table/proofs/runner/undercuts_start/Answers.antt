@@ -5,8 +5,8 @@ use Rattle.unit_table.proofs.Common.{to_z-of_z, value_of, IsUnder, IsWithinTimes
 use Rattle.unit_table.proofs.Lemmas.{under_of}
 use Rattle.unit_table.proofs.runner.undercuts_start.Goals as goal
 
-pub sum_of-requires-clause-b : goal.sum_of-requires-clause-b
-sum_of-requires-clause-b c =
+pub sum_of_costs-requires-clause-b : goal.sum_of_costs-requires-clause-b
+sum_of_costs-requires-clause-b c =
     let fits : FitsSigned w64 c.in-Some.value = search rules in
     let r : IsWithinTimes 400 c.in-Some.value = c.requires.values (to_z w64 (of_z w64 c.args.power)) c.in-Some.value
     c.in-Some.ensures in
@@ -18,14 +18,15 @@ returns-in-Some c =
     let fits_entry : FitsSigned w64 c.args.runner.now.cost = search rules in
     let fits_power : FitsSigned w64 c.args.power = search rules in
     let fits_cost : FitsSigned w64 c.args.cost = search rules in
-    let fits_sum : FitsSigned w64 c.sum_of.result = search rules in
-    let sum : c.sum_of.result ≡ c.args.runner.now.cost +ℤ c.in-Some.value = simp to_z-of_z at c.sum_of.ensures in
+    let fits_sum : FitsSigned w64 c.sum_of_costs.result = search rules in
+    let sum : c.sum_of_costs.result ≡ c.args.runner.now.cost +ℤ c.in-Some.value = simp to_z-of_z at
+    c.sum_of_costs.ensures in
     let there : value_of (shown c.args.runner.now.running) c.args.power ≡ Some c.in-Some.value = simp to_z-of_z at
     c.in-Some.ensures in
-    OnTrue_from c.is_less.result
+    OnTrue_from c.is_lesser_cost.result
     (IsUnder c.args.power c.args.cost
     (state_of c.args.runner.now))
     (λ t.
-    let less : (c.sum_of.result +ℤ pos 1) ≤ℤ c.args.cost = simp to_z-of_z at (c.is_less.ensures t) in
+    let less : (c.sum_of_costs.result +ℤ pos 1) ≤ℤ c.args.cost = simp to_z-of_z at (c.is_lesser_cost.ensures t) in
     under_of (shown c.args.runner.now.running) c.args.runner.now.cost c.args.power c.args.cost c.in-Some.value
-    c.sum_of.result c.args.runner.now.before there sum less)
+    c.sum_of_costs.result c.args.runner.now.before there sum less)

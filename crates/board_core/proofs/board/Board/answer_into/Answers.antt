@@ -3,8 +3,8 @@ use Rattle.board_core.proofs.Common.{own_rows, kept_answer, task_number, events_
 use Rattle.board_core.proofs.Lemmas.{kept_inside, kept_is}
 use Rattle.board_core.proofs.board.Board.answer_into.Goals as goal
 
-pub take-requires-clause-place : goal.take-requires-clause-place
-take-requires-clause-place c =
+pub take-requires-clause-index : goal.take-requires-clause-index
+take-requires-clause-index c =
     let s = c.self.inside in
     let b = setup_of s.terms in
     let h = events_of (unit_count b.market) s.store.answers s.lists.history.items in

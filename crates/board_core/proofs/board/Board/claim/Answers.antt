@@ -162,9 +162,9 @@ returns-then-open-before-clause-task c =
     left c.self.view_is (not_yet (goal.at.returns-then-open-before-clause-task c).After-unit_count-units
     c.if-open-before.true) c.args.into.now c.args.into.now refl
 
-pub copy_task-requires-clause-horizon : goal.copy_task-requires-clause-horizon
-copy_task-requires-clause-horizon c =
-    let ledger = (I (goal.at.copy_task-requires-clause-horizon c).After-unit_count-units).ledger in
+pub fill_task-requires-clause-horizon : goal.fill_task-requires-clause-horizon
+fill_task-requires-clause-horizon c =
+    let ledger = (I (goal.at.fill_task-requires-clause-horizon c).After-unit_count-units).ledger in
     let o = c.opened-open.ensures in
     let early = c.if-open-before.false in
     let count = ledger.count in
@@ -248,16 +248,16 @@ returns-clause-task c =
     let d = (goal.at.returns-clause-task c).After-unit_count-units in
     let b = setup_in c.self.inside in
     let early = c.if-open-before.false in
-    let task = c.copy_task.new.into in
-    let is = ap (λ (i : ℕ). slice_get (units_of b.market) i) (sym (unit_is d)) ∙ c.copy_task.ensures.unit in
+    let task = c.fill_task.new.into in
+    let is = ap (λ (i : ℕ). slice_get (units_of b.market) i) (sym (unit_is d)) ∙ c.fill_task.ensures.unit in
     let some = partner (λ (a : AnyUnit) (t : Schedule). IsFeasible a b.market.periods t) (units_of b.market) b.plan
     (unit d) (task_unit task) (I d).setup.feasible.feasible is in
-    let prices = c.copy_task.ensures.prices ∙ c.prices-prices.ensures (blank 0) ∙
+    let prices = c.fill_task.ensures.prices ∙ c.prices-prices.ensures (blank 0) ∙
     ap (λ (i : ℕ). (get_or (l d).proposals i (blank 0)).prices) (before_is d) ∙
     price_is b (h d) (x d) (l d) (I d) (before d) (blank 0) (more d early) in
     let own : IsOwnTask (content b (h d)) (before d + 1) (unit d) task = record {
-      proposal = c.copy_task.ensures.proposal ∙ ap (λ (i : ℕ). i + 1) (before_is d);
-      number = c.copy_task.ensures.number ∙ unit_is d;
+      proposal = c.fill_task.ensures.proposal ∙ ap (λ (i : ℕ). i + 1) (before_is d);
+      number = c.fill_task.ensures.number ∙ unit_is d;
       prices = prices;
       unit = is;
       some_schedule = some.0;
@@ -272,8 +272,8 @@ prices-prices-requires c =
     c.self.inside.terms.budget (length c.self.inside.ledger.proposals) c.if-open-before.false c.opened-open.ensures
     B.ledger.opened B.ledger.count
 
-pub copy_task-requires-clause-room : goal.copy_task-requires-clause-room
-copy_task-requires-clause-room c =
+pub fill_task-requires-clause-room : goal.fill_task-requires-clause-room
+fill_task-requires-clause-room c =
     subst (λ (v : Content). IsTaskFor v.setup.market.periods c.args.into.now) (sym c.self.view_is) c.requires.room
 
 pub entry_of-entry-requires-clause-caller : goal.entry_of-entry-requires-clause-caller
@@ -291,8 +291,8 @@ entry_of-entry-requires-clause-proposal c =
 
 pub returns-clause-room : goal.returns-clause-room
 returns-clause-room c =
-    subst (λ (v : Content). IsTaskFor v.setup.market.periods c.copy_task.new.into) c.self.view_is
-    c.copy_task.ensures.room
+    subst (λ (v : Content). IsTaskFor v.setup.market.periods c.fill_task.new.into) c.self.view_is
+    c.fill_task.ensures.room
 
 pub returns-then-open-closed-clause-room : goal.returns-then-open-closed-clause-room
 returns-then-open-closed-clause-room c = c.requires.room

@@ -45,7 +45,7 @@ counted c = record {
 
 counts_are : (c : After-deref-3) → c.deref-3.result.now ≡ set c.self.inside.lists.counts.items
     (c.args.task.now.proposal - 1) (get_or c.self.inside.lists.counts.items (c.args.task.now.proposal - 1) 0 + 1)
-counts_are c = c.deref-3.ensures.value ∙ c.count_up.ensures.counts
+counts_are c = c.deref-3.ensures.value ∙ c.count_answer.ensures.counts
 
 -- a post that is refused
 module _ (c : In-Some) where
@@ -275,10 +275,10 @@ index_mut-requires c =
     let at_ = number_is (goal.at.index_mut-requires c).After-task_number-at in
     omega (arith, e, at_)
 
-pub put-requires-clause-place : goal.put-requires-clause-place
-put-requires-clause-place c =
-    let e = kept_in (goal.at.put-requires-clause-place c).In_default in
-    let at_ = number_is (goal.at.put-requires-clause-place c).After-task_number-at in
+pub put-requires-clause-index : goal.put-requires-clause-index
+put-requires-clause-index c =
+    let e = kept_in (goal.at.put-requires-clause-index c).In_default in
+    let at_ = number_is (goal.at.put-requires-clause-index c).After-task_number-at in
     omega (arith, e, at_)
 
 pub put-requires-clause-horizon : goal.put-requires-clause-horizon
@@ -327,15 +327,15 @@ add-requires-clause-reserve c = reserve (goal.at.add-requires-clause-reserve c).
 pub add-requires-clause-earned : goal.add-requires-clause-earned
 add-requires-clause-earned c = earned (goal.at.add-requires-clause-earned c).In_default
 
-pub count_up-requires-clause-place : goal.count_up-requires-clause-place
-count_up-requires-clause-place c =
-    let d = (goal.at.count_up-requires-clause-place c).In_default in
+pub count_answer-requires-clause-place : goal.count_answer-requires-clause-place
+count_answer-requires-clause-place c =
+    let d = (goal.at.count_answer-requires-clause-place c).In_default in
     subst (λ (m : ℕ). n d - 1 < m) (sym (I d).tallies.counts_count)
     (k_inside (b d) (h d) (x d) (l d) (I d) (k d) (n d) (u d) (a d) (ok d).held)
 
-pub count_up-requires-clause-count : goal.count_up-requires-clause-count
-count_up-requires-clause-count c =
-    let d = (goal.at.count_up-requires-clause-count c).In_default in
+pub count_answer-requires-clause-count : goal.count_answer-requires-clause-count
+count_answer-requires-clause-count c =
+    let d = (goal.at.count_answer-requires-clause-count c).In_default in
     let e = few d in
     omega (arith, e, units_few (b d) (I d).setup)
 
@@ -414,7 +414,7 @@ invariant_of-self-2 c =
     kept_is (goal.at.invariant_of-self-2 c).After-put (i d) at_ in
     let marks_is : set s.lists.marks.items c.task_number-at.result true ≡ set s.lists.marks.items (i d) true =
     ap (λ (j : ℕ). set s.lists.marks.items j true) at_ in
-    let events = events_so d c.count_up.result c.unit_count-units.result c.count_up.ensures.count
+    let events = events_so d c.count_answer.result c.unit_count-units.result c.count_answer.ensures.count
     c.unit_count-units.ensures.value c.post_entry.result c.push_reserved.new.self.items
     c.put.new.self.answers c.post_entry.ensures c.push_reserved.ensures.items kept in
     let T3 = subst (λ (z : Sums). AreTallies (b d) (counts2 d) z (q d)) (sym c.advance_proposals.ensures.sums) T in
@@ -429,14 +429,14 @@ invariant_of-self-2 c =
     λ marks kept counts. record x { marks = marks; kept = kept; counts = counts } in
     let n1 = subst (λ (xs : List ℕ). IsBoard (b d) (h2 d)
     (lists (set s.lists.marks.items (i d) true) (set s.store.answers (i d) (a d)) xs) l3)
-    (sym c.count_up.ensures.counts) new in
+    (sym c.count_answer.ensures.counts) new in
     let n2 = subst (λ (xs : List Answer). IsBoard (b d) (h2 d)
-    (lists (set s.lists.marks.items (i d) true) xs c.count_up.new.counts.items) l3) (sym kept) n1 in
+    (lists (set s.lists.marks.items (i d) true) xs c.count_answer.new.counts.items) l3) (sym kept) n1 in
     let n3 = subst (λ (xs : List Bool). IsBoard (b d) (h2 d)
-    (lists xs c.put.new.self.answers c.count_up.new.counts.items) l3) (sym marks_is) n2 in
+    (lists xs c.put.new.self.answers c.count_answer.new.counts.items) l3) (sym marks_is) n2 in
     let n4 = subst (λ (z : List (Event Answer)). IsBoard (b d) z
     (lists (set s.lists.marks.items c.task_number-at.result true) c.put.new.self.answers
-    c.count_up.new.counts.items) l3) (sym events) n3 in
+    c.count_answer.new.counts.items) l3) (sym events) n3 in
     let fewer = less d in
     let unset_at = ap unset marks_is in
     let room = K.room in
@@ -444,7 +444,7 @@ invariant_of-self-2 c =
     let entry_same : c.post_entry.result ≡ entry_of (event d) =
     c.post_entry.ensures ∙
     ap (λ (y : Bool). record { caller = k d; call = calls.Post; proposal = n d; unit = u d; reply = reply_of y })
-    (closes_so d c.count_up.result c.unit_count-units.result c.count_up.ensures.count
+    (closes_so d c.count_answer.result c.unit_count-units.result c.count_answer.ensures.count
     c.unit_count-units.ensures.value) ∙
     sym (entry_is (is_closed (rules_of (b d)) (q d) (n d)) (k d) (n d) (u d) (a d)) in (
       n4,
@@ -475,8 +475,8 @@ pub returns-clause-answer : goal.returns-clause-answer
 returns-clause-answer c =
     let d = (goal.at.returns-clause-answer c).In_default in
     ap (λ (y : Option ℕ). replies_of.Taken y)
-    (c.closed_of.ensures ∙ ap (λ (y : Bool). closed_if y (n d))
-    (closes_so d c.count_up.result c.unit_count-units.result c.count_up.ensures.count
+    (c.closed_proposal.ensures ∙ ap (λ (y : Bool). closed_if y (n d))
+    (closes_so d c.count_answer.result c.unit_count-units.result c.count_answer.ensures.count
     c.unit_count-units.ensures.value))
     ∙ sym (ap posted_of (ok d).reply) ∙
     ap (λ (z : Content). posted_of (post_answer z (k d) (n d) (u d) (ρ d) (v d) (a d))) c.self.view_is
@@ -486,7 +486,7 @@ returns-clause-after c =
     let d = (goal.at.returns-clause-after c).In_default in
     let kept = kept_is (goal.at.returns-clause-after c).After-put (i d)
     (number_is (goal.at.returns-clause-after c).After-task_number-at) in
-    let events = events_so d c.count_up.result c.unit_count-units.result c.count_up.ensures.count
+    let events = events_so d c.count_answer.result c.unit_count-units.result c.count_answer.ensures.count
     c.unit_count-units.ensures.value c.post_entry.result c.push_reserved.new.self.items
     c.put.new.self.answers c.post_entry.ensures c.push_reserved.ensures.items kept in
     ap (content (b d)) events ∙ sym (ap (λ r. content (b d) (with_answer (h d) (event d) r)) (ok d).reply) ∙

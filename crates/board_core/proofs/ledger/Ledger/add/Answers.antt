@@ -98,8 +98,8 @@ read_is : (items : List ℤ) (place : ℕ) (read : ℤ) (v : LedgerValue) → it
 read_is items place read v is lt e =
     get_or_read items place read (subst (λ (xs : List ℤ). place < length xs) (sym is) lt) e (pos 0)
 
-pub earned_with-requires : goal.earned_with-requires
-earned_with-requires c =
+pub earned_with_answer-requires : goal.earned_with_answer-requires
+earned_with_answer-requires c =
     let s = c.self.inside in
     let x = c.index.result.now in
     let f : FitsSigned w128 x = search rules in
@@ -112,13 +112,13 @@ pub returns-clause-earned : goal.returns-clause-earned
 returns-clause-earned c =
     let s = c.self.inside in
     let x = c.index.result.now in
-    let r = c.earned_with.result in
+    let r = c.earned_with_answer.result in
     let f : FitsSigned w128 x = search rules in
     let h : FitsSigned w128 r = search rules in
     let a : FitsSigned w64 c.args.answer.now.earned = search rules in
     let read = read_is s.earned.items c.args.place x c.args.self.now (ap (λ (v : LedgerValue). v.earned) c.self.view_is)
     c.requires.earned_place c.index.ensures in
-    let made = simp to_z-of_z at c.earned_with.ensures in
+    let made = simp to_z-of_z at c.earned_with_answer.ensures in
     ap (λ (z : ℤ). slice_set s.earned.items c.args.place z)
     (to_z-of_z w128 r h ∙ made ∙ ap (λ (z : ℤ). z +ℤ c.args.answer.now.earned) read)
     ∙ ap (λ (v : LedgerValue). slice_set v.earned c.args.place

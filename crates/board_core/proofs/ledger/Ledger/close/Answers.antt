@@ -32,8 +32,8 @@ returns-clause-proposals c =
     (λ d. set_mapped (λ (p : Proposal). with_value p c.args.value) s.proposals.items s.closed r c.set_value.new.row d
     place c.index_mut.ensures.value made)
 
-pub greatest_with-best-requires-clause-best : goal.greatest_with-best-requires-clause-best
-greatest_with-best-requires-clause-best c = λ some.
+pub greatest_row_with-best-requires-clause-best : goal.greatest_row_with-best-requires-clause-best
+greatest_row_with-best-requires-clause-best c = λ some.
     let s = c.self.inside in
     let r = c.index_mut.result.now in
     let place = subst (λ (v : LedgerValue). v.closed < length v.proposals) (sym c.self.view_is) c.requires in
@@ -51,4 +51,4 @@ greatest_with-best-requires-clause-best c = λ some.
 pub invariant_of-self : goal.invariant_of-self
 invariant_of-self c =
     λ _. subst (λ (xs : List Row). IsFirstUpTo (values_of (map proposal_of xs)) (c.self.inside.closed + 1)
-    c.greatest_with-best.result) c.deref.ensures.value c.greatest_with-best.ensures
+    c.greatest_row_with-best.result) c.deref.ensures.value c.greatest_row_with-best.ensures

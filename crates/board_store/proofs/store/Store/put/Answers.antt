@@ -6,11 +6,11 @@ use Rattle.board_store.proofs.store.Store.put.Goals.{After-self}
 
 -- both places are those of answers
 module _ (c : After-self) where
-  place_inside : c.args.place < length c.self.inside.earned.items
+  place_inside : c.args.index < length c.self.inside.earned.items
   place_inside =
       let s = c.self.inside in
       place_of s.on.rows s.power.rows s.reserve.rows s.earned.items c.args.self.now s.on.long
-      (least_left s.on.left s.power.left s.reserve.left) c.args.place c.self.view_is c.requires.place
+      (least_left s.on.left s.power.left s.reserve.left) c.args.index c.self.view_is c.requires.index
 
   like_inside : c.args.like < length c.self.inside.earned.items
   like_inside =
@@ -18,24 +18,24 @@ module _ (c : After-self) where
       place_of s.on.rows s.power.rows s.reserve.rows s.earned.items c.args.self.now s.on.long
       (least_left s.on.left s.power.left s.reserve.left) c.args.like c.self.view_is c.requires.like
 
-pub put-requires-clause-place : goal.put-requires-clause-place
-put-requires-clause-place c = let lt = place_inside (goal.at.put-requires-clause-place c).After-self in
+pub put-requires-clause-index : goal.put-requires-clause-index
+put-requires-clause-index c = let lt = place_inside (goal.at.put-requires-clause-index c).After-self in
     omega (arith, lt, c.self.invariant.on_count)
 
 pub put-requires-clause-like : goal.put-requires-clause-like
 put-requires-clause-like c = let lt = like_inside (goal.at.put-requires-clause-like c).After-self in
     omega (arith, lt, c.self.invariant.on_count)
 
-pub put-requires-2-clause-place : goal.put-requires-2-clause-place
-put-requires-2-clause-place c = let lt = place_inside (goal.at.put-requires-2-clause-place c).After-self in
+pub put-requires-2-clause-index : goal.put-requires-2-clause-index
+put-requires-2-clause-index c = let lt = place_inside (goal.at.put-requires-2-clause-index c).After-self in
     omega (arith, lt, c.self.invariant.power_count)
 
 pub put-requires-2-clause-like : goal.put-requires-2-clause-like
 put-requires-2-clause-like c = let lt = like_inside (goal.at.put-requires-2-clause-like c).After-self in
     omega (arith, lt, c.self.invariant.power_count)
 
-pub put-requires-3-clause-place : goal.put-requires-3-clause-place
-put-requires-3-clause-place c = let lt = place_inside (goal.at.put-requires-3-clause-place c).After-self in
+pub put-requires-3-clause-index : goal.put-requires-3-clause-index
+put-requires-3-clause-index c = let lt = place_inside (goal.at.put-requires-3-clause-index c).After-self in
     omega (arith, lt, c.self.invariant.reserve_count)
 
 pub put-requires-3-clause-like : goal.put-requires-3-clause-like
@@ -49,7 +49,7 @@ pub returns-clause-answers : goal.returns-clause-answers
 returns-clause-answers c =
     let s = c.self.inside in
     let a = answer_of c.args.answer.now in
-    let i = c.args.place in
+    let i = c.args.index in
     let I = c.self.invariant in
     let lt = place_inside (goal.at.returns-clause-answers c).After-self in
     let f : FitsSigned w64 c.args.answer.now.earned = search rules in

@@ -5,22 +5,22 @@ use Rattle.board_store.proofs.Answers.{place_of, answer_at_place, same_answer}
 use Rattle.board_store.proofs.store.Store.take.Goals as goal
 use Rattle.board_store.proofs.store.Store.take.Goals.{After-self}
 
-place_inside : (c : After-self) → c.args.place < length c.self.inside.earned.items
+place_inside : (c : After-self) → c.args.index < length c.self.inside.earned.items
 place_inside c =
     let s = c.self.inside in
     place_of s.on.rows s.power.rows s.reserve.rows s.earned.items c.args.self.now s.on.long
-    (least_left s.on.left s.power.left s.reserve.left) c.args.place c.self.view_is c.requires.place
+    (least_left s.on.left s.power.left s.reserve.left) c.args.index c.self.view_is c.requires.index
 
-pub take-requires-clause-place : goal.take-requires-clause-place
-take-requires-clause-place c = let lt = place_inside (goal.at.take-requires-clause-place c).After-self in
+pub take-requires-clause-index : goal.take-requires-clause-index
+take-requires-clause-index c = let lt = place_inside (goal.at.take-requires-clause-index c).After-self in
     omega (arith, lt, c.self.invariant.on_count)
 
-pub take-requires-2-clause-place : goal.take-requires-2-clause-place
-take-requires-2-clause-place c = let lt = place_inside (goal.at.take-requires-2-clause-place c).After-self in
+pub take-requires-2-clause-index : goal.take-requires-2-clause-index
+take-requires-2-clause-index c = let lt = place_inside (goal.at.take-requires-2-clause-index c).After-self in
     omega (arith, lt, c.self.invariant.power_count)
 
-pub take-requires-3-clause-place : goal.take-requires-3-clause-place
-take-requires-3-clause-place c = let lt = place_inside (goal.at.take-requires-3-clause-place c).After-self in
+pub take-requires-3-clause-index : goal.take-requires-3-clause-index
+take-requires-3-clause-index c = let lt = place_inside (goal.at.take-requires-3-clause-index c).After-self in
     omega (arith, lt, c.self.invariant.reserve_count)
 
 pub index-requires : goal.index-requires
@@ -29,7 +29,7 @@ index-requires c = let lt = place_inside (goal.at.index-requires c).After-self i
 pub returns-clause-answer : goal.returns-clause-answer
 returns-clause-answer c =
     let s = c.self.inside in
-    let i = c.args.place in
+    let i = c.args.index in
     let lt = place_inside (goal.at.returns-clause-answer c).After-self in
     let f : FitsSigned w64 c.index.result.now = search rules in
     let e = to_z-of_z w64 c.index.result.now f

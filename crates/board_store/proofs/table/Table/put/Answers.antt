@@ -10,8 +10,8 @@ index-like-requires g c =
     c.requires.like in
     omega (arith, lt)
 
-pub start_of-start-requires-clause-like : goal.start_of-start-requires-clause-like
-start_of-start-requires-clause-like g c =
+pub start_of_runs-start-requires-clause-like : goal.start_of_runs-start-requires-clause-like
+start_of_runs-start-requires-clause-like g c =
     let s = c.self.inside in
     row_whole s.long s.starts.items s.used s.lengths.items s.values.items (vec_capacity s.lengths)
     (vec_capacity s.values) c.self.invariant c.args.like c.index-like.result.now
@@ -19,22 +19,22 @@ start_of-start-requires-clause-like g c =
     c.index-like.ensures (length c.args.row.now)
     (c.requires.long ∙ sym (long_is _ s.long _ s.starts.items s.lengths.items s.values.items c.self.view_is))
 
-pub start_of-start-requires-clause-first : goal.start_of-start-requires-clause-first
-start_of-start-requires-clause-first g c =
+pub start_of_runs-start-requires-clause-first : goal.start_of_runs-start-requires-clause-first
+start_of_runs-start-requires-clause-first g c =
     let s = c.self.inside in
     blank_first s.long s.starts.items s.used s.lengths.items s.values.items (vec_capacity s.lengths)
     (vec_capacity s.values) c.self.invariant c.args.row.now
     (c.requires.long ∙ sym (long_is _ s.long _ s.starts.items s.lengths.items s.values.items c.self.view_is))
 
-pub start_of-start-requires-clause-few : goal.start_of-start-requires-clause-few
-start_of-start-requires-clause-few g c =
+pub start_of_runs-start-requires-clause-few : goal.start_of_runs-start-requires-clause-few
+start_of_runs-start-requires-clause-few g c =
     let s = c.self.inside in
     runs_few s.long s.starts.items s.used s.lengths.items s.values.items (vec_capacity s.lengths)
     (vec_capacity s.values) c.self.invariant
     (left_some _ s.long _ s.starts.items s.lengths.items s.values.items c.self.view_is s.used refl c.requires.left)
 
-pub start_of-start-requires-clause-lengths_room : goal.start_of-start-requires-clause-lengths_room
-start_of-start-requires-clause-lengths_room g c =
+pub start_of_runs-start-requires-clause-lengths_room : goal.start_of_runs-start-requires-clause-lengths_room
+start_of_runs-start-requires-clause-lengths_room g c =
     let s = c.self.inside in
     let free = lengths_free s.long s.starts.items s.used s.lengths.items s.values.items (vec_capacity s.lengths)
     (vec_capacity s.values) c.self.invariant
@@ -42,8 +42,8 @@ start_of-start-requires-clause-lengths_room g c =
     let k = long_is _ s.long _ s.starts.items s.lengths.items s.values.items c.self.view_is in
     omega (arith, free, k, c.requires.long, s.lengths.ok.0)
 
-pub start_of-start-requires-clause-values_room : goal.start_of-start-requires-clause-values_room
-start_of-start-requires-clause-values_room g c =
+pub start_of_runs-start-requires-clause-values_room : goal.start_of_runs-start-requires-clause-values_room
+start_of_runs-start-requires-clause-values_room g c =
     let s = c.self.inside in
     let free = values_free s.long s.starts.items s.used s.lengths.items s.values.items (vec_capacity s.lengths)
     (vec_capacity s.values) c.self.invariant
@@ -54,18 +54,18 @@ start_of-start-requires-clause-values_room g c =
 pub index_mut-requires : goal.index_mut-requires
 index_mut-requires g c =
     let s = c.self.inside in
-    let lt = inside _ s.long _ s.starts.items s.lengths.items s.values.items c.self.view_is c.args.place
-    c.requires.place in
+    let lt = inside _ s.long _ s.starts.items s.lengths.items s.values.items c.self.view_is c.args.index
+    c.requires.index in
     omega (arith, lt)
 
 pub invariant_of-self : goal.invariant_of-self
 invariant_of-self g c =
     let s = c.self.inside in
-    let at = c.start_of-start in
+    let at = c.start_of_runs-start in
     table_more s.long s.starts.items s.used s.lengths.items s.values.items (vec_capacity s.lengths)
     (vec_capacity s.values) c.self.invariant
     (left_some _ s.long _ s.starts.items s.lengths.items s.values.items c.self.view_is s.used refl c.requires.left)
-    c.args.place at.result c.args.row.now
+    c.args.index at.result c.args.row.now
     (c.requires.long ∙ sym (long_is _ s.long _ s.starts.items s.lengths.items s.values.items c.self.view_is))
     at.new.lengths.items at.new.values.items at.ensures.there at.ensures.few (vec_capacity at.new.lengths)
     (vec_capacity at.new.values) at.ensures.lengths_capacity at.ensures.values_capacity
@@ -73,9 +73,9 @@ invariant_of-self g c =
 pub returns-clause-rows : goal.returns-clause-rows
 returns-clause-rows g c =
     let s = c.self.inside in
-    let at = c.start_of-start in
+    let at = c.start_of_runs-start in
     rows_more _ s.long _ s.starts.items s.lengths.items s.values.items c.self.view_is s.used (vec_capacity s.lengths)
-    (vec_capacity s.values) c.self.invariant c.args.place at.result c.args.row.now
+    (vec_capacity s.values) c.self.invariant c.args.index at.result c.args.row.now
     (c.requires.long ∙ sym (long_is _ s.long _ s.starts.items s.lengths.items s.values.items c.self.view_is))
     at.new.lengths.items at.new.values.items at.ensures.there
 
@@ -87,5 +87,5 @@ returns-clause-long g c =
 pub returns-clause-left : goal.returns-clause-left
 returns-clause-left g c =
     let s = c.self.inside in
-    left_less _ s.long _ s.starts.items s.lengths.items s.values.items c.self.view_is s.used c.args.place
-    c.start_of-start.result refl
+    left_less _ s.long _ s.starts.items s.lengths.items s.values.items c.self.view_is s.used c.args.index
+    c.start_of_runs-start.result refl

@@ -5,8 +5,8 @@ use Rattle.board_store.proofs.table.Table.take.Goals as goal
 pub index-requires : goal.index-requires
 index-requires g c =
     let s = c.self.inside in
-    let lt = inside _ s.long _ s.starts.items s.lengths.items s.values.items c.self.view_is c.args.place
-    c.requires.place in
+    let lt = inside _ s.long _ s.starts.items s.lengths.items s.values.items c.self.view_is c.args.index
+    c.requires.index in
     omega (arith, lt)
 
 pub add_row-requires-clause-whole : goal.add_row-requires-clause-whole
@@ -15,8 +15,8 @@ add_row-requires-clause-whole g c =
     seen_whole s.lengths.items c.deref.result.now s.values.items c.deref-2.result.now c.index.result.now s.long
     c.deref.ensures.value c.deref-2.ensures.value
     (row_whole s.long s.starts.items s.used s.lengths.items s.values.items (vec_capacity s.lengths)
-    (vec_capacity s.values) c.self.invariant c.args.place c.index.result.now
-    (inside _ s.long _ s.starts.items s.lengths.items s.values.items c.self.view_is c.args.place c.requires.place)
+    (vec_capacity s.values) c.self.invariant c.args.index c.index.result.now
+    (inside _ s.long _ s.starts.items s.lengths.items s.values.items c.self.view_is c.args.index c.requires.index)
     c.index.ensures s.long refl)
 
 pub add_row-requires-clause-room : goal.add_row-requires-clause-room
@@ -31,8 +31,8 @@ returns-clause-row g c =
     seen_row s.lengths.items c.deref.result.now s.values.items c.deref-2.result.now c.index.result.now s.long
     c.deref.ensures.value c.deref-2.ensures.value c.clear.new.self.items c.add_row.new.into.items c.clear.ensures.items
     c.add_row.ensures
-    ∙ row_read _ s.long _ s.starts.items s.lengths.items s.values.items c.self.view_is c.args.place c.index.result.now
-    c.requires.place c.index.ensures
+    ∙ row_read _ s.long _ s.starts.items s.lengths.items s.values.items c.self.view_is c.args.index c.index.result.now
+    c.requires.index c.index.ensures
 
 pub returns-clause-long : goal.returns-clause-long
 returns-clause-long g c =
@@ -43,7 +43,7 @@ returns-clause-long g c =
     c.add_row.ensures)
     ∙ length-take-le s.long (from_run s.lengths.items s.values.items c.index.result.now)
     (row_whole s.long s.starts.items s.used s.lengths.items s.values.items (vec_capacity s.lengths)
-    (vec_capacity s.values) c.self.invariant c.args.place c.index.result.now
-    (inside _ s.long _ s.starts.items s.lengths.items s.values.items c.self.view_is c.args.place c.requires.place)
+    (vec_capacity s.values) c.self.invariant c.args.index c.index.result.now
+    (inside _ s.long _ s.starts.items s.lengths.items s.values.items c.self.view_is c.args.index c.requires.index)
     c.index.ensures s.long refl)
     ∙ long_is _ s.long _ s.starts.items s.lengths.items s.values.items c.self.view_is

@@ -15,8 +15,8 @@ returns-in_default-clause-least c =
       none_at,
     )
 
-pub slope_step-stepped-requires-clause-small : goal.slope_step-stepped-requires-clause-small
-slope_step-stepped-requires-clause-small c =
+pub write_stepped_pieces-stepped-requires-clause-small : goal.write_stepped_pieces-stepped-requires-clause-small
+write_stepped_pieces-stepped-requires-clause-small c =
     let self = c.args.self.now in
     let e = ap (table_after self.pieces.items) c.in-Some.is in
     rw (c.deref.ensures.value) (subst (λ (t : Table). IsSmall t) e c.requires.small)
@@ -27,17 +27,17 @@ returns-clause-least c =
     let made = c.in-Some.made in
     let before : Table = table_of made.start (take made.used self.pieces.items) in
     let e = ap (table_after self.pieces.items) c.in-Some.is in
-    let m = c.slope_step-stepped.result.made in
-    let out = c.slope_step-stepped.new.out in
+    let m = c.write_stepped_pieces-stepped.result.made in
+    let out = c.write_stepped_pieces-stepped.new.out in
     let same = c.deref-2.ensures.value ∙ with_items_is c.lengthen_pieces.new.pieces out (search (rules, places)) in
     let step : IsStepped c.args.step c.args.curve.now before (table_after out m) =
-    rw (c.deref.ensures.value) at c.slope_step-stepped.ensures.stepped in
-    let turn : IsTurn c.args.step before c.slope_step-stepped.result.turn =
-    rw (c.deref.ensures.value) at c.slope_step-stepped.ensures.turn in
-    let least = subst (λ (xs : List Piece). MatchOption c.lowest_of.result (IsEmpty (table_after xs m))
-    (λ r. IsLeast (table_after xs m) r.value r.at)) same c.lowest_of.ensures.least in
+    rw (c.deref.ensures.value) at c.write_stepped_pieces-stepped.ensures.stepped in
+    let turn : IsTurn c.args.step before c.write_stepped_pieces-stepped.result.turn =
+    rw (c.deref.ensures.value) at c.write_stepped_pieces-stepped.ensures.turn in
+    let least = subst (λ (xs : List Piece). MatchOption c.lowest_after_step.result (IsEmpty (table_after xs m))
+    (λ r. IsLeast (table_after xs m) r.value r.at)) same c.lowest_after_step.ensures.least in
     lowest_turned c.args.step c.args.curve.now (table_after self.pieces.items self.made) (table_after out m)
-    c.slope_step-stepped.result.turn c.lowest_of.result
+    c.write_stepped_pieces-stepped.result.turn c.lowest_after_step.result
     (subst (λ (t : Table). IsStepped c.args.step c.args.curve.now t (table_after out m)) (sym e) step) least
-    c.lowest_of.ensures.turn
-    (subst (λ (t : Table). IsTurn c.args.step t c.slope_step-stepped.result.turn) (sym e) turn)
+    c.lowest_after_step.ensures.turn
+    (subst (λ (t : Table). IsTurn c.args.step t c.write_stepped_pieces-stepped.result.turn) (sym e) turn)

@@ -10,8 +10,8 @@ returns-in-None-clause-stepped c =
     subst (λ (t : Table). IsStepped c.args.step c.args.curve.now t t) (sym e)
     (stepped_nothing c.args.step c.args.curve.now)
 
-pub slope_step-stepped-requires-clause-small : goal.slope_step-stepped-requires-clause-small
-slope_step-stepped-requires-clause-small c =
+pub write_stepped_pieces-stepped-requires-clause-small : goal.write_stepped_pieces-stepped-requires-clause-small
+write_stepped_pieces-stepped-requires-clause-small c =
     let self = c.args.self.now in
     let made = c.in-Some.made in
     let e = ap (table_after self.pieces.items) c.in-Some.is in
@@ -22,9 +22,10 @@ returns-clause-turn c = λ y w h.
     let self = c.args.self.now in
     let made = c.in-Some.made in
     let e = ap (table_after self.pieces.items) c.in-Some.is in
-    let f : FitsSigned w64 c.slope_step-stepped.result.turn = search rules in
+    let f : FitsSigned w64 c.write_stepped_pieces-stepped.result.turn = search rules in
     let t : IsTurn c.args.step (table_of made.start (take made.used self.pieces.items))
-    c.slope_step-stepped.result.turn = rw (c.deref.ensures.value) at c.slope_step-stepped.ensures.turn in
+    c.write_stepped_pieces-stepped.result.turn = rw (c.deref.ensures.value) at
+    c.write_stepped_pieces-stepped.ensures.turn in
     subst (λ (z : ℤ). IsTurn c.args.step (table_after self.pieces.items self.made) z)
-    (sym (to_z-of_z w64 c.slope_step-stepped.result.turn f))
-    (subst (λ (k : Table). IsTurn c.args.step k c.slope_step-stepped.result.turn) (sym e) t)
+    (sym (to_z-of_z w64 c.write_stepped_pieces-stepped.result.turn f))
+    (subst (λ (k : Table). IsTurn c.args.step k c.write_stepped_pieces-stepped.result.turn) (sym e) t)

@@ -9,8 +9,8 @@ use Rattle.text_tokens.proofs.quoted.Quoted.says_bytes.Goals.{then-pieces-test+e
 pub pieces-init : goal.pieces-init
 pieces-init c =
     let text = c.args.text.now in
-    let n = c.same_len-at.result in
-    let known = c.same_len-at.ensures in
+    let n = c.common_prefix_len-at.result in
+    let known = c.common_prefix_len-at.ensures in
     record {
       front = (
         take n c.args.self.bytes.now,
@@ -40,15 +40,15 @@ pieces-preserved c =
     record {
       front = (
         i.0 ++ p.0,
-        i.1 ∙ ap (λ (r : List ℕ). i.0 ++ r) c.in-Some-behind_said.ensures.some ∙
-            sym (append_assoc i.0 p.0 c.in-Some-behind_said.others.now),
+        i.1 ∙ ap (λ (r : List ℕ). i.0 ++ r) c.in-Some-bytes_behind_said.ensures.some ∙
+            sym (append_assoc i.0 p.0 c.in-Some-bytes_behind_said.others.now),
         i.2 ∙ ap (option_map (after_piece (i.0, c.pieces.at))) here ∙ said_goes_on i.0 c.pieces.at p others,
       );
       near = omega (arith, c.in-Some.ensures.len.1);
     }
 
-pub returns-in_default-behind_said : goal.returns-in_default-behind_said
-returns-in_default-behind_said c =
+pub returns-in_default-bytes_behind_said : goal.returns-in_default-bytes_behind_said
+returns-in_default-bytes_behind_said c =
     let bs = c.args.self.bytes.now in
     let i = c.pieces.invariant.front in
     let p = piece_of c.in-Some.piece in
@@ -57,7 +57,7 @@ returns-in_default-behind_said c =
     c.bytes_from.ensures c.in-Some.ensures.is c.in-Some.ensures.len.0 in
     sym (says_other bs c.args.text.now i.0 c.pieces.wanted.now c.pieces.at p others c.args.self.closed
     (i.2 ∙ ap (option_map (after_piece (i.0, c.pieces.at))) here ∙ said_goes_on i.0 c.pieces.at p others) i.1
-    c.in_default-behind_said.ensures.none)
+    c.in_default-bytes_behind_said.ensures.none)
 
 pub returns : goal.returns
 returns c =
@@ -75,8 +75,8 @@ returns c =
 
 pub returns-then-is_plain : goal.returns-then-is_plain
 returns-then-is_plain c =
-    let known = c.same_len-at.ensures in
-    let plain : is_plain (get_or c.args.self.bytes.now c.same_len-at.result 0) ≡ true =
+    let known = c.common_prefix_len-at.ensures in
+    let plain : is_plain (get_or c.args.self.bytes.now c.common_prefix_len-at.result 0) ≡ true =
     sym c.is_plain.ensures ∙ c.if-is_plain.true in
-    sym (says_plain_other c.args.self.bytes.now c.args.text.now c.same_len-at.result c.args.self.closed
+    sym (says_plain_other c.args.self.bytes.now c.args.text.now c.common_prefix_len-at.result c.args.self.closed
     c.if-at-bytes.true plain known.front known.same (known.ends c.if-at-bytes.true plain))

@@ -4,7 +4,7 @@ use Rattle.unit_rows.proofs.origins.Origins.begin.Goals as goal
 
 pub take_ripe-requires-clause-right : goal.take_ripe-requires-clause-right
 take_ripe-requires-clause-right c = begun_right (thermal_of c.args.unit.now) (cost_at c.args.rows.now) _ refl refl
-    (rw c.as_slice.ensures at c.are_rising-self.ensures)
+    (rw c.as_slice.ensures at c.start_costs_rise-self.ensures)
 
 pub take_ripe-requires-clause-others : goal.take_ripe-requires-clause-others
 take_ripe-requires-clause-others c = λ o is. inl

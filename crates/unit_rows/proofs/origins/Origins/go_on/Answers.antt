@@ -5,7 +5,7 @@ use Rattle.unit_rows.proofs.origins.Origins.go_on.Goals as goal
 
 pub returns-then-must_be_on-clause-origins : goal.returns-then-must_be_on-clause-origins
 returns-then-must_be_on-clause-origins c =
-    cleared (thermal_of c.args.unit.now) c.args.unit.now.valid (cost_at c.args.rows.now) c.args.place c.args.self.now
+    cleared (thermal_of c.args.unit.now) c.args.unit.now.valid (cost_at c.args.rows.now) c.args.index c.args.self.now
     c.requires.origins _ refl (omega arith) refl (c.must_be_on.ensures.yes c.if-must_be_on.true)
 
 pub take_ripe-requires-clause-right : goal.take_ripe-requires-clause-right
@@ -13,18 +13,18 @@ take_ripe-requires-clause-right c =
     let u = thermal_of c.args.unit.now in
     let ends = cost_at c.args.rows.now in
     let free = c.must_be_on.ensures.no c.if-must_be_on.false in
-    let next : suc c.args.place ≡ c.args.place + 1 = omega arith in
+    let next : suc c.args.index ≡ c.args.index + 1 = omega arith in
     subst (λ (k : ℕ). AreRight u ends k c.args.self.now) next
-    (right_more u c.args.unit.now.valid ends c.args.place c.args.self.now c.requires.origins free.0 free.1)
+    (right_more u c.args.unit.now.valid ends c.args.index c.args.self.now c.requires.origins free.0 free.1)
 
 pub take_ripe-requires-clause-earlier : goal.take_ripe-requires-clause-earlier
 take_ripe-requires-clause-earlier c =
     let u = thermal_of c.args.unit.now in
     let free = c.must_be_on.ensures.no c.if-must_be_on.false in
-    let next : suc c.args.place ≡ c.args.place + 1 = omega arith in
+    let next : suc c.args.index ≡ c.args.index + 1 = omega arith in
     subst (λ (k : ℕ). (i last : ℕ) (o : Origin) → i < c.args.self.now.count →
     slice_get c.args.self.now.list.items i ≡ Some o → IsRipe u k last → o.last < last) next
-    (ripe_later u c.args.unit.now.valid (cost_at c.args.rows.now) c.args.place c.args.self.now c.requires.origins free.0
+    (ripe_later u c.args.unit.now.valid (cost_at c.args.rows.now) c.args.index c.args.self.now c.requires.origins free.0
     free.1)
 
 pub take_ripe-requires-clause-others : goal.take_ripe-requires-clause-others
@@ -32,6 +32,6 @@ take_ripe-requires-clause-others c =
     let u = thermal_of c.args.unit.now in
     let ends = cost_at c.args.rows.now in
     let free = c.must_be_on.ensures.no c.if-must_be_on.false in
-    let next : suc c.args.place ≡ c.args.place + 1 = omega arith in
-    rw next at (ripe_or_there u c.args.unit.now.valid ends c.args.place c.args.self.now c.requires.origins free.0
+    let next : suc c.args.index ≡ c.args.index + 1 = omega arith in
+    rw next at (ripe_or_there u c.args.unit.now.valid ends c.args.index c.args.self.now c.requires.origins free.0
     free.1)

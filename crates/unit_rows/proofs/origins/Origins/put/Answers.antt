@@ -5,24 +5,24 @@ use Rattle.unit_rows.proofs.origins.Origins.put.Goals as goal
 
 pub returns-clause-put : goal.returns-clause-put
 returns-clause-put c =
-    let place = c.place_for-place.result in
-    let within = c.place_for-place.ensures.within in
+    let index = c.place_for-index.result in
+    let within = c.place_for-index.ensures.within in
     let items = c.set.ensures.items in
     let fits : FitsSigned w64 c.args.origin.cost = search rules in
-    let dearer : (i : ℕ) (a : Origin) → place ≤ i → i < c.args.self.now.count →
+    let dearer : (i : ℕ) (a : Origin) → index ≤ i → i < c.args.self.now.count →
     slice_get c.args.self.now.list.items i ≡ Some a → IsTrue c.args.self.now.is_rising ×
-    ((c.args.origin.cost +ℤ pos 1) ≤ℤ a.cost) = simp to_z-of_z at c.place_for-place.ensures.dearer in
-    let cheaper : IsTrue c.args.self.now.is_rising → (i : ℕ) (a : Origin) → place ≡ suc i →
+    ((c.args.origin.cost +ℤ pos 1) ≤ℤ a.cost) = simp to_z-of_z at c.place_for-index.ensures.dearer in
+    let cheaper : IsTrue c.args.self.now.is_rising → (i : ℕ) (a : Origin) → index ≡ suc i →
     slice_get c.args.self.now.list.items i ≡ Some a → a.cost ≤ℤ c.args.origin.cost = simp to_z-of_z at
-    c.place_for-place.ensures.cheaper in
+    c.place_for-index.ensures.cheaper in
     record {
-      place = place;
+      index = index;
       within = within;
       count = omega arith;
-      here = ap (λ (xs : List Origin). slice_get xs place) items ∙
-          get_set_same c.args.self.now.list.items place c.args.origin (omega arith);
+      here = ap (λ (xs : List Origin). slice_get xs index) items ∙
+          get_set_same c.args.self.now.list.items index c.args.origin (omega arith);
       before = λ i low. ap (λ (xs : List Origin). slice_get xs i) items ∙
-          get_set_other c.args.self.now.list.items place i c.args.origin (λ z. omega arith);
+          get_set_other c.args.self.now.list.items index i c.args.origin (λ z. omega arith);
       dearer = dearer;
       cheaper = cheaper;
       is_rising = refl;

@@ -3,8 +3,8 @@ use Rattle.unit_table.proofs.Lemmas.{none_kept, one_kept, one_off, all_kept, fir
 use Rattle.unit_table.proofs.roster.Roster.keep.Goals as goal
 use Rattle.unit_table.proofs.roster.Roster.keep.Goals.{then-runner_at, else-runner_at}
 
-pub loop-place-init : goal.loop-place-init
-loop-place-init c = record {
+pub loop-index-init : goal.loop-index-init
+loop-index-init c = record {
   kept = λ until list. none_kept (live_at c.args.runners.now) until c.args.self.now list;
   low = omega arith;
   same_length = refl;
@@ -14,22 +14,22 @@ loop-place-init c = record {
 pub runner_at-requires : goal.runner_at-requires
 runner_at-requires c =
     let list = c.requires.roster in
-    let below = first_inside (live_at c.args.runners.now) list.0 c.args.self.now list.2 c.loop-place.place
-    c.loop-place.kept c.loop-place.self.firsts.items
-    (c.loop-place.invariant.kept list.0 list.2) (omega arith) c.get-first.result.now
+    let below = first_inside (live_at c.args.runners.now) list.0 c.args.self.now list.2 c.loop-index.index
+    c.loop-index.kept c.loop-index.self.firsts.items
+    (c.loop-index.invariant.kept list.0 list.2) (omega arith) c.get-first.result.now
     c.get-first.ensures.item in
     omega arith
 
-pub loop-place-preserved : goal.loop-place-preserved
-loop-place-preserved c =
+pub loop-index-preserved : goal.loop-index-preserved
+loop-index-preserved c =
     let live = live_at c.args.runners.now in
     let old = c.args.self.now in
-    let p = c.loop-place.place in
-    let q = c.loop-place.kept in
-    let items = c.loop-place.self.firsts.items in
+    let p = c.loop-index.index in
+    let q = c.loop-index.kept in
+    let items = c.loop-index.self.firsts.items in
     let first = c.get-first.result.now in
-    let count_same = c.loop-place.invariant.count_same in
-    let same_length = c.loop-place.invariant.same_length in
+    let count_same = c.loop-index.invariant.count_same in
+    let same_length = c.loop-index.invariant.same_length in
     let inside : p < old.count = omega arith in
     elim c.if-runner_at.branch [
       | then-runner_at w ↦
@@ -37,7 +37,7 @@ loop-place-preserved c =
           let same : length w.set.new.self.items ≡ length items = ap (λ (xs : List ℕ). length xs) set ∙
           length-set items q first in
           rw w.self-is (rw w.kept-is (record {
-            kept = λ until list. one_kept live until old list p q items (c.loop-place.invariant.kept until list) inside
+            kept = λ until list. one_kept live until old list p q items (c.loop-index.invariant.kept until list) inside
                 first c.get-first.ensures.item w.set.new.self.items set same;
             low = omega arith;
             same_length = cc;
@@ -45,7 +45,7 @@ loop-place-preserved c =
           }))
       | else-runner_at w ↦
           rw w.self-is (rw w.kept-is (record {
-            kept = λ until list. one_off live until old list p q items (c.loop-place.invariant.kept until list) inside
+            kept = λ until list. one_off live until old list p q items (c.loop-index.invariant.kept until list) inside
                 first c.get-first.ensures.item
                 (off_from c.args.runners.now first c.runner_at.result.now c.runner_at.ensures w.if-runner_at.false);
             low = omega arith;
@@ -56,5 +56,5 @@ loop-place-preserved c =
 
 pub returns-clause-roster : goal.returns-clause-roster
 returns-clause-roster c = λ until list.
-    all_kept (live_at c.args.runners.now) until c.args.self.now list c.loop-place.place _
-    (omega arith) (omega arith) (c.loop-place.invariant.kept until list)
+    all_kept (live_at c.args.runners.now) until c.args.self.now list c.loop-index.index _
+    (omega arith) (omega arith) (c.loop-index.invariant.kept until list)

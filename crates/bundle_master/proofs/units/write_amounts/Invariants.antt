@@ -1,5 +1,0 @@
-use Rattle.std.proofs.Common.{◌≡◌}
-use Rattle.bundle_master.proofs.units.write_amounts.Given as goal
-
-abbrev pub invariant-loop-period : goal.invariant-loop-period
-invariant-loop-period l = l.amounts ≡ l.initial.amounts
