@@ -63,7 +63,7 @@ fn most_at(case: &Case, mixture: &Mixture, centre: &Prices, radius: i64, index: 
 
 /// The bound on the dual value of all prices in a box, by a mixture: no whole prices within the
 /// limits, each within `radius` of that of `centre`, have a dual value above it,
-/// `law_runs::bounds::mixture_bound_holds`. Mixture and prices are over the case's units and
+/// `law_parts::bounds::mixture_bound_holds`. Mixture and prices are over the case's units and
 /// periods, and the mixture keeps the rules of `check_mixture`. The radius is from 0 to 20,000,000,
 /// in money for a kilowatt and period; the bound is in money, and within 10^35. Takes no memory.
 pub fn bound_of_mixture(case: &Case, mixture: &Mixture, centre: &Prices, radius: i64) -> i128

@@ -140,7 +140,7 @@ fn best_suffix_bound(
 /// or by the rows from one of them to the last. In a tie it is the centre, and then the longest
 /// range. Rows are numbered from 1; they are at most 10,000, over the periods of the case, with
 /// values of at most 10^24 and totals of at most 10^13 in magnitude, which all answered rows are,
-/// `law_runs::bounds::answered_rows_are_within`. The radius is from 0 to 20,000,000, in money for a
+/// `law_parts::bounds::answered_rows_are_within`. The radius is from 0 to 20,000,000, in money for a
 /// kilowatt and period; the bound is in money, and within 10^35. `work` has two numbers for each
 /// period, and is left with any numbers. Takes no memory.
 pub fn best_range(

@@ -21,10 +21,10 @@ pub fn row_at(rows: &[Row], index: usize) -> &Row
 
 /// The bound on the dual values of all prices in a box, by the mean of the rows' planes with these
 /// weights, rounded down: no whole prices within the limits, each within `radius` of that of row
-/// `centre`, have a dual value above it, `law_runs::bounds::bound_holds`. Rows are numbered from 1;
+/// `centre`, have a dual value above it, `law_parts::bounds::bound_holds`. Rows are numbered from 1;
 /// they are at most 10,000, over the periods of the case, with values of at most 10^24 and totals
 /// of at most 10^13 in magnitude, which all answered rows are,
-/// `law_runs::bounds::answered_rows_are_within`. There is one weight per row, from 0 to 1,000,000,
+/// `law_parts::bounds::answered_rows_are_within`. There is one weight per row, from 0 to 1,000,000,
 /// and their sum is above 0. The radius is from 0 to 20,000,000, in money for a kilowatt and
 /// period; the bound is in money. `work` has two numbers for each period, and is left with any
 /// numbers. Takes no memory.

@@ -16,7 +16,7 @@ use Rattle.right_report.specs.RightReport.{IsRightReport}
 use Rattle.report_read.specs.Bounds.{IsOtherLine, IsReport}
 use Rattle.report_read.specs.Faults.{IsFault}
 use Rattle.report_compare.specs.Right.{DiffersFromRight}
-use Rattle.law_runs.specs.AuditLaws.{PrintedReportsAreInForm}
+use Rattle.law_parts.specs.AuditLaws.{PrintedReportsAreInForm}
 use Rattle.law_outcome.proofs.OutcomeLaws.{pays_none_back, status_within, same_fault, bytes_fault, input_fault}
 use Rattle.law_outcome.proofs.OutcomeLaws.{work_fault, same_input, InputParts, input_parts}
 

@@ -4,7 +4,7 @@ use Rattle.law_outcome.proofs.Common.{slice_get_within, Proposal, chosen_number,
 use Rattle.law_outcome.proofs.Common.{WordFault, words_of, OneIsChosen, End, Done, Cut, Refused, Reads, PlannedCase}
 use Rattle.law_outcome.proofs.Common.{command_for, IsBoundText, AreReads, Ends, status_at, OverReads, IsBoundPromised}
 use Rattle.law_outcome.proofs.Common.{WordsHaveSizes}
-use Rattle.law_runs.specs.BoundLaws.{RunBoundsHold}
+use Rattle.law_parts.specs.BoundLaws.{RunBoundsHold}
 use Rattle.hull_command.specs.Sizes.{HasSizes}
 use Rattle.law_outcome.proofs.OutcomeLaws.{status_within}
 

@@ -7,13 +7,13 @@ use Rattle.law_outcome.proofs.Common.{IsInput, IsPriced, IsMixtureFile, PlannedC
 use Rattle.law_outcome.proofs.Common.{with_mixture, HasText, Ends, status_at, OverReads, HasNoPrices, IsCertifyPromised}
 use Rattle.law_outcome.proofs.Common.{HasNoMixture, WordsHaveSizes, words_of, BytesAreThoseRead, SettlementsAddUp}
 use Rattle.law_outcome.proofs.Common.{mixture_fault, MixtureLists, IsMixture}
-use Rattle.law_runs.specs.BoundLaws.{ArePriced}
+use Rattle.law_parts.specs.BoundLaws.{ArePriced}
 use Rattle.uc_text.specs.Files.{text, value}
-use Rattle.law_readers.specs.CaseLaws.{CasesAreWithin}
+use Rattle.law_parts.specs.CaseLaws.{CasesAreWithin}
 use Rattle.uc_mixture.specs.Laws.{OneMixture}
 use Rattle.uc_mixture.specs.MixtureFiles.{IsMixtureFileOf}
 use Rattle.uc_prices.specs.Laws.{OnePrices, HaveForm, PricesHaveForm}
-use Rattle.law_runs.specs.MixtureLaws.{MixtureBoundHolds, MixtureBoundReachesCentre, PaymentsReachLeast}
+use Rattle.law_parts.specs.MixtureLaws.{MixtureBoundHolds, MixtureBoundReachesCentre, PaymentsReachLeast}
 use Rattle.gap_proof.specs.MixtureLaws.{MixturesBreakNoRule}
 use Rattle.gap_proof.specs.MixtureBound.{mixture_bound}
 use Rattle.gap_proof.specs.MixtureRefused.{EntryRefusal, mixture_refusals}

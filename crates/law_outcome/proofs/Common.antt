@@ -9,7 +9,7 @@ pub use Rattle.std.specs.List.{All}
 pub use Rattle.std.specs.Prelude.{nat_lt, if◌then◌else◌, IsTrue, IfSome, IsSome, ◌≤ℤ◌}
 pub use Rattle.hull_input.specs.Planned.{PlannedCase}
 pub use Rattle.plan_settle.specs.FixedCase.{fixed_market}
-pub use Rattle.law_runs.specs.BoundLaws.{RunPricesAreWithin}
+pub use Rattle.law_parts.specs.BoundLaws.{RunPricesAreWithin}
 pub use Rattle.hull_input.specs.Files.{IsReadOf, AreReads, Reads, case_and_schedule, with_report, with_prices}
 pub use Rattle.hull_input.specs.Files.{with_mixture}
 pub use Rattle.hull_input.specs.Laws.{BytesAreThoseRead, ReportBytesAreItsText}

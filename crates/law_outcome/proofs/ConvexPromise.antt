@@ -7,10 +7,10 @@ use Rattle.law_outcome.proofs.Common.{status_at, words_of, BytesAreThoseRead, Se
 use Rattle.law_outcome.proofs.Common.{IsConvexPromised}
 use Rattle.std.specs.Prelude.{neg_ℤ, ◌+ℤ◌}
 use Rattle.std.proofs.lemmas.Int.{ints, clamps}
-use Rattle.law_runs.specs.BoundLaws.{ArePriced, IsInBox}
-use Rattle.law_runs.specs.MixtureLaws.{MixtureBoundHolds, MixtureBoundReachesCentre, PaymentsReachLeast}
-use Rattle.law_runs.proofs.Box.{priced_of, priced_in_box}
-use Rattle.law_readers.specs.CaseLaws.{CasesAreWithin}
+use Rattle.law_parts.specs.BoundLaws.{ArePriced, IsInBox}
+use Rattle.law_parts.specs.MixtureLaws.{MixtureBoundHolds, MixtureBoundReachesCentre, PaymentsReachLeast}
+use Rattle.law_parts.proofs.Box.{priced_of, priced_in_box}
+use Rattle.law_parts.specs.CaseLaws.{CasesAreWithin}
 use Rattle.uc_model.specs.Laws.{ReserveFrom0}
 use Rattle.uc_model.specs.Limits.{price_limit}
 use Rattle.convex_search.specs.FoundPrices.{everywhere}

@@ -10,7 +10,7 @@ use Rattle.law_outcome.proofs.Common.{IsPlanFile, IsChecked, IsInput, status_of,
 use Rattle.law_outcome.proofs.Common.{Ends, status_at, OverReads}
 use Rattle.uc_text.specs.Files.{text, value}
 use Rattle.uc_case.specs.Laws.{OneCase}
-use Rattle.law_readers.specs.CaseLaws.{CasesAreWithin}
+use Rattle.law_parts.specs.CaseLaws.{CasesAreWithin}
 use Rattle.uc_model.specs.Laws.{RefusalsAreExact}
 use Rattle.uc_model.specs.Limits.{IsMarket}
 use Rattle.uc_model.specs.PlanLaws.{FeasiblePlansHaveShape}

@@ -220,10 +220,10 @@ module _ (ones : AreOne) where
 module _ (m : Market) (rows : List Proposal) (centre : ℕ) (radius : ℤ) where
   never_later : (range other : RowRange) (limit above : ℤ) (best : IsFirstLeast m rows centre radius range limit)
       (best_other : IsFirstLeast m rows centre radius other above)
-      → best.place < best_other.place → ⊥
+      → best.index < best_other.index → ⊥
   never_later range other limit above best best_other before =
-      let a = best_other.earlier best.place range before best.is in
-      let b = best.least best_other.place other best_other.is in
+      let a = best_other.earlier best.index range before best.is in
+      let b = best.least best_other.index other best_other.is in
       let c = best.bound_is in
       let d = best_other.bound_is in
       omega (arith, ints, a, b, c, d)
@@ -236,12 +236,12 @@ module _ (m : Market) (rows : List Proposal) (centre : ℕ) (radius : ℤ) where
   one_best : (range other : RowRange) (limit above : ℤ) → IsFirstLeast m rows centre radius range limit →
       IsFirstLeast m rows centre radius other above → (range ≡ other) × (limit ≡ above)
   one_best range other limit above best best_other =
-      elim (cases_lt best.place best_other.place) [
+      elim (cases_lt best.index best_other.index) [
         | inl before ↦ absurd (never_later range other limit above best best_other before)
-        | inr after ↦ elim (cases_lt best_other.place best.place) [
+        | inr after ↦ elim (cases_lt best_other.index best.index) [
           | inl before ↦ absurd (never_later other range above limit best_other best before)
           | inr here ↦
-              let same = same_range best.place best_other.place range other (omega (arith, after, here)) best.is
+              let same = same_range best.index best_other.index range other (omega (arith, after, here)) best.is
               best_other.is in (
                 same,
                 best.bound_is ∙ ap (λ (r : RowRange). range_bound m rows (prices_of_row rows centre) radius r) same

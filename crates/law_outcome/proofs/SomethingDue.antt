@@ -24,8 +24,8 @@ use Rattle.gap_proof.specs.MixtureRefused.{EntryRefusal, mixture_refusals}
 use Rattle.gap_proof.specs.declared.mixture_check.EntryFault.{EntryFault}
 use Rattle.uc_plan.specs.Laws.{SomePlan}
 use Rattle.uc_mixture.specs.Laws.{SomeMixture}
-use Rattle.law_readers.specs.CaseLaws.{SomeCase}
-use Rattle.law_readers.specs.PriceLaws.{SomePrices}
+use Rattle.law_parts.specs.CaseLaws.{SomeCase}
+use Rattle.law_parts.specs.PriceLaws.{SomePrices}
 use Rattle.right_report.specs.Existence.{RightReportsExist}
 use Rattle.report_read.specs.Bounds.{IsReport}
 use Rattle.report_read.specs.Laws.{ReportOrFault}

@@ -34,7 +34,7 @@ use Rattle.hull_words.specs.Words.{words_of}
 use Rattle.hull_words.specs.declared.word_fault.WordFault.{WordFault}
 use Rattle.plan_settle.specs.FixedCase.{fixed_market}
 use Rattle.gap_proof.specs.Candidates.{RowRange, IsFirstLeast}
-use Rattle.law_runs.specs.BoundLaws.{IsBoundRound, IsInBox, ArePriced}
+use Rattle.law_parts.specs.BoundLaws.{IsBoundRound, IsInBox, ArePriced}
 use Rattle.convex_search.specs.FoundPrices.{FoundPrices, IsNear}
 use Rattle.hull_report.specs.AuditText.{audit_text}
 use Rattle.hull_report.specs.BoundText.{bound_text}
@@ -60,7 +60,7 @@ use Rattle.hull_fault.specs.declared.fault.TopFault.TheVariants.{Report as Unfit
 use Rattle.report_read.specs.Bounds.{IsReport}
 use Rattle.report_read.specs.Faults.{IsFault}
 use Rattle.report_compare.specs.Right.{DiffersFromRight}
-use Rattle.law_runs.specs.AuditLaws.{AreAsked}
+use Rattle.law_parts.specs.AuditLaws.{AreAsked}
 use Rattle.hull_input.specs.Files.{Reads, AreReads}
 use Rattle.hull_input.specs.Planned.{PlannedCase}
 use Rattle.hull_input.specs.Steps.{IsInput, IsCaseFile, prices_fault, mixture_fault, rounds_for}

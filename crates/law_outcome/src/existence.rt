@@ -1,8 +1,8 @@
 //! Laws of what exists: each is the contract of a function that answers nothing.
 ghost use Rattle.law_outcome.specs.Existence.{SettlementsExist, SomethingIsDue};
 
-use law_readers::cases::case_or_fault;
-use law_readers::prices::prices_or_fault;
+use law_parts::cases::case_or_fault;
+use law_parts::prices::prices_or_fault;
 use plan_check::laws::refusals_are_exact;
 use report_compare::laws::wrong_reports_differ;
 use report_form::laws::text_determines_the_report;

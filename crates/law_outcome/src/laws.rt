@@ -11,9 +11,9 @@ use gap_proof::mixture_laws::mixtures_break_no_rule;
 use hull_command::laws::words_have_sizes;
 use hull_input::laws::{bytes_are_those_read, report_bytes_are_its_text};
 use hull_io::{Shelf, Sink};
-use law_readers::cases::cases_are_within;
-use law_runs::audit::printed_reports_are_in_form;
-use law_runs::bounds::{
+use law_parts::cases::cases_are_within;
+use law_parts::audit::printed_reports_are_in_form;
+use law_parts::bounds::{
     mixture_bound_holds, mixture_bound_reaches_centre, payments_reach_least, run_bounds_hold,
     run_prices_are_within,
 };

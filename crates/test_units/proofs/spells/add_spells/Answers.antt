@@ -38,11 +38,11 @@ loop-last-preserved c =
           let net = c.net_of.ensures.some w.in-Some.net w.in-Some.is in
           let spell = spell_within u c.args.periods c.args.first c.args.until c.requires.periods c.requires.until
           c.loop-last.last c.requires.goes_on order (omega arith) net.1 in
-          let fits : FitsSigned w64 w.sum_of.result = search rules in
+          let fits : FitsSigned w64 w.sum_of_costs.result = search rules in
           let fits_net : FitsSigned w64 w.in-Some.net = search rules in
           let fits_entry : FitsSigned w64 c.args.entry.now.cost = search rules in
-          let cost : to_z w64 (of_z w64 w.sum_of.result) ≡ c.args.entry.now.cost +ℤ w.in-Some.net =
-          to_z-of_z w64 _ fits ∙ w.sum_of.ensures ∙ (simp to_z-of_z) in
+          let cost : to_z w64 (of_z w64 w.sum_of_costs.result) ≡ c.args.entry.now.cost +ℤ w.in-Some.net =
+          to_z-of_z w64 _ fits ∙ w.sum_of_costs.ensures ∙ (simp to_z-of_z) in
           rw w.table-is (record {
             update = update_more u c.args.periods c.args.first c.args.entry.now.last c.args.entry.now.cost nets
                 c.args.table.now.items c.loop-last.last w.in-Some.net spell net.0

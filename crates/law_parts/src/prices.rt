@@ -1,0 +1,19 @@
+//! Laws over the definitions: each is the contract of a function that does nothing.
+ghost use Rattle.law_parts.specs.PriceLaws.{SomePrices, ValuesAreReadAs};
+
+use text_tokens::decimal_laws::rounds_to_nearest;
+use uc_text::file_laws::one_file;
+
+/// Each list of bytes has prices over so many periods or a first fault.
+pub fn prices_or_fault()
+    ensures { SomePrices }
+{
+    one_file();
+}
+
+/// What is read of a value, by the value alone: its prices, or which fault it has, and where.
+pub fn values_are_read_as()
+    ensures { ValuesAreReadAs }
+{
+    rounds_to_nearest();
+}

@@ -1,5 +1,0 @@
-use Rattle.law_readers.proofs.Common.{refl, reading_of, case_of}
-use Rattle.law_readers.proofs.cases.case_or_fault.Goals as goal
-
-pub returns : goal.returns
-returns c = λ bytes. let found = c.one_file.ensures.some bytes in (reading_of case_of found.0, (found.0, found.1, refl))

@@ -1,5 +1,0 @@
-use Rattle.law_readers.proofs.PlainLaws.{is_read_as}
-use Rattle.law_readers.proofs.prices.values_are_read_as.Goals as goal
-
-pub returns : goal.returns
-returns c = is_read_as c.rounds_to_nearest.ensures

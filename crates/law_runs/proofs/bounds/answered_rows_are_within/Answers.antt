@@ -1,6 +1,0 @@
-use Rattle.law_runs.proofs.Sizes.{rows_within}
-use Rattle.law_runs.proofs.bounds.answered_rows_are_within.Goals as goal
-
-pub returns : goal.returns
-returns c = rows_within c.units_are_within.ensures c.outputs_are_within.ensures c.totals_are_within.ensures
-    c.dual_values_are_within.ensures

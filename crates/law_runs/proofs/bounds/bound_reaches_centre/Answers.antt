@@ -1,5 +1,0 @@
-use Rattle.law_runs.proofs.Box.{bound_at_centre}
-use Rattle.law_runs.proofs.bounds.bound_reaches_centre.Goals as goal
-
-pub returns : goal.returns
-returns c = bound_at_centre

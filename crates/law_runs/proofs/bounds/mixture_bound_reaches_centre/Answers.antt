@@ -1,5 +1,0 @@
-use Rattle.law_runs.proofs.Holds.{bound_reaches}
-use Rattle.law_runs.proofs.bounds.mixture_bound_reaches_centre.Goals as goal
-
-pub returns : goal.returns
-returns c = bound_reaches

@@ -1,5 +1,0 @@
-use Rattle.law_runs.proofs.Holds.{payments_reach}
-use Rattle.law_runs.proofs.bounds.payments_reach_least.Goals as goal
-
-pub returns : goal.returns
-returns c = payments_reach c.dual_is_at_most_cost.ensures c.payments_make_up_the_gap.ensures

@@ -1,5 +1,0 @@
-use Rattle.law_runs.proofs.RunRows.{run_bounds_hold}
-use Rattle.law_runs.proofs.bounds.run_bounds_hold.Goals as goal
-
-pub returns : goal.returns
-returns c = run_bounds_hold

@@ -1,5 +1,0 @@
-use Rattle.law_runs.proofs.RunRows.{run_prices_within}
-use Rattle.law_runs.proofs.bounds.run_prices_are_within.Goals as goal
-
-pub returns : goal.returns
-returns c = run_prices_within
