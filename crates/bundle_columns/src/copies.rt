@@ -33,7 +33,7 @@ pub fn copy_response(from: &Response, into: &mut Response)
 }
 
 /// The same response in memory of its own.
-pub fn copied_response(alloc: Global, from: &Response) -> Result<Response, AllocError>
+pub(crate) fn copied_response(alloc: Global, from: &Response) -> Result<Response, AllocError>
     requires { length (schedule_of from.now).on ≤ MOST_PERIODS }
     ensures { IfOk result (λ response. schedule_of response ≡ schedule_of from.now) }
 {

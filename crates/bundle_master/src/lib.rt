@@ -11,10 +11,10 @@
 //! sum has one order, and each loop is counted. Contracts say counts and lengths; of the numbers they say nothing.
 #![tactic(auto)]
 
-pub mod columns;
+mod columns;
 pub mod master;
 pub mod numbers;
-pub mod pace;
-pub mod rows;
-pub mod singles;
-pub mod units;
+mod pace;
+mod rows;
+mod singles;
+mod units;

@@ -44,7 +44,7 @@ pub fn add_difference(into: &mut [f64], factor: f64, list: &[f64], base: &[f64])
 }
 
 /// Leaves a multiple of what one list is above another in a third.
-pub fn write_difference(into: &mut [f64], factor: f64, list: &[f64], base: &[f64])
+pub(crate) fn write_difference(into: &mut [f64], factor: f64, list: &[f64], base: &[f64])
     requires list { length into.old ≡ length list.now }
     requires base { length into.old ≡ length base.now }
 {

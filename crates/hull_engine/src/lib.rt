@@ -15,7 +15,8 @@ mod end;
 mod workers;
 
 use answer_workers::Gate;
-pub use end::{finish_command, finish_run};
+use end::finish_command;
+pub use end::finish_run;
 use hull_command::{Before, hull_before_run};
 use hull_io::{Shelf, Sink};
 use std::alloc::Global;
@@ -28,10 +29,10 @@ pub use workers::useful_workers;
 /// failed within the text.
 ///
 /// What that says of a run is one relation, `IsOutcome` in hull_command's specs/Outcome.antt, to be read from top
-/// to bottom. The crate law_outcome has what follows from it: the cause of each status, that at most
-/// one thing is due, that where no count rose what was read decides but if memory runs out, and
-/// what a report that was printed promises. It names no workers: for every number of them, and
-/// every gate, the text of the same words over the same files is one and the same.
+/// to bottom. The crate law_outcome has what follows from it: the cause of each status; that at most
+/// one thing is due; that what was read decides, unless a count of faults rose or memory ran out;
+/// and what a printed report promises. It names no workers: for every number of them, and every
+/// gate, the text of the same words over the same files is one and the same.
 pub fn hull_run<R: Threads + Wait + Sync, F: Shelf, S: Sink, G: Gate>(
     rt: &R,
     alloc: Global,

@@ -1,10 +1,10 @@
 //! The texts of what commands answer.
 #![tactic(auto)]
 
-pub mod audit;
-pub mod bound;
+mod audit;
+mod bound;
 mod certified;
-pub mod check;
+mod check;
 mod convex;
 mod fixed;
 mod record;

@@ -5,7 +5,7 @@ mod command;
 pub mod defaults;
 mod given;
 mod kinds;
-pub mod limits;
+mod limits;
 mod word_fault;
 mod word_pass;
 mod word_text;

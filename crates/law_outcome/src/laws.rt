@@ -11,12 +11,12 @@ use gap_proof::mixture_laws::mixtures_break_no_rule;
 use hull_command::laws::words_have_sizes;
 use hull_input::laws::{bytes_are_those_read, report_bytes_are_its_text};
 use hull_io::{Shelf, Sink};
-use law_parts::cases::cases_are_within;
 use law_parts::audit::printed_reports_are_in_form;
 use law_parts::bounds::{
     mixture_bound_holds, mixture_bound_reaches_centre, payments_reach_least, run_bounds_hold,
     run_prices_are_within,
 };
+use law_parts::cases::cases_are_within;
 use plan_check::laws::refusals_are_exact;
 use price_settle::laws::{one_settlement, payments_and_surplus_make_the_gap};
 use report_form::laws::text_determines_the_report;

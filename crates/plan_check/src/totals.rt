@@ -82,7 +82,7 @@ pub fn net_power(case: &Case, plan: &Plan, index: usize) -> i64
 }
 
 /// What keeps the powers from summing to demand at an index.
-pub fn balance_sides(case: &Case, plan: &Plan, index: usize) -> Option<Sides>
+pub(crate) fn balance_sides(case: &Case, plan: &Plan, index: usize) -> Option<Sides>
     requires shape { HasPlanShape (market_of case.now) (schedules_of plan.now) }
     requires within { index < (market_of case.now).periods }
     ensures { sides_of result ≡ balance_broken (market_of case.now) (schedules_of plan.now) index }
@@ -125,7 +125,7 @@ pub fn reserves_in(case: &Case, plan: &Plan, index: usize) -> Reserves
 }
 
 /// What the reserves lack at an index.
-pub fn reserve_sides(case: &Case, plan: &Plan, index: usize) -> Option<Sides>
+pub(crate) fn reserve_sides(case: &Case, plan: &Plan, index: usize) -> Option<Sides>
     requires shape { HasPlanShape (market_of case.now) (schedules_of plan.now) }
     requires within { index < (market_of case.now).periods }
     ensures { sides_of result ≡ reserve_broken (market_of case.now) (schedules_of plan.now) index }

@@ -3,7 +3,7 @@
 
 pub mod certificate;
 pub mod convex;
-pub mod form;
+mod form;
 pub mod laws;
 pub mod parts;
 mod pieces;

@@ -66,7 +66,7 @@ pub fn write_report_head<S: Sink>(head: &Head, out: &mut S) -> Result<(), WriteF
 
 /// Writes a proposal: its prices, its dual value, and the totals of the best responses to it.
 #[tactic(auto, unfolding(crate::specs::ReportText::row_text))]
-pub fn write_row<S: Sink>(number: u32, row: &Row, out: &mut S) -> Result<(), WriteFailed>
+pub(crate) fn write_row<S: Sink>(number: u32, row: &Row, out: &mut S) -> Result<(), WriteFailed>
     ensures { Writes S.held S.faults S.last out.old out.new result
         (row_text number (proposal_of row.now)) }
 {

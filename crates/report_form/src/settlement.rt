@@ -33,7 +33,7 @@ fn write_settlement_opening<S: Sink>(
 
 /// Writes prices with their dual value and the totals of the best responses.
 #[tactic(auto, unfolding(crate::specs::SettlementText::levels_text))]
-pub fn write_prices_and_totals<S: Sink>(row: &Row, out: &mut S) -> Result<(), WriteFailed>
+pub(crate) fn write_prices_and_totals<S: Sink>(row: &Row, out: &mut S) -> Result<(), WriteFailed>
     ensures { Writes S.held S.faults S.last out.old out.new result
         (levels_text (proposal_of row.now)) }
 {

@@ -11,14 +11,14 @@
 //! one after another along the blocks of the cost curve.
 #![tactic(auto)]
 
-pub mod below;
+mod below;
 mod blocks;
-pub mod cursor;
+mod cursor;
 mod draw;
 mod kink;
-pub mod piece;
+mod piece;
 mod piece_laws;
-pub mod read;
+mod read;
 mod run;
 pub mod shape_laws;
 mod slopes;

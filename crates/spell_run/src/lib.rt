@@ -5,10 +5,10 @@
 //! back needs. From that a dispatch of least net cost is written, with no step taken again.
 #![tactic(auto)]
 
-pub mod backtrack;
+mod backtrack;
 pub mod laws;
 pub mod notes;
-pub mod running;
+mod running;
 pub mod step;
 pub mod write;
 

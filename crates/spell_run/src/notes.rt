@@ -94,7 +94,7 @@ pub fn log_entry(log: &mut Log, trace: Trace, passed: Passed) -> Trace
 }
 
 /// The first entries of a spell in a log, so many of them.
-pub fn first_entries(log: &[Logged], trace: Trace, count: u32) -> Trace
+pub(crate) fn first_entries(log: &[Logged], trace: Trace, count: u32) -> Trace
     requires trace { IsTrace log.now trace }
     requires fewer { count ≤ trace.count }
     ensures trace { IsTrace log.now result }

@@ -12,7 +12,7 @@ use uc_model::units::{Prices, Unit};
 
 /// Whether a spell starts in the period at an index; `first` 0 stands for one that goes on from
 /// before period 1.
-pub fn starts_in_period(first: u32, index: usize) -> bool
+pub(crate) fn starts_in_period(first: u32, index: usize) -> bool
     requires { suc index < 2 ^ 32 }
     ensures { result ≡ (first == suc index) }
 {

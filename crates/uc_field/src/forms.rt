@@ -75,7 +75,12 @@ pub fn members_of<'a>(
 /// A number at a scale, from 0 to the limit. It is tried in the order `WrongKind`, `TooLarge` in
 /// magnitude, `Negative`.
 #[tactic(auto, unfolding(crate::specs::Forms::amount), using(crate::proofs::Fits::not_above))]
-pub fn read_amount(at: Site, branch: Branch<'_>, scale: u32, limit: u64) -> Result<i64, FieldStop>
+pub(crate) fn read_amount(
+    at: Site,
+    branch: Branch<'_>,
+    scale: u32,
+    limit: u64,
+) -> Result<i64, FieldStop>
     requires scale { scale ≤ 6 }
     requires limit { limit ≤ 10 ^ 18 }
     ensures bound { IfOk result (λ n. IsFrom (pos 0) (pos limit) n) }
@@ -94,7 +99,7 @@ pub fn read_amount(at: Site, branch: Branch<'_>, scale: u32, limit: u64) -> Resu
 }
 
 /// Kilowatts, from megawatts: from 0 to the limit, tried as `read_amount` does.
-pub fn read_power(at: Site, branch: Branch<'_>, limit: u64) -> Result<i64, FieldStop>
+pub(crate) fn read_power(at: Site, branch: Branch<'_>, limit: u64) -> Result<i64, FieldStop>
     requires { limit ≤ 10 ^ 18 }
     ensures bound { IfOk result (λ n. IsFrom (pos 0) (pos limit) n) }
     ensures value { Gives (λ n. n) result (power limit at (view branch.entry)) }
@@ -105,7 +110,7 @@ pub fn read_power(at: Site, branch: Branch<'_>, limit: u64) -> Result<i64, Field
 /// Money of a point of a curve, in millionths of the currency, which may be below 0. It is tried in
 /// the order `WrongKind`, `TooLarge`.
 #[tactic(auto, unfolding(crate::specs::Forms::cost), using(crate::proofs::Fits::within))]
-pub fn read_cost(at: Site, branch: Branch<'_>) -> Result<i64, FieldStop>
+pub(crate) fn read_cost(at: Site, branch: Branch<'_>) -> Result<i64, FieldStop>
     ensures bound { IfOk result (λ n. IsCost n) }
     ensures value { Gives (λ n. n) result (cost at (view branch.entry)) }
 {
@@ -121,7 +126,7 @@ pub fn read_cost(at: Site, branch: Branch<'_>) -> Result<i64, FieldStop>
 /// A number of periods, from 0 to the limit. It is tried in the order `WrongKind`, `NotWhole`,
 /// `TooLarge` in magnitude, `Negative`.
 #[tactic(auto, unfolding(crate::specs::Forms::time_within))]
-pub fn read_time(at: Site, branch: Branch<'_>, limit: u64) -> Result<u32, FieldStop>
+pub(crate) fn read_time(at: Site, branch: Branch<'_>, limit: u64) -> Result<u32, FieldStop>
     requires { limit ≤ MOST_TIME }
     ensures bound { IfOk result (λ n. n ≤ limit) }
     ensures value { Gives (λ n. n) result (time_within limit at (view branch.entry)) }
@@ -143,7 +148,7 @@ pub fn read_time(at: Site, branch: Branch<'_>, limit: u64) -> Result<u32, FieldS
 
 /// A flag, 0 or 1. It is tried in the order `WrongKind`, `NotWhole`, `NotFlag`.
 #[tactic(auto, unfolding(crate::specs::Forms::flag))]
-pub fn read_flag(at: Site, branch: Branch<'_>) -> Result<bool, FieldStop>
+pub(crate) fn read_flag(at: Site, branch: Branch<'_>) -> Result<bool, FieldStop>
     ensures { Gives (λ b. b) result (flag at (view branch.entry)) }
 {
     let Some(d) = branch.number() else {
@@ -169,7 +174,7 @@ pub fn value_under<'a>(at: Site, members: &[Member<'a>], key: &str) -> Result<Br
 }
 
 /// The number under a key, which must be there, read as `read_amount` does.
-pub fn amount_under(
+pub(crate) fn amount_under(
     at: Site,
     members: &[Member<'_>],
     key: &str,
@@ -189,7 +194,12 @@ pub fn amount_under(
 }
 
 /// The periods under a key, which must be there, read as `read_time` does.
-pub fn time_under(at: Site, members: &[Member<'_>], key: &str, limit: u64) -> Result<u32, FieldStop>
+pub(crate) fn time_under(
+    at: Site,
+    members: &[Member<'_>],
+    key: &str,
+    limit: u64,
+) -> Result<u32, FieldStop>
     requires { limit ≤ MOST_TIME }
     ensures bound { IfOk result (λ n. n ≤ limit) }
     ensures value { Gives (λ n. n) result
@@ -202,7 +212,7 @@ pub fn time_under(at: Site, members: &[Member<'_>], key: &str, limit: u64) -> Re
 }
 
 /// The money under a key, which must be there, read as `read_cost` does.
-pub fn cost_under(at: Site, members: &[Member<'_>], key: &str) -> Result<i64, FieldStop>
+pub(crate) fn cost_under(at: Site, members: &[Member<'_>], key: &str) -> Result<i64, FieldStop>
     ensures bound { IfOk result (λ n. IsCost n) }
     ensures value { Gives (λ n. n) result (part at key.now cost (member_views members.now)) }
 {

@@ -4,7 +4,7 @@
 pub mod fault;
 pub mod laws;
 pub mod lookup;
-pub mod named;
+mod named;
 mod numbers;
 pub mod plans;
 mod read;

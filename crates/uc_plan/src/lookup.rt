@@ -112,7 +112,7 @@ fn first_unknown_name(
 }
 
 /// The position of the first member of an object whose key isn't the name of a unit, or 0.
-pub fn first_unknown_member<N: Named>(
+pub(crate) fn first_unknown_member<N: Named>(
     alloc: Global,
     object: ObjectBranch<'_>,
     units: &[N],

@@ -161,7 +161,11 @@ fn all_responses(alloc: Global, case: &Case, groups: Groups<'_>) -> Result<Respo
 
 /// The plan of a tree's root, or the fault of the first test that fails.
 #[tactic(auto, unfolding(crate::specs::Plans::plan_of))]
-pub fn plan_of_json_tree(alloc: Global, case: &Case, root: Branch<'_>) -> Result<Plan, ShapeStop>
+pub(crate) fn plan_of_json_tree(
+    alloc: Global,
+    case: &Case,
+    root: Branch<'_>,
+) -> Result<Plan, ShapeStop>
     ensures shape { IfOk result (λ p. HasPlanShape (market_of case.now) (schedules_of p)) }
     ensures value { Gives schedules_of result (plan_of (market_of case.now) (view root.entry)) }
 {

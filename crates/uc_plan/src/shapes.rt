@@ -127,7 +127,7 @@ fn groups_in<'a>(members: &[Member<'a>], bids: usize) -> Option<Groups<'a>>
 /// The objects of a schedule for a case with so many bids. `PlanShape`, at the file as a whole,
 /// where it isn't an object that has them; without bids their object may be absent.
 #[tactic(auto, unfolding(crate::specs::Plans::groups))]
-pub fn read_groups<'a>(
+pub(crate) fn read_groups<'a>(
     alloc: Global,
     root: Branch<'a>,
     bids: usize,

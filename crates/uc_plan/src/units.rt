@@ -98,7 +98,7 @@ fn read_flat(
 /// The schedule of a unit or bid over so many periods, in kilowatts. `PlanShape` where the value
 /// isn't the object or the list that is due, and then `PlanNumber` at its first wrong item.
 #[tactic(auto, unfolding(crate::specs::Plans::schedule))]
-pub fn read_schedule(
+pub(crate) fn read_schedule(
     alloc: Global,
     at: ShapeSite,
     branch: Branch<'_>,

@@ -15,8 +15,8 @@
 //! leaves its own in place of that.
 #![tactic(auto)]
 
-pub mod backtrack;
-pub mod bench;
+mod backtrack;
+mod bench;
 mod case_bench;
 pub mod case_laws;
 mod choice;

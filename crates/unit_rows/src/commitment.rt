@@ -52,7 +52,7 @@ pub fn is_must_off(unit: &Unit, index: u32) -> bool
 }
 
 /// Whether the unit must be on in the period at an index.
-pub fn must_be_on(unit: &Unit, index: u32) -> bool
+pub(crate) fn must_be_on(unit: &Unit, index: u32) -> bool
     requires { index < length (thermal_of unit.now).window }
     ensures yes { IsTrue result →
         IsTrue unit.now.must_run
@@ -80,7 +80,7 @@ pub fn periods_off(unit: &Unit, last: u32, period: u32) -> u64
 
 /// The last on period since which the unit has been off for long enough at the end of a period, and
 /// a period before it hadn't been.
-pub fn stop_just_released(unit: &Unit, period: u32) -> Option<u32>
+pub(crate) fn stop_just_released(unit: &Unit, period: u32) -> Option<u32>
     requires { period ≤ MOST_PERIODS }
     ensures some { IfSome result (IsRipe (thermal_of unit.now) period) }
     ensures only { (last : ℕ) → IsRipe (thermal_of unit.now) period last → result ≡ Some last }

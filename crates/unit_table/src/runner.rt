@@ -166,7 +166,7 @@ fn forget_runner_at(runners: &mut [Runner], index: usize)
 }
 
 /// Stops all runners, and forgets what they left.
-pub fn forget_runners(runners: &mut [Runner])
+pub(crate) fn forget_runners(runners: &mut [Runner])
     ensures off { (first : ℕ) → live_at runners.new first ≡ None }
     ensures none { (first : ℕ) (r : Runner) → slice_get runners.new first ≡ Some r → r.trace.count ≡ 0 }
     ensures rooms { HaveSameRooms runners.old runners.new }
@@ -177,7 +177,7 @@ pub fn forget_runners(runners: &mut [Runner])
 }
 
 /// Stops all runners.
-pub fn stop_runners(runners: &mut [Runner])
+pub(crate) fn stop_runners(runners: &mut [Runner])
     ensures off { (first : ℕ) → live_at runners.new first ≡ None }
     ensures kept { AreKept runners.old runners.new }
 {
@@ -237,7 +237,7 @@ fn runner_undercuts(runners: &[Runner], first: u32, power: i64, cost: i64) -> bo
 }
 
 /// Whether one of the runners of a roster is at a power, its first, for less than a cost.
-pub fn is_start_undercut(runners: &[Runner], roster: &Roster, power: i64, cost: i64) -> bool
+pub(crate) fn is_start_undercut(runners: &[Runner], roster: &Roster, power: i64, cost: i64) -> bool
     requires roster { IsRoster (live_at runners.now) (length runners.now) roster.now }
     requires small { AreSmall (live_at runners.now) }
     ensures { OnTrue result ((first : ℕ) × (r : Going)
@@ -403,7 +403,7 @@ fn run_runner_at(
 
 /// Takes all runners that begin up to the period at an index over it, and fills its row. The roster
 /// has all that are on.
-pub fn run_runners(
+pub(crate) fn run_runners(
     period: &Period,
     roster: &Roster,
     runners: &mut [Runner],
@@ -500,7 +500,7 @@ fn prune_runner(
 
 /// Stops each runner that a later one stands for at the end of a period. The roster has all that
 /// are on.
-pub fn prune_runners(unit: &Unit, period: u32, roster: &Roster, runners: &mut [Runner])
+pub(crate) fn prune_runners(unit: &Unit, period: u32, roster: &Roster, runners: &mut [Runner])
     requires periods { period ≤ MOST_PERIODS }
     requires end { period < length runners.old }
     requires small { AreSmall (live_at runners.old) }
@@ -550,7 +550,7 @@ fn drop_runner_at(limit: i64, first: u32, runners: &mut [Runner])
 
 /// Stops each runner that is above the limit of a period at each power. The roster has all that are
 /// on.
-pub fn drop_runners_beyond(period: u32, limit: i64, roster: &Roster, runners: &mut [Runner])
+pub(crate) fn drop_runners_beyond(period: u32, limit: i64, roster: &Roster, runners: &mut [Runner])
     requires end { period < length runners.old }
     requires small { AreSmall (live_at runners.old) }
     requires roster { IsRoster (live_at runners.old) (suc period) roster.now }

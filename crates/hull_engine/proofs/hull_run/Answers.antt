@@ -36,7 +36,7 @@ returns-in-Ready-clause-outcome g c =
     let ends = subst (λ out. Ends (rest_of ready) nothing_read
     (Gains g.S.Sink.held g.S.Sink.faults out c.finish_command.new.out)
     (FallsShort g.S.Sink.held g.S.Sink.faults g.S.Sink.last out c.finish_command.new.out) c.finish_command.result)
-        untouched
+    untouched
     c.finish_command.ensures.ends in
     record {
       reads = before.2.0;
