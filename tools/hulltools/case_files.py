@@ -1,28 +1,22 @@
 """A case as its file, exact to the kilowatt and the millionth, and cases that are changed in one respect."""
-import json
 from collections.abc import Iterable, Mapping, Sequence
 from dataclasses import replace
+from decimal import Decimal
 from fractions import Fraction
 from typing import Any
 
 from .cases import Bid, Case, Factor, Renewable, Thermal
 from .errors import HullError, one_line
+from .json_texts import json_text
 from .numbers import Kilowatts, Millionths, decimal_text
 
 
-class Exact:
-    """A number that stands in the file as it is written."""
-
-    def __init__(self, number: int, places: int):
-        self.text = decimal_text(number, places)
+def megawatts(number: int) -> Decimal:
+    return Decimal(decimal_text(number, 3))
 
 
-def megawatts(number: int) -> Exact:
-    return Exact(number, 3)
-
-
-def currency(number: int) -> Exact:
-    return Exact(number, 6)
+def currency(number: int) -> Decimal:
+    return Decimal(decimal_text(number, 6))
 
 
 def thermal_fields(unit: Thermal) -> dict[str, Any]:
@@ -49,19 +43,6 @@ def bid_fields(bid: Bid) -> dict[str, Any]:
     return {"blocks": blocks}
 
 
-def written(value: object) -> str:
-    """JSON whose exact numbers are as they are."""
-    if isinstance(value, Exact):
-        return value.text
-    if isinstance(value, dict):
-        return (
-            "{" + ", ".join(f"{json.dumps(key, ensure_ascii=False)}: {written(it)}" for key, it in value.items()) + "}"
-        )
-    if isinstance(value, list):
-        return "[" + ", ".join(map(written, value)) + "]"
-    return json.dumps(value)
-
-
 def text_of(case: Case) -> str:
     """The file of a case, which reads as the same case."""
     found: dict[str, Any] = {"time_periods": case.periods}
@@ -70,7 +51,7 @@ def text_of(case: Case) -> str:
     found["renewable_generators"] = {unit.name: renewable_fields(unit) for unit in case.renewable}
     if case.bids:
         found["demand_bids"] = {bid.name: bid_fields(bid) for bid in case.bids}
-    return written(found) + "\n"
+    return json_text(found) + "\n"
 
 
 def times(numbers: Iterable[int], factor: Fraction) -> list[int]:

@@ -3,7 +3,7 @@ from __future__ import annotations
 
 import json
 import re
-from collections.abc import Iterable
+from collections.abc import Iterable, Mapping
 from decimal import Decimal
 from typing import TYPE_CHECKING, Any
 
@@ -87,6 +87,31 @@ def parse(data: bytes) -> Any:
     except RecursionError:
         raise Refused(f"it has more than {MOST_DEPTH} levels") from None
     return value
+
+
+def json_text(value: object) -> str:
+    """The JSON text of a value, exact: a Decimal as it is written. Arrays of NumPy and series of pandas are lists, and their numbers Python's."""
+    if isinstance(value, Mapping):
+        members = (f"{json_key(key)}: {json_text(member)}" for key, member in value.items())
+        return f"{{{', '.join(members)}}}"
+    if isinstance(value, (list, tuple)):
+        return f"[{', '.join(map(json_text, value))}]"
+    if isinstance(value, Decimal):
+        return str(value)
+    plain = getattr(value, "tolist", None)
+    if callable(plain):
+        return json_text(plain())
+    return json_string(value) if isinstance(value, str) else json.dumps(value)
+
+
+def json_key(key: object) -> str:
+    """A key of a dict as a JSON text: 97 is "97"."""
+    return json_string(key if isinstance(key, str) else json.dumps(key))
+
+
+def json_string(text: str) -> str:
+    """The text as it is, but for half a surrogate pair, which no file can have as it is."""
+    return json.dumps(text, ensure_ascii=LONE.search(text) is not None)
 
 
 def read_json(name: Name, what: str) -> Any:
