@@ -13,13 +13,13 @@ from __future__ import annotations
 from typing import TYPE_CHECKING, Any, Optional, Union
 
 from .cases import Bid, Case, Renewable, Thermal, read_case
-from .errors import HullError
+from .errors import HullError, Name
 from .faults import Files, sentence
 from .inputs import GivenCase, GivenMixture, GivenPrices, GivenSchedule, per_mwh
 from .mixtures import Mixture, read_mixture
 from .numbers import Kilowatts, Millionths, MillionthsPerKilowatt, in_currency, in_currency_per_mw, in_megawatts
 from .outputs import Bound, Certificate, Convex, Fixed, Owed, Report, Row, Settlement, frames, read_output
-from .prices import Prices, prices_near, read_prices
+from .prices import FlatPrices, Prices, prices_near, read_prices
 from .program import Hull
 from .schedules import Plan, Schedule, read_schedule
 
@@ -30,7 +30,7 @@ __version__ = "1.0"
 Wrong = HullError  # the name in version 1.0
 CALLS = ("convex_prices", "elmp", "integer_relaxation", "lmp", "make_schedule", "settle_zones", "study")  # of calls.py
 __all__ = [
-    "Bid", "Bound", "Case", "Certificate", "Convex", "Files", "Fixed", "Hull", "HullError", "Kilowatts", "Millionths",
+    "Bid", "Bound", "Case", "Certificate", "Convex", "Files", "Fixed", "FlatPrices", "Hull", "HullError", "Kilowatts", "Millionths",
     "MillionthsPerKilowatt", "Mixture", "Owed", "Plan", "Prices", "Renewable", "Report", "Row", "Schedule",
     "Settlement", "Thermal", "Wrong", "certify", "check", "convex_prices", "elmp", "frames", "in_currency",
     "in_currency_per_mw", "in_megawatts", "integer_relaxation", "lmp", "make_schedule", "per_mwh", "price",
@@ -48,7 +48,7 @@ def __getattr__(name: str) -> Any:
     return getattr(calls, name)
 
 
-def check(case: GivenCase, schedule: GivenSchedule, hull: Optional[str] = None) -> Millionths:
+def check(case: GivenCase, schedule: GivenSchedule, hull: Optional[Name] = None) -> Millionths:
     """The cost of a schedule in millionths, as `hull check` finds it.
 
     `hull` is the program's place, here and below. Raises `HullError` with the fault line where the schedule isn't feasible.
@@ -61,7 +61,7 @@ def price(
     schedule: GivenSchedule,
     proposals: Optional[int] = None,
     ahead: Optional[int] = None,
-    hull: Optional[str] = None,
+    hull: Optional[Name] = None,
 ) -> Report:
     """The report of `hull price`: up to so many proposals, from 1 to 10,000, of which so many are worked out ahead, from 1 to 16.
 
@@ -75,7 +75,7 @@ def settle(
     case: GivenCase,
     schedule: GivenSchedule,
     prices: GivenPrices,
-    hull: Optional[str] = None,
+    hull: Optional[Name] = None,
     name: Optional[str] = None,
 ) -> Settlement:
     """The settlement of `hull settle`: what each unit and bid is owed at the prices, in millionths.
@@ -94,7 +94,7 @@ def certify(
     prices: GivenPrices,
     mixture: GivenMixture,
     radius: Optional[int] = None,
-    hull: Optional[str] = None,
+    hull: Optional[Name] = None,
 ) -> Certificate:
     """The certificate of `hull certify`: how far the prices are from the best, in millionths, as the mixture bounds it.
 

@@ -5,17 +5,30 @@ needed and isn't there, and where a step takes longer than it may. `hull` is the
 """
 from __future__ import annotations
 
+import contextlib
 import os
 import tempfile
-from typing import TYPE_CHECKING, Dict, List, Mapping, Optional, Sequence
+from typing import TYPE_CHECKING, Dict, Iterator, List, Mapping, Optional, Sequence
 
 from .errors import HullError, Name
-from .inputs import GivenCase, GivenPrices, GivenSchedule, GivenZones, as_case, as_prices, as_schedule, as_zones
+from .inputs import (
+    Given,
+    GivenCase,
+    GivenPrices,
+    GivenSchedule,
+    GivenZones,
+    as_case,
+    as_prices,
+    as_schedule,
+    as_zones,
+    content_of,
+    told,
+)
 from .linear import need_scipy
 from .numbers import millionths
 from .outputs import Convex, Settlement
 from .prices import Prices
-from .program import Given, Hull, as_file
+from .program import Hull
 from .fast_start import FastStart
 from .relaxation import fast_start_prices, held_prices, relaxed_prices
 from .scheduling import Made
@@ -37,7 +50,7 @@ def make_schedule(
     gap: float = SearchLimits.gap,
     nodes: int = SearchLimits.nodes,
     seconds: float = SearchLimits.seconds,
-    hull: Optional[str] = None,
+    hull: Optional[Name] = None,
 ) -> Made:
     """A feasible schedule that `hull check` accepts, in `schedule`, with the solver's own `gap` as a share of its cost.
 
@@ -50,7 +63,7 @@ def make_schedule(
     return found
 
 
-def lmp(case: GivenCase, schedule: GivenSchedule, hull: Optional[str] = None, seconds: float = SECONDS) -> Prices:
+def lmp(case: GivenCase, schedule: GivenSchedule, hull: Optional[Name] = None, seconds: float = SECONDS) -> Prices:
     """LMPs, in millionths per kilowatt: the duals of the dispatch with the schedule's commitments held.
 
     Raises `HullError` where the schedule isn't feasible, and where the solver takes longer than `seconds`.
@@ -77,7 +90,7 @@ def elmp(
     most_up: int = 1,
     most_cost: Optional[float] = None,
     online_only: bool = False,
-    hull: Optional[str] = None,
+    hull: Optional[Name] = None,
     seconds: float = SECONDS,
 ) -> Prices:
     """ELMPs, in millionths per kilowatt: LMPs with fast-start units relaxed, and the commitments of the others held.
@@ -99,7 +112,7 @@ def convex_prices(
     schedule: GivenSchedule,
     within: Optional[float] = None,
     rounds: Optional[int] = None,
-    hull: Optional[str] = None,
+    hull: Optional[Name] = None,
     seconds: Optional[float] = None,
 ) -> Convex:
     """The text of `hull convex`: `prices`, their settlement, and the `mixture` that proves how far they are from the best, in `distance`.
@@ -110,7 +123,7 @@ def convex_prices(
     return Hull(hull, seconds=seconds).convex(case, schedule, within, rounds)
 
 
-def settle_zones(case: GivenCase, schedule: GivenSchedule, zones: GivenZones, hull: Optional[str] = None) -> Zonal:
+def settle_zones(case: GivenCase, schedule: GivenSchedule, zones: GivenZones, hull: Optional[Name] = None) -> Zonal:
     """What each unit is owed at the prices of its zone, in millionths, as `hull settle` finds it.
 
     Raises `HullError` where the schedule isn't feasible, and where a unit has no zone.
@@ -133,14 +146,37 @@ def words_of(options: Dict[str, object]) -> List[str]:
     return found
 
 
-def written(folder: str, name: str, given: Given) -> str:
-    """The name of a file: that which is given, or one in the folder that holds it."""
-    if isinstance(given, (str, os.PathLike)):
-        return os.fspath(given)
-    place = os.path.join(folder, name)
-    with as_file(given) as at, open(at, "rb") as source, open(place, "wb") as file:
-        file.write(source.read())
-    return place
+class Room:
+    """A folder for the files of what is given without one, and what a fault calls each."""
+
+    def __init__(self, folder: str) -> None:
+        self.folder = folder
+        self.shown: Dict[str, str] = {}
+
+    def name_of(self, what: str, given: Given, told_as: str = "", name: str = "") -> str:
+        """The name of a file: the one that is given, or one in the folder that holds what is given."""
+        if isinstance(given, (str, os.PathLike)):
+            return os.fspath(given)
+        place = os.path.join(self.folder, f"{name or what}.json")
+        self.shown[place] = told_as or told(what)
+        with open(place, "w", encoding="utf-8") as file:
+            file.write(content_of(what, given))
+        return place
+
+    @contextlib.contextmanager
+    def told(self) -> Iterator[None]:
+        """Has faults name what was given, in place of the files here."""
+        try:
+            yield
+        except HullError as why:
+            why.args = (self.without_places(str(why)),)
+            why.sentence = why.sentence and self.without_places(why.sentence)
+            raise
+
+    def without_places(self, text: str) -> str:
+        for place, shown in self.shown.items():
+            text = text.replace(place, shown)
+        return text
 
 
 def study(
@@ -150,7 +186,7 @@ def study(
     prices: Optional[Mapping[str, GivenPrices]] = None,
     zones: Optional[GivenZones] = None,
     best_schedule: Optional[GivenSchedule] = None,
-    hull: Optional[str] = None,
+    hull: Optional[Name] = None,
     **options: object,
 ) -> Study:
     """The study of a case, whose page and tables go to the folder where one is given; `frames()` has its tables.
@@ -163,19 +199,26 @@ def study(
     from .commands.study import arguments, inputs_of, study_of, write_results
     from .study_folder import StudyFolder
 
-    with tempfile.TemporaryDirectory(prefix="hull-study-") as room:
-        to, read, words = os.fspath(folder) if folder else room, as_case(case), words_of(options)
-        given = {"schedule": schedule, "best-schedule": best_schedule, "zones": zones}
-        words += [f"--{key}={written(room, f'{key}.json', it)}" for key, it in given.items() if it is not None]
+    with tempfile.TemporaryDirectory(prefix="hull-study-") as folder_of_files:
+        room = Room(folder_of_files)
+        to, read, words = os.fspath(folder) if folder else room.folder, as_case(case), words_of(options)
+        if schedule is not None:
+            words.append(f"--schedule={room.name_of('schedule', schedule)}")
+        if best_schedule is not None:
+            best = room.name_of("schedule", best_schedule, "the best schedule given", "best-schedule")
+            words.append(f"--best-schedule={best}")
+        if zones is not None:
+            words.append(f"--zones={room.name_of('zones', zones)}")
         for place, (name, given_prices) in enumerate((prices or {}).items()):
-            words.append(f"--prices={name}={written(room, f'{place}.prices.json', as_prices(given_prices, read))}")
-        words += [f"--hull={hull}"] if hull else []
-        words = [written(room, "case.json", case), to, *words]
+            exact, told_as = as_prices(given_prices, read), f"the prices {name} given"
+            words.append(f"--prices={name}={room.name_of('prices', exact, told_as, f'{place}.prices')}")
+        words += [f"--hull={os.fspath(hull)}"] if hull else []
+        words = [room.name_of("case", case), to, *words]
         try:
             asked = arguments(words)
         except SystemExit:
             raise HullError("study.py has no such options") from None
-        with StudyFolder(to, inputs_of(asked)) as place_of:
+        with room.told(), StudyFolder(to, inputs_of(asked)) as place_of:
             found = study_of(asked, words, Hull(hull, seconds=asked.seconds), place_of.room, quiet, place_of.refuse)
             if folder:
                 write_results(found, place_of.room)

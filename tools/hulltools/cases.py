@@ -123,7 +123,7 @@ class Case:
 
         return text_of(self)
 
-    def write(self, name: str, inputs: Sequence[str] = ()) -> None:
+    def write(self, name: Name, inputs: Sequence[str] = ()) -> None:
         write_whole(name, self.text(), inputs)
 
     def scaled(

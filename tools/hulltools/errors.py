@@ -286,9 +286,9 @@ def try_output(name: str, inputs: Sequence[str] = ()) -> None:
         Part(name).drop()
 
 
-def write_whole(name: str, content: Union[str, bytes], inputs: Sequence[str] = ()) -> None:
+def write_whole(name: Name, content: Union[str, bytes], inputs: Sequence[str] = ()) -> None:
     """Writes a file so that it appears whole or not at all, and never over one of the inputs; a link is followed."""
-    write_together({name: content}, inputs)
+    write_together({os.fspath(name): content}, inputs)
 
 
 def write_together(files: dict[str, Union[str, bytes]], inputs: Sequence[str] = (), follow_links: bool = True) -> None:

@@ -81,7 +81,7 @@ def nearest_name(files: Files, given: Optional[str], kind: str) -> str:
 def told_missing(at: Place, item: int) -> str:
     """Code 41."""
     due = "each thermal unit needs an entry, if only one that is off" if at.what == "mixture" else LISTED[at.kind]
-    return f"{at.name} isn't in {at.files.names.get(at.what, f'the {at.what}')}: {due}."
+    return f"{at.name} isn't in {at.files.told(at.what)}: {due}."
 
 
 def told_form(at: Place, item: int) -> str:

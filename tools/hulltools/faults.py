@@ -241,7 +241,7 @@ FORMS: list[tuple[str, Callable[..., str]]] = [
 
 
 def of(files: Files, what: str) -> str:
-    return files.names.get(what, WHOLE_FILES.get(what, what))
+    return files.told(what)
 
 
 def told_read(files: Files, what: str) -> str:
@@ -289,7 +289,7 @@ def need_files(line: str, files: Files) -> None:
             with open(files.names[what], "rb") as file:
                 file.read(1)
         except (OSError, ValueError) as error:
-            raise HullError(f"{files.names[what]}: {getattr(error, 'strerror', None) or error}") from None
+            raise HullError(f"{files.told(what)}: {getattr(error, 'strerror', None) or error}") from None
 
 
 def sentence(line: str, files: Files) -> str:

@@ -1,56 +1,138 @@
-"""Cases, schedules and prices however they are given: as objects, as dicts of the files' form, or as names of files."""
-import json
+"""Cases, schedules, prices, mixtures and zones however they are given: as objects, as dicts of the files' form, or as names of files."""
+from __future__ import annotations
+
 import math
 import os
 from collections.abc import Iterable
-from typing import Any, Optional, SupportsFloat, Union
+from typing import Any, Optional, Protocol, SupportsFloat, Union, cast, overload
 
 from .cases import Case, case_of, read_case
 from .errors import HullError, Name
-from .json_texts import Refused, parse
+from .json_texts import Refused, json_text, parse
 from .mixtures import Mixture
-from .prices import Prices, prices_near, prices_of, read_prices
+from .outputs import read_priced
+from .prices import FlatPrices, Prices, prices_near, prices_of, read_prices
 from .schedules import Schedule, read_schedule, schedule_of
 from .zones import Zones, read_zones, zones_of
 
+
+class HasSchedule(Protocol):
+    """An object with a schedule, as `make_schedule` and `study` give it."""
+
+    @property
+    def schedule(self) -> Schedule:
+        ...
+
+
+class HasPrices(Protocol):
+    """An object with prices: a `Convex`, a `Settlement` or a `Report`."""
+
+    @property
+    def prices(self) -> Prices:
+        ...
+
+
+class HasMixture(Protocol):
+    """An object with a mixture: a `Convex`."""
+
+    @property
+    def mixture(self) -> Mixture:
+        ...
+
+
 GivenCase = Union[Case, dict[str, Any], Name]
-GivenSchedule = Union[Schedule, dict[str, Any], Name]
-GivenPrices = Union[Prices, dict[str, Any], Name]
-GivenMixture = Union[Mixture, dict[str, Any], Name]
+GivenSchedule = Union[Schedule, HasSchedule, dict[str, Any], Name]
+GivenPrices = Union[Prices, FlatPrices, HasPrices, dict[str, Any], Name]
+GivenMixture = Union[Mixture, HasMixture, dict[str, Any], Name]
 GivenZones = Union[Zones, dict[str, Any], Name]
+Given = Union[GivenCase, GivenSchedule, GivenPrices, GivenMixture, GivenZones]
 PerMwh = Union[SupportsFloat, str]  # a price in the currency per MWh, where a period is an hour
+KINDS: dict[str, type] = {"case": Case, "schedule": Schedule, "prices": Prices, "mixture": Mixture, "zones": Zones}
+TEXT = b"hull-"  # what each text of the program begins with
+
+
+def told(what: str) -> str:
+    """What a fault calls what was given without a file: `the prices given`."""
+    return f"the {what} given"
+
+
+def text_given(what: str, given: dict[str, Any]) -> str:
+    """The text of a file that holds a dict."""
+    try:
+        return json_text(given)
+    except (RecursionError, TypeError, ValueError) as why:
+        raise HullError(f"{told(what)} can't be a file: {why}") from None
 
 
 def value_of(what: str, given: dict[str, Any]) -> Any:
     """The JSON value of a dict, with its numbers as a file of it would have them."""
     try:
-        return parse(json.dumps(given).encode())
-    except (Refused, TypeError, ValueError) as why:
-        raise HullError(f"{what} given as a dict can't be a file: {why}") from None
+        return parse(text_given(what, given).encode())
+    except Refused as why:
+        raise HullError(f"{told(what)} can't be a file: {why}") from None
+
+
+def is_name(given: object) -> bool:
+    return isinstance(given, (str, os.PathLike))
+
+
+def object_of(what: str, given: object) -> Any:
+    """The object of the kind, `case` or `prices` say: the one that is given, or the one that an object has as a member of that name."""
+    for found in (given, getattr(given, what, None)):
+        if isinstance(found, KINDS[what]):
+            return found
+    due = f"a file's name, a dict or `{KINDS[what].__name__}` is due"
+    hint = ", and `per_mwh` makes prices of numbers" if what == "prices" else ""
+    raise HullError(f"{told(what)}: no `{type(given).__name__}` can be taken: {due}{hint}")
+
+
+def content_of(what: str, given: object) -> str:
+    """The text of a file that holds what is given, a dict or an object."""
+    if isinstance(given, dict):
+        return text_given(what, given)
+    holder = given if callable(getattr(given, "text", None)) else object_of(what, given)
+    return cast(str, cast(Any, holder).text())
+
+
+def is_text_of_hull(name: Name) -> bool:
+    """Whether a file holds what the program printed. A pipe isn't looked into, since it is read once."""
+    try:
+        with open(name, "rb") as file:
+            return os.path.isfile(name) and file.read(len(TEXT)) == TEXT
+    except (OSError, ValueError):
+        return False
 
 
 def as_case(given: GivenCase) -> Case:
     if isinstance(given, dict):
-        return case_of("the case", value_of("the case", given))
-    return given if isinstance(given, Case) else read_case(given)
+        return case_of(told("case"), value_of("case", given))
+    return read_case(cast(Name, given)) if is_name(given) else cast(Case, object_of("case", given))
 
 
 def as_schedule(given: GivenSchedule, case: Case) -> Schedule:
     if isinstance(given, dict):
-        return schedule_of("the schedule", value_of("the schedule", given), case)
-    return given if isinstance(given, Schedule) else read_schedule(given, case)
+        return schedule_of(told("schedule"), value_of("schedule", given), case)
+    if is_name(given):
+        return read_schedule(cast(Name, given), case)
+    return cast(Schedule, object_of("schedule", given))
 
 
 def as_prices(given: GivenPrices, case: Case) -> Prices:
+    """The prices, for a case. A file may also be a text of `hull price`, `settle` or `convex`, whose prices are taken."""
     if isinstance(given, dict):
-        return prices_of("the prices", value_of("the prices", given), case.periods)
-    return given if isinstance(given, Prices) else read_prices(given, case.periods)
+        return prices_of(told("prices"), value_of("prices", given), case.periods)
+    if isinstance(given, FlatPrices):
+        return given.over(case.periods)
+    if not is_name(given):
+        return cast(Prices, object_of("prices", given))
+    name = cast(Name, given)
+    return read_priced(name).prices if is_text_of_hull(name) else read_prices(name, case.periods)
 
 
 def as_zones(given: GivenZones, case: Case) -> Zones:
     if isinstance(given, dict):
-        return zones_of("the zones", value_of("the zones", given), case)
-    return given if isinstance(given, Zones) else read_zones(os.fspath(given), case)
+        return zones_of(told("zones"), value_of("zones", given), case)
+    return read_zones(cast(Name, given), case) if is_name(given) else cast(Zones, object_of("zones", given))
 
 
 def as_beside(
@@ -65,28 +147,64 @@ def as_beside(
     return read, as_schedule(schedule, read)
 
 
-def numbers_of(key: str, prices: Iterable[PerMwh]) -> list[float]:
-    """The prices as floating numbers; one that is none is told by its period."""
-    found = []
-    for period, price in enumerate(prices, 1):
-        try:
-            number = float(price)
-        except (TypeError, ValueError):
-            number = math.nan
-        if not math.isfinite(number):
-            raise HullError(f"the {key} price of period {period} is {price}: a number is due", period=period)
-        found.append(number)
-    return found
+def is_list(given: object) -> bool:
+    """Whether there is a number for each period, in a list, an array or a series, and not one number."""
+    return isinstance(given, Iterable) and not isinstance(given, (str, bytes)) and getattr(given, "ndim", 1) > 0
 
 
-def per_mwh(energy: Iterable[PerMwh], reserve: Optional[Iterable[PerMwh]] = None) -> Prices:
+def number_of(price: Any, what: str, period: Optional[int] = None) -> float:
+    try:
+        number = float(price)
+    except (OverflowError, TypeError, ValueError):
+        number = math.nan
+    if not math.isfinite(number):
+        raise HullError(f"{what} is {str(price)[:60]}: a number is due", period=period)
+    return number
+
+
+def numbers_of(key: str, prices: Any) -> list[float]:
+    """The prices as floating numbers, or one number alone; what is none is told, by its period."""
+    if not is_list(prices):
+        return [number_of(prices, f"the {key} price")]
+    return [number_of(price, f"the {key} price of period {t}", t) for t, price in enumerate(prices, 1)]
+
+
+@overload
+def per_mwh(energy: str, reserve: Optional[PerMwh] = None) -> FlatPrices:  # type: ignore[misc]
+    ...
+
+
+@overload
+def per_mwh(energy: Iterable[PerMwh], reserve: Union[PerMwh, Iterable[PerMwh], None] = None) -> Prices:
+    ...
+
+
+@overload
+def per_mwh(energy: SupportsFloat, reserve: Optional[PerMwh] = None) -> FlatPrices:  # type: ignore[misc]
+    ...
+
+
+@overload
+def per_mwh(energy: PerMwh, reserve: Iterable[PerMwh]) -> Prices:
+    ...
+
+
+def per_mwh(
+    energy: Union[PerMwh, Iterable[PerMwh]], reserve: Union[PerMwh, Iterable[PerMwh], None] = None
+) -> Union[Prices, FlatPrices]:
     """Prices in the currency per MW and period, which is per MWh where a period is an hour, each rounded to the nearest thousandth.
 
-    Energy and reserve have a number for each period; reserve prices are 0 where they are left out. Raises `HullError` where one is no number,
-    or where the lists differ in length.
+    Energy and reserve have a number for each period, or one number that holds in all; reserve prices are 0 where they are left out. Where
+    neither is a list the prices are `FlatPrices`, and fit a case of any periods. Raises `HullError` where one is no number, or where the lists
+    differ in length.
     """
-    energies = numbers_of("energy", energy)
-    reserves = [0.0] * len(energies) if reserve is None else numbers_of("reserve", reserve)
-    if len(reserves) != len(energies):
+    energies, reserves = numbers_of("energy", energy), numbers_of("reserve", 0 if reserve is None else reserve)
+    periods = [len(numbers) for numbers, given in ((energies, energy), (reserves, reserve)) if is_list(given)]
+    if len(set(periods)) > 1:
         raise HullError("there are not as many reserve prices as energy prices")
-    return prices_near([price * 1e3 for price in energies], [price * 1e3 for price in reserves])
+    if not is_list(energy):
+        energies *= max(periods, default=1)
+    if not is_list(reserve):
+        reserves *= max(periods, default=1)
+    found = prices_near([price * 1e3 for price in energies], [price * 1e3 for price in reserves])
+    return found if periods else FlatPrices(found.energy[0], found.reserve[0])

@@ -6,6 +6,7 @@ from dataclasses import dataclass, field
 from decimal import Decimal, InvalidOperation
 from typing import Any, Optional, Union
 
+from .errors import Name
 from .json_texts import counted, Refused
 
 GROUPS = {"thermal": "thermal_generators", "renewable": "renewable_generators", "bid": "demand_bids"}
@@ -21,10 +22,20 @@ WHOLE_FILES = {
 
 @dataclass
 class Files:
-    """The names of the files that the run was given, and what they hold, as far as they can be read."""
+    """The names of the files that the run was given, and what they hold, as far as they can be read.
 
-    names: Mapping[str, str]
+    `shown` has what a sentence calls a file, where this isn't its name.
+    """
+
+    names: Mapping[str, Name]
     values: dict[str, Any] = field(default_factory=dict)
+    shown: Mapping[str, str] = field(default_factory=dict)
+
+    def told(self, what: str) -> str:
+        """What a sentence calls the file."""
+        if what in self.shown:
+            return self.shown[what]
+        return os.fspath(self.names[what]) if what in self.names else WHOLE_FILES.get(what, f"the {what}")
 
     def bytes_of(self, what: str) -> bytes:
         try:

@@ -22,8 +22,20 @@ class Prices:
         )
         return "{" + ", ".join(rows) + "}\n"
 
-    def write(self, name: str, inputs: Sequence[str] = ()) -> None:
+    def write(self, name: Name, inputs: Sequence[str] = ()) -> None:
         write_whole(name, self.text(), inputs)
+
+
+@dataclass
+class FlatPrices:
+    """One energy price and one reserve price for each period, in millionths per kilowatt and period, of however many periods a case has."""
+
+    energy: MillionthsPerKilowatt
+    reserve: MillionthsPerKilowatt
+
+    def over(self, periods: int) -> Prices:
+        """The same prices in each of so many periods."""
+        return Prices([self.energy] * periods, [self.reserve] * periods)
 
 
 def within_limits(number: int, least: int) -> MillionthsPerKilowatt:

@@ -3,35 +3,37 @@ from __future__ import annotations
 
 import contextlib
 import hashlib
-import json
 import os
 import re
 import shutil
 import subprocess
 import tempfile
-from collections.abc import Sequence
+from collections.abc import Mapping
 from types import TracebackType
-from typing import Any, Optional, Protocol, Type, Union, cast
+from typing import Any, Optional, Type, cast
 
 from .apart import OverTime, die_with_parent
 from .errors import HullError, Name, Tell, one_line
+from .inputs import (
+    Given,
+    GivenCase,
+    GivenMixture,
+    GivenPrices,
+    GivenSchedule,
+    as_case,
+    content_of,
+    is_name,
+    is_text_of_hull,
+    told,
+)
 from .numbers import Millionths, millionths
-from .outputs import Certificate, Convex, Report, Settlement, parse_output
+from .outputs import Certificate, Convex, Report, Settlement, parse_output, read_priced
+from .prices import FlatPrices
 from .progress import step
-from .refusals import refusal
+from .refusals import Held, refusal
 
 MOST_WORK = 50_000_000  # proposals times units times periods that `hull price` takes
 HOME = os.path.dirname(os.path.dirname(os.path.dirname(os.path.abspath(__file__))))
-
-
-class WithText(Protocol):
-    """An object of this package that a file holds."""
-
-    def text(self) -> str:
-        ...
-
-
-Given = Union[Name, dict[str, Any], WithText]  # a file's name, or what a file is to hold
 
 
 def default_program() -> str:
@@ -51,12 +53,13 @@ def default_program() -> str:
 class Hull:
     """The program. Each call gives what it prints, read; HullError where it refuses.
 
-    A case, a schedule, prices and a mixture are names of files, objects of this package, or dicts as the files have them. A call that takes
+    A case, a schedule, prices and a mixture are names of files, objects of this package, or dicts as the files have them. An object that has
+    one is taken for it: a `Convex` for its prices, and for its mixture. A call that takes
     longer than so many seconds is ended; where these are None a call ends by what it has to do, which the case and its words limit.
     """
 
-    def __init__(self, program: Optional[str] = None, tell: Optional[Tell] = None, seconds: Optional[float] = None):
-        self.program = program or default_program()
+    def __init__(self, program: Optional[Name] = None, tell: Optional[Tell] = None, seconds: Optional[float] = None):
+        self.program = os.fspath(program or default_program())
         self.commands: dict[str, bool] = {}
         self.tell: Tell = tell or (lambda text: None)
         self.seconds = seconds
@@ -120,11 +123,28 @@ class Hull:
         with open(place, "rb") as file:
             return f"program of sha256 {hashlib.sha256(file.read()).hexdigest()}"
 
-    def check(self, case: Given, schedule: Given) -> Millionths:
+    def text_with(self, command: str, given: Mapping[str, Given], *more: str) -> bytes:
+        """What a command prints of these files; each is held by a file for as long as it is needed."""
+        with contextlib.ExitStack() as files:
+            words = [command]
+            for what, it in given.items():
+                exact = it.over(self.periods_of(given["case"], given["schedule"])) if isinstance(it, FlatPrices) else it
+                words += [f"--{what}", files.enter_context(as_file(exact, what))]
+            output = self.text(*words, *more)
+        return output
+
+    def periods_of(self, case: Any, schedule: Any) -> int:
+        """How many periods a case has; one that isn't in form is refused by the program."""
+        try:
+            return as_case(case).periods
+        except HullError:
+            self.check(case, schedule)
+            raise
+
+    def check(self, case: GivenCase, schedule: GivenSchedule) -> Millionths:
         """The schedule's cost in millionths; HullError where it isn't feasible."""
-        with as_file(case) as case_name, as_file(schedule) as schedule_name:
-            output = self.text("check", "--case", case_name, "--schedule", schedule_name).decode("utf-8", "replace")
-        return self.cost_of(output)
+        output = self.text_with("check", {"case": case, "schedule": schedule})
+        return self.cost_of(output.decode("utf-8", "replace"))
 
     def cost_of(self, output: str) -> Millionths:
         """The cost that a text of `hull check` says."""
@@ -141,51 +161,57 @@ class Hull:
             raise HullError(f"hull check ended with status {status}, and with no line that says why")
         return line if status not in (0, 4) else None
 
-    def price(self, case: Given, schedule: Given, *more: str) -> Report:
-        with as_file(case) as case_name, as_file(schedule) as schedule_name:
-            output = self.text("price", "--case", case_name, "--schedule", schedule_name, *more)
+    def price(self, case: GivenCase, schedule: GivenSchedule, *more: str) -> Report:
+        """The report of `hull price`; `more` are further words, as `"--proposals", "40"`."""
+        output = self.text_with("price", {"case": case, "schedule": schedule}, *more)
         return cast(Report, parse_output("hull price", output, ("hull-report 1",)))
 
-    def settle(self, case: Given, schedule: Given, prices: Given) -> Settlement:
-        """The settlement at a prices file, or at `Prices`."""
+    def settle(self, case: GivenCase, schedule: GivenSchedule, prices: GivenPrices) -> Settlement:
+        """The settlement at prices."""
         self.need("settle")
-        with as_file(case) as case_name, as_file(schedule) as schedule_name, as_file(prices) as name:
-            output = self.text("settle", "--case", case_name, "--schedule", schedule_name, "--prices", name)
+        output = self.text_with("settle", {"case": case, "schedule": schedule, "prices": prices})
         return cast(Settlement, parse_output("hull settle", output, ("hull-settlement 1",)))
 
-    def certify(self, case: Given, schedule: Given, prices: Given, mixture: Given, *more: str) -> Certificate:
-        """The certificate of prices and a mixture."""
+    def certify(
+        self, case: GivenCase, schedule: GivenSchedule, prices: GivenPrices, mixture: GivenMixture, *more: str
+    ) -> Certificate:
+        """The certificate of prices and a mixture; `more` are further words, as `"--radius", "1000"`."""
         self.need("certify")
-        given = {"case": case, "schedule": schedule, "prices": prices, "mixture": mixture}
-        with contextlib.ExitStack() as files:
-            names = [(f"--{key}", files.enter_context(as_file(it))) for key, it in given.items()]
-            output = self.text("certify", *(word for pair in names for word in pair), *more)
+        given: dict[str, Given] = {"case": case, "schedule": schedule, "prices": prices, "mixture": mixture}
+        output = self.text_with("certify", given, *more)
         return cast(Certificate, parse_output("hull certify", output, ("hull-certificate 1",)))
 
     def convex(
-        self, case: Given, schedule: Given, within: Optional[float] = None, rounds: Optional[int] = None
+        self,
+        case: GivenCase,
+        schedule: GivenSchedule,
+        within: Optional[float] = None,
+        rounds: Optional[int] = None,
     ) -> Convex:
         """Convex hull prices, their settlement, and the mixture that bounds the dual value; `within` is in the currency."""
         self.need("convex")
         more = [] if within is None else ["--within", str(millionths(str(within)))]
         more += [] if rounds is None else ["--rounds", str(rounds)]
-        with as_file(case) as case_name, as_file(schedule) as schedule_name:
-            output = self.text("convex", "--case", case_name, "--schedule", schedule_name, *more)
+        output = self.text_with("convex", {"case": case, "schedule": schedule}, *more)
         return cast(Convex, parse_output("hull convex", output, ("hull-convex 1",)))
 
 
 class as_file:
-    """The name of a file that holds what is given, an object or a dict, for as long as it is needed; a name stays itself."""
+    """The name of a file that holds what is given, an object or a dict, for as long as it is needed; a name stays itself.
 
-    def __init__(self, given: Given) -> None:
-        self.given, self.held = given, contextlib.ExitStack()
+    `what` is what it is, as `prices`; a text of the program that is named for prices is held as its prices.
+    """
+
+    def __init__(self, given: Given, what: str) -> None:
+        self.given, self.what, self.held = given, what, contextlib.ExitStack()
 
     def __enter__(self) -> str:
-        given = self.given
-        if isinstance(given, (str, os.PathLike)):
-            return os.fspath(given)
-        content = json.dumps(given) if isinstance(given, dict) else given.text()
-        name = self.nameless() or self.named()
+        is_text = self.what == "prices" and is_name(self.given) and is_text_of_hull(cast(Name, self.given))
+        if is_name(self.given) and not is_text:
+            return os.fspath(cast(Name, self.given))
+        content = read_priced(cast(Name, self.given)).prices.text() if is_text else content_of(self.what, self.given)
+        name = Held(self.nameless() or self.named())
+        name.shown = f"the prices in {os.fspath(cast(Name, self.given))}" if is_text else told(self.what)
         with open(name, "w", encoding="utf-8") as file:
             file.write(content)
         return name

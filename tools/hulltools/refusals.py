@@ -10,10 +10,17 @@ FILES = ("case", "schedule", "prices", "mixture", "report")
 OF_ANOTHER_FILE = {"schedule": 40, "mixture": 40}  # codes whose unit is numbered within that file
 
 
+class Held(str):
+    """The name of a file that holds what was given as an object or a dict, and what a sentence calls it."""
+
+    shown = ""
+
+
 def files_of(words: Sequence[str]) -> Files:
     """The files that the words of a command name."""
     pairs = zip(words, words[1:])
-    return Files({option[2:]: name for option, name in pairs if option[2:] in FILES and option.startswith("--")})
+    names = {option[2:]: name for option, name in pairs if option[2:] in FILES and option.startswith("--")}
+    return Files(names, shown={what: name.shown for what, name in names.items() if isinstance(name, Held)})
 
 
 def number_behind(word: str, line: str) -> Optional[int]:

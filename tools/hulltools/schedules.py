@@ -47,7 +47,7 @@ class Schedule:
     def text(self) -> str:
         return json.dumps(self.as_json(), ensure_ascii=False) + "\n"
 
-    def write(self, name: str, inputs: Sequence[str] = ()) -> None:
+    def write(self, name: Name, inputs: Sequence[str] = ()) -> None:
         write_whole(name, self.text(), inputs)
 
 

@@ -6,7 +6,7 @@ from typing import Any, Callable, Dict, List, Optional
 from .cases import Case
 from .cash_flows import UnitFlows, unit_flows
 from .costs import Costs
-from .errors import HullError, one_line
+from .errors import HullError, Name, one_line
 from .json_texts import read_json
 from .outputs import Owed, Settlement
 from .prices import Prices, prices_of
@@ -34,7 +34,7 @@ class Zones:
         return self.units.get(unit, self.default or "")
 
 
-def zones_of(name: str, value: Any, case: Case) -> Zones:
+def zones_of(name: Name, value: Any, case: Case) -> Zones:
     """The zones of a JSON value, which has a zone for each unit of the case."""
     if not isinstance(value, dict) or not isinstance(value.get("zones"), dict) or not value["zones"]:
         raise HullError(f"{name}: no zones: it isn't an object with the object `zones`, of prices by zone")
@@ -58,7 +58,7 @@ def zones_of(name: str, value: Any, case: Case) -> Zones:
     return Zones(prices, dict(units), default)
 
 
-def read_zones(name: str, case: Case) -> Zones:
+def read_zones(name: Name, case: Case) -> Zones:
     return zones_of(name, read_json(name, "zones"), case)
 
 

@@ -268,7 +268,7 @@ class Temporary(unittest.TestCase):
         code = (
             f"import os, sys; sys.path.insert(0, {ROOT + '/tools'!r}); import hulltools\n"
             "from hulltools.program import as_file\n"
-            "with as_file(hulltools.per_mwh([98])) as name:\n"
+            "with as_file(hulltools.per_mwh([98]), 'prices') as name:\n"
             "    os.system(f'cat {name}; kill -9 {os.getpid()}')\n"
         )
         where = {**os.environ, "TMPDIR": self.room}

@@ -46,7 +46,7 @@ class StartCosts(unittest.TestCase):
                     self.assertRaisesRegex(HullError, "can't be met|can be neither", make_schedule, case, LIMITS)
                     continue
                 found = make_schedule(case, LIMITS)
-                with as_file(found.schedule) as name:
+                with as_file(found.schedule, "schedule") as name:
                     cost = hull.check(self.case, name)
                 self.assertEqual(cost, least * 10**6)
                 self.assertRegex(found.told(cost), r"^within 0\.0000 % of the solver's bound")

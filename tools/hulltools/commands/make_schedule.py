@@ -39,7 +39,7 @@ from ..deviations import deviations, farthest, in_words, table_text
 from ..external_schedules import read_followed
 from ..linear import need_scipy
 from ..numbers import money
-from ..program import Hull, as_file
+from ..program import Hull
 from ..scheduling import Made, follow, make_schedule
 from ..search_limits import SearchLimits
 from ..errors import HullError, Tell, run_tool, try_output, write_whole
@@ -98,8 +98,7 @@ def make(given: Given, limits: SearchLimits, tell: Tell) -> tuple[Made, int, str
     else:
         found = searched_schedule(case, limits, tell)
     try:
-        with as_file(found.schedule) as name:
-            cost = hull.check(given.case, name)
+        cost = hull.check(given.case, found.schedule)
     except HullError as why:
         raise HullError(f"nothing is written, since what was found is refused: {why}") from None
     write_whole(given.schedule, found.schedule.text(), [given.case])

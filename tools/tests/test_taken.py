@@ -1,0 +1,175 @@
+"""What calls of the package take: whole texts for their prices, one number for all periods, dicts with any numbers, and paths."""
+import json
+import os
+import pathlib
+import subprocess
+import sys
+import tempfile
+import unittest
+from decimal import Decimal
+from fractions import Fraction
+
+from tool import EXAMPLES, PROGRAM, ROOT, python_with
+
+import hulltools
+from hulltools.json_texts import json_text
+from hulltools.refusals import Held
+
+USUAL = f"{EXAMPLES}/usual/case.json", f"{EXAMPLES}/usual/schedule.json"
+
+
+def settled(prices, files=USUAL, **how):
+    return hulltools.settle(*files, prices, hull=PROGRAM, **how)
+
+
+class Texts(unittest.TestCase):
+    """An object that has prices, a schedule or a mixture is taken for it."""
+
+    def test_a_whole_text_is_taken_for_its_prices(self):
+        convex = hulltools.convex_prices(*USUAL, hull=PROGRAM)
+        report = hulltools.price(*USUAL, hull=PROGRAM)
+        for text in (convex, report, settled(convex)):
+            self.assertEqual(settled(text).units, settled(text.prices).units, type(text))
+        whole = hulltools.certify(*USUAL, convex, convex, hull=PROGRAM)
+        self.assertEqual(whole, hulltools.certify(*USUAL, convex.prices, convex.mixture, hull=PROGRAM))
+        self.assertEqual((whole.bound, whole.distance), (convex.bound, convex.distance))
+
+    def test_a_file_of_a_text_is_taken_for_its_prices(self):
+        due = settled(hulltools.read_output(f"{EXAMPLES}/usual/price.output").prices)
+        for name in (f"{EXAMPLES}/usual/price.output", pathlib.Path(EXAMPLES, "usual", "price.output")):
+            self.assertEqual(settled(name).units, due.units)
+        with self.assertRaisesRegex(hulltools.HullError, "this is a text of `hull bound`, where"):
+            settled(f"{EXAMPLES}/two_units/bound.output")
+
+    def test_an_object_with_a_schedule_is_taken_for_it(self):
+        class Found:
+            schedule = hulltools.read_schedule(USUAL[1], hulltools.read_case(USUAL[0]))
+
+        self.assertEqual(hulltools.check(USUAL[0], Found(), PROGRAM), hulltools.check(*USUAL, PROGRAM))
+
+    def test_what_cannot_be_taken_is_told(self):
+        for prices in ([98], 98, None, hulltools.HullError("x")):
+            with self.assertRaisesRegex(hulltools.HullError, "the prices given: no `.*` can be taken: .* `per_mwh`"):
+                settled(prices)
+        with self.assertRaisesRegex(hulltools.HullError, "the case given: no `int` can be taken: .* `Case` is due$"):
+            hulltools.check(3, USUAL[1], PROGRAM)
+
+
+class Numbers(unittest.TestCase):
+    def test_one_number_holds_in_each_period(self):
+        for example, periods in (("usual", 1), ("evening", 6)):
+            files = f"{EXAMPLES}/{example}/case.json", f"{EXAMPLES}/{example}/schedule.json"
+            due = settled(hulltools.per_mwh([30] * periods, [2] * periods), files)
+            for given in (30, 30.0, "30", Decimal(30), Fraction(30)):
+                self.assertEqual(settled(hulltools.per_mwh(given, 2), files), due)
+            case = hulltools.read_case(files[0])
+            self.assertEqual(settled(hulltools.per_mwh(30, 2), (case, files[1])), due)
+            self.assertEqual(hulltools.per_mwh(30, 2).over(periods), due.prices)
+            self.assertEqual(hulltools.per_mwh(30, [2] * periods), due.prices)
+            self.assertEqual(hulltools.per_mwh([30] * periods, 2), due.prices)
+
+    def test_a_case_out_of_form_is_refused_by_the_program(self):
+        with self.assertRaises(hulltools.HullError) as found:
+            settled(hulltools.per_mwh(30), ({"time_periods": 0}, USUAL[1]))
+        self.assertEqual((found.exception.status, found.exception.code), (3, 34))
+
+    def test_what_is_no_number_is_told(self):
+        for given, told in (
+            ("x", "the energy price is x: a number is due"),
+            ([30, None], "the energy price of period 2 is None: a number is due"),
+            (float("nan"), "the energy price is nan: a number is due"),
+            ([10**400], "the energy price of period 1 is 1000"),
+        ):
+            with self.assertRaisesRegex(hulltools.HullError, told):
+                hulltools.per_mwh(given)
+        with self.assertRaisesRegex(hulltools.HullError, "not as many reserve prices as energy prices"):
+            hulltools.per_mwh([30, 30], [1])
+
+    def test_dicts_are_written_exactly(self):
+        class Array:
+            def tolist(self):
+                return [1, 2.5]
+
+        given = {"energy": (Decimal("98.001"), 7, 0.1), 3: Array(), "é": [None, True, "\ud800"]}
+        self.assertEqual(json_text(given), '{"energy": [98.001, 7, 0.1], "3": [1, 2.5], "é": [null, true, "\\ud800"]}')
+        self.assertEqual(settled({"energy": [Decimal("98.001")]}).prices.energy, [98001])
+        with self.assertRaisesRegex(hulltools.HullError, "the prices given can't be a file: Object of type object"):
+            settled({"energy": [object()]})
+
+    def test_arrays_and_series_are_taken(self):
+        python = python_with("numpy, pandas")
+        if not python:
+            self.skipTest("no Python here has NumPy and pandas")
+        code = (
+            f"import sys; sys.path.insert(0, {ROOT + '/tools'!r}); import hulltools, numpy, pandas\n"
+            f"files = {USUAL!r}\n"
+            "for it in (numpy.array([98]), pandas.Series([98.0], index=['a']), numpy.float64(98), numpy.array(98)):\n"
+            "    given = [hulltools.per_mwh(it)] + [{'energy': it}] * (it.ndim == 1)\n"
+            f"    print(*(hulltools.settle(*files, prices, hull={PROGRAM!r}).payments for prices in given))\n"
+        )
+        ran = subprocess.run([python, "-B", "-c", code], capture_output=True, text=True, timeout=120)
+        self.assertEqual((ran.stdout.split(), ran.stderr), (["164000000"] * 6, ""))
+
+
+class Sentences(unittest.TestCase):
+    """A fault of what was given without a file names what it is, and no file that was there for a moment."""
+
+    def sentence(self, call, *given):
+        with self.assertRaises(hulltools.HullError) as found:
+            call(*given, hull=PROGRAM)
+        for place in ("/proc/", "/dev/", tempfile.gettempdir()):
+            self.assertNotIn(place, f"{found.exception} {found.exception.sentence}")
+        return found.exception.sentence
+
+    def test_the_sentence_names_what_was_given(self):
+        with open(USUAL[0], encoding="utf-8") as file:
+            case = json.load(file)
+        mixture = {"weight": 2, "thermal": {"G1": [{"weight": 1, "on": [0], "power": [0], "reserve": [0]}]}}
+        for call, given, due in (
+            (hulltools.settle, (*USUAL, {"energy": [98, 99]}), "the prices given: energy: "),
+            (hulltools.settle, (*USUAL, hulltools.per_mwh([98, 99])), "the prices given: energy: "),
+            (hulltools.check, (USUAL[0], {"thermal": {}}), "the schedule given: "),
+            (hulltools.check, ({**case, "demand": [-1]}, USUAL[1]), "the case given: demand, item 1: it is below 0"),
+            (hulltools.certify, (*USUAL, {"energy": [98]}, mixture), "the mixture given: "),
+        ):
+            self.assertEqual(self.sentence(call, *given)[: len(due)], due)
+        text = f"{EXAMPLES}/day/price.output"
+        self.assertTrue(self.sentence(hulltools.settle, *USUAL, text).startswith(f"the prices in {text}: energy: "))
+
+    def test_a_file_that_was_named_is_named(self):
+        name = f"{EXAMPLES}/evening/schedule.json"
+        self.assertTrue(self.sentence(hulltools.check, USUAL[0], name).startswith(f"{name}: "))
+        files = hulltools.Files({"case": pathlib.Path(USUAL[0]), "schedule": pathlib.Path(name)})
+        line = "fault 4 schedule 40 kind thermal unit 2 item 0"
+        self.assertTrue(hulltools.sentence(line, files).startswith(f"{name}: "))
+        self.assertEqual(hulltools.Files({"prices": Held("x")}, shown={"prices": "these"}).told("prices"), "these")
+
+    def test_readers_name_what_was_given(self):
+        from hulltools.inputs import as_case, as_prices, as_schedule, as_zones
+
+        case = hulltools.read_case(USUAL[0])
+        for read, given, what in (
+            (lambda given: as_case(given), {}, "case"),
+            (lambda given: as_schedule(given, case), {}, "schedule"),
+            (lambda given: as_prices(given, case), {}, "prices"),
+            (lambda given: as_zones(given, case), {}, "zones"),
+        ):
+            with self.assertRaisesRegex(hulltools.HullError, f"^the {what} given: "):
+                read(given)
+
+
+class Paths(unittest.TestCase):
+    def test_a_path_is_taken_wherever_a_name_is(self):
+        with tempfile.TemporaryDirectory(prefix="hull-paths-") as room:
+            files = [pathlib.Path(room, name) for name in ("case.json", "schedule.json", "prices.json")]
+            case = hulltools.read_case(pathlib.Path(USUAL[0]))
+            case.write(files[0])
+            hulltools.read_schedule(pathlib.Path(USUAL[1]), case).write(files[1])
+            hulltools.per_mwh([98]).write(files[2])
+            found = hulltools.settle(*files, hull=pathlib.Path(PROGRAM))
+            self.assertEqual(found.units, settled(hulltools.per_mwh([98])).units)
+            self.assertEqual(sorted(os.listdir(room)), sorted(file.name for file in files))
+
+
+if __name__ == "__main__":
+    sys.exit(unittest.main())
