@@ -6,7 +6,7 @@ from __future__ import annotations
 
 import json
 import re
-from collections.abc import Iterable, Sequence
+from collections.abc import Sequence
 from dataclasses import dataclass, field
 from typing import TYPE_CHECKING, Any, Callable, ClassVar, Optional, SupportsFloat, Union, cast
 
@@ -20,6 +20,7 @@ if TYPE_CHECKING:
     from pandas import DataFrame
 
     from .inputs import GivenCase, GivenSchedule
+    from .named_texts import GivenTexts, Money
     from .tables import Start, Table
 
 Range = tuple[int, int]  # the least and the greatest number
@@ -80,48 +81,61 @@ class Text:
         self,
         case: Optional[GivenCase] = None,
         schedule: Optional[GivenSchedule] = None,
-        currency: bool = True,
+        money: Union[Money, bool] = "currency",
+        *,
+        currency: Optional[bool] = None,
     ) -> dict[str, Table]:
-        """The tables of the text by name, in the currency and MW, or in millionths and kilowatts as the text has them.
+        """The tables of the text by name, with heads and rows. Numbers are exact, in the currency and MW.
 
-        Demand, requirement and the schedule stand beside where case and schedule are given.
+        With `money="millionths"` they are whole, in millionths and kilowatts. Demand, requirement and the schedule stand beside where case and
+        schedule are given. `currency` is the old name of `money`, for a flag.
         """
         from .inputs import as_beside
+        from .named_texts import is_in_currency
         from .tables import tables_of
 
-        return tables_of([self], *as_beside(case, schedule), currency)
+        return tables_of([self], *as_beside(case, schedule), is_in_currency(money, currency))
 
     def frames(
         self,
         case: Optional[GivenCase] = None,
         schedule: Optional[GivenSchedule] = None,
-        currency: bool = True,
+        money: Union[Money, bool] = "currency",
         start: Optional[Start] = None,
         hours_per_period: SupportsFloat = 1,
+        *,
+        currency: Optional[bool] = None,
     ) -> dict[str, DataFrame]:
-        """The same as data frames of pandas; with a start, tables by period are indexed by time.
+        """The same as data frames of pandas: what `frames` gives of the text alone."""
+        from .named_texts import is_in_currency
 
-        Raises `HullError` where pandas isn't there.
-        """
-        return frames([self], case, schedule, currency, start, hours_per_period)
+        in_currency = is_in_currency(money, currency)
+        return frames(self, case, schedule, "currency" if in_currency else "millionths", start, hours_per_period)
 
 
 def frames(
-    texts: Iterable[Text],
+    texts: GivenTexts,
     case: Optional[GivenCase] = None,
     schedule: Optional[GivenSchedule] = None,
-    currency: bool = True,
+    money: Union[Money, bool] = "currency",
     start: Optional[Start] = None,
     hours_per_period: SupportsFloat = 1,
+    *,
+    currency: Optional[bool] = None,
 ) -> dict[str, DataFrame]:
-    """Data frames of several texts by name, whose rows have the name of their text in the column `report`.
+    """Data frames of texts by the names `runs`, `proposals`, `prices`, `units` and `responses`, as far as the texts have rows for them.
 
-    Numbers are floating, in the currency and MW, or whole, in millionths and kilowatts. Raises `HullError` where pandas isn't there.
+    `texts` are one, several, or several by name, each an object or a file's name. A row has the name of its text in the column `report`. Texts
+    of one name are numbered: `hull settle`, `hull settle 2`. Numbers are floating, in the currency and MW; with `money="millionths"` they
+    are whole, in millionths and kilowatts. With a start, tables by period are indexed by time. `currency` is the old name of `money`, for a
+    flag. Raises `HullError` where pandas isn't there, or where something given isn't such a text.
     """
     from .inputs import as_beside
+    from .named_texts import is_in_currency, texts_of
     from .tables import frames_of, tables_of
 
-    return frames_of(tables_of(texts, *as_beside(case, schedule), currency), start, hours_per_period)
+    tables = tables_of(texts_of(texts), *as_beside(case, schedule), is_in_currency(money, currency))
+    return frames_of(tables, start, hours_per_period)
 
 
 @dataclass

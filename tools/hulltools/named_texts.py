@@ -1,0 +1,71 @@
+"""The texts that tables are made of, however they are given, each with a name of its own; and the unit of the tables' numbers."""
+from __future__ import annotations
+
+import copy
+import os
+import warnings
+from collections.abc import Iterable, Mapping
+from typing import Any, Literal, Optional, Union, cast
+
+from .errors import HullError, Name, one_line
+from .outputs import Text, read_output
+
+GivenText = Union[Text, Name]
+GivenTexts = Union[GivenText, Mapping[Any, GivenText], Iterable[GivenText]]
+Money = Literal["currency", "millionths"]
+MONEY = ("currency", "millionths")
+
+
+def as_text(given: GivenText) -> Text:
+    if isinstance(given, (str, os.PathLike)):
+        return read_output(given)
+    if isinstance(given, Text):
+        return given
+    raise HullError(
+        f"no `{type(given).__name__}` can be taken for a text of hull: a file's name or what a call gives is due"
+    )
+
+
+def named(text: Text, name: str) -> Text:
+    """The text, or a copy of it that has the name."""
+    if text.name == name:
+        return text
+    found = copy.copy(text)
+    found.name = name
+    return found
+
+
+def texts_of(given: GivenTexts) -> list[Text]:
+    """One text, several, or several by name, each with a name that no other one has: the second `hull settle` is `hull settle 2`."""
+    if isinstance(given, Mapping):
+        texts = [named(as_text(text), str(name)) for name, text in given.items()]
+    elif isinstance(given, (str, os.PathLike, Text)) or not isinstance(given, Iterable):
+        texts = [as_text(cast(GivenText, given))]
+    else:
+        texts = [as_text(text) for text in given]
+    return [named(text, name) for text, name in zip(texts, told_apart([text.name for text in texts]))]
+
+
+def told_apart(names: list[str]) -> list[str]:
+    """The names, where one that is there again has a number behind it."""
+    found: list[str] = []
+    taken, known = set(names), set[str]()
+    counts = dict.fromkeys(names, 1)
+    for name in names:
+        told = name
+        while told in known or told != name and told in taken:
+            counts[name] += 1
+            told = f"{name} {counts[name]}"
+        known.add(told)
+        found.append(told)
+    return found
+
+
+def is_in_currency(money: Union[Money, bool], currency: Optional[bool]) -> bool:
+    """Whether numbers are in the currency and MW. A flag, by its old name or in its old place, is taken still."""
+    if currency is not None or isinstance(money, bool):
+        warnings.warn('currency=False is called money="millionths" now', DeprecationWarning, stacklevel=3)
+        return bool(money if currency is None else currency)
+    if money not in MONEY:
+        raise HullError(f'money is {one_line(str(money))[:60]}: "currency" or "millionths" is due')
+    return money == "currency"

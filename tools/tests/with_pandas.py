@@ -1,0 +1,65 @@
+"""What of the package needs pandas: the data frames of texts; test_frames.py runs these in a Python that has it."""
+import unittest
+import warnings
+
+from tool import EXAMPLES, PROGRAM
+
+import hulltools
+
+USUAL = f"{EXAMPLES}/usual/case.json", f"{EXAMPLES}/usual/schedule.json"
+PRINTED = f"{EXAMPLES}/usual/price.output"
+
+
+def settled(price, **how):
+    return hulltools.settle(*USUAL, hulltools.per_mwh(price), hull=PROGRAM, **how)
+
+
+class Frames(unittest.TestCase):
+    def test_one_text_is_taken_as_a_list_of_one(self):
+        text = settled(98)
+        due = text.frames(*USUAL)
+        for given in (text, [text], (text,), iter([text]), {"hull settle": text}):
+            found = hulltools.frames(given, *USUAL)
+            self.assertEqual(list(found), list(due))
+            self.assertTrue(all(found[name].equals(due[name]) for name in due))
+        printed = hulltools.read_output(PRINTED).frames()["units"]
+        self.assertTrue(hulltools.frames(PRINTED)["units"].equals(printed))
+        self.assertTrue(hulltools.frames([PRINTED])["units"].equals(printed))
+
+    def test_texts_without_a_name_are_told_apart(self):
+        units = hulltools.frames([settled(97), settled(98), settled(99, name="dear")])["units"]
+        paid = units.pivot(index="name", columns="report", values="payment_currency")
+        self.assertEqual(list(paid.columns), ["dear", "hull settle", "hull settle 2"])
+        self.assertEqual(paid.sum().tolist(), [157.0, 171.0, 164.0])
+
+    def test_texts_are_named_by_a_dict(self):
+        texts = {"97": settled(97), 98: settled(98)}
+        runs = hulltools.frames(texts)["runs"]
+        self.assertEqual(dict(zip(runs["report"], runs["payments_currency"])), {"97": 171.0, "98": 164.0})
+        self.assertEqual(texts["97"].name, "hull settle")
+
+    def test_the_unit_of_numbers(self):
+        text = settled(98)
+        with warnings.catch_warnings():
+            warnings.simplefilter("error")
+            for call in (hulltools.frames, hulltools.Settlement.frames):
+                self.assertEqual(call(text, money="currency")["runs"]["payments_currency"].tolist(), [164.0])
+                self.assertEqual(call(text, money="millionths")["runs"]["payments_millionths"].tolist(), [164000000])
+                with self.assertRaisesRegex(hulltools.HullError, 'money is EUR: "currency" or "millionths" is due'):
+                    call(text, money="EUR")
+
+    def test_the_flag_of_before_is_taken_still(self):
+        text = settled(98)
+        for call in (hulltools.frames, hulltools.Settlement.frames):
+            for found, head in (
+                (lambda: call(text, currency=False), "payments_millionths"),
+                (lambda: call(text, None, None, False), "payments_millionths"),
+                (lambda: call(text, currency=True), "payments_currency"),
+            ):
+                with self.assertWarnsRegex(DeprecationWarning, 'money="millionths"') as warned:
+                    self.assertIn(head, found()["runs"])
+                self.assertEqual(warned.filename, __file__)
+
+
+if __name__ == "__main__":
+    unittest.main()
