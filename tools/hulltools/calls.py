@@ -8,7 +8,7 @@ from __future__ import annotations
 import contextlib
 import os
 import tempfile
-from typing import TYPE_CHECKING, Dict, Iterator, List, Mapping, Optional, Sequence
+from typing import TYPE_CHECKING, Any, Dict, Iterator, List, Mapping, Optional, Sequence, cast
 
 from .errors import HullError, Name
 from .inputs import (
@@ -171,6 +171,8 @@ class Room:
         except HullError as why:
             why.args = (self.without_places(str(why)),)
             why.sentence = why.sentence and self.without_places(why.sentence)
+            for place, note in enumerate(getattr(why, "__notes__", [])):
+                cast(Any, why).__notes__[place] = self.without_places(note)
             raise
 
     def without_places(self, text: str) -> str:

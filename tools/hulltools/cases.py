@@ -98,7 +98,7 @@ class Bid:
 Unit = Union[Thermal, Renewable, Bid]
 
 
-@dataclass
+@dataclass(repr=False)
 class Case:
     """Demand and required reserve of each period in kilowatts, and the units and bids in the file's order."""
 
@@ -108,6 +108,10 @@ class Case:
     thermal: list[Thermal] = field(default_factory=list)
     renewable: list[Renewable] = field(default_factory=list)
     bids: list[Bid] = field(default_factory=list)
+
+    def __repr__(self) -> str:
+        counts = f"thermal={len(self.thermal)}, renewable={len(self.renewable)}, bids={len(self.bids)}"
+        return f"<Case: periods={self.periods}, {counts}>"
 
     @property
     def units(self) -> list[tuple[str, Unit]]:

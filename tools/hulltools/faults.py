@@ -179,7 +179,7 @@ def hint_of_field(files: Files, what: str, code: int, limit: str, listed: Any) -
         return " Are the files swapped?"
     if code == 24 and limit.endswith(" MW"):
         return " A case is in megawatts: are these kilowatts?"
-    if code == 25 and isinstance(listed, list):
+    if code == 25 and isinstance(listed, list) and what not in files.shown:  # (Python has no decimal commas)
         return hint_of_items(files, listed)
     return ""
 

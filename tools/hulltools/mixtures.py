@@ -25,12 +25,16 @@ class Entry:
         return {"weight": self.weight, "on": self.plan.on, "power": self.plan.power, "reserve": self.plan.reserve}
 
 
-@dataclass
+@dataclass(repr=False)
 class Mixture:
     """For each thermal unit, by name, entries whose weights sum to `weight`."""
 
     weight: int
     thermal: dict[str, list[Entry]]
+
+    def __repr__(self) -> str:
+        entries = sum(map(len, self.thermal.values()))
+        return f"<Mixture: weight={self.weight}, thermal={len(self.thermal)}, entries={entries}>"
 
     def text(self) -> str:
         """The file that `hull certify` reads."""

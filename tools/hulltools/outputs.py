@@ -138,7 +138,7 @@ def frames(
     return frames_of(tables, start, hours_per_period)
 
 
-@dataclass
+@dataclass(repr=False)
 class Priced(Text):
     """What reports and settlements have in common: one list of prices, and what each unit is owed at it."""
 
@@ -150,6 +150,10 @@ class Priced(Text):
     surplus: Millionths
     payments: Millionths
     gap: Millionths
+
+    def __repr__(self) -> str:
+        sums = f"payments={self.payments}, gap={self.gap}, cost={self.cost}"
+        return f"<{type(self).__name__} {self.name!r}: periods={self.periods}, units={len(self.units)}, {sums}>"
 
     @property
     def prices(self) -> Prices:
@@ -165,7 +169,7 @@ class Priced(Text):
         return Millionths(sum(unit.make_whole for unit in self.units))
 
 
-@dataclass
+@dataclass(repr=False)
 class Report(Priced):
     """The text of `hull price`."""
 
@@ -179,7 +183,7 @@ class Report(Priced):
         return self.best.number
 
 
-@dataclass
+@dataclass(repr=False)
 class Settlement(Priced):
     """The text of `hull settle`."""
 
@@ -190,7 +194,7 @@ class Settlement(Priced):
         return [self.best]
 
 
-@dataclass
+@dataclass(repr=False)
 class Convex(Priced):
     """The text of `hull convex`: prices with their settlement, and the mixture that bounds the dual value of all prices."""
 
@@ -239,7 +243,7 @@ class Side:
     surplus: Millionths = Millionths(0)
 
 
-@dataclass
+@dataclass(repr=False)
 class Fixed(Text):
     """The text of `hull fixed`: the sides `hull` and `fixed`, and (kind, name, payment, payment) of each unit."""
 
@@ -249,6 +253,10 @@ class Fixed(Text):
     fixed: Side
     units: list[tuple[str, str, Millionths, Millionths]]
     cost: Millionths
+
+    def __repr__(self) -> str:
+        payments = f"payments={self.hull.payments} and {self.fixed.payments}"
+        return f"<Fixed {self.name!r}: units={len(self.units)}, {payments}, cost={self.cost}>"
 
 
 @dataclass

@@ -49,4 +49,7 @@ def refusal(words: Sequence[str], status: int, output: bytes) -> HullError:
     except HullError:
         said = None
     number = int(code.group(1)) if code else None
-    return HullError(told, status, number, unit_of(line, files), number_behind("period", line), said)
+    error = HullError(told, status, number, unit_of(line, files), number_behind("period", line), said)
+    if said is not None and hasattr(error, "add_note"):  # (from Python 3.11 on, which shows it below the error)
+        error.add_note(said)
+    return error

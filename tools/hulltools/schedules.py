@@ -26,11 +26,15 @@ def flat_plan(power: list[Kilowatts]) -> Plan:
     return Plan([1] * len(power), power, [Kilowatts(0)] * len(power))
 
 
-@dataclass
+@dataclass(repr=False)
 class Schedule:
     """A plan for each unit and bid, by kind and name."""
 
     plans: dict[tuple[str, str], Plan]
+
+    def __repr__(self) -> str:
+        periods = max((len(plan.on) for plan in self.plans.values()), default=0)
+        return f"<Schedule: periods={periods}, units={len(self.plans)}>"
 
     def plan(self, kind: str, name: str) -> Plan:
         return self.plans[kind, name]

@@ -64,7 +64,7 @@ class Paid:
     flows: List[UnitFlows]
 
 
-@dataclass
+@dataclass(repr=False)
 class Study:
     """What was found: the lists by key, the certificate of convex hull prices where there are such, and the cost of the best schedule known."""
 
@@ -81,6 +81,10 @@ class Study:
     is_short: bool = False  # (whether a schedule or a list that was to be made wasn't)
     missing: List[str] = field(default_factory=list)  # names of lists that an interrupt left out
     interrupted: Optional[Interrupted] = None
+
+    def __repr__(self) -> str:
+        names = ", ".join(settled.list.name for settled in self.in_order())
+        return f"<Study {self.wanted.title!r}: cost={self.cost}, lists={names}>"
 
     @property
     def clock(self) -> Clock:

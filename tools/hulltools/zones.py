@@ -62,13 +62,17 @@ def read_zones(name: Name, case: Case) -> Zones:
     return zones_of(name, read_json(name, "zones"), case)
 
 
-@dataclass
+@dataclass(repr=False)
 class Zonal:
     """What each unit is owed at its zone's prices. There is no dual value of them all, and no gap: these are of one price list."""
 
     zones: Zones
     settlements: Dict[str, Settlement]
     flows: List[UnitFlows]
+
+    def __repr__(self) -> str:
+        payments = sum(unit.payment for unit in self.units)
+        return f"<Zonal: zones={len(self.settlements)}, units={len(self.flows)}, payments={payments}>"
 
     @property
     def units(self) -> List[Owed]:

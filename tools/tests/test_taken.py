@@ -136,6 +136,10 @@ class Sentences(unittest.TestCase):
         text = f"{EXAMPLES}/day/price.output"
         self.assertTrue(self.sentence(hulltools.settle, *USUAL, text).startswith(f"the prices in {text}: energy: "))
 
+    def test_no_decimal_comma_is_guessed_of_a_list(self):
+        sentence = self.sentence(hulltools.settle, *USUAL, hulltools.per_mwh([98, 99]))
+        self.assertTrue(sentence.endswith("Found: [98, 99]; it has 2 items."), sentence)
+
     def test_a_file_that_was_named_is_named(self):
         name = f"{EXAMPLES}/evening/schedule.json"
         self.assertTrue(self.sentence(hulltools.check, USUAL[0], name).startswith(f"{name}: "))
@@ -156,6 +160,27 @@ class Sentences(unittest.TestCase):
         ):
             with self.assertRaisesRegex(hulltools.HullError, f"^the {what} given: "):
                 read(given)
+
+
+class Shown(unittest.TestCase):
+    def test_an_object_is_shown_in_a_short_line(self):
+        day = [f"{EXAMPLES}/day/{name}" for name in ("case.json", "schedule.json", "price.output", "fixed.output")]
+        case = hulltools.read_case(day[0])
+        found = [case, hulltools.read_schedule(day[1], case), *map(hulltools.read_output, day[2:])]
+        convex = hulltools.convex_prices(*USUAL, hull=PROGRAM)
+        zonal = hulltools.settle_zones(*USUAL, {"zones": {"all": {"energy": [98]}}, "default": "all"}, hull=PROGRAM)
+        for shown in map(repr, [*found, convex, convex.mixture, settled(convex), zonal]):
+            self.assertTrue(len(shown) < 160 + len(EXAMPLES) and "\n" not in shown, shown)
+        self.assertEqual(repr(case), "<Case: periods=48, thermal=73, renewable=81, bids=0>")
+        sums = "payments=164000000, gap=164000000, cost=850000000"
+        text = settled(hulltools.per_mwh(98))
+        self.assertEqual(repr(text), f"<Settlement 'hull settle': periods=1, units=2, {sums}>")
+
+    def test_an_error_is_shown_with_its_sentence(self):
+        with self.assertRaises(hulltools.HullError) as found:
+            hulltools.check(USUAL[0], f"{EXAMPLES}/evening/schedule.json", PROGRAM)
+        due = [found.exception.sentence] if sys.version_info >= (3, 11) else []
+        self.assertEqual(getattr(found.exception, "__notes__", []), due)
 
 
 class Paths(unittest.TestCase):

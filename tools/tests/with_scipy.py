@@ -411,6 +411,7 @@ class Calls(unittest.TestCase):
             best_schedule=best, start="2026-07-01T00:00", currency="EUR", prices={"Posted": {"energy": [40.5]}}
         )
         found = hulltools.study(self.case, self.schedule, hull=PROGRAM, **words)
+        self.assertRegex(repr(found), r"^<Study '': cost=\d+, lists=Convex hull \(certified\), LMP, .*Posted>$")
         frames = found.frames()
         lists = frames["lists"].set_index("list")
         self.assertEqual(list(lists["gap_schedule_eur"]), [400.0] * 5)
