@@ -10,7 +10,7 @@ refuses, is raised as `HullError` with one line. docs/PYTHON.md is the way in.
 """
 from __future__ import annotations
 
-from typing import TYPE_CHECKING, Any, Optional, Union
+from typing import TYPE_CHECKING, Any, List, Optional, Union
 
 from .cases import Bid, Case, Renewable, Thermal, read_case
 from .errors import HullError, Name
@@ -46,6 +46,11 @@ def __getattr__(name: str) -> Any:
     from . import calls
 
     return getattr(calls, name)
+
+
+def __dir__() -> List[str]:
+    """All names, for an editor or a notebook that completes them, also where SciPy isn't loaded yet."""
+    return sorted({*globals(), *CALLS})
 
 
 def check(case: GivenCase, schedule: GivenSchedule, hull: Optional[Name] = None) -> Millionths:

@@ -536,9 +536,9 @@ def read_certificate_text(name: Name) -> Certificate:
     return cast(Certificate, read_output(name, ("hull-certificate 1",)))
 
 
-def read_output(name: Name, due: Sequence[str] = tuple(FORMS)) -> Output:
+def read_output(name: Name, due: Optional[Sequence[str]] = None) -> Output:
     """The text of `hull price`, `settle`, `convex`, `bound`, `fixed` or `certify` in a file, in millionths and kilowatts.
 
-    `due` are the first lines that are taken. Raises `HullError` where the text is none of these, or where `hull audit` would call it out of form.
+    `due` are the first lines that are taken, or None for each of them. Raises `HullError` where the text is none of these, or where `hull audit` would call it out of form.
     """
-    return parse_output(name, read_bytes(name, "a text of hull", most=2**31, begins=b"hull-"), due)
+    return parse_output(name, read_bytes(name, "a text of hull", most=2**31, begins=b"hull-"), due or tuple(FORMS))

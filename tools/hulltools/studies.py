@@ -4,7 +4,7 @@ from __future__ import annotations
 import os
 import signal
 from dataclasses import dataclass, field, replace
-from typing import Any, Callable, Dict, Iterator, List, Optional, Sequence, Set, Tuple, Union
+from typing import TYPE_CHECKING, Callable, Dict, Iterator, List, Optional, Sequence, Set, Tuple, Union
 
 from .apart import OverTime
 from .cases import Case
@@ -26,6 +26,9 @@ from .schedules import Schedule
 from .search_limits import SECONDS
 from .settlement_rules import RULES
 from .zones import Zonal, Zones, settle_zones
+
+if TYPE_CHECKING:
+    from pandas import DataFrame
 
 
 @dataclass
@@ -117,7 +120,7 @@ class Study:
             self.lists.values(), key=lambda it: order.index(it.list.key) if it.list.key in order else len(order)
         )
 
-    def frames(self) -> Dict[str, Any]:
+    def frames(self) -> Dict[str, DataFrame]:
         """The tables `lists`, `units` and `hours` as data frames of pandas; hours are indexed by time where the start is known."""
         from .study_tables import frames_of_study
 

@@ -1,5 +1,5 @@
 """The tables of a study: a row for each list, for each list and unit, and for each list and period."""
-from typing import TYPE_CHECKING, Any, Dict, List, Optional, Tuple
+from typing import TYPE_CHECKING, Dict, List, Optional, Tuple
 
 from .cash_flows import KINDS, UnitFlows, total, uplift_by_period
 from .settlement_rules import RULES, bill, forced_loss, paid_by_kind
@@ -7,6 +7,8 @@ from .tables import Table, frames_of
 from .zones import Zonal
 
 if TYPE_CHECKING:
+    from pandas import DataFrame
+
     from .studies import Settled, Study
 
 SUMS = (
@@ -102,7 +104,7 @@ def tables_of_study(study: "Study") -> Dict[str, Table]:
     return {"table.csv": lists_table(study), "units.csv": units_table(study), "hours.csv": hours_table(study)}
 
 
-def frames_of_study(study: "Study") -> Dict[str, Any]:
+def frames_of_study(study: "Study") -> Dict[str, "DataFrame"]:
     """The tables as data frames of pandas."""
     tables = {"lists": lists_table(study), "units": units_table(study), "hours": hours_table(study)}
     clock = study.clock

@@ -1,7 +1,7 @@
 """Prices by zone: a file of price lists and of each unit's zone, and what each unit is owed at the prices of its own."""
 import json
 from dataclasses import dataclass
-from typing import Any, Callable, Dict, List, Optional
+from typing import TYPE_CHECKING, Any, Callable, Dict, List, Optional
 
 from .cases import Case
 from .cash_flows import UnitFlows, unit_flows
@@ -12,6 +12,9 @@ from .outputs import Owed, Settlement
 from .prices import Prices, prices_of
 from .progress import step
 from .schedules import Schedule
+
+if TYPE_CHECKING:
+    from pandas import DataFrame
 
 
 @dataclass
@@ -78,7 +81,7 @@ class Zonal:
     def units(self) -> List[Owed]:
         return [unit.owed for unit in self.flows]
 
-    def frame(self) -> Any:
+    def frame(self) -> "DataFrame":
         """A row for each unit, as a data frame of pandas."""
         from .study_tables import zonal_table
         from .tables import frames_of
