@@ -1,6 +1,5 @@
 """The package hulltools: readers, costs, the mixture's bound; what needs SciPy runs in a Python that has it (with_scipy.py)."""
 import doctest
-import inspect
 import os
 import random
 import re
@@ -8,7 +7,6 @@ import signal
 import subprocess
 import sys
 import tempfile
-import typing
 import unittest
 from fractions import Fraction
 from unittest import mock
@@ -20,7 +18,7 @@ from hulltools.costs import envelope, most_below_lines
 from hulltools.json_texts import Refused, parse
 from hulltools.mixtures import Entry, Mixture
 from hulltools.numbers import decimal_text, kilowatts, money
-from hulltools.outputs import Output, Owed
+from hulltools.outputs import Owed
 from hulltools.schedules import Plan
 
 
@@ -286,14 +284,6 @@ class Temporary(unittest.TestCase):
         self.assertEqual(os.listdir(self.room), [])
 
 
-def types_given_by(call):
-    """The names of the types of what a call or a class gives."""
-    found = call if isinstance(call, type) else call.__annotations__["return"]
-    if found == "Output":
-        return [part.__name__ for part in typing.get_args(Output)]
-    return [found if isinstance(found, str) else found.__name__]
-
-
 class Pages(unittest.TestCase):
     def test_the_session_of_the_page_runs(self):
         """docs/PYTHON.md, in the folder of the examples."""
@@ -307,17 +297,6 @@ class Pages(unittest.TestCase):
             os.environ.pop("HULL") if known is None else os.environ.update(HULL=known)
         self.assertEqual(failed, 0)
         self.assertGreater(tried, 5)
-
-    def test_the_page_says_what_each_call_takes_and_gives(self):
-        with open(f"{ROOT}/docs/PYTHON.md", encoding="utf-8") as page:
-            part = page.read().split("## What there is")[1]
-        rows = re.findall(r"^\| `(\w+)\(([^`]*)\)` \| (.+?) \|", part, re.M)
-        self.assertGreater(len(rows), 15)
-        for name, takes, gives in rows:
-            call = getattr(hulltools, name)
-            told = {words.split(":")[0] for words in takes.split(", ")} - {".."}
-            self.assertLessEqual(told, set(inspect.signature(call).parameters), name)
-            self.assertEqual(re.findall(r"`([^`]+)`", gives), types_given_by(call), name)
 
     def test_data_frames(self):
         python = python_with("pandas")

@@ -1,8 +1,13 @@
 """What of the package needs pandas: the data frames of texts; test_frames.py runs these in a Python that has it."""
+import importlib.util
+import os
+import re
+import tempfile
 import unittest
 import warnings
+from unittest import mock
 
-from tool import EXAMPLES, PROGRAM
+from tool import EXAMPLES, PROGRAM, ROOT
 
 import hulltools
 
@@ -59,6 +64,25 @@ class Frames(unittest.TestCase):
                 with self.assertWarnsRegex(DeprecationWarning, 'money="millionths"') as warned:
                     self.assertIn(head, found()["runs"])
                 self.assertEqual(warned.filename, __file__)
+
+
+class Page(unittest.TestCase):
+    def test_several_price_lists_run_as_the_page_has_them(self):
+        """The first program of docs/PYTHON.md; its picture is drawn where matplotlib is."""
+        with open(f"{ROOT}/docs/PYTHON.md", encoding="utf-8") as page:
+            program = re.search(r"```python\n(.*?)```", page.read(), re.S)[1]
+        if importlib.util.find_spec("matplotlib") is None:
+            program = "".join(line for line in program.splitlines(True) if ".plot." not in line)
+        known = {"hulltools": hulltools, "files": USUAL}
+        here = os.getcwd()
+        with tempfile.TemporaryDirectory() as room, mock.patch.dict(os.environ, HULL=PROGRAM, MPLBACKEND="agg"):
+            os.chdir(room)
+            try:
+                exec(program, known)
+            finally:
+                os.chdir(here)
+        self.assertEqual(list(known["payments"].columns), ["97", "98", "99", "hull"])
+        self.assertEqual(known["payments"]["97"].to_dict(), {("renewable", "W1"): 97.0, ("thermal", "G1"): 74.0})
 
 
 if __name__ == "__main__":

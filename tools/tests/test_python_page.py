@@ -1,0 +1,184 @@
+"""The tables of docs/PYTHON.md are what the code has: calls with their defaults, parameters with their types, and columns of data frames."""
+import ast
+import dataclasses
+import inspect
+import re
+import sys
+import textwrap
+import typing
+import unittest
+
+from tool import EXAMPLES, ROOT
+
+import hulltools
+from hulltools import inputs, outputs, studies, zones
+from hulltools.provenance import Provenance, Source
+from hulltools.study_tables import hours_table, lists_table, units_table, zonal_table
+from hulltools.tables import HEADS, UNITS, Table
+
+OF_NUMBERS = {"in_currency", "in_currency_per_mw", "in_megawatts"}  # (these have a table of their own)
+CODE = re.compile(r"`([^`]+)`")
+
+
+def page():
+    with open(f"{ROOT}/docs/PYTHON.md", encoding="utf-8") as text:
+        return text.read()
+
+
+def rows_below(head):
+    """The rows of the table with a head, each as its cells."""
+    below = page().partition(f"\n{head}\n")[2].split("\n\n")[0]
+    return [[cell.strip() for cell in row.strip("|").split(" |")] for row in below.split("\n")[1:]]
+
+
+def call_named(name):
+    """A function or a class of the package, or a method."""
+    owner, _, method = name.rpartition(".")
+    holders = (hulltools, outputs, studies, zones)
+    if not owner:
+        return getattr(hulltools, name)
+    return getattr(next(getattr(holder, owner) for holder in holders if hasattr(holder, owner)), method)
+
+
+def definition(call):
+    """The syntax tree of a function, or of what makes an object of a class."""
+    function = call.__init__ if isinstance(call, type) else call
+    return ast.parse(textwrap.dedent(inspect.getsource(function))).body[0]
+
+
+def types_of(annotation):
+    """The types that an annotation has, but for None."""
+    if isinstance(annotation, ast.Constant):
+        return [] if annotation.value is None else types_of(ast.parse(annotation.value, mode="eval").body)
+    holder = ast.unparse(annotation.value) if isinstance(annotation, ast.Subscript) else ""
+    if holder == "Optional":
+        return types_of(annotation.slice)
+    if holder == "Union":
+        return [name for part in annotation.slice.elts for name in types_of(part)]
+    return [ast.unparse(annotation).replace("Dict[", "dict[").replace("'", "")]
+
+
+def told_call(name):
+    """A call as the page has it, with its defaults."""
+    signature = inspect.signature(call_named(name))
+    plain = [
+        it.replace(annotation=inspect.Parameter.empty) for it in signature.parameters.values() if it.name != "self"
+    ]
+    return f"{name}{inspect.Signature(plain)}"
+
+
+def given_by(name):
+    """The types of what a call gives."""
+    call = call_named(name)
+    if isinstance(call, type):
+        return [call.__name__]
+    found = types_of(definition(call).returns)
+    return [part.__name__ for part in typing.get_args(outputs.Output)] if found == ["Output"] else found
+
+
+def parameters_of(name):
+    """Each parameter of a call with its types."""
+    given = definition(call_named(name)).args
+    rest = [it for it in (given.vararg, given.kwarg) if it]
+    named = [it for it in (*given.args, *given.kwonlyargs, *rest) if it.arg != "self"]
+    return {(it.arg, tuple(types_of(it.annotation))) for it in named}
+
+
+class Calls(unittest.TestCase):
+    def setUp(self):
+        self.calls = [(CODE.findall(call)[0], gives) for call, gives, _ in rows_below("| Call | Gives | What it is |")]
+        self.names = [call.partition("(")[0] for call, _ in self.calls]
+
+    def test_defaults_are_those_of_the_code(self):
+        self.assertEqual([call for call, _ in self.calls], [told_call(name) for name in self.names])
+
+    def test_what_is_given_is_what_the_code_gives(self):
+        for name, (_, gives) in zip(self.names, self.calls):
+            with self.subTest(name):
+                self.assertEqual(CODE.findall(gives), given_by(name))
+
+    def test_each_function_of_the_package_is_told(self):
+        functions = {name for name in hulltools.__all__ if inspect.isfunction(getattr(hulltools, name))}
+        self.assertGreater(len(functions), 20)
+        self.assertEqual(functions - OF_NUMBERS - set(self.names), set())
+        self.assertEqual({name for name in OF_NUMBERS if f"`{name}(" not in page()}, set())
+        self.assertEqual(functions - set(dir(hulltools)), set())
+
+    def test_parameters_have_the_types_of_the_code(self):
+        rows = rows_below("| Parameter | Type | What it is |")
+        told = [(name, tuple(CODE.findall(types))) for names, types, _ in rows for name in CODE.findall(names)]
+        self.assertEqual(len(told), len(set(told)))
+        self.assertEqual(set(told), {it for name in self.names for it in parameters_of(name)})
+
+    def test_what_calls_take_is_what_the_code_takes(self):
+        names = {inspect.formatannotation(part): "Name" for part in typing.get_args(inputs.Name)}
+        checked = 0
+        for row, takes in rows_below("| Type | What it may be |"):
+            kind = CODE.findall(row)[0]
+            parts = typing.get_args(getattr(inputs, kind, None)) if kind.startswith("Given") else ()
+            due = {names.get(inspect.formatannotation(part), getattr(part, "__name__", "")) for part in parts}
+            if parts:
+                told, has, more = takes.partition(", or what has")
+                self.assertEqual(set(CODE.findall(told)) | {f"Has{word}" for word in has_of(more)}, due, kind)
+                checked += 1
+        self.assertEqual(checked, 5)
+
+
+def has_of(text):
+    """The member that an object has to have, as the name of a protocol has it."""
+    return [word.capitalize() for word in CODE.findall(text)[:1]]
+
+
+def told_columns(row):
+    """The whole names of the columns that a row tells."""
+    return [[f"{name}{end}" for name in CODE.findall(cell)] for end, cell in zip(ENDS, row[2:])]
+
+
+ENDS = ("", *(f"_{UNITS[unit][2]}" for unit in ("money", "price", "kw")))
+
+
+class Members(unittest.TestCase):
+    def test_objects_have_the_members_that_are_told(self):
+        rows = rows_below("| Type | Members |")
+        self.assertGreater(len(rows), 8)
+        for types, told in rows:
+            names = [re.match(r"\w+", code)[0] for code in CODE.findall(told)]
+            for name in CODE.findall(types):
+                kind = getattr(hulltools, name)
+                known = {*dir(kind), *(field.name for field in dataclasses.fields(kind))}
+                self.assertEqual([member for member in names if member not in known], [], name)
+
+
+class Columns(unittest.TestCase):
+    HEAD = " | A row for each | Without an end | `_currency` | `_currency_per_mw` | `_mw` |"
+
+    def check_frames(self, kind, tables):
+        rows = rows_below(f"| {kind}{self.HEAD}")
+        self.assertEqual([CODE.findall(row[0])[0] for row in rows], list(tables))
+        for row, (name, table) in zip(rows, tables.items()):
+            columns = told_columns(row)
+            self.assertEqual(sorted(name for part in columns for name in part), sorted(table.heads), name)
+            with_an_end = [head for head in table.heads if head.endswith(ENDS[1:])]
+            self.assertEqual(sorted(name for part in columns[1:] for name in part), sorted(with_an_end), name)
+            # (in the order of the columns, as far as a cell goes)
+            for part in columns:
+                self.assertEqual(part, [head for head in table.heads if head in part], name)
+
+    def test_frames_of_texts(self):
+        self.check_frames("Frame of a text", {name: Table(heads.split(), True) for name, heads in HEADS.items()})
+        ends = {f"`_{exact}`" for _, exact, _ in UNITS.values()}
+        told = re.search(r"With `money=\"millionths\"` the ends are\s+([^.]+)\.", page())
+        self.assertEqual({f"`{end}`" for end in CODE.findall(told[1])}, ends)
+
+    def test_frames_of_a_study(self):
+        case = hulltools.read_case(f"{EXAMPLES}/usual/case.json")
+        versions = dict.fromkeys(("hull", "python", "scipy", "highs"), "")
+        origin = Provenance("case", "", Source("schedule", "", ""), None, versions, "", "")
+        study = studies.Study(case, hulltools.Schedule({}), studies.Wanted(), origin, 0)
+        tables = {"lists": lists_table(study), "units": units_table(study), "hours": hours_table(study)}
+        zonal = zones.Zonal(zones.Zones({}, {}), {}, [])
+        self.check_frames("Frame of a study", {**tables, "Zonal.frame()": zonal_table(zonal)})
+
+
+if __name__ == "__main__":
+    sys.exit(unittest.main())
