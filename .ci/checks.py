@@ -19,8 +19,8 @@ def main():
     sys.dont_write_bytecode = True
     # Who starts this in the background of a script, or by nohup, has some signals ignored, and what the checks start would inherit that.
     signal.signal(signal.SIGINT, signal.default_int_handler)
-    for it in (signal.SIGHUP, signal.SIGQUIT, signal.SIGTERM):
-        signal.signal(it, signal.SIG_DFL)
+    for number in (signal.SIGHUP, signal.SIGQUIT, signal.SIGTERM):
+        signal.signal(number, signal.SIG_DFL)
     if subprocess.run([f"{ROOT}/tools/program.sh"], stdout=subprocess.DEVNULL, check=False).returncode:
         print("there is no program that is made of these files: .ci/run, or ./hull, builds it\n0 passed, 1 failed")
         return 1

@@ -130,8 +130,8 @@ def row(program, folder, name, files):
     """Prints the line of a case, and answers whether all is well."""
     to = os.path.join(folder, "text")
     status, seconds, memory = measure(program, ["convex", *files], to)
-    with open(to, "rb") as it:
-        text = it.read()
+    with open(to, "rb") as file:
+        text = file.read()
     if status:
         print(f"{name:28} status {status} {text[:60]!r}", flush=True)
         return False

@@ -206,15 +206,15 @@ def make(thermal, renewables, periods, reserve, seed, bids=0, windows=False, mus
         "renewable_generators": {
             f"R{i:04}": {
                 "power_output_minimum": [0] * periods,
-                "power_output_maximum": [x / 1000 for x in it],
+                "power_output_maximum": [x / 1000 for x in powers],
             }
-            for i, it in enumerate(others, 1)
+            for i, powers in enumerate(others, 1)
         },
     }
     schedule = {
         "thermal": {
-            f"T{i:04}": {"on": [int(x) for x in it.on], "power": it.power, "reserve": kept}
-            for i, (it, kept) in enumerate(zip(units, reserves), 1)
+            f"T{i:04}": {"on": [int(x) for x in unit.on], "power": unit.power, "reserve": kept}
+            for i, (unit, kept) in enumerate(zip(units, reserves), 1)
         },
         "renewable": {f"R{i:04}": it for i, it in enumerate(others, 1)},
     }
@@ -226,9 +226,9 @@ def make(thermal, renewables, periods, reserve, seed, bids=0, windows=False, mus
 
 def write(folder, **size):
     os.makedirs(folder, exist_ok=True)
-    for name, it in zip(("case", "schedule"), make(**size)):
+    for name, value in zip(("case", "schedule"), make(**size)):
         with open(f"{folder}/{name}.json", "w", encoding="utf-8") as to:
-            json.dump(it, to)
+            json.dump(value, to)
             to.write("\n")
 
 
@@ -239,17 +239,17 @@ def main():
         ask.add_argument(f"--{word}", type=int, default=usual)
     ask.add_argument("--windows", action="store_true")
     ask.add_argument("--must-run", action="store_true")
-    it = ask.parse_args()
+    given = ask.parse_args()
     write(
-        it.folder,
-        thermal=it.thermal,
-        renewables=it.renewable,
-        periods=it.periods,
-        reserve=it.reserve,
-        bids=it.bids,
-        windows=it.windows,
-        must_run=it.must_run,
-        seed=it.seed,
+        given.folder,
+        thermal=given.thermal,
+        renewables=given.renewable,
+        periods=given.periods,
+        reserve=given.reserve,
+        bids=given.bids,
+        windows=given.windows,
+        must_run=given.must_run,
+        seed=given.seed,
     )
 
 

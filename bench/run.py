@@ -58,10 +58,10 @@ def write_large_report(name):
     foot = 'chosen 1 value 0\nunit renewable "W" earned 0 scheduled 0 payment 0\npower' + " 0" * 168 + "\n"
     foot += "surplus 0\npayments 0\ngap 0\nend\n"
     count = (LARGEST - len(head) - len(foot) - 10) // (len(row) + len("proposal 99999 value 9527786203035\n"))
-    with open(name, "w", encoding="utf-8") as it:
-        it.write(head % count)
-        it.writelines(f"proposal {number} value 9527786203035\n{row}" for number in range(1, count + 1))
-        it.write(foot)
+    with open(name, "w", encoding="utf-8") as file:
+        file.write(head % count)
+        file.writelines(f"proposal {number} value 9527786203035\n{row}" for number in range(1, count + 1))
+        file.write(foot)
 
 
 def files_of(name, room):
@@ -70,15 +70,15 @@ def files_of(name, room):
         return [f"{HOME}/examples/first/{it}.json" for it in ("case", "schedule")]
     day = [f"{HOME}/examples/day/{it}.json" for it in ("case", "schedule")]
     if name in ("spaces", "numbers"):
-        with open(day[0], encoding="utf-8") as it:
-            text = it.read().strip()
+        with open(day[0], encoding="utf-8") as file:
+            text = file.read().strip()
         filled = text + " " * (LARGEST - len(text))
         if name == "numbers":
             left = LARGEST - len(text) - len(',"x":[0]')
             filled = f'{text[:-1]},"x":[0{",0" * (left // 2)}{" " * (left % 2)}]}}'
         assert len(filled) == LARGEST
-        with open(f"{room}/{name}.json", "w", encoding="utf-8") as it:
-            it.write(filled)
+        with open(f"{room}/{name}.json", "w", encoding="utf-8") as file:
+            file.write(filled)
         return f"{room}/{name}.json", day[1]
     size = SIZES[name.split("-")[0]]
     if not size:

@@ -128,8 +128,8 @@ class Runner:
     def run(self, test, number, folder):
         """The test's end, with the allocation of that number refused; 0 refuses none."""
         notes = f"{folder}.notes"
-        with open(notes, "wb") as it:
-            it.write(bytes(NOTES.size))
+        with open(notes, "wb") as file:
+            file.write(bytes(NOTES.size))
         env = {**os.environ, "LD_PRELOAD": self.library, "NOTES": notes, "REFUSED": str(number or 1 << 60)}
         how = {
             "cwd": folder,
@@ -147,8 +147,8 @@ class Runner:
             except subprocess.TimeoutExpired:
                 run.kill()
                 status, (said, _) = None, run.communicate()
-        with open(notes, "rb") as it:
-            return Ended(status, said, NOTES.unpack(it.read()), time.monotonic() - began)
+        with open(notes, "rb") as file:
+            return Ended(status, said, NOTES.unpack(file.read()), time.monotonic() - began)
 
     def run_all(self, next_run, note):
         """Makes the runs that are told, a test and a number each, until none is, and notes their ends."""
@@ -165,8 +165,8 @@ class Runner:
                     note(*told, ended)
 
         with ThreadPoolExecutor(self.jobs) as pool:
-            for it in [pool.submit(one_after_another) for _ in range(self.jobs)]:
-                it.result()
+            for job in [pool.submit(one_after_another) for _ in range(self.jobs)]:
+                job.result()
 
     def run_each(self, tests, number, note):
         """Runs each test once."""
@@ -198,8 +198,8 @@ def refuse(runner, tests, given):
     until = time.monotonic() + 60 * given.minutes
     runner.run_each(tests, 0, note_whole)
     chance = random.Random(given.seed)
-    for it in tests:
-        it.todo = chance.sample(range(1, it.made + 1), min(it.made, given.most))
+    for test in tests:
+        test.todo = chance.sample(range(1, test.made + 1), min(test.made, given.most))
 
     def next_run():
         left = [it for it in tests if it.todo and len(it.wrong) < ENOUGH] if time.monotonic() < until else []

@@ -193,8 +193,8 @@ class Ran:
         self.output = output
 
     def text(self):
-        with open(self.output, encoding="utf-8") as it:
-            return it.read()
+        with open(self.output, encoding="utf-8") as file:
+            return file.read()
 
 
 def sums_of(path):
@@ -269,9 +269,9 @@ class Crowd:
         self.folder, self.program = folder, program
         case, schedule, self.cost = market(*size)
         self.units, self.periods = sum(size[:3]), size[3]
-        for name, it in (("case", case), ("schedule", schedule)):
+        for name, value in (("case", case), ("schedule", schedule)):
             with open(f"{folder}/{name}", "w", encoding="utf-8") as to:
-                json.dump(it, to, separators=(",", ":"))
+                json.dump(value, to, separators=(",", ":"))
 
     def run(self, command, *words, output="output"):
         files = [f"--case={self.folder}/case", f"--schedule={self.folder}/schedule"]
@@ -308,8 +308,8 @@ class Crowd:
 
     def settle(self, energy, reserve):
         """A settlement at the same prices in each period, whose sums agree."""
-        with open(f"{self.folder}/prices", "w", encoding="utf-8") as it:
-            json.dump({"energy": [energy] * self.periods, "reserve": [reserve] * self.periods}, it)
+        with open(f"{self.folder}/prices", "w", encoding="utf-8") as file:
+            json.dump({"energy": [energy] * self.periods, "reserve": [reserve] * self.periods}, file)
         ran = self.run("settle", f"--prices={self.folder}/prices", output="settlement")
         assert ran.status == 0, ran.text()[:200]
         assert settled_of(ran.output)["cost"] == self.cost
@@ -318,11 +318,11 @@ class Crowd:
     def certify(self, energy, reserve):
         """A certificate by the schedule alone, at the greatest weight: it can't bound by less than the schedule's cost where nothing is lacking."""
         self.settle(energy, reserve)
-        with open(f"{self.folder}/schedule", encoding="utf-8") as it:
-            units = json.load(it)["thermal"]
+        with open(f"{self.folder}/schedule", encoding="utf-8") as file:
+            units = json.load(file)["thermal"]
         mixed = {name: [{"weight": 10**12, **lists}] for name, lists in units.items()}
-        with open(f"{self.folder}/mixture", "w", encoding="utf-8") as it:
-            json.dump({"weight": 10**12, "thermal": mixed}, it, separators=(",", ":"))
+        with open(f"{self.folder}/mixture", "w", encoding="utf-8") as file:
+            json.dump({"weight": 10**12, "thermal": mixed}, file, separators=(",", ":"))
         ran = self.run(
             "certify", f"--prices={self.folder}/prices", f"--mixture={self.folder}/mixture", output="certificate"
         )

@@ -38,8 +38,8 @@ def least_stack(words, program):
 
 def told():
     """What the page tells, in kB."""
-    with open(f"{ROOT}/docs/FAULTS.md", encoding="utf-8") as it:
-        return int(re.search(r"`ulimit -s (\d+)`", it.read())[1])
+    with open(f"{ROOT}/docs/FAULTS.md", encoding="utf-8") as file:
+        return int(re.search(r"`ulimit -s (\d+)`", file.read())[1])
 
 
 class Stack(unittest.TestCase):
@@ -58,8 +58,8 @@ class Stack(unittest.TestCase):
             ([], (1, b"fault 1 words 1 0\n")),
         ]
         deep = f"{self.room}/deep.json"
-        with open(deep, "w", encoding="utf-8") as it:
-            it.write("[" * 10_000)
+        with open(deep, "w", encoding="utf-8") as file:
+            file.write("[" * 10_000)
         shown.append((["check", "--case", deep, "--schedule", "none"], (3, b"fault 3 case 12 at 32\n")))
         for words, due in shown:
             self.assertEqual(with_stack(words, told()), due)

@@ -44,9 +44,9 @@ class Concave:
         while all(both):
             length = min(it[0][0] for it in both)
             runs.append((length, sum(it[0][1] for it in both)))
-            for it in both:
-                left, slope = it[0][0] - length, it[0][1]
-                it[:1] = [(left, slope)] if left else []
+            for pieces in both:
+                left, slope = pieces[0][0] - length, pieces[0][1]
+                pieces[:1] = [(left, slope)] if left else []
         return Concave(self.low, self.value + other.value, runs)
 
     def within(self, low: int, high: int) -> Optional[Concave]:
@@ -323,18 +323,18 @@ class Case:
         self.demand, self.required = ([kilowatts(it) for it in case[word]] for word in ("demand", "reserves"))
         self.thermal = {name: Thermal(it, self.periods) for name, it in case["thermal_generators"].items()}
         self.renewable: dict[str, list[tuple[int, ...]]] = {
-            name: list(zip(*([kilowatts(x) for x in it[f"power_output_{end}imum"]] for end in ("min", "max"))))
-            for name, it in case["renewable_generators"].items()
+            name: list(zip(*([kilowatts(x) for x in unit[f"power_output_{end}imum"]] for end in ("min", "max"))))
+            for name, unit in case["renewable_generators"].items()
         }
         self.bids = {
-            name: [[(kilowatts(one["mw"]), kilowatts(one["price"])) for one in period] for period in it["blocks"]]
-            for name, it in case.get("demand_bids", {}).items()
+            name: [[(kilowatts(one["mw"]), kilowatts(one["price"])) for one in period] for period in bid["blocks"]]
+            for name, bid in case.get("demand_bids", {}).items()
         }
         self.plan = {name: list(zip(*(it[word] for word in LISTS))) for name, it in schedule["thermal"].items()}
         self.given, self.bought = schedule["renewable"], schedule.get("bids", {})
         produced = sum(unit.cost_of(self.plan[name]) for name, unit in self.thermal.items())
         self.cost = produced - sum(
-            worth(blocks, it) for name, all_ in self.bids.items() for blocks, it in zip(all_, self.bought[name])
+            worth(blocks, power) for name, all_ in self.bids.items() for blocks, power in zip(all_, self.bought[name])
         )
 
     def flat(self, period: int, price: int) -> int:
@@ -402,8 +402,8 @@ def quoted(name: str) -> str:
 
 def read(name: str) -> Any:
     """A JSON file, its decimals as they stand there."""
-    with open(name, encoding="utf-8") as it:
-        return json.load(it, parse_float=Decimal)
+    with open(name, encoding="utf-8") as file:
+        return json.load(file, parse_float=Decimal)
 
 
 def numbers(line: str, word: str) -> list[int]:

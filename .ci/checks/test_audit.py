@@ -176,8 +176,8 @@ class Audit(unittest.TestCase):
         self.assertEqual(self.audit("evening", right_report("two_units", 1, 1)), (8, b"fault 8 report 61 at 2\n"))
 
     def test_the_work_is_that_of_the_reports_budget(self):
-        with open(f"{EXAMPLES}/day/price.output", "rb") as it:
-            report = it.read()
+        with open(f"{EXAMPLES}/day/price.output", "rb") as file:
+            report = file.read()
         larger = report.replace(b"\nbudget 100\n", b"\nbudget 10000\n")
         self.assertNotEqual(report, larger)
         self.assertEqual(self.audit("day", larger), (5, b"fault 5 work 10000 154 48\n"))
@@ -185,8 +185,8 @@ class Audit(unittest.TestCase):
     def test_every_report_of_the_examples_is_right(self):
         tried = 0
         for words_file in glob.glob(f"{EXAMPLES}/**/*.words", recursive=True):
-            with open(words_file, encoding="utf-8") as it:
-                command, *words = shlex.split(it.read().replace("=", " "))
+            with open(words_file, encoding="utf-8") as file:
+                command, *words = shlex.split(file.read().replace("=", " "))
             if command != "price":
                 continue
             report = words_file.removesuffix(".words") + ".output"

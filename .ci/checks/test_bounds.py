@@ -38,7 +38,9 @@ def files_of_numbers():
 class Bounds(unittest.TestCase):
     def test_a_bound_stands_in_one_file(self):
         twice = {
-            it: sorted(files) for it, files in files_of_numbers().items() if len(files) > 1 and it not in allowed()
+            number: sorted(files)
+            for number, files in files_of_numbers().items()
+            if len(files) > 1 and number not in allowed()
         }
         self.assertEqual(twice, {}, "give each of these a name, or a line of bounds.txt")
 

@@ -103,8 +103,8 @@ class PlainCertify(unittest.TestCase):
 
 class Certify(unittest.TestCase):
     def certified(self, folder, data, radius):
-        with open(f"{folder}/mixture.json", "wb") as it:
-            it.write(data)
+        with open(f"{folder}/mixture.json", "wb") as file:
+            file.write(data)
         words = ["certify", "--case", "case.json", "--schedule", "schedule.json", "--prices", "prices.json"]
         words += ["--mixture", "mixture.json", "--radius", str(radius)]
         status, output, said = run(words, program=PROGRAM, folder=folder)
@@ -128,8 +128,8 @@ class Certify(unittest.TestCase):
             case = plain.draw_case(draw)
             with tempfile.TemporaryDirectory(prefix="hull-certify-") as folder, self.subTest(number=number):
                 case.write(folder)
-                with open(f"{folder}/prices.json", "w", encoding="utf-8") as it:
-                    json.dump({"energy": [0] * case.periods}, it)
+                with open(f"{folder}/prices.json", "w", encoding="utf-8") as file:
+                    json.dump({"energy": [0] * case.periods}, file)
                 for _ in range(SPOILED):
                     data = self.broken(draw, case)
                     self.check_file(case, folder, [[0] * case.periods] * 2, data, 0)
@@ -182,8 +182,8 @@ class Certify(unittest.TestCase):
             ]
             with tempfile.TemporaryDirectory(prefix="hull-certify-") as folder, self.subTest(number=number):
                 case.write(folder)
-                with open(f"{folder}/prices.json", "w", encoding="utf-8") as it:
-                    json.dump({key: [x / 1000 for x in xs] for key, xs in zip(("energy", "reserve"), prices)}, it)
+                with open(f"{folder}/prices.json", "w", encoding="utf-8") as file:
+                    json.dump({key: [x / 1000 for x in xs] for key, xs in zip(("energy", "reserve"), prices)}, file)
                 mixture = draw_mixture(draw, case)
                 data = json.dumps(mixture).encode()
                 for radius in RADIUSES:

@@ -27,13 +27,13 @@ def lines_of(text):
 
 
 def words_in(name):
-    with open(name, encoding="utf-8") as it:
-        return shlex.split(it.read())
+    with open(name, encoding="utf-8") as file:
+        return shlex.split(file.read())
 
 
 def read_bytes(name):
-    with open(name, "rb") as it:
-        return it.read()
+    with open(name, "rb") as file:
+        return file.read()
 
 
 def searches():

@@ -15,8 +15,8 @@ NAMED = re.compile(r"(?<![\w/.])((?:docs|examples|tools|bench|crates|\.ci)/[\w./
 
 class Docs(unittest.TestCase):
     def read(self, name):
-        with open(name, encoding="utf-8") as it:
-            return it.read()
+        with open(name, encoding="utf-8") as file:
+            return file.read()
 
     def text_of(self, crate: str) -> str:
         """The sources, definitions and proofs of a crate."""

@@ -46,24 +46,24 @@ class Edges(unittest.TestCase):
         self.assertEqual(self.hull(*words, **how), (int(line.split()[1]), f"{line}\n".encode(), b""))
 
     def write(self, name, data):
-        with open(f"{self.room}/{name}", "wb") as it:
-            it.write(data)
+        with open(f"{self.room}/{name}", "wb") as file:
+            file.write(data)
 
     def fed(self, data):
         """A FIFO that a thread fills with the bytes, and then closes."""
         os.mkfifo(f"{self.room}/pipe")
 
         def feed():
-            with open(f"{self.room}/pipe", "wb") as it:
-                it.write(data)
+            with open(f"{self.room}/pipe", "wb") as file:
+                file.write(data)
 
         writer = threading.Thread(target=feed, daemon=True)
         writer.start()
         return writer
 
     def read(self, name):
-        with open(f"{self.room}/{name}", "rb") as it:
-            return it.read()
+        with open(f"{self.room}/{name}", "rb") as file:
+            return file.read()
 
     def test_missing_file(self):
         self.refused("fault 2 read case", case="none.json")
@@ -115,8 +115,8 @@ class Edges(unittest.TestCase):
         self.write("large.json", prices + b" " * (LARGEST - len(prices)))
         words = ["settle", "--case", "case.json", "--schedule", "schedule.json", "--prices"]
         self.assertEqual(self.hull(*words, "large.json"), self.hull(*words, "prices.json"))
-        with open(f"{self.room}/large.json", "ab") as it:
-            it.write(b" ")
+        with open(f"{self.room}/large.json", "ab") as file:
+            file.write(b" ")
         self.settled("fault 9 prices 32", "large.json")
         self.settled("fault 9 prices 32", "/dev/zero")
 
@@ -188,8 +188,8 @@ class Edges(unittest.TestCase):
         report = self.read("report.txt")
         self.write("large.txt", report + b"\n" * (LARGEST - len(report)))
         self.audited(f"fault 8 report 60 at {report.count(10) + 1}", "large.txt")
-        with open(f"{self.room}/large.txt", "ab") as it:
-            it.write(b"\n")
+        with open(f"{self.room}/large.txt", "ab") as file:
+            file.write(b"\n")
         self.audited("fault 8 report 32", "large.txt")
         self.audited("fault 8 report 32", "/dev/zero")
 
@@ -282,8 +282,8 @@ class Edges(unittest.TestCase):
         case = self.read("case.json")
         self.write("large.json", case + b" " * (LARGEST - len(case)))
         self.assertEqual(self.price(case="large.json"), self.price())
-        with open(f"{self.room}/large.json", "ab") as it:
-            it.write(b" ")
+        with open(f"{self.room}/large.json", "ab") as file:
+            file.write(b" ")
         self.refused("fault 3 case 32", case="large.json")
         self.refused("fault 4 schedule 32", schedule="large.json")
 

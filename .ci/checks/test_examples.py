@@ -16,10 +16,10 @@ class Examples(unittest.TestCase):
 
 def check_of(words_file):
     def check(self):
-        with open(words_file, encoding="utf-8") as it:
-            words = shlex.split(it.read())
-        with open(words_file.removesuffix(".words") + ".output", "rb") as it:
-            due = it.read()
+        with open(words_file, encoding="utf-8") as file:
+            words = shlex.split(file.read())
+        with open(words_file.removesuffix(".words") + ".output", "rb") as file:
+            due = file.read()
         status, output, said = run(words, program=PROGRAM, folder=os.path.dirname(words_file))
         self.assertEqual(output.decode(errors="replace"), due.decode())
         self.assertEqual((status, said), (status_of(due), b""))

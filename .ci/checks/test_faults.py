@@ -29,7 +29,9 @@ class Faults(unittest.TestCase):
     def test_each_code_has_an_example(self):
         lines = [line.split() for _, line in rows()]
         told = {
-            (it[1], next(w for w in it[3:] if w.isdigit())) for it in lines if it[1] in ("1", "3", "4", "8", "9", "10")
+            (words[1], next(w for w in words[3:] if w.isdigit()))
+            for words in lines
+            if words[1] in ("1", "3", "4", "8", "9", "10")
         }
         due = (
             {("1", str(it)) for it in range(1, 9)}
@@ -61,15 +63,15 @@ def check_of(example, line):
         elif name == "mixture.json":
             words = ["certify", *FILES, "--prices", f"{EXAMPLES}/certified/prices.json", "--mixture", name]
         with tempfile.TemporaryDirectory() as room:
-            for it in ("case.json", "schedule.json"):
-                shutil.copy(f"{EXAMPLES}/{beside}/{it}", room)
+            for copied in ("case.json", "schedule.json"):
+                shutil.copy(f"{EXAMPLES}/{beside}/{copied}", room)
             if not os.path.exists(f"{room}/{name}"):
                 shutil.copy(f"{EXAMPLES}/{folder}/{name}", room)
-            with open(f"{room}/{name}", encoding="utf-8") as it:
-                text = it.read()
+            with open(f"{room}/{name}", encoding="utf-8") as file:
+                text = file.read()
             self.assertEqual(text.count(old), 1, f"{old} stands once in {folder}/{name}")
-            with open(f"{room}/{name}", "w", encoding="utf-8") as it:
-                it.write(text.replace(old, new))
+            with open(f"{room}/{name}", "w", encoding="utf-8") as file:
+                file.write(text.replace(old, new))
             self.assertEqual(run(words, folder=room), due)
 
     return check

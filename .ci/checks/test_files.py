@@ -42,8 +42,8 @@ class OpenedFiles(unittest.TestCase):
         for name in ("prices", "mixture"):
             shutil.copy(f"{EXAMPLES}/certified/{name}.json", self.room)
             os.rename(f"{self.room}/{name}.json", f"{self.room}/{name}")
-        with open(f"{self.room}/report", "wb") as it:
-            it.write(run(self.words("price"), folder=self.room)[1])
+        with open(f"{self.room}/report", "wb") as file:
+            file.write(run(self.words("price"), folder=self.room)[1])
 
     @staticmethod
     def words(command: str) -> list[str]:
@@ -54,8 +54,8 @@ class OpenedFiles(unittest.TestCase):
         trace = f"{self.room}/trace"
         command = [STRACE, "-f", "-qq", "-o", trace, "-e", "trace=%file", PROGRAM, *words]
         status = subprocess.run(command, cwd=self.room, stdout=subprocess.DEVNULL, check=False, timeout=120).returncode
-        with open(trace, encoding="utf-8") as it:
-            calls = re.findall(r'^\d+ +(\w+)\([^"\n]*"([^"\n]*)"', it.read(), re.M)
+        with open(trace, encoding="utf-8") as file:
+            calls = re.findall(r'^\d+ +(\w+)\([^"\n]*"([^"\n]*)"', file.read(), re.M)
         os.remove(trace)
         self.assertEqual(calls[0], ("execve", PROGRAM))
         return status, [it for it in calls[1:] if it[1] and not LOADER.fullmatch(it[1])]

@@ -14,15 +14,15 @@ with open(f"{ROOT}/docs/help.txt", encoding="utf-8") as page:
 # each command's words, and each option's place and text
 USAGES = dict(re.findall(r"^  hull ((?!help|version|prove)[a-z]+) (.+)$", HELP, re.M))
 OPTIONS = {
-    it[0]: " ".join(it[1].split())
-    for it in re.findall(r"^  (--[a-z]+|N)(?: [A-Z])? {2,}(.+(?:\n {10,}.+)*)", HELP, re.M)
+    row[0]: " ".join(row[1].split())
+    for row in re.findall(r"^  (--[a-z]+|N)(?: [A-Z])? {2,}(.+(?:\n {10,}.+)*)", HELP, re.M)
 }
 
 
 def manual():
     """The manual page's source without its marks."""
-    with open(f"{ROOT}/docs/hull.1", encoding="utf-8") as it:
-        lines = [line for line in it.read().split("\n") if not line.startswith('.\\"')]
+    with open(f"{ROOT}/docs/hull.1", encoding="utf-8") as file:
+        lines = [line for line in file.read().split("\n") if not line.startswith('.\\"')]
     plain = []
     for line in lines:
         mark = re.match(r"\.([A-Za-z]{1,2}) ?(.*)", line)
@@ -139,7 +139,8 @@ class Manual(unittest.TestCase):
             elif inside and mark != "br":
                 usages[-1].append(text)
         usages = [
-            words_of(re.sub(r"([\[\]])", r" \1 ", " ".join(it)).replace("[ ", "[").replace(" ]", "]")) for it in usages
+            words_of(re.sub(r"([\[\]])", r" \1 ", " ".join(usage)).replace("[ ", "[").replace(" ]", "]"))
+            for usage in usages
         ]
         due = [f"hull {command} {words}" for command, words in USAGES.items()]
         self.assertEqual([it for it in usages if it.split()[1] in USAGES], due)

@@ -26,9 +26,9 @@ class Largest(unittest.TestCase):
         self.addCleanup(shutil.rmtree, self.room)
 
     def price(self, case, schedule, *words):
-        for name, it in (("case", case), ("schedule", schedule)):
+        for name, value in (("case", case), ("schedule", schedule)):
             with open(f"{self.room}/{name}.json", "w", encoding="utf-8") as to:
-                to.write(it if isinstance(it, str) else json.dumps(it))
+                to.write(value if isinstance(value, str) else json.dumps(value))
         status, output, said = run(
             ["price", "--case", "case.json", "--schedule", "schedule.json", *words], folder=self.room
         )
@@ -136,8 +136,8 @@ class Largest(unittest.TestCase):
                 files = ["--case", case, "--schedule", schedule]
                 ran = run(["price", *files, "--proposals", "10000", "--ahead", str(ahead)])
                 self.assertEqual((ran[0], ran[1] == text.encode()), (0, True))
-                with open(f"{self.room}/report.txt", "w", encoding="utf-8") as it:
-                    it.write(text)
+                with open(f"{self.room}/report.txt", "w", encoding="utf-8") as file:
+                    file.write(text)
                 self.assertEqual(
                     run(["audit", *files, "--report", f"{self.room}/report.txt", "--workers", "1"]),
                     (0, b"hull-audit 1\nproposals 10000\nright\n", b""),

@@ -64,8 +64,8 @@ class FirstUse(Repository):
         self.assertEqual(self.read("../seen").split(), due)
 
     def test_of_the_repositorys_crates_those_of_the_program_are_proved_each_after_those_below_it(self):
-        with open(f"{ROOT}/crates.txt", encoding="utf-8") as it:
-            text = it.read()
+        with open(f"{ROOT}/crates.txt", encoding="utf-8") as file:
+            text = file.read()
         lines = [it.split("#")[0].split(":") for it in text.splitlines() if ":" in it.split("#")[0]]
         below = {names.split()[0]: stands_on.split() for names, stands_on in lines}
         below = {name: [it for it in stands_on if it in below] for name, stands_on in below.items()}
@@ -99,16 +99,16 @@ class FirstUse(Repository):
 
     def test_what_a_killed_one_left_among_the_temporary_files_is_taken_away(self):
         folders = [f"{self.env['TMPDIR']}/hull-build-{it}" for it in ("dead", "alive", "other")]
-        for it in folders:
-            os.makedirs(f"{it}/crates")
-        for it in folders[:2]:
-            self.write(f"{os.path.relpath(it, self.room)}/held", "")
+        for folder in folders:
+            os.makedirs(f"{folder}/crates")
+        for folder in folders[:2]:
+            self.write(f"{os.path.relpath(folder, self.room)}/held", "")
         with open(f"{folders[1]}/held", encoding="utf-8") as held:
             fcntl.flock(held, fcntl.LOCK_EX)
             self.assertEqual(self.hull("src")[0], 0)
         self.assertEqual([os.path.exists(it) for it in folders], [False, True, True])
-        for it in folders[1:]:
-            shutil.rmtree(it)
+        for folder in folders[1:]:
+            shutil.rmtree(folder)
 
 
 class Current(Repository):
@@ -204,11 +204,11 @@ class Current(Repository):
         self.taken()
 
     def test_a_program_that_is_empty_or_damaged_or_was_replaced(self):
-        with open(self.program, "rb") as it:
-            whole = it.read()
+        with open(self.program, "rb") as file:
+            whole = file.read()
         for damaged in (b"", whole[:-1], whole.replace(b"words", b"Words"), b"#!/bin/sh\necho otherwise\n"):
-            with open(self.program, "wb") as it:
-                it.write(damaged)
+            with open(self.program, "wb") as file:
+                file.write(damaged)
             self.built_anew("one", [])
         os.chmod(self.program, 0o644)
         self.built_anew("one", [])
@@ -302,8 +302,8 @@ class Shipped(Repository):
     def test_times_and_copies_and_the_launcher_change_nothing(self):
         self.taken()
         for at, folders, files in os.walk(self.room):
-            for it in (*folders, *files):
-                os.utime(f"{at}/{it}", (2**31, 2**31))
+            for name in (*folders, *files):
+                os.utime(f"{at}/{name}", (2**31, 2**31))
         self.taken()
         for name in ("hull", "tools/build.sh", "tools/made_of.sh", "tools/ship.sh", "crates.txt"):
             self.write(name, self.read(name) + "# changed\n")
@@ -349,11 +349,11 @@ class Shipped(Repository):
 
     def test_a_program_that_was_changed(self):
         self.taken()
-        with open(self.shipped, "rb") as it:
-            whole = it.read()
+        with open(self.shipped, "rb") as file:
+            whole = file.read()
         for other in (b"", whole[:-1], whole.replace(b"one", b"two"), b"#!/bin/sh\necho otherwise\n"):
-            with open(self.shipped, "wb") as it:
-                it.write(other)
+            with open(self.shipped, "wb") as file:
+                file.write(other)
             self.refused(r"/.*/dist/linux-x86_64/hull isn't the program that was put there")
         os.remove(self.shipped)
         self.refused(r"/.*/dist/linux-x86_64/hull isn't the program that was put there")
@@ -470,9 +470,9 @@ class Gate(Repository):
 
     def test_its_program_is_taken(self):
         self.gate_and_ship()
-        for it in (f"{self.room}/dist", self.out):
+        for folder in (f"{self.room}/dist", self.out):
             self.assertEqual(self.hull("src"), (0, b"one\n", b""))
-            shutil.rmtree(it)
+            shutil.rmtree(folder)
         self.assertEqual(self.asked(), [])
 
     def test_dist_has_to_hold_it_and_one_command_puts_it_there(self):
@@ -565,8 +565,8 @@ class Gate(Repository):
     def test_a_program_of_the_gate_alone_that_is_damaged(self):
         for damaged in (b"", b"\x7fELF\0", b"#!/bin/sh\necho otherwise\n"):
             self.gate_alone()
-            with open(self.program, "wb") as it:
-                it.write(damaged)
+            with open(self.program, "wb") as file:
+                file.write(damaged)
             self.built_anew("one")
 
 
@@ -751,8 +751,8 @@ class AtOnce(Repository):
     def test_who_waits_for_a_build_that_fails_does_not_repeat_it(self):
         first = self.hold("low", "check", FAILS="high")
         others = [self.begin("check", FAILS="high") for _ in range(3)]
-        for it in others:
-            self.assertEqual(it.stderr.readline(), b"hull: waiting for another hull that builds the program\n")
+        for other in others:
+            self.assertEqual(other.stderr.readline(), b"hull: waiting for another hull that builds the program\n")
         self.go_on()
         ends = [self.ended(it) for it in (first, *others)]
         self.assertEqual([it[:2] for it in ends], [(127, b"")] * 4)

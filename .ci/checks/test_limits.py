@@ -30,13 +30,13 @@ class Limits(unittest.TestCase):
         self.addCleanup(shutil.rmtree, self.room)
         for name in FILES[:2]:
             shutil.copy(f"{EXAMPLES}/usual/{name}", self.room)
-        with open(f"{self.room}/prices.json", "w", encoding="utf-8") as it:
-            it.write('{"energy": [98]}')
+        with open(f"{self.room}/prices.json", "w", encoding="utf-8") as file:
+            file.write('{"energy": [98]}')
         self.words = ["price", "--case", "case.json", "--schedule", "schedule.json"]
         status, self.due, _ = self.hull(*self.words)
         self.assertEqual(status, 0)
-        with open(f"{self.room}/report.txt", "wb") as it:
-            it.write(self.due)
+        with open(f"{self.room}/report.txt", "wb") as file:
+            file.write(self.due)
         self.commands = {
             "check": ["check", *self.words[1:]],
             "price": self.words,
@@ -57,20 +57,20 @@ class Limits(unittest.TestCase):
             signal.signal(signal.SIGXFSZ, signal.SIG_IGN if ignored else signal.SIG_DFL)
 
         for ignored, due in ((False, -signal.SIGXFSZ), (True, 6)):
-            with open(f"{self.room}/output", "w+b") as it:
-                status, _, said = self.hull(*self.words, stdout=it, preexec_fn=lambda: limit(ignored))
-                it.seek(0)
-                self.assertEqual((status, said, it.read()), (due, b"", self.due[:1024]))
+            with open(f"{self.room}/output", "w+b") as file:
+                status, _, said = self.hull(*self.words, stdout=file, preexec_fn=lambda: limit(ignored))
+                file.seek(0)
+                self.assertEqual((status, said, file.read()), (due, b"", self.due[:1024]))
         # (what ends before the limit is whole)
-        with open(f"{self.room}/output", "w+b") as it:
-            self.assertEqual(self.hull(*self.commands["check"], stdout=it, preexec_fn=lambda: limit(False))[0], 0)
+        with open(f"{self.room}/output", "w+b") as file:
+            self.assertEqual(self.hull(*self.commands["check"], stdout=file, preexec_fn=lambda: limit(False))[0], 0)
 
     def test_an_output_that_fails_when_it_is_closed(self):
         compiler = shutil.which("cc") or shutil.which("gcc") or shutil.which("clang")
         if compiler is None:
             self.skipTest("there is no C compiler")
-        with open(f"{self.room}/late.c", "w", encoding="utf-8") as it:
-            it.write(LATE)
+        with open(f"{self.room}/late.c", "w", encoding="utf-8") as file:
+            file.write(LATE)
         subprocess.run([compiler, "-shared", "-fPIC", "late.c", "-o", "late.so"], cwd=self.room, check=True)
         status, output, _ = self.hull(*self.words, env={**os.environ, "LD_PRELOAD": f"{self.room}/late.so"})
         self.assertEqual((status, output), (0, self.due))
@@ -95,15 +95,15 @@ class Limits(unittest.TestCase):
             self.assertEqual((started.returncode, read), due)
 
     def test_an_input_that_comes_slowly(self):
-        with open(f"{self.room}/case.json", "rb") as it:
-            case = it.read()
+        with open(f"{self.room}/case.json", "rb") as file:
+            case = file.read()
         os.mkfifo(f"{self.room}/pipe")
         started = subprocess.Popen(
             [PROGRAM, "price", "--case", "pipe", "--schedule", "schedule.json"], cwd=self.room, stdout=subprocess.PIPE
         )
-        with open(f"{self.room}/pipe", "wb", buffering=0) as it:
+        with open(f"{self.room}/pipe", "wb", buffering=0) as file:
             for byte in range(0, len(case), 50):
-                it.write(case[byte : byte + 50])
+                file.write(case[byte : byte + 50])
                 time.sleep(0.002)
         output, _ = started.communicate(timeout=120)
         self.assertEqual((started.returncode, output), (0, self.due))
@@ -118,8 +118,8 @@ class Limits(unittest.TestCase):
     def test_no_standard_input_or_output(self):
         before = {}
         for name in FILES:
-            with open(f"{self.room}/{name}", "rb") as it:
-                before[name] = it.read()
+            with open(f"{self.room}/{name}", "rb") as file:
+                before[name] = file.read()
         for name, words in self.commands.items():
             due = self.hull(*words)[:2]
             self.assertEqual((name, *self.closed(words, "<&-")), (name, *due))
@@ -129,5 +129,5 @@ class Limits(unittest.TestCase):
         for which in (">&-", "<&- >&-"):
             self.assertEqual(self.closed(["check", "--case", "none", "--schedule", "none"], which), (2, b""))
         for name, text in before.items():
-            with open(f"{self.room}/{name}", "rb") as it:
-                self.assertEqual(it.read(), text)
+            with open(f"{self.room}/{name}", "rb") as file:
+                self.assertEqual(file.read(), text)

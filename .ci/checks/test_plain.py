@@ -146,7 +146,8 @@ class Plain(unittest.TestCase):
         yield high
         for _ in range(PRICES):
             near = [
-                [draw.randint(max(a, c - 30), min(b, c + 30)) for a, b, c in zip(*it)] for it in zip(low, high, centre)
+                [draw.randint(max(a, c - 30), min(b, c + 30)) for a, b, c in zip(*ends)]
+                for ends in zip(low, high, centre)
             ]
             yield draw.choice([near, [[draw.randint(a, b) for a, b in zip(*it)] for it in zip(low, high)]])
         for prices in ([it.energy, it.reserve] for it in rows):

@@ -31,6 +31,26 @@ def named_lambdas(text: str) -> list[int]:
     return [node.lineno for node in assigned if isinstance(node.value, ast.Lambda)]
 
 
+def bound_by(node: ast.AST) -> list[ast.AST]:
+    """What gets a value by a statement, or by an expression of several lines."""
+    if isinstance(node, (ast.ListComp, ast.SetComp, ast.GeneratorExp, ast.DictComp)):
+        return [part.target for part in node.generators] if node.lineno != node.end_lineno else []
+    if isinstance(node, ast.With):
+        return [item.optional_vars for item in node.items if item.optional_vars]
+    if isinstance(node, (ast.For, ast.AnnAssign, ast.NamedExpr)):
+        return [node.target]
+    return list(node.targets) if isinstance(node, ast.Assign) else []
+
+
+def vague_names(text: str) -> list[int]:
+    """The lines on which `it` is the name of more than what a comprehension of one line, or a lambda, goes over."""
+    nodes = list(ast.walk(ast.parse(text)))
+    parts = [(node, part) for node in nodes for given in bound_by(node) for part in ast.walk(given)]
+    named = {node.lineno for node, part in parts if isinstance(part, ast.Name) and part.id == "it"}
+    defined = [node for node in nodes if isinstance(node, ast.FunctionDef)]
+    return sorted(named | {node.lineno for node in defined if "it" in [arg.arg for arg in node.args.args]})
+
+
 def major_version(program: str) -> str:
     """The first number of the version that a program tells."""
     told = subprocess.run([program, "--version"], capture_output=True, text=True, check=True).stdout
@@ -56,6 +76,20 @@ class Python(unittest.TestCase):
             with open(f"{ROOT}/{name}", encoding="utf-8") as source:
                 found += [f"{name}, line {line}" for line in named_lambdas(source.read())]
         self.assertEqual(found, [], "a function with a name has a `def`")
+
+    def test_what_has_more_than_a_line_has_a_name(self) -> None:
+        found = []
+        for name in sources():
+            with open(f"{ROOT}/{name}", encoding="utf-8") as source:
+                found += [f"{name}, line {line}" for line in vague_names(source.read())]
+        self.assertEqual(found, [], "`it` is for a comprehension of one line: a unit is `unit`, a row `row`")
+
+    def test_vague_names_are_found(self) -> None:
+        self.assertEqual(vague_names("a = [it for it in b]\nsorted(a, key=lambda it: it)\n"), [])
+        text = (
+            "it = 1\nfor a, it in b:\n    pass\nwith a as it:\n    pass\na = [\n    it for it in b\n]\ndef f(it): ...\n"
+        )
+        self.assertEqual(vague_names(text), [1, 2, 4, 6, 9])
 
     def test_named_lambdas_are_found(self) -> None:
         self.assertEqual(named_lambdas("a = lambda: 1\nsorted(a, key=lambda x: x)\nb: object = lambda: 2\n"), [1, 3])

@@ -20,8 +20,8 @@ FILES = ("case", "schedule")
 
 
 def read(name):
-    with open(name, encoding="utf-8") as it:
-        return it.read()
+    with open(name, encoding="utf-8") as file:
+        return file.read()
 
 
 VERSION = re.search(r"^## (\d[\d.]*)", read(f"{ROOT}/CHANGELOG.md"), re.M)[1]
@@ -61,8 +61,8 @@ def setUpModule():
     os.mkdir(ROOM)
     unittest.addModuleCleanup(shutil.rmtree, ROOM)
     os.mkdir(f"{ROOM}/bin")
-    with open(f"{ROOM}/bin/rt", "w", encoding="utf-8") as it:
-        it.write(f"#!/bin/sh\necho '{KIT}'\n")
+    with open(f"{ROOM}/bin/rt", "w", encoding="utf-8") as file:
+        file.write(f"#!/bin/sh\necho '{KIT}'\n")
     os.chmod(f"{ROOM}/bin/rt", 0o755)
     shutil.copytree(ROOT, ONE, ignore=shutil.ignore_patterns("out", ".git", "__pycache__", "*.pyc"))
     ship_program(ONE)
@@ -74,8 +74,8 @@ class Making(unittest.TestCase):
     def test_twice_in_two_folders_it_is_the_same(self):
         other = f"{ROOM}/another folder"
         precious = f"{ROOM}/precious"
-        with open(precious, "w", encoding="utf-8") as it:
-            it.write("precious")
+        with open(precious, "w", encoding="utf-8") as file:
+            file.write("precious")
         os.symlink(precious, f"{ROOM}/{NAME}.tar.gz.part")
         before = os.umask(0o077)
         try:
@@ -128,7 +128,9 @@ class Making(unittest.TestCase):
 
     def test_the_notice_names_each_crate_of_the_kit_in_the_program(self):
         lines = [
-            it.split("#")[0].split(":") for it in read(f"{ROOT}/crates.txt").splitlines() if ":" in it.split("#")[0]
+            line.split("#")[0].split(":")
+            for line in read(f"{ROOT}/crates.txt").splitlines()
+            if ":" in line.split("#")[0]
         ]
         below = {names.split()[0]: stands_on.split() for names, stands_on in lines}
         found, due = ["hull_cli"], set()
@@ -161,9 +163,9 @@ class Using(unittest.TestCase):
         self.assertEqual(due - names, set())
         self.assertEqual(
             [
-                it
-                for it in names
-                if re.match(r"tools/(build|made_of|program|release|ship|tests)|crates|bench|dist|\.", it)
+                name
+                for name in names
+                if re.match(r"tools/(build|made_of|program|release|ship|tests)|crates|bench|dist|\.", name)
             ],
             [],
         )
@@ -217,12 +219,12 @@ class Using(unittest.TestCase):
         libraries = re.findall(r"(/\S+) \(0x", call("/", "ldd", f"{self.home}/bin/hull")[1])
         self.assertTrue(libraries)
         root = f"{self.above}/root"
-        for it in libraries:
-            os.makedirs(os.path.dirname(f"{root}{it}"), exist_ok=True)
-            shutil.copy(it, f"{root}{it}")
+        for library in libraries:
+            os.makedirs(os.path.dirname(f"{root}{library}"), exist_ok=True)
+            shutil.copy(library, f"{root}{library}")
         shutil.copy(f"{self.home}/bin/hull", root)
-        for it in FILES:
-            shutil.copy(f"{EXAMPLES}/first/{it}.json", root)
+        for name in FILES:
+            shutil.copy(f"{EXAMPLES}/first/{name}.json", root)
 
         def enter():
             os.chroot(root)
@@ -248,8 +250,8 @@ class Using(unittest.TestCase):
         study = f"{self.above}/study"
         day = f"{study}/days/a day"
         os.makedirs(day)
-        for it in FILES:
-            shutil.copy(f"{EXAMPLES}/usual/{it}.json", day)
+        for name in FILES:
+            shutil.copy(f"{EXAMPLES}/usual/{name}.json", day)
         flow, env = f"{self.home}/workflow", {**BARE, "HOME": f"{self.above}/home"}
         words = ["snakemake", "-s", f"{flow}/Snakefile", "--profile", f"{flow}/profiles/here", "--config", "lists=[]"]
         ended = subprocess.run(words, cwd=study, env=env, capture_output=True, timeout=300)

@@ -113,8 +113,8 @@ class PlainSettle(unittest.TestCase):
 
 class Settle(unittest.TestCase):
     def check_file(self, case, folder, data):
-        with open(f"{folder}/prices.json", "wb") as it:
-            it.write(data)
+        with open(f"{folder}/prices.json", "wb") as file:
+            file.write(data)
         words = ["settle", "--case", "case.json", "--schedule", "schedule.json", "--prices", "prices.json"]
         status, output, said = run(words, program=PROGRAM, folder=folder)
         self.assertEqual((status, output.decode(errors="replace"), said), (*plain_settle.due(case, data), b""), data)

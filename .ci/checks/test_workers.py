@@ -45,6 +45,6 @@ class Workers(unittest.TestCase):
         room = tempfile.mkdtemp(prefix="hull-workers-")
         self.addCleanup(shutil.rmtree, room)
         report = os.path.join(room, "report")
-        with open(report, "wb") as it:
-            it.write(run(["price", *self.files("day"), "--proposals", "20"])[1])
+        with open(report, "wb") as file:
+            file.write(run(["price", *self.files("day"), "--proposals", "20"])[1])
         self.same(["audit", *self.files("day"), "--report", report], FEW, 3)

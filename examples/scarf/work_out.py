@@ -28,7 +28,8 @@ def case_of(demand):
     units = {}
     for name, start, per_kw, least, most in UNITS:
         limits = {
-            it: most / 1000 for it in ("ramp_up_limit", "ramp_down_limit", "ramp_startup_limit", "ramp_shutdown_limit")
+            limit: most / 1000
+            for limit in ("ramp_up_limit", "ramp_down_limit", "ramp_startup_limit", "ramp_shutdown_limit")
         }
         points = [{"mw": at / 1000, "cost": per_kw * at / 1e6} for at in (least, most)]
         units[name] = {
@@ -230,7 +231,8 @@ def main():
         if folder:
             schedule = {
                 "thermal": {
-                    it[0]: {"on": [int(it[0] in power)], "power": [power.get(it[0], 0)], "reserve": [0]} for it in UNITS
+                    unit[0]: {"on": [int(unit[0] in power)], "power": [power.get(unit[0], 0)], "reserve": [0]}
+                    for unit in UNITS
                 },
                 "renewable": {},
             }
@@ -247,8 +249,8 @@ def main():
             files["certify.words"] = f"certify {names} {more}\n"
             files["certify.output"] = certificate(demand, cost, whole)
             for ending, content in files.items():
-                with open(f"{folder}/{megawatts}.{ending}", "w", encoding="utf-8") as it:
-                    it.write(content)
+                with open(f"{folder}/{megawatts}.{ending}", "w", encoding="utf-8") as file:
+                    file.write(content)
 
 
 if __name__ == "__main__":

@@ -123,8 +123,8 @@ class Commitment:
         self.units = [Unit(self.program, it, case.periods, any(case.reserves)) for it in case.thermal]
         self.renewable = [[variable(it.least[t] / 1e3, it.most[t] / 1e3) for t in periods] for it in case.renewable]
         self.bids = [
-            [[variable(0, width / 1e3, -price / 1e3) for width, price in it.blocks[t]] for t in periods]
-            for it in case.bids
+            [[variable(0, width / 1e3, -price / 1e3) for width, price in bid.blocks[t]] for t in periods]
+            for bid in case.bids
         ]
         self.balance = [self.balance_in(t) for t in periods]
         self.reserve = [self.reserve_in(t) for t in periods]

@@ -127,9 +127,10 @@ class Hull:
         """What a command prints of these files; each is held by a file for as long as it is needed."""
         with contextlib.ExitStack() as files:
             words = [command]
-            for what, it in given.items():
-                exact = it.over(self.periods_of(given["case"], given["schedule"])) if isinstance(it, FlatPrices) else it
-                words += [f"--{what}", files.enter_context(as_file(exact, what))]
+            for what, one in given.items():
+                if isinstance(one, FlatPrices):
+                    one = one.over(self.periods_of(given["case"], given["schedule"]))
+                words += [f"--{what}", files.enter_context(as_file(one, what))]
             output = self.text(*words, *more)
         return output
 

@@ -42,12 +42,12 @@ class Rounding:
         self.powers = [self.unit_powers(i, unit, flags[i], found) for i, unit in enumerate(case.thermal)]
         every = range(case.periods)
         self.renewable = [
-            [self.whole(("renewable", i), found, it.least[t], it.most[t], t) for t in every]
-            for i, it in enumerate(case.renewable)
+            [self.whole(("renewable", i), found, unit.least[t], unit.most[t], t) for t in every]
+            for i, unit in enumerate(case.renewable)
         ]
         self.bids = [
-            [self.whole(("bid", i), found, 0, sum(w for w, _ in it.blocks[t]), t, -1) for t in every]
-            for i, it in enumerate(case.bids)
+            [self.whole(("bid", i), found, 0, sum(w for w, _ in bid.blocks[t]), t, -1) for t in every]
+            for i, bid in enumerate(case.bids)
         ]
         for unit, row in zip(case.thermal, self.powers):
             for t in every:

@@ -153,8 +153,8 @@ def powers_found(model: Commitment, x: Sequence[float]) -> Powers:
 def schedule_of(case: Case, flags: Flags, lists: Lists, reserves: List[List[int]]) -> Schedule:
     powers, renewable, bids = lists
     plans: Dict[Tuple[str, str], Plan] = {
-        ("thermal", it.name): Plan(on, kilowatt_list(power), kilowatt_list(reserve))
-        for it, on, power, reserve in zip(case.thermal, flags, powers, reserves)
+        ("thermal", unit.name): Plan(on, kilowatt_list(power), kilowatt_list(reserve))
+        for unit, on, power, reserve in zip(case.thermal, flags, powers, reserves)
     }
     plans.update({("renewable", it.name): flat_plan(kilowatt_list(row)) for it, row in zip(case.renewable, renewable)})
     plans.update({("bid", it.name): flat_plan(kilowatt_list(row)) for it, row in zip(case.bids, bids)})

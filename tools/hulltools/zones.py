@@ -45,7 +45,7 @@ def zones_of(name: Name, value: Any, case: Case) -> Zones:
     if not isinstance(units, dict):
         raise HullError(f"{name}: `units` isn't an object of zones by unit")
     prices = {
-        zone: prices_of(f"{name}, zone {one_line(zone)}", it, case.periods) for zone, it in value["zones"].items()
+        zone: prices_of(f"{name}, zone {one_line(zone)}", given, case.periods) for zone, given in value["zones"].items()
     }
     known = [unit.name for _, unit in case.units]
     for unit, zone in units.items():

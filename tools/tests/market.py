@@ -84,8 +84,8 @@ def prices() -> Json:
 def text(value: Json) -> str:
     """A file with a line for each unit."""
     parts = []
-    for key, it in value.items():
-        inner = isinstance(it, dict) and bool(it)
-        rows = [f"{json.dumps(name)}: {json.dumps(row)}" for name, row in it.items()] if inner else []
-        parts.append(f"{json.dumps(key)}: " + ("{\n" + ",\n".join(rows) + "}" if inner else json.dumps(it)))
+    for key, member in value.items():
+        inner = isinstance(member, dict) and bool(member)
+        rows = [f"{json.dumps(name)}: {json.dumps(row)}" for name, row in member.items()] if inner else []
+        parts.append(f"{json.dumps(key)}: " + ("{\n" + ",\n".join(rows) + "}" if inner else json.dumps(member)))
     return "{" + ",\n".join(parts) + "}\n"

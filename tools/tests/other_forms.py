@@ -118,8 +118,8 @@ def egret() -> Json:
 
 
 def write_table(name: str, rows: List[List[Any]]) -> None:
-    with open(name, "w", encoding="utf-8", newline="") as it:
-        csv.writer(it).writerows(rows)
+    with open(name, "w", encoding="utf-8", newline="") as file:
+        csv.writer(file).writerows(rows)
 
 
 GENERATOR = (
@@ -131,13 +131,13 @@ GENERATOR = (
 def pypsa_generators() -> List[List[Any]]:
     """The rows of generators.csv: committable units, whose cost is a line, and wind."""
     rows: List[List[Any]] = [GENERATOR]
-    for name, it in market.case()["thermal_generators"].items():
-        most, (first, *_, last) = it["power_output_maximum"], it["piecewise_production"]
+    for name, unit in market.case()["thermal_generators"].items():
+        most, (first, *_, last) = unit["power_output_maximum"], unit["piecewise_production"]
         slope = (last["cost"] - first["cost"]) / (last["mw"] - first["mw"])
         costs = [slope, first["cost"] - slope * first["mw"], 900]
-        times = [it["time_up_minimum"], it["time_down_minimum"], it["time_up_t0"]]
-        ramps = [it["ramp_up_limit"] / most, it["ramp_startup_limit"] / most]
-        least = it["power_output_minimum"] / most
+        times = [unit["time_up_minimum"], unit["time_down_minimum"], unit["time_up_t0"]]
+        ramps = [unit["ramp_up_limit"] / most, unit["ramp_startup_limit"] / most]
+        least = unit["power_output_minimum"] / most
         rows.append([name, "b1", most, True, least, *costs, *times, *ramps, 0.4, 1 if name == "GT5" else ""])
     return rows + [[name, "b2", 100, False, 0, 0, 0, 0, 0, 0, 1, "", "", 1, ""] for name in market.WIND]
 
@@ -165,5 +165,5 @@ def pypsa(folder: str) -> None:
 
 def write_json(name: str, value: Json) -> None:
     data = json.dumps(value).encode()
-    with open(name, "wb") as it:
-        it.write(gzip.compress(data) if name.endswith(".gz") else data)
+    with open(name, "wb") as file:
+        file.write(gzip.compress(data) if name.endswith(".gz") else data)

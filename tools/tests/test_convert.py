@@ -30,13 +30,13 @@ class WithRoom(unittest.TestCase):
         return text, said.replace(f"{self.room}/", "")
 
     def write(self, name: str, text: str) -> str:
-        with open(f"{self.room}/{name}", "w", encoding="utf-8", newline="") as it:
-            it.write(text)
+        with open(f"{self.room}/{name}", "w", encoding="utf-8", newline="") as file:
+            file.write(text)
         return f"{self.room}/{name}"
 
     def read(self, name: str) -> str:
-        with open(name, encoding="utf-8", newline="") as it:
-            return it.read()
+        with open(name, encoding="utf-8", newline="") as file:
+            return file.read()
 
     def cost(self, case: str, schedule: str) -> str:
         ran = subprocess.run([PROGRAM, "check", "--case", case, "--schedule", schedule], capture_output=True, text=True)
@@ -89,8 +89,8 @@ class Csv(WithRoom):
         folder = self.folder()
         for file in os.listdir(folder):
             text = self.read(f"{folder}/{file}").replace(",", ";").replace(".", ",").replace("\n", ";\r\n") + ";;;\r\n"
-            with open(f"{folder}/{file}", "w", encoding="utf-8-sig", newline="") as it:
-                it.write(text)
+            with open(f"{folder}/{file}", "w", encoding="utf-8-sig", newline="") as table:
+                table.write(text)
         self.convert(folder, f"{self.room}/back.json")
         self.assertEqual(read_case(f"{self.room}/back.json"), read_case(f"{self.room}/case.json"))
 
@@ -200,8 +200,8 @@ class Others(WithRoom):
         """That the case is the market's, but for some members."""
         case = json.loads(json.dumps(market.case()))
         case.update(but)
-        with open(found, encoding="utf-8") as it:
-            made = json.load(it)
+        with open(found, encoding="utf-8") as file:
+            made = json.load(file)
         for unit in made["thermal_generators"]:
             self.assertEqual(made["thermal_generators"][unit], case["thermal_generators"][unit], unit)
         self.assertEqual(
@@ -209,8 +209,8 @@ class Others(WithRoom):
         )
 
     def left_out(self) -> List[Dict[str, Any]]:
-        with open(f"{self.room}/left.json", encoding="utf-8") as it:
-            return list(json.load(it))
+        with open(f"{self.room}/left.json", encoding="utf-8") as file:
+            return list(json.load(file))
 
     def test_unit_commitment_jl(self) -> None:
         blocks = {
@@ -242,8 +242,8 @@ class Others(WithRoom):
         change(value)
         other_forms.write_json(f"{self.room}/instance.json", value)
         told, _ = self.convert(f"{self.room}/instance.json", f"{self.room}/case.json")
-        with open(f"{self.room}/case.json", encoding="utf-8") as it:
-            return dict(json.load(it)), told
+        with open(f"{self.room}/case.json", encoding="utf-8") as file:
+            return dict(json.load(file)), told
 
     def test_parts_of_unit_commitment_jl(self) -> None:
         def change(value: Dict[str, Any]) -> None:
@@ -288,9 +288,9 @@ class Others(WithRoom):
         def change(value: Dict[str, Any]) -> None:
             value["Reserves"] = {"Spinning (MW)": 20}
             value["Parameters"] = {"Version": "0.2", "Time (h)": 24}
-            for it in value["Generators"].values():
-                if it.pop("Reserve eligibility", None):
-                    it["Provides spinning reserves?"] = True
+            for unit in value["Generators"].values():
+                if unit.pop("Reserve eligibility", None):
+                    unit["Provides spinning reserves?"] = True
 
         case, told = self.changed_instance(change)
         self.assertEqual(case["reserves"], [20] * 24)
@@ -315,8 +315,8 @@ class Others(WithRoom):
     def test_parts_of_egret(self) -> None:
         other_forms.write_json(f"{self.room}/model.json", changed_model())
         told, _ = self.convert(f"{self.room}/model.json", f"{self.room}/case.json")
-        with open(f"{self.room}/case.json", encoding="utf-8") as it:
-            made = json.load(it)["thermal_generators"]
+        with open(f"{self.room}/case.json", encoding="utf-8") as file:
+            made = json.load(file)["thermal_generators"]
         self.assertEqual((made["COAL1"]["must_run"], made["COAL2"]["commitment"]), (1, [1] * 12 + [None] * 12))
         points = made["CCGT3"]["piecewise_production"]
         self.assertEqual(
@@ -439,8 +439,8 @@ class Others(WithRoom):
             self.assertIn(told, self.convert(self.write(name, data), f"{self.room}/none.json", status=1)[1])
         os.mkdir(f"{self.room}/empty")
         self.convert(f"{self.room}/empty", f"{self.room}/none.json", status=1)
-        with open(f"{self.room}/cut.json.gz", "wb") as it:
-            it.write(b"\x1f\x8b\x08\x00")
+        with open(f"{self.room}/cut.json.gz", "wb") as file:
+            file.write(b"\x1f\x8b\x08\x00")
         self.assertIn(
             "no whole file of gzip", self.convert(f"{self.room}/cut.json.gz", f"{self.room}/none.json", status=1)[1]
         )

@@ -29,14 +29,14 @@ class Explain(unittest.TestCase):
         return self.sentence(line, "--mixture", f"{self.room}/mixture.json")
 
     def change(self, folder, name, old, new):
-        for it in ("case.json", "schedule.json"):
-            shutil.copyfile(f"{folder}/{it}", f"{self.room}/{it}")
+        for copied in ("case.json", "schedule.json"):
+            shutil.copyfile(f"{folder}/{copied}", f"{self.room}/{copied}")
         if name:
-            with open(f"{self.room}/{name}", encoding="utf-8") as it:
-                text = it.read()
+            with open(f"{self.room}/{name}", encoding="utf-8") as file:
+                text = file.read()
             self.assertIn(old, text)
-            with open(f"{self.room}/{name}", "w", encoding="utf-8") as it:
-                it.write(text.replace(old, new, 1))
+            with open(f"{self.room}/{name}", "w", encoding="utf-8") as file:
+                file.write(text.replace(old, new, 1))
 
     def sentence(self, line, *more):
         status, text, said = run(
@@ -192,8 +192,8 @@ class Explain(unittest.TestCase):
             (b'{"demand":[1,2,]}', "fault 3 case 10 at 15", "a comma too many"),
             (b"hour,price\n", "fault 3 case 10 at 0", "a JSON text begins with {"),
         ):
-            with open(f"{self.room}/odd.json", "wb") as it:
-                it.write(data)
+            with open(f"{self.room}/odd.json", "wb") as file:
+                file.write(data)
             ran = run("explain.py", f"{self.room}/odd.json", f"{self.room}/odd.json", input=f"{line}\n")
             self.assertIn(f"({hint})", ran[1])
 
@@ -240,14 +240,14 @@ class Explain(unittest.TestCase):
             ("[20,25,60,5,20,20,20.5]", "items 3 and 4, 60 and 5, are most likely 60.5. Numbers have a point."),
             ("[20,1,20,1,60,1,20,1,20,1,20,1]", "are most likely 20.1, and so with 4 more. Numbers have a point."),
         ):
-            with open(f"{self.room}/prices.json", "w", encoding="utf-8") as it:
-                it.write(f'{{"energy": {energy}}}')
+            with open(f"{self.room}/prices.json", "w", encoding="utf-8") as file:
+                file.write(f'{{"energy": {energy}}}')
             self.change(EVENING, None, "", "")
             told = self.sentence(line, "--prices", f"{self.room}/prices.json")
             self.assertTrue(told.endswith(due), told)
             self.assertIn("A decimal comma makes two items of one: ", told)
-        with open(f"{self.room}/prices.json", "w", encoding="utf-8") as it:
-            it.write('{"energy": [20.5,20.5,60,20,20,20.5,20]}')
+        with open(f"{self.room}/prices.json", "w", encoding="utf-8") as file:
+            file.write('{"energy": [20.5,20.5,60,20,20,20.5,20]}')
         told = self.sentence(line, "--prices", f"{self.room}/prices.json")
         self.assertTrue(told.endswith("it has 7 items."), told)
 
@@ -303,8 +303,8 @@ class Explain(unittest.TestCase):
     def test_where_a_text_is_no_json(self):
         line = "fault 3 case 10 at 1043"
         self.change(EVENING, "case.json", '"power_output_maximum":[10,20', '"power_output_maximum":[10,NaN')
-        with open(f"{self.room}/case.json", "rb") as it:
-            place = it.read().index(b"NaN")
+        with open(f"{self.room}/case.json", "rb") as file:
+            place = file.read().index(b"NaN")
         told = self.sentence(line.replace("1043", str(place)))
         self.assertIn('in renewable unit "W1", power_output_maximum, item 2: this isn\'t JSON', told)
         self.assertIn(
@@ -312,13 +312,13 @@ class Explain(unittest.TestCase):
         )
 
     def test_a_report_of_other_files(self):
-        with open(f"{EXAMPLES}/two_units/price.output", encoding="utf-8") as it:
-            report = it.read().split("\n")
+        with open(f"{EXAMPLES}/two_units/price.output", encoding="utf-8") as file:
+            report = file.read().split("\n")
         others = " The report is of another case or schedule, or of an older one."
         for line, more in ((6, others), (8, others), (14, "")):
             self.change(f"{EXAMPLES}/two_units", None, "", "")
-            with open(f"{self.room}/report", "w", encoding="utf-8") as it:
-                it.write("\n".join([*report[: line - 1], report[line - 1] + "1", *report[line:]]))
+            with open(f"{self.room}/report", "w", encoding="utf-8") as file:
+                file.write("\n".join([*report[: line - 1], report[line - 1] + "1", *report[line:]]))
             told = self.sentence(f"fault 8 report 61 at {line}", "--report", f"{self.room}/report")
             self.assertEqual(
                 told,
@@ -371,8 +371,8 @@ class Explain(unittest.TestCase):
         self.assertEqual(told, (1, "", "explain.py: this line is told of the case, whose file has to be given\n"))
 
     def test_a_run_that_was_not_refused(self):
-        with open(f"{EVENING}/check.output", encoding="utf-8") as it:
-            self.assertEqual(self.told(it.read()), "The run wasn't refused: its text begins with 'hull-check 1'.")
+        with open(f"{EVENING}/check.output", encoding="utf-8") as file:
+            self.assertEqual(self.told(file.read()), "The run wasn't refused: its text begins with 'hull-check 1'.")
 
     def test_what_is_no_fault_line(self):
         for line in ("right", "fault 3 case 99 at 0", "fault x"):
@@ -389,8 +389,8 @@ class Harmful(unittest.TestCase):
 
     def explained(self, line, text=b"{}", what="case"):
         names = {"case": f"{EVENING}/case.json", "schedule": f"{EVENING}/schedule.json", what: f"{self.room}/file"}
-        with open(names[what], "wb") as it:
-            it.write(text)
+        with open(names[what], "wb") as file:
+            file.write(text)
         more = ["--mixture", names["mixture"]] if what == "mixture" else []
         began = time.monotonic()
         status, told, said = run("explain.py", names["case"], names["schedule"], *more, input=f"{line}\n")

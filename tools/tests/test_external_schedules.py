@@ -19,8 +19,8 @@ DAMAGED = [
     '{"elements":{"generator":{"G1":{"commitment":{"values":[1]},"pg":{"values":[1e399]}}}}}',
     *('{"%s":%s}' % (group, it) for group in ("thermal", "renewable", "bids") for it in ("[1]", "5", '"x"', "true")),
     *(
-        '{"thermal":{"G1":{"on":[1],"power":[%s],"reserve":[0]}}}' % it
-        for it in ("1e399", "null", '"1"', "[1]", "1000001")
+        '{"thermal":{"G1":{"on":[1],"power":[%s],"reserve":[0]}}}' % number
+        for number in ("1e399", "null", '"1"', "[1]", "1000001")
     ),
     '{"thermal":{"G1":{"on":[1],"power":[10],"reserve":[1e399]}}}',
     '{"Is on":{"G1":[1,1]}}',
@@ -35,8 +35,8 @@ class ExternalSchedules(unittest.TestCase):
     def read(self, data: bytes) -> Followed:
         with tempfile.TemporaryDirectory(prefix="hull-external-") as room:
             name = os.path.join(room, "schedule")
-            with open(name, "wb") as it:
-                it.write(data)
+            with open(name, "wb") as file:
+                file.write(data)
             return read_followed(name, read_case(f"{EXAMPLES}/usual/case.json"))
 
     def test_what_is_damaged_is_refused_in_one_line(self) -> None:

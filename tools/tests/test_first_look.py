@@ -33,17 +33,17 @@ class FirstLook(unittest.TestCase):
         ]
         status, _, said = run("study.py", *words, python=self.python)
         self.assertEqual(status, 0, said)
-        with open(f"{self.room}/study/study.html", encoding="utf-8") as it:
-            page = it.read()
+        with open(f"{self.room}/study/study.html", encoding="utf-8") as file:
+            page = file.read()
         for told in (said, page):
             self.assertIn("3 units have falling slopes", told)
 
     def test_errors_end_it(self) -> None:
-        with open(f"{EXAMPLES}/windows/case.json", encoding="utf-8") as it:
-            case = json.load(it)
+        with open(f"{EXAMPLES}/windows/case.json", encoding="utf-8") as file:
+            case = json.load(file)
         case["reserves"][2] = -1
-        with open(f"{self.room}/case.json", "w", encoding="utf-8") as it:
-            json.dump(case, it)
+        with open(f"{self.room}/case.json", "w", encoding="utf-8") as file:
+            json.dump(case, file)
         status, _, said = run(
             "study.py", f"{self.room}/case.json", f"{self.room}/study", "--hull", PROGRAM, python=self.python
         )

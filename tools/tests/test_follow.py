@@ -23,8 +23,8 @@ class Follow(unittest.TestCase):
             self.skipTest("no Python here has SciPy with milp")
         self.room = tempfile.mkdtemp(prefix="hull-follow-")
         self.addCleanup(shutil.rmtree, self.room)
-        with open(f"{self.room}/case.json", "w", encoding="utf-8") as it:
-            it.write(market.text(market.case()))
+        with open(f"{self.room}/case.json", "w", encoding="utf-8") as file:
+            file.write(market.text(market.case()))
         self.plan = market.schedule()
 
     def megawatts(self, change: Callable[[Dict[str, Any]], None] = lambda it: None) -> Dict[str, Any]:
@@ -45,8 +45,8 @@ class Follow(unittest.TestCase):
         return status, said.replace(f"{self.room}/", "")
 
     def made(self) -> Dict[str, Any]:
-        with open(f"{self.room}/made.json", encoding="utf-8") as it:
-            return dict(json.load(it))
+        with open(f"{self.room}/made.json", encoding="utf-8") as file:
+            return dict(json.load(file))
 
     def test_the_same_powers_are_told_so(self) -> None:
         other_forms.write_json(f"{self.room}/plan.json", self.megawatts())
@@ -56,8 +56,8 @@ class Follow(unittest.TestCase):
         self.assertEqual(self.table(), [])
 
     def table(self) -> List[Dict[str, str]]:
-        with open(f"{self.room}/table.csv", encoding="utf-8") as it:
-            return list(csv.DictReader(it))
+        with open(f"{self.room}/table.csv", encoding="utf-8") as file:
+            return list(csv.DictReader(file))
 
     @staticmethod
     def thirty_off(plan: Dict[str, Any]) -> None:
@@ -117,8 +117,10 @@ class Follow(unittest.TestCase):
         other_forms.write_json(f"{self.room}/model.json", model)
         self.assertEqual(run("convert.py", f"{self.room}/model.json", f"{self.room}/egret.json")[0], 0)
         over_time, units = other_forms.over_time, model["elements"]["generator"]
-        for name, it in plan["thermal"].items():
-            units[name].update(commitment=over_time(it["on"]), pg=over_time(it["power"]), rg=over_time(it["reserve"]))
+        for name, unit in plan["thermal"].items():
+            units[name].update(
+                commitment=over_time(unit["on"]), pg=over_time(unit["power"]), rg=over_time(unit["reserve"])
+            )
         for name, row in plan["renewable"].items():
             units[name].update(pg=over_time(row))
         other_forms.write_json(f"{self.room}/solved.json", model)
@@ -164,8 +166,8 @@ class Follow(unittest.TestCase):
         case = market.case()
         case["thermal_generators"]["CCGT3"]["ramp_startup_limit"] = 60
         case["demand"] = [it * 1.45 for it in case["demand"]]
-        with open(f"{self.room}/case.json", "w", encoding="utf-8") as it:
-            it.write(market.text(case))
+        with open(f"{self.room}/case.json", "w", encoding="utf-8") as file:
+            file.write(market.text(case))
         files = [f"{self.room}/{it}.json" for it in ("case", "made")]
         status, _, said = run("make_schedule.py", *files, "--hull", PROGRAM, python=self.python)
         self.assertEqual(status, 1)

@@ -32,13 +32,13 @@ exec {program} "$@"
 
 
 def read(name: str) -> str:
-    with open(name, encoding="utf-8") as it:
-        return it.read()
+    with open(name, encoding="utf-8") as file:
+        return file.read()
 
 
 def write(name: str, text: str) -> None:
-    with open(name, "w", encoding="utf-8") as it:
-        it.write(text)
+    with open(name, "w", encoding="utf-8") as file:
+        file.write(text)
 
 
 def is_alive(process: int) -> bool:
@@ -164,10 +164,10 @@ class Folder(Room):
         self.folder = f"{self.room}/a folder\n$(x)"
 
     def study(self, unfinished: str = "", **files: str) -> None:
-        with StudyFolder(self.folder, [f"{self.folder}/input.json"]) as it:
+        with StudyFolder(self.folder, [f"{self.folder}/input.json"]) as folder:
             for name, text in files.items():
-                write(f"{it.room}/{name}", text)
-            it.place(unfinished)
+                write(f"{folder.room}/{name}", text)
+            folder.place(unfinished)
 
     def names(self) -> List[str]:
         return sorted(os.listdir(self.folder))
@@ -220,8 +220,8 @@ class Folder(Room):
     def test_an_error_leaves_the_old_study(self) -> None:
         self.study(table="1")
         before = self.names()
-        with self.assertRaises(HullError), StudyFolder(self.folder) as it:
-            write(f"{it.room}/table", "2")
+        with self.assertRaises(HullError), StudyFolder(self.folder) as folder:
+            write(f"{folder.room}/table", "2")
             raise HullError("refused")
         self.assertEqual((self.names(), read(f"{self.folder}/table")), (before, "1"))
 
@@ -234,10 +234,10 @@ class Folder(Room):
         self.study(a="1", b="1")
         move = StudyFolder.move
 
-        def stop(it: StudyFolder, name: str, to: str = "") -> None:
+        def stop(folder: StudyFolder, name: str, to: str = "") -> None:
             if name == "b":
                 raise KeyboardInterrupt
-            move(it, name, to)
+            move(folder, name, to)
 
         with mock.patch.object(StudyFolder, "move", stop), self.assertRaises(KeyboardInterrupt):
             self.study(a="2", b="2")
@@ -249,10 +249,10 @@ class Folder(Room):
         self.study(a="1", old="1")
         move = StudyFolder.move
 
-        def stop(it: StudyFolder, name: str, to: str = "") -> None:
+        def stop(folder: StudyFolder, name: str, to: str = "") -> None:
             if name == "c":
                 raise KeyboardInterrupt
-            move(it, name, to)
+            move(folder, name, to)
 
         with mock.patch.object(StudyFolder, "move", stop), self.assertRaises(KeyboardInterrupt):
             self.study(a="2", b="2", c="2")
@@ -275,13 +275,13 @@ class Folder(Room):
         self.assertEqual(self.names(), [SUMS, "only two"])
 
     def test_names_that_can_not_be_written_are_refused_first(self) -> None:
-        with StudyFolder(self.folder) as it:
-            it.refuse(["table"])
+        with StudyFolder(self.folder) as folder:
+            folder.refuse(["table"])
             with self.assertRaisesRegex(HullError, "File name too long"):
-                it.refuse(["x" * 300])
+                folder.refuse(["x" * 300])
             os.mkdir(f"{self.folder}/{SUMS}")
             with self.assertRaisesRegex(HullError, f"{SUMS}: Is a directory"):
-                it.refuse(["table"])
+                folder.refuse(["table"])
 
     def test_a_folder_that_another_study_keeps_is_refused(self) -> None:
         with StudyFolder(self.folder) as one, one.locked(), mock.patch("hulltools.study_folder.WAIT", 0.1):

@@ -294,8 +294,8 @@ class WithFiles(unittest.TestCase):
 
     def write(self) -> None:
         for what, value in self.files.items():
-            with open(f"{self.room}/{what}.json", "w", encoding="utf-8") as it:
-                it.write(value if isinstance(value, str) else market.text(value))
+            with open(f"{self.room}/{what}.json", "w", encoding="utf-8") as file:
+                file.write(value if isinstance(value, str) else market.text(value))
 
     def words(self, *more: str) -> List[str]:
         case, schedule, prices = (f"{self.room}/{it}.json" for it in FILES)
@@ -359,8 +359,8 @@ class Lines(WithFiles):
         count = 0
         for folder, what, old, new, line in self.rows():
             beside = {"prices": "evening", "mixture": "usual"}.get(what, folder)
-            for it in ("case", "schedule"):
-                shutil.copyfile(f"{EXAMPLES}/{beside}/{it}.json", f"{self.room}/{it}.json")
+            for name in ("case", "schedule"):
+                shutil.copyfile(f"{EXAMPLES}/{beside}/{name}.json", f"{self.room}/{name}.json")
             prices = "posted" if beside == "evening" else "certified"
             shutil.copyfile(f"{EXAMPLES}/{prices}/prices.json", f"{self.room}/prices.json")
             if what == "mixture":
@@ -440,8 +440,8 @@ class Told(WithFiles):
             self.assertIn(told, text)
 
     def test_few_of_many_are_told(self) -> None:
-        for it in self.files["case"]["thermal_generators"].values():
-            it["owner"] = "me"
+        for unit in self.files["case"]["thermal_generators"].values():
+            unit["owner"] = "me"
         text = self.lint()[1]
         self.assertEqual(text.count('the key "owner" is skipped'), 5)
         self.assertIn("warning: 1 more like that: GT6 (--all tells them)", text)
@@ -476,8 +476,8 @@ class Told(WithFiles):
             b"5",
             b'{"time_periods":',
         ):
-            with open(f"{self.room}/odd.json", "wb") as it:
-                it.write(data)
+            with open(f"{self.room}/odd.json", "wb") as file:
+                file.write(data)
             self.assertEqual(run("lint.py", f"{self.room}/odd.json")[0], 2, data)
 
     def test_falling_slopes_of_the_day(self) -> None:

@@ -36,11 +36,11 @@ class MakeSchedule(unittest.TestCase):
         return int(ran.stdout.split("\n")[2].split()[1])
 
     def changed(self, example, old, new):
-        with open(f"{EXAMPLES}/{example}/case.json", encoding="utf-8") as it:
-            text = it.read()
+        with open(f"{EXAMPLES}/{example}/case.json", encoding="utf-8") as file:
+            text = file.read()
         self.assertEqual(text.count(old), 1)
-        with open(f"{self.room}/case.json", "w", encoding="utf-8") as it:
-            it.write(text.replace(old, new))
+        with open(f"{self.room}/case.json", "w", encoding="utf-8") as file:
+            file.write(text.replace(old, new))
         return f"{self.room}/case.json"
 
     def test_examples_get_a_schedule_that_costs_no_more_than_theirs(self):
@@ -89,8 +89,8 @@ class MakeSchedule(unittest.TestCase):
         case = self.changed("evening", '"must_run":1', '"must_run": 1')
         status, _, said = run("make_schedule.py", case, case, "--hull", PROGRAM, python=self.python)
         self.assertEqual((status, said.count("\n")), (1, 1))
-        with open(case, encoding="utf-8") as it:
-            self.assertTrue(it.read().startswith('{"time_periods"'))
+        with open(case, encoding="utf-8") as file:
+            self.assertTrue(file.read().startswith('{"time_periods"'))
 
     def test_numbers_that_are_none_are_refused(self):
         for words in (["--gap", "nan"], ["--gap", "-1"], ["--seconds", "nan"], ["--seconds", "-1"], ["--nodes", "0"]):
@@ -115,15 +115,15 @@ class MakeSchedule(unittest.TestCase):
 
     def test_a_schedule_in_megawatts_is_followed(self):
         case, followed = f"{EXAMPLES}/evening/case.json", f"{self.room}/followed"
-        with open(f"{EXAMPLES}/evening/schedule.json", encoding="utf-8") as it:
-            schedule = json.load(it)
+        with open(f"{EXAMPLES}/evening/schedule.json", encoding="utf-8") as file:
+            schedule = json.load(file)
         for write in (self.write_csv, self.write_julia):
             write(followed, schedule)
             status, _, said = self.make(case, "--follow", followed)
             self.assertEqual(status, 0, said)
             self.assertIn("within 0.400 kW", said)
-            with open(f"{self.room}/schedule.json", encoding="utf-8") as it:
-                made = json.load(it)
+            with open(f"{self.room}/schedule.json", encoding="utf-8") as file:
+                made = json.load(file)
             for name, unit in schedule["thermal"].items():
                 self.assertEqual(made["thermal"][name]["on"], unit["on"])
                 self.assertEqual(made["thermal"][name]["power"], unit["power"])
@@ -133,16 +133,16 @@ class MakeSchedule(unittest.TestCase):
         """Thermal units alone are followed; the rest then costs no more than in the example's schedule."""
         for example in ("evening", "windows"):
             case, followed = f"{EXAMPLES}/{example}/case.json", f"{self.room}/followed.csv"
-            with open(f"{EXAMPLES}/{example}/schedule.json", encoding="utf-8") as it:
-                schedule = json.load(it)
+            with open(f"{EXAMPLES}/{example}/schedule.json", encoding="utf-8") as file:
+                schedule = json.load(file)
             self.write_csv(followed, {"thermal": schedule["thermal"], "renewable": {}, "bids": {}})
             status, _, said = self.make(case, "--follow", followed)
             self.assertEqual(status, 0, said)
             self.assertLessEqual(
                 self.cost(case, f"{self.room}/schedule.json"), self.cost(case, f"{EXAMPLES}/{example}/schedule.json")
             )
-            with open(f"{self.room}/schedule.json", encoding="utf-8") as it:
-                made = json.load(it)["thermal"]
+            with open(f"{self.room}/schedule.json", encoding="utf-8") as file:
+                made = json.load(file)["thermal"]
             self.assertEqual(
                 {name: it["power"] for name, it in made.items()},
                 {name: it["power"] for name, it in schedule["thermal"].items()},
@@ -152,26 +152,26 @@ class MakeSchedule(unittest.TestCase):
     def write_csv(name, schedule):
         """The schedule in megawatts, each power off by less than half a kilowatt."""
         rows = [("unit", "period", "on", "power", "reserve")]
-        for unit, it in schedule["thermal"].items():
-            for t, (on, power, reserve) in enumerate(zip(it["on"], it["power"], it["reserve"]), 1):
+        for unit, plan in schedule["thermal"].items():
+            for t, (on, power, reserve) in enumerate(zip(plan["on"], plan["power"], plan["reserve"]), 1):
                 rows.append((unit, t, on, (power + 0.4 * on) / 1e3, reserve / 1e3))
         for unit, powers in {**schedule["renewable"], **schedule["bids"]}.items():
             rows += [(unit, t, "", power / 1e3, "") for t, power in enumerate(powers, 1)]
-        with open(name, "w", encoding="utf-8") as it:
-            it.writelines(",".join(map(str, row)) + "\n" for row in rows)
+        with open(name, "w", encoding="utf-8") as file:
+            file.writelines(",".join(map(str, row)) + "\n" for row in rows)
 
     @staticmethod
     def write_julia(name, schedule):
         on = {unit: it["on"] for unit, it in schedule["thermal"].items()}
         power = {
-            unit: [(x + 0.4 * now) / 1e3 for x, now in zip(it["power"], it["on"])]
-            for unit, it in schedule["thermal"].items()
+            unit: [(x + 0.4 * now) / 1e3 for x, now in zip(plan["power"], plan["on"])]
+            for unit, plan in schedule["thermal"].items()
         }
         power.update(
             {unit: [x / 1e3 for x in row] for unit, row in {**schedule["renewable"], **schedule["bids"]}.items()}
         )
-        with open(name, "w", encoding="utf-8") as it:
-            json.dump({"Is on": on, "Production (MW)": power}, it)
+        with open(name, "w", encoding="utf-8") as file:
+            json.dump({"Is on": on, "Production (MW)": power}, file)
 
     def test_an_interrupt_ends_the_search_at_once_and_writes_nothing(self):
         words = [f"{EXAMPLES}/day/case.json", f"{self.room}/schedule.json", "--gap", "0", "--hull", PROGRAM]
@@ -190,8 +190,8 @@ class MakeSchedule(unittest.TestCase):
             "0",
         )
         self.assertEqual(status, 0, said)
-        with open(f"{self.room}/schedule.json", encoding="utf-8") as it:
-            self.assertEqual(json.load(it)["thermal"]["G2"]["on"][3:], [1, 1, 0])
+        with open(f"{self.room}/schedule.json", encoding="utf-8") as file:
+            self.assertEqual(json.load(file)["thermal"]["G2"]["on"][3:], [1, 1, 0])
 
     def test_case_that_hull_refuses(self):
         status, _, said = self.make(self.changed("evening", '"must_run":1', '"must_run":2'))

@@ -80,8 +80,8 @@ class Model(unittest.TestCase):
         self.assertGreater(kept, 500)
 
     def page(self) -> str:
-        with open(f"{ROOT}/docs/MODEL.md", encoding="utf-8") as it:
-            return it.read()
+        with open(f"{ROOT}/docs/MODEL.md", encoding="utf-8") as file:
+            return file.read()
 
     def test_each_field_has_its_symbol(self) -> None:
         page = self.page()
@@ -95,7 +95,7 @@ class Model(unittest.TestCase):
         points = [(int(at), int(cost)) for _, at, cost in found]
         self.assertEqual(points, [(50, 400 + 20 * 50), (80, 1400 + 20 * 30), (100, 2000 + 25 * 20)])
         lags = [
-            int(it) for it in re.findall(r"With lags (\d+), (\d+) and (\d+), a start after 8 periods", self.page())[0]
+            int(lag) for lag in re.findall(r"With lags (\d+), (\d+) and (\d+), a start after 8 periods", self.page())[0]
         ]
         unit = thermal(*[0] * 13, [(lag, i) for i, lag in enumerate(lags, 1)], [(0, 0)], [None])
         self.assertEqual(start_cost(unit, 8), 2)

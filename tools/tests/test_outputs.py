@@ -29,12 +29,12 @@ class Outputs(unittest.TestCase):
         return f"{self.room}/{name}"
 
     def read(self, name: str) -> str:
-        with open(self.path(name), encoding="utf-8") as it:
-            return it.read()
+        with open(self.path(name), encoding="utf-8") as file:
+            return file.read()
 
     def write(self, name: str, text: str) -> None:
-        with open(self.path(name), "w", encoding="utf-8") as it:
-            it.write(text)
+        with open(self.path(name), "w", encoding="utf-8") as file:
+            file.write(text)
 
     def names(self) -> list[str]:
         return sorted(os.listdir(self.room))

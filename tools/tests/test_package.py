@@ -144,10 +144,10 @@ class Readers(unittest.TestCase):
         self.assertGreater(len(rows), 15)
         with tempfile.TemporaryDirectory() as room:
             for example, old, new in rows:
-                with open(f"{EXAMPLES}/{example}/case.json", encoding="utf-8") as it:
-                    text = it.read()
-                with open(f"{room}/case.json", "w", encoding="utf-8") as it:
-                    it.write(text.replace(old, new))
+                with open(f"{EXAMPLES}/{example}/case.json", encoding="utf-8") as file:
+                    text = file.read()
+                with open(f"{room}/case.json", "w", encoding="utf-8") as file:
+                    file.write(text.replace(old, new))
                 with self.assertRaises(hulltools.HullError, msg=new) as found:
                     hulltools.read_case(f"{room}/case.json")
                 self.assertNotIn("\n", str(found.exception))
@@ -161,8 +161,8 @@ class Replaced(unittest.TestCase):
         self.addCleanup(folder.cleanup)
         self.room = folder.name
         self.best = f"{self.room}/best.json"
-        with open(self.best, "w", encoding="utf-8") as it:
-            it.write("{}")
+        with open(self.best, "w", encoding="utf-8") as file:
+            file.write("{}")
 
     def refused(self, prices, mixture):
         words = [*files("usual"), prices, mixture, "--best-schedule", self.best, "--hull", PROGRAM]
@@ -171,11 +171,11 @@ class Replaced(unittest.TestCase):
         return said.replace(f"{self.room}/", "").removeprefix("convex_prices.py: ")
 
     def test_a_file_that_is_read_is_not_replaced(self):
-        for it in (*files("usual"), self.best):
-            for given in ((it, f"{self.room}/new"), (f"{self.room}/new", it)):
+        for name in (*files("usual"), self.best):
+            for given in ((name, f"{self.room}/new"), (f"{self.room}/new", name)):
                 self.assertTrue(self.refused(*given).endswith("this is a file to read, and it would be replaced\n"))
-        with open(self.best, encoding="utf-8") as it:
-            self.assertEqual(it.read(), "{}")
+        with open(self.best, encoding="utf-8") as file:
+            self.assertEqual(file.read(), "{}")
 
     def test_prices_and_mixture_are_two_files(self):
         for other in ("new", "./new", f"../{os.path.basename(self.room)}/new"):
@@ -214,8 +214,8 @@ class Settled(unittest.TestCase):
             text, prices = f"{self.room}/text", f"{self.room}/prices.json"
             words = [PROGRAM, "price", "--case", files(example)[0], "--schedule", files(example)[1]]
             for words in (words, [PROGRAM, "settle", *words[2:], "--prices", prices]):
-                with open(text, "wb") as it:
-                    subprocess.run(words, stdout=it, check=True)
+                with open(text, "wb") as file:
+                    subprocess.run(words, stdout=file, check=True)
                 self.assertEqual(run("report.py", "prices", text, prices), (0, "", ""))
                 self.assertEqual(self.settle(example, prices).units, hulltools.read_output(text).units)
 
@@ -230,8 +230,8 @@ class Programs(unittest.TestCase):
 
     def program(self, body):
         name = f"{self.room}/hull"
-        with open(name, "w", encoding="utf-8") as it:
-            it.write(f"#!/bin/sh\n{body}\n")
+        with open(name, "w", encoding="utf-8") as file:
+            file.write(f"#!/bin/sh\n{body}\n")
         os.chmod(name, 0o755)
         return hulltools.Hull(name)
 

@@ -62,7 +62,9 @@ def told_call(name):
     """A call as the page has it, with its defaults."""
     signature = inspect.signature(call_named(name))
     plain = [
-        it.replace(annotation=inspect.Parameter.empty) for it in signature.parameters.values() if it.name != "self"
+        parameter.replace(annotation=inspect.Parameter.empty)
+        for parameter in signature.parameters.values()
+        if parameter.name != "self"
     ]
     return f"{name}{inspect.Signature(plain)}"
 

@@ -80,17 +80,17 @@ class Report(unittest.TestCase):
         return run("report.py", verb, name, f"{self.room}/{to}", **how)
 
     def table(self, name):
-        with open(f"{self.room}/tables/{name}", newline="", encoding="utf-8") as it:
-            return list(csv.reader(it))
+        with open(f"{self.room}/tables/{name}", newline="", encoding="utf-8") as file:
+            return list(csv.reader(file))
 
     def write(self, text):
-        with open(f"{self.room}/report.txt", "w", encoding="utf-8") as it:
-            it.write(text)
+        with open(f"{self.room}/report.txt", "w", encoding="utf-8") as file:
+            file.write(text)
         return f"{self.room}/report.txt"
 
     def read(self, name):
-        with open(f"{self.room}/{name}", encoding="utf-8") as it:
-            return it.read()
+        with open(f"{self.room}/{name}", encoding="utf-8") as file:
+            return file.read()
 
     def test_tables_of_the_usual_unit(self):
         report = f"{EXAMPLES}/usual/price.output"
@@ -168,14 +168,14 @@ class Report(unittest.TestCase):
 
     def test_page_of_a_settlement_with_a_certificate(self):
         settled = self.write(SETTLED)
-        with open(f"{self.room}/certificate", "w", encoding="utf-8") as it:
-            it.write(CERTIFIED)
+        with open(f"{self.room}/certificate", "w", encoding="utf-8") as file:
+            file.write(CERTIFIED)
         ran = run("report.py", "page", settled, f"{self.room}/page.html", "--certificate", f"{self.room}/certificate")
         self.assertEqual(ran, (0, "", ""))
         self.assertIn("within 1.00 per MWh of these need less than 127.00", self.read("page.html"))
         self.assertIn("within 37.00 of the greatest", self.read("page.html"))
-        with open(f"{self.room}/certificate", "w", encoding="utf-8") as it:
-            it.write(CERTIFIED.replace("value 686", "value 687"))
+        with open(f"{self.room}/certificate", "w", encoding="utf-8") as file:
+            file.write(CERTIFIED.replace("value 686", "value 687"))
         ran = run("report.py", "page", settled, f"{self.room}/page.html", "--certificate", f"{self.room}/certificate")
         self.assertEqual(ran[0], 1)
         self.assertIn("of other prices", ran[2])
@@ -272,8 +272,8 @@ class Report(unittest.TestCase):
             self.assertEqual(
                 self.report("plot", f"{EXAMPLES}/{example}/price.output", "picture.png", python=python)[0], 0
             )
-            with open(f"{self.room}/picture.png", "rb") as it:
-                self.assertTrue(it.read().startswith(b"\x89PNG"))
+            with open(f"{self.room}/picture.png", "rb") as file:
+                self.assertTrue(file.read().startswith(b"\x89PNG"))
         self.assertEqual(self.report("plot", self.write(ODD), "picture.svg", python=python)[0], 0)
         odd_letters = self.write(SETTLED.replace("W1", "\uff1d\U0001f600\u0378"))
         self.assertEqual(self.report("plot", odd_letters, "picture.png", python=python), (0, "", ""))

@@ -74,8 +74,8 @@ class Money(unittest.TestCase):
     def test_revenue_and_cost_by_unit(self):
         rows = {}
         for unit in self.flows:
-            it = total(unit.scheduled)
-            rows[unit.owed.name] = (it.energy, it.reserve, it.production, it.start, it.profit)
+            flow = total(unit.scheduled)
+            rows[unit.owed.name] = (flow.energy, flow.reserve, flow.production, flow.start, flow.profit)
         self.assertEqual(rows["COAL"], money_of(3000, 0, 2000, 0, 1000))
         self.assertEqual(rows["PEAKER"], money_of(450, 0, 750, 200, -500))
         self.assertEqual(rows["NUCLEAR"], money_of(300, 0, 600, 0, -300))

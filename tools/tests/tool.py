@@ -33,10 +33,10 @@ sys.path.insert(0, f"{ROOT}/tools")
 @functools.lru_cache(None)
 def python_with(module):
     """A Python of this machine that has the module, or None."""
-    for it in (sys.executable, "/usr/bin/python3"):
+    for python in (sys.executable, "/usr/bin/python3"):
         try:
-            if subprocess.run([it, "-c", f"import {module}"], capture_output=True, timeout=60).returncode == 0:
-                return it
+            if subprocess.run([python, "-c", f"import {module}"], capture_output=True, timeout=60).returncode == 0:
+                return python
         except OSError:
             pass
     return None

@@ -79,8 +79,8 @@ class Settled(unittest.TestCase):
         """Examples/usual: wind is marginal, so the price is 0 (docs/REPORT.md's case, worked by hand)."""
         status, _, said = run("lmp.py", *files("usual"), f"{self.room}/prices.json", "--hull", PROGRAM)
         self.assertEqual((status, said), (0, ""))
-        with open(f"{self.room}/prices.json", encoding="utf-8") as it:
-            self.assertEqual(json.load(it), {"energy": [0], "reserve": [0]})
+        with open(f"{self.room}/prices.json", encoding="utf-8") as file:
+            self.assertEqual(json.load(file), {"energy": [0], "reserve": [0]})
         self.assertEqual(self.settle("usual", f"{self.room}/prices.json").payments, 850_000_000)
 
     def test_marginal_prices_are_what_more_or_less_demand_costs(self):
@@ -90,8 +90,8 @@ class Settled(unittest.TestCase):
         for example in ("evening", "windows"):
             status, _, said = run("lmp.py", *files(example), f"{self.room}/prices.json", "--hull", PROGRAM)
             self.assertEqual((status, said), (0, ""))
-            with open(f"{self.room}/prices.json", encoding="utf-8") as it:
-                prices = json.load(it)
+            with open(f"{self.room}/prices.json", encoding="utf-8") as file:
+                prices = json.load(file)
             for key, rows in brackets(*files(example)).items():
                 for t, (price, (saved, cost)) in enumerate(zip(prices[key], rows), 1):
                     # (a requirement of 0 can't be less)
@@ -103,8 +103,8 @@ class Settled(unittest.TestCase):
         words = [*files("dear_schedule"), f"{self.room}/prices.json", "--hull", PROGRAM]
         status, _, said = run("elmp.py", *words)
         self.assertEqual((status, said), (0, "elmp.py: fast-start: COAL, PEAKER, NUCLEAR\n"))
-        with open(f"{self.room}/prices.json", encoding="utf-8") as it:
-            self.assertEqual(json.load(it), {"energy": [55], "reserve": [0]})
+        with open(f"{self.room}/prices.json", encoding="utf-8") as file:
+            self.assertEqual(json.load(file), {"energy": [55], "reserve": [0]})
         status, _, said = run("elmp.py", *words, "--fast-start", "PEAKER,BLOCK")
         self.assertEqual((status, said), (0, "elmp.py: fast-start: BLOCK, PEAKER\n"))
         status, _, said = run(
@@ -139,8 +139,8 @@ class Settled(unittest.TestCase):
 
     def test_a_program_without_convex_is_refused(self):
         older = f"{self.room}/older"
-        with open(older, "w", encoding="utf-8") as it:
-            it.write("#!/bin/sh\nprintf 'fault 1 words 2 1\\n'\nexit 1\n")
+        with open(older, "w", encoding="utf-8") as file:
+            file.write("#!/bin/sh\nprintf 'fault 1 words 2 1\\n'\nexit 1\n")
         os.chmod(older, 0o755)
         status, _, said = run("study.py", files("usual")[0], f"{self.room}/study", "--hull", older)
         self.assertEqual((status, said), (1, f"study.py: {older} has no command `convex`: a newer program is needed\n"))

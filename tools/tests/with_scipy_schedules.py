@@ -31,8 +31,8 @@ class StartCosts(unittest.TestCase):
 
     def write(self, case: dict) -> bytes:
         data = json.dumps(case).encode()
-        with open(self.case, "wb") as it:
-            it.write(data)
+        with open(self.case, "wb") as file:
+            file.write(data)
         return data
 
     def test_schedules_cost_the_least(self) -> None:

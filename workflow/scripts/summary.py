@@ -137,15 +137,15 @@ def summary_of(settings: Settings) -> Summary:
 def table_of(summary: Summary) -> Table:
     """A row of kind `day` for each day and list, and behind it one for each unit."""
     table = Table(HEADS.split(), True)
-    for it in summary.priced:
-        paid = (it.payments, it.make_whole, it.payments - it.make_whole)
-        sums = (it.cost, it.value, *paid, it.surplus, it.uplift, it.least, it.above_least)
-        audited = None if it.audited is None else "yes" if it.audited else "no"
-        table.add(it.day, it.list, "day", None, *sums, None, None, audited)
-        for unit in it.units:
+    for priced in summary.priced:
+        paid = (priced.payments, priced.make_whole, priced.payments - priced.make_whole)
+        sums = (priced.cost, priced.value, *paid, priced.surplus, priced.uplift, priced.least, priced.above_least)
+        audited = None if priced.audited is None else "yes" if priced.audited else "no"
+        table.add(priced.day, priced.list, "day", None, *sums, None, None, audited)
+        for unit in priced.units:
             paid = (unit.payment, unit.make_whole, unit.lost_opportunity)
             rest = (None, None, None, None, unit.earned, unit.scheduled, None)
-            table.add(it.day, it.list, unit.kind, unit.name, None, None, *paid, *rest)
+            table.add(priced.day, priced.list, unit.kind, unit.name, None, None, *paid, *rest)
     return table
 
 
