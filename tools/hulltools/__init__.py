@@ -1,16 +1,17 @@
 """Tools around `hull`: files and texts, calls of the program, optimisers, tables and pages.
 
     import hulltools
-    settled = hulltools.settle("case.json", "schedule.json", hulltools.per_mwh([98]))
+    settled = hulltools.settle("case.json", "schedule.json", hulltools.per_mwh(98))
     settled.payments                # millionths of the currency
     settled.frames()["units"]       # a data frame of pandas, in the currency and MW
 
-Calls take names of files, objects of this package, or dicts as the files have them. What a file or a text has wrong, or the program
-refuses, is raised as `HullError` with one line. docs/PYTHON.md is the way in.
+Calls take names of files, objects of this package, or dicts as the files have them. A `Convex`, a `Settlement` or a
+`Report` is taken for its prices. What a file or a text has wrong, or the program refuses, is raised as `HullError`
+with one line. docs/PYTHON.md is the way in.
 """
 from __future__ import annotations
 
-from typing import TYPE_CHECKING, Any, List, Optional, Union
+from typing import TYPE_CHECKING, Any, List, Optional
 
 from .cases import Bid, Case, Renewable, Thermal, read_case
 from .errors import HullError, Name
@@ -30,8 +31,9 @@ __version__ = "1.0"
 Wrong = HullError  # the name in version 1.0
 CALLS = ("convex_prices", "elmp", "integer_relaxation", "lmp", "make_schedule", "settle_zones", "study")  # of calls.py
 __all__ = [
-    "Bid", "Bound", "Case", "Certificate", "Convex", "Files", "Fixed", "FlatPrices", "Hull", "HullError", "Kilowatts", "Millionths",
-    "MillionthsPerKilowatt", "Mixture", "Owed", "Plan", "Prices", "Renewable", "Report", "Row", "Schedule",
+    "Bid", "Bound", "Case", "Certificate", "Convex", "Files", "Fixed", "FlatPrices", "Hull", "HullError", "Kilowatts",
+    "Millionths", "MillionthsPerKilowatt", "Mixture", "Owed", "Plan", "Prices", "Renewable", "Report", "Row",
+    "Schedule",
     "Settlement", "Thermal", "Wrong", "certify", "check", "convex_prices", "elmp", "frames", "in_currency",
     "in_currency_per_mw", "in_megawatts", "integer_relaxation", "lmp", "make_schedule", "per_mwh", "price",
     "prices_near", "read_case", "read_mixture", "read_output", "read_prices", "read_schedule", "sentence", "settle",
@@ -85,8 +87,8 @@ def settle(
 ) -> Settlement:
     """The settlement of `hull settle`: what each unit and bid is owed at the prices, in millionths.
 
-    Prices have an energy price and perhaps a reserve price for each period. The name tells the settlement apart in tables. Raises `HullError`
-    where the program refuses a file.
+    Prices have an energy price and perhaps a reserve price for each period, as `per_mwh` makes them, or are of a text
+    that is given. The name tells the settlement apart in tables. Raises `HullError` where the program refuses a file.
     """
     settled = Hull(hull).settle(case, schedule, prices)
     settled.name = name or settled.name

@@ -1,4 +1,4 @@
-"""Cases, schedules, prices, mixtures and zones however they are given: as objects, as dicts of the files' form, or as names of files."""
+"""Cases, schedules, prices, mixtures and zones as they are given: objects, dicts as files have them, or names."""
 from __future__ import annotations
 
 import math
@@ -77,7 +77,7 @@ def is_name(given: object) -> bool:
 
 
 def object_of(what: str, given: object) -> Any:
-    """The object of the kind, `case` or `prices` say: the one that is given, or the one that an object has as a member of that name."""
+    """The object of a kind, as `prices`: the one that is given, or one that it has as a member of that name."""
     for found in (given, getattr(given, what, None)):
         if isinstance(found, KINDS[what]):
             return found
@@ -118,7 +118,7 @@ def as_schedule(given: GivenSchedule, case: Case) -> Schedule:
 
 
 def as_prices(given: GivenPrices, case: Case) -> Prices:
-    """The prices, for a case. A file may also be a text of `hull price`, `settle` or `convex`, whose prices are taken."""
+    """The prices, for a case; of a file that is a text of `hull price`, `settle` or `convex`, those of the text."""
     if isinstance(given, dict):
         return prices_of(told("prices"), value_of("prices", given), case.periods)
     if isinstance(given, FlatPrices):
@@ -140,8 +140,10 @@ def as_beside(
 ) -> tuple[Optional[Case], Optional[Schedule]]:
     """The case and the schedule that are to stand beside a text, as far as they are given."""
     read = None if case is None else as_case(case)
-    if schedule is None or isinstance(schedule, Schedule):
-        return read, schedule
+    if schedule is None:
+        return read, None
+    if not is_name(schedule) and not isinstance(schedule, dict):
+        return read, cast(Schedule, object_of("schedule", schedule))
     if read is None:
         raise HullError("a schedule is read with its case, which isn't given")
     return read, as_schedule(schedule, read)
@@ -192,11 +194,11 @@ def per_mwh(energy: PerMwh, reserve: Iterable[PerMwh]) -> Prices:
 def per_mwh(
     energy: Union[PerMwh, Iterable[PerMwh]], reserve: Union[PerMwh, Iterable[PerMwh], None] = None
 ) -> Union[Prices, FlatPrices]:
-    """Prices in the currency per MW and period, which is per MWh where a period is an hour, each rounded to the nearest thousandth.
+    """Prices in the currency per MW and period, which is per MWh where a period is an hour, to the nearest thousandth.
 
-    Energy and reserve have a number for each period, or one number that holds in all; reserve prices are 0 where they are left out. Where
-    neither is a list the prices are `FlatPrices`, and fit a case of any periods. Raises `HullError` where one is no number, or where the lists
-    differ in length.
+    Energy and reserve have a number for each period, or one number that holds in all. Reserve prices are 0 where
+    they are left out. Where neither is a list the prices are `FlatPrices`, and fit a case of any periods. Raises
+    `HullError` where one is no number, or where the lists differ in length.
     """
     energies, reserves = numbers_of("energy", energy), numbers_of("reserve", 0 if reserve is None else reserve)
     periods = [len(numbers) for numbers, given in ((energies, energy), (reserves, reserve)) if is_list(given)]

@@ -90,7 +90,7 @@ def parse(data: bytes) -> Any:
 
 
 def json_text(value: object) -> str:
-    """The JSON text of a value, exact: a Decimal as it is written. Arrays of NumPy and series of pandas are lists, and their numbers Python's."""
+    """The JSON text of a value, exact: a Decimal as it is written. Arrays of NumPy and series of pandas are lists."""
     if isinstance(value, Mapping):
         members = (f"{json_key(key)}: {json_text(member)}" for key, member in value.items())
         return f"{{{', '.join(members)}}}"

@@ -1,4 +1,4 @@
-"""The texts that tables are made of, however they are given, each with a name of its own; and the unit of the tables' numbers."""
+"""The texts that tables are made of, each with a name of its own, and the unit of the tables' numbers."""
 from __future__ import annotations
 
 import copy
@@ -36,7 +36,7 @@ def named(text: Text, name: str) -> Text:
 
 
 def texts_of(given: GivenTexts) -> list[Text]:
-    """One text, several, or several by name, each with a name that no other one has: the second `hull settle` is `hull settle 2`."""
+    """One text, several, or several by name, each with a name of its own, as `hull settle 2` for the second one."""
     if isinstance(given, Mapping):
         texts = [named(as_text(text), str(name)) for name, text in given.items()]
     elif isinstance(given, (str, os.PathLike, Text)) or not isinstance(given, Iterable):

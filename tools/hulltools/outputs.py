@@ -87,8 +87,8 @@ class Text:
     ) -> dict[str, Table]:
         """The tables of the text by name, with heads and rows. Numbers are exact, in the currency and MW.
 
-        With `money="millionths"` they are whole, in millionths and kilowatts. Demand, requirement and the schedule stand beside where case and
-        schedule are given. `currency` is the old name of `money`, for a flag.
+        With `money="millionths"` they are whole, in millionths and kilowatts. Demand, requirement and the schedule
+        stand beside where case and schedule are given. `currency` is the old name of `money`, for a flag.
         """
         from .inputs import as_beside
         from .named_texts import is_in_currency
@@ -123,12 +123,13 @@ def frames(
     *,
     currency: Optional[bool] = None,
 ) -> dict[str, DataFrame]:
-    """Data frames of texts by the names `runs`, `proposals`, `prices`, `units` and `responses`, as far as the texts have rows for them.
+    """Data frames of texts: `runs`, `proposals`, `prices`, `units` and `responses`, as far as these have rows.
 
-    `texts` are one, several, or several by name, each an object or a file's name. A row has the name of its text in the column `report`. Texts
-    of one name are numbered: `hull settle`, `hull settle 2`. Numbers are floating, in the currency and MW; with `money="millionths"` they
-    are whole, in millionths and kilowatts. With a start, tables by period are indexed by time. `currency` is the old name of `money`, for a
-    flag. Raises `HullError` where pandas isn't there, or where something given isn't such a text.
+    `texts` are one, several, or several by name, each an object or a file's name. A row has the name of its text in
+    the column `report`. Texts of one name are numbered: `hull settle`, `hull settle 2`. Numbers are floating, in
+    the currency and MW; with `money="millionths"` they are whole, in millionths and kilowatts. With a start, tables
+    by period are indexed by time. `currency` is the old name of `money`, for a flag. Raises `HullError` where
+    pandas isn't there, or where something given isn't such a text.
     """
     from .inputs import as_beside
     from .named_texts import is_in_currency, texts_of
@@ -539,6 +540,7 @@ def read_certificate_text(name: Name) -> Certificate:
 def read_output(name: Name, due: Optional[Sequence[str]] = None) -> Output:
     """The text of `hull price`, `settle`, `convex`, `bound`, `fixed` or `certify` in a file, in millionths and kilowatts.
 
-    `due` are the first lines that are taken, or None for each of them. Raises `HullError` where the text is none of these, or where `hull audit` would call it out of form.
+    `due` are the first lines that are taken, or None for each of them. Raises `HullError` where the text is none of
+    these, or where `hull audit` would call it out of form.
     """
     return parse_output(name, read_bytes(name, "a text of hull", most=2**31, begins=b"hull-"), due or tuple(FORMS))

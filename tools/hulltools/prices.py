@@ -28,7 +28,7 @@ class Prices:
 
 @dataclass
 class FlatPrices:
-    """One energy price and one reserve price for each period, in millionths per kilowatt and period, of however many periods a case has."""
+    """One energy price and one reserve price that hold in each period, in millionths per kilowatt and period."""
 
     energy: MillionthsPerKilowatt
     reserve: MillionthsPerKilowatt

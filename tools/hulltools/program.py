@@ -53,9 +53,10 @@ def default_program() -> str:
 class Hull:
     """The program. Each call gives what it prints, read; HullError where it refuses.
 
-    A case, a schedule, prices and a mixture are names of files, objects of this package, or dicts as the files have them. An object that has
-    one is taken for it: a `Convex` for its prices, and for its mixture. A call that takes
-    longer than so many seconds is ended; where these are None a call ends by what it has to do, which the case and its words limit.
+    A case, a schedule, prices and a mixture are names of files, objects of this package, or dicts as the files have
+    them. An object that has one is taken for it: a `Convex` for its prices, and for its mixture. A call that takes
+    longer than so many seconds is ended; where these are None a call ends by what it has to do, which the case and
+    its words limit.
     """
 
     def __init__(self, program: Optional[Name] = None, tell: Optional[Tell] = None, seconds: Optional[float] = None):
@@ -198,7 +199,7 @@ class Hull:
 
 
 class as_file:
-    """The name of a file that holds what is given, an object or a dict, for as long as it is needed; a name stays itself.
+    """The name of a file that holds what is given for as long as it is needed; a name stays itself.
 
     `what` is what it is, as `prices`; a text of the program that is named for prices is held as its prices.
     """

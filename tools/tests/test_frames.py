@@ -1,4 +1,4 @@
-"""Tables of texts: names that are told apart, and the unit of numbers; data frames run in a Python that has pandas (with_pandas.py)."""
+"""Tables of texts: names that are told apart, and the unit of numbers. What needs pandas is in with_pandas.py."""
 import os
 import re
 import subprocess

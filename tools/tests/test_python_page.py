@@ -1,4 +1,4 @@
-"""The tables of docs/PYTHON.md are what the code has: calls with their defaults, parameters with their types, and columns of data frames."""
+"""The tables of docs/PYTHON.md are what the code has: calls, defaults, parameters, types, members and columns."""
 import ast
 import dataclasses
 import inspect
@@ -107,10 +107,22 @@ class Calls(unittest.TestCase):
         self.assertEqual(functions - set(dir(hulltools)), set())
 
     def test_parameters_have_the_types_of_the_code(self):
-        rows = rows_below("| Parameter | Type | What it is |")
+        rows = self.parameters()
         told = [(name, tuple(CODE.findall(types))) for names, types, _ in rows for name in CODE.findall(names)]
         self.assertEqual(len(told), len(set(told)))
         self.assertEqual(set(told), {it for name in self.names for it in parameters_of(name)})
+
+    def test_what_none_means_to_the_program_is_what_its_help_says(self):
+        with open(f"{ROOT}/docs/help.txt", encoding="utf-8") as text:
+            options = re.findall(r"^  --(\w+) [A-Z] +(.+(?:\n {10,}.+)*)", text.read(), re.M)
+        told = {CODE.findall(name)[0]: re.search(r"None is ([\d,.]+)", what) for name, _, what in self.parameters()}
+        due = {name: set(re.findall(r"[\d.]+\d|\d", says)) for name, says in options if "by default" in says}
+        checked = {name: it[1].strip(",").replace(",", "") for name, it in told.items() if it}
+        self.assertEqual(set(checked), {"proposals", "ahead", "radius", "within", "rounds"})
+        self.assertEqual([name for name, number in checked.items() if number not in due[name]], [])
+
+    def parameters(self):
+        return rows_below("| Parameter | Type | What it is |")
 
     def test_what_calls_take_is_what_the_code_takes(self):
         names = {inspect.formatannotation(part): "Name" for part in typing.get_args(inputs.Name)}

@@ -1,4 +1,4 @@
-"""What calls of the package take: whole texts for their prices, one number for all periods, dicts with any numbers, and paths."""
+"""What calls take: whole texts for their prices, one number for all periods, dicts with any numbers, and paths."""
 import json
 import os
 import pathlib

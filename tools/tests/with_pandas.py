@@ -31,6 +31,14 @@ class Frames(unittest.TestCase):
         self.assertTrue(hulltools.frames(PRINTED)["units"].equals(printed))
         self.assertTrue(hulltools.frames([PRINTED])["units"].equals(printed))
 
+    def test_the_schedule_of_an_object_stands_beside(self):
+        class Found:
+            schedule = hulltools.read_schedule(USUAL[1], hulltools.read_case(USUAL[0]))
+
+        due = settled(98).frames(*USUAL)["responses"]
+        self.assertTrue(settled(98).frames(USUAL[0], Found())["responses"].equals(due))
+        self.assertTrue(settled(98).frames(None, Found.schedule)["responses"].equals(due))
+
     def test_texts_without_a_name_are_told_apart(self):
         units = hulltools.frames([settled(97), settled(98), settled(99, name="dear")])["units"]
         paid = units.pivot(index="name", columns="report", values="payment_currency")
