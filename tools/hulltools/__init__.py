@@ -33,11 +33,10 @@ CALLS = ("convex_prices", "elmp", "integer_relaxation", "lmp", "make_schedule", 
 __all__ = [
     "Bid", "Bound", "Case", "Certificate", "Convex", "Files", "Fixed", "FlatPrices", "Hull", "HullError", "Kilowatts",
     "Millionths", "MillionthsPerKilowatt", "Mixture", "Owed", "Plan", "Prices", "Renewable", "Report", "Row",
-    "Schedule",
-    "Settlement", "Thermal", "Wrong", "certify", "check", "convex_prices", "elmp", "frames", "in_currency",
-    "in_currency_per_mw", "in_megawatts", "integer_relaxation", "lmp", "make_schedule", "per_mwh", "price",
-    "prices_near", "read_case", "read_mixture", "read_output", "read_prices", "read_schedule", "sentence", "settle",
-    "settle_zones", "study",
+    "Schedule", "Settlement", "Thermal", "Wrong", "certify", "check", "convex_prices", "elmp", "frames",
+    "in_currency", "in_currency_per_mw", "in_megawatts", "integer_relaxation", "lmp", "make_schedule", "per_mwh",
+    "price", "prices_near", "read_case", "read_mixture", "read_output", "read_prices", "read_schedule", "sentence",
+    "settle", "settle_zones", "study",
 ]  # fmt: skip
 
 
