@@ -4,7 +4,7 @@ from __future__ import annotations
 import math
 import os
 from collections.abc import Iterable
-from typing import Any, Optional, Protocol, SupportsFloat, Union, cast, overload
+from typing import TYPE_CHECKING, Any, Optional, Protocol, SupportsFloat, Union, cast, overload
 
 from .cases import Case, case_of, read_case
 from .errors import HullError, Name
@@ -14,6 +14,9 @@ from .outputs import read_priced
 from .prices import FlatPrices, Prices, prices_near, prices_of, read_prices
 from .schedules import Schedule, read_schedule, schedule_of
 from .zones import Zones, read_zones, zones_of
+
+if TYPE_CHECKING:
+    from typing_extensions import TypeGuard  # (in `typing` from Python 3.10 on)
 
 
 class HasSchedule(Protocol):
@@ -72,7 +75,7 @@ def value_of(what: str, given: dict[str, Any]) -> Any:
         raise HullError(f"{told(what)} can't be a file: {why}") from None
 
 
-def is_name(given: object) -> bool:
+def is_name(given: object) -> TypeGuard[Name]:
     return isinstance(given, (str, os.PathLike))
 
 
@@ -97,8 +100,10 @@ def content_of(what: str, given: object) -> str:
 def is_text_of_hull(name: Name) -> bool:
     """Whether a file holds what the program printed. A pipe isn't looked into, since it is read once."""
     try:
+        if not os.path.isfile(name):
+            return False
         with open(name, "rb") as file:
-            return os.path.isfile(name) and file.read(len(TEXT)) == TEXT
+            return file.read(len(TEXT)) == TEXT
     except (OSError, ValueError):
         return False
 
@@ -106,15 +111,13 @@ def is_text_of_hull(name: Name) -> bool:
 def as_case(given: GivenCase) -> Case:
     if isinstance(given, dict):
         return case_of(told("case"), value_of("case", given))
-    return read_case(cast(Name, given)) if is_name(given) else cast(Case, object_of("case", given))
+    return read_case(given) if is_name(given) else cast(Case, object_of("case", given))
 
 
 def as_schedule(given: GivenSchedule, case: Case) -> Schedule:
     if isinstance(given, dict):
         return schedule_of(told("schedule"), value_of("schedule", given), case)
-    if is_name(given):
-        return read_schedule(cast(Name, given), case)
-    return cast(Schedule, object_of("schedule", given))
+    return read_schedule(given, case) if is_name(given) else cast(Schedule, object_of("schedule", given))
 
 
 def as_prices(given: GivenPrices, case: Case) -> Prices:
@@ -125,14 +128,13 @@ def as_prices(given: GivenPrices, case: Case) -> Prices:
         return given.over(case.periods)
     if not is_name(given):
         return cast(Prices, object_of("prices", given))
-    name = cast(Name, given)
-    return read_priced(name).prices if is_text_of_hull(name) else read_prices(name, case.periods)
+    return read_priced(given).prices if is_text_of_hull(given) else read_prices(given, case.periods)
 
 
 def as_zones(given: GivenZones, case: Case) -> Zones:
     if isinstance(given, dict):
         return zones_of(told("zones"), value_of("zones", given), case)
-    return read_zones(cast(Name, given), case) if is_name(given) else cast(Zones, object_of("zones", given))
+    return read_zones(given, case) if is_name(given) else cast(Zones, object_of("zones", given))
 
 
 def as_beside(

@@ -208,12 +208,14 @@ class as_file:
         self.given, self.what, self.held = given, what, contextlib.ExitStack()
 
     def __enter__(self) -> str:
-        is_text = self.what == "prices" and is_name(self.given) and is_text_of_hull(cast(Name, self.given))
-        if is_name(self.given) and not is_text:
-            return os.fspath(cast(Name, self.given))
-        content = read_priced(cast(Name, self.given)).prices.text() if is_text else content_of(self.what, self.given)
+        given, shown = self.given, told(self.what)
+        if is_name(given):
+            if self.what != "prices" or not is_text_of_hull(given):
+                return os.fspath(given)
+            shown, given = f"the prices in {os.fspath(given)}", read_priced(given)
+        content = content_of(self.what, given)
         name = Held(self.nameless() or self.named())
-        name.shown = f"the prices in {os.fspath(cast(Name, self.given))}" if is_text else told(self.what)
+        name.shown = shown
         with open(name, "w", encoding="utf-8") as file:
             file.write(content)
         return name

@@ -41,6 +41,15 @@ class Texts(unittest.TestCase):
         with self.assertRaisesRegex(hulltools.HullError, "this is a text of `hull bound`, where"):
             settled(f"{EXAMPLES}/two_units/bound.output")
 
+    def test_a_pipe_is_read_once(self):
+        """A pipe's writer hears of a reader who looks into it and goes."""
+        with tempfile.TemporaryDirectory(prefix="hull-pipe-") as room:
+            os.mkfifo(f"{room}/prices")
+            words = ["cat", f"{EXAMPLES}/certified/prices.json"]
+            with subprocess.Popen(["sh", "-c", f"exec {' '.join(words)} >{room}/prices"]) as writer:
+                found = settled(f"{room}/prices")
+                self.assertEqual((found.units, writer.wait()), (settled(words[1]).units, 0))
+
     def test_an_object_with_a_schedule_is_taken_for_it(self):
         class Found:
             schedule = hulltools.read_schedule(USUAL[1], hulltools.read_case(USUAL[0]))
