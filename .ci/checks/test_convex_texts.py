@@ -85,6 +85,29 @@ class Texts(unittest.TestCase):
                 plain_convex.due(case, text.replace(of["share"], f"{of['share']}1"))
 
 
+class Rounds(unittest.TestCase):
+    """A search makes the same rounds whatever their greatest number, so texts of more and more rounds show what it keeps."""
+
+    ROUNDS = (1, 2, 3, 4, 5, 6, 8, 10, 14)
+
+    def found(self, name, rounds):
+        """Value and bound of a text."""
+        options = [word for it in FILES for word in (f"--{it}", f"{EXAMPLES}/{name}/{it}.json")]
+        words = ["convex", *options, "--within", "0", "--rounds", str(rounds)]
+        status, output, said = run(words, program=PROGRAM)
+        self.assertEqual((status, said), (0, b""))
+        of = lines_of(output.decode())
+        return tuple(plain_convex.numbers(of[word], word)[0] for word in ("value", "bound"))
+
+    def test_more_rounds_keep_the_greatest_value_and_the_least_bound(self):
+        for name in ("windows", "evening"):
+            values, bounds = zip(*(self.found(name, rounds) for rounds in self.ROUNDS))
+            self.assertEqual(list(values), sorted(values), name)
+            # A shorter mixture may take a distance that is greater by a tenth.
+            for earlier, (value, bound) in enumerate(zip(values[1:], bounds[1:]), 1):
+                self.assertLessEqual(10 * (bound - value), 11 * (min(bounds[:earlier]) - value), name)
+
+
 class Tiny(unittest.TestCase):
     def searched(self, case, words):
         with tempfile.TemporaryDirectory() as folder:
