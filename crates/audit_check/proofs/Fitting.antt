@@ -1,14 +1,9 @@
 -- Plans of schedules that fit prices: there is at most one.
-use Rattle.audit_check.proofs.Common.{◌≡◌, ℕ, List, [], ◌∷◌, ap, ◌∙◌, refl, props, ∥∥₁_elim, ∥∥₁_map, ∥∥₁_prop, All}
-use Rattle.audit_check.proofs.Common.{AllZip, AnyUnit, Thermal, Flat, Bid, PriceLists, Schedule, OneLeast, Fits}
-use Rattle.audit_check.proofs.Common.{IsFeasible, head_of, tail_of, all_nil, all_cons}
-use mathlib.Core.HLevel.{×_prop, Σ_prop_path}
-use Rattle.std.specs.Coded.{Unit-prop}
-
-feasible-prop : (u : AnyUnit) (n : ℕ) (s : Schedule) → IsProp (IsFeasible u n s)
-feasible-prop (Thermal g) n s = hlevel props
-feasible-prop (Flat r) n s = hlevel props
-feasible-prop (Bid b) n s = hlevel props
+use Rattle.audit_check.proofs.Common.{◌≡◌, List, [], ◌∷◌, ap, ◌∙◌, refl, props, ∥∥₁_elim, ∥∥₁_map, ∥∥₁_prop, All}
+use Rattle.audit_check.proofs.Common.{AllZip, AnyUnit, PriceLists, Schedule, OneLeast, Fits}
+use Rattle.audit_check.proofs.Common.{head_of, tail_of, all_nil, all_cons}
+use mathlib.Core.HLevel.{Σ_prop_path}
+use Rattle.report_compare.specs.OneProof.{feasible-prop, zip-prop}
 
 fits-prop : (u : AnyUnit) (π : PriceLists) (s : Schedule) → IsProp (Fits u π s)
 fits-prop u π s = hlevel (props, feasible-prop)
@@ -17,10 +12,7 @@ abbrev pub Plan : PriceLists → List AnyUnit → List Schedule → Type 0
 Plan π us ss = AllZip (λ u s. Fits u π s) us ss
 
 plan-prop : (π : PriceLists) (us : List AnyUnit) (ss : List Schedule) → IsProp (Plan π us ss)
-plan-prop π [] [] = Unit-prop
-plan-prop π [] (s ∷ ss) = λ x y. absurd x
-plan-prop π (u ∷ us) [] = λ x y. absurd x
-plan-prop π (u ∷ us) (s ∷ ss) = ×_prop (fits-prop u π s) (plan-prop π us ss)
+plan-prop π us ss = zip-prop _ (λ u s. fits-prop u π s) us ss
 
 one_plan : OneLeast → (π : PriceLists) (us : List AnyUnit) (ss ts : List Schedule) → Plan π us ss → Plan π us ts →
     ss ≡ ts

@@ -10,16 +10,14 @@ ghost use Rattle.unit_program.specs.Tops.{HasSchedules, IsBenchOver};
 ghost use Rattle.right_report.specs.RightReport.{IsRightReport};
 ghost use Rattle.report_read.specs.Bounds.{IsReport, AreInOrder};
 ghost use Rattle.report_read.specs.Plain.{report_of, told_of};
-ghost use Rattle.report_compare.specs.Audits.{IfWrong};
-ghost use Rattle.report_compare.specs.Heads.{right_opening};
-ghost use Rattle.report_compare.specs.ReportLines.{opening_lines};
+ghost use Rattle.report_compare.specs.Audits.{IfWrong, IsRight, HasRightOpening, IsWrongAt};
 ghost use Rattle.report_compare.specs.Right.{DiffersFromRight};
 ghost use Rattle.report_compare.specs.declared.verdict.Audit.TheVariants.{Right};
 
 use crate::answerer::Answerer;
 use crate::count::AnswerRoom;
 use crate::rows::right_rows;
-use report_compare::{Audit, CompareRoom, opening_right, verdict_of_rows};
+use report_compare::{Audit, Audited, CompareRoom, opening_right, verdict_of_rows};
 use report_read::Report;
 use std::alloc::{AllocError, Global};
 use std::sync::{Arc, Wait};
@@ -88,34 +86,24 @@ fn enough_rows(report: &Report) -> u32
 fn judged_by_own_rows<R: Threads + Wait + Sync>(
     rt: &R,
     alloc: Global,
-    case: &Case,
-    plan: &Plan,
-    cost: i128,
-    report: &Report,
+    audited: &Audited<'_>,
     benches: Vec<Bench>,
 ) -> Result<Audit, AllocError>
-    requires feasible { IsFeasiblePlan (market_of case.now) (schedules_of plan.now) }
-    requires cost { cost ≡ plan_cost (market_of case.now) (schedules_of plan.now) }
-    requires opening { opening_lines (report_of report.now)
-        ≡ right_opening (market_of case.now) cost (report_of report.now) }
-    requires bounds { IsReport (report_of report.now) }
-    requires order { AreInOrder 0 (map told_of report.now.lines.items) }
+    requires opening { HasRightOpening audited.now }
     requires count { (1 ≤ length benches.items) × (length benches.items ≤ MOST_JOBS) }
-    requires benches { All (IsBenchOver (market_of case.now)) benches.items }
-    ensures right { IfOk result (λ audit. (audit ≡ Right)
-        ↔ IsRightReport (market_of case.now) (schedules_of plan.now)
-        (report_of report.now).budget (report_of report.now).ahead (report_of report.now)) }
-    ensures wrong { IfOk result (λ audit. IfWrong audit (λ line.
-        DiffersFromRight (market_of case.now) (schedules_of plan.now)
-        (report_of report.now) line)) }
+    requires benches { All (IsBenchOver (market_of audited.now.case.now)) benches.items }
+    ensures right { IfOk result (λ audit. (audit ≡ Right) ↔ IsRight audited.now) }
+    ensures wrong { IfOk result (λ audit. IfWrong audit (IsWrongAt audited.now)) }
 {
+    let case = audited.case;
     let last = LastAnswers::make(alloc, case.thermal.len() as u32, case.periods)?;
     let last = Arc::new(alloc, last)?;
     let mut jobs = jobs_for(alloc, case, benches, &last)?;
-    let most = enough_rows(report);
-    let rows = right_rows(rt, alloc, case, cost, most, report.ahead, &mut jobs)?;
+    let most = enough_rows(audited.report);
+    let ahead = audited.report.ahead;
+    let rows = right_rows(rt, alloc, case, audited.cost, most, ahead, &mut jobs)?;
     let mut compare_room = CompareRoom::make(alloc, case, bench_of_last_job(jobs), last)?;
-    let audit = verdict_of_rows(case, plan, cost, rows.as_slice(), report, &mut compare_room);
+    let audit = verdict_of_rows(audited, rows.as_slice(), &mut compare_room);
     Ok(audit)
 }
 
@@ -155,8 +143,14 @@ pub fn check_report<R: Threads + Wait + Sync>(
         DiffersFromRight (market_of case.now) (schedules_of plan.now)
         (report_of report.now) line)) }
 {
-    match opening_right(case, plan, cost, report) {
-        Ok(_) => judged_by_own_rows(rt, alloc, case, plan, cost, report, benches),
+    let audited = Audited {
+        case,
+        plan,
+        cost,
+        report,
+    };
+    match opening_right(&audited) {
+        Ok(_) => judged_by_own_rows(rt, alloc, &audited, benches),
         Err(wrong) => Ok(Audit::Wrong { line: wrong.line }),
     }
 }

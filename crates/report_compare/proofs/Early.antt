@@ -4,10 +4,14 @@ use Rattle.report_compare.proofs.Common.{sym, ap, ◌∙◌, subst, arith, min, 
 use Rattle.report_compare.proofs.Common.{IsRun, Fits, plan_cost, TextDeterminesReport, OneRun, OneRightReport, Report}
 use Rattle.report_compare.proofs.Common.{IsRightReport, Differ, Compares, right_opening, count_line, amount_line}
 use Rattle.report_compare.proofs.Common.{opening_lines, number_line, later_lines, report_lines, WrongLine}
-use Rattle.report_compare.specs.Right.{IsWrongFrom}
+use Rattle.report_compare.specs.Right.{DiffersFromRight}
 use Rattle.report_compare.proofs.Comparing.{behind, stops, here_differ}
 use Rattle.report_compare.proofs.OneLine.{line_told, count_told}
 use Rattle.report_compare.proofs.Verdicts.{first_wrong, not_right}
+
+-- the report isn't right, and this is where it first differs
+abbrev pub IsWrongFrom : Market → List Schedule → Report → ℕ → Type 0
+IsWrongFrom m plan r line = DiffersFromRight m plan r line × (IsRightReport m plan r.budget r.ahead r → ⊥)
 
 -- ---- the first lines
 

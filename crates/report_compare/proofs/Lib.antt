@@ -20,6 +20,8 @@ pub mod FirstLine
 pub mod RightReports
 -- report.rt: what the comparison tells of the report
 pub mod Verdicts
+-- audited.rt: what holds of all that is audited
+pub mod AuditedLaws
 -- laws.rt: a wrong report has a line that differs
 pub mod SomeLine
 -- report.rt: all lines, part by part

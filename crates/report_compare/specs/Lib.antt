@@ -10,5 +10,7 @@ pub mod Heads
 pub mod Desks
 -- where a report differs from the right one
 pub mod Right
--- what an audit comes to
+-- the facts that a type carries have one proof at most
+pub mod OneProof
+-- what an audit is of, and what it comes to
 pub mod Audits

@@ -13,11 +13,6 @@ DiffersFromRight m plan r line =
     (right : Report) × IsRightReport m plan r.budget r.ahead right
     × DiffersAt (report_text r) (report_text right) line
 
--- the report isn't right, and this is where it first differs
-abbrev pub IsWrongFrom : Market → List Schedule → Report → ℕ → Type 0
-IsWrongFrom m plan r line =
-    DiffersFromRight m plan r line × (IsRightReport m plan r.budget r.ahead r → ⊥)
-
 -- A report within the bounds of reading that isn't right for a feasible plan has a first line that
 -- differs. The law is the clause of a public function.
 abbrev pub SomeDifference : Type 0

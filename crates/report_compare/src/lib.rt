@@ -2,6 +2,7 @@
 //! whether it does. The right one is never written out.
 #![tactic(auto)]
 
+mod audited;
 mod compare_room;
 mod due;
 pub mod laws;
@@ -13,6 +14,7 @@ mod units;
 mod verdict;
 mod wrong;
 
+pub use audited::Audited;
 pub use compare_room::CompareRoom;
 pub use report::first_difference;
 pub use verdict::{Audit, opening_right, verdict_of_rows};

@@ -1,27 +1,31 @@
-use Rattle.report_compare.proofs.Common.{◌+◌, Ok, Err, map, arith, refl, sym, subst, w128, to_z-of_z, none-some}
-use Rattle.report_compare.proofs.Common.{length-map, IsWorth, market_of, schedules_of, proposal_of, report_of, told_of}
+use Rattle.report_compare.proofs.Common.{◌+◌, Ok, Err, map, arith, refl, sym, subst, none-some}
+use Rattle.report_compare.proofs.Common.{length-map, market_of, schedules_of, proposal_of, report_of, told_of}
 use Rattle.report_compare.proofs.Common.{report_lines, answers_of, right_of, ◌≡◌, ℕ, ℤ, Result, Some, List, length}
 use Rattle.report_compare.proofs.Common.{slice_get, AllZip, flat_map, Schedule, Market, AnyUnit, units, Proposal, IsTop}
 use Rattle.report_compare.proofs.Common.{inl, inr}
 use Rattle.report_compare.proofs.Common.{IsSettled, Report, IsRightReport, Compares, told_lines, Answers, titles}
 use Rattle.report_compare.proofs.Common.{told_from, whole_lines, WrongLine}
-use Rattle.report_compare.proofs.RightReports.{right_is, counted, count_zipped}
+use Rattle.report_compare.proofs.RightReports.{right_is, count_zipped}
 use Rattle.report_compare.proofs.Lemmas.{read_item, row_made, row_long, mine_whole, right_whole, compared_as}
-use Rattle.report_compare.proofs.Lemmas.{number_behind, sum_is_worth, all_right, first_wrong, not_right, IsMade}
+use Rattle.report_compare.proofs.Lemmas.{number_behind, all_right, first_wrong, not_right, IsMade}
+use Rattle.report_compare.specs.declared.audited.Audited.{Audited}
 use Rattle.report_compare.proofs.report.first_difference.Goals as goal
 use Rattle.price_settle.specs.declared.settlement.Settlement.{Settlement}
 use Rattle.report_compare.proofs.report.first_difference.Goals.{After-index-rows-chosen}
 
 -- the chosen row of the run
 module _ (c : After-index-rows-chosen) where
+  abbrev audited : Audited
+  audited = c.args.audited.now
+
   abbrev m : Market
-  m = market_of c.args.case.now
+  m = market_of audited.case.now
 
   abbrev plan : List Schedule
-  plan = schedules_of c.args.plan.now
+  plan = schedules_of audited.plan.now
 
   abbrev r : Report
-  r = report_of c.args.report.now
+  r = report_of audited.report.now
 
   abbrev rows : List Proposal
   rows = map proposal_of c.args.rows.now
@@ -37,7 +41,7 @@ module _ (c : After-index-rows-chosen) where
       c.index-rows-chosen.is
 
   made : IsMade m row
-  made = row_made m c.args.cost r.budget r.ahead rows k row c.requires.run at
+  made = row_made m audited.cost r.budget r.ahead rows k row c.requires.run at
 
   long : length row.prices.energy ≡ m.periods
   long = row_long m row made c.index-rows-chosen.result.supply_length
@@ -49,28 +53,28 @@ module _ (c : After-index-rows-chosen) where
     a = answers_of earned s made.schedules
 
     abbrev right : Report
-    right = right_of m a r.budget r.ahead c.args.cost rows (k + 1) row.value s.surplus s.total
+    right = right_of m a r.budget r.ahead audited.cost rows (k + 1) row.value s.surplus s.total
 
     is_right : IsRightReport m plan r.budget r.ahead right
     is_right =
         let counts = c.settlements_are_of_all_units.ensures m plan row.prices s.scheduled.items s.payments.items
-        s.surplus s.total c.requires.feasible settled in
-        right_is m plan r.budget r.ahead c.args.cost rows row (k + 1) a s.surplus s.total c.requires.cost c.requires.run
-        c.greatest_row-chosen.ensures.number (number_behind rows k row at)
+        s.surplus s.total audited.feasible settled in
+        right_is m plan r.budget r.ahead audited.cost rows row (k + 1) a s.surplus s.total audited.cost_is
+        c.requires.run c.greatest_row-chosen.ensures.number (number_behind rows k row at)
         made.fit made.totals tops counts.0 counts.1 settled
 
     lined : (o : Result ℕ WrongLine) →
-        Compares 1 o (whole_lines r (flat_map told_lines (map told_of c.args.report.now.lines.items)))
+        Compares 1 o (whole_lines r (flat_map told_lines (map told_of audited.report.now.lines.items)))
         (whole_lines right (flat_map told_lines (told_from a 0 (titles m)))) →
         Compares 1 o (report_lines r) (report_lines right)
     lined o told =
-        compared_as o _ (report_lines r) _ (report_lines right) (mine_whole c.args.report.now c.requires.order)
-        (right_whole m a r.budget r.ahead c.args.cost rows (k + 1) row.value s.surplus s.total) told
+        compared_as o _ (report_lines r) _ (report_lines right) (mine_whole audited.report.now audited.order)
+        (right_whole m a r.budget r.ahead audited.cost rows (k + 1) row.value s.surplus s.total) told
 
 pub greatest_row-chosen-requires : goal.greatest_row-chosen-requires
 greatest_row-chosen-requires c =
     let long = length-map c.args.rows.now proposal_of in
-    let least = c.requires.bounds.budget_at_least in
+    let least = c.args.audited.now.bounds.budget_at_least in
     elim c.requires.run.whole [
       | inl all ↦ omega (arith, long, least, all)
       | inr some ↦ let within = some.2 in omega (arith, long, within)
@@ -80,7 +84,7 @@ pub bounds-rows-chosen : goal.bounds-rows-chosen
 bounds-rows-chosen c = c.greatest_row-chosen.ensures.place
 
 pub earn_all-requires-clause-some : goal.earn_all-requires-clause-some
-earn_all-requires-clause-some c = (schedules_of c.args.plan.now, c.requires.feasible.feasible)
+earn_all-requires-clause-some c = (schedules_of c.args.audited.now.plan.now, c.args.audited.now.feasible.feasible)
 
 pub earn_all-requires-clause-bench : goal.earn_all-requires-clause-bench
 earn_all-requires-clause-bench c = c.requires.compare_room.bench
@@ -92,11 +96,11 @@ pub earn_all-requires-clause-room : goal.earn_all-requires-clause-room
 earn_all-requires-clause-room c = c.requires.compare_room.earned
 
 pub settle-requires-clause-feasible : goal.settle-requires-clause-feasible
-settle-requires-clause-feasible c = c.requires.feasible
+settle-requires-clause-feasible c = c.args.audited.now.feasible
 
 pub settle-requires-clause-best : goal.settle-requires-clause-best
 settle-requires-clause-best c =
-    let market = market_of c.args.case.now in
+    let market = market_of c.args.audited.now.case.now in
     let prices = (proposal_of c.index-rows-chosen.result).prices in
     subst (λ (es : List ℤ). AllZip (λ (u : AnyUnit) (e : ℤ). IsTop u prices e) (units market) es)
     (sym c.as_slice.ensures) c.earn_all.ensures.tops
@@ -111,14 +115,14 @@ pub compare_report-requires-clause-rows : goal.compare_report-requires-clause-ro
 compare_report-requires-clause-rows c =
     let long = length-map c.args.rows.now proposal_of in
     let within = c.requires.run.within in
-    let most = c.requires.bounds.budget_at_most in
+    let most = c.args.audited.now.bounds.budget_at_most in
     omega (arith, long, within, most)
 
 pub compare_report-requires-clause-chosen : goal.compare_report-requires-clause-chosen
 compare_report-requires-clause-chosen c =
     let long = length-map c.args.rows.now proposal_of in
     let within = c.requires.run.within in
-    let most = c.requires.bounds.budget_at_most in
+    let most = c.args.audited.now.bounds.budget_at_most in
     let index = c.greatest_row-chosen.ensures.place in
     omega (arith, long, within, most, index)
 
@@ -132,21 +136,19 @@ pub compare_report-requires-clause-horizon : goal.compare_report-requires-clause
 compare_report-requires-clause-horizon c = long (goal.at.compare_report-requires-clause-horizon
     c).After-index-rows-chosen
 
-pub compare_report-requires-clause-some : goal.compare_report-requires-clause-some
-compare_report-requires-clause-some c = (schedules_of c.args.plan.now, c.requires.feasible.feasible)
-
 pub compare_report-requires-clause-earned : goal.compare_report-requires-clause-earned
 compare_report-requires-clause-earned c =
-    count_zipped _ (market_of c.args.case.now) c.earn_all.new.into.items c.earn_all.ensures.tops
+    count_zipped _ (market_of c.args.audited.now.case.now) c.earn_all.new.into.items c.earn_all.ensures.tops
 
 pub compare_report-requires-clause-compare_room : goal.compare_report-requires-clause-compare_room
 compare_report-requires-clause-compare_room c =
-    let m = market_of c.args.case.now in
-    let plan = schedules_of c.args.plan.now in
+    let audited = c.args.audited.now in
+    let m = market_of audited.case.now in
+    let plan = schedules_of audited.plan.now in
     let row = proposal_of c.index-rows-chosen.result in
     let settlement = c.settle.new.into in
     let counts = c.settlements_are_of_all_units.ensures m plan row.prices settlement.scheduled.items
-    settlement.payments.items settlement.surplus settlement.total c.requires.feasible
+    settlement.payments.items settlement.surplus settlement.total audited.feasible
     c.settle.ensures.settled in
     let long = count_zipped _ m c.earn_all.new.into.items c.earn_all.ensures.tops in
     record {
@@ -157,31 +159,11 @@ compare_report-requires-clause-compare_room c =
       payments = counts.1;
     }
 
-pub compare_report-requires-clause-cost : goal.compare_report-requires-clause-cost
-compare_report-requires-clause-cost c =
-    let worth = c.plan_costs_are_within.ensures (market_of c.args.case.now) (schedules_of c.args.plan.now)
-    c.args.case.now.valid c.requires.feasible in
-    let known = sum_is_worth _ worth in
-    rw (to_z-of_z w128 c.args.cost c.ranges.cost) (subst IsWorth (sym c.requires.cost) known)
-
 pub compare_report-requires-clause-value : goal.compare_report-requires-clause-value
 compare_report-requires-clause-value c =
     let d = (goal.at.compare_report-requires-clause-value c).After-index-rows-chosen in
-    c.dual_values_are_within.ensures (m d) (row d).prices (row d).value c.args.case.now.valid
+    c.dual_values_are_within.ensures (m d) (row d).prices (row d).value c.args.audited.now.case.now.valid
     c.index-rows-chosen.result.prices.valid (long d) (made d).value
-
-pub compare_report-requires-clause-units : goal.compare_report-requires-clause-units
-unfolding report_of
-compare_report-requires-clause-units c = c.requires.bounds.units_at_most
-
-pub compare_report-requires-clause-lines : goal.compare_report-requires-clause-lines
-unfolding report_of
-compare_report-requires-clause-lines c =
-    let tolds = map told_of c.args.report.now.lines.items in
-    let n = counted 0 tolds c.requires.order in
-    let long = length-map c.args.report.now.lines.items told_of in
-    let lines = c.requires.bounds.lines in
-    omega (arith, n, long, lines)
 
 pub returns-in-Ok-clause-right : goal.returns-in-Ok-clause-right
 returns-in-Ok-clause-right c =
@@ -191,9 +173,9 @@ returns-in-Ok-clause-right c =
     let tops = c.earn_all.ensures.tops in
     let settled = c.settle.ensures.settled in
     let lines = lined d earned s tops settled (Ok c.in-Ok.field-0)
-    (rw (to_z-of_z w128 c.args.cost c.ranges.cost) at (c.in-Ok.ensures (made d).schedules (made d).fit)) in (
+    (c.in-Ok.ensures (made d).schedules (made d).fit) in (
       λ e. all_right c.text_determines_the_report.ensures (r d) (right d earned s tops settled) (m d) (plan d)
-          (r d).budget (r d).ahead c.in-Ok.field-0 c.right_report_has_form.ensures c.requires.bounds
+          (r d).budget (r d).ahead c.in-Ok.field-0 c.right_report_has_form.ensures c.args.audited.now.bounds
           (is_right d earned s tops settled) lines,
       λ h. refl,
     )
@@ -206,7 +188,7 @@ returns-in-Err-clause-right c =
     let tops = c.earn_all.ensures.tops in
     let settled = c.settle.ensures.settled in
     let lines = lined d earned s tops settled (Err c.in-Err.wrong)
-    (rw (to_z-of_z w128 c.args.cost c.ranges.cost) at (c.in-Err.ensures (made d).schedules (made d).fit)) in (
+    (c.in-Err.ensures (made d).schedules (made d).fit) in (
       λ e. absurd (none-some c.in-Err.wrong.line (sym e)),
       λ h. absurd (not_right c.text_determines_the_report.ensures (r d) (right d earned s tops settled) (m d) (plan d)
           (r d).budget (r d).ahead c.in-Err.wrong c.one_report_is_right.ensures (is_right d earned s tops settled) lines
@@ -221,7 +203,7 @@ returns-in-Err-clause-wrong c =
     let tops = c.earn_all.ensures.tops in
     let settled = c.settle.ensures.settled in
     let lines = lined d earned s tops settled (Err c.in-Err.wrong)
-    (rw (to_z-of_z w128 c.args.cost c.ranges.cost) at (c.in-Err.ensures (made d).schedules (made d).fit)) in (
+    (c.in-Err.ensures (made d).schedules (made d).fit) in (
       right d earned s tops settled,
       is_right d earned s tops settled,
       first_wrong c.text_determines_the_report.ensures (r d) (right d earned s tops settled) c.in-Err.wrong lines,

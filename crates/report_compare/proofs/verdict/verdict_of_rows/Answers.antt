@@ -1,4 +1,4 @@
-use Rattle.report_compare.proofs.Common.{◌≡◌, ℤ, ◌+◌, map, length, subst, sym, refl, arith, min, w128, to_z-of_z}
+use Rattle.report_compare.proofs.Common.{◌≡◌, ℤ, ◌+◌, map, length, subst, sym, refl, arith, min}
 use Rattle.report_compare.proofs.Common.{length-map, none-some, market_of, schedules_of, proposal_of, IsRun, Fits}
 use Rattle.report_compare.proofs.Common.{plan_cost, report_of, right_opening, opening_lines}
 use Rattle.report_compare.proofs.Lemmas.{number_wrong, beyond, no_more, wrong_right}
@@ -7,17 +7,18 @@ use Rattle.report_compare.proofs.verdict.verdict_of_rows.Goals as goal
 pub returns-then-right-told : goal.returns-then-right-told
 unfolding report_of
 returns-then-right-told c =
-    let m = market_of c.args.case.now in
-    let plan = schedules_of c.args.plan.now in
-    let r = report_of c.args.report.now in
+    let audited = c.args.audited.now in
+    let m = market_of audited.case.now in
+    let plan = schedules_of audited.plan.now in
+    let r = report_of audited.report.now in
     let rows = map proposal_of c.args.rows.now in
-    let q = c.right_reports_exist.ensures m plan r.budget r.ahead c.requires.feasible c.requires.bounds.budget_at_least
-    c.requires.bounds.ahead_at_least in
-    let same = subst (λ (x : ℤ). opening_lines r ≡ right_opening m x r) c.requires.cost c.requires.opening in
-    let run = subst (λ (x : ℤ). IsRun Fits m x (min r.budget (length r.rows + 1)) r.ahead rows) c.requires.cost
+    let q = c.right_reports_exist.ensures m plan r.budget r.ahead audited.feasible audited.bounds.budget_at_least
+    audited.bounds.ahead_at_least in
+    let same = subst (λ (x : ℤ). opening_lines r ≡ right_opening m x r) audited.cost_is c.requires.opening in
+    let run = subst (λ (x : ℤ). IsRun Fits m x (min r.budget (length r.rows + 1)) r.ahead rows) audited.cost_is
     c.requires.run in
     let long = length-map c.args.rows.now proposal_of in
-    let wide = length-map c.args.report.now.rows.items proposal_of in
+    let wide = length-map audited.report.now.rows.items proposal_of in
     let other = c.if-right-told.true in
     let told = c.len-told.ensures in
     let apart : length rows ≡ length r.rows → ⊥ = λ e. omega (arith, e, long, wide, other, told) in
@@ -29,16 +30,16 @@ returns-then-right-told c =
 pub first_difference-requires-clause-run : goal.first_difference-requires-clause-run
 unfolding report_of
 first_difference-requires-clause-run c =
-    let m = market_of c.args.case.now in
-    let r = report_of c.args.report.now in
+    let audited = c.args.audited.now in
+    let m = market_of audited.case.now in
+    let r = report_of audited.report.now in
     let rows = map proposal_of c.args.rows.now in
     let long = length-map c.args.rows.now proposal_of in
-    let wide = length-map c.args.report.now.rows.items proposal_of in
+    let wide = length-map audited.report.now.rows.items proposal_of in
     let same = c.if-right-told.false in
     let told = c.len-told.ensures in
-    rw (to_z-of_z w128 c.args.cost c.ranges.cost)
-    (beyond m c.args.cost r.budget r.ahead (length r.rows) rows c.requires.run
-    (omega (arith, long, wide, same, told)))
+    beyond m audited.cost r.budget r.ahead (length r.rows) rows c.requires.run
+    (omega (arith, long, wide, same, told))
 
 pub returns-in-None-clause-right : goal.returns-in-None-clause-right
 returns-in-None-clause-right c = (λ e. c.in-None.ensures.right.0 refl, λ h. refl)
