@@ -48,7 +48,7 @@ loop-last-preserved c =
                 c.args.table.now.items c.loop-last.last w.in-Some.net spell net.0
                 _ cost refl refl c.loop-last.table.items w.keep_lesser_end.new.table.items c.loop-last.invariant.update
                 w.keep_lesser_end.ensures.others w.keep_lesser_end.ensures.here w.keep_lesser_end.ensures.old
-                    w.keep_lesser_end.ensures.added
+                w.keep_lesser_end.ensures.added
                 w.keep_lesser_end.ensures.latest
                 w.keep_lesser_end.ensures.within;
             length_is = w.keep_lesser_end.ensures.length ∙ length_is;
