@@ -1,5 +1,7 @@
 //! A run that is opened and finished by the calls that `hull price` makes, over sinks that fail and
 //! one that can't. The report is that of the two units, worked by hand.
+ghost use Rattle.std.specs.Prelude.{◌≤◌};
+
 use crate::audits::RIGHT;
 use crate::boards::{CASE, PLAN, Sizes, terms_of};
 use crate::same::same;
