@@ -18,6 +18,7 @@ FILES = {
     "price": ("case", "schedule"),
     "bound": ("case", "schedule"),
     "fixed": ("case", "schedule"),
+    "convex": ("case", "schedule"),
     "audit": ("case", "schedule", "report"),
     "settle": ("case", "schedule", "prices"),
     "certify": ("case", "schedule", "prices", "mixture"),

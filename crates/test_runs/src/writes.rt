@@ -118,7 +118,7 @@ fn writes_end<R: Threads + Wait + Sync + Abort>(
     Ok(())
 }
 
-// Each write of each run fails in turn, or takes nothing.
+// In each of its ways, each write of a run that is to be tried fails, or takes nothing.
 fn all_writes_end<R: Threads + Wait + Sync + Abort>(
     rt: &R,
     alloc: Global,

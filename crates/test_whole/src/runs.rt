@@ -1,5 +1,5 @@
-//! A run that is opened and finished by the calls that `hull price` makes, over sinks that fail and
-//! one that can't. The report is that of the two units, worked by hand.
+//! A run that is opened by the call that `hull price` makes, and finished by `finish_run`, over sinks
+//! that fail and one that can't. The report is that of the two units, worked by hand.
 ghost use Rattle.std.specs.Prelude.{◌≤◌};
 
 use crate::audits::RIGHT;
