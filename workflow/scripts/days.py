@@ -4,7 +4,7 @@ import os
 import re
 import shlex
 import sys
-from dataclasses import asdict, dataclass, field
+from dataclasses import asdict, dataclass, field, replace
 from typing import Any, Dict, List, Mapping, Optional, Tuple
 
 HOME = os.path.dirname(os.path.dirname(os.path.dirname(os.path.abspath(__file__))))
@@ -23,6 +23,7 @@ LISTS = {
 }
 REPORT = "report"
 ABOUT = {**LISTS, REPORT: "hull price, with the words that are set"}
+HANDED = "HULL_DAYS_SETTINGS"  # the variable of a run by which its steps have the settings: a file in the study may be anybody's
 DAY_NAME = re.compile(r"\w(?:[\w.+@ -]{0,98}[\w.+@-])?", re.ASCII)
 
 
@@ -73,6 +74,10 @@ class Settings:
     def text(self) -> str:
         return json.dumps(asdict(self))
 
+    def hand_on(self) -> None:
+        """Hands the settings on to the processes that this one starts, but for the names of days, which may be many."""
+        os.environ[HANDED] = replace(self, only=None).text()
+
     def words_of(self, step: str) -> List[str]:
         return shlex.split(self.words.get(step, ""))
 
@@ -85,6 +90,12 @@ def read_settings(name: str) -> Settings:
     """The settings that a run has left in a file."""
     with open(name, encoding="utf-8") as file:
         return Settings(**json.load(file))
+
+
+def handed_settings() -> Optional[Settings]:
+    """The settings that the run hands on to this process; None where no run has started it."""
+    text = os.environ.get(HANDED)
+    return Settings(**json.loads(text)) if text else None
 
 
 def audits_folder(given: str) -> str:

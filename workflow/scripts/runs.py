@@ -61,7 +61,7 @@ def or_end(call: Callable[..., Found], *words: Any) -> Found:
 
 
 def begin_alone(settings: Settings) -> int:
-    """Takes the lock of the study for as long as this process lives, and leaves the settings for the jobs."""
+    """Takes the lock of the study for as long as this process lives, and leaves the settings for who asks what is left."""
     try:
         for name in [".snakemake"] * os.path.islink(".snakemake") + list(links_below(".snakemake")):
             raise HullError(f"{one_line(name)} is a symbolic link, and nothing is written through it")
@@ -81,7 +81,7 @@ def begin_alone(settings: Settings) -> int:
 
 
 def settings_file(settings: Settings) -> str:
-    """Where the settings of the run lie for its jobs."""
+    """Where the settings of the run lie for `summary.py`: no step reads them there."""
     return os.path.join(settings.results, HIDDEN, "settings.json")
 
 

@@ -1,6 +1,8 @@
 """Makes one step of one day: its files appear whole, with a record of what they were made of, or a reason stands in the day's log.
 
-usage: step.py STEP DAY --settings FILE [--attempt N]
+usage: step.py STEP DAY [--attempt N]
+
+The settings are those that the run hands on.
 """
 import argparse
 import os
@@ -15,7 +17,7 @@ from typing import Any, Callable, Dict, List, Optional
 
 from contents import alone, audit_mark, basis, make_folders, read_record, record_name, refuse_foreign
 from contents import sum_of, why_not_current, write_record, write_whole
-from days import HOME, LISTS, REPORT, STEPS, Day, refusal_of_name, read_settings, shown
+from days import HOME, LISTS, REPORT, STEPS, Day, handed_settings, refusal_of_name, shown
 from hulltools.errors import HullError, one_line
 from hulltools.faults import sentence
 from hulltools.named_files import Files
@@ -183,9 +185,11 @@ def make(day: Day, step: str, room: str, sums: Dict[str, Optional[str]]) -> Made
 
 
 def mark_audit(day: Day, sums: Dict[str, Optional[str]]) -> None:
-    """Notes outside of the study that the files with these sums were found right."""
+    """Notes outside of the study that the files with these sums, those of the copies, were found right, and by which program."""
     os.makedirs(day.settings.audits, exist_ok=True)
-    write_whole(audit_mark(day.settings, sums), f"right: {day.name}\n".encode())
+    text = f"right: {day.name}\nprogram: {one_line(day.settings.program)}\n"
+    text += "".join(f"{what}: {sums[what]}\n" for what in STEPS["audit"].takes)
+    write_whole(audit_mark(day.settings, sums), text.encode())
 
 
 def keep(day: Day, step: str, of: Dict[str, Any], made: Made) -> None:
@@ -250,16 +254,18 @@ def run_step(day: Day, step: str, attempt: int) -> Optional[str]:
 
 
 def body(words: List[str]) -> Optional[str]:
-    ask = argparse.ArgumentParser(prog="step.py", usage=(__doc__ or "").split("usage: ")[1].strip())
+    ask = argparse.ArgumentParser(prog="step.py", usage=(__doc__ or "").split("usage: ")[1].split("\n")[0])
     ask.add_argument("step", choices=list(STEPS))
     ask.add_argument("day")
-    ask.add_argument("--settings", required=True, type=read_settings)
     ask.add_argument("--attempt", type=int, default=1)
     given = ask.parse_args(words)
     why = refusal_of_name(given.day)
     if why:
         return why
-    day = Day(given.day, given.settings)
+    settings = handed_settings()
+    if settings is None:
+        raise HullError("no run hands its settings on: Snakemake calls this")
+    day = Day(given.day, settings)
     make_folders(day)
     with alone(day.made(f".steps/{given.step}.lock")):
         return run_step(day, given.step, given.attempt)

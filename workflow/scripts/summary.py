@@ -1,18 +1,19 @@
 """Writes the table and the page over all days, and the list of what is left and why.
 
-usage: summary.py --settings FILE [--quiet | --print]
+usage: summary.py --settings FILE [--audits FOLDER] [--quiet | --print]
 
+FILE is what a run has left. Where the run had a folder of its own for marks of audits, FOLDER names it: who can write FILE doesn't choose it.
 Status 1 where a day is left. What counts is what the files hold: a result of other files, or one that was changed, isn't in the table.
 """
 import argparse
 import os
 import sys
-from dataclasses import dataclass, field
+from dataclasses import dataclass, field, replace
 from typing import List, Optional, Tuple
 
 from contents import HIDDEN, basis, is_marked, read_record, record_name, refuse_links, sum_of, why_not_current
 from contents import write_record, write_whole
-from days import LISTS, REPORT, STEPS, Day, Settings, read_settings, shown
+from days import LISTS, REPORT, STEPS, Day, Settings, audits_folder, handed_settings, read_settings, shown
 from plan import plan_of
 from runs import refuse_audits_inside, settings_file
 from hulltools.errors import HullError, one_line
@@ -181,26 +182,37 @@ def tell(settings: Settings, text: str) -> None:
     print(f"{one_line(where)}table.csv, page.html and left.txt are written; {told}", flush=True)
 
 
-def settings_of(name: str) -> Settings:
-    """The settings in a file; HullError where no run can have left them there, with places of their own to write to or of marks of audits."""
+def settings_of(name: str, audits: str) -> Settings:
+    """The settings that a run hands on, with the days in its file, or all of the file where no run calls.
+
+    HullError where no run can have left them there, with places of their own to write to, or with marks of audits that the user doesn't name.
+    """
     try:
         settings = read_settings(name)
     except (ValueError, TypeError, RecursionError):
         raise HullError(f"{name}: these are no settings of a run") from None
+    handed = handed_settings()
+    if handed:
+        return replace(handed, only=settings.only)
     place = settings_file(settings)
     if not os.path.isfile(place) or not os.path.samefile(name, place) or not os.path.isabs(settings.audits):
         raise HullError(f"{name}: these settings aren't those that a run has left for {settings.results}")
     refuse_audits_inside(settings)
+    if settings.audits != audits_folder(audits):
+        raise HullError(
+            f"{name}: marks of audits are to be in {settings.audits}: if these are yours, add --audits FOLDER"
+        )
     return settings
 
 
 def body(words: List[str]) -> int:
     ask = argparse.ArgumentParser(prog="summary.py", usage=(__doc__ or "").split("usage: ")[1].split("\n")[0])
     ask.add_argument("--settings", required=True)
+    ask.add_argument("--audits", default="")
     ask.add_argument("--quiet", action="store_true")
     ask.add_argument("--print", action="store_true")
     given = ask.parse_args(words)
-    settings = settings_of(given.settings)
+    settings = settings_of(given.settings, given.audits)
     if given.print:
         with open(os.path.join(settings.results, "left.txt"), encoding="utf-8") as file:
             text = file.read()
