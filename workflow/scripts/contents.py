@@ -108,6 +108,12 @@ def read_record(name: str) -> Dict[str, Any]:
     return found if isinstance(found, dict) else {}
 
 
+def record_of(day: Day, step: str, kind: str = "made") -> Dict[str, Any]:
+    """A step's record, or an empty one where there is none that a step can have written."""
+    found = read_record(record_name(day, step, kind))
+    return found if all(isinstance(found.get(key, {}), dict) for key in ("of", "made")) else {}
+
+
 def write_record(name: str, record: Mapping[str, Any]) -> None:
     write_whole(name, (json.dumps(record, indent=1) + "\n").encode())
 
@@ -122,7 +128,7 @@ def why_not_current(day: Day, step: str) -> Optional[str]:
     made = made_sums(day, step)
     if any(found is None for found in made.values()):
         return f"no {next(file for file, found in made.items() if found is None)}"
-    record = read_record(record_name(day, step))
+    record = record_of(day, step)
     for what, found in input_sums(day, step).items():
         if record.get("of", {}).get(what) != found or found is None:
             return f"{STEPS[step].makes[0]} was made of another {what}"
@@ -135,12 +141,37 @@ def why_not_current(day: Day, step: str) -> Optional[str]:
     return None
 
 
-def refuse_foreign(day: Day, step: str) -> None:
-    """Refuses a file that has the name of a result and was never made here: it stays."""
-    made = read_record(record_name(day, step)).get("made") or {}
-    for file in STEPS[step].makes:
-        if os.path.lexists(day.made(file)) and file not in made:
+def refuse_taken(day: Day, step: str) -> None:
+    """Refuses a step that would write or remove what isn't ours: through a symbolic link, or a file without a record, which stays."""
+    refuse_links(day.settings, day.name, f"{day.name}/{HIDDEN}", f"{day.name}/log")
+    ours = list(record_of(day, step).get("made", {}))
+    if record_of(day, step, "left").get("why") is not None or is_empty(day.made(log_of(step))):
+        ours.append(log_of(step))
+    for file in (*STEPS[step].makes, log_of(step)):
+        if os.path.lexists(day.made(file)) and file not in ours:
             raise HullError(f"{one_line(day.made(file))} wasn't made by this workflow, so it stays: move it away")
+
+
+def is_empty(name: str) -> bool:
+    """Whether it is a plain file with nothing in it, as Snakemake once left where a step had no log."""
+    return not os.path.islink(name) and os.path.isfile(name) and os.path.getsize(name) == 0
+
+
+def log_of(step: str) -> str:
+    return f"log/{step}.txt"
+
+
+def drop(name: str) -> None:
+    if os.path.lexists(name):
+        os.unlink(name)
+
+
+def drop_made(day: Day, step: str) -> None:
+    """Takes away the files of a step that are as the step made them."""
+    made = record_of(day, step).get("made", {})
+    for file in STEPS[step].makes:
+        if file in made and sum_of(day.made(file)) == made[file]:
+            os.unlink(day.made(file))
 
 
 def audit_mark(settings: Settings, sums: Mapping[str, Optional[str]]) -> str:

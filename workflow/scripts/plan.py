@@ -7,10 +7,12 @@ import os
 import secrets
 import time
 from dataclasses import dataclass, field
+from functools import cached_property
 from typing import Dict, List, Optional, Tuple
 
-from contents import HIDDEN, make_folders, refuse_foreign, refuse_links, why_not_current, write_whole
-from days import REPORT, STEPS, Day, Settings, days_of, refusal_of_name
+from contents import HIDDEN, drop, drop_made, input_sums, make_folders, record_of, refuse_links, refuse_taken
+from contents import why_not_current, write_whole
+from days import REPORT, STEPS, Day, Settings, days_of, refusal_of_name, shown
 from hulltools.errors import HullError, one_line
 
 
@@ -20,6 +22,10 @@ class Plan:
 
     days: List[Tuple[Day, List[str]]] = field(default_factory=list)
     refused: Dict[str, str] = field(default_factory=dict)
+
+    @cached_property
+    def steps(self) -> Dict[str, List[str]]:
+        return {day.name: steps for day, steps in self.days}
 
     def files(self) -> List[str]:
         return [day.made(file) for day, steps in self.days for step in steps for file in STEPS[step].makes]
@@ -38,9 +44,8 @@ def why_not_begun(day: Day) -> Optional[str]:
         if day.is_given(what) and not os.path.isfile(day.path(what)):
             return f"its {os.path.basename(day.path(what))} is no file, or a link to none"
     try:
-        refuse_links(day.settings, day.name, f"{day.name}/{HIDDEN}", f"{day.name}/log")
         for step in day.steps():
-            refuse_foreign(day, step)
+            refuse_taken(day, step)
     except HullError as error:
         return str(error)
     return None
@@ -56,6 +61,15 @@ def plan_of(settings: Settings) -> Plan:
         else:
             plan.days.append((day, day.steps()))
     return plan
+
+
+def need_step(plan: Optional[Plan], day: Day, step: str) -> None:
+    """Refuses a step that isn't planned, which a target may still ask for; a job, which has no plan, looks itself."""
+    why = why_not_begun(day) if plan is None else plan.refused.get(day.name)
+    if why is None and step not in (day.steps() if plan is None else plan.steps.get(day.name, [])):
+        why = f"the settings don't want its {step}"
+    if why is not None:
+        raise HullError(f"{shown(day.name)}: {why}")
 
 
 def flag_name(results: str, day: str, step: str) -> str:
@@ -78,29 +92,37 @@ def settle_times(day: Day, step: str) -> None:
             os.utime(name, (when, when), follow_symlinks=False)
 
 
-def raise_flag(day: Day, step: str) -> None:
+def raise_flag(name: str, day: Day, step: str) -> None:
     """Writes a flag that is newer than the step's files, and that holds what none held before: Snakemake looks at both."""
-    name = flag_name(day.settings.results, day.name, step)
     write_whole(name, secrets.token_hex().encode())
     when = max([time.time(), *(time_of(day.made(file)) for file in STEPS[step].makes)]) + 1
     os.utime(name, (when, when), follow_symlinks=False)
 
 
-def set_flag(day: Day, step: str) -> bool:
-    """Sets the time of a step's flag; whether the step has to be made."""
-    name = flag_name(day.settings.results, day.name, step)
-    if os.path.isfile(name) and not os.path.islink(name) and why_not_current(day, step) is None:
-        settle_times(day, step)
-        return False
-    raise_flag(day, step)
-    return True
+def stale_steps(day: Day, steps: List[str]) -> List[str]:
+    """The steps to be made: those whose files aren't what they make of what lies there, and those that take what these make."""
+    stale: List[str] = []
+    for step in steps:
+        flag = flag_name(day.settings.results, day.name, step)
+        is_flagged = os.path.isfile(flag) and not os.path.islink(flag)
+        if not is_flagged or set(STEPS[step].takes) & set(stale) or why_not_current(day, step) is not None:
+            stale.append(step)
+    return stale
 
 
-def withdraw_audit(day: Day) -> None:
-    """Takes away an audit that is of other files, or of a report that is to be made anew."""
-    name = day.made("audit.txt")
-    if os.path.lexists(name):
-        os.unlink(name)
+def is_of_others(day: Day, step: str) -> bool:
+    """Whether the step's files were made of other files than lie there."""
+    of = record_of(day, step).get("of")
+    return of is not None and of != input_sums(day, step)
+
+
+def withdraw(day: Day, steps: List[str], stale: List[str]) -> None:
+    """Takes away an audit that is to be made anew, and what isn't wanted and was made of other files than lie there."""
+    for step in STEPS:
+        if step not in steps and (set(STEPS[step].takes) & set(stale) or is_of_others(day, step)):
+            drop_made(day, step)
+    if "audit" in stale:
+        drop(day.made("audit.txt"))
 
 
 def set_flags(plan: Plan) -> None:
@@ -108,9 +130,26 @@ def set_flags(plan: Plan) -> None:
     for day, steps in list(plan.days):
         try:
             make_folders(day)
-            stale = [step for step in steps if set_flag(day, step)]
-            if "audit" in steps and {"schedule", REPORT, "audit"} & set(stale):
-                withdraw_audit(day)
+            stale = stale_steps(day, steps)
+            for step in steps:
+                if step in stale:
+                    raise_flag(flag_name(day.settings.results, day.name, step), day, step)
+                else:
+                    settle_times(day, step)
+            withdraw(day, steps, stale)
         except OSError as error:
             plan.days.remove((day, steps))
             plan.refused[day.name] = f"{one_line(error.filename or day.folder)}: {error.strerror}"
+
+
+def show_flags(plan: Plan, folder: str) -> Dict[str, List[str]]:
+    """Sets flags in a folder outside of the study, where Snakemake only says what it would do. It gives what is stale, by day."""
+    stale = {day.name: stale_steps(day, steps) for day, steps in plan.days}
+    for day, steps in plan.days:
+        os.makedirs(os.path.join(folder, day.name, HIDDEN))
+        for step in steps:
+            name = flag_name(folder, day.name, step)
+            raise_flag(name, day, step)
+            if step not in stale[day.name]:
+                os.utime(name, (0, 0))
+    return stale

@@ -4,7 +4,8 @@ import os
 import re
 import subprocess
 import sys
-from typing import Any, Callable, Iterator, TypeVar
+from types import FrameType
+from typing import Any, Callable, Iterator, Optional, TypeVar
 
 from contents import HIDDEN, refuse_links, write_whole
 from days import Day, Settings
@@ -18,6 +19,18 @@ def is_main(workflow: Any) -> bool:
     """Whether this is the process that the user started, and not one of its jobs."""
     mode = getattr(workflow, "exec_mode", getattr(workflow, "mode", 0))  # (of Snakemake 8 and later, and of 7)
     return getattr(mode, "value", mode) == 0
+
+
+def is_dry() -> bool:
+    """Whether Snakemake is only to say what it would do: it tells the Snakefile nowhere, so its callers are looked through."""
+    frame: Optional[FrameType] = sys._getframe()
+    while frame is not None:
+        if str(frame.f_globals.get("__name__")).split(".")[0] == "snakemake":
+            found = frame.f_locals.get("dryrun", getattr(frame.f_locals.get("args"), "dryrun", None))
+            if isinstance(found, bool):
+                return found
+        frame = frame.f_back
+    return False
 
 
 def refuse_unheard_processors(workflow: Any) -> None:
@@ -60,14 +73,18 @@ def or_end(call: Callable[..., Found], *words: Any) -> Found:
         os._exit(1)
 
 
+def refuse_places(settings: Settings) -> None:
+    """Refuses a study with links where Snakemake or the workflow writes, and places that can't be."""
+    for name in [".snakemake"] * os.path.islink(".snakemake") + list(links_below(".snakemake")):
+        raise HullError(f"{one_line(name)} is a symbolic link, and nothing is written through it")
+    refuse_links(settings, HIDDEN)
+    refuse_results_among_days(settings)
+    refuse_audits_inside(settings)
+
+
 def begin_alone(settings: Settings) -> int:
     """Takes the lock of the study for as long as this process lives, and leaves the settings for who asks what is left."""
     try:
-        for name in [".snakemake"] * os.path.islink(".snakemake") + list(links_below(".snakemake")):
-            raise HullError(f"{one_line(name)} is a symbolic link, and nothing is written through it")
-        refuse_links(settings, HIDDEN)
-        refuse_results_among_days(settings)
-        refuse_audits_inside(settings)
         os.makedirs(os.path.join(settings.results, HIDDEN), exist_ok=True)
         name = os.path.join(settings.results, HIDDEN, "lock")
         handle = os.open(name, os.O_CREAT | os.O_WRONLY | os.O_NOFOLLOW | os.O_NONBLOCK | os.O_CLOEXEC, 0o666)

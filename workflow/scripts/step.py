@@ -15,7 +15,7 @@ import tempfile
 from hashlib import sha256
 from typing import Any, Callable, Dict, List, Optional
 
-from contents import alone, audit_mark, basis, make_folders, read_record, record_name, refuse_foreign
+from contents import alone, audit_mark, basis, drop, log_of, make_folders, record_name, record_of, refuse_taken
 from contents import sum_of, why_not_current, write_record, write_whole
 from days import HOME, LISTS, REPORT, STEPS, Day, handed_settings, refusal_of_name, shown
 from hulltools.errors import HullError, one_line
@@ -203,14 +203,9 @@ def keep(day: Day, step: str, of: Dict[str, Any], made: Made) -> None:
         mark_audit(day, of["of"])
 
 
-def drop(name: str) -> None:
-    if os.path.lexists(name):
-        os.unlink(name)
-
-
 def note(day: Day, step: str, of: Dict[str, Any], why: Exception) -> None:
     """Takes the step's old files away, and leaves the reason in the log and for the list of what is left."""
-    refuse_foreign(day, step)
+    refuse_taken(day, step)
     for file in STEPS[step].makes:
         drop(day.made(file))
     stays = isinstance(why, Refused) and not why.passes
@@ -219,12 +214,12 @@ def note(day: Day, step: str, of: Dict[str, Any], why: Exception) -> None:
 
 
 def write_log(day: Day, step: str, why: str) -> None:
-    write_whole(day.made(f"log/{step}.txt"), f"{why}\n".encode())
+    write_whole(day.made(log_of(step)), f"{why}\n".encode())
 
 
 def why_refused_before(day: Day, step: str, of: Dict[str, Any]) -> Optional[str]:
     """What an attempt before this one was refused for, where another attempt can't help."""
-    left = read_record(record_name(day, step, "left"))
+    left = record_of(day, step, "left")
     is_same = all(left.get(key) == found for key, found in of.items())
     return str(left.get("why")) if is_same and left.get("stays") else None
 
@@ -232,17 +227,16 @@ def why_refused_before(day: Day, step: str, of: Dict[str, Any]) -> Optional[str]
 def run_step(day: Day, step: str, attempt: int) -> Optional[str]:
     """Runs the step; why it is left, or None."""
     of = basis(day, step)
-    refuse_foreign(day, step)
+    refuse_taken(day, step)
     if why_not_current(day, step) is None:
         return None
     before = why_refused_before(day, step, of) if attempt > 1 else None
     if before:
-        write_log(day, step, before)  # (Snakemake takes the log of an attempt away before the next)
         return before
     try:
         with tempfile.TemporaryDirectory(prefix="hull-day-") as room:
             keep(day, step, of, make(day, step, room, of["of"]))
-        for name in (record_name(day, step, "left"), day.made(f"log/{step}.txt")):
+        for name in (day.made(log_of(step)), record_name(day, step, "left")):
             drop(name)
         return None
     except (HullError, Refused, MemoryError) as error:
@@ -251,6 +245,10 @@ def run_step(day: Day, step: str, attempt: int) -> Optional[str]:
         why = HullError(f"{one_line(error.filename or 'a file')}: {error.strerror or error}")
     note(day, step, of, why)
     return str(why) or "no memory"
+
+
+def tell(text: str) -> None:
+    print(f"{shown(sys.argv[2])}: {sys.argv[1]}: {one_line(text)}", file=sys.stderr, flush=True)
 
 
 def body(words: List[str]) -> Optional[str]:
@@ -286,7 +284,7 @@ def main() -> int:
     except OSError as error:
         why = f"{one_line(error.filename or 'a file')}: {error.strerror or error}"
     if why:
-        print(f"{shown(sys.argv[2])}: {sys.argv[1]}: {one_line(why)}", file=sys.stderr)
+        tell(why)
     return 1 if why else 0
 
 

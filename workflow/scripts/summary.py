@@ -11,7 +11,7 @@ import sys
 from dataclasses import dataclass, field, replace
 from typing import List, Optional, Tuple
 
-from contents import HIDDEN, basis, is_marked, read_record, record_name, refuse_links, sum_of, why_not_current
+from contents import HIDDEN, basis, is_marked, read_record, record_of, refuse_links, sum_of, why_not_current
 from contents import write_record, write_whole
 from days import LISTS, REPORT, STEPS, Day, Settings, audits_folder, handed_settings, read_settings, shown
 from plan import plan_of
@@ -90,7 +90,7 @@ def why_left(day: Day, step: str) -> Optional[str]:
     why = why_not_current(day, step)
     if why is None:
         return None
-    left = read_record(record_name(day, step, "left"))
+    left = record_of(day, step, "left")
     if all(left.get(key) == found for key, found in basis(day, step).items()):
         return str(left.get("why"))
     waits = [what for what in STEPS[step].takes if sum_of(day.path(what), is_input=True) is None]
