@@ -5,6 +5,7 @@ import re
 import shlex
 import sys
 from dataclasses import asdict, dataclass, field, replace
+from datetime import date
 from typing import Any, Dict, List, Mapping, Optional, Tuple
 
 HOME = os.path.dirname(os.path.dirname(os.path.dirname(os.path.abspath(__file__))))
@@ -22,6 +23,7 @@ LISTS = {
     "convex_hull": "convex hull prices, certified",
 }
 REPORT = "report"
+FILES = ("table.csv", "page.html", "left.txt")  # of all days, in the folder of results
 ABOUT = {**LISTS, REPORT: "hull price, with the words that are set"}
 HANDED = "HULL_DAYS_SETTINGS"  # the variable of a run by which its steps have the settings: a file in the study may be anybody's
 DAY_NAME = re.compile(r"\w(?:[\w.+@ -]{0,98}[\w.+@-])?", re.ASCII)
@@ -89,7 +91,8 @@ class Settings:
 def read_settings(name: str) -> Settings:
     """The settings that a run has left in a file."""
     with open(name, encoding="utf-8") as file:
-        return Settings(**json.load(file))
+        settings = Settings(**json.load(file))
+    return replace(settings, only=names_of(settings.only))
 
 
 def handed_settings() -> Optional[Settings]:
@@ -110,23 +113,49 @@ def settings_from(config: Mapping[str, Any]) -> Settings:
     for name in lists:
         if name not in LISTS:
             raise HullError(f"lists: {one_line(name)} isn't one of {', '.join(LISTS)}")
-    only = config.get("only")
-    if only is not None and not isinstance(only, list):
-        only = [only]
     words = {"schedule": "schedule_words", "elmp": "elmp_words", "convex_hull": "convex_words", REPORT: "report_words"}
-    audit = bool(config.get("audit", True))
     return Settings(
         days=str(config.get("days") or "days"),
         results=str(config.get("results") or "results"),
         audits=audits_folder(str(config.get("audits") or "")),
-        only=None if only is None else [str(name) for name in only],
+        only=names_of(config.get("only")),
         lists=lists,
-        report=bool(config.get("report", True)),
-        audit=audit,
+        report=truth("report", config.get("report", True)),
+        audit=truth("audit", config.get("audit", True)),
         program=program_of(str(config.get("program") or "")),
         python=str(config.get("python") or sys.executable),
-        words={step: str(config.get(key) or "") for step, key in words.items()},
+        words={step: words_in(key, config.get(key)) for step, key in words.items()},
     )
+
+
+def truth(key: str, given: object) -> bool:
+    """What is given, as people and YAML write it; Snakemake hands a word of its command line on as a text."""
+    for found, texts in ((True, ("true", "yes", "on", "1")), (False, ("false", "no", "off", "0"))):
+        if str(given).lower() in texts:
+            return found
+    raise HullError(f"{key}: {one_line(given)} is neither true nor false")
+
+
+def names_of(given: object) -> Optional[List[str]]:
+    """The names of days. A number may have been written otherwise, as 1.10 or 2026_01_01, so it is refused; a date is written in one way."""
+    if given is None:
+        return None
+    names = given if isinstance(given, list) else [given]
+    for name in names:
+        if not isinstance(name, str) and type(name) is not date:
+            raise HullError(
+                f"only: {one_line(name)} isn't read as a text: write each name in quotes, as in only=['2026.10']"
+            )
+    return [str(name) for name in names]
+
+
+def words_in(key: str, given: object) -> str:
+    text = "" if given is None else str(given)
+    try:
+        shlex.split(text)
+    except ValueError as why:
+        raise HullError(f"{key}: {one_line(text)}: {str(why).lower()}") from None
+    return text
 
 
 def program_of(given: str) -> str:
@@ -138,6 +167,8 @@ def program_of(given: str) -> str:
 
 def refusal_of_name(name: str) -> Optional[str]:
     """Why a day can't have the name, or None."""
+    if name in FILES:
+        return f"no name for a day: {name} is that of a file of all days"
     if DAY_NAME.fullmatch(name):
         return None
     return "no name for a day: letters, digits and ._+@- with spaces inside, 100 at most, and a letter or digit first"

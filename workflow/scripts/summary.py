@@ -13,14 +13,13 @@ from typing import List, Optional, Tuple
 
 from contents import HIDDEN, basis, is_marked, read_record, record_of, refuse_links, sum_of, why_not_current
 from contents import write_record, write_whole
-from days import LISTS, REPORT, STEPS, Day, Settings, audits_folder, handed_settings, read_settings, shown
+from days import FILES, LISTS, REPORT, STEPS, Day, Settings, audits_folder, handed_settings, read_settings, shown
 from plan import plan_of
 from runs import refuse_audits_inside, settings_file
 from hulltools.errors import HullError, one_line
 from hulltools.outputs import read_output
 from hulltools.tables import Table
 
-FILES = ("table.csv", "page.html", "left.txt")
 HEADS = (
     "day list kind unit cost:money dual_value:money payments:money make_whole:money lost_opportunity:money surplus:money uplift:money "
     "certified_least:money above_least:money earned:money scheduled:money audited"
@@ -214,8 +213,8 @@ def body(words: List[str]) -> int:
     given = ask.parse_args(words)
     settings = settings_of(given.settings, given.audits)
     if given.print:
-        with open(os.path.join(settings.results, "left.txt"), encoding="utf-8") as file:
-            text = file.read()
+        with open(os.path.join(settings.results, "left.txt"), encoding="utf-8", errors="replace") as file:
+            text = "".join(f"{one_line(line.rstrip())}\n" for line in file)
     else:
         summary = summary_of(settings)
         write_files(settings, summary)
