@@ -9,13 +9,15 @@ import hashlib
 import json
 import os
 import tempfile
-from typing import Any, Dict, Iterator, Mapping, Optional, Tuple
+import time
+from typing import Any, Callable, Dict, Iterator, Mapping, Optional, Tuple
 
 from days import STEPS, Day, Settings
 from hulltools.errors import HullError, one_line
 
 HIDDEN = ".steps"  # the folder of records and flags
 CHUNK = 1 << 20
+MOST_SECONDS_OF_WAIT = 300
 
 
 def sum_of(name: str, is_input: bool = False) -> Optional[str]:
@@ -74,14 +76,32 @@ def make_folders(day: Day) -> None:
 
 
 @contextlib.contextmanager
-def alone(name: str) -> Iterator[None]:
-    """Waits until no other process is within the same name."""
+def alone(name: str, tell: Callable[[str], None], most: float = MOST_SECONDS_OF_WAIT) -> Iterator[None]:
+    """Waits until no other process is within the same name, and tells of it; HullError where one is for too long."""
     handle = os.open(name, os.O_CREAT | os.O_WRONLY | os.O_NOFOLLOW | os.O_NONBLOCK | os.O_CLOEXEC, 0o666)
     try:
-        fcntl.flock(handle, fcntl.LOCK_EX)
+        began = time.monotonic()
+        due = 1.0
+        while not is_taken(handle):
+            waited = time.monotonic() - began
+            if waited >= most:
+                raise HullError(f"another process has held {one_line(name)} for {most:.0f} s: end it, or wait for it")
+            if waited >= due:
+                tell(f"it waits for another process, which holds {one_line(name)}")
+                due += 10
+            time.sleep(0.1)
         yield
     finally:
         os.close(handle)
+
+
+def is_taken(handle: int) -> bool:
+    """Whether this process has the lock now."""
+    try:
+        fcntl.flock(handle, fcntl.LOCK_EX | fcntl.LOCK_NB)
+    except BlockingIOError:
+        return False
+    return True
 
 
 def input_sums(day: Day, step: str) -> Dict[str, Optional[str]]:

@@ -265,7 +265,7 @@ def body(words: List[str]) -> Optional[str]:
         raise HullError("no run hands its settings on: Snakemake calls this")
     day = Day(given.day, settings)
     make_folders(day)
-    with alone(day.made(f".steps/{given.step}.lock")):
+    with alone(day.made(f".steps/{given.step}.lock"), tell):
         return run_step(day, given.step, given.attempt)
 
 
