@@ -1,0 +1,258 @@
+"""workflow/ touches what is its own, and nothing else: the study's other files, what others write there, and words that are read as they are meant."""
+import importlib
+import json
+import os
+import re
+import shutil
+import subprocess
+import sys
+import tempfile
+import unittest
+from datetime import date
+from typing import Any, Dict, List, Tuple
+
+from built import ROOT
+from test_workflow import PROFILES, RIGHT, SNAKEMAKE, Workflow, read, write
+
+SCRIPTS = f"{ROOT}/workflow/scripts"
+# The program, which has the settings of the run name another one when it is first called.
+SWAPPING = """#!/usr/bin/env bash
+sed -i 's|"program": "[^"]*"|"program": "'"$OTHER"'"|' results/.steps/settings.json
+echo "$1 $3" >> "$CALLS"
+exec "$PROGRAM" "$@"
+"""
+OTHER = """#!/bin/sh
+echo "$*" >> "$CALLS.other"
+printf 'hull-audit 1\\nproposals 1\\nright\\n'
+"""
+# Slurm, on this machine: the job runs by itself, and is asked for by its process.
+SLURM = {
+    "sbatch": """#!/usr/bin/env bash
+for word; do case $word in --export=ALL,*) export "${word#--export=ALL,}" ;; esac; done
+setsid "$word" > "$CALLS.job" 2>&1 < /dev/null &
+echo $!
+""",
+    "scontrol": """#!/usr/bin/env bash
+[ "$2 $3" = "show job" ] || exit 0
+if kill -0 "$4" 2> /dev/null; then echo "JobState=RUNNING"; else echo "JobState=COMPLETED"; fi
+""",
+}
+
+
+def write_program(name: str, text: str) -> None:
+    write(name, text)
+    os.chmod(name, 0o755)
+
+
+def looks_of(folder: str) -> Dict[str, Tuple[int, bytes]]:
+    """The time and the contents of all that is in the folder."""
+    names = [os.path.join(at, name) for at, folders, files in os.walk(folder) for name in (*folders, *files)]
+    return {it: (os.lstat(it).st_mtime_ns, read(it) if os.path.isfile(it) else b"") for it in names}
+
+
+def steps_in(said: str) -> Dict[str, int]:
+    """How many there are of each step in what Snakemake would do."""
+    return {step: int(count) for step, count in re.findall(r"^(report|audit) +(\d+) ", said, re.M)}
+
+
+def script(name: str) -> Any:
+    """A module of the workflow."""
+    if SCRIPTS not in sys.path:
+        sys.path.insert(0, SCRIPTS)
+    return importlib.import_module(name)
+
+
+class OfOthers(Workflow):
+    """What who can write into the study does there."""
+
+    def ask(self, *words: str) -> "subprocess.CompletedProcess[str]":
+        own = ["/usr/bin/env", "python3", f"{SCRIPTS}/summary.py", "--settings", "results/.steps/settings.json", *words]
+        return subprocess.run(own, cwd=self.study, env=self.env, capture_output=True, text=True, check=False)
+
+    def test_no_step_takes_settings_from_the_study(self) -> None:
+        self.days("one")
+        write_program(f"{self.room}/hull", SWAPPING)
+        write_program(f"{self.room}/other", OTHER)
+        self.env["OTHER"] = f"{self.room}/other"
+        self.ends_well()
+        self.assertEqual(self.calls(), ["audit days/one", "price days/one"])
+        self.assertFalse(os.path.exists(f"{self.room}/calls.other"))
+        marks = f"{self.room}/home/.local/state/hull/audits"
+        text = read(f"{marks}/{os.listdir(marks)[0]}").decode()
+        self.assertEqual(text.splitlines()[:2], ["right: one", f"program: {self.room}/hull"])
+        self.assertEqual([line.split(": ")[0] for line in text.splitlines()[2:]], ["case", "schedule", "report"])
+
+    def test_who_asks_what_is_left_names_marks_of_audits(self) -> None:
+        self.days("one")
+        self.ends_well()
+        self.assertEqual(self.ask().returncode, 0)
+        name, marks = self.result(".steps/settings.json"), f"{self.room}/marks"
+        write(name, json.dumps({**json.loads(read(name)), "audits": marks}))
+        table = read(self.result("table.csv"))
+        ran = self.ask()
+        self.assertEqual((ran.returncode, ran.stdout), (1, ""))
+        self.assertIn(f"marks of audits are to be in {marks}: if these are yours, add --audits FOLDER\n", ran.stderr)
+        self.assertEqual(read(self.result("table.csv")), table)
+        self.assertIn("one: audit: audit.txt isn't of an audit that you made", self.ask("--audits", marks).stdout)
+
+    @unittest.skipIf(sys.version_info < (3, 11), "this Python takes modules from where it begins")
+    def test_a_job_of_slurm_takes_nothing_from_the_study(self) -> None:
+        self.days("one")
+        for name in ("snakemake.py", "yaml.py", "contents.py"):
+            write(f"{self.study}/{name}", "import os\nopen(os.environ['CALLS'] + '.other', 'a').write(__file__)\n")
+        write_program(f"{self.study}/status.sh", '#!/bin/sh\necho "$*" >> "$CALLS.other"\necho success\n')
+        os.mkdir(f"{self.room}/bin")
+        for name, text in SLURM.items():
+            write_program(f"{self.room}/bin/{name}", text)
+        write(f"{self.room}/config.json", json.dumps({**self.settings, "audit": False}))
+        words = ["-s", f"{ROOT}/workflow/Snakefile", "--profile", f"{PROFILES}/slurm", "--retries", "0"]
+        ran = subprocess.run(
+            [SNAKEMAKE or "", *words, "--configfile", f"{self.room}/config.json"],
+            cwd=self.study,
+            env={**self.env, "PATH": f"{self.room}/bin:{self.env['PATH']}"},
+            stdin=subprocess.DEVNULL,
+            capture_output=True,
+            text=True,
+            check=False,
+        )
+        job = read(f"{self.room}/calls.job").decode()
+        self.assertEqual(ran.returncode, 0, ran.stdout + ran.stderr + job)
+        self.assertFalse(os.path.exists(f"{self.room}/calls.other"))
+        self.assertEqual(self.calls(), ["price days/one"])
+
+
+class OfTheUser(Workflow):
+    """Files of the user's stay, whatever is asked for."""
+
+    def test_a_single_target_is_refused_before_anything_is_touched(self) -> None:
+        self.days("linked", "mine", "right")
+        victim = f"{self.room}/victim"
+        for name in (f"{victim}/.steps", self.result("mine/.steps")):
+            os.makedirs(name)
+            write(f"{name}/report.flag", "raised\n")
+            write(f"{os.path.dirname(name)}/report.txt", "mine\n")
+            os.utime(f"{os.path.dirname(name)}/report.txt", (1, 1))
+        os.symlink(victim, self.result("linked"))
+        before = looks_of(victim), looks_of(self.result("mine"))
+        for target, why in (
+            ("linked/report.txt", "linked: results/linked is a symbolic link, and nothing is written through it"),
+            (
+                "mine/report.txt",
+                "mine: results/mine/report.txt wasn't made by this workflow, so it stays: move it away",
+            ),
+            ("right/lmp.prices.json", "right: the settings don't want its lmp"),
+            ("none/report.txt", "none: the settings don't want its report"),
+        ):
+            is_right, said = self.run_all("--nocolor", f"results/{target}")
+            self.assertEqual((is_right, said.splitlines()[-1]), (False, why), said)
+        self.assertEqual((looks_of(victim), looks_of(self.result("mine"))), before)
+        is_right, said = self.run_all("--nocolor", "results/right/report.txt")
+        self.assertEqual(read(self.result("right/report.txt")), RIGHT, said)
+
+    def test_logs_of_the_user_stay_and_no_day_has_the_name_of_a_file_of_all(self) -> None:
+        self.days("notes", "empty", "table.csv", "left.txt")
+        for name, text in (("notes", "mine\n"), ("empty", "")):
+            os.makedirs(self.result(f"{name}/log"))
+            write(self.result(f"{name}/log/report.txt"), text)
+        self.assertFalse(self.run_all("--retries", "0")[0])
+        taken = "no name for a day: {} is that of a file of all days"
+        due = {name: [taken.format(name)] for name in ("table.csv", "left.txt")}
+        due["notes"] = ["results/notes/log/report.txt wasn't made by this workflow, so it stays: move it away"]
+        self.assertEqual(self.left(), due)
+        self.assertEqual(read(self.result("notes/log/report.txt")), b"mine\n")
+        self.assertEqual(self.audited(), {"empty": "yes"})
+        self.assertEqual(os.listdir(self.result("empty/log")), [])
+
+    def test_what_is_not_wanted_is_not_left_beside_other_files(self) -> None:
+        self.days("one", "edited")
+        self.ends_well()
+        write(self.result("edited/report.txt"), "mine\n")
+        self.ends_well(audit=False, report_words="--proposals 1", only=["one"])
+        self.assertFalse(os.path.exists(self.result("one/audit.txt")))
+        self.assertTrue(os.path.exists(self.result("edited/audit.txt")))
+        write(f"{self.study}/days/one/case.json", read(f"{self.study}/days/one/case.json").decode() + "\n")
+        self.ends_well(audit=False, report=False)
+        self.assertFalse(os.path.exists(self.result("one/report.txt")))
+        self.assertFalse(os.path.exists(self.result("edited/audit.txt")))
+        self.assertEqual(read(self.result("edited/report.txt")), b"mine\n")
+
+    def test_a_dry_run_changes_nothing(self) -> None:
+        self.days("one", "two")
+        is_right, said = self.run_all("-n")
+        self.assertTrue(is_right, said)
+        self.assertEqual(steps_in(said), {"report": 2, "audit": 2})
+        self.assertFalse(os.path.exists(f"{self.study}/results"))
+        self.ends_well()
+        for at, _, files in os.walk(f"{self.study}/days"):
+            for file in files:
+                os.utime(f"{at}/{file}")
+        before = looks_of(f"{self.study}/results")
+        is_right, said = self.run_all("-n")
+        self.assertTrue(is_right, said)
+        self.assertEqual(steps_in(said), {})
+        write(f"{self.study}/days/one/case.json", read(f"{self.study}/days/one/case.json").decode() + "\n")
+        is_right, said = self.run_all("-n")
+        self.assertTrue(is_right, said)
+        self.assertEqual(steps_in(said), {"report": 1, "audit": 1})
+        self.assertEqual(looks_of(f"{self.study}/results"), before)
+
+
+class Words(Workflow):
+    """Settings are what was written, or are refused."""
+
+    def refusal(self, **config: object) -> str:
+        days = script("days")
+        try:
+            days.settings_from(config)
+        except days.HullError as why:
+            return str(why)
+        return ""
+
+    def test_what_is_true_and_what_is_false(self) -> None:
+        days = script("days")
+        for given in (False, 0, "false", "False", "no", "off", "0"):
+            settings = days.settings_from({"audit": given, "report": given})
+            self.assertEqual((settings.audit, settings.report), (False, False), given)
+        for given in (True, 1, "true", "yes", "ON", "1"):
+            self.assertTrue(days.settings_from({"audit": given}).audit, given)
+        self.assertEqual(self.refusal(audit="maybe"), "audit: maybe is neither true nor false")
+
+    def test_names_of_days_are_as_they_were_written(self) -> None:
+        days = script("days")
+        for given, due in (("2026.10", ["2026.10"]), (["a", date(2026, 1, 2)], ["a", "2026-01-02"]), (None, None)):
+            self.assertEqual(days.settings_from({"only": given}).only, due)
+        for wrong in (2026.1, [20260101], [True], [None], {"a": 1}):
+            self.assertIn("isn't read as a text: write each name in quotes", self.refusal(only=wrong))
+
+    def test_a_quote_that_is_not_closed(self) -> None:
+        for key in ("schedule_words", "elmp_words", "convex_words", "report_words"):
+            self.assertEqual(self.refusal(**{key: '--proposals "5'}), f'{key}: --proposals "5: no closing quotation')
+
+    def test_words_of_the_command_line(self) -> None:
+        self.days("2026.1", "2026.10")
+        is_right, said = self.run_all("--config", "only=2026.10")
+        self.assertEqual((is_right, said.splitlines()[-1][:42]), (False, "only: 2026.1 isn't read as a text: write e"))
+        is_right, said = self.run_all("-n", "--config", "only=['2026.10']", "audit=false")
+        self.assertTrue(is_right, said)
+        self.assertEqual(steps_in(said), {"report": 1})
+
+
+class Waits(unittest.TestCase):
+    def test_a_step_that_waits_says_so_and_not_for_ever(self) -> None:
+        contents = script("contents")
+        room = tempfile.mkdtemp(prefix="hull-waits-")
+        self.addCleanup(shutil.rmtree, room)
+        name = f"{room}/lock"
+        told: List[str] = []
+        with contents.alone(name, told.append):
+            with self.assertRaises(contents.HullError) as why:
+                with contents.alone(name, told.append, most=2.0):
+                    pass
+            self.assertEqual(told, [f"it waits for another process, which holds {name}"])
+            self.assertEqual(str(why.exception), f"another process has held {name} for 2 s: end it, or wait for it")
+        with contents.alone(name, told.append, most=0):
+            self.assertEqual(len(told), 1)
+
+
+if __name__ == "__main__":
+    unittest.main()
