@@ -164,11 +164,13 @@ def why_not_current(day: Day, step: str) -> Optional[str]:
 def refuse_taken(day: Day, step: str) -> None:
     """Refuses a step that would write or remove what isn't ours: through a symbolic link, or a file without a record, which stays."""
     refuse_links(day.settings, day.name, f"{day.name}/{HIDDEN}", f"{day.name}/log")
+    # A step at work writes a record before its file, and takes a log away before the record.
+    there = [file for file in (*STEPS[step].makes, log_of(step)) if os.path.lexists(day.made(file))]
     ours = list(record_of(day, step).get("made", {}))
     if record_of(day, step, "left").get("why") is not None or is_empty(day.made(log_of(step))):
         ours.append(log_of(step))
-    for file in (*STEPS[step].makes, log_of(step)):
-        if os.path.lexists(day.made(file)) and file not in ours:
+    for file in there:
+        if file not in ours and os.path.lexists(day.made(file)):
             raise HullError(f"{one_line(day.made(file))} wasn't made by this workflow, so it stays: move it away")
 
 
