@@ -1,4 +1,4 @@
-"""workflow/ touches what is its own, and nothing else: the study's other files, what others write there, and words that are read as they are meant."""
+"""workflow/ touches nothing but its own, believes nothing that others write into the study, and reads words as they are meant."""
 import importlib
 import json
 import os

@@ -162,7 +162,7 @@ def why_not_current(day: Day, step: str) -> Optional[str]:
 
 
 def refuse_taken(day: Day, step: str) -> None:
-    """Refuses a step that would write or remove what isn't ours: through a symbolic link, or a file without a record, which stays."""
+    """Refuses a step that would write through a symbolic link, or replace a file without a record, which stays."""
     refuse_links(day.settings, day.name, f"{day.name}/{HIDDEN}", f"{day.name}/log")
     # A step at work writes a record before its file, and takes a log away before the record.
     there = [file for file in (*STEPS[step].makes, log_of(step)) if os.path.lexists(day.made(file))]

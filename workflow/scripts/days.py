@@ -25,7 +25,8 @@ LISTS = {
 REPORT = "report"
 FILES = ("table.csv", "page.html", "left.txt")  # of all days, in the folder of results
 ABOUT = {**LISTS, REPORT: "hull price, with the words that are set"}
-HANDED = "HULL_DAYS_SETTINGS"  # the variable of a run by which its steps have the settings: a file in the study may be anybody's
+# The variable by which the steps of a run have its settings: a file in the study may be anybody's.
+HANDED = "HULL_DAYS_SETTINGS"
 DAY_NAME = re.compile(r"\w(?:[\w.+@ -]{0,98}[\w.+@-])?", re.ASCII)
 
 
@@ -137,7 +138,7 @@ def truth(key: str, given: object) -> bool:
 
 
 def names_of(given: object) -> Optional[List[str]]:
-    """The names of days. A number may have been written otherwise, as 1.10 or 2026_01_01, so it is refused; a date is written in one way."""
+    """The names of days. A number may have been written otherwise, as 1.10 or 2026_01_01; a date is written in one way."""
     if given is None:
         return None
     names = given if isinstance(given, list) else [given]

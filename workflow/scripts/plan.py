@@ -100,7 +100,7 @@ def raise_flag(name: str, day: Day, step: str) -> None:
 
 
 def stale_steps(day: Day, steps: List[str]) -> List[str]:
-    """The steps to be made: those whose files aren't what they make of what lies there, and those that take what these make."""
+    """The steps whose files aren't what they make of what lies there, and those that take what these make."""
     stale: List[str] = []
     for step in steps:
         flag = flag_name(day.settings.results, day.name, step)
@@ -143,7 +143,7 @@ def set_flags(plan: Plan) -> None:
 
 
 def show_flags(plan: Plan, folder: str) -> Dict[str, List[str]]:
-    """Sets flags in a folder outside of the study, where Snakemake only says what it would do. It gives what is stale, by day."""
+    """Sets flags in a folder outside of the study, for a run that only says what it would do; what is stale, by day."""
     stale = {day.name: stale_steps(day, steps) for day, steps in plan.days}
     for day, steps in plan.days:
         os.makedirs(os.path.join(folder, day.name, HIDDEN))

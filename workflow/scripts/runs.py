@@ -22,7 +22,7 @@ def is_main(workflow: Any) -> bool:
 
 
 def is_dry() -> bool:
-    """Whether Snakemake is only to say what it would do: it tells the Snakefile nowhere, so its callers are looked through."""
+    """Whether Snakemake is only to say what it would do. It doesn't tell the Snakefile, so the callers are looked through."""
     frame: Optional[FrameType] = sys._getframe()
     while frame is not None:
         if str(frame.f_globals.get("__name__")).split(".")[0] == "snakemake":
@@ -83,7 +83,7 @@ def refuse_places(settings: Settings) -> None:
 
 
 def begin_alone(settings: Settings) -> int:
-    """Takes the lock of the study for as long as this process lives, and leaves the settings for who asks what is left."""
+    """Takes the lock of the study for as long as this process lives, and leaves the settings for `summary.py`."""
     try:
         os.makedirs(os.path.join(settings.results, HIDDEN), exist_ok=True)
         name = os.path.join(settings.results, HIDDEN, "lock")

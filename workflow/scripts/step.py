@@ -185,7 +185,7 @@ def make(day: Day, step: str, room: str, sums: Dict[str, Optional[str]]) -> Made
 
 
 def mark_audit(day: Day, sums: Dict[str, Optional[str]]) -> None:
-    """Notes outside of the study that the files with these sums, those of the copies, were found right, and by which program."""
+    """Notes outside of the study that the files with these sums were found right, and by which program."""
     os.makedirs(day.settings.audits, exist_ok=True)
     text = f"right: {day.name}\nprogram: {one_line(day.settings.program)}\n"
     text += "".join(f"{what}: {sums[what]}\n" for what in STEPS["audit"].takes)

@@ -2,7 +2,8 @@
 
 usage: summary.py --settings FILE [--audits FOLDER] [--quiet | --print]
 
-FILE is what a run has left. Where the run had a folder of its own for marks of audits, FOLDER names it: who can write FILE doesn't choose it.
+FILE is what a run has left. Where that run had a folder of its own for marks of audits, FOLDER names it again:
+it isn't chosen by who can write FILE.
 Status 1 where a day is left. What counts is what the files hold: a result of other files, or one that was changed, isn't in the table.
 """
 import argparse
@@ -184,7 +185,8 @@ def tell(settings: Settings, text: str) -> None:
 def settings_of(name: str, audits: str) -> Settings:
     """The settings that a run hands on, with the days in its file, or all of the file where no run calls.
 
-    HullError where no run can have left them there, with places of their own to write to, or with marks of audits that the user doesn't name.
+    HullError where no run can have left them there, with places of their own to write to, or with marks of audits
+    that the user doesn't name.
     """
     try:
         settings = read_settings(name)
