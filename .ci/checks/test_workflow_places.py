@@ -1,4 +1,4 @@
-"""workflow/ touches nothing but its own, believes nothing that others write into the study, and reads words as they are meant."""
+"""workflow/ touches its own files alone, believes nothing that others write, and reads words as they are meant."""
 import importlib
 import json
 import os
@@ -223,6 +223,11 @@ class Words(Workflow):
             self.assertEqual(days.settings_from({"only": given}).only, due)
         for wrong in (2026.1, [20260101], [True], [None], {"a": 1}):
             self.assertIn("isn't read as a text: write each name in quotes", self.refusal(only=wrong))
+
+    def test_texts_are_as_they_were_written(self) -> None:
+        for key in ("days", "results", "audits", "program", "python", "report_words"):
+            self.assertEqual(self.refusal(**{key: 2026.1}), f"{key}: 2026.1 isn't read as a text: write it in quotes")
+            self.assertEqual(self.refusal(**{key: None}), "")
 
     def test_a_quote_that_is_not_closed(self) -> None:
         for key in ("schedule_words", "elmp_words", "convex_words", "report_words"):

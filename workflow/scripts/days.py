@@ -116,16 +116,16 @@ def settings_from(config: Mapping[str, Any]) -> Settings:
             raise HullError(f"lists: {one_line(name)} isn't one of {', '.join(LISTS)}")
     words = {"schedule": "schedule_words", "elmp": "elmp_words", "convex_hull": "convex_words", REPORT: "report_words"}
     return Settings(
-        days=str(config.get("days") or "days"),
-        results=str(config.get("results") or "results"),
-        audits=audits_folder(str(config.get("audits") or "")),
+        days=text_in("days", config) or "days",
+        results=text_in("results", config) or "results",
+        audits=audits_folder(text_in("audits", config)),
         only=names_of(config.get("only")),
         lists=lists,
         report=truth("report", config.get("report", True)),
         audit=truth("audit", config.get("audit", True)),
-        program=program_of(str(config.get("program") or "")),
-        python=str(config.get("python") or sys.executable),
-        words={step: words_in(key, config.get(key)) for step, key in words.items()},
+        program=program_of(text_in("program", config)),
+        python=text_in("python", config) or sys.executable,
+        words={step: words_in(key, config) for step, key in words.items()},
     )
 
 
@@ -138,7 +138,7 @@ def truth(key: str, given: object) -> bool:
 
 
 def names_of(given: object) -> Optional[List[str]]:
-    """The names of days. A number may have been written otherwise, as 1.10 or 2026_01_01; a date is written in one way."""
+    """The names of days. A number may have been written otherwise, as 1.10 or 2026_01_01, and a date may not."""
     if given is None:
         return None
     names = given if isinstance(given, list) else [given]
@@ -150,8 +150,16 @@ def names_of(given: object) -> Optional[List[str]]:
     return [str(name) for name in names]
 
 
-def words_in(key: str, given: object) -> str:
-    text = "" if given is None else str(given)
+def text_in(key: str, config: Mapping[str, Any]) -> str:
+    """A text, or an empty one where none is given."""
+    given = config.get(key)
+    if given is not None and not isinstance(given, str):
+        raise HullError(f"{key}: {one_line(given)} isn't read as a text: write it in quotes")
+    return given or ""
+
+
+def words_in(key: str, config: Mapping[str, Any]) -> str:
+    text = text_in(key, config)
     try:
         shlex.split(text)
     except ValueError as why:

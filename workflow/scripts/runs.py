@@ -22,7 +22,7 @@ def is_main(workflow: Any) -> bool:
 
 
 def is_dry() -> bool:
-    """Whether Snakemake is only to say what it would do. It doesn't tell the Snakefile, so the callers are looked through."""
+    """Whether Snakemake is only to say what it would do, as its calls have it: it doesn't tell the Snakefile."""
     frame: Optional[FrameType] = sys._getframe()
     while frame is not None:
         if str(frame.f_globals.get("__name__")).split(".")[0] == "snakemake":
