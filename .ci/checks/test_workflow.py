@@ -254,15 +254,17 @@ class Misfortunes(Workflow):
         self.assertNotIn("Snakefile", said)
 
     def test_processors_that_snakemake_would_not_see_are_refused(self) -> None:
-        """It looks in its words for `-c` alone, and takes the profile's number where it finds `-c999`."""
+        """It looks in its words for `-c` and `-j` alone, and takes the profile's number where it finds `-c999`."""
         self.days("first")
         words = [SNAKEMAKE or "", "-s", f"{ROOT}/workflow/Snakefile", "--profile", f"{PROFILES}/here", "-n"]
-        for more, refusal in (["-c999"], "-c999: Snakemake would use "), (["-c", "999"], ""), (["--cores=999"], ""):
+        refused = {"-c999": "-c999: Snakemake would use ", "-j999": "-j999: Snakemake would take the number "}
+        for more in ["-c999"], ["-j999"], ["-c", "999"], ["--cores=999"]:
+            refusal = refused.get(more[0], "")
             ran = subprocess.run(
                 words + more, cwd=self.study, env=self.env, stdin=subprocess.DEVNULL, capture_output=True, text=True
             )
             self.assertEqual(ran.returncode, 1 if refusal else 0, more)
-            self.assertEqual(ran.stderr.startswith(refusal) and ran.stderr.endswith("write -c 999\n"), bool(refusal))
+            self.assertEqual(ran.stderr.startswith(refusal) and ran.stderr.endswith(" 999\n"), bool(refusal))
 
     def test_a_full_disk(self) -> None:
         """A disk of 256 KB where root may mount one, and else a stand-in: no file of more than 50,000 bytes can be written."""

@@ -233,6 +233,19 @@ class Words(Workflow):
         for key in ("schedule_words", "elmp_words", "convex_words", "report_words"):
             self.assertEqual(self.refusal(**{key: '--proposals "5'}), f'{key}: --proposals "5: no closing quotation')
 
+    def test_a_setting_that_there_is_not(self) -> None:
+        self.assertEqual(self.refusal(list=["lmp"]), "list: no such setting; is lists meant?")
+        self.assertEqual(self.refusal(zzz=1), "zzz: no such setting")
+        self.assertEqual(self.refusal(lists="lmp"), "lists: a list is due, in brackets: lists=[lmp]")
+
+    def test_a_folder_with_a_dot_is_no_day(self) -> None:
+        days = script("days")
+        with tempfile.TemporaryDirectory() as room:
+            for name in (".ipynb_checkpoints", "_x", "2026-01-01"):
+                os.mkdir(f"{room}/{name}")
+            found = days.days_of(days.settings_from({"days": room}))
+            self.assertEqual([day.name for day in found], ["2026-01-01", "_x"])
+
     def test_words_of_the_command_line(self) -> None:
         self.days("2026.1", "2026.10")
         is_right, said = self.run_all("--config", "only=2026.10")

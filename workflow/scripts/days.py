@@ -1,4 +1,5 @@
 """What is wanted of the days: the settings, the names that a day may have, and the steps with their files."""
+import difflib
 import json
 import os
 import re
@@ -25,6 +26,21 @@ LISTS = {
 REPORT = "report"
 FILES = ("table.csv", "page.html", "left.txt")  # of all days, in the folder of results
 ABOUT = {**LISTS, REPORT: "hull price, with the words that are set"}
+KEYS = (
+    "days",
+    "results",
+    "only",
+    "lists",
+    "report",
+    "report_words",
+    "audit",
+    "schedule_words",
+    "elmp_words",
+    "convex_words",
+    "program",
+    "python",
+    "audits",
+)
 # The variable by which the steps of a run have its settings: a file in the study may be anybody's.
 HANDED = "HULL_DAYS_SETTINGS"
 DAY_NAME = re.compile(r"\w(?:[\w.+@ -]{0,98}[\w.+@-])?", re.ASCII)
@@ -110,7 +126,10 @@ def audits_folder(given: str) -> str:
 
 def settings_from(config: Mapping[str, Any]) -> Settings:
     """The settings that a configuration has; HullError where one can't be."""
-    lists = list(config.get("lists") or [])
+    refuse_unknown(config)
+    lists = config.get("lists") or []
+    if not isinstance(lists, list):
+        raise HullError(f"lists: a list is due, in brackets: lists=[{one_line(lists)}]")
     for name in lists:
         if name not in LISTS:
             raise HullError(f"lists: {one_line(name)} isn't one of {', '.join(LISTS)}")
@@ -127,6 +146,14 @@ def settings_from(config: Mapping[str, Any]) -> Settings:
         python=text_in("python", config) or sys.executable,
         words={step: words_in(key, config) for step, key in words.items()},
     )
+
+
+def refuse_unknown(config: Mapping[str, Any]) -> None:
+    """Refuses a setting that there isn't, so that none is thought to be set that isn't."""
+    for key in config:
+        if key not in KEYS:
+            near = difflib.get_close_matches(str(key), KEYS, 1)
+            raise HullError(f"{one_line(key)}: no such setting" + (f"; is {near[0]} meant?" if near else ""))
 
 
 def truth(key: str, given: object) -> bool:
@@ -180,7 +207,9 @@ def refusal_of_name(name: str) -> Optional[str]:
         return f"no name for a day: {name} is that of a file of all days"
     if DAY_NAME.fullmatch(name):
         return None
-    return "no name for a day: letters, digits and ._+@- with spaces inside, 100 at most, and a letter or digit first"
+    return (
+        "no name for a day: letters, digits and ._+@- with spaces inside, 100 at most, and a letter, a digit or _ first"
+    )
 
 
 def shown(name: str) -> str:
@@ -229,7 +258,8 @@ def days_of(settings: Settings) -> List[Day]:
     names = settings.only
     if names is None:
         try:
-            names = sorted(entry.name for entry in os.scandir(settings.days) if entry.is_dir())
+            named = (entry.name for entry in os.scandir(settings.days) if entry.is_dir())
+            names = sorted(name for name in named if not name.startswith("."))  # (editors and disks keep such folders)
         except OSError as error:
             raise HullError(f"{one_line(settings.days)}: {error.strerror}") from None
     return [Day(name, settings) for name in dict.fromkeys(names)]

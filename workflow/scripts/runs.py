@@ -34,11 +34,13 @@ def is_dry() -> bool:
 
 
 def refuse_unheard_processors(workflow: Any) -> None:
-    """Refuses `-c2` where a profile says the number of processors too: Snakemake sees only `-c 2` then, and takes the profile's."""
+    """Refuses `-c2` and `-j2` where a profile says that number too: Snakemake sees only `-c 2` then, and takes the profile's."""
     taken = getattr(workflow, "global_resources", {}).get("_cores")
     for word in sys.argv[1:]:
         if re.fullmatch("-c[0-9]+", word) and taken not in (None, int(word[2:])):
             raise HullError(f"{word}: Snakemake would use {taken} processors, as the profile says: write -c {word[2:]}")
+        if re.fullmatch("-j[0-9]+", word) and any(it.split("=")[0] == "--profile" for it in sys.argv):
+            raise HullError(f"{word}: Snakemake would take the number of the profile: write -j {word[2:]}")
 
 
 def links_below(folder: str) -> Iterator[str]:

@@ -111,7 +111,7 @@ def day_table(summary: "Summary") -> str:
 
 def left_table(summary: "Summary") -> str:
     rows = [
-        f'<tr><td class="text">{html.escape(shown(day))}</td><td class="text">{html.escape(one_line(why))}</td></tr>'
+        f'<tr><td class="text">{html.escape(shown(day))}</td><td class="text about">{html.escape(one_line(why))}</td></tr>'
         for day, why in summary.left
     ]
     return table("What is left", "", ("*Day", "*Why"), rows) if rows else "<h2>What is left</h2><p>Nothing.</p>"
