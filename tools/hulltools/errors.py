@@ -41,6 +41,10 @@ class HullError(Exception):
         self.status, self.code, self.unit, self.period, self.sentence = status, code, unit, period, sentence
 
 
+class NotOurs(HullError):
+    """A file that isn't the tool's own stands where it would write; the tool ends with status 2."""
+
+
 class Interrupted(KeyboardInterrupt):
     """The tool is to end, by Ctrl-C or since the system or a scheduler says so."""
 
@@ -103,6 +107,9 @@ def run_tool(tool: str, body: Callable[[list[str], Tell], Optional[int]], words:
     try:
         with told_by(tell), flushed_output():
             return body(given, tell) or 0
+    except NotOurs as why:
+        tell(why)
+        return 2
     except HullError as why:
         tell(why)
     except Interrupted as why:

@@ -1,7 +1,8 @@
-"""The folder of a study: its files are made in a room beside, and come into the folder together, in place of those of the study before.
+"""The folder of a study, or of another tool's files: they are made in a room beside, and come into the folder together, in place of those of
+the run before.
 
-However a run ends, the folder is that of one study, or has the file UNFINISHED.txt. Files of others stay, whatever their names are: what a
-study left there is known by its sha256 sums, in a list whose first line says that a study made it.
+However a run ends, the folder is that of one run, or has the file UNFINISHED.txt. Files of others stay, whatever their names are: what a
+tool left there is known by its sha256 sums, in a list whose first line names the tool and its version.
 """
 from __future__ import annotations
 
@@ -17,7 +18,8 @@ from collections.abc import Iterable, Iterator, Sequence
 from types import TracebackType
 from typing import Optional, Type
 
-from .errors import HullError, mode_of, refuse_inputs, told_with, write_whole
+from . import __version__
+from .errors import HullError, NotOurs, mode_of, refuse_inputs, told_with, write_whole
 from .progress import step
 
 try:
@@ -25,63 +27,141 @@ try:
 except ImportError:  # (a system without has no locks of files)
     fcntl = None  # type: ignore[assignment]
 
-MARK, SUMS, ROOM = "UNFINISHED.txt", "files.sha256", ".hull-study-"
-HEAD = "# made by study.py of hull\n"  # (`sha256sum -c` passes over it)
-BOTH, END = ".both", ".end"  # in a room: the sums of both studies, and what the mark says in the end
-BEGUN = "The files in this folder are those of a study that didn't end, and perhaps of another one before it.\n"
+MARK, SUMS, ROOM, LOCK = "UNFINISHED.txt", "files.sha256", ".hull-study-", ".hull-lock"
+STUDY = "study.py"
+OWN = ".made-by-hull"  # in a room: which folder it is, so that a run that was killed is known by it, and a copy of it isn't
+BOTH, END = ".both", ".end"  # in a room: the sums of both runs, and what the mark says in the end
+NOTHING = hashlib.sha256().hexdigest()  # (no tool writes an empty file, so a list that names one was made by somebody else)
 MOST_SUMS = 1 << 20  # bytes
-WAIT = 60.0  # seconds that another study may keep the folder while it is placed
+WAIT = 60.0  # seconds that another run may keep the folder
 TICK = 0.05  # seconds: how often is looked whether it still does
+Sums = set[tuple[str, str]]  # names of files, each with its sum
 
 
-def take_lock(handle: int, seconds: float = 0.0) -> bool:
-    """Takes the lock of an open folder, or waits so long for it; whether the disk has locks. HullError where another one keeps it."""
-    until = time.monotonic() + seconds
-    while fcntl is not None:
-        try:
+def head_of(tool: str) -> str:
+    """The first line of a tool's list of sums (`sha256sum -c` passes over it)."""
+    return f"# made by {tool} of hull {__version__}\n"
+
+
+HEAD = head_of(STUDY)
+
+
+def kind_of_run(tool: str) -> str:
+    return "study" if tool == STUDY else f"run of {tool}"
+
+
+def begun_text(tool: str) -> str:
+    """What the mark says while files come to their places."""
+    kind = kind_of_run(tool)
+    return f"The files in this folder are those of a {kind} that didn't end, and perhaps of another one before it.\n"
+
+
+class Kept(HullError):
+    """Another run kept the folder for too long."""
+
+
+def take_lock(handle: int) -> bool:
+    """Takes the lock of an open file; whether the disk has locks. BlockingIOError where another run has it."""
+    try:
+        if fcntl is not None:
             fcntl.flock(handle, fcntl.LOCK_EX | fcntl.LOCK_NB)
             return True
-        except BlockingIOError:
-            if time.monotonic() >= until:
-                raise HullError(f"another study kept this folder for {seconds:g} s") from None
-        except OSError:
-            break
-        time.sleep(TICK)
+    except BlockingIOError:
+        raise
+    except OSError:
+        pass
     return False
 
 
-def sha256_in(folder: str, name: str) -> str:
-    """The sum of a file; an empty text where it is none, or a link."""
-    with contextlib.suppress(OSError), open(os.path.join(folder, name), "rb", opener=no_link) as file:
-        if stat.S_ISREG(os.fstat(file.fileno()).st_mode):
-            return hashlib.sha256(file.read()).hexdigest()
-    return ""
+def opened_lock(place: str) -> Optional[int]:
+    """The file that is locked, which is made where it isn't there, for this user alone; None where it is another user's."""
+    how = os.O_RDWR | os.O_CREAT | getattr(os, "O_NOFOLLOW", 0) | getattr(os, "O_NONBLOCK", 0)
+    try:
+        handle = os.open(place, how, 0o600)
+    except PermissionError:
+        if os.path.lexists(place):
+            return None
+        raise
+    if not stat.S_ISREG(os.fstat(handle).st_mode):
+        os.close(handle)
+        raise HullError(f"{place}: this is no file")
+    return handle
+
+
+def is_at(handle: int, place: str) -> bool:
+    """Whether an open file still has its name: who held the lock takes it away in the end."""
+    with contextlib.suppress(FileNotFoundError):
+        return os.path.samestat(os.fstat(handle), os.lstat(place))
+    return False
+
+
+@contextlib.contextmanager
+def lock_of(folder: str, kind: str) -> Iterator[bool]:
+    """No other run of our tools in this folder begins or is placed meanwhile; whether the disk has locks. `Kept` after a minute."""
+    place, until = os.path.join(folder, LOCK), time.monotonic() + WAIT
+    with step(f"waiting for another {kind} of this folder"), told_with(place):
+        while True:
+            handle = opened_lock(place)
+            try:
+                if handle is not None:
+                    is_locked = take_lock(handle)
+                    if is_at(handle, place):
+                        break
+            except BlockingIOError:
+                pass
+            if handle is not None:
+                os.close(handle)
+            if time.monotonic() >= until:
+                raise Kept(f"another {kind} kept this folder for {WAIT:g} s")
+            time.sleep(TICK)
+    try:
+        yield is_locked
+    finally:
+        with contextlib.suppress(OSError):
+            os.unlink(place)
+        os.close(handle)
 
 
 def no_link(name: str, flags: int) -> int:
     return os.open(name, flags | getattr(os, "O_NOFOLLOW", 0) | getattr(os, "O_NONBLOCK", 0))
 
 
-def sums_of(folder: str) -> set[tuple[str, str]]:
-    """The names and sums that a study noted of its files; nothing where the note isn't in form, or is a list that somebody else made."""
-    found: set[tuple[str, str]] = set()
-    with contextlib.suppress(OSError, UnicodeDecodeError):
-        with open(os.path.join(folder, SUMS), encoding="utf-8", newline="\n", opener=no_link) as file:
-            head, *lines = file.read(MOST_SUMS).split("\n")
-            for line in lines if f"{head}\n" == HEAD else ():
-                row = re.fullmatch(r"([0-9a-f]{64})  ([^/\0\n]+)", line)
-                if row and row[2] not in (".", ".."):
-                    found.add((row[2], row[1]))
-    return found
+def bytes_in(folder: str, name: str, most: int = -1) -> Optional[bytes]:
+    """What a file holds, at most so many bytes of it; None where it is none, or a link."""
+    with contextlib.suppress(OSError), open(os.path.join(folder, name), "rb", opener=no_link) as file:
+        if stat.S_ISREG(os.fstat(file.fileno()).st_mode):
+            return file.read(most)
+    return None
 
 
-def held_sums(folder: str) -> set[tuple[str, str]]:
-    """Of these the files that nobody has changed."""
-    return {(name, was) for name, was in sums_of(folder) if sha256_in(folder, name) == was}
+def sha256_in(folder: str, name: str) -> str:
+    """The sum of a file; an empty text where it is none, or a link."""
+    data = bytes_in(folder, name)
+    return "" if data is None else hashlib.sha256(data).hexdigest()
 
 
-def text_of_sums(sums: set[tuple[str, str]]) -> str:
-    return HEAD + "".join(f"{was}  {name}\n" for name, was in sorted(sums))
+def sums_of(folder: str, tool: str = STUDY) -> Optional[Sums]:
+    """The names and sums that a tool noted of its files; None where there is no note in form, as where somebody else made the list."""
+    head, *lines = (bytes_in(folder, SUMS, MOST_SUMS) or b"").decode("utf-8", "replace").split("\n")
+    if not re.fullmatch(rf"# made by {re.escape(tool)} of hull(?: [\w.+-]+)?", head):
+        return None
+    rows = (re.fullmatch(r"([0-9a-f]{64})  ([^/\0\n]+)", line) for line in lines)
+    return {(row[2], row[1]) for row in rows if row and row[2] not in (".", "..") and row[1] != NOTHING}
+
+
+def text_of_sums(sums: Sums, tool: str) -> str:
+    return head_of(tool) + "".join(f"{was}  {name}\n" for name, was in sorted(sums))
+
+
+def text_of_room(place: str) -> bytes:
+    """What a room says of itself: a copy of it is another folder."""
+    at = os.lstat(place)
+    return f"a folder of hull, which the run that made it removes: {at.st_dev} {at.st_ino} {at.st_uid}\n".encode()
+
+
+def is_room(place: str) -> bool:
+    """Whether a run made the folder: nothing is there yet, or it says so."""
+    return not os.listdir(place) or bytes_in(place, OWN, 1000) == text_of_room(place)
 
 
 def write_through(folder: str) -> None:
@@ -95,90 +175,131 @@ def write_through(folder: str) -> None:
 
 
 class StudyFolder:
-    """A folder that a study is to have. Within the context `room` is where its files are made; they are gone at its end but for those placed."""
+    """A folder that a run is to have. Within the context `room` is where its files are made; they are gone at its end but for those placed.
 
-    def __init__(self, folder: str, inputs: Sequence[str] = ()) -> None:
+    A file of the run before that somebody has changed is refused, or set `aside` under another name where `keeps_changed` says so.
+    """
+
+    def __init__(
+        self, folder: str, inputs: Sequence[str] = (), tool: str = STUDY, keeps_changed: bool = False
+    ) -> None:
         self.inputs = [it for it in inputs if it]
-        self.is_new = not os.path.lexists(folder)
-        with told_with(folder):
-            os.makedirs(folder, exist_ok=True)
-        self.folder = os.path.realpath(folder)
-        self.room, self.lock = "", -1
+        self.tool, self.kind, self.keeps_changed = tool, kind_of_run(tool), keeps_changed
+        self.named, self.folder = folder, os.path.realpath(folder)
+        self.is_new, self.is_kept = False, False
+        self.room, self.handle = "", -1
+        self.aside: list[str] = []
 
     def __enter__(self) -> StudyFolder:
-        with self.locked() as is_locked:
+        self.is_new = not os.path.lexists(self.named)
+        with told_with(self.named):
+            os.makedirs(self.folder, exist_ok=True)
+        with lock_of(self.folder, self.kind) as is_locked:
             if is_locked:
                 self.remove_left()
             with told_with(self.folder):
                 self.room = tempfile.mkdtemp(prefix=ROOM, dir=self.folder)
-                self.lock = os.open(self.room, os.O_RDONLY)
-            take_lock(self.lock)
+                self.handle = os.open(self.room, os.O_RDONLY)
+                take_lock(self.handle)
+                with open(os.path.join(self.room, OWN), "xb") as file:
+                    file.write(text_of_room(self.room))
         return self
 
     def __exit__(
         self, kind: Optional[Type[BaseException]], why: Optional[BaseException], where: Optional[TracebackType]
     ) -> None:
-        shutil.rmtree(self.room, ignore_errors=True)
-        os.close(self.lock)
+        if not self.is_kept:
+            shutil.rmtree(self.room, ignore_errors=True)
+        os.close(self.handle)
         if self.is_new:
             with contextlib.suppress(OSError):  # (something was placed)
                 os.rmdir(self.folder)
 
-    @contextlib.contextmanager
-    def locked(self) -> Iterator[bool]:
-        """No other study of this folder begins or is placed meanwhile, where the disk has locks."""
-        with told_with(self.folder):
-            handle = os.open(self.folder, os.O_RDONLY)
-        try:
-            with step("waiting for another study of this folder"):
-                is_locked = take_lock(handle, WAIT)
-            yield is_locked
-        finally:
-            os.close(handle)
+    def locked(self) -> contextlib.AbstractContextManager[bool]:
+        """No other run of this folder begins or is placed meanwhile, where the disk has locks."""
+        return lock_of(self.folder, self.kind)
 
     def remove_left(self) -> None:
         """Removes the rooms of runs that were killed: nobody holds their locks."""
         for entry in os.scandir(self.folder):
             if entry.name.startswith(ROOM) and entry.is_dir(follow_symlinks=False):
-                with contextlib.suppress(OSError, HullError):
-                    handle = os.open(entry.path, os.O_RDONLY)
+                with contextlib.suppress(OSError):
+                    handle = os.open(entry.path, os.O_RDONLY | getattr(os, "O_NOFOLLOW", 0))
                     try:
-                        if take_lock(handle):
+                        if take_lock(handle) and is_room(entry.path):
                             shutil.rmtree(entry.path, ignore_errors=True)
                     finally:
                         os.close(handle)
 
     def refuse(self, names: Sequence[str]) -> None:
-        """Refuses names of files that can't be written, or that would replace a file that is read or that no study made."""
-        known = {name for name, _ in sums_of(self.folder)}
-        known |= {MARK, SUMS} if known else {MARK}
+        """Refuses names of files that can't be written, or that would replace a file that is read, that no run made, or that was changed."""
+        known = sums_of(self.folder, self.tool)
         for name in (*names, MARK, SUMS):
             place = os.path.join(self.folder, name)
             refuse_inputs(place, self.inputs)
             with told_with(place), contextlib.suppress(FileNotFoundError):
                 if stat.S_ISDIR(os.lstat(place).st_mode):
                     raise HullError(f"{place}: Is a directory")
-                if name not in known:
-                    raise HullError(f"{place}: no study here made this, so it stays: move it away")
+                self.refuse_foreign(name, known)
+
+    def refuse_foreign(self, name: str, known: Optional[Sums]) -> None:
+        """Refuses a file that is there, and isn't as a run of this tool left it; a link in place of one is replaced, and not followed."""
+        place, was = os.path.join(self.folder, name), sha256_in(self.folder, name)
+        is_begun = name == MARK and was == hashlib.sha256(begun_text(self.tool).encode()).hexdigest()
+        if (known is not None and name == SUMS) or is_begun or (name, was) in (known or ()):
+            return
+        if name not in {noted for noted, _ in known or ()}:
+            maker = f"no {'study' if self.tool == STUDY else self.tool} here made this"
+            raise NotOurs(f"{place}: {maker}, so it stays: move it away, or name another folder")
+        if not (self.keeps_changed or os.path.islink(place)):
+            raise NotOurs(f"{place}: it was changed since a {self.kind} wrote it, so it stays: move it away")
 
     def place(self, unfinished: str = "") -> None:
-        """Puts the files of the room in place of those of the study before; `unfinished` says what is missing of them, if anything."""
-        with self.locked():
-            names = sorted(os.listdir(self.room))
-            self.refuse(names)
-            old, new = held_sums(self.folder), {(name, sha256_in(self.room, name)) for name in names}
-            texts = {MARK: BEGUN, BOTH: text_of_sums(old | new), SUMS: text_of_sums(new), END: f"{unfinished}\n"}
-            for name, text in texts.items():
-                write_whole(os.path.join(self.room, name), text)
-            self.move(MARK)
-            # (where it ends from here on, the next study knows the files of both)
-            self.move(BOTH, SUMS)
-            write_through(self.folder)
-            self.remove(name for name, _ in old if name not in names)
-            for name in [*names, SUMS]:
-                self.move(name)
-            write_through(self.folder)
-            self.end(bool(unfinished))
+        """Puts the files of the room in place of those of the run before; `unfinished` says what is missing of them, if anything."""
+        try:
+            with self.locked():
+                self.place_all(unfinished)
+        except Kept as why:
+            os.unlink(os.path.join(self.room, OWN))  # (so that no later run takes it away)
+            self.is_kept = True
+            raise HullError(f"{why}: what was made is in {self.room}") from None
+
+    def place_all(self, unfinished: str) -> None:
+        names = sorted(set(os.listdir(self.room)) - {OWN})
+        self.refuse(names)
+        self.set_aside(names)
+        old, new = self.held_sums(), {(name, sha256_in(self.room, name)) for name in names}
+        texts = {MARK: begun_text(self.tool), BOTH: text_of_sums(old | new, self.tool), END: f"{unfinished}\n"}
+        ended = hashlib.sha256(texts[END].encode()).hexdigest()
+        texts[SUMS] = text_of_sums(new | ({(MARK, ended)} if unfinished else set()), self.tool)
+        for name, text in texts.items():
+            write_whole(os.path.join(self.room, name), text)
+        self.move(MARK)
+        # (where it ends from here on, the next run knows the files of both)
+        self.move(BOTH, SUMS)
+        write_through(self.folder)
+        self.remove((name, was) for name, was in old if name not in names)
+        for name in [*names, SUMS]:
+            self.move(name)
+        write_through(self.folder)
+        self.end(bool(unfinished))
+
+    def held_sums(self) -> Sums:
+        """The files of the run before that nobody has changed."""
+        known = sums_of(self.folder, self.tool) or set()
+        return {(name, was) for name, was in known if sha256_in(self.folder, name) == was}
+
+    def set_aside(self, names: Sequence[str]) -> None:
+        """Gives files of the run before that somebody has changed another name; `refuse` has let none through but those that are kept."""
+        held = {name for name, _ in self.held_sums()}
+        for name in names:
+            place = os.path.join(self.folder, name)
+            if name not in held and os.path.lexists(place) and not os.path.islink(place):
+                tries = (f"{place}.changed{number or ''}" for number in range(1000))
+                free = next(it for it in tries if not os.path.lexists(it))
+                with told_with(free):
+                    os.rename(place, free)
+                self.aside.append(free)
 
     def move(self, name: str, to: str = "") -> None:
         """Puts a file of the room in its place; a link that is there is replaced, and not followed."""
@@ -188,11 +309,11 @@ class StudyFolder:
                 os.chmod(os.path.join(self.room, name), mode_of(place))
             os.replace(os.path.join(self.room, name), place)
 
-    def remove(self, names: Iterable[str]) -> None:
-        """Removes files of the study before that nobody reads now."""
-        for name in names:
+    def remove(self, files: Iterable[tuple[str, str]]) -> None:
+        """Removes files of the run before that nobody reads now, and that are as it left them."""
+        for name, was in files:
             place = os.path.join(self.folder, name)
-            if name not in (MARK, SUMS) and not self.is_read(place):
+            if name not in (MARK, SUMS) and not self.is_read(place) and sha256_in(self.folder, name) == was:
                 with told_with(place):
                     os.unlink(place)
 
