@@ -31,7 +31,9 @@ MARK, SUMS, ROOM, LOCK = "UNFINISHED.txt", "files.sha256", ".hull-study-", ".hul
 STUDY = "study.py"
 OWN = ".made-by-hull"  # in a room: which folder it is, so that a run that was killed is known by it, and a copy of it isn't
 BOTH, END = ".both", ".end"  # in a room: the sums of both runs, and what the mark says in the end
-NOTHING = hashlib.sha256().hexdigest()  # (no tool writes an empty file, so a list that names one was made by somebody else)
+NOTHING = (
+    hashlib.sha256().hexdigest()
+)  # (no tool writes an empty file, so a list that names one was made by somebody else)
 MOST_SUMS = 1 << 20  # bytes
 WAIT = 60.0  # seconds that another run may keep the folder
 TICK = 0.05  # seconds: how often is looked whether it still does
@@ -180,9 +182,7 @@ class StudyFolder:
     A file of the run before that somebody has changed is refused, or set `aside` under another name where `keeps_changed` says so.
     """
 
-    def __init__(
-        self, folder: str, inputs: Sequence[str] = (), tool: str = STUDY, keeps_changed: bool = False
-    ) -> None:
+    def __init__(self, folder: str, inputs: Sequence[str] = (), tool: str = STUDY, keeps_changed: bool = False) -> None:
         self.inputs = [it for it in inputs if it]
         self.tool, self.kind, self.keeps_changed = tool, kind_of_run(tool), keeps_changed
         self.named, self.folder = folder, os.path.realpath(folder)

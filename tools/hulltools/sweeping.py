@@ -1,5 +1,6 @@
 """A case under changes, one at a time: what each change is, the table over all, and its picture."""
 import csv
+import hashlib
 import html
 import io
 import re
@@ -16,17 +17,32 @@ COLOURS = ("#1763c7", "#5b6570", "#b85c00", "#7a3fb0", "#b3261e", "#2c7a4b")
 WIDTH, LEFT, BAR, GAP, TOP = 760, 190, 11, 14, 46
 
 
+MOST_BYTES = 80  # of a part of a folder's name
+
+
+def folder_part(text: str) -> str:
+    """A text as a part of a folder's name; one that is changed or cut for that has its sum behind it, so that no two are one."""
+    plain = re.sub(r"[^\w+.=-]+", "_", text)
+    if plain == text and len(plain.encode()) <= MOST_BYTES:
+        return text
+    return f"{plain[:20]}.{hashlib.sha256(text.encode('utf-8', 'surrogatepass')).hexdigest()[:12]}"
+
+
 @dataclass(frozen=True)
 class Scenario:
-    """A change's name, and the case that it makes."""
+    """What is changed, in words, and the case that it makes."""
 
-    name: str
+    words: Tuple[str, ...]
     change: Callable[[Case], Case]
+
+    @property
+    def name(self) -> str:
+        return " ".join(self.words)
 
     @property
     def key(self) -> str:
         """The name of its folder."""
-        return re.sub(r"[^\w+.=-]+", "_", self.name.replace("%", ""))
+        return "_".join(folder_part(word.rstrip("%")) for word in self.words)
 
 
 def factor_of(percent: str) -> Fraction:
@@ -47,17 +63,18 @@ def without_unit(name: str) -> Callable[[Case], Case]:
 
 def scenarios_of(demand: List[str], wind: List[str], offers: List[str], outages: List[str]) -> List[Scenario]:
     """The case as it is, and each change by itself."""
-    found = [Scenario("base", Case.scaled)]
+    found = [Scenario(("base",), Case.scaled)]
     for name, key, rows in (("demand", "demand", demand), ("wind", "renewable", wind)):
         for text in (it for row in rows for it in percents(row)):
-            found.append(Scenario(f"{name} {text}", partial(Case.scaled, **{key: factor_of(text)})))
+            found.append(Scenario((name, text), partial(Case.scaled, **{key: factor_of(text)})))
     for row in offers:
         unit, mark, texts = row.rpartition("=")
         if not mark:
             raise HullError(f"{row!r} is no change of an offer, as GT5=+5%")
         for text in percents(texts):
-            found.append(Scenario(f"offer {unit} {text}", partial(Case.scaled, offers={unit: factor_of(text)})))
-    return [*found, *(Scenario(f"outage {unit}", without_unit(unit)) for unit in outages)]
+            found.append(Scenario(("offer", unit, text), partial(Case.scaled, offers={unit: factor_of(text)})))
+    found += [Scenario(("outage", unit), without_unit(unit)) for unit in outages]
+    return list({scenario.key: scenario for scenario in reversed(found)}.values())[::-1]
 
 
 def joined(tables: Dict[str, str]) -> str:

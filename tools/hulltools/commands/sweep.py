@@ -19,23 +19,44 @@ scenario. Needs SciPy.
 from __future__ import annotations
 
 import argparse
-import json
+import hashlib
 import os
 from collections.abc import Sequence
-from typing import Optional
+from dataclasses import replace
+from typing import TYPE_CHECKING, Optional
 
+from .. import __version__
 from ..cases import Case, read_case
-from ..errors import HullError, Interrupted, Tell, refuse_inputs, run_tool, write_together, write_whole
+from ..done_marks import Mark, done_text, files_done
+from ..errors import (
+    HullError,
+    Interrupted,
+    NotOurs,
+    Tell,
+    heard_later,
+    read_bytes,
+    run_tool,
+    write_together,
+    write_whole,
+)
 from ..linear import need_scipy
 from ..progress import step
 from ..program import Hull
 from ..provenance import sha256_of
-from ..study_folder import StudyFolder
+from ..studies import files_of
+from ..study_folder import OWN, StudyFolder, sha256_in
 from ..study_tables import lists_table
 from ..sweeping import Scenario, joined, picture_of_sweep, scenarios_of
 from .study import arguments as study_arguments
-from .study import study_of
+from .study import inputs_of, study_of, wanted
 from .words import asker
+
+if TYPE_CHECKING:
+    from ..studies import Study
+
+SWEEP = "sweep.py"
+CASE, TABLE, DONE = "case.json", "table.csv", "done.json"  # of each scenario
+GATHERED = ("sweep.csv", "sweep.svg")
 
 
 def arguments(words: Sequence[str]) -> argparse.Namespace:
@@ -50,47 +71,68 @@ def arguments(words: Sequence[str]) -> argparse.Namespace:
     return given
 
 
-def read_text(name: str) -> str:
-    try:
-        with open(name, encoding="utf-8", newline="") as file:
-            return file.read()
-    except OSError:
-        return ""
+def files_read(given: argparse.Namespace) -> list[str]:
+    """The files that are read: the case, and those that words of study.py name."""
+    return inputs_of(study_arguments([given.case, given.folder, *given.more]))
 
 
-def done_text(case: str, words: Sequence[str], table: str) -> str:
-    """What says that the table is of the case and the words."""
-    return json.dumps({"case": sha256_of(case), "words": words, "table": sha256_of(table)}) + "\n"
+def work_of(case: str, words: Sequence[str], inputs: Sequence[str]) -> Mark:
+    """What a scenario's files are made of."""
+    sums = {name: sha256_of(name) for name in inputs if os.path.isfile(name)}
+    total = hashlib.sha256(case.encode()).hexdigest()
+    return {"tool": SWEEP, "version": __version__, "case": total, "words": list(words), "inputs": sums}
 
 
-def table_of(folder: str, case: Case, words: Sequence[str], hull: Hull, tell: Tell) -> str:
+def folder_of(folder: str, scenario: Scenario, inputs: Sequence[str]) -> StudyFolder:
+    """The folder of a scenario, which lies in that of the sweep and nowhere else."""
+    place = os.path.join(folder, scenario.key)
+    if os.path.islink(place):
+        raise NotOurs(f"{place}: this is a link, where a scenario's folder is due: move it away")
+    return StudyFolder(place, inputs, SWEEP, keeps_changed=True)
+
+
+def write_scenario(place: StudyFolder, study: Study, work: Mark) -> None:
+    """Puts the files of a scenario's study in their places, with the mark that it is done."""
+    write_whole(os.path.join(place.room, TABLE), lists_table(study).text())
+    sums = {name: sha256_in(place.room, name) for name in os.listdir(place.room)}
+    write_whole(os.path.join(place.room, DONE), done_text(work, {it: was for it, was in sums.items() if it != OWN}))
+    place.place()
+
+
+def make_scenario(place: StudyFolder, case: str, words: Sequence[str], hull: Hull, tell: Tell) -> Study:
+    """The study of one scenario, whose files are made in the room of its folder."""
+    case_file = os.path.join(place.room, CASE)
+    write_whole(case_file, case)
+    given, shown = study_arguments([case_file, place.named, *words]), os.path.join(place.named, CASE)
+    study = study_of(given, [shown, place.named, *words], hull, place.room, tell, place.refuse)
+    if study.interrupted:
+        raise study.interrupted
+    study.provenance = replace(study.provenance, case_name=shown)
+    return study
+
+
+def table_of(folder: StudyFolder, case: str, words: Sequence[str], work: Mark, hull: Hull, tell: Tell) -> str:
     """The table of one scenario, made where it isn't there yet."""
-    os.makedirs(folder, exist_ok=True)
-    case_file, table_file, done_file = (os.path.join(folder, it) for it in ("case.json", "table.csv", "done.json"))
-    case.write(case_file)
-    if os.path.exists(table_file) and read_text(done_file) == done_text(case_file, words, table_file):
-        tell(f"{folder}: it is done")
-        return read_text(table_file)
-    if os.path.exists(done_file):
-        os.unlink(done_file)
-    given = [case_file, folder, *words]
-    with StudyFolder(folder, [case_file]) as place:
-        study = study_of(
-            study_arguments(given), given, hull, place.room, lambda text: tell(f"{folder}: {text}"), place.refuse
-        )
-        if study.interrupted:
-            raise study.interrupted
-        write_whole(os.path.join(place.room, "table.csv"), lists_table(study).text())
-        place.place()
-    write_whole(done_file, done_text(case_file, words, table_file))
-    return read_text(table_file)
+    if TABLE not in files_done(work, folder.folder, DONE):
+        with folder as place:
+            study = make_scenario(place, case, words, hull, lambda text: tell(f"{place.named}: {text}"))
+            with heard_later():
+                write_scenario(place, study, work)
+            for name in place.aside:
+                tell(f"{name} is what somebody has made of the scenario's file")
+    else:
+        tell(f"{folder.named}: it is done")
+    return read_bytes(os.path.join(folder.folder, TABLE), "a table").decode("utf-8")
 
 
 def write_sweep(folder: str, tables: dict[str, str], inputs: Sequence[str]) -> None:
+    """Puts the table and the picture in their places, whatever interrupts come meanwhile."""
     if tables:
-        text = joined(tables)
-        names = (os.path.join(folder, it) for it in ("sweep.csv", "sweep.svg"))
-        write_together(dict(zip(names, (text, picture_of_sweep(text)))), inputs)
+        with heard_later(), StudyFolder(folder, inputs, SWEEP) as place:
+            text = joined(tables)
+            texts = dict(zip(GATHERED, (text, picture_of_sweep(text))))
+            write_together({os.path.join(place.room, name): it for name, it in texts.items()})
+            place.place()
 
 
 class Sweep:
@@ -98,38 +140,50 @@ class Sweep:
 
     def __init__(self, given: argparse.Namespace, hull: Hull, case: Case, tell: Tell) -> None:
         self.given, self.hull, self.case, self.tell = given, hull, case, tell
+        self.scenarios = scenarios_of(given.demand, given.wind, given.offer, given.outage)
+        self.inputs = files_read(given)
         self.tables: dict[str, str] = {}
         self.left_out = 0
 
+    def refuse(self) -> None:
+        """Refuses words and folders that can't be, before anything is made."""
+        given = study_arguments([self.given.case, self.given.folder, *self.given.more])
+        names = [*files_of(wanted(given, self.case), True, True), CASE, DONE]
+        StudyFolder(self.given.folder, self.inputs, SWEEP).refuse(GATHERED)
+        for scenario in self.scenarios:
+            scenario.change(self.case)
+            folder_of(self.given.folder, scenario, self.inputs).refuse(names)
+
     def add(self, scenario: Scenario) -> None:
-        folder = os.path.join(self.given.folder, scenario.key)
-        changed = scenario.change(self.case)
+        words, case = self.given.more, scenario.change(self.case).text()
         try:
+            folder = folder_of(self.given.folder, scenario, self.inputs)
+            work = work_of(case, words, self.inputs[1:])
             with step(scenario.name):
-                self.tables[scenario.name] = table_of(folder, changed, self.given.more, self.hull, self.tell)
+                self.tables[scenario.name] = table_of(folder, case, words, work, self.hull, self.tell)
         except HullError as why:
             self.left_out += 1
             self.tell(f"{scenario.name} is left out: {why}")
+
+    def write(self) -> None:
+        write_sweep(self.given.folder, self.tables, self.inputs)
 
 
 def body(words: Sequence[str], tell: Tell) -> int:
     given = arguments(words)
     need_scipy()
-    hull, case = Hull(given.hull, tell, study_arguments(["case", "folder", *given.more]).seconds), read_case(given.case)
-    os.makedirs(given.folder, exist_ok=True)
-    refuse_inputs(os.path.join(given.folder, "base", "case.json"), [given.case])
-    sweep = Sweep(given, hull, case, tell)
-    scenarios = scenarios_of(given.demand, given.wind, given.offer, given.outage)
+    seconds = study_arguments(["case", "folder", *given.more]).seconds
+    sweep = Sweep(given, Hull(given.hull, tell, seconds), read_case(given.case), tell)
+    sweep.refuse()
     try:
-        for scenario in scenarios:
+        for scenario in sweep.scenarios:
             sweep.add(scenario)
     except Interrupted as why:
-        write_sweep(given.folder, sweep.tables, [given.case])
-        tell(
-            f"interrupted: {len(sweep.tables)} of {len(scenarios)} scenarios are done; the same words go on with the others"
-        )
+        sweep.write()
+        of_all = f"{len(sweep.tables)} of {len(sweep.scenarios)} scenarios are done"
+        tell(f"interrupted: {of_all}; the same words go on with the others")
         return why.status
-    write_sweep(given.folder, sweep.tables, [given.case])
+    sweep.write()
     return 1 if sweep.left_out else 0
 
 
