@@ -255,7 +255,7 @@ class Part:
             file.write(data)
             file.flush()
             os.fsync(file.fileno())
-        os.chmod(self.part, mode_of(self.name))
+        os.chmod(self.part, mode_of("" if os.path.islink(self.name) else self.name))
 
     def place(self, keep: bool) -> None:
         """Puts it in its place; what was there is kept beside for a while, where it may have to come back."""
@@ -295,11 +295,14 @@ def try_output(name: str, inputs: Sequence[str] = ()) -> None:
 
 def write_whole(name: Name, content: Union[str, bytes], inputs: Sequence[str] = ()) -> None:
     """Writes a file so that it appears whole or not at all, and never over one of the inputs; a link is followed."""
-    write_together({os.fspath(name): content}, inputs)
+    write_together({os.fspath(name): content}, inputs, follow_links=True)
 
 
-def write_together(files: dict[str, Union[str, bytes]], inputs: Sequence[str] = (), follow_links: bool = True) -> None:
-    """Writes files, by name, so that all of them appear or none does, and none over one of the inputs."""
+def write_together(files: dict[str, Union[str, bytes]], inputs: Sequence[str] = (), follow_links: bool = False) -> None:
+    """Writes files, by name, so that all of them appear or none does, and none over one of the inputs.
+
+    A link is replaced, since what is in a folder may be somebody else's; one that the user has named is to be followed.
+    """
     for name in files:
         refuse_inputs(name, inputs)
     contents = {name: it.encode("utf-8") if isinstance(it, str) else it for name, it in files.items()}

@@ -16,10 +16,19 @@ import tempfile
 import time
 from collections.abc import Iterable, Iterator, Sequence
 from types import TracebackType
-from typing import Optional, Type
+from typing import Optional, Type, Union
 
 from . import __version__
-from .errors import HullError, NotOurs, mode_of, refuse_inputs, told_with, write_whole
+from .errors import (
+    HullError,
+    NotOurs,
+    heard_later,
+    mode_of,
+    refuse_inputs,
+    told_with,
+    write_together,
+    write_whole,
+)
 from .progress import step
 
 try:
@@ -182,6 +191,8 @@ class StudyFolder:
     A file of the run before that somebody has changed is refused, or set `aside` under another name where `keeps_changed` says so.
     """
 
+    replaces_links = False  # (also one that no run noted)
+
     def __init__(self, folder: str, inputs: Sequence[str] = (), tool: str = STUDY, keeps_changed: bool = False) -> None:
         self.inputs = [it for it in inputs if it]
         self.tool, self.kind, self.keeps_changed = tool, kind_of_run(tool), keeps_changed
@@ -247,6 +258,8 @@ class StudyFolder:
         place, was = os.path.join(self.folder, name), sha256_in(self.folder, name)
         is_begun = name == MARK and was == hashlib.sha256(begun_text(self.tool).encode()).hexdigest()
         if (known is not None and name == SUMS) or is_begun or (name, was) in (known or ()):
+            return
+        if self.replaces_links and os.path.islink(place):
             return
         if name not in {noted for noted, _ in known or ()}:
             maker = f"no {'study' if self.tool == STUDY else self.tool} here made this"
@@ -328,3 +341,18 @@ class StudyFolder:
                 os.replace(os.path.join(self.room, END), mark)
             else:
                 os.unlink(mark)
+
+
+class TablesFolder(StudyFolder):
+    """A folder of tables, in which a link is replaced."""
+
+    replaces_links = True
+
+
+def write_in_folder(folder: str, files: dict[str, Union[str, bytes]], inputs: Sequence[str], tool: str) -> None:
+    """Puts a tool's files, by name, into a folder together, in place of those of its run before."""
+    with TablesFolder(folder, inputs, tool) as place:
+        place.refuse(list(files))
+        write_together({os.path.join(place.room, name): content for name, content in files.items()})
+        with heard_later():
+            place.place()

@@ -11,6 +11,7 @@ from unittest import mock
 from tool import EXAMPLES, ROOT, python_with, run
 
 from hulltools import errors
+from hulltools.study_folder import SUMS
 
 PRICES = '{"energy": [98], "reserve": [0]}\n'
 
@@ -151,7 +152,8 @@ class Together(Outputs):
             status, _, said = run("report.py", "csv", report, self.path("tables"))
         self.assertEqual((status, said.count("\n"), os.listdir(self.path("tables"))), (1, 1, []))
         self.assertEqual(run("report.py", "csv", report, self.path("tables")), (0, "", ""))
-        self.assertEqual(len(os.listdir(self.path("tables"))), 5)
+        tables = ("prices.csv", "proposals.csv", "responses.csv", "runs.csv", "units.csv")
+        self.assertEqual(sorted(os.listdir(self.path("tables"))), sorted((SUMS, *tables)))
 
 
 class Links(Outputs):

@@ -151,7 +151,7 @@ class SettleZones(unittest.TestCase):
 
     def test_files_are_written(self):
         self.assertEqual(self.settle(self.ZONES, "--to", f"{self.room}/to"), (0, "", ""))
-        names = ["1.NORTH__up.settlement.txt", "2.SOUTH.settlement.txt", "units.csv"]
+        names = ["1.NORTH__up.settlement.txt", "2.SOUTH.settlement.txt", "files.sha256", "units.csv"]
         self.assertEqual(sorted(os.listdir(f"{self.room}/to")), names)
         with open(f"{self.room}/to/{names[1]}", "rb") as file, open(f"{FOLDER}/settle.output", "rb") as due:
             self.assertEqual(file.read(), due.read())

@@ -59,7 +59,8 @@ def body(words: Sequence[str], tell: Tell) -> None:
     hull = Hull(given.hull, tell, given.seconds)
     found = hull.convex(given.case, given.schedule, given.within, given.rounds)
     best_cost = hull.check(given.case, given.best_schedule) if given.best_schedule else None
-    write_together({given.prices: found.prices.text(), given.mixture: found.mixture.text()}, inputs)
+    texts = {given.prices: found.prices.text(), given.mixture: found.mixture.text()}
+    write_together({**texts}, inputs, follow_links=True)
     tell(told(found))
     tell(gap_parts(found.cost, found.value, found.bound, best_cost).sentence("at these prices"))
 

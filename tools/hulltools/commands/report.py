@@ -33,8 +33,9 @@ from ..outputs import Certificate, Output, Priced, read_certificate_text, read_c
 from ..pages import page_of
 from ..pictures import picture_of
 from ..schedules import Schedule, read_schedule
+from ..study_folder import write_in_folder
 from ..tables import tables_of, told_apart_count
-from ..errors import HullError, Tell, refuse_inputs, run_tool, write_together, write_whole
+from ..errors import HullError, Tell, refuse_inputs, run_tool, write_whole
 from .words import asker
 
 
@@ -75,11 +76,11 @@ def write_tables(given: argparse.Namespace, inputs: Sequence[str], tell: Tell) -
     texts = [read_output(it) for it in given.texts]
     case, schedule = case_and_schedule(given, texts)
     tables = tables_of(texts, case, schedule, given.currency)
-    files = {os.path.join(given.to, f"{name}.csv"): it for name, it in tables.items()}
+    files: dict[str, Union[str, bytes]] = {
+        f"{name}.csv": it.text(given.names_as_they_are) for name, it in tables.items()
+    }
     os.makedirs(given.to, exist_ok=True)
-    # (what is in the folder may be somebody else's: a link there isn't followed)
-    texts_of: dict[str, Union[str, bytes]] = {name: it.text(given.names_as_they_are) for name, it in files.items()}
-    write_together(texts_of, inputs, follow_links=False)
+    write_in_folder(given.to, files, inputs, "report.py")
     count = 0 if given.names_as_they_are else told_apart_count(tables)
     if count:
         tell(f"{count} name{'s' * (count > 1)} that a spreadsheet would take for something else got ' in front of it")

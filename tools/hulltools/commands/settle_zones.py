@@ -4,7 +4,8 @@ usage: settle_zones.py CASE SCHEDULE ZONES [--to FOLDER] [--currency C] [--secon
 
   ZONES            a JSON file: {"zones": {"NORTH": {"energy": [..], "reserve": [..]}, ..}, "units": {"GT5": "NORTH", ..}, "default": "SOUTH"}.
                    A zone's prices are as in a prices file; a unit that isn't under `units` is of the default zone
-  --to FOLDER      units.csv and the settlement of each zone are written there; if left out, the table is printed
+  --to FOLDER      units.csv and the settlement of each zone are written there, together, with files.sha256, which has their sums; what this tool
+                   wrote there before is replaced, and a file of another's that has such a name is refused. If left out, the table is printed
   --currency C     what money is in, for the heads of the table
   --seconds S      a settlement is ended after so many seconds, and nothing is written then; if left out, the case alone limits its work
   --hull PROGRAM   the program that settles; the launcher of this repository if left out
@@ -15,20 +16,22 @@ price for all. Nodal prices are settled so, with a zone for each node.
 """
 from __future__ import annotations
 
-import os
 import sys
 from collections.abc import Sequence
 from typing import Optional, Union
 
 from ..cases import read_case
-from ..errors import Tell, run_tool, write_together
+from ..errors import Tell, run_tool
 from ..outputs import Settlement
 from ..prices import Prices
 from ..program import Hull
 from ..schedules import read_schedule
+from ..study_folder import TablesFolder, write_in_folder
 from ..study_tables import zonal_table
 from ..zones import read_zones, settle_zones
 from .words import add_seconds, asker
+
+TOOL, TABLE = "settle_zones.py", "units.csv"
 
 
 def file_of(zone: str) -> str:
@@ -36,13 +39,15 @@ def file_of(zone: str) -> str:
 
 
 def body(words: Sequence[str], tell: Tell) -> None:
-    ask = asker("settle_zones.py", __doc__)
+    ask = asker(TOOL, __doc__)
     for option in ("case", "schedule", "zones", "--to", "--hull"):
         ask.add_argument(option)
     ask.add_argument("--currency", default="")
     add_seconds(ask)
     given = ask.parse_args(words)
     hull, inputs = Hull(given.hull, tell, given.seconds), [given.case, given.schedule, given.zones]
+    if given.to:
+        TablesFolder(given.to, inputs, TOOL).refuse([TABLE])
     hull.check(given.case, given.schedule)
     case = read_case(given.case)
     texts: list[bytes] = []
@@ -58,12 +63,11 @@ def body(words: Sequence[str], tell: Tell) -> None:
         sys.stdout.write(table)
         sys.stdout.flush()
         return
-    os.makedirs(given.to, exist_ok=True)
-    files: dict[str, Union[str, bytes]] = {os.path.join(given.to, "units.csv"): table}
+    files: dict[str, Union[str, bytes]] = {TABLE: table}
     for place, (zone, text) in enumerate(zip(zonal.settlements, texts), 1):
-        files[os.path.join(given.to, f"{place}.{file_of(zone)}.settlement.txt")] = text
-    write_together(files, inputs)
+        files[f"{place}.{file_of(zone)}.settlement.txt"] = text
+    write_in_folder(given.to, files, inputs, TOOL)
 
 
 def main(words: Optional[Sequence[str]] = None) -> int:
-    return run_tool("settle_zones.py", body, words)
+    return run_tool(TOOL, body, words)
