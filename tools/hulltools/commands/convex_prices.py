@@ -25,15 +25,15 @@ from ..gap_parts import gap_parts
 from ..numbers import money
 from ..outputs import Convex
 from ..program import Hull
-from .words import add_seconds, asker, count, positive
+from .words import add_seconds, asker, distance, rounds
 
 
 def arguments(words: Sequence[str]) -> argparse.Namespace:
     ask = asker("convex_prices.py", __doc__)
     for option in ("case", "schedule", "prices", "mixture"):
         ask.add_argument(option)
-    ask.add_argument("--within", type=positive)
-    ask.add_argument("--rounds", type=count)
+    ask.add_argument("--within", type=distance)
+    ask.add_argument("--rounds", type=rounds)
     add_seconds(ask)
     for name in ("--best-schedule", "--hull"):
         ask.add_argument(name)

@@ -8,6 +8,7 @@ from typing import Optional, Union
 
 from ..fast_start import FastStart
 from ..numbers import millionths
+from ..outputs import ROUNDS, WITHIN
 from ..search_limits import SECONDS, SearchLimits
 
 MISSED_GAP = 3  # the status where a schedule is written that misses the gap
@@ -30,6 +31,22 @@ def count(text: str) -> int:
     """A whole number of the command line that is at least 1."""
     number = int(text)
     if number < 1:
+        raise ValueError(text)
+    return number
+
+
+def distance(text: str) -> float:
+    """An amount of money of the command line that `hull convex` takes for --within."""
+    number = positive(text)
+    if not 0 <= millionths(str(number)) <= WITHIN:
+        raise ValueError(text)
+    return number
+
+
+def rounds(text: str) -> int:
+    """A count of the command line that `hull convex` takes for --rounds."""
+    number = count(text)
+    if number > ROUNDS:
         raise ValueError(text)
     return number
 
