@@ -18,7 +18,7 @@ from multiprocessing import Pipe
 from multiprocessing.connection import Connection
 from typing import Any, Callable, Optional, TypeVar, cast
 
-from .errors import HullError
+from .errors import HullError, begun
 from .progress import pass_steps_on, step, turn_to
 
 GRACE = 2.0  # seconds that the work has to end by itself, and to say what it has, once its time is over
@@ -62,7 +62,7 @@ def run_apart(
     """What a function of this package returns or raises; OverTime where it takes longer, by two seconds, than it may."""
     with step(what):
         reader, writer = Pipe(duplex=False)
-        with reader, subprocess.Popen(
+        with reader, begun(
             [sys.executable, "-I", "-B", "-c", CODE, str(writer.fileno())],
             stdin=subprocess.PIPE,
             stdout=subprocess.DEVNULL,
@@ -70,12 +70,9 @@ def run_apart(
             pass_fds=[writer.fileno()],
             preexec_fn=leave_signals,
         ) as worker:
-            try:
-                writer.close()
-                hand_over(worker, pickle.dumps(sys.path) + pickle.dumps((work, given)))
-                return cast(Found, answer(reader, worker, what, seconds))
-            finally:
-                worker.kill()
+            writer.close()
+            hand_over(worker, pickle.dumps(sys.path) + pickle.dumps((work, given)))
+            return cast(Found, answer(reader, worker, what, seconds))
 
 
 def hand_over(worker: subprocess.Popen[bytes], data: bytes) -> None:

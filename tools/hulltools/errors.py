@@ -6,11 +6,13 @@ import csv
 import os
 import signal
 import stat
+import subprocess
 import sys
 import tempfile
+import threading
 from collections.abc import Callable, Iterator, Sequence
 from types import FrameType
-from typing import BinaryIO, Optional, Union
+from typing import Any, BinaryIO, Optional, Union, cast
 
 from .progress import step, told_by
 from .telling import Teller
@@ -61,10 +63,21 @@ class Interrupted(KeyboardInterrupt):
 ENDS = (signal.SIGINT, signal.SIGTERM)
 
 
+class Found:
+    """Whether a tool has found what an interrupt would have it write; one more is let go then, so that it isn't lost."""
+
+    is_there = False
+
+
 def interrupt(number: int, _: Optional[FrameType]) -> None:
-    """Interrupts what is at work; another such signal ends the process at once."""
-    hear_interrupts(signal.SIG_DFL)
+    """Interrupts what is at work; the next such signal ends the process at once, or the one behind it where something was found."""
+    hear_interrupts(let_go if Found.is_there else signal.SIG_DFL)
     raise Interrupted(number)
+
+
+def let_go(number: int, _: Optional[FrameType]) -> None:
+    """Hears nothing, but the next such signal ends the process at once."""
+    hear_interrupts(signal.SIG_DFL)
 
 
 def hear_interrupts(by: Union[Callable[[int, Optional[FrameType]], None], signal.Handlers] = interrupt) -> None:
@@ -96,12 +109,42 @@ def heard_later() -> Iterator[None]:
         raise Interrupted(heard[0])
 
 
+@contextlib.contextmanager
+def begun(line: Sequence[str], **how: Any) -> Iterator[subprocess.Popen[bytes]]:
+    """A process, which is killed in the end.
+
+    What a handler of signals raises while a process is made is lost, since the system's calls around a fork swallow it. So a signal
+    that comes by then is handed to its handler as soon as the process is there.
+    """
+    is_first = threading.current_thread() is threading.main_thread()
+    handlers = {int(number): signal.getsignal(number) for number in ENDS}
+    held = [number for number, handler in handlers.items() if is_first and callable(handler)]
+    noted: list[int] = []
+
+    def give_back() -> None:
+        while held:
+            signal.signal(held[-1], handlers[held[-1]])
+            held.pop()
+
+    with contextlib.ExitStack() as stack:
+        stack.callback(give_back)
+        for number in held:
+            signal.signal(number, lambda came, _: noted.append(came))
+        process = stack.enter_context(subprocess.Popen(line, **how))
+        stack.callback(process.kill)
+        give_back()
+        for number in noted:
+            cast("Callable[[int, None], object]", handlers[number])(number, None)
+        yield process
+
+
 def run_tool(tool: str, body: Callable[[list[str], Tell], Optional[int]], words: Optional[Sequence[str]]) -> int:
     """Runs a tool over its words, or those of the process, to its exit status; each trouble is told in one line.
 
     An interrupt ends what is at work, and the process by the signal, unless the tool returns with what it has.
     """
     given = sys.argv[1:] if words is None else list(words)
+    Found.is_there = False
     hear_interrupts()
     tell = Teller(tool)
     try:
@@ -196,6 +239,23 @@ def bytes_of(source: BinaryIO, most: int, begins: bytes = b"") -> bytes:
         parts.append(part)
         left -= len(part)
     return b"".join(parts)
+
+
+def is_utf8(text: str) -> bool:
+    """Whether a word of the command line is UTF-8: another's bytes are kept as halves of characters."""
+    try:
+        text.encode("utf-8")
+    except UnicodeEncodeError:
+        return False
+    return True
+
+
+def refuse_twice(names: Sequence[Optional[str]]) -> None:
+    """Refuses files to write that are one, of which the first would be lost."""
+    places = [os.path.realpath(name) for name in names if name and is_replaced(name)]
+    twice = next((it for place, it in enumerate(places) if it in places[:place]), None)
+    if twice is not None:
+        raise HullError(f"{twice}: this is to be two of the files that are written")
 
 
 def shown_name(name: Name) -> str:

@@ -13,7 +13,7 @@ from types import TracebackType
 from typing import Any, Optional, Type, cast
 
 from .apart import OverTime, die_with_parent
-from .errors import HullError, Name, Tell, one_line
+from .errors import HullError, Name, Tell, begun, one_line
 from .inputs import (
     Given,
     GivenCase,
@@ -83,19 +83,19 @@ class Hull:
         try:
             with step(what):
                 # (however the tool ends, what it called ends with it)
-                ran = subprocess.run(
+                with begun(
                     [self.program, *words],
                     stdin=subprocess.DEVNULL,
                     stdout=subprocess.PIPE,
                     preexec_fn=die_with_parent,
-                    timeout=self.seconds,
                     env={"HULL_EXPLAIN": "0", **os.environ},
-                )
+                ) as process:
+                    output = process.communicate(timeout=self.seconds)[0]
         except subprocess.TimeoutExpired:
             raise OverTime(f"the outer limit of {self.seconds:g} s is over: {what}") from None
         except (OSError, ValueError) as error:
             raise HullError(f"{self.program}: {getattr(error, 'strerror', None) or error}") from None
-        return ran.returncode, ran.stdout
+        return process.returncode, output
 
     def text(self, *words: str) -> bytes:
         """What the program prints with status 0."""
