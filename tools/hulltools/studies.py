@@ -1,8 +1,10 @@
 """Price lists of one case and schedule: each is settled by `hull settle`, and `hull certify` bounds the dual value of all."""
 from __future__ import annotations
 
+import contextlib
 import os
 import signal
+import unicodedata
 from dataclasses import dataclass, field, replace
 from typing import TYPE_CHECKING, Callable, Dict, Iterator, List, Optional, Sequence, Set, Tuple, Union
 
@@ -11,7 +13,7 @@ from .cases import Case
 from .cash_flows import UnitFlows, unit_flows
 from .clock import Clock
 from .costs import Costs
-from .errors import HullError, Interrupted, Tell, one_line, write_together
+from .errors import Found, HullError, Interrupted, Tell, heard_later, one_line, write_together
 from .gap_parts import GapParts, gap_parts
 from .numbers import money
 from .outputs import Certificate, Owed, Settlement
@@ -155,6 +157,7 @@ class Maker:
             flows = unit_flows(self.study.case, self.study.schedule, settlement, self.costs)
         self.write({f"{price_list.key}.prices.json": prices.text(), f"{price_list.key}.settlement.txt": text})
         self.study.lists[price_list.key] = Settled(price_list, settlement, flows)
+        Found.is_there = True
         self.tell(f"{price_list.name}: gap {money(settlement.gap)}, payments {money(settlement.payments)}")
 
     def write(self, files: Dict[str, Union[str, bytes]]) -> None:
@@ -217,8 +220,8 @@ class Maker:
             yield ZONAL, lambda zones=wanted.zones: self.add_zonal(zones)  # type: ignore[misc]
         yield CONVEX_HULL, self.add_convex
 
-    def make(self) -> Study:
-        """The study, whose lists are those that are there when an interrupt comes."""
+    def make(self, until_written: Optional[contextlib.ExitStack] = None) -> Study:
+        """The study, whose lists are those that are there when an interrupt comes. A later one is heard when it is written."""
         study, skip = self.study, self.study.wanted.skip
         steps = list(self.steps())
         skipped = [it.name for it, _ in steps if it.key in skip]
@@ -229,10 +232,12 @@ class Maker:
             while left:
                 self.make_list(*left[0])
                 del left[0]
+            if until_written:
+                until_written.enter_context(heard_later())
         except KeyboardInterrupt as why:
             study.interrupted = why if isinstance(why, Interrupted) else Interrupted(signal.SIGINT)
             study.missing = [it.name for it, _ in left]
-            study.notes.append(study.unfinished)
+            study.notes += [study.unfinished] if left else []
         return study
 
     def make_list(self, price_list: PriceList, make: Callable[[], None]) -> None:
@@ -260,19 +265,33 @@ def files_of(wanted: Wanted, is_schedule_made: bool, is_best_made: bool) -> List
 
 
 def skipped(words: Sequence[str], files: Sequence[str]) -> Set[str]:
-    """The keys of the lists that are named, by key or by name; `files` are the names of those of files."""
+    """The keys of the lists that are named, by key or by name as they are written; `files` are the names of those of files."""
     known = {it.key: it.name for it in (*LISTS, ZONAL)}
     known.update({key_of(name): name for name in files})
-    keys = {told.lower(): key for key, name in known.items() for told in (key, name)}
-    wrong = next((it for it in words if it.strip().lower() not in keys), None)
+    keys = {told: key for key, name in known.items() for told in (name, key)}
+    wrong = next((it for it in words if it.strip() not in keys), None)
     if wrong is not None:
         raise HullError(f"--skip {one_line(wrong)}: there is no such list: these are {', '.join(known)}")
-    return {keys[it.strip().lower()] for it in words}
+    return {keys[it.strip()] for it in words}
+
+
+def plain_name(name: str) -> str:
+    """A name as it is compared with names of the study's own lists: these aren't told apart by case, width or spaces."""
+    return " ".join(unicodedata.normalize("NFKC", name).casefold().split())
 
 
 def key_of(name: str) -> str:
     """The name of a list from a file as the beginning of files' names."""
     key = "".join(it if it.isalnum() or it in "-_" else "_" for it in name)
-    if not key or key in {it.key for it in LISTS}:
+    own = {plain_name(told) for it in (*LISTS, ZONAL) for told in (it.key, it.name)}
+    if not key or own & {plain_name(name), plain_name(key)}:
         raise HullError(f"{name!r} can't be the name of a list of prices: the study has one of that name")
     return key
+
+
+def keys_of(names: Sequence[str]) -> List[str]:
+    """The keys of lists from files, no two of which are one."""
+    keys = [key_of(name) for name in names]
+    if len({plain_name(key) for key in keys}) < len(keys):
+        raise HullError("two lists of --prices have one name, or names whose files would be one")
+    return keys

@@ -45,6 +45,7 @@ nothing was made FOLDER stays as it was. docs/STUDY.md says what the lists are a
 from __future__ import annotations
 
 import argparse
+import contextlib
 import os
 from collections.abc import Callable, Sequence
 from dataclasses import dataclass
@@ -55,7 +56,7 @@ from typing import TYPE_CHECKING, Optional
 
 from ..cases import Case, read_case
 from ..clock import Clock
-from ..errors import HullError, Tell, heard_later, run_tool, write_together
+from ..errors import HullError, Tell, is_utf8, one_line, run_tool, write_together
 from ..linear import need_scipy
 from ..lint import first_look
 from ..numbers import money
@@ -74,9 +75,9 @@ from .words import (
     add_fast_start,
     add_search_limits,
     asker,
-    count,
+    distance,
     fast_start,
-    positive,
+    rounds,
     search_limits,
     solver_seconds,
 )
@@ -116,20 +117,31 @@ def arguments(words: Sequence[str]) -> argparse.Namespace:
     ask.add_argument("--start", type=datetime.fromisoformat)
     ask.add_argument("--hours-per-period", type=length_of_period)
     add_search_limits(ask)
-    ask.add_argument("--within", type=positive)
-    ask.add_argument("--rounds", type=count)
+    ask.add_argument("--within", type=distance)
+    ask.add_argument("--rounds", type=rounds)
     given = ask.parse_args(words)
     if given.no_schedule and not given.schedule:
         ask.error("--no-schedule goes with --schedule")
+    refuse_names(given, words)
     return given
 
 
+def refuse_names(given: argparse.Namespace, words: Sequence[str]) -> None:
+    """Refuses names of files that the program can't be given, and names of lists that can't be."""
+    from ..studies import keys_of, skipped
+
+    odd = next((word for word in (*words, os.path.realpath(given.folder)) if not is_utf8(word)), None)
+    if odd is not None:
+        raise HullError(f"{one_line(odd)}: this name isn't UTF-8")
+    names = [name for name, _ in given.prices]
+    keys_of(names)
+    skipped(given.skip, names)
+
+
 def wanted(given: argparse.Namespace, case: Case) -> Wanted:
-    from ..studies import Wanted, key_of, skipped
+    from ..studies import Wanted, skipped
 
     files = {name: read_prices(file, case.periods) for name, file in given.prices}
-    if len({key_of(name) for name in files}) < len(given.prices):
-        raise HullError("two lists of --prices have one name")
     clock = Clock(given.hours_per_period, given.start)
     rules = [given.rule] if given.rule else list(RULES)
     zones = read_zones(given.zones, case) if given.zones else None
@@ -196,8 +208,12 @@ def study_of(
     room: str,
     tell: Tell,
     look: Callable[[Sequence[str]], None] = lambda names: None,
+    until_written: Optional[contextlib.ExitStack] = None,
 ) -> Study:
-    """The study with all its lists, whose files are written to the room; `look` gets the names of all files that it may write, first."""
+    """The study with all its lists, whose files are written to the room; `look` gets the names of all files that it may write, first.
+
+    An interrupt behind the last list is heard at the end of `until_written`.
+    """
     from ..studies import Maker, Study, files_of
 
     # (a pipe is read once)
@@ -214,7 +230,7 @@ def study_of(
     if found.missing:
         study.is_short = True
         study.notes.append(found.missing)
-    Maker(hull, files, study, room, tell).make()
+    Maker(hull, files, study, room, tell).make(until_written)
     changed = next((name for name, was in before.items() if sha256_of(name) != was), None)
     if changed:
         raise HullError(f"{changed} was changed meanwhile, so the lists are of more than one file: nothing is written")
@@ -252,9 +268,9 @@ def study_in(folder: StudyFolder, given: argparse.Namespace, words: Sequence[str
     names = {"case": given.case, "schedule": given.schedule}
     with step("looking at the files"):
         warnings = first_look({what: name for what, name in names.items() if name}, tell)
-    study = study_of(given, words, hull, folder.room, tell, folder.refuse)
-    study.notes += warnings
-    with heard_later():
+    with contextlib.ExitStack() as until_written:
+        study = study_of(given, words, hull, folder.room, tell, folder.refuse, until_written)
+        study.notes += warnings
         write_results(study, folder.room)
         folder.place(study.unfinished)
     return study
@@ -269,7 +285,9 @@ def body(words: Sequence[str], tell: Tell) -> int:
         study = study_in(folder, given, words, hull, tell)
     tell(study.sentence("at"))
     if study.interrupted:
-        tell(f"{study.unfinished} {os.path.join(given.folder, 'study.html')} has those that are there")
+        tell(
+            f"{study.unfinished or 'Interrupted.'} {os.path.join(given.folder, 'study.html')} has those that are there"
+        )
         return study.interrupted.status
     tell(f"{os.path.join(given.folder, 'study.html')} and the tables beside it are written")
     sources = (study.provenance.schedule, study.provenance.best_schedule)

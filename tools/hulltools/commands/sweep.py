@@ -22,6 +22,7 @@ import argparse
 import hashlib
 import os
 from collections.abc import Sequence
+from contextlib import ExitStack
 from dataclasses import replace
 from typing import TYPE_CHECKING, Optional
 
@@ -29,6 +30,7 @@ from .. import __version__
 from ..cases import Case, read_case
 from ..done_marks import Mark, done_text, files_done
 from ..errors import (
+    Found,
     HullError,
     Interrupted,
     NotOurs,
@@ -99,12 +101,14 @@ def write_scenario(place: StudyFolder, study: Study, work: Mark) -> None:
     place.place()
 
 
-def make_scenario(place: StudyFolder, case: str, words: Sequence[str], hull: Hull, tell: Tell) -> Study:
+def make_scenario(
+    place: StudyFolder, case: str, words: Sequence[str], hull: Hull, tell: Tell, until_written: ExitStack
+) -> Study:
     """The study of one scenario, whose files are made in the room of its folder."""
     case_file = os.path.join(place.room, CASE)
     write_whole(case_file, case)
     given, shown = study_arguments([case_file, place.named, *words]), os.path.join(place.named, CASE)
-    study = study_of(given, [shown, place.named, *words], hull, place.room, tell, place.refuse)
+    study = study_of(given, [shown, place.named, *words], hull, place.room, tell, place.refuse, until_written)
     if study.interrupted:
         raise study.interrupted
     study.provenance = replace(study.provenance, case_name=shown)
@@ -114,10 +118,9 @@ def make_scenario(place: StudyFolder, case: str, words: Sequence[str], hull: Hul
 def table_of(folder: StudyFolder, case: str, words: Sequence[str], work: Mark, hull: Hull, tell: Tell) -> str:
     """The table of one scenario, made where it isn't there yet."""
     if TABLE not in files_done(work, folder.folder, DONE):
-        with folder as place:
-            study = make_scenario(place, case, words, hull, lambda text: tell(f"{place.named}: {text}"))
-            with heard_later():
-                write_scenario(place, study, work)
+        with folder as place, ExitStack() as until_written:
+            study = make_scenario(place, case, words, hull, lambda text: tell(f"{place.named}: {text}"), until_written)
+            write_scenario(place, study, work)
             for name in place.aside:
                 tell(f"{name} is what somebody has made of the scenario's file")
     else:
@@ -161,6 +164,7 @@ class Sweep:
             work = work_of(case, words, self.inputs[1:])
             with step(scenario.name):
                 self.tables[scenario.name] = table_of(folder, case, words, work, self.hull, self.tell)
+                Found.is_there = True
         except HullError as why:
             self.left_out += 1
             self.tell(f"{scenario.name} is left out: {why}")
