@@ -19,8 +19,8 @@ from typing import Callable, List, Optional, Sequence
 
 from ..converters import FORMS, Notes, form_of, read_form
 from ..converters.case_texts import case_text
-from ..converters.csv_folder import write_csv
-from ..errors import HullError, need_output, refuse_inputs, run_tool, write_whole
+from ..converters.csv_folder import COLUMNS, write_csv
+from ..errors import HullError, need_output, refuse_inputs, refuse_twice, run_tool, write_whole
 from ..lint import Review, look
 from ..lint_findings import Level
 from .words import asker
@@ -64,6 +64,8 @@ def body(words: Sequence[str], tell: Callable[[str], None]) -> int:
     refuse_faults(review, given.from_name)
     for name in (given.to, given.left_out):
         refuse_inputs(name, inputs) if name else None
+    written = [given.to] if given.to.endswith(".json") else [os.path.join(given.to, name) for name in COLUMNS]
+    refuse_twice([*written, given.left_out])
     if given.left_out:
         write_whole(given.left_out, json.dumps(notes.as_json(), ensure_ascii=False, indent=1) + "\n", inputs)
     if given.to.endswith(".json"):

@@ -42,7 +42,7 @@ from ..numbers import money
 from ..program import Hull
 from ..scheduling import Made, follow, make_schedule
 from ..search_limits import SearchLimits
-from ..errors import HullError, Tell, run_tool, try_output, write_whole
+from ..errors import HullError, Tell, refuse_twice, run_tool, try_output, write_whole
 from .words import MISSED_GAP, add_search_limits, asker, positive, search_limits, solver_seconds
 
 Given = Union[argparse.Namespace, SimpleNamespace]
@@ -110,6 +110,7 @@ def body(words: Sequence[str], tell: Tell) -> int:
     if not given.follow and (given.tolerance is not None or given.deviations):
         raise HullError("--tolerance and --deviations go with --follow")
     need_scipy()
+    refuse_twice([given.schedule, given.deviations])
     inputs = [it for it in (given.case, given.follow) if it]
     for output in (given.schedule, given.deviations):
         if output:
