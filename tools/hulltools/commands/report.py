@@ -21,7 +21,8 @@ usage: report.py csv TEXT.. FOLDER [--case F --schedule F] [--currency] [--names
                           a semicolon, tab or line end, and in front of ' there
 
 TEXT is a file, or - for standard input. A file is written whole or not at all, and never over a text; the tables of csv appear together.
-A link that is named as a file to write is followed. A link in FOLDER is replaced. /dev/stdout and its like are written as they are.
+They replace those that csv wrote to FOLDER before, as files.sha256 there has their sums; a file that it didn't make, or that was changed since,
+is refused, with status 2. A link that is named as a file to write is followed. A link in FOLDER is replaced. /dev/stdout and its like are written as they are.
 """
 import argparse
 import os

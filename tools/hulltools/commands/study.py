@@ -39,8 +39,9 @@ which the page names. Status 3: the files are written, and a schedule that was m
 too long; the page says so.
 
 FOLDER is that of one study: its files come there together, in place of those of the study before, when all are made. After Ctrl-C or TERM these
-are the lists that were there by then, and UNFINISHED.txt says which are missing, with status 130 or 143; a second one ends it at once. Where
-nothing was made FOLDER stays as it was. docs/STUDY.md says what the lists are and how the page is read. Needs SciPy.
+are the lists that were there by then, and UNFINISHED.txt says which are missing, with status 130 or 143; a third one ends it at once. Where
+nothing was made FOLDER stays as it was. A file that no study made, or that was changed since, isn't replaced: the study is refused, with status
+2. docs/STUDY.md says what the lists are and how the page is read. Needs SciPy.
 """
 from __future__ import annotations
 

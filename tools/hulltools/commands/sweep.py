@@ -13,6 +13,7 @@ usage: sweep.py CASE FOLDER [--demand P].. [--wind P].. [--offer NAME=P].. [--ou
 
 Each scenario gets a schedule of its own. A scenario that is done stays so: after an interrupt the same words go on with what is left, and what
 was made of another case or by other words is made anew. A scenario whose case can't be met is told and left out, with status 1 in the end.
+A file that no sweep made is refused before anything is made, with status 2; one that was changed since gets another name, which is told.
 After Ctrl-C the table and picture have the scenarios that are done, with status 130; --seconds and --skip behind -- limit the steps of each
 scenario. Needs SciPy.
 """
@@ -36,7 +37,6 @@ from ..errors import (
     NotOurs,
     Tell,
     heard_later,
-    read_bytes,
     run_tool,
     write_together,
     write_whole,
@@ -46,7 +46,7 @@ from ..progress import step
 from ..program import Hull
 from ..provenance import sha256_of
 from ..studies import files_of
-from ..study_folder import OWN, StudyFolder, sha256_in
+from ..study_folder import OWN, StudyFolder, bytes_in, sha256_in
 from ..study_tables import lists_table
 from ..sweeping import Scenario, joined, picture_of_sweep, scenarios_of
 from .study import arguments as study_arguments
@@ -93,12 +93,14 @@ def folder_of(folder: str, scenario: Scenario, inputs: Sequence[str]) -> StudyFo
     return StudyFolder(place, inputs, SWEEP, keeps_changed=True)
 
 
-def write_scenario(place: StudyFolder, study: Study, work: Mark) -> None:
-    """Puts the files of a scenario's study in their places, with the mark that it is done."""
-    write_whole(os.path.join(place.room, TABLE), lists_table(study).text())
-    sums = {name: sha256_in(place.room, name) for name in os.listdir(place.room)}
-    write_whole(os.path.join(place.room, DONE), done_text(work, {it: was for it, was in sums.items() if it != OWN}))
+def write_scenario(place: StudyFolder, study: Study, work: Mark) -> str:
+    """Puts the files of a scenario's study in their places, with the mark that it is done; its table."""
+    table = lists_table(study).text()
+    write_whole(os.path.join(place.room, TABLE), table)
+    sums = {name: sha256_in(place.room, name) for name in os.listdir(place.room) if name != OWN}
+    write_whole(os.path.join(place.room, DONE), done_text(work, sums))
     place.place()
+    return table
 
 
 def make_scenario(
@@ -115,17 +117,24 @@ def make_scenario(
     return study
 
 
+def table_done(folder: str, work: Mark) -> Optional[str]:
+    """The table of a scenario that is done."""
+    due, data = files_done(work, folder, DONE).get(TABLE), bytes_in(folder, TABLE) or b""
+    return data.decode("utf-8") if hashlib.sha256(data).hexdigest() == due else None
+
+
 def table_of(folder: StudyFolder, case: str, words: Sequence[str], work: Mark, hull: Hull, tell: Tell) -> str:
     """The table of one scenario, made where it isn't there yet."""
-    if TABLE not in files_done(work, folder.folder, DONE):
-        with folder as place, ExitStack() as until_written:
-            study = make_scenario(place, case, words, hull, lambda text: tell(f"{place.named}: {text}"), until_written)
-            write_scenario(place, study, work)
-            for name in place.aside:
-                tell(f"{name} is what somebody has made of the scenario's file")
-    else:
+    done = table_done(folder.folder, work)
+    if done is not None:
         tell(f"{folder.named}: it is done")
-    return read_bytes(os.path.join(folder.folder, TABLE), "a table").decode("utf-8")
+        return done
+    with folder as place, ExitStack() as until_written:
+        study = make_scenario(place, case, words, hull, lambda text: tell(f"{place.named}: {text}"), until_written)
+        table = write_scenario(place, study, work)
+        for name in place.aside:
+            tell(f"{name} is what somebody has made of the scenario's file")
+    return table
 
 
 def write_sweep(folder: str, tables: dict[str, str], inputs: Sequence[str]) -> None:
