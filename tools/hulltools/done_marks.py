@@ -30,7 +30,7 @@ def key_file() -> str:
 def read_key(place: str) -> Optional[bytes]:
     """The key, where it is a file that nobody else may read or write."""
     folder, name = os.path.split(place)
-    with contextlib.suppress(OSError):
+    with contextlib.suppress(OSError, AttributeError):  # (not every system has users)
         at = os.lstat(place)
         if at.st_uid == os.geteuid() and not stat.S_IMODE(at.st_mode) & 0o077:
             data = bytes_in(folder, name, KEY_BYTES + 1) or b""

@@ -205,23 +205,35 @@ class StudyFolder:
         self.is_new = not os.path.lexists(self.named)
         with told_with(self.named):
             os.makedirs(self.folder, exist_ok=True)
-        with lock_of(self.folder, self.kind) as is_locked:
-            if is_locked:
-                self.remove_left()
-            with told_with(self.folder):
-                self.room = tempfile.mkdtemp(prefix=ROOM, dir=self.folder)
-                self.handle = os.open(self.room, os.O_RDONLY)
-                take_lock(self.handle)
-                with open(os.path.join(self.room, OWN), "xb") as file:
-                    file.write(text_of_room(self.room))
+        try:
+            with lock_of(self.folder, self.kind) as is_locked:
+                if is_locked:
+                    self.remove_left()
+                with told_with(self.folder):
+                    self.make_room()
+        except BaseException:
+            self.leave()
+            raise
         return self
+
+    def make_room(self) -> None:
+        self.room = tempfile.mkdtemp(prefix=ROOM, dir=self.folder)
+        self.handle = os.open(self.room, os.O_RDONLY)
+        take_lock(self.handle)
+        with open(os.path.join(self.room, OWN), "xb") as file:
+            file.write(text_of_room(self.room))
 
     def __exit__(
         self, kind: Optional[Type[BaseException]], why: Optional[BaseException], where: Optional[TracebackType]
     ) -> None:
-        if not self.is_kept:
+        self.leave()
+
+    def leave(self) -> None:
+        """Removes the room, and the folder where nothing was placed in a new one."""
+        if self.room and not self.is_kept:
             shutil.rmtree(self.room, ignore_errors=True)
-        os.close(self.handle)
+        if self.handle >= 0:
+            os.close(self.handle)
         if self.is_new:
             with contextlib.suppress(OSError):  # (something was placed)
                 os.rmdir(self.folder)

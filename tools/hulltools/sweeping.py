@@ -23,7 +23,7 @@ MOST_BYTES = 80  # of a part of a folder's name
 def folder_part(text: str) -> str:
     """A text as a part of a folder's name; one that is changed or cut for that has its sum behind it, so that no two are one."""
     plain = re.sub(r"[^\w+.=-]+", "_", text)
-    if plain == text and len(plain.encode()) <= MOST_BYTES:
+    if plain == text and len(plain.encode()) <= MOST_BYTES and not re.search(r"\.[0-9a-f]{12}\Z", text):
         return text
     return f"{plain[:20]}.{hashlib.sha256(text.encode('utf-8', 'surrogatepass')).hexdigest()[:12]}"
 
@@ -42,7 +42,8 @@ class Scenario:
     @property
     def key(self) -> str:
         """The name of its folder."""
-        return "_".join(folder_part(word.rstrip("%")) for word in self.words)
+        *words, last = self.words
+        return "_".join(map(folder_part, [*words, last if words == ["outage"] else last.rstrip("%")]))
 
 
 def factor_of(percent: str) -> Fraction:

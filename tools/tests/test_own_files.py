@@ -258,14 +258,15 @@ class Sweeps(InFolder):
         self.assertIn("demand_+10/case.json: this is a file to read, and it would be replaced", said)
 
     def test_each_scenario_has_a_folder_of_its_own(self) -> None:
-        outages = ["COAL", "A B", "A_B", "x" * 300, "x" * 299, "é" * 100, "."]
+        sum_of_it = hashlib.sha256(b"A B").hexdigest()[:12]
+        outages = ["COAL", "A B", "A_B", f"A_B.{sum_of_it}", "x" * 300, "x" * 299, "é" * 100, "5", "5%", "."]
         found = scenarios_of(["+1%", "-1%,+1%"], [], ["A B=+1%", "A_B=+1%"], outages)
         keys = [scenario.key for scenario in found]
         self.assertEqual(keys[:3], ["base", "demand_-1", "demand_+1"])
-        self.assertEqual((len(set(keys)), max(len(key.encode()) for key in keys) < 200), (12, True))
+        self.assertEqual((len(set(keys)), max(len(key.encode()) for key in keys) < 200), (15, True))
         self.assertIn("outage_COAL", keys)
         self.assertIn("offer_A_B_+1", keys)
-        self.assertEqual(found[-1].name, "outage .")
+        self.assertEqual(found[-2].name, "outage 5%")
 
 
 class Words(Room):
