@@ -441,6 +441,9 @@ class Sweep(unittest.TestCase):
         folder = tempfile.TemporaryDirectory(prefix="hull-sweep-")
         self.addCleanup(folder.cleanup)
         self.room = f"{folder.name}/sweep"
+        state = mock.patch.dict(os.environ, XDG_STATE_HOME=f"{folder.name}/state")
+        self.addCleanup(state.stop)
+        state.start()
 
     def sweep(self, *words):
         status, _, said = run("sweep.py", *files("dear_schedule")[:1], self.room, "--hull", PROGRAM, *words)
@@ -479,6 +482,9 @@ class Sweep(unittest.TestCase):
         self.assertEqual(
             (status, said.count("it is done"), self.gaps()), (0, 0, {"base": 250, "demand +2%": 225}), said
         )
+        self.assertIn(f"{self.room}/base/table.csv.changed is what somebody has made", said)
+        with open(f"{self.room}/base/table.csv.changed", "rb") as file:
+            self.assertEqual(file.read(), before[:-9].replace(b"250", b"1"))
         self.assertNotIn("it is done", self.sweep("--demand=+2%", "--", "--within", "0.5")[1])
 
     def test_a_case_that_cannot_be_met_is_left_out(self):

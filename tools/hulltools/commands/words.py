@@ -38,8 +38,8 @@ def count(text: str) -> int:
 def distance(text: str) -> float:
     """An amount of money of the command line that `hull convex` takes for --within."""
     number = positive(text)
-    if not 0 <= millionths(str(number)) <= WITHIN:
-        raise ValueError(text)
+    if millionths(str(number)) > WITHIN:
+        raise argparse.ArgumentTypeError(f"{text} is more than {WITHIN // 10**6}")
     return number
 
 
@@ -47,7 +47,7 @@ def rounds(text: str) -> int:
     """A count of the command line that `hull convex` takes for --rounds."""
     number = count(text)
     if number > ROUNDS:
-        raise ValueError(text)
+        raise argparse.ArgumentTypeError(f"{text} is more than {ROUNDS}")
     return number
 
 
