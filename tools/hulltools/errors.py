@@ -69,10 +69,29 @@ class Found:
     is_there = False
 
 
+class Heard:
+    """The interrupt that was raised, until somebody has taken it: libraries swallow one here and there, as while they are loaded."""
+
+    number: Optional[int] = None
+
+
 def interrupt(number: int, _: Optional[FrameType]) -> None:
     """Interrupts what is at work; the next such signal ends the process at once, or the one behind it where something was found."""
     hear_interrupts(let_go if Found.is_there else signal.SIG_DFL)
+    Heard.number = number
     raise Interrupted(number)
+
+
+def raise_swallowed() -> None:
+    """Interrupts what goes on though it was interrupted."""
+    if Heard.number is not None:
+        raise Interrupted(Heard.number)
+
+
+def taken(why: KeyboardInterrupt) -> Interrupted:
+    """The interrupt, which goes no farther."""
+    Heard.number = None
+    return why if isinstance(why, Interrupted) else Interrupted(signal.SIGINT)
 
 
 def let_go(number: int, _: Optional[FrameType]) -> None:
@@ -116,6 +135,7 @@ def begun(line: Sequence[str], **how: Any) -> Iterator[subprocess.Popen[bytes]]:
     What a handler of signals raises while a process is made is lost, since the system's calls around a fork swallow it. So a signal
     that comes by then is handed to its handler as soon as the process is there.
     """
+    raise_swallowed()
     is_first = threading.current_thread() is threading.main_thread()
     handlers = {int(number): signal.getsignal(number) for number in ENDS}
     held = [number for number, handler in handlers.items() if is_first and callable(handler)]
@@ -144,19 +164,21 @@ def run_tool(tool: str, body: Callable[[list[str], Tell], Optional[int]], words:
     An interrupt ends what is at work, and the process by the signal, unless the tool returns with what it has.
     """
     given = sys.argv[1:] if words is None else list(words)
-    Found.is_there = False
+    Found.is_there, Heard.number = False, None
     hear_interrupts()
     tell = Teller(tool)
     try:
         with told_by(tell), flushed_output():
-            return body(given, tell) or 0
+            status = body(given, tell) or 0
+            raise_swallowed()
+            return status
     except NotOurs as why:
         tell(why)
         return 2
     except HullError as why:
         tell(why)
     except Interrupted as why:
-        end_by_signal(why.number)
+        end_by_signal(taken(why).number)
     except BrokenPipeError:
         tell("nobody reads the output")
         forget_output()

@@ -3,7 +3,6 @@ from __future__ import annotations
 
 import contextlib
 import os
-import signal
 import unicodedata
 from dataclasses import dataclass, field, replace
 from typing import TYPE_CHECKING, Callable, Dict, Iterator, List, Optional, Sequence, Set, Tuple, Union
@@ -13,7 +12,7 @@ from .cases import Case
 from .cash_flows import UnitFlows, unit_flows
 from .clock import Clock
 from .costs import Costs
-from .errors import Found, HullError, Interrupted, Tell, heard_later, one_line, write_together
+from .errors import Found, HullError, Interrupted, Tell, heard_later, one_line, raise_swallowed, taken, write_together
 from .gap_parts import GapParts, gap_parts
 from .numbers import money
 from .outputs import Certificate, Owed, Settlement
@@ -230,12 +229,14 @@ class Maker:
             study.notes.append(f"Left out by --skip: {', '.join(skipped)}.")
         try:
             while left:
+                raise_swallowed()
                 self.make_list(*left[0])
                 del left[0]
+            raise_swallowed()
             if until_written:
                 until_written.enter_context(heard_later())
         except KeyboardInterrupt as why:
-            study.interrupted = why if isinstance(why, Interrupted) else Interrupted(signal.SIGINT)
+            study.interrupted = taken(why)
             study.missing = [it.name for it, _ in left]
             study.notes += [study.unfinished] if left else []
         return study

@@ -14,7 +14,7 @@ import shutil
 import stat
 import tempfile
 import time
-from collections.abc import Iterable, Iterator, Sequence
+from collections.abc import Iterable, Iterator, Mapping, Sequence
 from types import TracebackType
 from typing import Optional, Type, Union
 
@@ -361,7 +361,7 @@ class TablesFolder(StudyFolder):
     replaces_links = True
 
 
-def write_in_folder(folder: str, files: dict[str, Union[str, bytes]], inputs: Sequence[str], tool: str) -> None:
+def write_in_folder(folder: str, files: Mapping[str, Union[str, bytes]], inputs: Sequence[str], tool: str) -> None:
     """Puts a tool's files, by name, into a folder together, in place of those of its run before."""
     with TablesFolder(folder, inputs, tool) as place:
         place.refuse(list(files))

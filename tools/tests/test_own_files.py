@@ -1,6 +1,7 @@
 """Tools write and remove files of their own alone: what others made is refused or left, whatever lists and marks say."""
 from __future__ import annotations
 
+import contextlib
 import fcntl
 import hashlib
 import json
@@ -337,6 +338,7 @@ class Interrupts(unittest.TestCase):
         for number in errors.ENDS:
             self.addCleanup(signal.signal, number, signal.getsignal(number))
         self.addCleanup(setattr, errors.Found, "is_there", False)
+        self.addCleanup(setattr, errors.Heard, "number", None)
         self.addCleanup(setattr, AtAFork, "number", None)
         errors.hear_interrupts()
 
@@ -359,6 +361,7 @@ class Interrupts(unittest.TestCase):
     def test_an_interrupt_at_a_fork_is_heard(self) -> None:
         for number in errors.ENDS:
             errors.hear_interrupts()
+            errors.Heard.number = None
             self.forked(number)
             self.assertEqual({signal.getsignal(it) for it in errors.ENDS}, {signal.SIG_DFL})
 
@@ -366,6 +369,16 @@ class Interrupts(unittest.TestCase):
         signal.signal(signal.SIGINT, signal.default_int_handler)
         self.forked(signal.SIGINT)
         self.assertIs(signal.getsignal(signal.SIGINT), signal.default_int_handler)
+
+    def test_one_that_a_library_swallows_is_heard(self) -> None:
+        with contextlib.suppress(KeyboardInterrupt):
+            os.kill(os.getpid(), signal.SIGINT)
+        with self.assertRaises(errors.Interrupted), errors.begun(["sleep", "600"]):
+            self.fail("it went on")
+        with self.assertRaises(errors.Interrupted) as caught:
+            errors.raise_swallowed()
+        errors.taken(caught.exception)
+        errors.raise_swallowed()
 
     def test_handlers_are_as_before_where_no_process_can_be_made(self) -> None:
         with self.assertRaises(OSError), errors.begun(["/nowhere/program"]):

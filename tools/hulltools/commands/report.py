@@ -77,11 +77,9 @@ def write_tables(given: argparse.Namespace, inputs: Sequence[str], tell: Tell) -
     texts = [read_output(it) for it in given.texts]
     case, schedule = case_and_schedule(given, texts)
     tables = tables_of(texts, case, schedule, given.currency)
-    files: dict[str, Union[str, bytes]] = {
-        f"{name}.csv": it.text(given.names_as_they_are) for name, it in tables.items()
-    }
+    texts_of = {f"{name}.csv": table.text(given.names_as_they_are) for name, table in tables.items()}
     os.makedirs(given.to, exist_ok=True)
-    write_in_folder(given.to, files, inputs, "report.py")
+    write_in_folder(given.to, texts_of, inputs, "report.py")
     count = 0 if given.names_as_they_are else told_apart_count(tables)
     if count:
         tell(f"{count} name{'s' * (count > 1)} that a spreadsheet would take for something else got ' in front of it")

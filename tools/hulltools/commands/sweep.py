@@ -38,6 +38,7 @@ from ..errors import (
     Tell,
     heard_later,
     run_tool,
+    taken,
     write_together,
     write_whole,
 )
@@ -192,6 +193,7 @@ def body(words: Sequence[str], tell: Tell) -> int:
         for scenario in sweep.scenarios:
             sweep.add(scenario)
     except Interrupted as why:
+        taken(why)
         sweep.write()
         of_all = f"{len(sweep.tables)} of {len(sweep.scenarios)} scenarios are done"
         tell(f"interrupted: {of_all}; the same words go on with the others")
