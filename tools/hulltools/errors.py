@@ -70,15 +70,16 @@ class Found:
 
 
 class Heard:
-    """The interrupt that was raised, until somebody has taken it: libraries swallow one here and there, as while they are loaded."""
+    """The interrupt of a tool that was raised, until somebody has taken it: libraries swallow one here and there, as while they are loaded."""
 
+    is_kept = False  # (a tool runs)
     number: Optional[int] = None
 
 
 def interrupt(number: int, _: Optional[FrameType]) -> None:
     """Interrupts what is at work; the next such signal ends the process at once, or the one behind it where something was found."""
     hear_interrupts(let_go if Found.is_there else signal.SIG_DFL)
-    Heard.number = number
+    Heard.number = number if Heard.is_kept else None
     raise Interrupted(number)
 
 
@@ -164,7 +165,7 @@ def run_tool(tool: str, body: Callable[[list[str], Tell], Optional[int]], words:
     An interrupt ends what is at work, and the process by the signal, unless the tool returns with what it has.
     """
     given = sys.argv[1:] if words is None else list(words)
-    Found.is_there, Heard.number = False, None
+    Found.is_there, Heard.is_kept = False, True
     hear_interrupts()
     tell = Teller(tool)
     try:
@@ -189,6 +190,8 @@ def run_tool(tool: str, body: Callable[[list[str], Tell], Optional[int]], words:
         tell("no memory")
     except UnicodeEncodeError:
         tell("a name that is given can't be written in UTF-8")
+    finally:
+        Heard.is_kept, Heard.number = False, None
     return 1
 
 

@@ -339,6 +339,7 @@ class Interrupts(unittest.TestCase):
             self.addCleanup(signal.signal, number, signal.getsignal(number))
         self.addCleanup(setattr, errors.Found, "is_there", False)
         self.addCleanup(setattr, errors.Heard, "number", None)
+        self.addCleanup(setattr, errors.Heard, "is_kept", False)
         self.addCleanup(setattr, AtAFork, "number", None)
         errors.hear_interrupts()
 
@@ -361,7 +362,6 @@ class Interrupts(unittest.TestCase):
     def test_an_interrupt_at_a_fork_is_heard(self) -> None:
         for number in errors.ENDS:
             errors.hear_interrupts()
-            errors.Heard.number = None
             self.forked(number)
             self.assertEqual({signal.getsignal(it) for it in errors.ENDS}, {signal.SIG_DFL})
 
@@ -371,6 +371,7 @@ class Interrupts(unittest.TestCase):
         self.assertIs(signal.getsignal(signal.SIGINT), signal.default_int_handler)
 
     def test_one_that_a_library_swallows_is_heard(self) -> None:
+        errors.Heard.is_kept = True
         with contextlib.suppress(KeyboardInterrupt):
             os.kill(os.getpid(), signal.SIGINT)
         with self.assertRaises(errors.Interrupted), errors.begun(["sleep", "600"]):
