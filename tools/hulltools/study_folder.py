@@ -8,6 +8,7 @@ from __future__ import annotations
 
 import contextlib
 import hashlib
+import itertools
 import os
 import re
 import shutil
@@ -40,9 +41,7 @@ MARK, SUMS, ROOM, LOCK = "UNFINISHED.txt", "files.sha256", ".hull-study-", ".hul
 STUDY = "study.py"
 OWN = ".made-by-hull"  # in a room: which folder it is, so that a run that was killed is known by it, and a copy of it isn't
 BOTH, END = ".both", ".end"  # in a room: the sums of both runs, and what the mark says in the end
-NOTHING = (
-    hashlib.sha256().hexdigest()
-)  # (no tool writes an empty file, so a list that names one was made by somebody else)
+NOTHING = hashlib.sha256().hexdigest()  # (no tool writes an empty file, so a list that names one is somebody else's)
 MOST_SUMS = 1 << 20  # bytes
 WAIT = 60.0  # seconds that another run may keep the folder
 TICK = 0.05  # seconds: how often is looked whether it still does
@@ -267,17 +266,20 @@ class StudyFolder:
 
     def refuse_foreign(self, name: str, known: Optional[Sums]) -> None:
         """Refuses a file that is there, and isn't as a run of this tool left it; a link in place of one is replaced, and not followed."""
-        place, was = os.path.join(self.folder, name), sha256_in(self.folder, name)
-        is_begun = name == MARK and was == hashlib.sha256(begun_text(self.tool).encode()).hexdigest()
-        if (known is not None and name == SUMS) or is_begun or (name, was) in (known or ()):
-            return
-        if self.replaces_links and os.path.islink(place):
+        place = os.path.join(self.folder, name)
+        if self.is_as_left(name, known) or (self.replaces_links and os.path.islink(place)):
             return
         if name not in {noted for noted, _ in known or ()}:
             maker = f"no {'study' if self.tool == STUDY else self.tool} here made this"
             raise NotOurs(f"{place}: {maker}, so it stays: move it away, or name another folder")
         if not (self.keeps_changed or os.path.islink(place)):
             raise NotOurs(f"{place}: it was changed since a {self.kind} wrote it, so it stays: move it away")
+
+    def is_as_left(self, name: str, known: Optional[Sums]) -> bool:
+        """Whether a file is as a run of this tool left it."""
+        was = sha256_in(self.folder, name)
+        is_begun = name == MARK and was == hashlib.sha256(begun_text(self.tool).encode()).hexdigest()
+        return (known is not None and name == SUMS) or is_begun or (name, was) in (known or ())
 
     def place(self, unfinished: str = "") -> None:
         """Puts the files of the room in place of those of the run before; `unfinished` says what is missing of them, if anything."""
@@ -316,11 +318,11 @@ class StudyFolder:
 
     def set_aside(self, names: Sequence[str]) -> None:
         """Gives files of the run before that somebody has changed another name; `refuse` has let none through but those that are kept."""
-        held = {name for name, _ in self.held_sums()}
-        for name in names:
+        known = sums_of(self.folder, self.tool)
+        for name in (*names, MARK):
             place = os.path.join(self.folder, name)
-            if name not in held and os.path.lexists(place) and not os.path.islink(place):
-                tries = (f"{place}.changed{number or ''}" for number in range(1000))
+            if os.path.isfile(place) and not os.path.islink(place) and not self.is_as_left(name, known):
+                tries = (f"{place}.changed{number or ''}" for number in itertools.count())
                 free = next(it for it in tries if not os.path.lexists(it))
                 with told_with(free):
                     os.rename(place, free)

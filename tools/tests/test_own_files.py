@@ -138,6 +138,31 @@ class Studies(InFolder):
         self.refused("Too many levels of symbolic links", lambda: self.study(table="1"))
 
 
+class Scenarios(InFolder):
+    """A folder in which what somebody has changed gets another name, as those of a sweep's scenarios."""
+
+    def scenario(self, **files: str) -> List[str]:
+        with StudyFolder(self.folder, (), "sweep.py", keeps_changed=True) as folder:
+            for name, text in files.items():
+                write(f"{folder.room}/{name}", text)
+            folder.place("Interrupted.")
+        return [os.path.basename(name) for name in folder.aside]
+
+    def test_what_was_changed_is_kept_beside(self) -> None:
+        self.assertEqual((self.scenario(a="1", b="1"), self.scenario(a="2", b="2")), ([], []))
+        for text in ("mine", "mine too"):
+            self.made(a=text, **{MARK: text})
+            aside = self.scenario(a="3", b="3")
+        self.assertEqual(aside, ["a.changed1", f"{MARK}.changed1"])
+        found = self.all()
+        names = ("a", "a.changed", "a.changed1", "b", f"{MARK}.changed", MARK)
+        self.assertEqual([found[name] for name in names], ["3", "mine", "mine too", "3", "mine", "Interrupted.\n"])
+
+    def test_what_no_sweep_made_is_refused(self) -> None:
+        self.made(a="mine")
+        self.refused("a: no sweep.py here made this", lambda: self.scenario(a="1"))
+
+
 class Tables(InFolder):
     """What report.py and settle_zones.py write to a folder."""
 
