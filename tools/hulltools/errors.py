@@ -21,13 +21,15 @@ from .telling import one_line as one_line
 Name = Union[str, "os.PathLike[str]"]  # a file's
 Tell = Callable[[object], None]  # what is told to the user goes there, line by line
 MOST_LINKS = 40  # (as many as the system follows)
+MOST_SHOWN = 300  # characters of a name; a longer one is no file's
+UNREADABLE = 2  # the status of the program where a file can't be read
 
 
 class HullError(Exception):
-    """What is to be told to the user, in one line.
+    """What is to be told to the user: in `sentence` as people say it, and in `line` as a tool does.
 
-    Where the program refused something there are its exit status, and of the fault line the code, the unit's name, the period, and the line
-    as a sentence; each is None where it isn't there.
+    The two differ where the program refused something: `line` then has its fault line, and `status`, `code`, `unit` and `period` are parts of
+    it. Each of these four is None where it isn't known. As a text the error is the sentence, with such a line behind it.
     """
 
     def __init__(
@@ -40,7 +42,11 @@ class HullError(Exception):
         sentence: Optional[str] = None,
     ) -> None:
         super().__init__(text)
-        self.status, self.code, self.unit, self.period, self.sentence = status, code, unit, period, sentence
+        self.line, self.sentence = text, sentence or text
+        self.status, self.code, self.unit, self.period = status, code, unit, period
+
+    def __str__(self) -> str:
+        return self.sentence if self.line in self.sentence else f"{self.sentence} ({self.line})"
 
 
 class NotOurs(HullError):
@@ -177,7 +183,7 @@ def run_tool(tool: str, body: Callable[[list[str], Tell], Optional[int]], words:
         tell(why)
         return 2
     except HullError as why:
-        tell(why)
+        tell(why.line)
     except Interrupted as why:
         end_by_signal(taken(why).number)
     except BrokenPipeError:
@@ -245,9 +251,9 @@ def read_bytes(name: Name, what: str, most: int = 67_108_864, begins: bytes = b"
             with step(f"reading {os.fspath(name)}"), open(name, "rb") as file:
                 data = bytes_of(file, most, begins)
     except OSError as error:
-        raise HullError(f"{shown_name(name)}: {error.strerror}") from None
+        raise HullError(f"{shown_name(name)}: {error.strerror}", status=UNREADABLE) from None
     except ValueError:
-        raise HullError(f"{shown_name(name)}: this can't be the name of a file") from None
+        raise HullError(f"{shown_name(name)}: this can't be the name of a file", status=UNREADABLE) from None
     if len(data) > most:
         raise HullError(f"{shown_name(name)}: {what} has at most {most:,} bytes")
     return data
@@ -284,7 +290,11 @@ def refuse_twice(names: Sequence[Optional[str]]) -> None:
 
 
 def shown_name(name: Name) -> str:
-    return "standard input" if name == "-" else os.fspath(name)
+    """A file's name as an error has it: in one line, and cut where it is a whole text."""
+    text = os.fspath(name)
+    if name != "-" and (len(text) > MOST_SHOWN or "\n" in text):
+        return f"{one_line(text)[:MOST_SHOWN]}.."
+    return "standard input" if name == "-" else text
 
 
 def refuse_inputs(to: str, inputs: Sequence[str]) -> None:

@@ -79,6 +79,8 @@ def remedy(code: int, key: str, kind: str, item: int, found: object) -> str:
         return " Give a number for each period." if key in LISTS_OF_NUMBERS else ""
     if code in (20, 21) and due:
         return f" Due: {due}."
+    if code == 23 and key == "reserve":
+        return " A price of reserve is 0 or more."
     return f" {REMEDIES[code]}" if code in REMEDIES else ""
 
 
@@ -88,6 +90,7 @@ def decimal_commas(items: Sequence[object], periods: int) -> str:
     pairs = [
         i for i in range(len(texts) - 1) if re.fullmatch(r"-?\d+", texts[i]) and re.fullmatch(r"\d{1,6}", texts[i + 1])
     ]
+    pairs = [i for i in pairs if texts[i] != texts[i + 1]]  # (a number that is there twice was meant twice)
     if len(texts) == 2 * periods and {*range(0, len(texts), 2)} <= set(pairs):
         chosen = list(range(0, len(texts), 2))
     else:

@@ -168,9 +168,13 @@ def told_field(files: Files, what: str, code: int, key: str, kind: str, number: 
     is_known = found is not None or code == 21 and files.value(what) is not None
     value = f" Found: {written(found)}{count}." if code != 20 and is_known else ""
     hint = hint_of_field(files, what, code, limit, listed) or remedy(code, key, kind, item, found)
-    return (
-        f"{where}{'the whole' if key == 'whole' else key}{place}: {FIELDS[code].format_map(Known(known))}.{value}{hint}"
-    )
+    return f"{where}{'the whole' if key == 'whole' else key}{place}: {due_at(code, known)}.{value}{hint}"
+
+
+def due_at(code: int, known: dict[str, str]) -> str:
+    """What a field's fault is, with what is known of the case."""
+    told = FIELDS[code].format_map(Known(known))
+    return told.replace("each of the 1 periods", "the one period")
 
 
 def hint_of_field(files: Files, what: str, code: int, limit: str, listed: Any) -> str:

@@ -10,6 +10,7 @@ from .errors import Name
 from .json_texts import counted, Refused
 
 GROUPS = {"thermal": "thermal_generators", "renewable": "renewable_generators", "bid": "demand_bids"}
+MOST_ALIKE = 4  # how many items of one value are shown
 PLAN_GROUPS = {"thermal": "thermal", "renewable": "renewable", "bid": "bids"}
 WHOLE_FILES = {
     "case": "the case",
@@ -98,6 +99,8 @@ def written(value: object, levels: int = 8) -> str:
         return str(value) if len(value) <= 120 else value[:117] + "..."
     if isinstance(value, (list, dict)) and not levels:
         return "..."
+    if isinstance(value, list) and len(value) > MOST_ALIKE and all(it == value[0] for it in value):
+        return f"[{written(value[0], levels - 1)}, ..]"
     if isinstance(value, list):
         text = f"[{', '.join(written(it, levels - 1) for it in value[:200])}]"
     elif isinstance(value, dict):

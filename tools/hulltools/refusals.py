@@ -6,6 +6,10 @@ from .errors import HullError, one_line
 from .faults import sentence
 from .named_files import GROUPS, PLAN_GROUPS, Files
 
+# In lines of these an item stands for a period.
+BY_PERIOD = re.compile(
+    r"field (energy|reserve|demand|reserves|blocks|commitment) |field \w+ kind renewable |(schedule|mixture) 43 "
+)
 FILES = ("case", "schedule", "prices", "mixture", "report")
 OF_ANOTHER_FILE = {"schedule": 40, "mixture": 40}  # codes whose unit is numbered within that file
 
@@ -26,6 +30,12 @@ def files_of(words: Sequence[str]) -> Files:
 def number_behind(word: str, line: str) -> Optional[int]:
     found = re.search(rf"\b{word} (\d+)\b", line)
     return int(found.group(1)) if found else None
+
+
+def period_of(line: str) -> Optional[int]:
+    """The period that a fault line is told of, or None: an item of a list by period is of the period of its number."""
+    item = number_behind("item", line)
+    return item if item and BY_PERIOD.search(line) else number_behind("period", line)
 
 
 def unit_of(line: str, files: Files) -> Optional[str]:
@@ -49,7 +59,4 @@ def refusal(words: Sequence[str], status: int, output: bytes) -> HullError:
     except HullError:
         said = None
     number = int(code.group(1)) if code else None
-    error = HullError(told, status, number, unit_of(line, files), number_behind("period", line), said)
-    if said is not None and hasattr(error, "add_note"):  # (from Python 3.11 on, which shows it below the error)
-        error.add_note(said)
-    return error
+    return HullError(told, status, number, unit_of(line, files), period_of(line), said)

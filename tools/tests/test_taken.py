@@ -185,12 +185,6 @@ class Shown(unittest.TestCase):
         text = settled(hulltools.per_mwh(98))
         self.assertEqual(repr(text), f"<Settlement 'hull settle': periods=1, units=2, {sums}>")
 
-    def test_an_error_is_shown_with_its_sentence(self):
-        with self.assertRaises(hulltools.HullError) as found:
-            hulltools.check(USUAL[0], f"{EXAMPLES}/evening/schedule.json", PROGRAM)
-        due = [found.exception.sentence] if sys.version_info >= (3, 11) else []
-        self.assertEqual(getattr(found.exception, "__notes__", []), due)
-
 
 class Paths(unittest.TestCase):
     def test_a_path_is_taken_wherever_a_name_is(self):

@@ -100,7 +100,7 @@ def make(given: Given, limits: SearchLimits, tell: Tell) -> tuple[Made, int, str
     try:
         cost = hull.check(given.case, found.schedule)
     except HullError as why:
-        raise HullError(f"nothing is written, since what was found is refused: {why}") from None
+        raise HullError(f"nothing is written, since what was found is refused: {why.line}") from None
     write_whole(given.schedule, found.schedule.text(), [given.case])
     return found, cost, reached or found.told(cost)
 

@@ -195,7 +195,7 @@ def schedules_of(given: argparse.Namespace, hull: Hull, room: str, tell: Tell) -
             with step("a schedule beside the one given"):
                 found.best, found.best_cost = made_source(given, os.path.join(room, "best.schedule.json"), tell)
         except HullError as why:
-            found.missing = f"No schedule was made beside this one: {why}."
+            found.missing = f"No schedule was made beside this one: {why.line}."
             tell(found.missing)
     elif not given.schedule:
         found.best_cost = cost

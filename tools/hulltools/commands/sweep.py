@@ -177,7 +177,7 @@ class Sweep:
                 Found.is_there = True
         except HullError as why:
             self.left_out += 1
-            self.tell(f"{scenario.name} is left out: {why}")
+            self.tell(f"{scenario.name} is left out: {why.line}")
 
     def write(self) -> None:
         write_sweep(self.given.folder, self.tables, self.inputs)
