@@ -1,17 +1,21 @@
 """Cases, schedules, prices, mixtures and zones as they are given: objects, dicts as files have them, or names."""
 from __future__ import annotations
 
-import math
 import os
-from collections.abc import Iterable
+import sys
+import warnings
+from collections.abc import Iterable, Iterator, Mapping, Sized
 from typing import TYPE_CHECKING, Any, Optional, Protocol, SupportsFloat, Union, cast, overload
 
 from .cases import Case, case_of, read_case
-from .errors import HullError, Name
+from .errors import HullError, Name, one_line
 from .json_texts import Refused, json_text, parse
+from .lint_keys import KEYS
 from .mixtures import Mixture
+from .numbers import PRICE_LIMIT, MillionthsPerKilowatt
+from .options import float_of, hint_of, is_list, items_of, number_option, told_value
 from .outputs import read_priced
-from .prices import FlatPrices, Prices, prices_near, prices_of, read_prices
+from .prices import FlatPrices, Prices, prices_of, read_prices
 from .schedules import Schedule, read_schedule, schedule_of
 from .zones import Zones, read_zones, zones_of
 
@@ -51,6 +55,10 @@ GivenZones = Union[Zones, dict[str, Any], Name]
 Given = Union[GivenCase, GivenSchedule, GivenPrices, GivenMixture, GivenZones]
 PerMwh = Union[SupportsFloat, str]  # a price in the currency per MWh, where a period is an hour
 KINDS: dict[str, type] = {"case": Case, "schedule": Schedule, "prices": Prices, "mixture": Mixture, "zones": Zones}
+KEYS_GIVEN: dict[str, dict[Any, list[str]]] = {
+    **cast(Any, KEYS),
+    "zones": {(): ["zones", "units", "default"], ("zones", "*"): ["energy", "reserve"]},
+}
 TEXT = b"hull-"  # what each text of the program begins with
 
 
@@ -59,8 +67,46 @@ def told(what: str) -> str:
     return f"the {what} given"
 
 
+def values_at(value: Any, pattern: tuple[Any, ...], path: tuple[object, ...] = ()) -> Iterator[tuple[Any, Any]]:
+    """The objects at a pattern of `lint_keys`, each with its path; `*` is any key or item."""
+    if not pattern:
+        yield path, value
+        return
+    rows = (
+        value.items() if isinstance(value, Mapping) else enumerate(value, 1) if isinstance(value, (list, tuple)) else ()
+    )
+    for key, member in rows:
+        if pattern[0] in ("*", key):
+            yield from values_at(member, pattern[1:], (*path, key))
+
+
+def need_keys(what: str, given: dict[str, Any]) -> None:
+    """Refuses a key that means nothing in such a dict, since it is most likely misspelt. In a case it is warned of: cases have notes."""
+    for pattern, known in KEYS_GIVEN[what].items():
+        for path, value in values_at(given, pattern):
+            for key in value if isinstance(value, Mapping) else ():
+                if key not in known:
+                    where = "".join(f"{one_line(step)}: " for step in path)
+                    text = f"{told(what)}: {where}`{one_line(key)}` is no key of it: {hint_of(key, known)}"
+                    if what != "case":
+                        raise HullError(text)
+                    warn_caller(text)
+
+
+def warn_caller(text: str) -> None:
+    """Warns of what the line gives that called this package."""
+    level, outermost, frame = 0, 0, sys._getframe()
+    while frame:
+        level += 1
+        if str(frame.f_globals.get("__package__")).partition(".")[0] == __package__:
+            outermost = level
+        frame = cast(Any, frame.f_back)
+    warnings.warn(text, stacklevel=outermost + 1)
+
+
 def text_given(what: str, given: dict[str, Any]) -> str:
     """The text of a file that holds a dict."""
+    need_keys(what, given)
     try:
         return json_text(given)
     except (RecursionError, TypeError, ValueError) as why:
@@ -97,6 +143,29 @@ def content_of(what: str, given: object) -> str:
     return cast(str, cast(Any, holder).text())
 
 
+def length_of(numbers: object) -> Optional[int]:
+    """How many items a list has; None of what is none."""
+    return len(numbers) if is_list(numbers) and isinstance(numbers, Sized) else None
+
+
+def need_periods(what: str, given: object, case: object) -> None:
+    """Refuses prices that haven't one for each period, where the case is an object or a dict, so that its periods are known."""
+    periods = case.get("time_periods") if isinstance(case, dict) else getattr(case, "periods", None)
+    if what != "prices" or is_name(given) or not isinstance(periods, int):
+        return
+    prices = given if isinstance(given, dict) else vars(object_of(what, given))
+    for key in ("energy", "reserve"):
+        length = length_of(prices.get(key))
+        if length is not None and length != periods:
+            raise HullError(
+                f"{told(what)}: {key} has {counted(length, 'price')}, and the case {counted(periods, 'period')}"
+            )
+
+
+def counted(number: int, what: str) -> str:
+    return f"{number} {what}{'s' * (number != 1)}"
+
+
 def is_text_of_hull(name: Name) -> bool:
     """Whether a file holds what the program printed. A pipe isn't looked into, since it is read once."""
     try:
@@ -127,6 +196,7 @@ def as_prices(given: GivenPrices, case: Case) -> Prices:
     if isinstance(given, FlatPrices):
         return given.over(case.periods)
     if not is_name(given):
+        need_periods("prices", given, case)
         return cast(Prices, object_of("prices", given))
     return read_priced(given).prices if is_text_of_hull(given) else read_prices(given, case.periods)
 
@@ -151,64 +221,74 @@ def as_beside(
     return read, as_schedule(schedule, read)
 
 
-def is_list(given: object) -> bool:
-    """Whether there is a number for each period, in a list, an array or a series, and not one number."""
-    return isinstance(given, Iterable) and not isinstance(given, (str, bytes)) and getattr(given, "ndim", 1) > 0
+def price_of(price: Any, what: str, least: int, hours: float, period: Optional[int] = None) -> MillionthsPerKilowatt:
+    """A price per MWh, for a period of so many hours, as a whole one."""
+    number = float_of(price)
+    if number is None:
+        raise HullError(f"{what} is {told_value(price)}: a number is due", period=period)
+    found = round(min(max(number * hours, -1e9), 1e9) * 1e3)
+    if not least <= found <= PRICE_LIMIT:
+        due = f"{least // 1000:,} to {PRICE_LIMIT // 1000:,} per MW and period"
+        raise HullError(f"{what} is {told_value(price)}: from {due} is due", period=period)
+    return MillionthsPerKilowatt(found)
 
 
-def number_of(price: Any, what: str, period: Optional[int] = None) -> float:
-    try:
-        number = float(price)
-    except (OverflowError, TypeError, ValueError):
-        number = math.nan
-    if not math.isfinite(number):
-        raise HullError(f"{what} is {str(price)[:60]}: a number is due", period=period)
-    return number
-
-
-def numbers_of(key: str, prices: Any) -> list[float]:
-    """The prices as floating numbers, or one number alone; what is none is told, by its period."""
+def prices_of_numbers(key: str, prices: Any, least: int, hours: float) -> list[MillionthsPerKilowatt]:
+    """The prices of each period, or one price alone; what is none is told, by its period."""
     if not is_list(prices):
-        return [number_of(prices, f"the {key} price")]
-    return [number_of(price, f"the {key} price of period {t}", t) for t, price in enumerate(prices, 1)]
+        return [price_of(prices, f"the {key} price", least, hours)]
+    items = items_of(f"the {key} prices", prices)
+    return [price_of(price, f"the {key} price of period {t}", least, hours, t) for t, price in enumerate(items, 1)]
 
 
 @overload
-def per_mwh(energy: str, reserve: Optional[PerMwh] = None) -> FlatPrices:  # type: ignore[misc]
+def per_mwh(  # type: ignore[misc]
+    energy: str, reserve: Optional[PerMwh] = None, hours_per_period: SupportsFloat = 1
+) -> FlatPrices:
     ...
 
 
 @overload
-def per_mwh(energy: Iterable[PerMwh], reserve: Union[PerMwh, Iterable[PerMwh], None] = None) -> Prices:
+def per_mwh(
+    energy: Iterable[PerMwh],
+    reserve: Union[PerMwh, Iterable[PerMwh], None] = None,
+    hours_per_period: SupportsFloat = 1,
+) -> Prices:
     ...
 
 
 @overload
-def per_mwh(energy: SupportsFloat, reserve: Optional[PerMwh] = None) -> FlatPrices:  # type: ignore[misc]
+def per_mwh(  # type: ignore[misc]
+    energy: SupportsFloat, reserve: Optional[PerMwh] = None, hours_per_period: SupportsFloat = 1
+) -> FlatPrices:
     ...
 
 
 @overload
-def per_mwh(energy: PerMwh, reserve: Iterable[PerMwh]) -> Prices:
+def per_mwh(energy: PerMwh, reserve: Iterable[PerMwh], hours_per_period: SupportsFloat = 1) -> Prices:
     ...
 
 
 def per_mwh(
-    energy: Union[PerMwh, Iterable[PerMwh]], reserve: Union[PerMwh, Iterable[PerMwh], None] = None
+    energy: Union[PerMwh, Iterable[PerMwh]],
+    reserve: Union[PerMwh, Iterable[PerMwh], None] = None,
+    hours_per_period: SupportsFloat = 1,
 ) -> Union[Prices, FlatPrices]:
-    """Prices in the currency per MW and period, which is per MWh where a period is an hour, to the nearest thousandth.
+    """Prices of numbers in the currency per MWh, to the nearest thousandth per MW and period.
 
-    Energy and reserve have a number for each period, or one number that holds in all. Reserve prices are 0 where
-    they are left out. Where neither is a list the prices are `FlatPrices`, and fit a case of any periods. Raises
-    `HullError` where one is no number, or where the lists differ in length.
+    A period is an hour where `hours_per_period` says nothing else. Energy and reserve have a number for each period,
+    or one number that holds in all. Reserve prices are 0 where they are left out. Where neither is a list the prices
+    are `FlatPrices`, and fit a case of any periods. Raises `HullError` where one is no number, or is out of the
+    limits of docs/FORMATS.md, or where the lists differ in length.
     """
-    energies, reserves = numbers_of("energy", energy), numbers_of("reserve", 0 if reserve is None else reserve)
-    periods = [len(numbers) for numbers, given in ((energies, energy), (reserves, reserve)) if is_list(given)]
+    hours = number_option("hours_per_period", hours_per_period, 0, above=True)
+    energies = prices_of_numbers("energy", energy, -PRICE_LIMIT, hours)
+    reserves = prices_of_numbers("reserve", 0 if reserve is None else reserve, 0, hours)
+    periods = [len(prices) for prices, given in ((energies, energy), (reserves, reserve)) if is_list(given)]
     if len(set(periods)) > 1:
-        raise HullError("there are not as many reserve prices as energy prices")
-    if not is_list(energy):
-        energies *= max(periods, default=1)
-    if not is_list(reserve):
-        reserves *= max(periods, default=1)
-    found = prices_near([price * 1e3 for price in energies], [price * 1e3 for price in reserves])
-    return found if periods else FlatPrices(found.energy[0], found.reserve[0])
+        told = f"{periods[1]} reserve prices, and {periods[0]} energy prices"
+        raise HullError(f"there are not as many reserve prices as energy prices: {told}")
+    if not periods:
+        return FlatPrices(energies[0], reserves[0])
+    most = max(periods)
+    return Prices(energies if is_list(energy) else energies * most, reserves if is_list(reserve) else reserves * most)

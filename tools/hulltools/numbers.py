@@ -2,8 +2,13 @@
 
 An amount, a power and a price are whole numbers of a type each, so that a type checker tells them apart.
 """
+import operator
+from collections.abc import Iterable
 from decimal import Decimal
-from typing import NewType, Union
+from typing import NewType, Union, cast, overload
+
+from .errors import HullError
+from .options import is_list, told_value
 
 Kilowatts = NewType("Kilowatts", int)
 Millionths = NewType("Millionths", int)  # of the currency
@@ -43,19 +48,65 @@ def price(number: Union[Number, str]) -> MillionthsPerKilowatt:
     return MillionthsPerKilowatt(rounded(number, 3))
 
 
+@overload
 def in_currency(amount: Millionths) -> Decimal:
-    """An amount in the currency of the case, exact: 164000000 is 164."""
-    return Decimal(decimal_text(amount, 6))
+    ...
 
 
+@overload
+def in_currency(amount: Iterable[Millionths]) -> list[Decimal]:
+    ...
+
+
+def in_currency(amount: Union[Millionths, Iterable[Millionths]]) -> Union[Decimal, list[Decimal]]:
+    """An amount in the currency of the case, exact: 164000000 is 164. Of a list each."""
+    return said(amount, 6, "an amount in millionths")
+
+
+@overload
 def in_megawatts(power: Kilowatts) -> Decimal:
-    """A power in megawatts, exact: 8500 is 8.5."""
-    return Decimal(decimal_text(power, 3))
+    ...
 
 
+@overload
+def in_megawatts(power: Iterable[Kilowatts]) -> list[Decimal]:
+    ...
+
+
+def in_megawatts(power: Union[Kilowatts, Iterable[Kilowatts]]) -> Union[Decimal, list[Decimal]]:
+    """A power in megawatts, exact: 8500 is 8.5. Of a list each."""
+    return said(power, 3, "a power in kilowatts")
+
+
+@overload
 def in_currency_per_mw(price: MillionthsPerKilowatt) -> Decimal:
-    """A price in the currency per MW and period, which is per MWh where a period is an hour, exact: 98500 is 98.5."""
-    return Decimal(decimal_text(price, 3))
+    ...
+
+
+@overload
+def in_currency_per_mw(price: Iterable[MillionthsPerKilowatt]) -> list[Decimal]:
+    ...
+
+
+def in_currency_per_mw(
+    price: Union[MillionthsPerKilowatt, Iterable[MillionthsPerKilowatt]]
+) -> Union[Decimal, list[Decimal]]:
+    """A price in the currency per MW and period, which is per MWh where a period is an hour, exact: 98500 is 98.5. Of a list each."""
+    return said(price, 3, "a price in millionths per kilowatt")
+
+
+def said(number: Union[int, Iterable[int]], places: int, what: str) -> Union[Decimal, list[Decimal]]:
+    """A whole number, or each of a list, with its point moved."""
+    if is_list(number):
+        return [one_said(it, places, what) for it in cast("Iterable[int]", number)]
+    return one_said(cast(int, number), places, what)
+
+
+def one_said(number: int, places: int, what: str) -> Decimal:
+    try:
+        return Decimal(decimal_text(operator.index(number), places))
+    except TypeError:
+        raise HullError(f"{told_value(number)} is no whole number, as {what} is") from None
 
 
 def is_whole(number: Number) -> bool:

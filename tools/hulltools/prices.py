@@ -1,54 +1,113 @@
 """A prices file: an energy price and a reserve price for each period, in millionths per kilowatt here."""
 from collections.abc import Iterable, Sequence
 from dataclasses import dataclass
-from typing import Any, Optional
+from decimal import Decimal
+from typing import TYPE_CHECKING, Any, Optional, SupportsFloat
 
-from .json_texts import is_number, read_json
-from .numbers import decimal_text, MillionthsPerKilowatt, price, PRICE_LIMIT
 from .errors import HullError, Name, write_whole
+from .json_texts import is_number, read_json
+from .numbers import PRICE_LIMIT, MillionthsPerKilowatt, decimal_text, in_currency_per_mw, price
+from .options import float_of, items_of, told_value, whole_option
+
+if TYPE_CHECKING:
+    from pandas import DataFrame
+
+    from .tables import Start
+
+MOST_SHOWN = 4  # prices
 
 
-@dataclass
+def told_prices(numbers: Sequence[int]) -> str:
+    """Prices for people, per MW and period; of a long list the first ones."""
+    shown = ", ".join(f"{number / 1000:.10g}" for number in numbers[:MOST_SHOWN])
+    return f"[{shown}{', ..' if len(numbers) > MOST_SHOWN else ''}]"
+
+
+@dataclass(repr=False)
 class Prices:
     """Energy and reserve prices of each period, in millionths per kilowatt and period."""
 
     energy: list[MillionthsPerKilowatt]
     reserve: list[MillionthsPerKilowatt]
 
+    def __repr__(self) -> str:
+        told = f"energy={told_prices(self.energy)}, reserve={told_prices(self.reserve)}"
+        return f"<Prices: periods={len(self.energy)}, per MW and period: {told}>"
+
+    def need_form(self) -> None:
+        """Refuses what isn't a whole price within the limits for each period."""
+        if len(self.energy) != len(self.reserve):
+            raise HullError(f"there are {len(self.energy)} energy prices, and {len(self.reserve)} reserve prices")
+        for key, numbers, least in (("energy", self.energy, -PRICE_LIMIT), ("reserve", self.reserve, 0)):
+            for t, number in enumerate(numbers, 1):
+                try:
+                    whole_option(
+                        f"the {key} price of period {t}, in millionths per kilowatt,", number, least, PRICE_LIMIT
+                    )
+                except HullError as why:
+                    why.period = t
+                    raise
+
     def text(self) -> str:
         """The file: prices in currency per MW and period, exact."""
+        self.need_form()
         rows = (
             f'"{key}": [{", ".join(decimal_text(it, 3) for it in getattr(self, key))}]' for key in ("energy", "reserve")
         )
         return "{" + ", ".join(rows) + "}\n"
 
     def write(self, name: Name, inputs: Sequence[str] = ()) -> None:
+        """Writes the file that `hull settle` reads."""
         write_whole(name, self.text(), inputs)
 
+    def in_currency_per_mw(self) -> dict[str, list[Decimal]]:
+        """The prices as their file has them: in the currency per MW and period, which is per MWh where a period is an hour."""
+        return {"energy": in_currency_per_mw(self.energy), "reserve": in_currency_per_mw(self.reserve)}
 
-@dataclass
+    def frame(self, start: Optional["Start"] = None, hours_per_period: SupportsFloat = 1) -> "DataFrame":
+        """A row for each period, as a data frame of pandas."""
+        from .tables import Table, frames_of
+
+        table = Table(["period", "energy:price", "reserve:price"], True)
+        for t, prices in enumerate(zip(self.energy, self.reserve), 1):
+            table.add(t, *prices)
+        return frames_of({"prices": table}, start, hours_per_period)["prices"]
+
+
+@dataclass(repr=False)
 class FlatPrices:
     """One energy price and one reserve price that hold in each period, in millionths per kilowatt and period."""
 
     energy: MillionthsPerKilowatt
     reserve: MillionthsPerKilowatt
 
+    def __repr__(self) -> str:
+        return f"<FlatPrices: per MW and period: energy={self.energy / 1000:.10g}, reserve={self.reserve / 1000:.10g}>"
+
     def over(self, periods: int) -> Prices:
         """The same prices in each of so many periods."""
         return Prices([self.energy] * periods, [self.reserve] * periods)
 
 
-def within_limits(number: int, least: int) -> MillionthsPerKilowatt:
-    return MillionthsPerKilowatt(int(min(max(number, least), PRICE_LIMIT)))
+def nearest_prices(key: str, numbers: Any, least: int) -> list[MillionthsPerKilowatt]:
+    found = []
+    for t, given in enumerate(items_of(f"the {key} prices", numbers), 1):
+        number = float_of(given)
+        if number is None:
+            raise HullError(f"the {key} price of period {t} is {told_value(given)}: a number is due", period=t)
+        found.append(MillionthsPerKilowatt(min(max(round(number), least), PRICE_LIMIT)))
+    return found
 
 
 def prices_near(energy: Iterable[float], reserve: Iterable[float]) -> Prices:
-    """The whole prices nearest to some in millionths per kilowatt, within the limits of docs/FORMATS.md: up to 10,000.00 per MWh either way,
-    and none below 0 for reserve. Each has a number for each period.
+    """The whole prices nearest to some in millionths per kilowatt, as a solver's duals are.
+
+    Each has a number for each period. One outside the limits of docs/FORMATS.md becomes the limit: 10,000.00 per MW and period either way,
+    and 0 for reserve. Raises `HullError` where one is no number, or where the lists differ in length.
     """
-    return Prices(
-        [within_limits(round(it), -PRICE_LIMIT) for it in energy], [within_limits(round(it), 0) for it in reserve]
-    )
+    found = Prices(nearest_prices("energy", energy, -PRICE_LIMIT), nearest_prices("reserve", reserve, 0))
+    found.need_form()
+    return found
 
 
 def list_of(name: Name, key: str, value: Any, periods: Optional[int], least: int) -> list[MillionthsPerKilowatt]:
