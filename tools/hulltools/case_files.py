@@ -9,6 +9,7 @@ from .cases import Bid, Case, Factor, Renewable, Thermal
 from .errors import HullError, one_line
 from .json_texts import json_text
 from .numbers import Kilowatts, Millionths, decimal_text
+from .options import hint_of, is_flag, told_value
 
 
 def megawatts(number: int) -> Decimal:
@@ -62,19 +63,37 @@ def times(numbers: Iterable[int], factor: Fraction) -> list[int]:
     ]
 
 
-def factor_of(number: Factor) -> Fraction:
+def factor_of(number: Factor, what: str) -> Fraction:
     """A factor as it is written: 1.01 is 101/100."""
-    found = Fraction(str(number))
+    try:
+        found = Fraction(-1) if is_flag(number) else Fraction(str(number))
+    except (ValueError, ZeroDivisionError):
+        found = Fraction(-1)
     if found < 0:
-        raise HullError(f"{number} can't be a factor: it is below 0")
+        raise HullError(f"the factor of {what} is {told_value(number)}: a number of at least 0 is due")
     return found
 
 
-def known(case: Case, names: Sequence[str]) -> None:
-    units = {unit.name for _, unit in case.units}
-    wrong = next((name for name in names if name not in units), None)
-    if wrong is not None:
-        raise HullError(f'the case has no unit "{one_line(wrong)}"')
+def need_units(case: Case, names: Sequence[str]) -> None:
+    units = [unit.name for _, unit in case.units]
+    for name in names:
+        if not isinstance(name, str):
+            raise HullError(f"{told_value(name)} is no name of a unit: give names one by one, as without(*names)")
+        if name not in units:
+            raise HullError(f'the case has no unit "{one_line(name)}": {hint_of(name, units)}')
+
+
+def need_offers(case: Case, offers: Any) -> None:
+    """Refuses what has no cost curve: renewable units, bids, and units that the case hasn't."""
+    if not isinstance(offers, Mapping):
+        raise HullError(
+            f'offers is {told_value(offers)}: factors by the names of thermal units are due, as {{"G1": 1.05}}'
+        )
+    need_units(case, list(offers))
+    with_curve = [unit.name for unit in case.thermal]
+    for name in offers:
+        if name not in with_curve:
+            raise HullError(f'"{one_line(name)}" has no cost curve that `offers` could scale: a thermal unit is due')
 
 
 def scaled_offer(unit: Thermal, factor: Fraction) -> Thermal:
@@ -88,17 +107,17 @@ def scaled_powers(powers: list[Kilowatts], factor: Fraction) -> list[Kilowatts]:
 
 def scaled(case: Case, demand: Factor, renewable: Factor, offers: Mapping[str, Factor]) -> Case:
     """The case with its demand, renewable powers and cost curves times these; start costs stay."""
-    known(case, list(offers))
-    sun = factor_of(renewable)
-    units = [scaled_offer(unit, factor_of(offers.get(unit.name, 1))) for unit in case.thermal]
+    need_offers(case, offers)
+    sun = factor_of(renewable, "renewable")
+    units = [scaled_offer(unit, factor_of(offers.get(unit.name, 1), unit.name)) for unit in case.thermal]
     winds = [
         Renewable(unit.name, scaled_powers(unit.least, sun), scaled_powers(unit.most, sun)) for unit in case.renewable
     ]
-    return replace(case, demand=scaled_powers(case.demand, factor_of(demand)), thermal=units, renewable=winds)
+    return replace(case, demand=scaled_powers(case.demand, factor_of(demand, "demand")), thermal=units, renewable=winds)
 
 
 def without(case: Case, names: Sequence[str]) -> Case:
-    known(case, names)
+    need_units(case, names)
     return replace(
         case,
         thermal=[unit for unit in case.thermal if unit.name not in names],

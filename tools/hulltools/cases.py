@@ -128,19 +128,20 @@ class Case:
         return text_of(self)
 
     def write(self, name: Name, inputs: Sequence[str] = ()) -> None:
+        """Writes the file that `hull` reads."""
         write_whole(name, self.text(), inputs)
 
     def scaled(
         self, demand: Factor = 1, renewable: Factor = 1, offers: Optional[Mapping[str, Factor]] = None
     ) -> "Case":
-        """The case with its demand and renewable power times these, and the cost curves of units times those of `offers`, by name.
+        """The case with its demand and renewable power times these, and the cost curves of thermal units times those of `offers`, by name.
 
-        Powers and costs are rounded to the nearest kilowatt and millionth. Raises `HullError` where a factor is below 0, or where the case has
-        no unit of a name.
+        Required reserves, start costs and bids stay. Powers and costs are rounded to the nearest kilowatt and millionth. Raises `HullError`
+        where a factor is no number or below 0, or where the case has no thermal unit of a name in `offers`.
         """
         from .case_files import scaled
 
-        return scaled(self, demand, renewable, offers or {})
+        return scaled(self, demand, renewable, {} if offers is None else offers)
 
     def without(self, *names: str) -> "Case":
         """The case without these units and bids. Raises `HullError` where it has none of a name."""

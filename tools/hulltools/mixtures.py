@@ -1,15 +1,20 @@
 """A mixture: weighted schedules of each thermal unit, and the bound that they prove."""
+from __future__ import annotations
+
 import json
-from collections.abc import Iterable
+from collections.abc import Iterable, Sequence
 from dataclasses import dataclass
-from typing import Any
+from typing import TYPE_CHECKING, Any
 
 from .cases import Case
 from .json_texts import is_number, read_json
 from .numbers import is_whole, Millionths, MillionthsPerKilowatt, PRICE_LIMIT
 from .schedules import Fault, Plan, teller_of, thermal_plan
-from .errors import HullError, Name, one_line
+from .errors import HullError, Name, one_line, write_whole
 from .prices import Prices
+
+if TYPE_CHECKING:
+    from .inputs import GivenCase
 
 MOST_WEIGHT = 10**12
 
@@ -40,6 +45,10 @@ class Mixture:
         """The file that `hull certify` reads."""
         thermal = {name: [entry.as_json() for entry in entries] for name, entries in self.thermal.items()}
         return json.dumps({"weight": self.weight, "thermal": thermal}, ensure_ascii=False) + "\n"
+
+    def write(self, name: Name, inputs: Sequence[str] = ()) -> None:
+        """Writes the file that `hull certify` reads."""
+        write_whole(name, self.text(), inputs)
 
     def bound(self, case: Case, costs: Iterable[int], prices: Prices, radius: int = 2 * PRICE_LIMIT) -> Millionths:
         """No prices within the radius of these have a greater dual value, where each entry is a schedule that its unit can run.
@@ -79,12 +88,18 @@ def weight_of(value: Any, least: int, most: int, told: Fault) -> int:
     return int(value)
 
 
-def read_mixture(name: Name, case: Case) -> Mixture:
+def read_mixture(name: Name, case: GivenCase) -> Mixture:
     """The mixture of a file for a case: schedules of each thermal unit, in whole kilowatts, with weights that sum to the whole weight.
 
-    Raises `HullError` where docs/FORMATS.md refuses its form. Whether a unit can run an entry is for `certify` to say.
+    The case is an object, a dict, or a file's name. Raises `HullError` where docs/FORMATS.md refuses its form. Whether a unit can run an entry is for `certify` to say.
     """
-    value = read_json(name, "a mixture")
+    from .inputs import as_case
+
+    return mixture_of(name, read_json(name, "a mixture"), as_case(case))
+
+
+def mixture_of(name: Name, value: Any, case: Case) -> Mixture:
+    """The mixture of a JSON value for a case."""
     if not isinstance(value, dict) or not isinstance(value.get("thermal"), dict):
         raise HullError(f"{name}: no mixture: it isn't an object with `weight` and the object `thermal`")
     weight = weight_of(value.get("weight"), 1, MOST_WEIGHT, lambda why: HullError(f"{name}: {why}"))

@@ -1,13 +1,19 @@
 """A schedule file: whole kilowatts. Whether the rules of the case are kept is for `hull check` to say."""
+from __future__ import annotations
+
 import json
 from collections.abc import Callable, Container, Sequence
 from dataclasses import dataclass
-from typing import Any, cast
+from typing import TYPE_CHECKING, Any, cast
 
 from .cases import Case, POWER, Unit
 from .json_texts import is_number, read_json
 from .numbers import is_whole, Kilowatts
 from .errors import HullError, Name, one_line, write_whole
+from .options import member
+
+if TYPE_CHECKING:
+    from .inputs import GivenCase
 
 Fault = Callable[[str], HullError]  # makes the error of a text
 
@@ -37,7 +43,8 @@ class Schedule:
         return f"<Schedule: periods={periods}, units={len(self.plans)}>"
 
     def plan(self, kind: str, name: str) -> Plan:
-        return self.plans[kind, name]
+        """The plan of a unit or bid. Raises `HullError` where there is none."""
+        return member(self.plans, kind, name, "the schedule")
 
     def as_json(self) -> dict[str, dict[str, Any]]:
         found: dict[str, dict[str, Any]] = {"thermal": {}, "renewable": {}}
@@ -126,9 +133,11 @@ def schedule_of(name: Name, value: Any, case: Case) -> Schedule:
     return Schedule(plans)
 
 
-def read_schedule(name: Name, case: Case) -> Schedule:
+def read_schedule(name: Name, case: GivenCase) -> Schedule:
     """The schedule of a file for a case: for each unit and bid an on flag, a power and a reserve in each period, in whole kilowatts.
 
-    Raises `HullError` where docs/FORMATS.md refuses the file, or where its units aren't those of the case. It may break a rule: see `check`.
+    The case is an object, a dict, or a file's name. Raises `HullError` where docs/FORMATS.md refuses the file, or where its units aren't those of the case. It may break a rule: see `check`.
     """
-    return schedule_of(name, read_json(name, "a schedule"), case)
+    from .inputs import as_case
+
+    return schedule_of(name, read_json(name, "a schedule"), as_case(case))
