@@ -8,7 +8,8 @@ from collections.abc import Iterable, Mapping
 from typing import Any, Literal, Optional, Union, cast
 
 from .errors import HullError, Name, one_line
-from .outputs import Text, read_output
+from .outputs import Text
+from .read_texts import read_output
 
 GivenText = Union[Text, Name]
 GivenTexts = Union[GivenText, Mapping[Any, GivenText], Iterable[GivenText]]

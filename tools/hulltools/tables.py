@@ -11,9 +11,11 @@ from datetime import datetime
 from decimal import Decimal
 from typing import TYPE_CHECKING, Any, Optional, SupportsFloat, Union
 
+from .beside import need_beside
 from .cases import Case
 from .numbers import decimal_text
 from .errors import HullError
+from .options import float_of, number_option, told_value
 from .outputs import Convex, Fixed, Owed, Priced, Report, Settlement, Text
 from .schedules import Schedule
 
@@ -74,6 +76,9 @@ def told_apart_count(tables: dict[str, Table]) -> int:
     return sum(FORMULA.search(it) is not None for it in cells)
 
 
+PER_MW = "_currency_per_mw"
+MOST_HOURS = 10_000
+NUMBERS = ("budget", "ahead", "proposals", "chosen", "proposal", "periods", "units", "scheduled_on")  # without an end
 HEADS = {
     "runs": "report command side periods units budget ahead proposals chosen cost:money value:money payments:money "
     "make_whole:money lost_opportunity:money surplus:money gap:money radius:price bound:money distance:money least:money",
@@ -90,6 +95,8 @@ def tables_of(
     """The tables of some texts by name; demand, requirement and the schedule stand beside where these are given."""
     tables = {name: Table(heads.split(), currency) for name, heads in HEADS.items()}
     for text in texts:
+        if isinstance(text, (Report, Settlement, Convex, Fixed)):
+            need_beside(text, case, schedule)
         if isinstance(text, (Report, Settlement, Convex)):
             add_priced(tables, text, case, schedule)
         elif isinstance(text, Fixed):
@@ -153,17 +160,54 @@ def add_fixed(tables: dict[str, Table], fixed: Fixed, case: Optional[Case]) -> N
 def frames_of(
     tables: dict[str, Table], start: Optional[Start] = None, hours_per_period: SupportsFloat = 1
 ) -> dict[str, "DataFrame"]:
-    """The tables as data frames of pandas; numbers in the currency and MW are floating there. With a start, rows of periods are indexed by time."""
+    """The tables as data frames of pandas; numbers in the currency and MW are floating there.
+
+    With a start, rows of periods are indexed by time. With a length of periods other than an hour, prices per MWh stand behind the others.
+    """
+    hours = number_option("hours_per_period", hours_per_period, 0, MOST_HOURS, above=True)
     try:
         import pandas
     except ImportError:
         raise HullError("data frames need pandas (Debian: python3-pandas)") from None
     found = {}
     for name, table in tables.items():
-        rows = [[float(it) if isinstance(it, Decimal) else it for it in row] for row in table.rows]
-        frame = pandas.DataFrame(rows, columns=table.heads)
+        columns = zip(table.heads, table.units, zip(*table.rows)) if table.rows else ()
+        frame = pandas.DataFrame({head: column_of(pandas, head, unit, cells) for head, unit, cells in columns})
+        frame = frame.reindex(columns=table.heads)
+        for head in table.heads if hours != 1 else ():
+            if head.endswith(PER_MW):
+                frame[f"{head}h"] = frame[head] / hours
         if start is not None and "period" in frame:
-            length = pandas.Timedelta(hours=float(hours_per_period))
-            frame.index = pandas.DatetimeIndex(pandas.Timestamp(start) + (frame["period"] - 1) * length, name="time")
+            times = start_of(pandas, start) + (frame["period"] - 1) * pandas.Timedelta(hours=hours)
+            frame.index = pandas.DatetimeIndex(times, name="time")
         found[name] = frame
     return found
+
+
+def start_of(pandas: Any, start: Start) -> Any:
+    """When the first period begins, as pandas has it."""
+    try:
+        found = pandas.Timestamp(start)
+    except (TypeError, ValueError):
+        found = pandas.NaT
+    if found is pandas.NaT or is_number_text(start):
+        raise HullError(f"start is {told_value(start)}: a time is due, as 2026-07-01T00:00")
+    return found
+
+
+def is_number_text(start: object) -> bool:
+    """Whether what should be a time is a number, which pandas would take for nanoseconds or for a year."""
+    return not isinstance(start, datetime) and float_of(start) is not None
+
+
+def column_of(pandas: Any, head: str, unit: str, cells: Sequence[Cell]) -> Any:
+    """The cells of a column. Where some of its numbers aren't there it has numbers all the same: NaN, or, of whole ones, NA of pandas."""
+    numbers = [float(it) if isinstance(it, Decimal) else it for it in cells]
+    if all(it is not None for it in cells):
+        return numbers
+    if not (unit or head in NUMBERS) or any(isinstance(it, str) for it in cells):
+        return numbers
+    if all(it is None for it in cells) or any(isinstance(it, float) for it in numbers):
+        return pandas.Series(numbers, dtype="float64")
+    whole = all(-(2**63) <= it < 2**63 for it in cells if isinstance(it, int))
+    return pandas.Series(numbers, dtype="Int64" if whole else "float64")
