@@ -11,50 +11,84 @@ with one line. docs/PYTHON.md is the way in.
 """
 from __future__ import annotations
 
-from typing import TYPE_CHECKING, Any, List, Optional
+from typing import TYPE_CHECKING as _TYPE_CHECKING
+from typing import Any as _Any
+from typing import List as _List
+from typing import Mapping as _Mapping
+from typing import Optional as _Optional
+from typing import Union as _Union
 
-from .cases import Bid, Case, Renewable, Thermal, read_case
-from .errors import HullError, Name
-from .faults import Files, sentence
-from .inputs import GivenCase, GivenMixture, GivenPrices, GivenSchedule, per_mwh
-from .mixtures import Mixture, read_mixture
+from . import faults as _faults
+from .cases import Bid, Case, Factor, Renewable, Thermal, read_case
+from .errors import HullError, Name, Tell
+from .faults import Files
+from .inputs import GivenCase, GivenMixture, GivenPrices, GivenSchedule, GivenZones, PerMwh, per_mwh
+from .mixtures import Entry, Mixture, read_mixture
+from .named_texts import GivenTexts, Money
 from .numbers import Kilowatts, Millionths, MillionthsPerKilowatt, in_currency, in_currency_per_mw, in_megawatts
-from .outputs import Bound, Certificate, Convex, Fixed, Owed, Report, Row, Settlement, frames, read_output
+from .options import whole_option as _whole_option
+from .outputs import RADIUS as _RADIUS
+from .outputs import Bound, Certificate, Convex, Fixed, Owed, Report, Row, Settlement, frames
 from .prices import FlatPrices, Prices, prices_near, read_prices
 from .program import Hull
+from .read_texts import read_output
 from .schedules import Plan, Schedule, read_schedule
+from .tables import Start, Table
+from .zones import Zonal, Zones
 
-if TYPE_CHECKING:
+if _TYPE_CHECKING:
     from .calls import convex_prices, elmp, integer_relaxation, lmp, make_schedule, settle_zones, study
+    from .gap_parts import GapParts
+    from .scheduling import Made
+    from .studies import Study
 
 __version__ = "1.0"
 Wrong = HullError  # the name in version 1.0
-CALLS = ("convex_prices", "elmp", "integer_relaxation", "lmp", "make_schedule", "settle_zones", "study")  # of calls.py
+# What is loaded when it is first used, and the module that has it.
+_LATER = {
+    **dict.fromkeys(
+        ("convex_prices", "elmp", "integer_relaxation", "lmp", "make_schedule", "settle_zones", "study"), "calls"
+    ),
+    "GapParts": "gap_parts",
+    "Made": "scheduling",
+    "Study": "studies",
+}
 __all__ = [
-    "Bid", "Bound", "Case", "Certificate", "Convex", "Files", "Fixed", "FlatPrices", "Hull", "HullError", "Kilowatts",
-    "Millionths", "MillionthsPerKilowatt", "Mixture", "Owed", "Plan", "Prices", "Renewable", "Report", "Row",
-    "Schedule", "Settlement", "Thermal", "Wrong", "certify", "check", "convex_prices", "elmp", "frames",
-    "in_currency", "in_currency_per_mw", "in_megawatts", "integer_relaxation", "lmp", "make_schedule", "per_mwh",
-    "price", "prices_near", "read_case", "read_mixture", "read_output", "read_prices", "read_schedule", "sentence",
-    "settle", "settle_zones", "study",
+    "Bid", "Bound", "Case", "Certificate", "Convex", "Entry", "Factor", "Files", "Fixed", "FlatPrices", "GapParts",
+    "GivenCase", "GivenMixture", "GivenPrices", "GivenSchedule", "GivenTexts", "GivenZones", "Hull", "HullError",
+    "Kilowatts", "Made", "Millionths", "MillionthsPerKilowatt", "Mixture", "Money", "Name", "Owed", "PerMwh", "Plan",
+    "Prices", "Renewable", "Report", "Row", "Schedule", "Settlement", "Start", "Study", "Table", "Tell", "Thermal",
+    "Wrong", "Zonal", "Zones", "certify", "check", "convex_prices", "elmp", "frames", "in_currency",
+    "in_currency_per_mw", "in_megawatts", "integer_relaxation", "lmp", "make_schedule", "per_mwh", "price",
+    "prices_near", "read_case", "read_mixture", "read_output", "read_prices", "read_schedule", "sentence", "settle",
+    "settle_zones", "study",
 ]  # fmt: skip
 
 
-def __getattr__(name: str) -> Any:
-    """The calls that need SciPy, which is loaded with the first of them."""
-    if name not in CALLS:
+def __getattr__(name: str) -> _Any:
+    """The calls that need SciPy, which is loaded with the first of them, and what they give."""
+    if name not in _LATER:
         raise AttributeError(f"module {__name__!r} has no attribute {name!r}")
-    from . import calls
+    from importlib import import_module
 
-    return getattr(calls, name)
-
-
-def __dir__() -> List[str]:
-    """All names, for an editor or a notebook that completes them, also where SciPy isn't loaded yet."""
-    return sorted({*globals(), *CALLS})
+    return getattr(import_module(f"{__name__}.{_LATER[name]}"), name)
 
 
-def check(case: GivenCase, schedule: GivenSchedule, hull: Optional[Name] = None) -> Millionths:
+def __dir__() -> _List[str]:
+    """The public names, for an editor or a notebook that completes them, also where SciPy isn't loaded yet."""
+    return sorted([*__all__, "__version__"])
+
+
+def sentence(line: str, files: _Union[Files, _Mapping[str, Name]]) -> str:
+    """A fault line of docs/FAULTS.md in words, with the unit's name, what stands in the file and what is due.
+
+    The files are `Files`, or a dict of names by `case`, `schedule`, `prices`, `mixture` and `report`. Raises
+    `HullError` where it is no such line, or where a file that it is told of isn't among them or can't be read.
+    """
+    return _faults.sentence(line, files if isinstance(files, Files) else Files(files))
+
+
+def check(case: GivenCase, schedule: GivenSchedule, hull: _Optional[Name] = None) -> Millionths:
     """The cost of a schedule in millionths, as `hull check` finds it.
 
     `hull` is the program's place, here and below. Raises `HullError` with the fault line where the schedule isn't feasible.
@@ -65,33 +99,34 @@ def check(case: GivenCase, schedule: GivenSchedule, hull: Optional[Name] = None)
 def price(
     case: GivenCase,
     schedule: GivenSchedule,
-    proposals: Optional[int] = None,
-    ahead: Optional[int] = None,
-    hull: Optional[Name] = None,
+    proposals: _Optional[int] = None,
+    ahead: _Optional[int] = None,
+    hull: _Optional[Name] = None,
 ) -> Report:
     """The report of `hull price`: up to so many proposals, from 1 to 10,000, of which so many are worked out ahead, from 1 to 16.
 
     What is left out is as the program has it. Raises `HullError` where it refuses a file or the work.
     """
-    given = (("--proposals", proposals), ("--ahead", ahead))
-    return Hull(hull).price(case, schedule, *(str(it) for pair in given if pair[1] is not None for it in pair))
+    words: _List[str] = []
+    for name, number, most in (("proposals", proposals, 10_000), ("ahead", ahead, 16)):
+        if number is not None:
+            words += [f"--{name}", str(_whole_option(name, number, 1, most))]
+    return Hull(hull).price(case, schedule, *words)
 
 
 def settle(
     case: GivenCase,
     schedule: GivenSchedule,
     prices: GivenPrices,
-    hull: Optional[Name] = None,
-    name: Optional[str] = None,
+    hull: _Optional[Name] = None,
+    name: _Optional[str] = None,
 ) -> Settlement:
     """The settlement of `hull settle`: what each unit and bid is owed at the prices, in millionths.
 
     Prices have an energy price and perhaps a reserve price for each period, as `per_mwh` makes them, or are of a text
     that is given. The name tells the settlement apart in tables. Raises `HullError` where the program refuses a file.
     """
-    settled = Hull(hull).settle(case, schedule, prices)
-    settled.name = name or settled.name
-    return settled
+    return Hull(hull).settle(case, schedule, prices, name)
 
 
 def certify(
@@ -99,13 +134,13 @@ def certify(
     schedule: GivenSchedule,
     prices: GivenPrices,
     mixture: GivenMixture,
-    radius: Optional[int] = None,
-    hull: Optional[Name] = None,
+    radius: _Optional[int] = None,
+    hull: _Optional[Name] = None,
 ) -> Certificate:
     """The certificate of `hull certify`: how far the prices are from the best, in millionths, as the mixture bounds it.
 
-    With a radius, in millionths per kilowatt from 0 to 20,000,000, the bound is of the prices within it of these. Raises `HullError` where the
-    program refuses a file.
+    The bound is of all prices that there may be. With a radius, in millionths per kilowatt from 0 to 20,000,000, it is of the prices that are
+    no farther from these. Raises `HullError` where the program refuses a file.
     """
-    more = () if radius is None else ("--radius", str(radius))
+    more = () if radius is None else ("--radius", str(_whole_option("radius", radius, *_RADIUS)))
     return Hull(hull).certify(case, schedule, prices, mixture, *more)

@@ -6,10 +6,13 @@ needed and isn't there, and where a step takes longer than it may. `hull` is the
 from __future__ import annotations
 
 import contextlib
+import io
 import os
+import re
 import tempfile
-from typing import TYPE_CHECKING, Any, Dict, Iterator, List, Mapping, Optional, Sequence, cast
+from typing import TYPE_CHECKING, Any, Callable, Dict, Iterator, List, Mapping, Optional, Sequence
 
+from .cases import TIME
 from .errors import HullError, Name
 from .inputs import (
     Given,
@@ -26,6 +29,7 @@ from .inputs import (
 )
 from .linear import need_scipy
 from .numbers import millionths
+from .options import hint_of, number_option, seconds_option, told_value, whole_option
 from .outputs import Convex, Settlement
 from .prices import Prices
 from .program import Hull
@@ -41,6 +45,10 @@ if TYPE_CHECKING:
     from .studies import Study
 
 
+MOST_NODES = 2**31 - 1
+OWN_OPTIONS = ("schedule", "best_schedule", "prices", "zones", "hull", "help")  # of study.py, which are parameters here
+
+
 def quiet(text: object) -> None:
     """Takes progress that nobody wants to hear of."""
 
@@ -49,7 +57,7 @@ def make_schedule(
     case: GivenCase,
     gap: float = SearchLimits.gap,
     nodes: int = SearchLimits.nodes,
-    seconds: float = SearchLimits.seconds,
+    seconds: Optional[float] = SECONDS,
     hull: Optional[Name] = None,
 ) -> Made:
     """A feasible schedule that `hull check` accepts, in `schedule`, with the solver's own `gap` as a share of its cost.
@@ -57,28 +65,35 @@ def make_schedule(
     The search ends at a gap, or after so many nodes; `is_near` says whether it reached the gap. Raises `HullError` where the case can't be met,
     and where no end is reached in `seconds`.
     """
+    limits = SearchLimits(
+        number_option("gap", gap, 0), whole_option("nodes", nodes, 1, MOST_NODES), seconds_option(seconds)
+    )
     need_scipy()
-    found = search_schedule(as_case(case), SearchLimits(gap, nodes, seconds))
+    found = search_schedule(as_case(case), limits)
     Hull(hull).check(case, found.schedule)
     return found
 
 
-def lmp(case: GivenCase, schedule: GivenSchedule, hull: Optional[Name] = None, seconds: float = SECONDS) -> Prices:
+def lmp(
+    case: GivenCase, schedule: GivenSchedule, hull: Optional[Name] = None, seconds: Optional[float] = SECONDS
+) -> Prices:
     """LMPs, in millionths per kilowatt: the duals of the dispatch with the schedule's commitments held.
 
     Raises `HullError` where the schedule isn't feasible, and where the solver takes longer than `seconds`.
     """
+    seconds = seconds_option(seconds)
     need_scipy()
     Hull(hull).check(case, schedule)
     read = as_case(case)
     return held_prices(read, as_schedule(schedule, read), seconds)
 
 
-def integer_relaxation(case: GivenCase, seconds: float = SECONDS) -> Prices:
+def integer_relaxation(case: GivenCase, seconds: Optional[float] = SECONDS) -> Prices:
     """Prices in millionths per kilowatt: the duals of the commitment problem with on flags between 0 and 1.
 
     Raises `HullError` where the case can't be met, and where the solver takes longer than `seconds`.
     """
+    seconds = seconds_option(seconds)
     need_scipy()
     return relaxed_prices(as_case(case), seconds)
 
@@ -91,7 +106,7 @@ def elmp(
     most_cost: Optional[float] = None,
     online_only: bool = False,
     hull: Optional[Name] = None,
-    seconds: float = SECONDS,
+    seconds: Optional[float] = SECONDS,
 ) -> Prices:
     """ELMPs, in millionths per kilowatt: LMPs with fast-start units relaxed, and the commitments of the others held.
 
@@ -99,10 +114,13 @@ def elmp(
     at most `most_cost`, in the currency. With `online_only` such a unit stays off where the schedule has it off. Raises `HullError` where the
     case has no unit of a name, where the schedule isn't feasible, and where the solver takes longer than `seconds`.
     """
+    seconds, most_up = seconds_option(seconds), whole_option("most_up", most_up, 0, TIME)
+    cost = None if most_cost is None else millionths(str(number_option("most_cost", most_cost, 0)))
+    if isinstance(fast_start, str):
+        raise HullError(f"fast_start is {told_value(fast_start)}: a list of names is due, as [{fast_start!r}]")
     need_scipy()
     Hull(hull).check(case, schedule)
     read = as_case(case)
-    cost = None if most_cost is None else millionths(str(most_cost))
     fast = FastStart(None if fast_start is None else tuple(fast_start), most_up, cost, online_only)
     return fast_start_prices(read, as_schedule(schedule, read), fast, seconds)
 
@@ -146,6 +164,27 @@ def words_of(options: Dict[str, object]) -> List[str]:
     return found
 
 
+def asked_of(read: Callable[[Sequence[str]], Any], words: Sequence[str], options: Mapping[str, object]) -> Any:
+    """What the words of study.py ask for. Where it refuses an option this is told with its name."""
+    said = io.StringIO()
+    try:
+        with contextlib.redirect_stderr(said), contextlib.redirect_stdout(said):
+            return read(words)
+    except SystemExit:
+        usage, _, why = said.getvalue().strip().rpartition(" error: ")
+    found = re.search(r"unrecognized arguments: --([\w-]+)", why)
+    if found:
+        name = next((key for key in options if key.replace("_", "-") == found[1]), found[1])
+        raise HullError(f"`study` has no option `{name}`: {hint_of(name, known_options(usage))}")
+    raise HullError(f"an option of `study` is refused: {why or 'there is no page of it here'}")
+
+
+def known_options(usage: str) -> List[str]:
+    """The options that a page of study.py has, as words of a call."""
+    names = dict.fromkeys(re.findall(r"--([a-z-]+[a-z])", usage))
+    return [name for name in (name.replace("-", "_") for name in names) if name not in OWN_OPTIONS]
+
+
 class Room:
     """A folder for the files of what is given without one, and what a fault calls each."""
 
@@ -169,10 +208,7 @@ class Room:
         try:
             yield
         except HullError as why:
-            why.args = (self.without_places(str(why)),)
-            why.sentence = why.sentence and self.without_places(why.sentence)
-            for place, note in enumerate(getattr(why, "__notes__", [])):
-                cast(Any, why).__notes__[place] = self.without_places(note)
+            why.line, why.sentence = self.without_places(why.line), self.without_places(why.sentence)
             raise
 
     def without_places(self, text: str) -> str:
@@ -216,10 +252,7 @@ def study(
             words.append(f"--prices={name}={room.name_of('prices', exact, told_as, f'{place}.prices')}")
         words += [f"--hull={os.fspath(hull)}"] if hull else []
         words = [room.name_of("case", case), to, *words]
-        try:
-            asked = arguments(words)
-        except SystemExit:
-            raise HullError("study.py has no such options") from None
+        asked = asked_of(arguments, words, options)
         with room.told(), StudyFolder(to, inputs_of(asked)) as place_of:
             found = study_of(asked, words, Hull(hull, seconds=asked.seconds), place_of.room, quiet, place_of.refuse)
             if folder:

@@ -24,10 +24,12 @@ from .inputs import (
     content_of,
     is_name,
     is_text_of_hull,
+    need_periods,
     told,
 )
 from .numbers import Millionths, millionths
-from .outputs import Certificate, Convex, Report, Settlement, parse_output, read_priced
+from .options import number_option, seconds_option, whole_option
+from .outputs import ROUNDS, WITHIN, Certificate, Convex, Report, Settlement, parse_output, read_priced
 from .prices import FlatPrices
 from .progress import step
 from .refusals import Held, refusal
@@ -63,7 +65,7 @@ class Hull:
         self.program = os.fspath(program or default_program())
         self.commands: dict[str, bool] = {}
         self.tell: Tell = tell or (lambda text: None)
-        self.seconds = seconds
+        self.seconds = seconds_option(seconds)
         self.told = False
         self.last_text = b""
 
@@ -94,7 +96,8 @@ class Hull:
         except subprocess.TimeoutExpired:
             raise OverTime(f"the outer limit of {self.seconds:g} s is over: {what}") from None
         except (OSError, ValueError) as error:
-            raise HullError(f"{self.program}: {getattr(error, 'strerror', None) or error}") from None
+            told = f"{self.program}: {getattr(error, 'strerror', None) or error}"
+            raise HullError(told, sentence=f"{told}: `hull` is the place of the program") from None
         return process.returncode, output
 
     def text(self, *words: str) -> bytes:
@@ -131,6 +134,7 @@ class Hull:
             for what, one in given.items():
                 if isinstance(one, FlatPrices):
                     one = one.over(self.periods_of(given["case"], given["schedule"]))
+                need_periods(what, one, given["case"])
                 words += [f"--{what}", files.enter_context(as_file(one, what))]
             output = self.text(*words, *more)
         return output
@@ -168,11 +172,15 @@ class Hull:
         output = self.text_with("price", {"case": case, "schedule": schedule}, *more)
         return cast(Report, parse_output("hull price", output, ("hull-report 1",)))
 
-    def settle(self, case: GivenCase, schedule: GivenSchedule, prices: GivenPrices) -> Settlement:
-        """The settlement at prices."""
+    def settle(
+        self, case: GivenCase, schedule: GivenSchedule, prices: GivenPrices, name: Optional[str] = None
+    ) -> Settlement:
+        """The settlement at prices; the name tells it apart in tables."""
         self.need("settle")
         output = self.text_with("settle", {"case": case, "schedule": schedule, "prices": prices})
-        return cast(Settlement, parse_output("hull settle", output, ("hull-settlement 1",)))
+        found = cast(Settlement, parse_output("hull settle", output, ("hull-settlement 1",)))
+        found.name = name or found.name
+        return found
 
     def certify(
         self, case: GivenCase, schedule: GivenSchedule, prices: GivenPrices, mixture: GivenMixture, *more: str
@@ -191,9 +199,12 @@ class Hull:
         rounds: Optional[int] = None,
     ) -> Convex:
         """Convex hull prices, their settlement, and the mixture that bounds the dual value; `within` is in the currency."""
+        more = []
+        if within is not None:
+            more += ["--within", str(millionths(str(number_option("within", within, 0, WITHIN // 10**6))))]
+        if rounds is not None:
+            more += ["--rounds", str(whole_option("rounds", rounds, 1, ROUNDS))]
         self.need("convex")
-        more = [] if within is None else ["--within", str(millionths(str(within)))]
-        more += [] if rounds is None else ["--rounds", str(rounds)]
         output = self.text_with("convex", {"case": case, "schedule": schedule}, *more)
         return cast(Convex, parse_output("hull convex", output, ("hull-convex 1",)))
 

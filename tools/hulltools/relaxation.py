@@ -1,6 +1,8 @@
 """Prices from linear programs: with all commitments of a schedule held, with those of slow units held, and with none."""
 from __future__ import annotations
 
+from typing import Optional
+
 from .apart import run_apart
 from .cases import Case
 from .commitment import Commitment, Flags
@@ -35,7 +37,7 @@ def held(case: Case, schedule: Schedule) -> Prices:
     return dual_prices(model, HELD)
 
 
-def held_prices(case: Case, schedule: Schedule, seconds: float = SECONDS) -> Prices:
+def held_prices(case: Case, schedule: Schedule, seconds: Optional[float] = SECONDS) -> Prices:
     """LMPs: the schedule's commitments are held, so only the dispatch is left to choose."""
     return run_apart(held, (case, schedule), f"solving {HELD}", seconds)
 
@@ -44,7 +46,7 @@ def relaxed(case: Case) -> Prices:
     return dual_prices(Commitment(case), RELAXED)
 
 
-def relaxed_prices(case: Case, seconds: float = SECONDS) -> Prices:
+def relaxed_prices(case: Case, seconds: Optional[float] = SECONDS) -> Prices:
     """The duals of the linear relaxation: units may be on by half. They approximate convex hull prices (Hua and Baldick 2017)."""
     return run_apart(relaxed, (case,), f"solving {RELAXED}", seconds)
 
@@ -60,6 +62,6 @@ def fast_start(case: Case, schedule: Schedule, fast: FastStart) -> Prices:
     return dual_prices(model, FAST)
 
 
-def fast_start_prices(case: Case, schedule: Schedule, fast: FastStart, seconds: float = SECONDS) -> Prices:
+def fast_start_prices(case: Case, schedule: Schedule, fast: FastStart, seconds: Optional[float] = SECONDS) -> Prices:
     """ELMPs: the commitments of slow units are held, and fast-start units may be on by a part, with a part of their start cost."""
     return run_apart(fast_start, (case, schedule, fast), f"solving {FAST}", seconds)

@@ -3,7 +3,7 @@ from __future__ import annotations
 
 import time
 from dataclasses import dataclass, replace
-from math import isfinite
+from math import inf, isfinite
 from typing import Any, Callable, Dict, List, Optional, Sequence, Tuple
 
 from .apart import run_apart
@@ -203,7 +203,7 @@ def make_schedule(case: Case, limits: SearchLimits) -> Made:
 
 def search(case: Case, limits: SearchLimits) -> Made:
     """The search itself, which is over at the limit where the solver looks at the clock."""
-    until = time.monotonic() + limits.seconds
+    until = inf if limits.seconds is None else time.monotonic() + limits.seconds
     model = Commitment(case)
     found = searched(model, limits, until)
     # (with no whole variable there is no bound beside the optimum)

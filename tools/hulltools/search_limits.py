@@ -1,6 +1,6 @@
 """When a search for a schedule ends."""
 from dataclasses import dataclass
-
+from typing import Optional
 
 SECONDS = 1800.0  # how long a step of a solver may take where nobody says
 
@@ -11,4 +11,4 @@ class SearchLimits:
 
     gap: float = 0.0005
     nodes: int = 200
-    seconds: float = SECONDS
+    seconds: Optional[float] = SECONDS

@@ -15,6 +15,7 @@ from .costs import Costs
 from .errors import Found, HullError, Interrupted, Tell, heard_later, one_line, raise_swallowed, taken, write_together
 from .gap_parts import GapParts, gap_parts
 from .numbers import money
+from .options import hint_of, told_value
 from .outputs import Certificate, Owed, Settlement
 from .price_lists import CONVEX_HULL, ELMP, LISTS, LMP, RELAXATION, SUBGRADIENT_100, SUBGRADIENT_1000, ZONAL, PriceList
 from .prices import Prices
@@ -105,7 +106,11 @@ class Study:
         return f"Interrupted before these lists were made: {', '.join(self.missing)}." if self.missing else ""
 
     def parts(self, key: str) -> GapParts:
-        value = self.lists[key].settlement.best.value
+        """The gap's parts at a list, by its key or its name. Raises `HullError` where there is none."""
+        keys = {settled.list.name: known for known, settled in self.lists.items()}
+        if keys.get(key, key) not in self.lists:
+            raise HullError(f"the study has no list {told_value(key)}: {hint_of(key, self.lists)}")
+        value = self.lists[keys.get(key, key)].settlement.best.value
         return gap_parts(self.cost, value, self.certificate.bound if self.certificate else None, self.best_cost)
 
     def sentence(self, where: str) -> str:

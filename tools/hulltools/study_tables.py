@@ -38,18 +38,19 @@ def sums_of(study: "Study", settled: "Settled") -> List[Optional[int]]:
     return [*found, bills[0].energy, bills[0].reserve, *(it.total for it in bills), bills[0].left]
 
 
-def lists_table(study: "Study") -> Table:
-    """A row for each list, exact but for the means, with what the study was made from in each row."""
+def lists_table(study: "Study", with_keys: bool = False) -> Table:
+    """A row for each list, exact but for the means, with what the study was made from in each row; of a frame, with its key too."""
     origin = study.provenance.columns()
     prices = price_heads(study, "energy_price_mean", "energy_price_most", "reserve_price_mean")
-    heads = ["list", "about", *(f"{name}:money" for name in SUMS), *prices, *origin]
+    heads = ["list", *(["key"] if with_keys else []), "about", *(f"{name}:money" for name in SUMS), *prices, *origin]
     table = Table(heads, True, money_name(study))
     for settled in study.in_order():
         row = settled.settlement.best
         price = study.clock.price_number
         means = [price(round(sum(numbers) / len(numbers))) for numbers in (row.energy, row.reserve)]
         cells = (means[0], price(max(row.energy)), means[1])
-        table.add(settled.list.name, settled.list.about, *sums_of(study, settled), *cells, *origin.values())
+        names = (settled.list.name, settled.list.key) if with_keys else (settled.list.name,)
+        table.add(*names, settled.list.about, *sums_of(study, settled), *cells, *origin.values())
     return table
 
 
@@ -106,6 +107,6 @@ def tables_of_study(study: "Study") -> Dict[str, Table]:
 
 def frames_of_study(study: "Study") -> Dict[str, "DataFrame"]:
     """The tables as data frames of pandas."""
-    tables = {"lists": lists_table(study), "units": units_table(study), "hours": hours_table(study)}
+    tables = {"lists": lists_table(study, with_keys=True), "units": units_table(study), "hours": hours_table(study)}
     clock = study.clock
     return frames_of(tables, clock.start, clock.hours or 1)
