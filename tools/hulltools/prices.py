@@ -7,7 +7,7 @@ from typing import TYPE_CHECKING, Any, Optional, SupportsFloat
 from .errors import HullError, Name, write_whole
 from .json_texts import is_number, read_json
 from .numbers import PRICE_LIMIT, MillionthsPerKilowatt, decimal_text, in_currency_per_mw, price
-from .options import float_of, items_of, told_value, whole_option
+from .options import float_of, is_list, items_of, told_value, whole_option
 
 if TYPE_CHECKING:
     from pandas import DataFrame
@@ -17,10 +17,16 @@ if TYPE_CHECKING:
 MOST_SHOWN = 4  # prices
 
 
-def told_prices(numbers: Sequence[int]) -> str:
-    """Prices for people, per MW and period; of a long list the first ones."""
-    shown = ", ".join(f"{number / 1000:.10g}" for number in numbers[:MOST_SHOWN])
-    return f"[{shown}{', ..' if len(numbers) > MOST_SHOWN else ''}]"
+def told_price(number: object) -> str:
+    """A price for people, per MW and period."""
+    found = float_of(number)
+    return told_value(number) if found is None else f"{found / 1000:.10g}"
+
+
+def told_prices(numbers: Any) -> str:
+    """The prices of a list for people; of a long one the first ones."""
+    shown = list(map(told_price, numbers)) if is_list(numbers) else [told_price(numbers)]
+    return f"[{', '.join(shown[:MOST_SHOWN])}{', ..' if len(shown) > MOST_SHOWN else ''}]"
 
 
 @dataclass(repr=False)
@@ -32,12 +38,13 @@ class Prices:
 
     def __repr__(self) -> str:
         told = f"energy={told_prices(self.energy)}, reserve={told_prices(self.reserve)}"
-        return f"<Prices: periods={len(self.energy)}, per MW and period: {told}>"
+        return f"<Prices per MW and period: {told}>"
 
     def need_form(self) -> None:
         """Refuses what isn't a whole price within the limits for each period."""
-        if len(self.energy) != len(self.reserve):
-            raise HullError(f"there are {len(self.energy)} energy prices, and {len(self.reserve)} reserve prices")
+        lengths = [len(items_of(f"the {key} prices", getattr(self, key))) for key in ("energy", "reserve")]
+        if lengths[0] != lengths[1]:
+            raise HullError(f"there are {lengths[0]} energy prices, and {lengths[1]} reserve prices")
         for key, numbers, least in (("energy", self.energy, -PRICE_LIMIT), ("reserve", self.reserve, 0)):
             for t, number in enumerate(numbers, 1):
                 try:
@@ -82,7 +89,7 @@ class FlatPrices:
     reserve: MillionthsPerKilowatt
 
     def __repr__(self) -> str:
-        return f"<FlatPrices: per MW and period: energy={self.energy / 1000:.10g}, reserve={self.reserve / 1000:.10g}>"
+        return f"<FlatPrices per MW and period: energy={told_price(self.energy)}, reserve={told_price(self.reserve)}>"
 
     def over(self, periods: int) -> Prices:
         """The same prices in each of so many periods."""

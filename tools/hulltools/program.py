@@ -97,7 +97,8 @@ class Hull:
             raise OverTime(f"the outer limit of {self.seconds:g} s is over: {what}") from None
         except (OSError, ValueError) as error:
             told = f"{self.program}: {getattr(error, 'strerror', None) or error}"
-            raise HullError(told, sentence=f"{told}: `hull` is the place of the program") from None
+            hint = ", and `name` names a settlement" if words[:1] == ("settle",) else ""
+            raise HullError(told, sentence=f"{told}: `hull` is the place of the program{hint}") from None
         return process.returncode, output
 
     def text(self, *words: str) -> bytes:

@@ -1,5 +1,6 @@
 """What of the package needs pandas: the data frames of texts; test_frames.py runs these in a Python that has it."""
 import importlib.util
+import math
 import os
 import re
 import tempfile
@@ -72,6 +73,46 @@ class Frames(unittest.TestCase):
                 with self.assertWarnsRegex(DeprecationWarning, 'money="millionths"') as warned:
                     self.assertIn(head, found()["runs"])
                 self.assertEqual(warned.filename, __file__)
+
+
+class Columns(unittest.TestCase):
+    """What isn't there is missing, and a column of numbers is one all the same."""
+
+    def test_missing_numbers_are_numbers(self):
+        frames = settled(98).frames()
+        for frame, names in (
+            ("runs", ["budget", "proposals", "radius_currency_per_mw", "bound_currency"]),
+            ("prices", ["proposal", "demand_mw", "requirement_mw"]),
+            ("responses", ["scheduled_on", "scheduled_power_mw"]),
+        ):
+            for name in names:
+                self.assertEqual((str(frames[frame][name].dtype), frames[frame][name].isna().all()), ("float64", True))
+        self.assertTrue(frames["runs"]["side"].isna().all())
+        both = hulltools.frames([settled(98), f"{EXAMPLES}/two_units/bound.output"], money="millionths")["runs"]
+        self.assertEqual(str(both["payments_millionths"].dtype), "Int64")
+        self.assertEqual(both["payments_millionths"].dropna().tolist(), [164000000])
+        due = [None if math.isnan(it) else it for it in both["payments_millionths"].astype("float64")]
+        self.assertEqual(due, [164000000, None])
+
+    def test_shorter_periods_have_prices_per_mwh_beside(self):
+        prices = settled(98).frames(hours_per_period=0.5)["prices"]
+        self.assertEqual(prices["energy_currency_per_mw"].tolist(), [98.0])
+        self.assertEqual(prices["energy_currency_per_mwh"].tolist(), [196.0])
+        self.assertNotIn("energy_currency_per_mwh", settled(98).frames()["prices"])
+
+    def test_times_that_are_none(self):
+        for start in ("tomorrow", "", 5, "5", float("nan")):
+            with self.assertRaisesRegex(hulltools.HullError, "^start is .*: a time is due, as 2026-07-01T00:00$"):
+                settled(98).frames(start=start)
+        for hours in (0, -1, "x"):
+            with self.assertRaisesRegex(hulltools.HullError, "^hours_per_period is .*: a number above 0"):
+                settled(98).frames(hours_per_period=hours)
+
+    def test_prices_have_a_frame(self):
+        frame = hulltools.per_mwh([30, 40.5], 2).frame("2026-07-01T00:00", 0.5)
+        self.assertEqual(frame["energy_currency_per_mw"].mean(), 35.25)
+        self.assertEqual(frame["reserve_currency_per_mwh"].tolist(), [4.0, 4.0])
+        self.assertEqual([str(time) for time in frame.index], ["2026-07-01 00:00:00", "2026-07-01 00:30:00"])
 
 
 class Page(unittest.TestCase):

@@ -1,8 +1,10 @@
 """What of the package needs SciPy; test_package.py runs these in a Python that has it. Cases are those of examples/."""
 import base64
+import contextlib
 import csv
 import hashlib
 import html
+import io
 import json
 import os
 import random
@@ -392,6 +394,29 @@ class Calls(unittest.TestCase):
         made = hulltools.make_schedule(case, hull=PROGRAM)
         self.assertEqual((hulltools.check(case, made.schedule, PROGRAM), made.is_near), (3_200_000_000, True))
 
+    def test_steps_without_a_limit_of_time(self):
+        given = self.case, self.schedule
+        made = hulltools.make_schedule(self.case, hull=PROGRAM, seconds=None)
+        self.assertEqual(made.schedule, hulltools.make_schedule(self.case, hull=PROGRAM).schedule)
+        self.assertEqual(hulltools.lmp(*given, hull=PROGRAM, seconds=None).energy, [50_000])
+        self.assertEqual(hulltools.integer_relaxation(self.case, seconds=None).energy, [30_000])
+
+    def test_options_out_of_range_are_told(self):
+        given = self.case, self.schedule
+        for call, due in (
+            (lambda: hulltools.make_schedule(self.case, gap=-1), "gap is -1: a number of at least 0 is due"),
+            (lambda: hulltools.make_schedule(self.case, nodes=0), "nodes is 0: a whole number from 1 to"),
+            (lambda: hulltools.lmp(*given, seconds="x"), "seconds is x: a number of at least 0 and at most"),
+            (lambda: hulltools.elmp(*given, most_up=1.5), "most_up is 1.5: a whole number from 0 to 1,000,000 is due"),
+            (lambda: hulltools.elmp(*given, fast_start="GT"), r"fast_start is GT: .* as \['GT'\]"),
+            (lambda: hulltools.study(*given, titel="x"), "`study` has no option `titel`: is `title` meant"),
+            (lambda: hulltools.study(*given, rounds="x"), "an option of `study` is refused: argument --rounds: .*'x'"),
+        ):
+            said = io.StringIO()
+            with contextlib.redirect_stderr(said), self.assertRaisesRegex(hulltools.HullError, f"^{due}"):
+                call()
+            self.assertEqual(said.getvalue(), "")
+
     def test_a_settlement_with_a_name_and_times(self):
         settled = hulltools.settle(self.case, self.schedule, {"energy": [50]}, PROGRAM, name="LMP")
         self.assertEqual((settled.name, settled.payments), ("LMP", 1_200_000_000))
@@ -415,10 +440,14 @@ class Calls(unittest.TestCase):
         frames = found.frames()
         lists = frames["lists"].set_index("list")
         self.assertEqual(list(lists["gap_schedule_eur"]), [400.0] * 5)
+        self.assertEqual(dict(lists["key"])["Convex hull (certified)"], "convex_hull")
+        self.assertEqual(found.parts("Convex hull (certified)"), found.parts("convex_hull"))
+        with self.assertRaisesRegex(hulltools.HullError, "^the study has no list convex hull: is `convex_hull` meant"):
+            found.parts("convex hull")
         self.assertEqual(lists.loc["LMP", "consumers_pay_full_eur"], 7450)
         self.assertEqual(str(frames["hours"].index[0]), "2026-07-01 00:00:00")
         self.assertIn("Posted", set(frames["units"]["list"]))
-        with self.assertRaisesRegex(hulltools.HullError, "no such options"), mock.patch("sys.stderr"):
+        with self.assertRaisesRegex(hulltools.HullError, "`study` has no option `colour`"):
             hulltools.study(self.case, self.schedule, hull=PROGRAM, colour="red")
 
     def test_refusals_carry_their_parts(self):
