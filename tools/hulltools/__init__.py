@@ -11,14 +11,9 @@ with one line. docs/PYTHON.md is the way in.
 """
 from __future__ import annotations
 
-from typing import TYPE_CHECKING as _TYPE_CHECKING
-from typing import Any as _Any
-from typing import List as _List
-from typing import Mapping as _Mapping
-from typing import Optional as _Optional
-from typing import Union as _Union
+from typing import TYPE_CHECKING, Any, List, Mapping, Optional, Union
 
-from . import faults as _faults
+from . import faults
 from .cases import Bid, Case, Factor, Renewable, Thermal, read_case
 from .errors import HullError, Name, Tell
 from .faults import Files
@@ -26,9 +21,8 @@ from .inputs import GivenCase, GivenMixture, GivenPrices, GivenSchedule, GivenZo
 from .mixtures import Entry, Mixture, read_mixture
 from .named_texts import GivenTexts, Money
 from .numbers import Kilowatts, Millionths, MillionthsPerKilowatt, in_currency, in_currency_per_mw, in_megawatts
-from .options import whole_option as _whole_option
-from .outputs import RADIUS as _RADIUS
-from .outputs import Bound, Certificate, Convex, Fixed, Owed, Report, Row, Settlement, frames
+from .options import whole_option
+from .outputs import RADIUS, Bound, Certificate, Convex, Fixed, Owed, Report, Row, Settlement, Side, Text, frames
 from .prices import FlatPrices, Prices, prices_near, read_prices
 from .program import Hull
 from .read_texts import read_output
@@ -36,7 +30,7 @@ from .schedules import Plan, Schedule, read_schedule
 from .tables import Start, Table
 from .zones import Zonal, Zones
 
-if _TYPE_CHECKING:
+if TYPE_CHECKING:
     from .calls import convex_prices, elmp, integer_relaxation, lmp, make_schedule, settle_zones, study
     from .gap_parts import GapParts
     from .scheduling import Made
@@ -45,7 +39,7 @@ if _TYPE_CHECKING:
 __version__ = "1.0"
 Wrong = HullError  # the name in version 1.0
 # What is loaded when it is first used, and the module that has it.
-_LATER = {
+LATER = {
     **dict.fromkeys(
         ("convex_prices", "elmp", "integer_relaxation", "lmp", "make_schedule", "settle_zones", "study"), "calls"
     ),
@@ -57,7 +51,7 @@ __all__ = [
     "Bid", "Bound", "Case", "Certificate", "Convex", "Entry", "Factor", "Files", "Fixed", "FlatPrices", "GapParts",
     "GivenCase", "GivenMixture", "GivenPrices", "GivenSchedule", "GivenTexts", "GivenZones", "Hull", "HullError",
     "Kilowatts", "Made", "Millionths", "MillionthsPerKilowatt", "Mixture", "Money", "Name", "Owed", "PerMwh", "Plan",
-    "Prices", "Renewable", "Report", "Row", "Schedule", "Settlement", "Start", "Study", "Table", "Tell", "Thermal",
+    "Prices", "Renewable", "Report", "Row", "Schedule", "Settlement", "Side", "Start", "Study", "Table", "Tell", "Text", "Thermal",
     "Wrong", "Zonal", "Zones", "certify", "check", "convex_prices", "elmp", "frames", "in_currency",
     "in_currency_per_mw", "in_megawatts", "integer_relaxation", "lmp", "make_schedule", "per_mwh", "price",
     "prices_near", "read_case", "read_mixture", "read_output", "read_prices", "read_schedule", "sentence", "settle",
@@ -65,30 +59,30 @@ __all__ = [
 ]  # fmt: skip
 
 
-def __getattr__(name: str) -> _Any:
+def __getattr__(name: str) -> Any:
     """The calls that need SciPy, which is loaded with the first of them, and what they give."""
-    if name not in _LATER:
+    if name not in LATER:
         raise AttributeError(f"module {__name__!r} has no attribute {name!r}")
     from importlib import import_module
 
-    return getattr(import_module(f"{__name__}.{_LATER[name]}"), name)
+    return getattr(import_module(f"{__name__}.{LATER[name]}"), name)
 
 
-def __dir__() -> _List[str]:
+def __dir__() -> List[str]:
     """The public names, for an editor or a notebook that completes them, also where SciPy isn't loaded yet."""
     return sorted([*__all__, "__version__"])
 
 
-def sentence(line: str, files: _Union[Files, _Mapping[str, Name]]) -> str:
+def sentence(line: str, files: Union[Files, Mapping[str, Name]]) -> str:
     """A fault line of docs/FAULTS.md in words, with the unit's name, what stands in the file and what is due.
 
     The files are `Files`, or a dict of names by `case`, `schedule`, `prices`, `mixture` and `report`. Raises
     `HullError` where it is no such line, or where a file that it is told of isn't among them or can't be read.
     """
-    return _faults.sentence(line, files if isinstance(files, Files) else Files(files))
+    return faults.sentence(line, files if isinstance(files, Files) else Files(files))
 
 
-def check(case: GivenCase, schedule: GivenSchedule, hull: _Optional[Name] = None) -> Millionths:
+def check(case: GivenCase, schedule: GivenSchedule, hull: Optional[Name] = None) -> Millionths:
     """The cost of a schedule in millionths, as `hull check` finds it.
 
     `hull` is the program's place, here and below. Raises `HullError` with the fault line where the schedule isn't feasible.
@@ -99,18 +93,18 @@ def check(case: GivenCase, schedule: GivenSchedule, hull: _Optional[Name] = None
 def price(
     case: GivenCase,
     schedule: GivenSchedule,
-    proposals: _Optional[int] = None,
-    ahead: _Optional[int] = None,
-    hull: _Optional[Name] = None,
+    proposals: Optional[int] = None,
+    ahead: Optional[int] = None,
+    hull: Optional[Name] = None,
 ) -> Report:
     """The report of `hull price`: up to so many proposals, from 1 to 10,000, of which so many are worked out ahead, from 1 to 16.
 
     What is left out is as the program has it. Raises `HullError` where it refuses a file or the work.
     """
-    words: _List[str] = []
+    words: List[str] = []
     for name, number, most in (("proposals", proposals, 10_000), ("ahead", ahead, 16)):
         if number is not None:
-            words += [f"--{name}", str(_whole_option(name, number, 1, most))]
+            words += [f"--{name}", str(whole_option(name, number, 1, most))]
     return Hull(hull).price(case, schedule, *words)
 
 
@@ -118,8 +112,8 @@ def settle(
     case: GivenCase,
     schedule: GivenSchedule,
     prices: GivenPrices,
-    hull: _Optional[Name] = None,
-    name: _Optional[str] = None,
+    hull: Optional[Name] = None,
+    name: Optional[str] = None,
 ) -> Settlement:
     """The settlement of `hull settle`: what each unit and bid is owed at the prices, in millionths.
 
@@ -134,13 +128,13 @@ def certify(
     schedule: GivenSchedule,
     prices: GivenPrices,
     mixture: GivenMixture,
-    radius: _Optional[int] = None,
-    hull: _Optional[Name] = None,
+    radius: Optional[int] = None,
+    hull: Optional[Name] = None,
 ) -> Certificate:
     """The certificate of `hull certify`: how far the prices are from the best, in millionths, as the mixture bounds it.
 
     The bound is of all prices that there may be. With a radius, in millionths per kilowatt from 0 to 20,000,000, it is of the prices that are
     no farther from these. Raises `HullError` where the program refuses a file.
     """
-    more = () if radius is None else ("--radius", str(_whole_option("radius", radius, *_RADIUS)))
+    more = () if radius is None else ("--radius", str(whole_option("radius", radius, *RADIUS)))
     return Hull(hull).certify(case, schedule, prices, mixture, *more)

@@ -40,6 +40,9 @@ class Table:
     `money_name` stands in the heads for the currency.
     """
 
+    heads: list[str]
+    rows: list[list[Cell]]
+
     def __init__(self, heads: Sequence[str], currency: bool, money_name: str = "currency") -> None:
         self.units = [it.partition(":")[2] for it in heads]
         named = (it.partition(":") for it in heads)
@@ -47,7 +50,7 @@ class Table:
         told = {unit: end.replace("currency", money_name) for unit, end in ends.items()}
         self.heads = [f"{name}_{told[unit]}" if unit else name for name, _, unit in named]
         self.currency = currency
-        self.rows: list[list[Cell]] = []
+        self.rows = []
 
     def add(self, *cells: Cell) -> None:
         self.rows.append([self.cell(it, unit) for it, unit in zip(cells, self.units)])

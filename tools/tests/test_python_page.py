@@ -1,6 +1,5 @@
 """The tables of docs/PYTHON.md are what the code has: calls, defaults, parameters, types, members and columns."""
 import ast
-import dataclasses
 import inspect
 import re
 import sys
@@ -75,7 +74,7 @@ def given_by(name):
     if isinstance(call, type):
         return [call.__name__]
     found = types_of(definition(call).returns)
-    return [part.__name__ for part in typing.get_args(outputs.Output)] if found == ["Output"] else found
+    return [part.__name__ for part in typing.get_args(outputs.Output)] if found[:1] == ["Output"] else found
 
 
 def parameters_of(name):
@@ -159,12 +158,13 @@ class Members(unittest.TestCase):
             names = [re.match(r"\w+", code)[0] for code in CODE.findall(told)]
             for name in CODE.findall(types):
                 kind = getattr(hulltools, name)
-                known = {*dir(kind), *(field.name for field in dataclasses.fields(kind))}
+                told_types = (getattr(base, "__annotations__", {}) for base in kind.__mro__)
+                known = {*dir(kind), *(member for types_told in told_types for member in types_told)}
                 self.assertEqual([member for member in names if member not in known], [], name)
 
 
 class Columns(unittest.TestCase):
-    HEAD = " | A row for each | Without an end | `_currency` | `_currency_per_mw` | `_mw` |"
+    HEAD = " | A row for each | No end | `_currency` | `_currency_per_mw` | `_mw` |"
 
     def check_frames(self, kind, tables):
         rows = rows_below(f"| {kind}{self.HEAD}")
@@ -189,7 +189,7 @@ class Columns(unittest.TestCase):
         versions = dict.fromkeys(("hull", "python", "scipy", "highs"), "")
         origin = Provenance("case", "", Source("schedule", "", ""), None, versions, "", "")
         study = studies.Study(case, hulltools.Schedule({}), studies.Wanted(), origin, 0)
-        tables = {"lists": lists_table(study), "units": units_table(study), "hours": hours_table(study)}
+        tables = {"lists": lists_table(study, with_keys=True), "units": units_table(study), "hours": hours_table(study)}
         zonal = zones.Zonal(zones.Zones({}, {}), {}, [])
         self.check_frames("Frame of a study", {**tables, "Zonal.frame()": zonal_table(zonal)})
 
