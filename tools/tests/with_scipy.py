@@ -15,7 +15,7 @@ import unittest
 from unittest import mock
 from decimal import Decimal
 
-from tool import EXAMPLES, PROGRAM, run
+from tool import EXAMPLES, PROGRAM, ROOT, run
 
 import hulltools
 from hulltools.numbers import money
@@ -449,6 +449,24 @@ class Calls(unittest.TestCase):
         self.assertIn("Posted", set(frames["units"]["list"]))
         with self.assertRaisesRegex(hulltools.HullError, "`study` has no option `colour`"):
             hulltools.study(self.case, self.schedule, hull=PROGRAM, colour="red")
+
+    def test_the_study_of_the_page_runs(self):
+        """The second program of docs/PYTHON.md, behind its session."""
+        with open(f"{ROOT}/docs/PYTHON.md", encoding="utf-8") as page:
+            program = re.findall(r"```python\n(.*?)```", page.read(), re.S)[1]
+        known = {"hulltools": hulltools, "case": self.case.scaled(demand=1.02)}
+        here = os.getcwd()
+        with tempfile.TemporaryDirectory() as room, mock.patch.dict(os.environ, HULL=PROGRAM):
+            os.chdir(room)
+            try:
+                exec(program, known)
+                self.assertIn("study.html", os.listdir("study"))
+            finally:
+                os.chdir(here)
+        self.assertEqual(known["posted"].name, "Posted")
+        self.assertEqual(
+            sum(known["found"].parts("convex_hull").__dict__.values()), known["found"].parts("convex_hull").gap
+        )
 
     def test_refusals_carry_their_parts(self):
         self.schedule["thermal"]["PEAKER"]["power"] = [41_000]
