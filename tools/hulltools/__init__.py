@@ -17,7 +17,7 @@ from . import faults
 from .cases import Bid, Case, Factor, Renewable, Thermal, read_case
 from .errors import HullError, Name, Tell
 from .faults import Files
-from .inputs import GivenCase, GivenMixture, GivenPrices, GivenSchedule, GivenZones, PerMwh, per_mwh
+from .inputs import GivenCase, GivenMixture, GivenPrices, GivenSchedule, GivenZones, PerMwh, is_name, per_mwh
 from .mixtures import Entry, Mixture, read_mixture
 from .named_texts import GivenTexts, Money
 from .numbers import Kilowatts, Millionths, MillionthsPerKilowatt, in_currency, in_currency_per_mw, in_megawatts
@@ -79,7 +79,10 @@ def sentence(line: str, files: Union[Files, Mapping[str, Name]]) -> str:
     The files are `Files`, or a dict of names by `case`, `schedule`, `prices`, `mixture` and `report`. Raises
     `HullError` where it is no such line, or where a file that it is told of isn't among them or can't be read.
     """
-    return faults.sentence(line, files if isinstance(files, Files) else Files(files))
+    given = Files(files) if isinstance(files, Mapping) else files
+    if not isinstance(given, Files) or not all(is_name(name) for name in given.names.values()):
+        raise HullError("files is a dict of files' names, by `case`, `schedule`, `prices`, `mixture` and `report`")
+    return faults.sentence(line, given)
 
 
 def check(case: GivenCase, schedule: GivenSchedule, hull: Optional[Name] = None) -> Millionths:

@@ -5,6 +5,7 @@ from typing import Optional, Union
 
 from .cases import Case
 from .errors import HullError, one_line
+from .options import counted
 from .outputs import Convex, Fixed, Report, Settlement
 from .schedules import Schedule
 
@@ -29,7 +30,7 @@ def told(kind: str, name: str) -> str:
 def why_not_case(text: WithUnits, case: Case) -> Optional[str]:
     """In what a case is another one than that of the text, or None."""
     if case.periods != periods_of(text):
-        return f"it has {case.periods} periods, and the text has {periods_of(text)}"
+        return f"it has {counted(case.periods, 'period')}, and the text has {periods_of(text)}"
     units, known = units_of(text), [(kind, unit.name) for kind, unit in case.units]
     for one, others, where in ((known, units, "the text"), (units, known, "the case")):
         there = set(others)
@@ -51,7 +52,8 @@ def why_not_schedule(text: WithUnits, schedule: Schedule) -> Optional[str]:
         if unit not in schedule.plans:
             return f"{told(*unit)} isn't in it"
         if len(schedule.plans[unit].power) != periods_of(text):
-            return f"it has {len(schedule.plans[unit].power)} periods, and the text has {periods_of(text)}"
+            length = len(schedule.plans[unit].power)
+            return f"it has {counted(length, 'period')}, and the text has {periods_of(text)}"
     return None
 
 

@@ -9,7 +9,7 @@ from .cases import Bid, Case, Factor, Renewable, Thermal
 from .errors import HullError, one_line
 from .json_texts import json_text
 from .numbers import Kilowatts, Millionths, decimal_text
-from .options import hint_of, is_flag, told_value
+from .options import hint_of, is_flag, is_list, told_value
 
 
 def megawatts(number: int) -> Decimal:
@@ -78,7 +78,8 @@ def need_units(case: Case, names: Sequence[str]) -> None:
     units = [unit.name for _, unit in case.units]
     for name in names:
         if not isinstance(name, str):
-            raise HullError(f"{told_value(name)} is no name of a unit: give names one by one, as without(*names)")
+            hint = ": give names one by one, as without(*names)" if is_list(name) else ""
+            raise HullError(f"{told_value(name)} is no name of a unit{hint}")
         if name not in units:
             raise HullError(f'the case has no unit "{one_line(name)}": {hint_of(name, units)}')
 

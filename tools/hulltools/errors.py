@@ -241,6 +241,8 @@ def rows_told_with(name: str) -> Iterator[None]:
 
 def read_bytes(name: Name, what: str, most: int = 67_108_864, begins: bytes = b"") -> bytes:
     """The bytes of a file, or of standard input where the name is `-`; of one that doesn't begin as is due perhaps only the first ones."""
+    if not isinstance(name, (str, os.PathLike)):
+        raise HullError(f"a file's name is due, of {what}, and no `{type(name).__name__}`")
     try:
         if name == "-":
             if sys.stdin is None:

@@ -13,7 +13,7 @@ from .json_texts import Refused, json_text, parse
 from .lint_keys import KEYS
 from .mixtures import Mixture
 from .numbers import PRICE_LIMIT, MillionthsPerKilowatt
-from .options import float_of, hint_of, is_list, items_of, number_option, told_value
+from .options import counted, float_of, hint_of, is_list, items_of, number_option, told_value
 from .outputs import read_priced
 from .prices import FlatPrices, Prices, prices_of, read_prices
 from .schedules import Schedule, read_schedule, schedule_of
@@ -162,10 +162,6 @@ def need_periods(what: str, given: object, case: object) -> None:
             )
 
 
-def counted(number: int, what: str) -> str:
-    return f"{number} {what}{'s' * (number != 1)}"
-
-
 def is_text_of_hull(name: Name) -> bool:
     """Whether a file holds what the program printed. A pipe isn't looked into, since it is read once."""
     try:
@@ -286,8 +282,7 @@ def per_mwh(
     reserves = prices_of_numbers("reserve", 0 if reserve is None else reserve, 0, hours)
     periods = [len(prices) for prices, given in ((energies, energy), (reserves, reserve)) if is_list(given)]
     if len(set(periods)) > 1:
-        told = f"{periods[1]} reserve prices, and {periods[0]} energy prices"
-        raise HullError(f"there are not as many reserve prices as energy prices: {told}")
+        raise HullError(f"there are not as many reserve prices as energy prices: {periods[1]} and {periods[0]}")
     if not periods:
         return FlatPrices(energies[0], reserves[0])
     most = max(periods)

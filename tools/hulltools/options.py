@@ -15,8 +15,12 @@ MOST_SECONDS = 2_000_000  # (the system waits no longer than some weeks)
 
 
 def told_value(value: object) -> str:
-    text = one_line(value)
+    text = one_line(" ".join(str(value).split()))
     return text if len(text) <= MOST_TOLD else f"{text[:MOST_TOLD]}.."
+
+
+def counted(number: int, what: str) -> str:
+    return f"{number} {what}{'s' * (number != 1)}"
 
 
 def is_flag(value: object) -> bool:

@@ -44,7 +44,7 @@ class Prices:
         """Refuses what isn't a whole price within the limits for each period."""
         lengths = [len(items_of(f"the {key} prices", getattr(self, key))) for key in ("energy", "reserve")]
         if lengths[0] != lengths[1]:
-            raise HullError(f"there are {lengths[0]} energy prices, and {lengths[1]} reserve prices")
+            raise HullError(f"there are not as many reserve prices as energy prices: {lengths[1]} and {lengths[0]}")
         for key, numbers, least in (("energy", self.energy, -PRICE_LIMIT), ("reserve", self.reserve, 0)):
             for t, number in enumerate(numbers, 1):
                 try:

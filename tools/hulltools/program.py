@@ -62,6 +62,8 @@ class Hull:
     """
 
     def __init__(self, program: Optional[Name] = None, tell: Optional[Tell] = None, seconds: Optional[float] = None):
+        if program is not None and not is_name(program):
+            raise HullError(f"`hull` is the place of the program, and no `{type(program).__name__}` can be that")
         self.program = os.fspath(program or default_program())
         self.commands: dict[str, bool] = {}
         self.tell: Tell = tell or (lambda text: None)

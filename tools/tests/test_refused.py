@@ -71,9 +71,12 @@ class Prices(Refusals):
                 ),
                 (
                     lambda: hulltools.per_mwh([98, 99], [1]),
-                    "there are not as many reserve prices as energy prices: 1 reserve prices, and 2 energy prices",
+                    "there are not as many reserve prices as energy prices: 1 and 2",
                 ),
-                (lambda: hulltools.prices_near([1, 2], [0]), "there are 2 energy prices, and 1 reserve prices"),
+                (
+                    lambda: hulltools.prices_near([1, 2], [0]),
+                    "there are not as many reserve prices as energy prices: 1 and 2",
+                ),
                 (
                     lambda: hulltools.prices_near([float("nan")], [0]),
                     "the energy price of period 1 is nan: a number is due",
@@ -323,6 +326,20 @@ class Readers(Refusals):
             (
                 (lambda: schedule.plan("thermal", "G7"), 'the schedule has no thermal unit "G7": known: `G1`'),
                 (lambda: schedule.plan("therm", "G1"), "the schedule has no kind therm: is `thermal` meant?"),
+            )
+        )
+
+    def test_what_is_no_name(self):
+        place = "`hull` is the place of the program, and no `int` can be that"
+        files = "files is a dict of files' names, by `case`, `schedule`, `prices`, `mixture` and `report`"
+        self.check_rows(
+            (
+                (lambda: hulltools.read_case(None), "a file's name is due, of a case, and no `NoneType`"),
+                (lambda: hulltools.read_prices(5), "a file's name is due, of prices, and no `int`"),
+                (lambda: hulltools.read_output(5), "a file's name is due, of a text of hull, and no `int`"),
+                (lambda: hulltools.Hull(5), place),
+                (lambda: hulltools.sentence(FAULT, {"case": 5}), files),
+                (lambda: hulltools.sentence(FAULT, 5), files),
             )
         )
 
