@@ -44,8 +44,8 @@ DUE: Dict[object, str] = {
     "startup": "a list of objects with `lag`, the periods off, and `cost`; [] where a start costs nothing",
     "piecewise_production": "a list of points with `mw` and `cost`, what a whole period at that power costs, from the least power to the greatest",
     "blocks": "for each period a list of blocks with `mw` and `price`, the dearest first",
-    "energy": "a list of prices per MWh, one for each period",
-    "reserve": "a list of prices per MW and hour, one for each period; without it they are 0",
+    "energy": "a list of prices per MW and period, one for each period",
+    "reserve": "a list of prices per MW and period, one for each period; without it they are 0",
 }
 LISTS_OF_NUMBERS = ("demand", "reserves", "power_output_minimum", "power_output_maximum", "energy", "reserve")
 REMEDIES = {
