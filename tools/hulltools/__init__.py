@@ -6,8 +6,8 @@
     settled.frames()["units"]       # a data frame of pandas, in the currency and MW
 
 Calls take names of files, objects of this package, or dicts as the files have them. A `Convex`, a `Settlement` or a
-`Report` is taken for its prices. What a file or a text has wrong, or the program refuses, is raised as `HullError`
-with one line. docs/PYTHON.md is the way in.
+`Report` is taken for its prices. What a file or a text has wrong, or the program refuses, is raised as `HullError`,
+which says it in a sentence. docs/PYTHON.md is the way in.
 """
 from __future__ import annotations
 
