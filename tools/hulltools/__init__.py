@@ -23,7 +23,7 @@ from .named_texts import GivenTexts, Money
 from .numbers import Kilowatts, Millionths, MillionthsPerKilowatt, in_currency, in_currency_per_mw, in_megawatts
 from .options import whole_option
 from .outputs import RADIUS, Bound, Certificate, Convex, Fixed, Owed, Report, Row, Settlement, Side, Text, frames
-from .prices import FlatPrices, Prices, prices_near, read_prices
+from .prices import FlatPrices, Prices, PriceSource, prices_near, read_prices
 from .program import Hull
 from .read_texts import read_output
 from .schedules import Plan, Schedule, read_schedule
@@ -51,7 +51,7 @@ __all__ = [
     "Bid", "Bound", "Case", "Certificate", "Convex", "Entry", "Factor", "Files", "Fixed", "FlatPrices", "GapParts",
     "GivenCase", "GivenMixture", "GivenPrices", "GivenSchedule", "GivenTexts", "GivenZones", "Hull", "HullError",
     "Kilowatts", "Made", "Millionths", "MillionthsPerKilowatt", "Mixture", "Money", "Name", "Owed", "PerMwh", "Plan",
-    "Prices", "Renewable", "Report", "Row", "Schedule", "Settlement", "Side", "Start", "Study", "Table", "Tell", "Text", "Thermal",
+    "PriceSource", "Prices", "Renewable", "Report", "Row", "Schedule", "Settlement", "Side", "Start", "Study", "Table", "Tell", "Text", "Thermal",
     "Wrong", "Zonal", "Zones", "certify", "check", "convex_prices", "elmp", "frames", "in_currency",
     "in_currency_per_mw", "in_megawatts", "integer_relaxation", "lmp", "make_schedule", "per_mwh", "price",
     "prices_near", "read_case", "read_mixture", "read_output", "read_prices", "read_schedule", "sentence", "settle",

@@ -15,7 +15,7 @@ from .mixtures import Mixture
 from .numbers import PRICE_LIMIT, MillionthsPerKilowatt
 from .options import counted, float_of, hint_of, is_list, items_of, number_option, told_value
 from .outputs import read_priced
-from .prices import FlatPrices, Prices, prices_of, read_prices
+from .prices import FlatPrices, Prices, PriceSource, prices_of, read_prices
 from .schedules import Schedule, read_schedule, schedule_of
 from .zones import Zones, read_zones, zones_of
 
@@ -49,7 +49,7 @@ class HasMixture(Protocol):
 
 GivenCase = Union[Case, dict[str, Any], Name]
 GivenSchedule = Union[Schedule, HasSchedule, dict[str, Any], Name]
-GivenPrices = Union[Prices, FlatPrices, HasPrices, dict[str, Any], Name]
+GivenPrices = Union[Prices, FlatPrices, PriceSource, HasPrices, dict[str, Any], Name]
 GivenMixture = Union[Mixture, HasMixture, dict[str, Any], Name]
 GivenZones = Union[Zones, dict[str, Any], Name]
 Given = Union[GivenCase, GivenSchedule, GivenPrices, GivenMixture, GivenZones]

@@ -10,10 +10,11 @@ from collections.abc import Sequence
 from dataclasses import dataclass, field
 from typing import TYPE_CHECKING, Any, Callable, ClassVar, Optional, SupportsFloat, Union, cast
 
-from .errors import HullError, Name, one_line, read_bytes, shown_name
+from .errors import HullError, Name, one_line, read_bytes, shown_name, write_whole
 from .mixtures import MOST_WEIGHT, Entry, Mixture
 from .numbers import Kilowatts, Millionths, MillionthsPerKilowatt
-from .prices import Prices
+from .options import member
+from .prices import Prices, PriceSource
 from .schedules import Plan
 
 if TYPE_CHECKING:
@@ -76,6 +77,13 @@ class Text:
 
     command: ClassVar[str]
     name: str
+    printed = b""  # (as the program printed it; empty where the object wasn't read from that)
+
+    def write(self, name: Name, inputs: Sequence[str] = ()) -> None:
+        """Writes the text as the program printed it, for `read_output` or `hull audit`."""
+        if not self.printed:
+            raise HullError(f"{self.name} wasn't read from a text of hull, so there is none to write")
+        write_whole(name, self.printed, inputs)
 
     def tables(
         self,
@@ -140,7 +148,7 @@ def frames(
 
 
 @dataclass(repr=False)
-class Priced(Text):
+class Priced(Text, PriceSource):
     """What reports and settlements have in common: one list of prices, and what each unit is owed at it."""
 
     name: str
@@ -168,6 +176,14 @@ class Priced(Text):
     @property
     def make_whole(self) -> Millionths:
         return Millionths(sum(unit.make_whole for unit in self.units))
+
+    @property
+    def lost_opportunity(self) -> Millionths:
+        return Millionths(sum(unit.lost_opportunity for unit in self.units))
+
+    def unit(self, kind: str, name: str) -> Owed:
+        """What a unit or bid is owed. Raises `HullError` where there is none."""
+        return member({(unit.kind, unit.name): unit for unit in self.units}, kind, name, self.name)
 
 
 @dataclass(repr=False)
@@ -231,6 +247,11 @@ class Bound(Text):
     bound: Millionths
     distance: Millionths
 
+    @property
+    def proposal_count(self) -> int:
+        """How many proposals the report has, which `proposals` is here."""
+        return self.proposals
+
 
 @dataclass
 class Side:
@@ -277,6 +298,11 @@ class Certificate(Text):
     bound: Millionths
     distance: Millionths
     least: Millionths
+
+    @property
+    def unit_count(self) -> int:
+        """How many units and bids the case has, which `units` is here."""
+        return self.units
 
 
 def numbers_of(text: str) -> Optional[list[int]]:
@@ -519,7 +545,9 @@ def parse_output(name: Name, data: bytes, due: Sequence[str] = tuple(FORMS)) -> 
         is_a = FORMS[first][0] if first in FORMS else f"a text of `hull {other[1]}`"
         raise HullError(f"{shown_name(name)}: this is {is_a}, where {' or '.join(FORMS[it][0] for it in due)} is due")
     what, read = FORMS[first if first in due else due[0]]
-    return read(Lines(name, data, what))
+    found = read(Lines(name, data, what))
+    found.printed = data
+    return found
 
 
 def read_priced(name: Name) -> AnyPriced:

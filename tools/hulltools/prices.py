@@ -17,6 +17,10 @@ if TYPE_CHECKING:
 MOST_SHOWN = 4  # prices
 
 
+class PriceSource:
+    """What has prices: lists of them, and the texts of `hull price`, `settle` and `convex`."""
+
+
 def told_price(number: object) -> str:
     """A price for people, per MW and period."""
     found = float_of(number)
@@ -30,7 +34,7 @@ def told_prices(numbers: Any) -> str:
 
 
 @dataclass(repr=False)
-class Prices:
+class Prices(PriceSource):
     """Energy and reserve prices of each period, in millionths per kilowatt and period."""
 
     energy: list[MillionthsPerKilowatt]
@@ -82,7 +86,7 @@ class Prices:
 
 
 @dataclass(repr=False)
-class FlatPrices:
+class FlatPrices(PriceSource):
     """One energy price and one reserve price that hold in each period, in millionths per kilowatt and period."""
 
     energy: MillionthsPerKilowatt

@@ -378,6 +378,27 @@ class Readers(Refusals):
         self.refused("1.5 is no whole number, as an amount in millionths is", hulltools.in_currency, 1.5)
 
 
+class Texts(Refusals):
+    def test_a_settlement_is_written_as_it_was_printed(self):
+        settled = hulltools.settle(*USUAL, hulltools.per_mwh(98), hull=PROGRAM)
+        with tempfile.TemporaryDirectory(prefix="hull-refused-") as room:
+            settled.write(f"{room}/settled")
+            found = hulltools.read_output(f"{room}/settled", hulltools.Settlement)
+        self.assertEqual((found.units, found.printed), (settled.units, settled.printed))
+        made = hulltools.Certificate("x", *[0] * 11)
+        self.refused("x wasn't read from a text of hull, so there is none to write", made.write, "nowhere")
+
+    def test_units_by_name_and_counts(self):
+        settled = hulltools.settle(*USUAL, hulltools.per_mwh(98), hull=PROGRAM)
+        self.assertEqual((settled.make_whole, settled.lost_opportunity), (66_000_000, 98_000_000))
+        self.assertEqual(settled.unit("thermal", "G1").payment, 66_000_000)
+        self.refused('hull settle has no thermal unit "G7": known: `G1`', lambda: settled.unit("thermal", "G7"))
+        told = hulltools.certify(*USUAL, settled, MIXTURE, hull=PROGRAM)
+        self.assertEqual((told.units, told.unit_count), (2, 2))
+        bound = hulltools.read_output(f"{EXAMPLES}/two_units/bound.output", hulltools.Bound)
+        self.assertEqual(bound.proposal_count, bound.proposals)
+
+
 class Names(unittest.TestCase):
     def test_the_names_of_the_package(self):
         for name in (
