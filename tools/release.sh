@@ -50,16 +50,16 @@ END
 }
 
 main() {
-    local version=${1-} folder=${2-.} commit name room part
+    local version=${1-} folder=${2-.} commit name part
     look
     name=hull-$version-linux-x86_64
+    # (of the whole script, since it is removed when this call is over)
     room=$(mktemp -d) || fail "no folder can be made"
-    # shellcheck disable=SC2064 # the folder's name is known now
-    trap "rm -rf '$room'" EXIT
-    mkdir "$room/$name"
+    trap 'rm -rf -- "$room"' EXIT
+    mkdir -- "$room/$name"
     gather "$room/$name"
     { tar -C "$room" --format=gnu --sort=name --mtime="@$(git -C "$home" log -1 --format=%ct)" --owner=0 --group=0 --numeric-owner \
-        --mode=u=rwX,go=rX -cf "$room/tar" "$name" && gzip -n -9 "$room/tar"; } || fail "the archive can't be written"
+        --mode=u=rwX,go=rX --force-local -cf "$room/tar" "$name" && gzip -n -9 "$room/tar"; } || fail "the archive can't be written"
     # (a name that nobody could lay a link at before)
     part=$(mktemp -- "$folder/$name.XXXXXX" 2>/dev/null) || fail "$folder can't be written"
     { cp -- "$room/tar.gz" "$part" && chmod "$(umask -S)" "$part" && chmod a-x "$part" && mv -fT -- "$part" "$folder/$name.tar.gz"; } 2>/dev/null ||

@@ -90,6 +90,20 @@ class Making(unittest.TestCase):
         self.assertEqual(os.stat(f"{ROOM}/{NAME}.tar.gz").st_mode & 0o777, 0o600)
         self.assertEqual(read(precious), "precious")
 
+    def test_the_name_of_the_folder_of_temporary_files_is_no_command(self):
+        for name in ("a'; touch run; echo '", 'b"; touch run; $(touch run)', "it's", "a b\n*"):
+            room = f"{ROOM}/{name}"
+            os.mkdir(room)
+            done = subprocess.run(
+                [f"{ONE}/tools/release.sh", VERSION, room],
+                cwd=room,
+                env={**ENV, "TMPDIR": room},
+                capture_output=True,
+                timeout=300,
+            )
+            self.assertEqual((done.returncode, done.stderr), (0, b""), name)
+            self.assertEqual(os.listdir(room), [f"{NAME}.tar.gz"])
+
     def test_the_program_is_no_text_to_git(self):
         asked = ["check-attr", "binary", "dist/linux-x86_64/hull", "dist/linux-x86_64/hull.txt"]
         due = "".join(f"{name}: binary: {it}\n" for name, it in zip(asked[2:], ("set", "unspecified")))
