@@ -31,7 +31,8 @@ UNITS = {  # how a number is told: the places that the point moves, and the ends
 }
 # Where a spreadsheet may find a formula, an empty cell or the mark that tells these apart: at the beginning of a name, and behind what parts
 # cells in one country or another.
-FORMULA = re.compile(r"(?:\A|(?<=[;\t\r\n]))(?=[\t\r\n]|\s*[=+\-@\uff1d\uff0b\uff0d\uff20'])")
+PLACE, BEGUN = r"(?:\A|(?<=[;\t\r\n]))", r"(?=[\t\r\n]|\s*[=+\-@\uff1d\uff0b\uff0d\uff20'])"
+FORMULA, MARK = re.compile(PLACE + BEGUN), re.compile(f"{PLACE}'{BEGUN}")
 
 
 class Table:
@@ -71,6 +72,11 @@ class Table:
 def told_apart(cell: Cell) -> Cell:
     """The cell, with ' in front of what a spreadsheet would take for a formula, or of ' itself: at the beginning of a text or within."""
     return FORMULA.sub("'", cell) if isinstance(cell, str) else cell
+
+
+def as_it_was(cell: str) -> str:
+    """The text that `told_apart` made this one of."""
+    return MARK.sub("", cell)
 
 
 def told_apart_count(tables: dict[str, Table]) -> int:

@@ -153,6 +153,48 @@ class Csv(WithRoom):
         self.assertIn("would be replaced", self.convert(folder, folder, status=1)[1])
         self.assertEqual(self.read(f"{folder}/units.csv"), before)
 
+    def test_a_link_in_the_folder_is_replaced_and_what_it_leads_to_stays(self) -> None:
+        precious, folder = self.write("precious", "mine\n"), f"{self.room}/linked"
+        os.makedirs(folder)
+        for name in ("units.csv", "offers.csv", "hours.csv"):
+            os.symlink("../precious", f"{folder}/{name}")
+        os.symlink("linked", f"{self.room}/link")
+        self.convert(f"{EXAMPLES}/usual/case.json", f"{self.room}/link")
+        self.assertEqual(self.read(precious), "mine\n")
+        self.assertEqual([it for it in os.listdir(folder) if os.path.islink(f"{folder}/{it}")], [])
+        self.assertIn("G1,8.0,800.0", self.read(f"{folder}/offers.csv"))
+        os.symlink("nowhere", f"{folder}/bids.csv")
+        told = self.convert(f"{EXAMPLES}/usual/case.json", folder, status=1)[1]
+        self.assertIn("linked/bids.csv: it is there, and this case has no such file", told)
+
+    def test_the_case_and_what_is_left_out_need_a_file_each(self) -> None:
+        case = f"{EXAMPLES}/usual/case.json"
+        os.symlink(self.room, f"{self.room}/here")
+        for to, left in (("one.json", "here/one.json"), ("folder", "folder/../folder/units.csv")):
+            told = self.convert(case, f"{self.room}/{to}", "--left-out", f"{self.room}/{left}", status=1)[1]
+            self.assertIn(f"{left}: this is to be two of the files that are written", told)
+        self.assertEqual(os.listdir(self.room), ["here"])
+
+    def test_a_name_that_a_spreadsheet_evaluates_comes_back(self) -> None:
+        draw = random.Random(1)
+        names = ["=1+1", "'=1+1", "''x", "'x", "@a", "-5", "x;=1", "a\rb", "\ta", '"=1', "\n=1", " \n=1", "\uff1d1"]
+        names += ["".join(draw.choices("=+-@';\t\r\n \",a", k=6)) for _ in range(500)]
+        case = market.case()
+        unit = case["thermal_generators"].pop("GT6")
+        case["thermal_generators"].update({name: unit for name in names if not name.isspace()})
+        case["thermal_generators"]["=HYPERLINK(1)"] = unit
+        self.write("case.json", market.text(case))
+        self.assertIn(
+            " names that a spreadsheet would take", self.convert(f"{self.room}/case.json", f"{self.room}/1")[1]
+        )
+        for source, to in (("1", "1.json"), ("1.json", "2"), ("2", "2.json")):
+            self.convert(f"{self.room}/{source}", f"{self.room}/{to}")
+        self.assertIn("\n'=HYPERLINK(1),", self.read(f"{self.room}/1/units.csv"))
+        for file in os.listdir(f"{self.room}/1"):
+            self.assertEqual(self.read(f"{self.room}/1/{file}"), self.read(f"{self.room}/2/{file}"))
+        self.assertEqual(self.read(f"{self.room}/1.json"), self.read(f"{self.room}/2.json"))
+        self.assertEqual(read_case(f"{self.room}/1.json"), read_case(f"{self.room}/case.json"))
+
     def test_a_cell_without_an_end_is_refused(self) -> None:
         folder = self.folder()
         self.write("csv/offers.csv", self.read(f"{folder}/offers.csv") + '"' + "GT5,20,1\n" * 20_000)

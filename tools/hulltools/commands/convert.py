@@ -19,7 +19,8 @@ from typing import Callable, List, Optional, Sequence
 
 from ..converters import FORMS, Notes, form_of, read_form
 from ..converters.case_texts import case_text
-from ..converters.csv_folder import COLUMNS, write_csv
+from ..converters.csv_folder import marked_count, names_of_files, write_csv
+from ..converters.notes import Object
 from ..errors import HullError, need_output, refuse_inputs, refuse_twice, run_tool, write_whole
 from ..lint import Review, look
 from ..lint_findings import Level
@@ -57,6 +58,7 @@ def body(words: Sequence[str], tell: Callable[[str], None]) -> int:
     ask.add_argument("--left-out")
     given = ask.parse_args(words)
     need_output()
+    refuse_twice([*([given.to] if given.to.endswith(".json") else names_of_files(given.to)), given.left_out])
     notes = Notes()
     case = read_form(given.from_name, notes, given.form or form_of(given.from_name))
     text, inputs = case_text(case), inputs_of(given.from_name)
@@ -64,8 +66,6 @@ def body(words: Sequence[str], tell: Callable[[str], None]) -> int:
     refuse_faults(review, given.from_name)
     for name in (given.to, given.left_out):
         refuse_inputs(name, inputs) if name else None
-    written = [given.to] if given.to.endswith(".json") else [os.path.join(given.to, name) for name in COLUMNS]
-    refuse_twice([*written, given.left_out])
     if given.left_out:
         write_whole(given.left_out, json.dumps(notes.as_json(), ensure_ascii=False, indent=1) + "\n", inputs)
     if given.to.endswith(".json"):
@@ -74,12 +74,18 @@ def body(words: Sequence[str], tell: Callable[[str], None]) -> int:
         write_csv(given.to, case, inputs)
     sys.stdout.buffer.write("".join(f"{it}\n" for it in notes.lines()).encode("utf-8", "replace"))
     sys.stdout.buffer.flush()
-    count = len(review.of(Level.WARNING))
-    if count and given.to.endswith(".json"):
-        tell(
-            f"{count} {'thing is' if count == 1 else 'things are'} odd in this case: tools/lint.py {given.to} says what"
-        )
+    tell_oddities(given.to, case, review, tell)
     return 0
+
+
+def tell_oddities(to: str, case: Object, review: Review, tell: Callable[[str], None]) -> None:
+    """Tells that the case is odd, or that its CSV files have other names than the case."""
+    is_file = to.endswith(".json")
+    count = len(review.of(Level.WARNING)) if is_file else marked_count(case)
+    if count and is_file:
+        tell(f"{count} {'thing is' if count == 1 else 'things are'} odd in this case: tools/lint.py {to} says what")
+    elif count:
+        tell(f"{count} name{'s' * (count > 1)} that a spreadsheet would take for something else got ' in front of it")
 
 
 def main(words: Optional[Sequence[str]] = None) -> int:

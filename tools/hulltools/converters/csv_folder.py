@@ -9,6 +9,7 @@ from typing import Dict, Iterable, Iterator, List, Optional, Tuple
 
 from ..errors import HullError, one_line, read_bytes, rows_told_with, write_together
 from ..named_files import Written
+from ..tables import FORMULA, as_it_was, told_apart
 from .case_texts import LIMITS, number_text
 from .notes import Notes, Object
 
@@ -83,7 +84,7 @@ def row_of(name: str, line: int, columns: List[str], cells: List[str], semicolon
         )
     for column, cell in zip(columns, [*cells, *[""] * (len(columns) - len(cells))]):
         is_name = column in ("unit", "bid")
-        row[column] = cell if is_name else cell.strip().replace(",", ".") if semicolons else cell.strip()
+        row[column] = as_it_was(cell) if is_name else cell.strip().replace(",", ".") if semicolons else cell.strip()
     return row
 
 
@@ -193,26 +194,41 @@ def rows_to_write(case: Object) -> Iterator[Tuple[str, List[str]]]:
             yield from (("bids.csv", [name, str(t), number_text(it["mw"]), number_text(it["price"])]) for it in blocks)
 
 
+def cell_text(cell: str) -> str:
+    """A cell of a file; a carriage return is quoted too, which not every Python's writer does."""
+    return '"' + cell.replace('"', '""') + '"' if re.search('[",\r\n]', cell) else cell
+
+
 def csv_texts(case: Object) -> Dict[str, str]:
     """The files of a case by name; those that needn't be there only where they have rows."""
     tables: Dict[str, List[List[str]]] = {file: [] for file in COLUMNS if file in NEEDED or file == "renewables.csv"}
     if "demand_bids" in case:
         tables["bids.csv"] = []
-    for file, row in rows_to_write(case):
-        tables.setdefault(file, []).append(row)
-    texts = {}
-    for file, rows in tables.items():
-        into = io.StringIO()
-        csv.writer(into, lineterminator="\n").writerows([COLUMNS[file], *rows])
-        texts[file] = into.getvalue()
-    return texts
+    for file, (name, *numbers) in rows_to_write(case):
+        tables.setdefault(file, []).append([str(told_apart(name)), *numbers])
+    lines = {file: [",".join(map(cell_text, row)) for row in (COLUMNS[file], *tables[file])] for file in tables}
+    return {file: "\n".join([*rows, ""]) for file, rows in lines.items()}
+
+
+def marked_count(case: Object) -> int:
+    """How many names of the case get ' in front of them, so that a spreadsheet finds no formula there."""
+    groups = ("thermal_generators", "renewable_generators", "demand_bids")
+    return sum(FORMULA.search(name) is not None for group in groups for name in case.get(group, {}))
+
+
+def names_of_files(folder: str) -> List[str]:
+    """All files that a case may have in the folder, whose own links are followed; those within it aren't."""
+    return [os.path.join(os.path.realpath(folder), file) for file in COLUMNS]
 
 
 def write_csv(folder: str, case: Object, inputs: List[str]) -> None:
+    """Writes the files. What is in the folder may be somebody else's: a link there is replaced, and not followed."""
     texts = csv_texts(case)
     for file in COLUMNS:
-        name = os.path.join(folder, file)
-        if file not in texts and os.path.exists(name):
-            raise HullError(f"{name}: it is there, and this case has no such file: use another folder")
+        if file not in texts and os.path.lexists(os.path.join(folder, file)):
+            raise HullError(
+                f"{os.path.join(folder, file)}: it is there, and this case has no such file: use another folder"
+            )
     os.makedirs(folder, exist_ok=True)
-    write_together({os.path.join(folder, file): text for file, text in texts.items()}, inputs)
+    files = {name: texts[os.path.basename(name)] for name in names_of_files(folder) if os.path.basename(name) in texts}
+    write_together({**files}, inputs, follow_links=False)
