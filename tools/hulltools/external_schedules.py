@@ -5,13 +5,13 @@ import csv
 import io
 import os
 from dataclasses import dataclass, field
-from decimal import Decimal
 from typing import Any, Dict, List, Tuple
 
 from .cases import Case
 
 from .converters import unpacked
 from .converters.pypsa import solution
+from .converters.series import cell_number
 from .json_texts import Refused, is_number, parse
 from .errors import HullError, one_line, rows_told_with
 
@@ -123,10 +123,7 @@ def followed_csv(data: bytes, name: str, periods: int) -> Followed:
 
 def network_numbers(row: list[str], folder: str, unit: str) -> list[float]:
     """The numbers of a column of a network's table; what is empty is 0."""
-    try:
-        return [number(Decimal(it or 0), folder, unit) for it in row]
-    except ArithmeticError:
-        raise HullError(f"{folder}: {one_line(unit)}: a number of at most {MOST_MEGAWATTS:,} is due") from None
+    return [number(cell_number(it, f"{folder}: {unit}") if it else 0, folder, unit) for it in row]
 
 
 def followed_network(folder: str, periods: int) -> Followed:

@@ -26,7 +26,8 @@ def counted(text: str) -> str:
     digits, _, exponent = text.lower().lstrip("-").partition("e")
     if len(digits.replace(".", "").lstrip("0")) > MOST_DIGITS:
         raise Refused(f"a number has more than {MOST_DIGITS} digits")
-    if len(exponent.lstrip("+-").lstrip("0")) > 3 or abs(int(exponent or 0)) > MOST_EXPONENT:
+    size = exponent.lstrip("+-").lstrip("0")
+    if len(size) > 3 or int(size or 0) > MOST_EXPONENT:
         raise Refused(f"a number has an exponent above {MOST_EXPONENT}")
     return text
 

@@ -91,6 +91,9 @@ def egret_thermal(unit: Json) -> Json:
     }
 
 
+SQUARE = {"data_type": "cost_curve", "cost_curve_type": "polynomial", "values": {"0": 100, "1": 30, "2": 0.01}}
+
+
 def egret() -> Json:
     """ModelData of EGRET, as its reader of pglib-uc makes it, with a branch and a storage beside the market."""
     case = market.case()

@@ -225,8 +225,7 @@ def changed_model() -> Dict[str, Any]:
     units = value["elements"]["generator"]
     units["COAL1"]["fixed_commitment"] = 1
     units["COAL2"]["fixed_commitment"] = other_forms.over_time([1] * 12 + [None] * 12)
-    square = {"data_type": "cost_curve", "cost_curve_type": "polynomial", "values": {"0": 100, "1": 30, "2": 0.01}}
-    units["CCGT3"]["p_cost"] = square
+    units["CCGT3"]["p_cost"] = {**other_forms.SQUARE}
     fuel = {"data_type": "fuel_curve", "values": [[100, 800], [250, 1900]]}
     units["CCGT4"].update(p_cost=None, p_fuel=fuel, fuel_cost=4)
     units["GT5"].update(startup_cost=500, shutdown_cost=20)
@@ -446,6 +445,48 @@ class Others(WithRoom):
             ),
         ):
             self.assertIn(due, self.network(file, (old, new), status=1)[1])
+
+    def test_cells_of_pypsa_that_are_no_number_to_work_with(self) -> None:
+        head = "name,bus,p_nom,marginal_cost,committable,min_up_time,ramp_limit_up\n"
+        os.mkdir(f"{self.room}/net")
+        self.write("net/snapshots.csv", "snapshot,objective\n0,1\n1,1\n")
+        self.write("net/loads.csv", "name,bus,p_set\nl,b,5\n")
+        for cell, due in (
+            ("1e99999999", "a number has an exponent above 400"),
+            (f"1e{'0' * 5000}401", "a number has an exponent above 400"),
+            ("9" * 31, "a number has more than 30 digits"),
+            ("infinity", "a number is due, and 'infinity' is found"),
+            ("sNaN", "a number is due, and 'sNaN' is found"),
+            ("1_0", "a number is due, and '1_0' is found"),
+        ):
+            for place, key in ((2, "p_nom"), (3, "marginal_cost"), (5, "min_up_time"), (6, "ramp_limit_up")):
+                row = ["g1", "b", "10", "5", "True", "1", "inf"]
+                row[place] = cell
+                self.write("net/generators.csv", f"{head}{','.join(row)}\n")
+                if (cell, key) != ("infinity", "ramp_limit_up"):  # (that has no limit)
+                    told = self.convert(f"{self.room}/net", f"{self.room}/case.json", status=1)[1]
+                    self.assertEqual(told, f'convert.py: generator "g1", {key}: {due}\n')
+
+    def test_a_polynomial_from_no_power_on(self) -> None:
+        model = changed_model()
+        unit = model["elements"]["generator"]["GT6"]
+        unit.update(in_service=True, p_min=0, p_cost={**other_forms.SQUARE, "values": {"0": 1, "1": 20}})
+        model["system"]["time_period_length_minutes"] = 60
+        other_forms.write_json(f"{self.room}/model.json", model)
+        self.convert(f"{self.room}/model.json", f"{self.room}/case.json")
+        curve = json.loads(self.read(f"{self.room}/case.json"))["thermal_generators"]["GT6"]["piecewise_production"]
+        self.assertEqual(curve[0], {"mw": 0, "cost": 1})
+
+    def test_times_that_are_too_long(self) -> None:
+        for form, group, key, due in (
+            (other_forms.unit_commitment_jl, "Parameters", "Time horizon (h)", "the time horizon: it isn't a whole"),
+            (other_forms.unit_commitment_jl, "Parameters", "Time step (min)", "the time horizon: it isn't a whole"),
+            (other_forms.egret, "system", "time_period_length_minutes", "would refuse this case"),
+        ):
+            value = form()
+            value[group][key] = "long"
+            self.write("long.json", json.dumps(value).replace('"long"', "1e400"))
+            self.assertIn(due, self.convert(f"{self.room}/long.json", f"{self.room}/case.json", status=1)[1])
 
     def test_random_changes_end_in_a_case_or_in_one_line(self) -> None:
         draw = random.Random(3)

@@ -48,7 +48,7 @@ class Row(Dict[str, str]):
     def period(self, periods: int) -> int:
         """The period, from 1; a whole number that a spreadsheet has as 3.0 is taken too."""
         text = re.sub(r"\.0*$", "", self["period"])
-        if not text.isdecimal() or not 1 <= int(text) <= periods:
+        if not text.isdecimal() or len(text) > 9 or not 1 <= int(text) <= periods:
             raise self.wrong(f"period is {self['period']!r}, and 1 to {periods} is due: hours.csv has {periods} rows")
         return int(text)
 

@@ -13,6 +13,7 @@ from .series import (
     decimal,
     first,
     in_periods,
+    length_in_words,
     limit,
     lists_out_negative,
     pairs,
@@ -23,7 +24,7 @@ from .series import (
     sum_of,
 )
 
-PIECES = 10  # how many lines a polynomial is cut into
+PIECES, POWERS = 10, tuple("0123456789")  # how many lines a polynomial is cut into, and the powers that it may have
 RESERVES = ("spinning_reserve_requirement", "reserve_requirement")
 SAID = ("time_keys", "time_period_length_minutes", "name", "baseMVA", "reference_bus", "reference_bus_angle", "model_name", "load_mismatch_cost", "reserve_shortfall_cost")  # fmt: skip
 OF_GENERATORS = ("bus", "generator_type", "fuel", "in_service", "name", "area", "zone", "unit_type", "owner")
@@ -55,7 +56,7 @@ class Model:
         self.periods, self.per_hour = len(keys), 60 / length
         if self.per_hour != 1:
             notes.changed(
-                f"periods of {float(60 / self.per_hour):g} minutes: ramps and costs, which the file has per hour, are scaled to a period"
+                f"periods of {length_in_words(60 / self.per_hour)}: ramps and costs, which the file has per hour, are scaled to a period"
             )
 
     def case(self) -> Object:
@@ -217,14 +218,16 @@ class Model:
     def polynomial(
         self, factors: Object, name: str, least: Decimal, most: Decimal
     ) -> Tuple[List[Decimal], List[Decimal]]:
-        if not isinstance(factors, dict) or not all(it.isdecimal() and int(it) <= 9 for it in factors):
+        if not isinstance(factors, dict) or not all(it in POWERS for it in factors):
             raise HullError(f"{name}, p_cost: a polynomial has an object of factors by their powers, 0 to 9")
         terms = [(int(power), decimal(factor, f"{name}, p_cost")) for power, factor in factors.items()]
         pieces = PIECES if any(power > 1 and factor for power, factor in terms) and most > least else 1
         if pieces > 1:
             self.notes.changed(f"polynomial costs are cut into {PIECES} straight pieces", name)
         powers = [least + (most - least) * i / pieces for i in range(pieces + 1)]
-        return powers, [sum((factor * at**power for power, factor in terms), Decimal(0)) for at in powers]
+        # (Decimal has no 0 to the power of 0)
+        rows = ([factor * at**power if power else factor for power, factor in terms] for at in powers)
+        return powers, [sum(row, Decimal(0)) for row in rows]
 
     def commitment(self, unit: Taken, found: Object, name: str) -> None:
         fixed = values(unit.take("fixed_commitment"))

@@ -4,15 +4,16 @@ from __future__ import annotations
 import csv
 import io
 import os
-from decimal import Decimal, InvalidOperation
+from decimal import Decimal
 from fractions import Fraction
 from typing import Dict, List, Optional, Tuple
 
 from ..errors import HullError, one_line, read_bytes, rows_told_with
 from .notes import Notes, Object
-from .series import lists_out_negative, points_of, scaled
+from .series import cell_number, lists_out_negative, points_of, scaled
 
 PIECES = 10  # how many lines a quadratic cost is cut into
+INFINITE = ("inf", "+inf", "infinity", "+infinity")  # (of a ramp: there is no limit)
 Table = Dict[str, Dict[str, str]]
 NETWORK = "the network: all units and loads stand at one place"
 # Columns of generators.csv that are read, and those that say nothing of operation.
@@ -75,13 +76,9 @@ def table(folder: str, file: str) -> Table:
 
 
 def number(text: str, what: str) -> Optional[Decimal]:
-    """A cell's number; None where it is empty, nan or infinite."""
-    if text.strip().lower() in ("", "nan", "inf", "-inf", "none"):
-        return None
-    try:
-        return Decimal(text.strip())
-    except InvalidOperation:
-        raise HullError(f"{one_line(what)}: a number is due, and {text!r} is found") from None
+    """A cell's number; None where it is empty or nan, as PyPSA has what isn't known."""
+    shown = text.strip()
+    return None if shown.lower() in ("", "nan", "none") else cell_number(shown, what)
 
 
 def is_true(text: str) -> bool:
@@ -198,7 +195,8 @@ class Network:
         least, most = size * least_pu, size * most_pu
 
         def ramp(key: str) -> Decimal:
-            share = self.value(name, key)
+            is_free = row.get(key, "").strip().lower() in INFINITE
+            share = None if is_free else self.value(name, key)
             return most if share is None else min(most, size * share)
 
         committable = is_true(row.get("committable", ""))

@@ -1,15 +1,40 @@
 """Numbers of other programs' files: decimals, lists over time, times in periods, and the parts that all converters share."""
 from __future__ import annotations
 
+import re
 from decimal import ROUND_CEILING, Decimal
 from fractions import Fraction
 from typing import Any, Callable, List, Optional, Sequence, Tuple
 
 from ..errors import HullError, one_line
-from ..json_texts import is_number
+from ..json_texts import Refused, counted, is_number
 from .notes import Notes, Object
 
 NO_LIMIT = Decimal(10) ** 6  # what other programs write where there is no limit, or more
+MOST_PERIODS = 100_000  # (hull takes far fewer, and says so)
+CELL = re.compile(r"[+-]?([0-9]+\.?[0-9]*|\.[0-9]+)([eE][+-]?[0-9]+)?")
+
+
+def cell_number(text: str, what: str) -> Decimal:
+    """The number of a cell, which is finite, and has no more digits and no larger exponent than a number of a JSON text."""
+    if not CELL.fullmatch(text):
+        raise HullError(one_line(f"{what}: a number is due, and {text[:60]!r} is found"))
+    try:
+        return Decimal(counted(text.lstrip("+")))
+    except Refused as why:
+        raise HullError(one_line(f"{what}: {why}")) from None
+
+
+def length_in_words(minutes: Fraction) -> str:
+    """A length of time in minutes, for people."""
+    return f"{Decimal(minutes.numerator) / minutes.denominator:.6g} minutes"
+
+
+def periods_of(number: Fraction, what: str) -> int:
+    """How many periods there are."""
+    if number.denominator != 1 or not 1 <= number <= MOST_PERIODS:
+        raise HullError(f"{what}: it isn't a whole number of time steps from 1 to {MOST_PERIODS:,}")
+    return int(number)
 
 
 def decimal(value: Any, what: str) -> Decimal:

@@ -13,8 +13,10 @@ from .series import (
     decimal,
     first,
     in_periods,
+    length_in_words,
     limit,
     lists_out_negative,
+    periods_of,
     points_of,
     series,
     state_before,
@@ -49,13 +51,14 @@ class Instance:
             if whole is None
             else Fraction(decimal(whole, "Time horizon (min)"))
         )
-        if minutes <= 0 or (length / minutes).denominator != 1:
-            raise HullError("Parameters: the time horizon isn't a whole number of time steps")
+        if minutes <= 0:
+            raise HullError("Parameters: a time step is to be above 0")
+        periods = periods_of(length / minutes, "Parameters: the time horizon")
         if minutes != 60:
             self.notes.assumed(
-                f"time steps of {float(minutes):g} minutes: ramps and costs are taken per time step, as they stand"
+                f"time steps of {length_in_words(minutes)}: ramps and costs are taken per time step, as they stand"
             )
-        return int(length / minutes), 60 / minutes
+        return periods, 60 / minutes
 
     def case(self) -> Object:
         """The case of the instance."""
