@@ -56,6 +56,8 @@ def highs_version() -> str:
 def date_of_run() -> str:
     """The time in UTC, or that of SOURCE_DATE_EPOCH where a build sets it."""
     given = os.environ.get("SOURCE_DATE_EPOCH")
+    if given and not re.fullmatch("[0-9]{1,11}", given):
+        raise HullError("SOURCE_DATE_EPOCH is to have a number of seconds since 1970")
     at = datetime.fromtimestamp(int(given), timezone.utc) if given else datetime.now(timezone.utc)
     return at.strftime("%Y-%m-%dT%H:%M:%SZ")
 

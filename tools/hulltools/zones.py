@@ -53,7 +53,7 @@ def zones_of(name: Name, value: Any, case: Case) -> Zones:
             raise HullError(f'{name}: the case has no unit "{one_line(unit)}"')
         if not isinstance(zone, str) or zone not in prices:
             raise HullError(f'{name}: the zone of unit "{one_line(unit)}" has no prices')
-    if default is not None and default not in prices:
+    if default is not None and (not isinstance(default, str) or default not in prices):
         raise HullError(f"{name}: the default zone has no prices")
     without = next((unit for unit in known if unit not in units), None)
     if without is not None and default is None:

@@ -5,7 +5,7 @@ usage: lint.py CASE [SCHEDULE] [--prices F] [--mixture F] [--highest-cost C] [--
   CASE             a case as `hull` reads it (docs/FORMATS.md)
   SCHEDULE         a schedule of it, and with --prices and --mixture such files too
   --highest-cost C a marginal cost above this is odd, in the currency per MWh; 1000 if left out
-  --hours H        how long a period is; 1 if left out
+  --hours H        how long a period is, as 0.25 or 1/12, from 1/3600 to 8784; 1 if left out
   --all            each finding in words; of one rule five are told if left out
   --json           the findings as JSON: level, rule, file, line, kind, unit, periods, text and, of an error, the fault line of hull
 
@@ -14,11 +14,12 @@ there are warnings, 2 that there are errors. It needs neither the program nor Sc
 """
 import json
 import sys
+from fractions import Fraction
 from typing import Callable, Optional, Sequence
 
 from ..errors import need_output, run_tool
 from ..lint import Limits, look
-from .words import asker, positive
+from .words import asker, hours, positive
 
 
 def body(words: Sequence[str], tell: Callable[[str], None]) -> int:
@@ -28,13 +29,13 @@ def body(words: Sequence[str], tell: Callable[[str], None]) -> int:
     for option in ("prices", "mixture"):
         ask.add_argument(f"--{option}")
     ask.add_argument("--highest-cost", type=positive, default=1000.0)
-    ask.add_argument("--hours", type=positive, default=1.0)
+    ask.add_argument("--hours", type=hours, default=Fraction(1))
     for option in ("all", "json"):
         ask.add_argument(f"--{option}", action="store_true")
     given = ask.parse_args(words)
     need_output()
     names = {it: getattr(given, it) for it in ("case", "schedule", "prices", "mixture") if getattr(given, it)}
-    review = look(names, Limits(given.highest_cost, given.hours))
+    review = look(names, Limits(given.highest_cost, float(given.hours)))
     if given.json:
         text = json.dumps(review.as_json(), ensure_ascii=False, indent=1)
     else:

@@ -25,12 +25,12 @@ usage: study.py CASE FOLDER [--schedule S] [--best-schedule S2 | --no-schedule] 
 
   --rule RULE         payments under this rule alone: make-whole, or full, which adds lost opportunity; both if left out
   --title, --currency  what the page is called, and what money is in
-  --start TIME        when period 1 begins, as 2026-07-01T00:00
-  --hours-per-period H  how long a period is, as 0.25; prices are then told per MWh
+  --start TIME        when period 1 begins, as 2026-07-01T00:00, up to the year 9000
+  --hours-per-period H  how long a period is, as 0.25 or 1/12, from 1/3600 to 8784; prices are then told per MWh
 
   --gap, --nodes      when a search for a schedule ends, as for make_schedule.py
   --within, --rounds  when the search of `hull convex` ends: at a distance of 1.00, or after 150 rounds, if left out
-  --seconds S         an outer limit of each step. After so many seconds, 1800 if left out, a solver is ended, and so is a call of the program,
+  --seconds S         an outer limit of each step, at most 2000000. After so many seconds, 1800 if left out, a solver is ended, and so is a call of the program,
                       whose work ends by rounds and case if left out. A list that takes longer is left out, and the page says so
   --hull PROGRAM      the program that checks, settles and certifies; the launcher of this repository if left out
 
@@ -50,8 +50,6 @@ import contextlib
 import os
 from collections.abc import Callable, Sequence
 from dataclasses import dataclass
-from datetime import datetime
-from fractions import Fraction
 from types import SimpleNamespace
 from typing import TYPE_CHECKING, Optional
 
@@ -78,9 +76,11 @@ from .words import (
     asker,
     distance,
     fast_start,
+    hours,
     rounds,
     search_limits,
     solver_seconds,
+    time,
 )
 
 if TYPE_CHECKING:
@@ -92,13 +92,6 @@ def named_file(text: str) -> tuple[str, str]:
     if not name or not mark or not file:
         raise ValueError(text)
     return name, file
-
-
-def length_of_period(text: str) -> Fraction:
-    hours = Fraction(text)
-    if hours <= 0:
-        raise ValueError(text)
-    return hours
 
 
 def arguments(words: Sequence[str]) -> argparse.Namespace:
@@ -115,8 +108,8 @@ def arguments(words: Sequence[str]) -> argparse.Namespace:
     ask.add_argument("--rule", choices=tuple(RULES))
     for word in ("--title", "--currency"):
         ask.add_argument(word, default="")
-    ask.add_argument("--start", type=datetime.fromisoformat)
-    ask.add_argument("--hours-per-period", type=length_of_period)
+    ask.add_argument("--start", type=time)
+    ask.add_argument("--hours-per-period", type=hours)
     add_search_limits(ask)
     ask.add_argument("--within", type=distance)
     ask.add_argument("--rounds", type=rounds)
@@ -218,7 +211,7 @@ def study_of(
     from ..studies import Maker, Study, files_of
 
     # (a pipe is read once)
-    before = {name: sha256_of(name) for name in inputs_of(given) if os.path.isfile(name)}
+    date, before = date_of_run(), {name: sha256_of(name) for name in inputs_of(given) if os.path.isfile(name)}
     case = read_case(given.case)
     want = wanted(given, case)
     look(files_of(want, not given.schedule, bool(given.schedule and not given.best_schedule and not given.no_schedule)))
@@ -226,7 +219,7 @@ def study_of(
     files = (given.case, found.schedule.name)
     sources = (given.case, sha256_of(given.case), found.schedule, found.best)
     with step("versions"):
-        origin = Provenance(*sources, versions(hull), command_line("study.py", list(words)), date_of_run())
+        origin = Provenance(*sources, versions(hull), command_line("study.py", list(words)), date)
     study = Study(case, read_schedule(files[1], case), want, origin, found.cost, found.best_cost)
     if found.missing:
         study.is_short = True

@@ -3,20 +3,33 @@ from __future__ import annotations
 
 import argparse
 import math
+import re
+from datetime import datetime
+from fractions import Fraction
 from types import SimpleNamespace
-from typing import Optional, Union
+from typing import Optional, TypeVar, Union
 
 from ..fast_start import FastStart
 from ..numbers import millionths
 from ..outputs import ROUNDS, WITHIN
-from ..search_limits import SECONDS, SearchLimits
+from ..search_limits import MOST_NODES, MOST_SECONDS, SECONDS, SearchLimits
 
 MISSED_GAP = 3  # the status where a schedule is written that misses the gap
+HOURS = re.compile(r"[0-9./]{1,40}")
+LAST_YEAR = 9000  # (with it no period of a case begins behind the last year that there is)
+Range = TypeVar("Range", int, float)
 
 
 def asker(tool: str, doc: Optional[str]) -> argparse.ArgumentParser:
     """A reader of words whose usage is that of the tool's description."""
     return argparse.ArgumentParser(prog=tool, usage=(doc or "usage: ").split("usage: ")[1].rstrip().replace("%", "%%"))
+
+
+def within(number: Range, least: Range, most: Range) -> Range:
+    """The number, or a refusal of it that says what is due."""
+    if not least <= number <= most:
+        raise argparse.ArgumentTypeError(f"{least:,} to {most:,} is due")
+    return number
 
 
 def positive(text: str) -> float:
@@ -29,9 +42,22 @@ def positive(text: str) -> float:
 
 def count(text: str) -> int:
     """A whole number of the command line that is at least 1."""
-    number = int(text)
-    if number < 1:
-        raise ValueError(text)
+    return within(int(text), 1, MOST_NODES)
+
+
+def seconds(text: str) -> float:
+    """A limit of time in seconds."""
+    return within(float(text), 0, MOST_SECONDS)
+
+
+def hours(text: str) -> Fraction:
+    """How long a period is, as a decimal number of hours or a fraction: from a second to a year."""
+    try:
+        number = Fraction(text if HOURS.fullmatch(text) else "")
+    except ZeroDivisionError:
+        raise ValueError(text) from None
+    if not Fraction(1, 3600) <= number <= 8784:
+        raise argparse.ArgumentTypeError("1/3600 to 8784 is due")
     return number
 
 
@@ -51,6 +77,13 @@ def rounds(text: str) -> int:
     return number
 
 
+def time(text: str) -> datetime:
+    """When the first period begins."""
+    found = datetime.fromisoformat(text)
+    within(found.year, 1, LAST_YEAR)
+    return found
+
+
 def add_search_limits(ask: argparse.ArgumentParser) -> None:
     """The words that end a search for a schedule."""
     ask.add_argument("--gap", type=positive, default=SearchLimits.gap)
@@ -60,7 +93,7 @@ def add_search_limits(ask: argparse.ArgumentParser) -> None:
 
 def add_seconds(ask: argparse.ArgumentParser) -> None:
     """The word that ends a step which takes too long."""
-    ask.add_argument("--seconds", type=positive)
+    ask.add_argument("--seconds", type=seconds)
 
 
 def solver_seconds(given: Union[argparse.Namespace, SimpleNamespace]) -> float:
