@@ -9,6 +9,7 @@ import contextlib
 import ctypes
 import os
 import pickle
+import shutil
 import signal
 import subprocess
 import sys
@@ -18,7 +19,7 @@ from multiprocessing import Pipe
 from multiprocessing.connection import Connection
 from typing import Any, Callable, Optional, TypeVar, cast
 
-from .errors import HullError, begun
+from .errors import HullError, begun, told_with
 from .progress import pass_steps_on, step, turn_to
 from .search_limits import refuse_seconds
 
@@ -57,6 +58,37 @@ def leave_signals() -> None:
     die_with_parent()
 
 
+def this_python() -> str:
+    """The place of the Python that is at work, which doesn't know it itself where there is no path, as in an empty environment."""
+    if sys.executable:
+        return sys.executable
+    with contextlib.suppress(OSError):
+        return os.readlink("/proc/self/exe")
+    found = shutil.which("python3", path=os.defpath)
+    if not found:
+        raise HullError("the place of this Python isn't known: call the tool by `python3`, with its full name")
+    return found
+
+
+@contextlib.contextmanager
+def worker_with(writer: Connection) -> Iterator[subprocess.Popen[bytes]]:
+    """A Python that waits for work, and sends what it finds there. It is killed in the end."""
+    python = this_python()
+    with contextlib.ExitStack() as stack:
+        with told_with(python):
+            worker = stack.enter_context(
+                begun(
+                    [python, "-I", "-B", "-c", CODE, str(writer.fileno())],
+                    stdin=subprocess.PIPE,
+                    stdout=subprocess.DEVNULL,
+                    stderr=subprocess.DEVNULL,
+                    pass_fds=[writer.fileno()],
+                    preexec_fn=leave_signals,
+                )
+            )
+        yield worker
+
+
 def run_apart(
     work: Callable[..., Found], given: tuple[object, ...], what: str, seconds: Optional[float] = None
 ) -> Found:
@@ -64,14 +96,7 @@ def run_apart(
     refuse_seconds(seconds)
     with step(what):
         reader, writer = Pipe(duplex=False)
-        with reader, begun(
-            [sys.executable, "-I", "-B", "-c", CODE, str(writer.fileno())],
-            stdin=subprocess.PIPE,
-            stdout=subprocess.DEVNULL,
-            stderr=subprocess.DEVNULL,
-            pass_fds=[writer.fileno()],
-            preexec_fn=leave_signals,
-        ) as worker:
+        with reader, worker_with(writer) as worker:
             writer.close()
             hand_over(worker, pickle.dumps(sys.path) + pickle.dumps((work, given)))
             return cast(Found, answer(reader, worker, what, seconds))

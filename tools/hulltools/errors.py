@@ -172,6 +172,7 @@ def run_tool(tool: str, body: Callable[[list[str], Tell], Optional[int]], words:
     """
     given = sys.argv[1:] if words is None else list(words)
     Found.is_there, Heard.is_kept = False, True
+    hold_standard_files()
     hear_interrupts()
     tell = Teller(tool)
     try:
@@ -199,6 +200,15 @@ def run_tool(tool: str, body: Callable[[list[str], Tell], Optional[int]], words:
     finally:
         Heard.is_kept, Heard.number = False, None
     return 1
+
+
+def hold_standard_files() -> None:
+    """Opens those of standard input, output and error that are closed, so that no other file, nor a pipe to a process, gets their number."""
+    for number in range(3):
+        try:
+            os.fstat(number)
+        except OSError:
+            os.set_inheritable(os.open(os.devnull, os.O_RDWR), True)
 
 
 def end_by_signal(number: int) -> None:

@@ -14,10 +14,11 @@ from typing import TYPE_CHECKING, Any, Optional, SupportsFloat, Union
 from .beside import need_beside
 from .cases import Case
 from .numbers import decimal_text
-from .errors import HullError
+from .errors import HullError, one_line
 from .options import float_of, number_option, told_value
 from .outputs import Convex, Fixed, Owed, Priced, Report, Settlement, Text
 from .schedules import Schedule
+from .telling import is_shown, write_text
 
 if TYPE_CHECKING:
     from pandas import DataFrame
@@ -61,12 +62,18 @@ class Table:
             return value
         return Decimal(decimal_text(value, UNITS[unit][0]))
 
-    def text(self, names_as_they_are: bool = False) -> str:
-        """The table as comma separated values."""
+    def text(self, names_as_they_are: bool = False, is_shown: bool = False) -> str:
+        """The table as comma separated values; where it is shown at a terminal, a text is one line without what isn't printable."""
         rows = self.rows if names_as_they_are else [[told_apart(cell) for cell in row] for row in self.rows]
+        if is_shown:
+            rows = [[one_line(cell) if isinstance(cell, str) else cell for cell in row] for row in rows]
         into = io.StringIO()
         csv.writer(into).writerows([self.heads, *rows])
         return into.getvalue()
+
+    def write(self) -> None:
+        """Writes it to standard output."""
+        write_text(self.text(is_shown=is_shown()))
 
 
 def told_apart(cell: Cell) -> Cell:

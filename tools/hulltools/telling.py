@@ -1,4 +1,4 @@
-"""What a tool says on standard error: lines, and at a terminal one more line that is written anew."""
+"""What a tool says: its text on standard output, and on standard error lines, at a terminal with one more that is written anew."""
 from __future__ import annotations
 
 import os
@@ -6,13 +6,33 @@ import shutil
 import sys
 import threading
 import time
+from collections.abc import Iterable
 
 CLEAR = "\r\x1b[K"
 
 
 def one_line(text: object) -> str:
-    """The text with what isn't printable as `?`, so that a name from a file can't break the line."""
+    """The text with what isn't printable as `?`: a name from a file can't break the line, command a terminal or turn the text around."""
     return "".join(it if it.isprintable() else "?" for it in str(text))
+
+
+def is_shown() -> bool:
+    """Whether standard output is a terminal."""
+    try:
+        return sys.stdout.isatty()
+    except (ValueError, AttributeError):
+        return False
+
+
+def write_text(text: str) -> None:
+    """Writes to standard output, in UTF-8 whatever the locale is."""
+    sys.stdout.buffer.write(text.encode("utf-8", "replace"))
+    sys.stdout.buffer.flush()
+
+
+def write_lines(lines: Iterable[object]) -> None:
+    """Writes lines for people to standard output."""
+    write_text("".join(f"{one_line(line)}\n" for line in lines))
 
 
 class Teller:

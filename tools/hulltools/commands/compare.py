@@ -11,7 +11,6 @@ usage: compare.py SETTLEMENT STATEMENT [--rule make-whole|full] [--unit COLUMN] 
 The table is printed, the largest difference first: statement less settlement. A unit that one of the two hasn't counts as 0 there and is told.
 Status 0 where no difference is above the tolerance, else 3.
 """
-import sys
 from collections.abc import Sequence
 from typing import Optional, Union, cast
 
@@ -42,8 +41,7 @@ def body(words: Sequence[str], tell: Tell) -> int:
     except UnicodeDecodeError:
         raise HullError(f"{given.statement}: this isn't UTF-8") from None
     rows = differences(statement_of(given.statement, text, given.unit, given.amount), units, given.rule)
-    sys.stdout.write(table_of(rows).text())
-    sys.stdout.flush()
+    table_of(rows).write()
     for told, missing in (
         ("the statement hasn't", [it.unit for it in rows if it.statement is None and it.settlement]),
         ("the settlement hasn't", [it.unit for it in rows if it.settlement is None]),

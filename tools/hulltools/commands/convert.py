@@ -13,7 +13,6 @@ of each form. It needs neither the program nor SciPy.
 """
 import json
 import os
-import sys
 import tempfile
 from typing import Callable, List, Optional, Sequence
 
@@ -24,6 +23,7 @@ from ..converters.notes import Object
 from ..errors import HullError, need_output, refuse_inputs, refuse_twice, run_tool, write_whole
 from ..lint import Review, look
 from ..lint_findings import Level
+from ..telling import write_lines
 from .words import asker
 
 
@@ -72,8 +72,7 @@ def body(words: Sequence[str], tell: Callable[[str], None]) -> int:
         write_whole(given.to, text, inputs)
     else:
         write_csv(given.to, case, inputs)
-    sys.stdout.buffer.write("".join(f"{it}\n" for it in notes.lines()).encode("utf-8", "replace"))
-    sys.stdout.buffer.flush()
+    write_lines(notes.lines())
     tell_oddities(given.to, case, review, tell)
     return 0
 

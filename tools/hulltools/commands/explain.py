@@ -9,12 +9,12 @@ read.
 """
 import argparse
 import re
-import sys
 from collections.abc import Sequence
 from typing import Optional
 
 from ..faults import Files, sentence
 from ..errors import HullError, need_output, one_line, read_bytes, run_tool
+from ..telling import write_lines
 from .words import asker
 
 
@@ -61,8 +61,7 @@ def body(words: list[str], tell: object) -> None:
         files = Files({**files_of(run), **{name: file for name, file in given.items() if file}})
         text = sentence(line, files) + word_of(line, run)
     need_output()
-    sys.stdout.buffer.write(f"{text}\n".encode("utf-8", "replace"))
-    sys.stdout.buffer.flush()
+    write_lines([text])
 
 
 def main(words: Optional[Sequence[str]] = None) -> int:

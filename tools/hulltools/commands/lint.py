@@ -13,12 +13,12 @@ An error is what `hull` refuses; a warning is what it takes without a word thoug
 there are warnings, 2 that there are errors. It needs neither the program nor SciPy.
 """
 import json
-import sys
 from fractions import Fraction
 from typing import Callable, Optional, Sequence
 
 from ..errors import need_output, run_tool
 from ..lint import Limits, look
+from ..telling import is_shown, write_lines, write_text
 from .words import asker, hours, positive
 
 
@@ -37,11 +37,9 @@ def body(words: Sequence[str], tell: Callable[[str], None]) -> int:
     names = {it: getattr(given, it) for it in ("case", "schedule", "prices", "mixture") if getattr(given, it)}
     review = look(names, Limits(given.highest_cost, float(given.hours)))
     if given.json:
-        text = json.dumps(review.as_json(), ensure_ascii=False, indent=1)
+        write_text(json.dumps(review.as_json(), ensure_ascii=is_shown(), indent=1) + "\n")
     else:
-        text = "\n".join([*review.lines(given.all), review.summary])
-    sys.stdout.buffer.write(f"{text}\n".encode("utf-8", "replace"))
-    sys.stdout.buffer.flush()
+        write_lines([*review.lines(given.all), review.summary])
     return review.status
 
 

@@ -16,12 +16,11 @@ price for all. Nodal prices are settled so, with a zone for each node.
 """
 from __future__ import annotations
 
-import sys
 from collections.abc import Sequence
 from typing import Optional, Union
 
 from ..cases import read_case
-from ..errors import Tell, run_tool
+from ..errors import Tell, need_output, run_tool
 from ..outputs import Settlement
 from ..prices import Prices
 from ..program import Hull
@@ -45,6 +44,8 @@ def body(words: Sequence[str], tell: Tell) -> None:
     ask.add_argument("--currency", default="")
     add_seconds(ask)
     given = ask.parse_args(words)
+    if not given.to:
+        need_output()
     hull, inputs = Hull(given.hull, tell, given.seconds), [given.case, given.schedule, given.zones]
     if given.to:
         TablesFolder(given.to, inputs, TOOL).refuse([TABLE])
@@ -58,12 +59,11 @@ def body(words: Sequence[str], tell: Tell) -> None:
         return settlement
 
     zonal = settle_zones(settle, case, read_schedule(given.schedule, case), read_zones(given.zones, case))
-    table = zonal_table(zonal, given.currency).text()
+    table = zonal_table(zonal, given.currency)
     if not given.to:
-        sys.stdout.write(table)
-        sys.stdout.flush()
+        table.write()
         return
-    files: dict[str, Union[str, bytes]] = {TABLE: table}
+    files: dict[str, Union[str, bytes]] = {TABLE: table.text()}
     for place, (zone, text) in enumerate(zip(zonal.settlements, texts), 1):
         files[f"{place}.{file_of(zone)}.settlement.txt"] = text
     write_in_folder(given.to, files, inputs, TOOL)
