@@ -9,6 +9,9 @@
 set -u
 export LC_ALL=C
 unset CDPATH
+# (in a hook these name another repository; the word is a list of names)
+# shellcheck disable=SC2046
+unset $(git rev-parse --local-env-vars)
 home=$(cd -- "$(dirname -- "$(readlink -f -- "${BASH_SOURCE[0]}")")/.." && pwd)
 # shellcheck source=tools/made_of.sh
 . "$home/tools/made_of.sh"

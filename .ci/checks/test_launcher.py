@@ -741,6 +741,33 @@ class Home(Repository):
         )
         self.assertEqual((ended.returncode, ended.stdout, ended.stderr.count(b"\n")), (127, b"", 1))
 
+    def test_the_version_names_the_commit_of_its_own_repository(self):
+        env = {**WITHOUT_RT, "GIT_CONFIG_GLOBAL": "/dev/null", "LC_ALL": "C"}
+        who = ["-c", "user.name=a", "-c", "user.email=a@b"]
+
+        def git(folder, *words):
+            return subprocess.run(["git", *words], cwd=folder, env=env, check=True, capture_output=True).stdout
+
+        other = os.path.dirname(self.room)
+        git(other, "init", "-q")
+        git(other, *who, "commit", "-q", "--allow-empty", "-m", "other")
+        names = {"GIT_DIR": f"{other}/.git", "GIT_WORK_TREE": other, "GIT_INDEX_FILE": f"{other}/index"}
+
+        def commit():
+            told = [self.hull("version", **more)[1].decode() for more in ({}, names)]
+            self.assertEqual(told[0], told[1])
+            return told[0].splitlines()[-1]
+
+        self.assertEqual(commit(), "commit unknown")
+        os.rmdir(f"{self.room}/.git")
+        git(self.room, "init", "-q")
+        git(self.room, "add", "-A")
+        git(self.room, *who, "commit", "-q", "-m", "own")
+        own = git(self.room, "rev-parse", "HEAD").decode().strip()
+        self.assertEqual(commit(), f"commit {own}")
+        self.write("README.md", "changed\n")
+        self.assertEqual(commit(), f"commit {own}, changed")
+
 
 class AtOnce(Repository):
     def test_two_at_once_build_once(self):
@@ -955,6 +982,37 @@ class ExplainingAnEnd(Repository):
                 said.decode().splitlines()[-1],
                 r"^hull: .*/bin/hull can't be run: it is damaged, or of another machine$",
             )
+
+    def release(self, text):
+        """Makes the folder one of a release, whose program is a script."""
+        self.write("tools/explain.py", "")
+        self.write("VERSION", "hull 1.2.3\n")
+        self.write("bin/hull", f"#!/bin/bash\n{text}\n")
+        os.chmod(f"{self.room}/bin/hull", 0o755)
+        self.sums()
+
+    def test_the_program_ends_with_its_launcher_in_both_runs(self):
+        first = 'if mkdir begun 2>/dev/null; then echo "fault 4 x"; exit 4; fi\n'
+        for rest in ("", first):
+            self.release(f"{rest}echo $BASHPID >&2\nexec sleep 100")
+            for number in (signal.SIGTERM, signal.SIGINT, signal.SIGHUP):
+                with self.subTest(number=number, rest=rest):
+                    how = {"stdout": subprocess.DEVNULL, "stderr": subprocess.PIPE, "cwd": self.room}
+                    command = [f"{self.room}/hull", "check"]
+                    with subprocess.Popen(command, env={**WITHOUT_RT, "HULL_EXPLAIN": "1"}, **how) as launcher:
+                        program = int(launcher.stderr.readline())
+                        launcher.send_signal(number)
+                        self.assertEqual(launcher.wait(60), -number)
+                        self.assertEqual(launcher.stderr.read(), b"")
+                    self.assertRaises(ProcessLookupError, os.kill, program, 0)
+                shutil.rmtree(f"{self.room}/begun", ignore_errors=True)
+
+    def test_the_program_reads_what_is_given_to_the_launcher(self):
+        self.release("cat; exit 3")
+        self.write("given", "one\n")
+        for way, due in (("<given", b"one\n"), ("</dev/null", b""), ("<&-", b"")):
+            command = ["-c", f"HULL_EXPLAIN=1 exec ./hull check {way} 2>/dev/null"]
+            self.assertEqual(run(command, program="bash", folder=self.room, env=WITHOUT_RT)[:2], (3, due), way)
 
     def sums(self):
         if os.path.exists(f"{self.room}/crates.txt"):

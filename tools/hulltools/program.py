@@ -88,13 +88,13 @@ class Hull:
         what = " ".join(["hull", *words[:1]])
         try:
             with step(what):
-                # (however the tool ends, what it called ends with it)
+                # (however the tool ends, what it called ends with it; so the launcher is to become the program, and explains nothing)
                 with begun(
                     [self.program, *words],
                     stdin=subprocess.DEVNULL,
                     stdout=subprocess.PIPE,
                     preexec_fn=die_with_parent,
-                    env={"HULL_EXPLAIN": "0", **os.environ},
+                    env={**os.environ, "HULL_EXPLAIN": "0"},
                 ) as process:
                     output = process.communicate(timeout=self.seconds)[0]
         except subprocess.TimeoutExpired:

@@ -235,6 +235,12 @@ class Programs(unittest.TestCase):
         os.chmod(name, 0o755)
         return hulltools.Hull(name)
 
+    def test_the_launcher_explains_nothing_to_a_tool(self):
+        hull = self.program("printenv HULL_EXPLAIN; exit 0")
+        for given in ("0", "1", ""):
+            with mock.patch.dict(os.environ, HULL_EXPLAIN=given):
+                self.assertEqual(hull.run("check"), (0, b"0\n"))
+
     def test_a_program_that_is_killed_refuses_nothing(self):
         hull = self.program("kill -9 $$")
         self.assertRaisesRegex(hulltools.HullError, "status -9", hull.refusal_of_case, files("usual")[0])
