@@ -1,5 +1,6 @@
 """A picture of a report or a settlement by matplotlib."""
 import io
+import logging
 import os
 import warnings
 from typing import Any
@@ -50,13 +51,22 @@ def draw_payments(axes: Any, priced: AnyPriced) -> None:
     axes.legend(fontsize="small")
 
 
-def picture_of(priced: AnyPriced, name: str) -> bytes:
-    """The bytes of a picture in the form that the name's end says."""
+def ready_matplotlib() -> None:
+    """Loads matplotlib with its own defaults: it reads a file `matplotlibrc` of the current folder, which may be somebody else's."""
+    logging.getLogger("matplotlib").setLevel(logging.ERROR)
     try:
         import matplotlib
     except ImportError:
         raise HullError("plot needs matplotlib (Debian: python3-matplotlib); page draws without it") from None
+    except Exception as why:
+        raise HullError(f"matplotlib can't be loaded here: {why}") from None
+    matplotlib.rcdefaults()
     matplotlib.use("Agg")
+
+
+def picture_of(priced: AnyPriced, name: str) -> bytes:
+    """The bytes of a picture in the form that the name's end says."""
+    ready_matplotlib()
     import matplotlib.pyplot as plt
 
     report = priced if isinstance(priced, Report) else None

@@ -280,6 +280,25 @@ class Report(unittest.TestCase):
         status, _, said = self.report("plot", f"{EXAMPLES}/first/price.output", "picture.odd", python=python)
         self.assertEqual((status, said.count("\n")), (1, 1))
 
+    def test_a_picture_is_drawn_with_the_defaults_of_matplotlib(self):
+        python = python_with("matplotlib")
+        if python is None:
+            self.skipTest("no Python here has matplotlib")
+        pictures = []
+        for text in (b"", b"text.usetex: True\nfigure.facecolor: red\n", b"\x1b[31mx: 1\nbackend: module://none\n"):
+            with open(f"{self.room}/matplotlibrc", "wb") as file:
+                file.write(text)
+            words = ("plot", f"{EXAMPLES}/first/price.output", f"{self.room}/picture.png")
+            told = run("report.py", *words, python=python, flags=("-W", "ignore"), cwd=self.room)
+            self.assertEqual(told, (0, "", ""))
+            with open(f"{self.room}/picture.png", "rb") as file:
+                pictures.append(file.read())
+        self.assertEqual(pictures[1:], pictures[:1] * 2)
+        with open(f"{self.room}/matplotlibrc", "wb") as file:
+            file.write(b"\xff")
+        told = run("report.py", *words, python=python, flags=("-W", "ignore"), cwd=self.room)
+        self.assertEqual((told[0], told[2].count("\n")), (1, 1), told)
+
     def test_without_matplotlib_it_says_so(self):
         status, _, said = self.report("plot", f"{EXAMPLES}/first/price.output", "picture.png", flags=("-S", "-E"))
         self.assertEqual(
