@@ -143,8 +143,10 @@ def same_lengths(files: Files, found: int) -> str:
 
 def place_in_words(files: Files, what: str, place: int) -> str:
     """Where in the file a fault of the text stands, as the unit, its field and the item; an empty text where it isn't known."""
-    data = files.bytes_of(what)
-    return path_in_words(path_of(data, place)) if len(data) <= MOST_BYTES else ""
+    if (what, place) not in files.paths:
+        data = files.bytes_of(what)
+        files.paths[what, place] = path_of(data, place) if len(data) <= MOST_BYTES else ()
+    return path_in_words(files.paths[what, place])
 
 
 def exact_case(files: Files) -> Any:

@@ -60,12 +60,16 @@ LIMITS: dict[Union[str, tuple[str, str]], str] = {
 }
 
 
+def before(data: bytes, place: int, most: int = 1000) -> bytes:
+    """What stands before a place."""
+    return data[max(0, place - most) : place]
+
+
 def told_text(files: Files, what: str, code: int, place: int) -> str:
     """A fault of a file's text, with the line and what stands around it."""
     data = files.bytes_of(what)
-    before = data[:place]
-    line, column = before.count(b"\n") + 1, place - (before.rfind(b"\n") + 1) + 1
-    near = before[-30:].decode("utf-8", "replace"), data[place : place + 30].decode("utf-8", "replace")
+    line, column = data.count(b"\n", 0, place) + 1, place - data.rfind(b"\n", 0, place)
+    near = before(data, place, 30).decode("utf-8", "replace"), data[place : place + 30].decode("utf-8", "replace")
     at = place_in_words(files, what, place)
     return (
         f"byte {place}, line {line}, column {column}{', in ' if at else ''}{at}: {TEXTS[code]}{known_mistake(files, what, place)}; "
@@ -110,11 +114,11 @@ def known_mistake(files: Files, what: str, place: int) -> str:
         told = "the file is empty"
     elif data and (is_open_string(data, place) or re.compile(rb"[-+.\w]*").fullmatch(data, place)):
         told = "the file ends there"
-    elif re.search(rb"\d,\s*\Z", data[:place]) and data[place : place + 1].isdigit():
+    elif re.search(rb"\d,\s*\Z", before(data, place)) and data[place : place + 1].isdigit():
         told = "a decimal comma? Numbers have a point"
-    elif re.match(rb"[-+]?(nan|inf)", data[place:], re.I):
+    elif re.match(rb"[-+]?(nan|inf)", data[place : place + 4], re.I):
         told = "no number of JSON: give the value; 0 is no power or money, and not a value that is missing"
-    elif re.search(rb",\s*\Z", data[:place]) and data[place : place + 1] in (b",", b"]", b"}"):
+    elif re.search(rb",\s*\Z", before(data, place)) and data[place : place + 1] in (b",", b"]", b"}"):
         told = "a comma too many"
     elif not place and told is None:
         told = "a JSON text begins with {"

@@ -13,6 +13,7 @@ from .numbers import is_whole
 
 Path = Tuple[Union[str, int], ...]
 Value = Union[Dict[str, "Node"], List["Node"], int, Decimal, str, bool, None, "Odd"]
+MOST_FAULTS = 100_000  # of a text, that are kept
 SPACE = re.compile(r"[ \t\n\r]*")
 TOKEN = re.compile(
     r'(?P<mark>[{}\[\],:])|(?P<text>"(?:[^"\\\x00-\x1f]|\\(?:["\\/bfnrt]|u[0-9a-fA-F]{4}))*")'
@@ -96,9 +97,13 @@ class Reader:
         self.text, self.at = text, 0
         self.path: List[Union[str, int]] = []
         self.faults: List[TextFault] = []
+        self.count = 0
 
     def fault(self, code: int, at: int) -> None:
-        self.faults.append(TextFault(code, at, tuple(self.path)))
+        """Notes a fault; of very many they are counted alone."""
+        self.count += 1
+        if self.count <= MOST_FAULTS:
+            self.faults.append(TextFault(code, at, tuple(self.path)))
 
     def stop(self, code: int, at: int) -> Ended:
         self.fault(code, at)
@@ -232,6 +237,8 @@ class Located:
     text: str
     root: Optional[Node] = None
     faults: List[TextFault] = field(default_factory=list)
+    count: int = 0  # of all faults
+    last: Tuple[int, int] = (0, 0)  # a place, and the number of bytes before it
     breaks: List[int] = field(default_factory=list)
 
     def line(self, at: int) -> int:
@@ -240,7 +247,10 @@ class Located:
         return bisect.bisect_left(self.breaks, at)
 
     def byte(self, at: int) -> int:
-        return len(self.text[:at].encode("utf-8", "surrogateescape"))
+        """How many bytes stand before a place; asked in rising order, each is counted once."""
+        begin, count = self.last if self.last[0] <= at else (0, 0)
+        self.last = at, count + len(self.text[begin:at].encode("utf-8", "surrogateescape"))
+        return self.last[1]
 
 
 def located(name: str, data: bytes) -> Located:
@@ -248,7 +258,7 @@ def located(name: str, data: bytes) -> Located:
     found = Located(name, data.decode("utf-8", "surrogateescape"))
     reader = Reader(found.text)
     found.root = reader.whole()
-    found.faults = reader.faults
+    found.faults, found.count = reader.faults, reader.count
     return found
 
 

@@ -4,6 +4,7 @@ from __future__ import annotations
 import json
 import os
 from dataclasses import dataclass, field, replace
+from itertools import islice
 from typing import Callable, Dict, Iterable, Iterator, List, Optional, SupportsFloat, Tuple, Union
 
 from .cases import Case, Fields, Thermal, case_of, read_thermal
@@ -31,10 +32,14 @@ POWER_RULES = {43, 48, 49, 50, 51, 52, 53, 54, 55, 57}  # what a schedule in meg
 
 @dataclass(frozen=True)
 class Limits:
-    """What is held for odd: marginal costs above `highest_cost` per MWh; `hours` is how long a period is."""
+    """What is held for odd: marginal costs above `highest_cost` per MWh; `hours` is how long a period is.
+
+    Of each kind of faults of a file, those of its text, its form and its rules, so many as `most` are told, and the others are counted.
+    """
 
     highest_cost: float = 1000.0
     hours: float = 1.0
+    most: int = 1000
 
 
 @dataclass
@@ -66,7 +71,7 @@ class Review:
             shown = rows if every else rows[:SHOWN]
             told += [it.sentence for it in shown]
             if len(rows) > len(shown):
-                names = names_of([it.unit for it in rows[len(shown) :] if it.unit is not None])
+                names = names_of(list(dict.fromkeys(it.unit for it in rows[len(shown) :] if it.unit is not None)))
                 told.append(
                     f"{rule[0].value}: {len(rows) - len(shown)} more like that{f': {names}' if names else ''} (--all tells them)"
                 )
@@ -137,10 +142,20 @@ class Look:
             return
         if found.faults and found.root is not None:
             self.files.values[what] = as_written(found.root, found.text)
-        for fault in found.faults:
+        for fault in found.faults[: self.limits.most]:
             rest = "" if found.root is not None else " What stands behind it isn't read before this is mended."
-            line = f"fault {STATUS[what]} {what} {fault.code} at {found.byte(fault.at)}"
+            place = found.byte(fault.at)
+            self.files.paths[what, place] = fault.path
+            line = f"fault {STATUS[what]} {what} {fault.code} at {place}"
             self.add(self.error(what, line, f"text-{fault.code}", fault.at, rest=rest, unit=unit_on(fault.path)))
+        self.count_others(what, found.count)
+
+    def count_others(self, what: str, count: int) -> None:
+        """Tells how many faults aren't told."""
+        others = count - self.limits.most
+        if others > 0:
+            text = f"{others:,} more {'fault is' if others == 1 else 'faults are'} there. Mend these first, or give --most."
+            self.add(Finding(Level.ERROR, "more-faults", self.names[what], text))
 
     def error(
         self, what: str, line: str, rule: str, at: int, rest: str = "", unit: Optional[Tuple[str, str]] = None
@@ -159,7 +174,8 @@ class Look:
         rows: Dict[Tuple[object, ...], List[Fault]] = {}
         for fault in faults:
             rows.setdefault((fault.code, fault.key, fault.kind, fault.unit, fault.entry), []).append(fault)
-        for same in rows.values():
+        self.count_others(what, len(rows))
+        for same in islice(rows.values(), self.limits.most):
             first, items = same[0], tuple(it.item for it in same if it.item)
             more = "item" if first.code < 44 or first.code == 62 else "period"
             others = sorted(set(items[1:]) - {first.item})

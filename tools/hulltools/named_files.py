@@ -4,9 +4,11 @@ import os
 from collections.abc import Mapping
 from dataclasses import dataclass, field
 from decimal import Decimal, InvalidOperation
+from itertools import islice
 from typing import Any, Optional, Union
 
 from .errors import Name
+from .json_places import Path
 from .json_texts import counted, Refused
 
 GROUPS = {"thermal": "thermal_generators", "renewable": "renewable_generators", "bid": "demand_bids"}
@@ -31,6 +33,10 @@ class Files:
     names: Mapping[str, Name]
     values: dict[str, Any] = field(default_factory=dict)
     shown: Mapping[str, str] = field(default_factory=dict)
+    held: dict[str, bytes] = field(default_factory=dict)
+    paths: dict[tuple[str, int], Path] = field(
+        default_factory=dict
+    )  # (where faults of a text stand, as far as it is known)
 
     def told(self, what: str) -> str:
         """What a sentence calls the file."""
@@ -39,11 +45,14 @@ class Files:
         return os.fspath(self.names[what]) if what in self.names else WHOLE_FILES.get(what, f"the {what}")
 
     def bytes_of(self, what: str) -> bytes:
-        try:
-            with open(self.names[what], "rb") as file:
-                return file.read(1 << 27)
-        except (OSError, KeyError, ValueError):
-            return b""
+        """The contents of a file, which is read once; none where it can't be read."""
+        if what not in self.held:
+            try:
+                with open(self.names[what], "rb") as file:
+                    self.held[what] = file.read(1 << 27)
+            except (OSError, KeyError, ValueError):
+                self.held[what] = b""
+        return self.held[what]
 
     def is_empty(self, what: str) -> bool:
         try:
@@ -68,16 +77,16 @@ class Files:
             if isinstance(found, dict) and isinstance(step, str):
                 found = found.get(step)
             elif isinstance(found, (list, dict)) and isinstance(step, int):
-                rows = list(found.values()) if isinstance(found, dict) else found
-                found = rows[step - 1] if 1 <= step <= len(rows) else None
+                rows = found.values() if isinstance(found, dict) else found
+                found = next(islice(rows, step - 1, None), None) if step >= 1 else None
             else:
                 return None
         return found
 
     def name_of(self, what: str, group: str, number: int) -> Optional[str]:
         members = self.at(what, group)
-        names = list(members) if isinstance(members, dict) else []
-        return names[number - 1] if 1 <= number <= len(names) else None
+        names = members if isinstance(members, dict) else ()
+        return next(islice(names, number - 1, None), None) if number >= 1 else None
 
 
 class Written(str):

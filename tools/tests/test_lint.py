@@ -2,12 +2,14 @@
 from __future__ import annotations
 
 import json
+import math
 import os
 import random
 import re
 import shutil
 import subprocess
 import tempfile
+import time
 import unittest
 from typing import Any, Callable, Dict, Iterator, List, Optional, Tuple
 
@@ -446,6 +448,24 @@ class Told(WithFiles):
         self.assertEqual(text.count('the key "owner" is skipped'), 5)
         self.assertIn("warning: 1 more like that: GT6 (--all tells them)", text)
         self.assertEqual(self.lint("--all")[1].count('the key "owner" is skipped'), 6)
+
+    def test_of_very_many_faults_so_many_are_told_as_are_asked_for(self) -> None:
+        units = self.files["case"]["renewable_generators"]
+        units.update({f"W{i}": {**units["WIND1"], "power_output_maximum": [math.nan] * 24} for i in range(200)})
+        began = time.process_time()
+        errors = [it["text"] for it in json.loads(self.lint("--json")[1])["findings"]]
+        self.assertLess(time.process_time() - began, 10)  # (each fault was sought anew, which took minutes)
+        for place, text in enumerate(errors[:1000]):
+            unit, item = divmod(place, 24)
+            self.assertIn(f', in renewable unit "W{unit}", power_output_maximum, item {item + 1}: this isn', text)
+        self.assertEqual(errors[1000], "3,800 more faults are there. Mend these first, or give --most.")
+        self.assertIn(": 4,799 more faults are there. ", self.lint("--most", "1")[1])
+
+    def test_of_faults_of_form_so_many_are_told_as_are_asked_for(self) -> None:
+        for unit in ("GT5", "GT6"):
+            self.files["case"]["thermal_generators"][unit]["must_run"] = 7
+        self.assertIn(": 1 more fault is there. ", self.lint("--most", "1")[1])
+        self.assertNotIn(" more fault", self.lint("--most", "2")[1])
 
     def test_json(self) -> None:
         self.files["case"]["thermal_generators"]["GT5"]["ramp_up_limt"] = self.files["case"]["thermal_generators"][

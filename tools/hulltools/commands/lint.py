@@ -1,11 +1,12 @@
 """Looks at the files of a run before it costs a day: all that `hull` will refuse, and what is odd though it is taken.
 
-usage: lint.py CASE [SCHEDULE] [--prices F] [--mixture F] [--highest-cost C] [--hours H] [--all] [--json]
+usage: lint.py CASE [SCHEDULE] [--prices F] [--mixture F] [--highest-cost C] [--hours H] [--most N] [--all] [--json]
 
   CASE             a case as `hull` reads it (docs/FORMATS.md)
   SCHEDULE         a schedule of it, and with --prices and --mixture such files too
   --highest-cost C a marginal cost above this is odd, in the currency per MWh; 1000 if left out
   --hours H        how long a period is, as 0.25 or 1/12, from 1/3600 to 8784; 1 if left out
+  --most N         of the faults of a file's text, of its form and of its rules so many are told, 1000 if left out; the others are counted
   --all            each finding in words; of one rule five are told if left out
   --json           the findings as JSON: level, rule, file, line, kind, unit, periods, text and, of an error, the fault line of hull
 
@@ -19,7 +20,7 @@ from typing import Callable, Optional, Sequence
 from ..errors import need_output, run_tool
 from ..lint import Limits, look
 from ..telling import is_shown, write_lines, write_text
-from .words import asker, hours, positive
+from .words import asker, count, hours, positive
 
 
 def body(words: Sequence[str], tell: Callable[[str], None]) -> int:
@@ -30,12 +31,13 @@ def body(words: Sequence[str], tell: Callable[[str], None]) -> int:
         ask.add_argument(f"--{option}")
     ask.add_argument("--highest-cost", type=positive, default=1000.0)
     ask.add_argument("--hours", type=hours, default=Fraction(1))
+    ask.add_argument("--most", type=count, default=Limits.most)
     for option in ("all", "json"):
         ask.add_argument(f"--{option}", action="store_true")
     given = ask.parse_args(words)
     need_output()
     names = {it: getattr(given, it) for it in ("case", "schedule", "prices", "mixture") if getattr(given, it)}
-    review = look(names, Limits(given.highest_cost, float(given.hours)))
+    review = look(names, Limits(given.highest_cost, float(given.hours), given.most))
     if given.json:
         write_text(json.dumps(review.as_json(), ensure_ascii=is_shown(), indent=1) + "\n")
     else:
