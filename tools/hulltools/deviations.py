@@ -10,6 +10,7 @@ from .errors import one_line
 from .external_schedules import Followed
 from .numbers import Kilowatts
 from .schedules import Schedule
+from .tables import told_apart
 
 ROUNDING = 0.5  # kilowatts: less is what whole numbers make of a power
 SAME = 0.0005  # kilowatts: less is what a text of many digits makes of it
@@ -76,8 +77,9 @@ def count(found: Sequence[Deviation], what: str) -> int:
 def table_text(found: Sequence[Deviation]) -> str:
     """The deviations as comma separated values, in megawatts."""
     into = io.StringIO()
-    rows = [(it.kind, it.unit, it.period, it.what, it.followed / 1e3, it.made / 1e3, it.off / 1e3) for it in found]
-    csv.writer(into, lineterminator="\n").writerows(
-        [HEADS, *((*row[:4], *(f"{it:.6f}" for it in row[4:])) for row in rows)]
-    )
+    table = csv.writer(into, lineterminator="\n")
+    table.writerow(HEADS)
+    for row in found:
+        powers = (f"{power / 1e3:.6f}" for power in (row.followed, row.made, row.off))
+        table.writerow([row.kind, told_apart(row.unit), row.period, row.what, *powers])
     return into.getvalue()

@@ -5,15 +5,16 @@ import csv
 import io
 import os
 from dataclasses import dataclass, field
+from decimal import Decimal
 from typing import Any, Dict, List, Tuple
 
 from .cases import Case
 
 from .converters import unpacked
 from .converters.pypsa import solution
-from .converters.series import cell_number
 from .json_texts import Refused, is_number, parse
 from .errors import HullError, one_line, rows_told_with
+from .tables import as_it_was
 
 MOST_MEGAWATTS = 1_000_000
 JULIA: Dict[str, Tuple[str, ...]] = {
@@ -113,7 +114,7 @@ def followed_csv(data: bytes, name: str, periods: int) -> Followed:
                     value = float(row[what])
                     if not abs(value) <= MOST_MEGAWATTS:
                         raise ValueError(value)
-                    getattr(found, what).setdefault(row["unit"], [0.0] * periods)[period - 1] = value
+                    getattr(found, what).setdefault(as_it_was(row["unit"]), [0.0] * periods)[period - 1] = value
         except (ValueError, IndexError, TypeError):
             raise HullError(f"{name}, line {line}: no row of unit, period from 1 to {periods}, and numbers") from None
         if not 1 <= period <= periods:
@@ -123,7 +124,10 @@ def followed_csv(data: bytes, name: str, periods: int) -> Followed:
 
 def network_numbers(row: list[str], folder: str, unit: str) -> list[float]:
     """The numbers of a column of a network's table; what is empty is 0."""
-    return [number(cell_number(it, f"{folder}: {unit}") if it else 0, folder, unit) for it in row]
+    try:
+        return [number(Decimal(it or 0), folder, unit) for it in row]
+    except ArithmeticError:
+        raise HullError(f"{folder}: {one_line(unit)}: a number of at most {MOST_MEGAWATTS:,} is due") from None
 
 
 def followed_network(folder: str, periods: int) -> Followed:

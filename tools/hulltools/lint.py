@@ -154,7 +154,7 @@ class Look:
         """Tells how many faults aren't told."""
         others = count - self.limits.most
         if others > 0:
-            text = f"{others:,} more {'fault is' if others == 1 else 'faults are'} there. Mend these first, or give --most."
+            text = f"{others:,} more {'fault is' if others == 1 else 'faults are'} there. Mend these first; --most of lint.py tells more."
             self.add(Finding(Level.ERROR, "more-faults", self.names[what], text))
 
     def error(

@@ -15,6 +15,10 @@ import market
 import other_forms
 from tool import PROGRAM, python_with, run
 
+from hulltools.deviations import Deviation, table_text
+from hulltools.external_schedules import followed_csv
+from hulltools.numbers import Kilowatts
+
 
 class Follow(unittest.TestCase):
     def setUp(self) -> None:
@@ -63,6 +67,21 @@ class Follow(unittest.TestCase):
     def thirty_off(plan: Dict[str, Any]) -> None:
         """A power that is 30 MW too low, so that the plan doesn't balance."""
         plan["thermal"]["COAL1"]["power"][3] -= 30
+
+    def test_schedule_and_deviations_are_two_files(self) -> None:
+        other_forms.write_json(f"{self.room}/plan.json", self.megawatts())
+        status, said = self.follow(
+            "plan.json", "--deviations", f"{self.room}/../{os.path.basename(self.room)}/made.json"
+        )
+        self.assertEqual(status, 1)
+        self.assertIn("schedule and deviations need a file each\n", said)
+        self.assertFalse(os.path.exists(f"{self.room}/made.json"))
+
+    def test_names_of_tables_are_marked_for_spreadsheets(self) -> None:
+        text = table_text([Deviation("thermal", "=1+1", 1, "power", 2.0, Kilowatts(1))])
+        self.assertIn("\nthermal,'=1+1,1,power,", text)
+        rows = b"unit,period,power\n'=1+1,1,5\n'G1,1,6\n"
+        self.assertEqual(followed_csv(rows, "rows", 1).power, {"=1+1": [5.0], "'G1": [6.0]})
 
     def test_deviations_are_told_and_listed(self) -> None:
         other_forms.write_json(f"{self.room}/plan.json.gz", self.megawatts(self.thirty_off))

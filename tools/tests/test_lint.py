@@ -458,7 +458,7 @@ class Told(WithFiles):
         for place, text in enumerate(errors[:1000]):
             unit, item = divmod(place, 24)
             self.assertIn(f', in renewable unit "W{unit}", power_output_maximum, item {item + 1}: this isn', text)
-        self.assertEqual(errors[1000], "3,800 more faults are there. Mend these first, or give --most.")
+        self.assertEqual(errors[1000], "3,800 more faults are there. Mend these first; --most of lint.py tells more.")
         self.assertIn(": 4,799 more faults are there. ", self.lint("--most", "1")[1])
 
     def test_of_faults_of_form_so_many_are_told_as_are_asked_for(self) -> None:

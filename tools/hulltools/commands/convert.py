@@ -8,7 +8,7 @@ usage: convert.py FROM TO [--from FORM] [--left-out FILE]
   --from FORM      hull, csv, unit-commitment-jl, egret or pypsa; told by what FROM holds if left out
   --left-out FILE  gets as JSON what was left out, assumed or changed; standard output has it in words in any case
 
-Nothing is left out without a line. Nothing is written where hull would refuse the case: all of its faults are told. docs/CSV.md says what is read
+Nothing is left out without a line. Nothing is written where hull would refuse the case: its first 20 faults are told. docs/CSV.md says what is read
 of each form. It needs neither the program nor SciPy.
 """
 import json
@@ -26,6 +26,8 @@ from ..lint_findings import Level
 from ..telling import write_lines
 from .words import asker
 
+TOLD = 20  # how many faults of a case are told
+
 
 def review_of(text: str) -> Review:
     """What lint.py finds in the case."""
@@ -37,12 +39,12 @@ def review_of(text: str) -> Review:
 
 
 def refuse_faults(review: Review, name: str) -> None:
-    """Refuses a case that hull would refuse, with all its faults."""
+    """Refuses a case that hull would refuse, with its first faults."""
     errors = review.of(Level.ERROR)
     if errors:
         told = [it.text.rstrip(".") for it in errors]
-        more = f"; and {len(told) - 20} more" if len(told) > 20 else ""
-        raise HullError(f"{name}: hull would refuse this case: {'; '.join(told[:20])}{more}")
+        more = f"; and {len(told) - TOLD} more" if len(told) > TOLD else ""
+        raise HullError(f"{name}: hull would refuse this case: {'; '.join(told[:TOLD])}{more}")
 
 
 def inputs_of(name: str) -> List[str]:

@@ -30,6 +30,7 @@ kilowatts next to that which balance exactly and cost least (a small integer pro
 from __future__ import annotations
 
 import argparse
+import os
 from collections.abc import Sequence
 from types import SimpleNamespace
 from typing import Optional, Union
@@ -115,6 +116,8 @@ def body(words: Sequence[str], tell: Tell) -> int:
     for output in (given.schedule, given.deviations):
         if output:
             try_output(output, inputs)
+    if given.deviations and os.path.realpath(given.deviations) == os.path.realpath(given.schedule):
+        raise HullError(f"{given.deviations}: schedule and deviations need a file each")
     found, cost, reached = make(given, search_limits(given), tell)
     tell(f"hull check accepts {given.schedule}: cost {money(cost)}; {reached}")
     return 0 if found.is_near else MISSED_GAP
