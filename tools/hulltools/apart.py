@@ -60,7 +60,7 @@ def leave_signals() -> None:
 
 
 def this_python() -> str:
-    """The place of the Python that is at work, which doesn't know it itself where there is no path, as in an empty environment."""
+    """The place of the Python that is at work, which doesn't know it itself in an environment without a path."""
     if sys.executable:
         return sys.executable
     with contextlib.suppress(OSError):

@@ -1,7 +1,8 @@
 """What the command-line tools do, as calls. Cases, schedules, prices and zones are objects, dicts of the files' form, or names of files.
 
 Each raises `HullError`, in one line, where a file isn't in form or `hull` refuses it, where `hull` is called and isn't there, where SciPy is
-needed and isn't there, and where a step takes longer than it may. `hull` is the program's place; `seconds` limits each step of a solver, 0 to 2,000,000.
+needed and isn't there, and where a step takes longer than it may. `hull` is the program's place; `seconds` limits
+each step of a solver, 0 to 2,000,000.
 """
 from __future__ import annotations
 

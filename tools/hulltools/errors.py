@@ -203,7 +203,7 @@ def run_tool(tool: str, body: Callable[[list[str], Tell], Optional[int]], words:
 
 
 def hold_standard_files() -> None:
-    """Opens those of standard input, output and error that are closed, so that no other file, nor a pipe to a process, gets their number."""
+    """Opens those of standard input, output and error that are closed: no other file or pipe gets their number."""
     for number in range(3):
         try:
             os.fstat(number)

@@ -34,7 +34,8 @@ POWER_RULES = {43, 48, 49, 50, 51, 52, 53, 54, 55, 57}  # what a schedule in meg
 class Limits:
     """What is held for odd: marginal costs above `highest_cost` per MWh; `hours` is how long a period is.
 
-    Of each kind of faults of a file, those of its text, its form and its rules, so many as `most` are told, and the others are counted.
+    Of each kind of faults of a file, those of its text, its form and its rules, so many as `most` are told, and the
+    others are counted.
     """
 
     highest_cost: float = 1000.0
@@ -154,7 +155,8 @@ class Look:
         """Tells how many faults aren't told."""
         others = count - self.limits.most
         if others > 0:
-            text = f"{others:,} more {'fault is' if others == 1 else 'faults are'} there. Mend these first; --most of lint.py tells more."
+            more = f"{others:,} more {'fault is' if others == 1 else 'faults are'} there."
+            text = f"{more} Mend these first; --most of lint.py tells more."
             self.add(Finding(Level.ERROR, "more-faults", self.names[what], text))
 
     def error(
@@ -174,7 +176,6 @@ class Look:
         rows: Dict[Tuple[object, ...], List[Fault]] = {}
         for fault in faults:
             rows.setdefault((fault.code, fault.key, fault.kind, fault.unit, fault.entry), []).append(fault)
-        self.count_others(what, len(rows))
         for same in islice(rows.values(), self.limits.most):
             first, items = same[0], tuple(it.item for it in same if it.item)
             more = "item" if first.code < 44 or first.code == 62 else "period"
@@ -185,6 +186,7 @@ class Look:
             name = self.name_of(what, first)
             found = self.error(what, first.line, f"{what}-{first.code}", first.at, rest, name)
             self.add(replace(found, periods=items))
+        self.count_others(what, len(rows))
 
     def name_of(self, what: str, fault: Fault) -> Optional[Tuple[str, str]]:
         if fault.kind not in GROUPS or fault.code == 40:

@@ -27,16 +27,15 @@ WHOLE_FILES = {
 class Files:
     """The names of the files that the run was given, and what they hold, as far as they can be read.
 
-    `shown` has what a sentence calls a file, where this isn't its name.
+    `shown` has what a sentence calls a file, where this isn't its name. `held` has contents, and `paths` where in a
+    file the fault at a byte stands, as far as these are known.
     """
 
     names: Mapping[str, Name]
     values: dict[str, Any] = field(default_factory=dict)
     shown: Mapping[str, str] = field(default_factory=dict)
     held: dict[str, bytes] = field(default_factory=dict)
-    paths: dict[tuple[str, int], Path] = field(
-        default_factory=dict
-    )  # (where faults of a text stand, as far as it is known)
+    paths: dict[tuple[str, int], Path] = field(default_factory=dict)
 
     def told(self, what: str) -> str:
         """What a sentence calls the file."""

@@ -52,7 +52,7 @@ def draw_payments(axes: Any, priced: AnyPriced) -> None:
 
 
 def ready_matplotlib() -> None:
-    """Loads matplotlib with its own defaults: it reads a file `matplotlibrc` of the current folder, which may be somebody else's."""
+    """Loads matplotlib with its own defaults: a `matplotlibrc` of the current folder may be somebody else's."""
     logging.getLogger("matplotlib").setLevel(logging.ERROR)
     try:
         import matplotlib

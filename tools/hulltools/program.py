@@ -88,7 +88,7 @@ class Hull:
         what = " ".join(["hull", *words[:1]])
         try:
             with step(what):
-                # (however the tool ends, what it called ends with it; so the launcher is to become the program, and explains nothing)
+                # (however the tool ends, what it called ends with it: a launcher that explains nothing becomes the program)
                 with begun(
                     [self.program, *words],
                     stdin=subprocess.DEVNULL,

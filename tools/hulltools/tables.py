@@ -63,7 +63,7 @@ class Table:
         return Decimal(decimal_text(value, UNITS[unit][0]))
 
     def text(self, names_as_they_are: bool = False, is_shown: bool = False) -> str:
-        """The table as comma separated values; where it is shown at a terminal, a text is one line without what isn't printable."""
+        """The table as comma separated values; shown at a terminal, a text is one line of what is printable."""
         rows = self.rows if names_as_they_are else [[told_apart(cell) for cell in row] for row in self.rows]
         if is_shown:
             rows = [[one_line(cell) if isinstance(cell, str) else cell for cell in row] for row in rows]

@@ -1,4 +1,4 @@
-"""What a tool says: its text on standard output, and on standard error lines, at a terminal with one more that is written anew."""
+"""What a tool says: its text on standard output; lines on standard error, at a terminal with one written anew."""
 from __future__ import annotations
 
 import os
@@ -12,7 +12,7 @@ CLEAR = "\r\x1b[K"
 
 
 def one_line(text: object) -> str:
-    """The text with what isn't printable as `?`: a name from a file can't break the line, command a terminal or turn the text around."""
+    """The text with what isn't printable as `?`: no name breaks the line, commands a terminal or turns text around."""
     return "".join(it if it.isprintable() else "?" for it in str(text))
 
 

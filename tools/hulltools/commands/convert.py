@@ -8,8 +8,8 @@ usage: convert.py FROM TO [--from FORM] [--left-out FILE]
   --from FORM      hull, csv, unit-commitment-jl, egret or pypsa; told by what FROM holds if left out
   --left-out FILE  gets as JSON what was left out, assumed or changed; standard output has it in words in any case
 
-Nothing is left out without a line. Nothing is written where hull would refuse the case: its first 20 faults are told. docs/CSV.md says what is read
-of each form. It needs neither the program nor SciPy.
+Nothing is left out without a line. Nothing is written where hull would refuse the case: its first 20 faults are told.
+docs/CSV.md says what is read of each form. It needs neither the program nor SciPy.
 """
 import json
 import os

@@ -6,7 +6,8 @@ usage: convex_prices.py CASE SCHEDULE PRICES MIXTURE [--within MONEY] [--rounds 
   PRICES, MIXTURE  two files that are written, both or none. What is there is replaced, but for a file that is read
   --within MONEY   the search ends at a distance of at most that, in the currency; 1.00 if left out
   --rounds N       it ends after so many rounds at most; 150 if left out
-  --seconds S      the program is ended after so many seconds, at most 2000000, and nothing is written then; if left out, the rounds alone limit its work
+  --seconds S      the program is ended after so many seconds, at most 2000000, and nothing is written then; if left out,
+                   the rounds alone limit its work
   --best-schedule S2  the best schedule known: the last line then tells the schedule's part of the gap from the duality gap
   --hull PROGRAM   the program; the launcher of this repository if left out
 

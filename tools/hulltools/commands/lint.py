@@ -6,7 +6,8 @@ usage: lint.py CASE [SCHEDULE] [--prices F] [--mixture F] [--highest-cost C] [--
   SCHEDULE         a schedule of it, and with --prices and --mixture such files too
   --highest-cost C a marginal cost above this is odd, in the currency per MWh; 1000 if left out
   --hours H        how long a period is, as 0.25 or 1/12, from 1/3600 to 8784; 1 if left out
-  --most N         of the faults of a file's text, of its form and of its rules so many are told, 1000 if left out; the others are counted
+  --most N         of the faults of a file's text, of its form and of its rules so many are told, 1000 if left out; the
+                   others are counted
   --all            each finding in words; of one rule five are told if left out
   --json           the findings as JSON: level, rule, file, line, kind, unit, periods, text and, of an error, the fault line of hull
 

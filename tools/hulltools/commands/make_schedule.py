@@ -5,9 +5,11 @@ usage: make_schedule.py CASE SCHEDULE [--gap G] [--nodes N] [--seconds S] [--fol
   CASE            a case as `hull` reads it (docs/FORMATS.md)
   SCHEDULE        where the schedule is written, once `hull check` has accepted it
   --gap G         end at a cost within this share of the solver's bound; 0.0005 if left out
-  --nodes N       end after so many nodes of the solver's tree, and take what it has, with status 3; at most 2147483647, 200 if left out
-  --seconds S     an outer limit, at most 2000000: after so many seconds, and two more for what the solver has to say, the search is ended and refused, and
-                  nothing is written; 1800 if left out. A call of the program is ended after so many where they are given
+  --nodes N       end after so many nodes of the solver's tree, and take what it has, with status 3; at most 2147483647,
+                  200 if left out
+  --seconds S     an outer limit, at most 2000000: after so many seconds, and two more for what the solver has to say, the
+                  search is ended and refused, and nothing is written; 1800 if left out. A call of the program is ended
+                  after so many where they are given
   --follow FILE   no search: the commitments of a schedule in megawatts from elsewhere, and whole kilowatts as near to its powers as
                   can be; of these the cheapest, and powers that FILE hasn't are free. JSON as egret and UnitCommitment.jl write
                   it, plain or .json.gz, or as a schedule of hull in megawatts, the folder of a solved PyPSA network, or a csv with the columns

@@ -9,7 +9,8 @@ usage: report.py csv TEXT.. FOLDER [--case F --schedule F] [--currency] [--names
   csv     writes runs.csv, proposals.csv, prices.csv, units.csv and responses.csv to FOLDER, those of them that have rows. The first
           column has the name of the text, so several can be given at once: of `hull price`, `settle`, `convex`, `bound`, `fixed` and
           `certify`
-  plot    draws prices, values and payments of a text of `hull price`, `settle` or `convex` (PNG, SVG or PDF; needs matplotlib, and takes its own defaults)
+  plot    draws prices, values and payments of a text of `hull price`, `settle` or `convex` (PNG, SVG or PDF; needs
+          matplotlib, and takes its own defaults)
   page    writes one HTML file that needs nothing else, of a text of `hull price`, `settle` or `convex`
   prices  writes the chosen prices of a text of `hull price`, or those of a text of `hull settle` or `convex`, as a prices file
   mixture writes the mixture of a text of `hull convex` as a file that `hull certify` reads

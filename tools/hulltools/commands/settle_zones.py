@@ -7,7 +7,8 @@ usage: settle_zones.py CASE SCHEDULE ZONES [--to FOLDER] [--currency C] [--secon
   --to FOLDER      units.csv and the settlement of each zone are written there, together, with files.sha256, which has their sums; what this tool
                    wrote there before is replaced, and a file of another's that has such a name is refused. If left out, the table is printed
   --currency C     what money is in, for the heads of the table
-  --seconds S      a settlement is ended after so many seconds, at most 2000000, and nothing is written then; if left out, the case alone limits its work
+  --seconds S      a settlement is ended after so many seconds, at most 2000000, and nothing is written then; if left
+                   out, the case alone limits its work
   --hull PROGRAM   the program that settles; the launcher of this repository if left out
 
 `hull settle` works out a settlement for each zone's prices, and each unit's line is taken from that of its zone. What a unit earns, its payment,

@@ -30,8 +30,9 @@ usage: study.py CASE FOLDER [--schedule S] [--best-schedule S2 | --no-schedule] 
 
   --gap, --nodes      when a search for a schedule ends, as for make_schedule.py
   --within, --rounds  when the search of `hull convex` ends: at a distance of 1.00, or after 150 rounds, if left out
-  --seconds S         an outer limit of each step, at most 2000000. After so many seconds, 1800 if left out, a solver is ended, and so is a call of the program,
-                      whose work ends by rounds and case if left out. A list that takes longer is left out, and the page says so
+  --seconds S         an outer limit of each step, at most 2000000. After so many seconds, 1800 if left out, a solver is
+                      ended, and so is a call of the program, whose work ends by rounds and case if left out.
+                      A list that takes longer is left out, and the page says so
   --hull PROGRAM      the program that checks, settles and certifies; the launcher of this repository if left out
 
 Nothing that is written was chosen by the clock: what the searches find depends on the files, the words and the versions of SciPy and HiGHS,

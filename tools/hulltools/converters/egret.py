@@ -56,7 +56,8 @@ class Model:
         self.periods, self.per_hour = len(keys), 60 / length
         if self.per_hour != 1:
             notes.changed(
-                f"periods of {length_in_words(60 / self.per_hour)}: ramps and costs, which the file has per hour, are scaled to a period"
+                f"periods of {length_in_words(60 / self.per_hour)}: "
+                "ramps and costs, which the file has per hour, are scaled to a period"
             )
 
     def case(self) -> Object:

@@ -16,7 +16,7 @@ CELL = re.compile(r"[+-]?([0-9]+\.?[0-9]*|\.[0-9]+)([eE][+-]?[0-9]+)?")
 
 
 def cell_number(text: str, what: str) -> Decimal:
-    """The number of a cell, which is finite, and has no more digits and no larger exponent than a number of a JSON text."""
+    """The number of a cell: finite, with no more digits and no larger exponent than a number of a JSON text has."""
     if not CELL.fullmatch(text):
         raise HullError(one_line(f"{what}: a number is due, and {text[:60]!r} is found"))
     try:
