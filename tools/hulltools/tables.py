@@ -32,7 +32,9 @@ UNITS = {  # how a number is told: the places that the point moves, and the ends
 }
 # Where a spreadsheet may find a formula, an empty cell or the mark that tells these apart: at the beginning of a name, and behind what parts
 # cells in one country or another.
-PLACE, BEGUN = r"(?:\A|(?<=[;\t\r\n]))", r"(?=[\t\r\n]|\s*[=+\-@\uff1d\uff0b\uff0d\uff20'])"
+# (A look ahead ends at the next such place, so that a name of any length is looked through once.)
+PLACE = r"(?:\A|(?<=[;\t\r\n]))"
+BEGUN = r"(?=[\t\r\n]|[^\S\t\r\n]*[=+\-@\uff1d\uff0b\uff0d\uff20'])"
 FORMULA, MARK = re.compile(PLACE + BEGUN), re.compile(f"{PLACE}'{BEGUN}")
 
 

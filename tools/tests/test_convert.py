@@ -8,6 +8,7 @@ import random
 import shutil
 import subprocess
 import tempfile
+import time
 import unittest
 from typing import Any, Dict, List, Tuple
 
@@ -16,6 +17,7 @@ import other_forms
 from tool import EXAMPLES, PROGRAM, run
 
 from hulltools.cases import read_case
+from hulltools.tables import as_it_was, told_apart
 
 
 class WithRoom(unittest.TestCase):
@@ -194,6 +196,12 @@ class Csv(WithRoom):
             self.assertEqual(self.read(f"{self.room}/1/{file}"), self.read(f"{self.room}/2/{file}"))
         self.assertEqual(self.read(f"{self.room}/1.json"), self.read(f"{self.room}/2.json"))
         self.assertEqual(read_case(f"{self.room}/1.json"), read_case(f"{self.room}/case.json"))
+
+    def test_a_long_name_is_looked_through_once(self) -> None:
+        began = time.process_time()
+        for text in (" \t" * 100_000, "; " * 100_000, " " * 200_000, "'\t" * 100_000, " \t'" * 100_000):
+            self.assertEqual(as_it_was(str(told_apart(text))), text)
+        self.assertLess(time.process_time() - began, 10)
 
     def test_a_cell_without_an_end_is_refused(self) -> None:
         folder = self.folder()
