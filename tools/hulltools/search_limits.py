@@ -2,17 +2,16 @@
 from dataclasses import dataclass
 from typing import Optional
 
-from .errors import HullError
+from .options import MOST_SECONDS, number_option
 
 SECONDS = 1800.0  # how long a step of a solver may take where nobody says
-MOST_SECONDS = 2_000_000  # (23 days; the system counts few more)
 MOST_NODES = 2**31 - 1  # (the solver's)
 
 
 def refuse_seconds(seconds: Optional[float]) -> None:
     """Refuses a limit of time that the system doesn't keep."""
-    if seconds is not None and not 0 <= seconds <= MOST_SECONDS:
-        raise HullError(f"a limit of {seconds:g} s: 0 to {MOST_SECONDS:,} is due")
+    if seconds is not None:
+        number_option("seconds", seconds, 0, MOST_SECONDS)
 
 
 @dataclass

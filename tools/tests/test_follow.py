@@ -74,7 +74,7 @@ class Follow(unittest.TestCase):
             "plan.json", "--deviations", f"{self.room}/../{os.path.basename(self.room)}/made.json"
         )
         self.assertEqual(status, 1)
-        self.assertIn("schedule and deviations need a file each\n", said)
+        self.assertIn("made.json: this is to be two of the files that are written\n", said)
         self.assertFalse(os.path.exists(f"{self.room}/made.json"))
 
     def test_names_of_tables_are_marked_for_spreadsheets(self) -> None:

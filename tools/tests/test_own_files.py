@@ -190,6 +190,7 @@ class Tables(InFolder):
 
     def test_the_files_of_a_case_stay(self) -> None:
         shutil.copytree(f"{EXAMPLES}/csv", self.folder)
+        os.chmod(self.folder, 0o755)  # (that of a release may be read-only)
         before = self.all()
         for status, said in (self.report(REPORT), self.settle(zones={"C": {"energy": [98]}}, default="C")):
             self.assertEqual((status, said.count("\n"), self.all()), (2, 1, before))

@@ -42,9 +42,9 @@ class Ranges(unittest.TestCase):
 
     def test_seconds_of_calls(self) -> None:
         for given in (2_000_001, -1.0, float("nan"), float("inf")):
-            with self.assertRaisesRegex(HullError, "0 to 2,000,000 is due"):
+            with self.assertRaisesRegex(HullError, "at most 2,000,000 is due"):
                 Hull("true", seconds=given)
-            with self.assertRaisesRegex(HullError, "0 to 2,000,000 is due"):
+            with self.assertRaisesRegex(HullError, "at most 2,000,000 is due"):
                 run_apart(len, ("",), "counting", given)
 
     def test_nodes(self) -> None:

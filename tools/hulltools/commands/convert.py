@@ -60,7 +60,8 @@ def body(words: Sequence[str], tell: Callable[[str], None]) -> int:
     ask.add_argument("--left-out")
     given = ask.parse_args(words)
     need_output()
-    refuse_twice([*([given.to] if given.to.endswith(".json") else names_of_files(given.to)), given.left_out])
+    for name in [given.to] if given.to.endswith(".json") else names_of_files(given.to):
+        refuse_twice([name, given.left_out])  # (each alone, since links in a folder are replaced)
     notes = Notes()
     case = read_form(given.from_name, notes, given.form or form_of(given.from_name))
     text, inputs = case_text(case), inputs_of(given.from_name)

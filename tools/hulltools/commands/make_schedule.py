@@ -118,8 +118,6 @@ def body(words: Sequence[str], tell: Tell) -> int:
     for output in (given.schedule, given.deviations):
         if output:
             try_output(output, inputs)
-    if given.deviations and os.path.realpath(given.deviations) == os.path.realpath(given.schedule):
-        raise HullError(f"{given.deviations}: schedule and deviations need a file each")
     found, cost, reached = make(given, search_limits(given), tell)
     tell(f"hull check accepts {given.schedule}: cost {money(cost)}; {reached}")
     return 0 if found.is_near else MISSED_GAP
