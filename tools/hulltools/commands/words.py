@@ -11,8 +11,9 @@ from typing import Optional, TypeVar, Union
 
 from ..fast_start import FastStart
 from ..numbers import millionths
+from ..options import MOST_SECONDS
 from ..outputs import ROUNDS, WITHIN
-from ..search_limits import MOST_NODES, MOST_SECONDS, SECONDS, SearchLimits
+from ..search_limits import MOST_NODES, SECONDS, SearchLimits
 
 MISSED_GAP = 3  # the status where a schedule is written that misses the gap
 HOURS = re.compile(r"[0-9./]{1,40}")
