@@ -255,6 +255,18 @@ class Words(Workflow):
         self.assertEqual(steps_in(said), {"report": 1})
 
 
+class Large(unittest.TestCase):
+    def test_a_file_that_hull_refuses_for_its_size_is_not_read(self) -> None:
+        contents = script("contents")
+        with tempfile.TemporaryDirectory() as room:
+            with open(f"{room}/report.txt", "wb") as file:
+                file.truncate(10**12)
+            self.assertEqual(contents.sum_of(f"{room}/report.txt"), "1000000000000 bytes")
+            with self.assertRaises(contents.HullError) as why:
+                contents.refuse_too_large(f"{room}/report.txt")
+            self.assertIn("has 1,000,000,000,000 bytes, and hull takes 67,108,864 at most", str(why.exception))
+
+
 class Waits(unittest.TestCase):
     def test_a_step_that_waits_says_so_and_not_for_ever(self) -> None:
         contents = script("contents")

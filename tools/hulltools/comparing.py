@@ -6,7 +6,7 @@ from dataclasses import dataclass
 from decimal import Decimal, InvalidOperation
 from typing import Dict, List, Optional
 
-from .errors import HullError, one_line, rows_told_with
+from .errors import HullError, one_line, refuse_more_cells, refuse_twice_named, rows_told_with
 from .numbers import Millionths
 from .outputs import Owed
 from .settlement_rules import paid
@@ -47,9 +47,11 @@ def statement_of(name: str, text: str, unit: str = "unit", amount: str = "amount
         missing = [it for it in (unit, amount) if it not in (rows.fieldnames or [])]
     if missing:
         raise HullError(f"{name}: there is no column {missing[0]!r}")
+    refuse_twice_named(rows.fieldnames, name)
     found: Dict[str, Millionths] = {}
     with rows_told_with(name):
         for number, row in enumerate(rows, 2):
+            refuse_more_cells(row, f"{name}, row {number}")
             key = (row[unit] or "").strip()
             more = amount_of(row[amount] or "", f"{name}, row {number}")
             found[key] = Millionths(found.get(key, 0) + more)

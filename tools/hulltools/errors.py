@@ -10,7 +10,7 @@ import subprocess
 import sys
 import tempfile
 import threading
-from collections.abc import Callable, Iterator, Sequence
+from collections.abc import Callable, Iterator, Mapping, Sequence
 from types import FrameType
 from typing import Any, BinaryIO, Optional, Union, cast
 
@@ -247,6 +247,19 @@ def rows_told_with(name: str) -> Iterator[None]:
         yield
     except csv.Error as why:
         raise HullError(f"{name}: no table of comma separated values: {why}") from None
+
+
+def refuse_twice_named(columns: Optional[Sequence[str]], name: str) -> None:
+    """Refuses a table of which two columns have one name."""
+    twice = next((it for place, it in enumerate(columns or ()) if it in (columns or ())[:place]), None)
+    if twice is not None:
+        raise HullError(f"{name}: the column {one_line(twice)!r} stands twice")
+
+
+def refuse_more_cells(row: Mapping[Optional[str], object], where: str) -> None:
+    """Refuses a row that has more cells than there are columns, as a reader of tables has it."""
+    if None in row:
+        raise HullError(f"{where}: it has more cells than the first line names columns. Is a decimal comma in it?")
 
 
 def read_bytes(name: Name, what: str, most: int = 67_108_864, begins: bytes = b"") -> bytes:

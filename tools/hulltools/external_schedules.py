@@ -13,7 +13,7 @@ from .cases import Case
 from .converters import unpacked
 from .converters.pypsa import solution
 from .json_texts import Refused, is_number, parse
-from .errors import HullError, one_line, rows_told_with
+from .errors import HullError, one_line, refuse_more_cells, refuse_twice_named, rows_told_with
 from .tables import as_it_was
 
 MOST_MEGAWATTS = 1_000_000
@@ -105,8 +105,14 @@ def followed_csv(data: bytes, name: str, periods: int) -> Followed:
         raise HullError(
             f"{name}: the first line has to name the columns unit, period, on, power, reserve, with commas between them"
         )
+    refuse_twice_named(reader.fieldnames, name)
     found = Followed()
+    seen: set[Tuple[str, str]] = set()
     for line, row in enumerate(rows, 2):
+        refuse_more_cells(row, f"{name}, line {line}")
+        if (row["unit"], row["period"]) in seen:
+            raise HullError(f"{name}, line {line}: a second row of this unit and period")
+        seen.add((row["unit"], row["period"]))
         try:
             period = int(row["period"])
             for what in ("on", "power", "reserve"):

@@ -9,6 +9,8 @@ from .pages import largest_payments, short
 from .errors import HullError
 from .outputs import AnyPriced, Report
 
+FORMS = ("png", "svg", "pdf")
+
 
 def plain(name: str) -> str:
     """A name that matplotlib doesn't read as a formula."""
@@ -66,6 +68,9 @@ def ready_matplotlib() -> None:
 
 def picture_of(priced: AnyPriced, name: str) -> bytes:
     """The bytes of a picture in the form that the name's end says."""
+    form = os.path.splitext(name)[1].lstrip(".").lower() or "png"
+    if form not in FORMS:
+        raise HullError(f"{name}: a picture's name ends with .{', .'.join(FORMS)}")
     ready_matplotlib()
     import matplotlib.pyplot as plt
 
@@ -80,7 +85,7 @@ def picture_of(priced: AnyPriced, name: str) -> bytes:
     try:
         # (a letter that the font hasn't is drawn as a box, and isn't told)
         warnings.filterwarnings("ignore", "Glyph .* missing")
-        figure.savefig(into, dpi=110, format=os.path.splitext(name)[1].lstrip(".") or "png")
+        figure.savefig(into, dpi=110, format=form)
     except ValueError as error:
         raise HullError(f"{name}: {error}") from None
     plt.close(figure)

@@ -77,6 +77,17 @@ class Follow(unittest.TestCase):
         self.assertIn("made.json: this is to be two of the files that are written\n", said)
         self.assertFalse(os.path.exists(f"{self.room}/made.json"))
 
+    def test_tables_that_a_reader_would_cut(self) -> None:
+        for text, due in (
+            ("unit,period,on,power\nG1,1,1,60,5\n", "line 2: it has more cells than the first line names columns."),
+            ("unit,period,power,power\nG1,1,1,2\n", "the column 'power' stands twice"),
+            ("unit,period,power\nG1,1,1\nG1,1,2\n", "line 3: a second row of this unit and period"),
+        ):
+            with open(f"{self.room}/plan.csv", "w", encoding="utf-8") as file:
+                file.write(text)
+            status, said = self.follow("plan.csv")
+            self.assertEqual((status, due in said), (1, True), said)
+
     def test_names_of_tables_are_marked_for_spreadsheets(self) -> None:
         text = table_text([Deviation("thermal", "=1+1", 1, "power", 2.0, Kilowatts(1))])
         self.assertIn("\nthermal,'=1+1,1,power,", text)

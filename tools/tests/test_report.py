@@ -277,7 +277,9 @@ class Report(unittest.TestCase):
         self.assertEqual(self.report("plot", self.write(ODD), "picture.svg", python=python)[0], 0)
         odd_letters = self.write(SETTLED.replace("W1", "\uff1d\U0001f600\u0378"))
         self.assertEqual(self.report("plot", odd_letters, "picture.png", python=python), (0, "", ""))
-        status, _, said = self.report("plot", f"{EXAMPLES}/first/price.output", "picture.odd", python=python)
+        for name in ("picture.odd", "picture.pgf"):
+            status, _, said = self.report("plot", f"{EXAMPLES}/first/price.output", name, python=python)
+            self.assertEqual((status, f"{name}: a picture's name ends with .png, .svg, .pdf" in said), (1, True), said)
         self.assertEqual((status, said.count("\n")), (1, 1))
 
     def test_a_picture_is_drawn_with_the_defaults_of_matplotlib(self):

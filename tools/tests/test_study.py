@@ -204,6 +204,8 @@ class Compare(unittest.TestCase):
         for text, due in (
             ("unit,sum\n", "there is no column 'amount'"),
             ("unit,amount\nPEAKER,five\n", "row 2: 'five' is no amount"),
+            ("unit,amount\nSTEEL,150\nPEAKER,500,00\n", "row 3: it has more cells than the first line names columns."),
+            ("unit,amount,amount\nPEAKER,9,500\n", "the column 'amount' stands twice"),
             ("unit,amount\nPEAKER,nan\n", "row 2: 'nan' is no amount"),
             ('unit,amount\nPEAKER,"5,00"\n', "row 2: '5,00' is no amount"),
             ("unit,amount\nPEAKER,5_00\n", "row 2: '5_00' is no amount"),

@@ -17,7 +17,15 @@ from hulltools.errors import HullError, one_line
 
 HIDDEN = ".steps"  # the folder of records and flags
 CHUNK = 1 << 20
+MOST_BYTES = 67_108_864  # (of a file that hull takes)
 MOST_SECONDS_OF_WAIT = 300
+
+
+def refuse_too_large(name: str) -> None:
+    """Refuses a file that hull refuses for its size, before it is copied."""
+    size = os.path.getsize(name)
+    if size > MOST_BYTES:
+        raise HullError(f"{one_line(name)} has {size:,} bytes, and hull takes {MOST_BYTES:,} at most")
 
 
 def sum_of(name: str, is_input: bool = False) -> Optional[str]:
@@ -33,7 +41,9 @@ def sum_of(name: str, is_input: bool = False) -> Optional[str]:
 
 @functools.lru_cache(maxsize=4096)
 def sum_of_contents(name: str, looks: Tuple[int, ...]) -> str:
-    """The sum, which is worked out once for as long as the file looks as it does."""
+    """The sum, which is worked out once for as long as the file looks as it does; of a file that hull refuses its size alone."""
+    if looks[1] > MOST_BYTES:
+        return f"{looks[1]} bytes"
     found = hashlib.sha256()
     with open(name, "rb") as file:
         while part := file.read(CHUNK):

@@ -16,7 +16,7 @@ from hashlib import sha256
 from typing import Any, Callable, Dict, List, Optional
 
 from contents import alone, audit_mark, basis, drop, log_of, make_folders, record_name, record_of, refuse_taken
-from contents import sum_of, why_not_current, write_record, write_whole
+from contents import refuse_too_large, sum_of, why_not_current, write_record, write_whole
 from days import HOME, LISTS, REPORT, STEPS, Day, handed_settings, refusal_of_name, shown
 from hulltools.errors import HullError, one_line
 from hulltools.faults import sentence
@@ -163,6 +163,7 @@ def make_audit(day: Day, room: str, sums: Dict[str, Optional[str]]) -> Made:
     os.makedirs(folder)
     copies = {what: f"{folder}/{os.path.basename(day.path(what))}" for what in STEPS["audit"].takes}
     for what, name in copies.items():
+        refuse_too_large(day.path(what))
         shutil.copyfile(day.path(what), name)
         if sum_of(name) != sums[what]:
             raise HullError("its files were changed meanwhile")
@@ -252,7 +253,7 @@ def tell(text: str) -> None:
 
 
 def body(words: List[str]) -> Optional[str]:
-    ask = argparse.ArgumentParser(prog="step.py", usage=(__doc__ or "").split("usage: ")[1].split("\n")[0])
+    ask = argparse.ArgumentParser(prog="step.py", usage=(__doc__ or "usage: ").split("usage: ")[1].split("\n")[0])
     ask.add_argument("step", choices=list(STEPS))
     ask.add_argument("day")
     ask.add_argument("--attempt", type=int, default=1)

@@ -20,6 +20,7 @@ from runs import refuse_audits_inside, settings_file
 from hulltools.errors import HullError, one_line
 from hulltools.outputs import read_output
 from hulltools.tables import Table
+from hulltools.telling import write_text
 
 HEADS = (
     "day list kind unit cost:money dual_value:money payments:money make_whole:money lost_opportunity:money surplus:money uplift:money "
@@ -175,11 +176,10 @@ def write_files(settings: Settings, summary: Summary) -> None:
 
 
 def tell(settings: Settings, text: str) -> None:
-    print(text, end="")
     count = len(text.splitlines())
     told = "nothing is left" if not count else f"{count} line{'s' * (count > 1)} of what is left"
     where = os.path.join(settings.results, "")
-    print(f"{one_line(where)}table.csv, page.html and left.txt are written; {told}", flush=True)
+    write_text(f"{text}{one_line(where)}table.csv, page.html and left.txt are written; {told}\n")
 
 
 def settings_of(name: str, audits: str) -> Settings:
@@ -207,7 +207,7 @@ def settings_of(name: str, audits: str) -> Settings:
 
 
 def body(words: List[str]) -> int:
-    ask = argparse.ArgumentParser(prog="summary.py", usage=(__doc__ or "").split("usage: ")[1].split("\n")[0])
+    ask = argparse.ArgumentParser(prog="summary.py", usage=(__doc__ or "usage: ").split("usage: ")[1].split("\n")[0])
     ask.add_argument("--settings", required=True)
     ask.add_argument("--audits", default="")
     ask.add_argument("--quiet", action="store_true")
