@@ -11,7 +11,7 @@ export LC_ALL=C
 unset CDPATH
 # (in a hook these name another repository; the word is a list of names)
 # shellcheck disable=SC2046
-unset $(git rev-parse --local-env-vars)
+unset $(git rev-parse --local-env-vars) TAR_OPTIONS GZIP
 home=$(cd -- "$(dirname -- "$(readlink -f -- "${BASH_SOURCE[0]}")")/.." && pwd)
 # shellcheck source=tools/made_of.sh
 . "$home/tools/made_of.sh"
@@ -39,7 +39,7 @@ look() {
 gather() {
     local names
     mapfile -d '' -t names < <(git -C "$home" ls-files -z README.md CHANGELOG.md LICENSE NOTICE hull docs examples tools workflow | grep -zvxE "$own")
-    git -C "$home" archive HEAD -- "${names[@]}" | tar -xm -C "$1" -f - || fail "the files can't be copied"
+    git -C "$home" -c core.autocrlf=false -c core.eol=lf -c core.attributesFile=/dev/null archive HEAD -- "${names[@]}" | tar -xm -C "$1" -f - || fail "the files can't be copied"
     { mkdir "$1/bin" && cp -- "$shipped" "$1/bin/hull"; } || fail "the program can't be copied"
     cat >"$1/VERSION" <<END
 hull $version

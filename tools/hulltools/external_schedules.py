@@ -4,6 +4,7 @@ from __future__ import annotations
 import csv
 import io
 import os
+import re
 from dataclasses import dataclass, field
 from decimal import Decimal
 from typing import Any, Dict, List, Tuple
@@ -35,6 +36,9 @@ class Followed:
     reserve: Dict[str, List[float]] = field(default_factory=dict)
 
 
+DIGITS = re.compile("[0-9]{1,18}")
+
+
 def number(value: Any, name: str, where: str) -> float:
     if isinstance(value, bool) or is_number(value) and -MOST_MEGAWATTS <= value <= MOST_MEGAWATTS:
         return float(value)
@@ -48,11 +52,13 @@ def object_of(value: object, name: str, what: str) -> Dict[str, Any]:
 
 
 def numbers(value: Any, periods: int, name: str, where: str) -> List[float]:
-    """A list over the periods, plain or under `values` as egret has it, or by period as text."""
+    """A list over the periods, plain or under `values` as egret has it, or by period as text, in the order of these texts' numbers."""
     if isinstance(value, dict) and "values" in value:
         value = value["values"]
     if isinstance(value, dict):
-        value = list(value.values())
+        if not all(DIGITS.search(key) for key in value):
+            raise HullError(f"{name}: {one_line(where)}: a list is due, or numbers by period")
+        value = [value[key] for key in sorted(value, key=lambda it: list(map(int, DIGITS.findall(it))))]
     if not isinstance(value, list) or len(value) != periods:
         raise HullError(f"{name}: {one_line(where)}: a list of {periods} numbers is due")
     return [number(it, name, where) for it in value]
@@ -160,8 +166,14 @@ def followed_file(name: str, periods: int) -> Followed:
         raise HullError(f"{name}: no csv text: {why}") from None
 
 
+def strangers(followed: Followed, case: Case) -> List[str]:
+    """The names of units that the case hasn't, and which nothing follows."""
+    known = {it.name for it in case.thermal} | {it.name for it in case.renewable} | {it.name for it in case.bids}
+    return sorted({*followed.on, *followed.power, *followed.reserve} - known)
+
+
 def read_followed(name: str, case: Case) -> Followed:
-    """What a schedule from elsewhere says. Units that the case hasn't are skipped."""
+    """What a schedule from elsewhere says. Units that the case hasn't are skipped; `strangers` names them."""
     found = (followed_network if os.path.isdir(name) else followed_file)(name, case.periods)
     for unit in case.thermal:
         if unit.name not in found.on and unit.name in found.power:

@@ -16,7 +16,9 @@ import other_forms
 from tool import PROGRAM, python_with, run
 
 from hulltools.deviations import Deviation, table_text
-from hulltools.external_schedules import followed_csv
+from hulltools.errors import HullError
+from hulltools.external_schedules import followed_csv, numbers
+from hulltools.json_texts import parse
 from hulltools.numbers import Kilowatts
 
 
@@ -76,6 +78,20 @@ class Follow(unittest.TestCase):
         self.assertEqual(status, 1)
         self.assertIn("made.json: this is to be two of the files that are written\n", said)
         self.assertFalse(os.path.exists(f"{self.room}/made.json"))
+
+    def test_periods_as_keys_count_by_their_numbers(self) -> None:
+        for keys in [str(period) for period in range(1, 13)], [f"{hour}:00" for hour in range(24)]:
+            value = parse(json.dumps({key: keys.index(key) for key in sorted(keys)}).encode())
+            self.assertEqual(numbers(value, len(keys), "f", "x"), [float(place) for place in range(len(keys))])
+        with self.assertRaises(HullError):
+            numbers(parse(b'{"a": 1}'), 1, "f", "x")
+
+    def test_a_unit_that_the_case_has_not_is_told(self) -> None:
+        plan = self.megawatts()
+        plan["renewable"]["WINDY"] = plan["renewable"]["WIND1"]
+        other_forms.write_json(f"{self.room}/plan.json", plan)
+        status, said = self.follow("plan.json")
+        self.assertEqual((status, "the case has no WINDY, which it names" in said), (0, True), said)
 
     def test_tables_that_a_reader_would_cut(self) -> None:
         for text, due in (

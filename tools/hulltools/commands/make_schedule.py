@@ -39,7 +39,7 @@ from typing import Optional, Union
 
 from ..cases import Case, read_case
 from ..deviations import deviations, farthest, in_words, table_text
-from ..external_schedules import read_followed
+from ..external_schedules import read_followed, strangers
 from ..linear import need_scipy
 from ..numbers import money
 from ..program import Hull
@@ -79,6 +79,8 @@ def followed_schedule(given: Given, case: Case) -> tuple[Made, str]:
     if given.deviations:
         write_whole(given.deviations, table_text(found), [given.case, given.follow])
     told = in_words(found, given.follow)
+    if unknown := strangers(followed, case):
+        told += f"; the case has no {', '.join(unknown[:3])}{', ..' * (len(unknown) > 3)}, which it names"
     if given.tolerance is not None and farthest(found, "power") > 1e3 * given.tolerance:
         raise HullError(f"nothing is written, since {told}; --tolerance {given.tolerance:g} MW was asked for")
     return made, told
