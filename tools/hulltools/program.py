@@ -33,7 +33,6 @@ from .outputs import ROUNDS, WITHIN, Certificate, Convex, Report, Settlement, pa
 from .prices import FlatPrices
 from .progress import step
 from .refusals import Held, refusal
-from .search_limits import refuse_seconds
 
 MOST_WORK = 50_000_000  # proposals times units times periods that `hull price` takes
 HOME = os.path.dirname(os.path.dirname(os.path.dirname(os.path.abspath(__file__))))
@@ -65,11 +64,10 @@ class Hull:
     def __init__(self, program: Optional[Name] = None, tell: Optional[Tell] = None, seconds: Optional[float] = None):
         if program is not None and not is_name(program):
             raise HullError(f"`hull` is the place of the program, and no `{type(program).__name__}` can be that")
-        refuse_seconds(seconds)
+        self.seconds = seconds_option(seconds)
         self.program = os.fspath(program or default_program())
         self.commands: dict[str, bool] = {}
         self.tell: Tell = tell or (lambda text: None)
-        self.seconds = seconds_option(seconds)
         self.told = False
         self.last_text = b""
 
