@@ -13,6 +13,7 @@ from typing import TYPE_CHECKING, Any, Optional, SupportsFloat, Union
 
 from .beside import need_beside
 from .cases import Case
+from .costs import Costs
 from .numbers import decimal_text
 from .errors import HullError, one_line
 from .options import float_of, number_option, told_value
@@ -111,10 +112,10 @@ def tables_of(
     texts: Iterable[Text], case: Optional[Case] = None, schedule: Optional[Schedule] = None, currency: bool = False
 ) -> dict[str, Table]:
     """The tables of some texts by name; demand, requirement and the schedule stand beside where these are given."""
-    tables = {name: Table(heads.split(), currency) for name, heads in HEADS.items()}
+    tables, costs = {name: Table(heads.split(), currency) for name, heads in HEADS.items()}, Costs()
     for text in texts:
         if isinstance(text, (Report, Settlement, Convex, Fixed)):
-            need_beside(text, case, schedule)
+            need_beside(text, case, schedule, costs)
         if isinstance(text, (Report, Settlement, Convex)):
             add_priced(tables, text, case, schedule)
         elif isinstance(text, Fixed):

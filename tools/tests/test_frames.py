@@ -1,4 +1,6 @@
 """Tables of texts: names that are told apart, and the unit of numbers. What needs pandas is in with_pandas.py."""
+import copy
+import glob
 import os
 import re
 import subprocess
@@ -51,6 +53,61 @@ class Tables(unittest.TestCase):
             warnings.simplefilter("error")
             told = text.tables()["runs"]
         self.assertEqual(dict(zip(told.heads, told.rows[0]))["payments_currency"], 164)
+
+
+class Beside(unittest.TestCase):
+    """A case or a schedule that isn't the text's is refused, as far as the numbers of the text tell."""
+
+    def setUp(self):
+        self.files = f"{EXAMPLES}/windows/case.json", f"{EXAMPLES}/windows/schedule.json"
+        self.case = hulltools.read_case(self.files[0])
+        self.schedule = hulltools.read_schedule(self.files[1], self.case)
+        self.settled = hulltools.settle(*self.files, hulltools.per_mwh(30, 1.5), hull=PROGRAM)
+        self.texts = self.settled, *map(hulltools.read_output, glob.glob(f"{EXAMPLES}/windows/[pf]*.output"))
+
+    def refused(self, due, text, *given):
+        with self.assertRaisesRegex(hulltools.HullError, due):
+            text.tables(*given)
+
+    def other(self, kind):
+        """The schedule with another power of a unit of the kind that is on."""
+        found = copy.deepcopy(self.schedule)
+        plan = next(it for (of, _), it in found.plans.items() if of == kind and it.power[0])
+        plan.power[0] -= 1
+        return found
+
+    def test_their_own_are_taken(self):
+        self.assertGreater(len(self.texts), 2)
+        for text in self.texts:
+            for given in (self.files, (self.case, self.schedule), (None, self.schedule), (self.case,)):
+                self.assertIn("units", text.tables(*given))
+
+    def test_a_changed_case(self):
+        unit = next(it.name for it in self.settled.units if it.kind == "thermal" and sum(it.power))
+        bids = copy.deepcopy(self.case)
+        for bid in bids.bids:
+            bid.blocks = [[(width, hulltools.MillionthsPerKilowatt(9_000_000)) for width, _ in it] for it in bid.blocks]
+        earn = "would earn something else at best$"
+        for case, why in (
+            (self.case.scaled(demand=1.01), "with its demand and reserve the dual value would be another one$"),
+            (self.case.scaled(renewable=0.5), f'the renewable unit "REN001" {earn}'),
+            (self.case.scaled(renewable=2), f'the renewable unit "REN001" {earn}'),
+            (self.case.scaled(offers={unit: 1.5}), f'the thermal unit "{unit}" {earn}'),
+            (bids, f'the bid unit "BID001" {earn}'),
+        ):
+            for given in ((case,), (case, self.schedule)):
+                self.refused(f"^hull settle is of another case than the one given: {why}", self.settled, *given)
+
+    def test_another_schedule(self):
+        both = "is of another schedule or case than the ones given"
+        for kind in ("thermal", "renewable", "bid"):
+            other = self.other(kind)
+            self.refused(
+                f"^hull settle {both}: the {kind} unit .* something else in it$", self.settled, self.case, other
+            )
+            self.refused("^hull settle is of another schedule than the one given: ", self.settled, None, other)
+        for text in self.texts[1:]:
+            self.refused(both, text, self.case, self.other("thermal"))
 
 
 class WithPandas(unittest.TestCase):
