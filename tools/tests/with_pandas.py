@@ -119,7 +119,7 @@ class Page(unittest.TestCase):
     def test_several_price_lists_run_as_the_page_has_them(self):
         """The first program of docs/PYTHON.md; its picture is drawn where matplotlib is."""
         with open(f"{ROOT}/docs/PYTHON.md", encoding="utf-8") as page:
-            program = re.search(r"```python\n(.*?)```", page.read(), re.S)[1]
+            program, by_kind = re.findall(r"```python\n(.*?)```", page.read(), re.S)[:2]
         if importlib.util.find_spec("matplotlib") is None:
             program = "".join(line for line in program.splitlines(True) if ".plot." not in line)
         known = {"hulltools": hulltools, "files": USUAL}
@@ -132,6 +132,10 @@ class Page(unittest.TestCase):
                 os.chdir(here)
         self.assertEqual(list(known["payments"].columns), ["97", "98", "99", "hull"])
         self.assertEqual(list(known["payments"]["97"].items()), [("G1", 74.0), ("W1", 97.0)])
+        exec(by_kind, known)
+        self.assertEqual(list(known["payments"].columns), ["97", "98", "99", "hull"])
+        due = [(("thermal", "G1"), 74.0), (("renewable", "W1"), 97.0)]
+        self.assertEqual(list(known["payments"]["97"].items()), due)
 
 
 if __name__ == "__main__":
