@@ -5,6 +5,7 @@ from decimal import Decimal
 from fractions import Fraction
 from typing import Any
 
+from .case_forms import need_form
 from .cases import Bid, Case, Factor, Renewable, Thermal
 from .errors import HullError, one_line
 from .json_texts import json_text
@@ -13,11 +14,11 @@ from .options import hint_of, is_flag, is_list, told_value
 
 
 def megawatts(number: int) -> Decimal:
-    return Decimal(decimal_text(number, 3))
+    return Decimal(decimal_text(int(number), 3))
 
 
 def currency(number: int) -> Decimal:
-    return Decimal(decimal_text(number, 6))
+    return Decimal(decimal_text(int(number), 6))
 
 
 def thermal_fields(unit: Thermal) -> dict[str, Any]:
@@ -45,7 +46,8 @@ def bid_fields(bid: Bid) -> dict[str, Any]:
 
 
 def text_of(case: Case) -> str:
-    """The file of a case, which reads as the same case."""
+    """The file of a case, which reads as the same case. Refuses numbers that aren't whole."""
+    need_form(case)
     found: dict[str, Any] = {"time_periods": case.periods}
     found.update(demand=[megawatts(it) for it in case.demand], reserves=[megawatts(it) for it in case.reserves])
     found["thermal_generators"] = {unit.name: thermal_fields(unit) for unit in case.thermal}

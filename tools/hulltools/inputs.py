@@ -7,6 +7,7 @@ import warnings
 from collections.abc import Iterable, Iterator, Mapping, Sized
 from typing import TYPE_CHECKING, Any, Optional, Protocol, SupportsFloat, Union, cast, overload
 
+from .case_forms import need_form
 from .cases import Case, case_of, read_case
 from .errors import HullError, Name, one_line
 from .json_texts import Refused, json_text, parse
@@ -176,7 +177,11 @@ def is_text_of_hull(name: Name) -> bool:
 def as_case(given: GivenCase) -> Case:
     if isinstance(given, dict):
         return case_of(told("case"), value_of("case", given))
-    return read_case(given) if is_name(given) else cast(Case, object_of("case", given))
+    if is_name(given):
+        return read_case(given)
+    found = cast(Case, object_of("case", given))
+    need_form(found)
+    return found
 
 
 def as_schedule(given: GivenSchedule, case: Case) -> Schedule:

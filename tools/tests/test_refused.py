@@ -12,6 +12,7 @@ from unittest import mock
 from tool import EXAMPLES, PROGRAM, ROOT, python_with, run
 
 import hulltools
+import hulltools.inputs
 from hulltools import HullError
 
 USUAL = f"{EXAMPLES}/usual/case.json", f"{EXAMPLES}/usual/schedule.json"
@@ -239,6 +240,40 @@ class Options(Refusals):
                 ),
             )
         )
+
+    def test_a_case_of_fractions(self):
+        """A number that a script has put into a case is told with its unit and its period."""
+        due = "a whole number of kilowatts is due"
+        calls = (
+            lambda case: case.write("nowhere.json"),
+            lambda case: hulltools.check(case, USUAL[1], PROGRAM),
+            lambda case: hulltools.frames([], case),
+            hulltools.inputs.as_case,
+        )
+        for owner, member, value, where, unit, period in (
+            ((), "demand", [8000.5], f"demand of period 1 is 8000.5: {due}", None, 1),
+            ((), "reserves", [float("nan")], f"reserves of period 1 is nan: {due}", None, 1),
+            ((), "demand", 8000, "demand is 8000: a list is due", None, None),
+            (("thermal",), "power0", 1.5, f'thermal "G1": power0 is 1.5: {due}', "G1", None),
+            (("thermal",), "on0", True, 'thermal "G1": on0 is True: a whole number is due', "G1", None),
+            (
+                ("thermal",),
+                "points",
+                [(0, 0), (9000, 0.5)],
+                'thermal "G1": points, item 2, is 0.5: a whole number of millionths is due',
+                "G1",
+                None,
+            ),
+            (("renewable",), "most", [Decimal("0.5")], f'renewable "W1": most of period 1 is 0.5: {due}', "W1", 1),
+        ):
+            for call in calls:
+                case, _ = usual()
+                setattr(getattr(case, owner[0])[0] if owner else case, member, value)
+                found = self.refused(f"the case given: {where}", call, case)
+                self.assertEqual((found.unit, found.period), (unit, period))
+        case, _ = usual()
+        case.demand = [8500.0]
+        self.assertIn('"demand": [8.5]', case.text())
 
     def test_the_program_is_told_from_a_name(self):
         with self.assertRaises(HullError) as found:
