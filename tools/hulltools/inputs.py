@@ -5,6 +5,7 @@ import os
 import sys
 import warnings
 from collections.abc import Iterable, Iterator, Mapping, Sized
+from decimal import Decimal
 from typing import TYPE_CHECKING, Any, Optional, Protocol, SupportsFloat, Union, cast, overload
 
 from .case_forms import need_form
@@ -105,10 +106,44 @@ def warn_caller(text: str) -> None:
     warnings.warn(text, stacklevel=outermost + 1)
 
 
+def numbers_of(value: Any, path: tuple[Any, ...] = ()) -> Iterator[tuple[tuple[Any, ...], Any]]:
+    """The floating and decimal numbers of a value that goes into a file, each with its path; items are counted from 1."""
+    if isinstance(value, Mapping):
+        for key, member in value.items():
+            yield from numbers_of(member, (*path, key))
+    elif isinstance(value, (list, tuple)):
+        for place, member in enumerate(value, 1):
+            yield from numbers_of(member, (*path, place))
+    elif isinstance(value, (float, Decimal)):
+        yield path, value
+    elif callable(getattr(value, "tolist", None)):
+        yield from numbers_of(value.tolist(), path)
+
+
+def place_of(what: str, path: tuple[Any, ...]) -> tuple[str, Optional[str], Optional[int]]:
+    """What a number of a dict is called, and the unit and the period that it is of."""
+    is_listed = {"startup", "piecewise_production"}.isdisjoint(map(str, path)) and len(path) > 1
+    period = next((it for it in path if isinstance(it, int)), None) if is_listed and what != "mixture" else None
+    if what == "prices" and len(path) == 2:
+        return f"the {path[0]} price of period {path[1]}", None, period
+    steps = (f"item {it}" if isinstance(it, int) else one_line(str(it)) for it in path)
+    unit = str(path[1]) if len(path) > 2 and what in ("case", "schedule", "mixture") else None
+    return f"{told(what)}: {', '.join(steps)}", unit, period
+
+
+def need_finite(what: str, given: dict[str, Any]) -> None:
+    """Refuses NaN and infinite numbers, which no file can have."""
+    for path, number in numbers_of(given):
+        if float_of(number) is None:
+            name, unit, period = place_of(what, path)
+            raise HullError(f"{name} is {told_value(number)}: a number is due", unit=unit, period=period)
+
+
 def text_given(what: str, given: dict[str, Any]) -> str:
     """The text of a file that holds a dict."""
     need_keys(what, given)
     try:
+        need_finite(what, given)
         return json_text(given)
     except (RecursionError, TypeError, ValueError) as why:
         raise HullError(f"{told(what)} can't be a file: {why}") from None

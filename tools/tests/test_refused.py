@@ -101,6 +101,47 @@ class Prices(Refusals):
         due = ["the energy prices"] * 2 + ["the energy price of period 1 is True"]
         self.assertEqual((ran.stdout.splitlines(), ran.stderr), ([*due, '{"energy": [98], "reserve": [0]}'], ""))
 
+    def test_a_dict_with_what_is_no_number(self):
+        """NaN is told of a dict as it is of `per_mwh`, with its period, and with its unit in a case or a schedule."""
+        nan = float("nan")
+        per_price = "the energy price of period 2 is nan: a number is due"
+        with mock.patch.object(hulltools.Hull, "need"):
+            for call in (
+                lambda: hulltools.per_mwh([98, nan]),
+                lambda: hulltools.settle(*USUAL, {"energy": [98, nan]}, hull=PROGRAM),
+                lambda: hulltools.settle(*USUAL, {"energy": (98.0, nan)}, hull=PROGRAM),
+            ):
+                self.assertEqual(self.refused(per_price, call).period, 2)
+        given = (
+            (("demand",), [nan], "demand, item 1", None, 1),
+            (
+                ("thermal_generators", "G1"),
+                {"startup": [{"lag": 1, "cost": nan}]},
+                "thermal_generators, G1, startup, item 1, cost",
+                "G1",
+                None,
+            ),
+            (
+                ("renewable_generators", "W1"),
+                {"power_output_maximum": [Decimal("NaN")]},
+                "renewable_generators, W1, power_output_maximum, item 1",
+                "W1",
+                1,
+            ),
+        )
+        for path, value, where, unit, period in given:
+            _, case = usual()
+            if len(path) > 1:
+                case[path[0]][path[1]].update(value)
+            else:
+                case[path[0]] = value
+            for call in (hulltools.inputs.as_case, lambda one: hulltools.check(one, USUAL[1], PROGRAM)):
+                with self.assertRaisesRegex(
+                    HullError, f"^the case given: {where} is (?i:nan): a number is due$"
+                ) as found:
+                    call(case)
+                self.assertEqual((found.exception.unit, found.exception.period), (unit, period))
+
     def test_prices_in_millionths_are_whole_and_within_the_limits(self):
         case, _ = usual()
         due = "a whole number from -10,000,000 to 10,000,000 is due"
