@@ -7,7 +7,8 @@ import warnings
 from collections.abc import Iterable, Mapping
 from typing import Any, Literal, Optional, Union, cast
 
-from .errors import HullError, Name, one_line
+from .errors import HullError, Name
+from .options import is_flag, told_value
 from .outputs import Text
 from .read_texts import read_output
 
@@ -64,9 +65,15 @@ def told_apart(names: list[str]) -> list[str]:
 
 def is_in_currency(money: Union[Money, bool], currency: Optional[bool]) -> bool:
     """Whether numbers are in the currency and MW. A flag, by its old name or in its old place, is taken still."""
-    if currency is not None or isinstance(money, bool):
-        warnings.warn('currency=False is called money="millionths" now', DeprecationWarning, stacklevel=3)
-        return bool(money if currency is None else currency)
+    name, flag = ("money", money) if currency is None else ("currency", currency)
+    if is_flag(flag):
+        due = MONEY[0] if flag else MONEY[1]
+        warnings.warn(f'{name}={bool(flag)} is called money="{due}" now', DeprecationWarning, stacklevel=3)
+        return bool(flag)
+    if currency is not None:
+        raise HullError(
+            f"currency is {told_value(currency)}: True or False is due; the names of columns have no name of a currency"
+        )
     if money not in MONEY:
-        raise HullError(f'money is {one_line(str(money))[:60]}: "currency" or "millionths" is due')
+        raise HullError(f'money is {told_value(money)}: "currency" or "millionths" is due')
     return money == "currency"

@@ -49,8 +49,20 @@ class Tables(unittest.TestCase):
             self.assertEqual(vars(text.tables(currency=False)["runs"]), vars(exact))
         self.assertEqual(warned.filename, __file__)
         self.assertEqual(dict(zip(exact.heads, exact.rows[0]))["payments_millionths"], 164000000)
+        for how, due in (
+            ({"currency": False}, 'currency=False is called money="millionths" now'),
+            ({"currency": True}, 'currency=True is called money="currency" now'),
+            ({"money": True}, 'money=True is called money="currency" now'),
+            ({"money": False}, 'money=False is called money="millionths" now'),
+        ):
+            with self.assertWarns(DeprecationWarning) as warned:
+                text.tables(**how)
+            self.assertEqual((str(warned.warning), warned.filename), (due, __file__))
         with warnings.catch_warnings():
             warnings.simplefilter("error")
+            for given in ("EUR", 1):
+                with self.assertRaisesRegex(hulltools.HullError, f"^currency is {given}: True or False is due; "):
+                    text.tables(currency=given)
             told = text.tables()["runs"]
         self.assertEqual(dict(zip(told.heads, told.rows[0]))["payments_currency"], 164)
 

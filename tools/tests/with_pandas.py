@@ -61,16 +61,18 @@ class Frames(unittest.TestCase):
                 self.assertEqual(call(text, money="millionths")["runs"]["payments_millionths"].tolist(), [164000000])
                 with self.assertRaisesRegex(hulltools.HullError, 'money is EUR: "currency" or "millionths" is due'):
                     call(text, money="EUR")
+                with self.assertRaisesRegex(hulltools.HullError, "currency is EUR: True or False is due"):
+                    call(text, currency="EUR")
 
     def test_the_flag_of_before_is_taken_still(self):
         text = settled(98)
         for call in (hulltools.frames, hulltools.Settlement.frames):
-            for found, head in (
-                (lambda: call(text, currency=False), "payments_millionths"),
-                (lambda: call(text, None, None, False), "payments_millionths"),
-                (lambda: call(text, currency=True), "payments_currency"),
+            for found, head, named in (
+                (lambda: call(text, currency=False), "payments_millionths", "currency=False"),
+                (lambda: call(text, None, None, False), "payments_millionths", "money=False"),
+                (lambda: call(text, currency=True), "payments_currency", "currency=True"),
             ):
-                with self.assertWarnsRegex(DeprecationWarning, 'money="millionths"') as warned:
+                with self.assertWarnsRegex(DeprecationWarning, f"^{named} is called money=") as warned:
                     self.assertIn(head, found()["runs"])
                 self.assertEqual(warned.filename, __file__)
 
