@@ -11,6 +11,7 @@ from tool import EXAMPLES, ROOT
 
 import hulltools
 from hulltools import inputs, outputs, studies, zones
+from hulltools.apart import GRACE
 from hulltools.provenance import Provenance, Source
 from hulltools.study_tables import hours_table, lists_table, units_table, zonal_table
 from hulltools.tables import HEADS, UNITS, Table
@@ -119,6 +120,11 @@ class Calls(unittest.TestCase):
         checked = {name: it[1].strip(",").replace(",", "") for name, it in told.items() if it}
         self.assertEqual(set(checked), {"proposals", "ahead", "radius", "within", "rounds"})
         self.assertEqual([name for name, number in checked.items() if number not in due[name]], [])
+
+    def test_a_solver_gets_the_seconds_that_are_told(self):
+        told = next(what for name, _, what in self.parameters() if CODE.findall(name) == ["seconds"])
+        self.assertIn("A solver gets two seconds more", told)
+        self.assertEqual(GRACE, 2)
 
     def parameters(self):
         return rows_below("| Parameter | Type | What it is |")
