@@ -16,7 +16,6 @@ from .lint_keys import KEYS
 from .mixtures import Mixture
 from .numbers import PRICE_LIMIT, MillionthsPerKilowatt
 from .options import counted, float_of, hint_of, is_list, items_of, number_option, told_value
-from .outputs import read_priced
 from .prices import FlatPrices, Prices, PriceSource, prices_of, read_prices
 from .schedules import Schedule, read_schedule, schedule_of
 from .zones import Zones, read_zones, zones_of
@@ -61,7 +60,6 @@ KEYS_GIVEN: dict[str, dict[Any, list[str]]] = {
     **cast(Any, KEYS),
     "zones": {(): ["zones", "units", "default"], ("zones", "*"): ["energy", "reserve"]},
 }
-TEXT = b"hull-"  # what each text of the program begins with
 
 
 def told(what: str) -> str:
@@ -198,17 +196,6 @@ def need_periods(what: str, given: object, case: object) -> None:
             )
 
 
-def is_text_of_hull(name: Name) -> bool:
-    """Whether a file holds what the program printed. A pipe isn't looked into, since it is read once."""
-    try:
-        if not os.path.isfile(name):
-            return False
-        with open(name, "rb") as file:
-            return file.read(len(TEXT)) == TEXT
-    except (OSError, ValueError):
-        return False
-
-
 def as_case(given: GivenCase) -> Case:
     if isinstance(given, dict):
         return case_of(told("case"), value_of("case", given))
@@ -234,7 +221,7 @@ def as_prices(given: GivenPrices, case: Case) -> Prices:
     if not is_name(given):
         need_periods("prices", given, case)
         return cast(Prices, object_of("prices", given))
-    return read_priced(given).prices if is_text_of_hull(given) else read_prices(given, case.periods)
+    return read_prices(given, case.periods)
 
 
 def as_zones(given: GivenZones, case: Case) -> Zones:

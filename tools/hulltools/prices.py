@@ -1,4 +1,5 @@
 """A prices file: an energy price and a reserve price for each period, in millionths per kilowatt here."""
+import os
 from collections.abc import Iterable, Sequence
 from dataclasses import dataclass
 from decimal import Decimal
@@ -7,7 +8,7 @@ from typing import TYPE_CHECKING, Any, Optional, SupportsFloat
 from .errors import HullError, Name, write_whole
 from .json_texts import is_number, read_json
 from .numbers import PRICE_LIMIT, MillionthsPerKilowatt, decimal_text, in_currency_per_mw, price
-from .options import float_of, is_list, items_of, told_value, whole_option
+from .options import counted, float_of, is_list, items_of, told_value, whole_option
 
 if TYPE_CHECKING:
     from pandas import DataFrame
@@ -15,6 +16,7 @@ if TYPE_CHECKING:
     from .tables import Start
 
 MOST_SHOWN = 4  # prices
+TEXT = b"hull-"  # what each text of the program begins with
 
 
 class PriceSource:
@@ -121,6 +123,17 @@ def prices_near(energy: Iterable[float], reserve: Iterable[float]) -> Prices:
     return found
 
 
+def is_text_of_hull(name: Name) -> bool:
+    """Whether a file holds what the program printed. A pipe isn't looked into, since it is read once."""
+    try:
+        if not os.path.isfile(name):
+            return False
+        with open(name, "rb") as file:
+            return file.read(len(TEXT)) == TEXT
+    except (OSError, TypeError, ValueError):
+        return False
+
+
 def list_of(name: Name, key: str, value: Any, periods: Optional[int], least: int) -> list[MillionthsPerKilowatt]:
     if not isinstance(value, list) or periods is not None and len(value) != periods:
         raise HullError(f"{name}: {key} isn't a list of a price for each period")
@@ -144,7 +157,16 @@ def prices_of(name: Name, value: Any, periods: Optional[int] = None) -> Prices:
 def read_prices(name: Name, periods: Optional[int] = None) -> Prices:
     """The prices of a file, in millionths per kilowatt and period.
 
-    Without a reserve list those are 0. Raises `HullError` where docs/FORMATS.md refuses the file, or where it hasn't a price for each of so
-    many periods, if these are given.
+    Without a reserve list those are 0. Of a file that is a text of `hull price`, `settle` or `convex` they are the prices of the text. Raises
+    `HullError` where docs/FORMATS.md refuses the file, or where it hasn't a price for each of so many periods, if these are given.
     """
-    return prices_of(name, read_json(name, "prices"), periods)
+    from .outputs import read_priced
+
+    if not is_text_of_hull(name):
+        return prices_of(name, read_json(name, "prices"), periods)
+    text = read_priced(name)
+    if periods not in (None, text.periods):
+        raise HullError(
+            f"{text.name}: the text has {counted(text.periods, 'period')}, and a price for each of {periods} is due"
+        )
+    return text.prices

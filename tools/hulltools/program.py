@@ -23,14 +23,13 @@ from .inputs import (
     as_case,
     content_of,
     is_name,
-    is_text_of_hull,
     need_periods,
     told,
 )
 from .numbers import Millionths, millionths
 from .options import number_option, seconds_option, whole_option
 from .outputs import ROUNDS, WITHIN, Certificate, Convex, Report, Settlement, parse_output, read_priced
-from .prices import FlatPrices
+from .prices import FlatPrices, is_text_of_hull
 from .progress import step
 from .refusals import Held, refusal
 

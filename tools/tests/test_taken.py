@@ -41,6 +41,15 @@ class Texts(unittest.TestCase):
         with self.assertRaisesRegex(hulltools.HullError, "this is a text of `hull bound`, where"):
             settled(f"{EXAMPLES}/two_units/bound.output")
 
+    def test_a_reader_of_prices_takes_a_text(self):
+        name = f"{EXAMPLES}/day/price.output"
+        due = hulltools.read_output(name).prices
+        self.assertEqual((hulltools.read_prices(name), hulltools.read_prices(pathlib.Path(name), 48)), (due, due))
+        with self.assertRaisesRegex(hulltools.HullError, "price.output: the text has 48 periods, and a price for each of 24 is due$"):
+            hulltools.read_prices(name, 24)
+        with self.assertRaisesRegex(hulltools.HullError, "this is a text of `hull bound`, where"):
+            hulltools.read_prices(f"{EXAMPLES}/two_units/bound.output")
+
     def test_a_pipe_is_read_once(self):
         """A pipe's writer hears of a reader who looks into it and goes."""
         with tempfile.TemporaryDirectory(prefix="hull-pipe-") as room:
