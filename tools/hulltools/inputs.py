@@ -1,11 +1,13 @@
 """Cases, schedules, prices, mixtures and zones as they are given: objects, dicts as files have them, or names."""
 from __future__ import annotations
 
+import math
 import os
 import sys
 import warnings
 from collections.abc import Iterable, Iterator, Mapping, Sized
 from decimal import Decimal
+from fractions import Fraction
 from typing import TYPE_CHECKING, Any, Optional, Protocol, SupportsFloat, Union, cast, overload
 
 from .case_forms import need_form
@@ -60,6 +62,7 @@ KEYS_GIVEN: dict[str, dict[Any, list[str]]] = {
     **cast(Any, KEYS),
     "zones": {(): ["zones", "units", "default"], ("zones", "*"): ["energy", "reserve"]},
 }
+FEWEST, MOST = 1e-9, 1e9  # between which a number is taken as it is written
 
 
 def told(what: str) -> str:
@@ -244,12 +247,22 @@ def as_beside(
     return read, as_schedule(schedule, read)
 
 
+def exact_of(value: Any, number: float) -> Fraction:
+    """A number as it is written, since 30.0005 is no floating number, or as it floats where it is written in another way."""
+    if FEWEST < abs(number) < MOST:  # (what is smaller rounds to 0, and what is larger is refused)
+        try:
+            return Fraction(str(value))
+        except ValueError:
+            pass
+    return Fraction(number)
+
+
 def price_of(price: Any, what: str, least: int, hours: float, period: Optional[int] = None) -> MillionthsPerKilowatt:
     """A price per MWh, for a period of so many hours, as a whole one."""
     number = float_of(price)
     if number is None:
         raise HullError(f"{what} is {told_value(price)}: a number is due", period=period)
-    found = round(min(max(number * hours, -1e9), 1e9) * 1e3)
+    found = math.floor(exact_of(price, number) * exact_of(hours, hours) * 1000 + Fraction(1, 2))
     if not least <= found <= PRICE_LIMIT:
         due = f"{least // 1000:,} to {PRICE_LIMIT // 1000:,} per MW and period"
         raise HullError(f"{what} is {told_value(price)}: from {due} is due", period=period)
@@ -297,7 +310,7 @@ def per_mwh(
     reserve: Union[PerMwh, Iterable[PerMwh], None] = None,
     hours_per_period: SupportsFloat = 1,
 ) -> Union[Prices, FlatPrices]:
-    """Prices of numbers in the currency per MWh, to the nearest thousandth per MW and period.
+    """Prices of numbers in the currency per MWh, to the nearest thousandth per MW and period; a half goes up, as in a file.
 
     A period is an hour where `hours_per_period` says nothing else. Energy and reserve have a number for each period,
     or one number that holds in all. Reserve prices are 0 where they are left out. Where neither is a list the prices

@@ -45,7 +45,9 @@ class Texts(unittest.TestCase):
         name = f"{EXAMPLES}/day/price.output"
         due = hulltools.read_output(name).prices
         self.assertEqual((hulltools.read_prices(name), hulltools.read_prices(pathlib.Path(name), 48)), (due, due))
-        with self.assertRaisesRegex(hulltools.HullError, "price.output: the text has 48 periods, and a price for each of 24 is due$"):
+        with self.assertRaisesRegex(
+            hulltools.HullError, "price.output: the text has 48 periods, and a price for each of 24 is due$"
+        ):
             hulltools.read_prices(name, 24)
         with self.assertRaisesRegex(hulltools.HullError, "this is a text of `hull bound`, where"):
             hulltools.read_prices(f"{EXAMPLES}/two_units/bound.output")
@@ -85,6 +87,29 @@ class Numbers(unittest.TestCase):
             self.assertEqual(hulltools.per_mwh(30, 2).over(periods), due.prices)
             self.assertEqual(hulltools.per_mwh(30, [2] * periods), due.prices)
             self.assertEqual(hulltools.per_mwh([30] * periods, 2), due.prices)
+
+    def test_numbers_are_rounded_as_in_a_file(self):
+        for given, due in (
+            (30.0005, 30001),
+            (30.0015, 30002),
+            (30.0025, 30003),
+            (Decimal("30.0004999"), 30000),
+            (-30.0005, -30000),
+            (-30.0015, -30001),
+            ("1.0005", 1001),
+            (Fraction(1, 3), 333),
+            (Fraction(2, 3), 667),
+            (1e-300, 0),
+            (Decimal("1e-400000000"), 0),
+        ):
+            self.assertEqual(hulltools.per_mwh(given).energy, due)
+            if isinstance(given, float):
+                self.assertEqual(settled({"energy": [given]}).prices.energy, [due])
+        self.assertEqual(hulltools.per_mwh(30.001, hours_per_period=0.5).energy, 15001)
+        self.assertEqual(hulltools.per_mwh(30, hours_per_period=Fraction(1, 3)).energy, 10000)
+
+    def test_flat_prices_over_periods_have_a_dict(self):
+        self.assertEqual(hulltools.per_mwh(30).over(2).in_currency_per_mw(), {"energy": [30, 30], "reserve": [0, 0]})
 
     def test_a_case_out_of_form_is_refused_by_the_program(self):
         with self.assertRaises(hulltools.HullError) as found:
