@@ -47,6 +47,8 @@ if TYPE_CHECKING:
 
 
 MOST_NODES = 2**31 - 1
+LISTS = (list, tuple, set, frozenset)
+WORD = re.compile(r"(?<![^\s(])--([a-z][a-z-]*[a-z])\b")  # an option of a tool
 OWN_OPTIONS = ("schedule", "best_schedule", "prices", "zones", "hull", "help")  # of study.py, which are parameters here
 
 
@@ -70,7 +72,8 @@ def make_schedule(
         number_option("gap", gap, 0), whole_option("nodes", nodes, 1, MOST_NODES), seconds_option(seconds)
     )
     need_scipy()
-    found = search_schedule(as_case(case), limits)
+    with told_of_a_call():
+        found = search_schedule(as_case(case), limits)
     Hull(hull).check(case, found.schedule)
     return found
 
@@ -156,12 +159,39 @@ def settle_zones(case: GivenCase, schedule: GivenSchedule, zones: GivenZones, hu
     return settle_each(settle, read, as_schedule(schedule, read), as_zones(zones, read))
 
 
+def in_a_call(text: str) -> str:
+    """A text of a tool in the words of a call: `seconds` in place of --seconds."""
+    return WORD.sub(lambda found: f"`{found[1].replace('-', '_')}`", text)
+
+
+@contextlib.contextmanager
+def told_of_a_call() -> Iterator[None]:
+    """Tells what is refused in the words of a call."""
+    try:
+        yield
+    except HullError as why:
+        why.line, why.sentence = in_a_call(why.line), in_a_call(why.sentence)
+        raise
+
+
+def word_of(key: str, value: object) -> str:
+    """The value of an option as a word; a list of names has commas between them."""
+    if not isinstance(value, LISTS):
+        return str(value)
+    names = [str(name) for name in value]
+    wrong = next((name for name in names if "," in name), None)
+    if wrong is not None:
+        raise HullError(f"{key} has {told_value(wrong)}: a name in this list has no comma")
+    return ",".join(names)
+
+
 def words_of(options: Dict[str, object]) -> List[str]:
-    """Options of study.py as its words: True is a word alone, None and False are left out."""
+    """Options of study.py as its words: True is a word alone; None, False and empty lists are left out."""
     found = []
     for key, value in options.items():
-        if value is not None and value is not False:
-            found.append(f"--{key.replace('_', '-')}" + ("" if value is True else f"={value}"))
+        is_empty = isinstance(value, LISTS) and not value
+        if value is not None and value is not False and not is_empty:
+            found.append(f"--{key.replace('_', '-')}" + ("" if value is True else f"={word_of(key, value)}"))
     return found
 
 
@@ -230,7 +260,7 @@ def study(
 ) -> Study:
     """The study of a case, whose page and tables go to the folder where one is given; `frames()` has its tables.
 
-    Without a schedule one is made. `prices` are further lists by name; the options are those of study.py, as `title="1 July"`, `skip="elmp"` or
+    Without a schedule one is made. `prices` are further lists by name; the options are those of study.py, as `title="1 July"`, `skip=["elmp"]` or
     `fast_start_up=2`. A list that takes too long is left out, and told in `notes`. Raises `HullError` where there is no such option, where a file
     isn't in form or is refused, and where no list was made; `KeyboardInterrupt` at an interrupt, after the folder got the lists that were there.
     """
@@ -253,12 +283,14 @@ def study(
             words.append(f"--prices={name}={room.name_of('prices', exact, told_as, f'{place}.prices')}")
         words += [f"--hull={os.fspath(hull)}"] if hull else []
         words = [room.name_of("case", case), to, *words]
-        asked = asked_of(arguments, words, options)
-        with room.told(), StudyFolder(to, inputs_of(asked)) as place_of:
+        with told_of_a_call():
+            asked = asked_of(arguments, words, options)
+        with told_of_a_call(), room.told(), StudyFolder(to, inputs_of(asked)) as place_of:
             found = study_of(asked, words, Hull(hull, seconds=asked.seconds), place_of.room, quiet, place_of.refuse)
             if folder:
                 write_results(found, place_of.room)
                 place_of.place(found.unfinished)
         if found.interrupted:
             raise found.interrupted
+        found.notes = list(map(in_a_call, found.notes))
         return found

@@ -13,7 +13,7 @@ from tool import EXAMPLES, PROGRAM, ROOT, python_with, run
 
 import hulltools
 import hulltools.inputs
-from hulltools import HullError
+from hulltools import HullError, calls
 
 USUAL = f"{EXAMPLES}/usual/case.json", f"{EXAMPLES}/usual/schedule.json"
 WINDOWS = f"{EXAMPLES}/windows/case.json", f"{EXAMPLES}/windows/schedule.json"
@@ -322,6 +322,24 @@ class Options(Refusals):
         due = "Posted: No such file or directory: `hull` is the place of the program, and `name` names a settlement"
         self.assertEqual((str(found.exception), found.exception.line), (due, "Posted: No such file or directory"))
         self.assertEqual(hulltools.Hull(PROGRAM).settle(*USUAL, hulltools.per_mwh(98), name="Posted").name, "Posted")
+
+
+class Words(Refusals):
+    """What a tool says by its words, and a call by its parameters."""
+
+    def test_options_are_told_as_parameters(self):
+        for told, due in (
+            ("give --seconds or --gap more", "give `seconds` or `gap` more"),
+            ("--skip foo: no such list (--fast-start-up)", "`skip` foo: no such list (`fast_start_up`)"),
+            ("a--b, x --, --1", "a--b, x --, --1"),
+        ):
+            self.assertEqual(calls.in_a_call(told), due)
+
+    def test_lists_are_words(self):
+        options = {"skip": ["elmp", "relaxation"], "fast_start": ("G1",), "search": True, "title": None, "zones": []}
+        self.assertEqual(calls.words_of(options), ["--skip=elmp,relaxation", "--fast-start=G1", "--search"])
+        due = "skip has a,b: a name in this list has no comma"
+        self.refused(due, calls.words_of, {"skip": ["a,b"]})
 
 
 class Sentences(unittest.TestCase):

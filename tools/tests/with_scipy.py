@@ -410,7 +410,10 @@ class Calls(unittest.TestCase):
             (lambda: hulltools.elmp(*given, most_up=1.5), "most_up is 1.5: a whole number from 0 to 1,000,000 is due"),
             (lambda: hulltools.elmp(*given, fast_start="GT"), r"fast_start is GT: .* as \['GT'\]"),
             (lambda: hulltools.study(*given, titel="x"), "`study` has no option `titel`: is `title` meant"),
-            (lambda: hulltools.study(*given, rounds="x"), "an option of `study` is refused: argument --rounds: .*'x'"),
+            (lambda: hulltools.study(*given, rounds="x"), "an option of `study` is refused: argument `rounds`: .*'x'"),
+            (lambda: hulltools.study(*given, skip="foo"), "`skip` foo: there is no such list: these are convex_hull, "),
+            (lambda: hulltools.study(*given, skip=["a,b"]), "skip has a,b: a name in this list has no comma"),
+            (lambda: hulltools.make_schedule(self.case, seconds=0), ".*: give `seconds` or `gap` more$"),
         ):
             said = io.StringIO()
             with contextlib.redirect_stderr(said), self.assertRaisesRegex(hulltools.HullError, f"^{due}"):
@@ -451,9 +454,9 @@ class Calls(unittest.TestCase):
             hulltools.study(self.case, self.schedule, hull=PROGRAM, colour="red")
 
     def test_the_study_of_the_page_runs(self):
-        """The second program of docs/PYTHON.md, behind its session."""
+        """The third program of docs/PYTHON.md, behind its session."""
         with open(f"{ROOT}/docs/PYTHON.md", encoding="utf-8") as page:
-            program = re.findall(r"```python\n(.*?)```", page.read(), re.S)[1]
+            program = re.findall(r"```python\n(.*?)```", page.read(), re.S)[2]
         known = {"hulltools": hulltools, "case": self.case.scaled(demand=1.02)}
         here = os.getcwd()
         with tempfile.TemporaryDirectory() as room, mock.patch.dict(os.environ, HULL=PROGRAM):
