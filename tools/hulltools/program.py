@@ -10,7 +10,7 @@ import subprocess
 import tempfile
 from collections.abc import Mapping
 from types import TracebackType
-from typing import Any, Optional, Type, cast
+from typing import Optional, Type, cast
 
 from .apart import OverTime, die_with_parent
 from .errors import HullError, Name, Tell, begun, one_line
@@ -29,7 +29,7 @@ from .inputs import (
 from .numbers import Millionths, millionths
 from .options import number_option, seconds_option, whole_option
 from .outputs import ROUNDS, WITHIN, Certificate, Convex, Report, Settlement, parse_output, read_priced
-from .prices import FlatPrices, is_text_of_hull
+from .prices import FlatPrices, Prices, is_text_of_hull
 from .progress import step
 from .refusals import Held, refusal
 
@@ -131,23 +131,19 @@ class Hull:
 
     def text_with(self, command: str, given: Mapping[str, Given], *more: str) -> bytes:
         """What a command prints of these files; each is held by a file for as long as it is needed."""
+        unread: Optional[HullError] = None
         with contextlib.ExitStack() as files:
             words = [command]
             for what, one in given.items():
                 if isinstance(one, FlatPrices):
-                    one = one.over(self.periods_of(given["case"], given["schedule"]))
-                need_periods(what, one, given["case"])
+                    one, unread = flat_over(one, cast(GivenCase, given["case"]))
+                if not unread:
+                    need_periods(what, one, given["case"])
                 words += [f"--{what}", files.enter_context(as_file(one, what))]
             output = self.text(*words, *more)
+        if unread:
+            raise unread
         return output
-
-    def periods_of(self, case: Any, schedule: Any) -> int:
-        """How many periods a case has; one that isn't in form is refused by the program."""
-        try:
-            return as_case(case).periods
-        except HullError:
-            self.check(case, schedule)
-            raise
 
     def check(self, case: GivenCase, schedule: GivenSchedule) -> Millionths:
         """The schedule's cost in millionths; HullError where it isn't feasible."""
@@ -209,6 +205,14 @@ class Hull:
         self.need("convex")
         output = self.text_with("convex", {"case": case, "schedule": schedule}, *more)
         return cast(Convex, parse_output("hull convex", output, ("hull-convex 1",)))
+
+
+def flat_over(prices: FlatPrices, case: GivenCase) -> tuple[Prices, Optional[HullError]]:
+    """Prices for the periods of a case. Of one that can't be read, prices of one period, and why: the command refuses it before its prices."""
+    try:
+        return prices.over(as_case(case).periods), None
+    except HullError as why:
+        return prices.over(1), why
 
 
 class as_file:

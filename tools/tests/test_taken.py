@@ -115,6 +115,14 @@ class Numbers(unittest.TestCase):
         with self.assertRaises(hulltools.HullError) as found:
             settled(hulltools.per_mwh(30), ({"time_periods": 0}, USUAL[1]))
         self.assertEqual((found.exception.status, found.exception.code), (3, 34))
+        for name, line in (
+            ("no.json", "hull settle ended with status 2: "),
+            (USUAL[1], "hull settle ended with status 3: "),
+        ):
+            with self.assertRaises(hulltools.HullError) as found:
+                settled(hulltools.per_mwh(30), (name, USUAL[1]))
+            self.assertEqual(found.exception.line[: len(line)], line)
+            self.assertTrue(found.exception.sentence.startswith(name), found.exception.sentence)
 
     def test_what_is_no_number_is_told(self):
         for given, told in (
