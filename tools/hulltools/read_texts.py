@@ -5,7 +5,7 @@ import re
 from collections.abc import Sequence
 from typing import Optional, TypeVar, Union, cast, overload
 
-from .errors import HullError, Name, read_bytes, shown_name
+from .errors import UNREADABLE, HullError, Name, read_bytes, shown_name
 from .options import told_value
 from .outputs import FORMS, Bound, Certificate, Convex, Fixed, Output, Report, Settlement, Text, parse_output
 
@@ -45,6 +45,18 @@ def refuse_others(shown: Name, data: bytes) -> None:
     raise HullError(f"{shown_name(shown)}: this is {is_a}: one of `hull` {', '.join(commands)} or {last} is due")
 
 
+def bytes_of_file(name: Name) -> bytes:
+    """What a file holds. What may have been meant as a text is told apart from a name."""
+    if isinstance(name, str) and not name.strip():
+        raise HullError("a file's name or a text of hull is due, and what is given is empty")
+    try:
+        return read_bytes(name, "a text of hull", most=2**31, begins=b"hull-")
+    except HullError as why:
+        if isinstance(name, str) and name.startswith("hull-") and why.status == UNREADABLE:
+            why.sentence = f"{why.line}: this is taken for a file's name, since a text of hull has several lines"
+        raise
+
+
 @overload
 def read_output(name: Name, due: type[Found]) -> Found:
     ...
@@ -65,6 +77,6 @@ def read_output(name: Name, due: Union[type[Text], Sequence[str], None] = None) 
     if isinstance(name, str) and name.startswith("hull-") and "\n" in name:
         data, shown = name.encode("utf-8", "surrogateescape"), "the text given"
     else:
-        data = read_bytes(name, "a text of hull", most=2**31, begins=b"hull-")
+        data = bytes_of_file(name)
     refuse_others(shown, data)
     return cast(Output, parse_output(shown, data, forms))

@@ -465,6 +465,18 @@ class Readers(Refusals):
             hulltools.read_output("x\n" * 5000)
         self.assertLess(len(str(found.exception)), 400)
 
+    def test_a_text_is_told_from_a_name(self):
+        empty = "a file's name or a text of hull is due, and what is given is empty"
+        none = "hull-settle 1: No such file or directory: this is taken for a file's name, since a text of hull has several lines"
+        self.check_rows(
+            (
+                (lambda: hulltools.read_output(""), empty),
+                (lambda: hulltools.read_output("\n"), empty),
+                (lambda: hulltools.read_output("hull-settle 1"), none),
+                (lambda: hulltools.read_output("nope"), "nope: No such file or directory"),
+            )
+        )
+
     def test_numbers_of_a_list_are_said_each(self):
         self.assertEqual(hulltools.in_currency([164000000, 5]), [Decimal(164), Decimal("0.000005")])
         self.assertEqual(hulltools.in_currency_per_mw([98500]), [Decimal("98.5")])
