@@ -151,7 +151,7 @@ def frames(
 class Priced(Text, PriceSource):
     """What reports and settlements have in common: one list of prices, and what each unit is owed at it."""
 
-    name: str
+    name: str = field(compare=False)
     periods: int
     cost: Millionths
     best: Row
@@ -237,7 +237,7 @@ class Bound(Text):
     """The text of `hull bound`."""
 
     command = "bound"
-    name: str
+    name: str = field(compare=False)
     proposals: int
     chosen: int
     value: Millionths
@@ -270,7 +270,7 @@ class Fixed(Text):
     """The text of `hull fixed`: the sides `hull` and `fixed`, and (kind, name, payment, payment) of each unit."""
 
     command = "fixed"
-    name: str
+    name: str = field(compare=False)
     hull: Side
     fixed: Side
     units: list[tuple[str, str, Millionths, Millionths]]
@@ -286,7 +286,7 @@ class Certificate(Text):
     """The text of `hull certify`."""
 
     command = "certify"
-    name: str
+    name: str = field(compare=False)
     periods: int
     units: int
     cost: Millionths

@@ -491,6 +491,9 @@ class Texts(Refusals):
             settled.write(f"{room}/settled")
             found = hulltools.read_output(f"{room}/settled", hulltools.Settlement)
         self.assertEqual((found.units, found.printed), (settled.units, settled.printed))
+        self.assertNotEqual(found.name, settled.name)
+        self.assertEqual(found, settled)
+        self.assertNotEqual(found, hulltools.settle(*USUAL, hulltools.per_mwh(97), hull=PROGRAM))
         made = hulltools.Certificate("x", *[0] * 11)
         self.refused("x wasn't read from a text of hull, so there is none to write", made.write, "nowhere")
 
