@@ -71,9 +71,10 @@ def why_not_plans(text: WithUnits, schedule: Schedule) -> Optional[str]:
     for unit in units_of(text):
         if unit not in schedule.plans:
             return f"{told(*unit)} isn't in it"
-        if len(schedule.plans[unit].power) != periods_of(text):
-            length = len(schedule.plans[unit].power)
-            return f"it has {counted(length, 'period')}, and the text has {periods_of(text)}"
+        plan = schedule.plans[unit]
+        for length in (len(plan.power), len(plan.on), len(plan.reserve)):
+            if length != periods_of(text):
+                return f"it has {counted(length, 'period')}, and the text has {periods_of(text)}"
     return None
 
 
@@ -117,11 +118,14 @@ def need_beside(text: WithUnits, case: Optional[Case], schedule: Optional[Schedu
         if why:
             raise HullError(f"{one_line(text.name)} is of another {what} given: {why}")
 
-    if case:
-        refuse("case than the one", why_not_case(text, case, costs))
-    if schedule:
-        refuse("schedule than the one", why_not_plans(text, schedule))
-    if schedule and case:
-        refuse("schedule or case than the ones", why_not_both(text, schedule, case, costs))
-    elif schedule and not isinstance(text, Fixed):
-        refuse("schedule than the one", why_not_paid(text, schedule))
+    try:
+        if case:
+            refuse("case than the one", why_not_case(text, case, costs))
+        if schedule:
+            refuse("schedule than the one", why_not_plans(text, schedule))
+        if schedule and case:
+            refuse("schedule or case than the ones", why_not_both(text, schedule, case, costs))
+        elif schedule and not isinstance(text, Fixed):
+            refuse("schedule than the one", why_not_paid(text, schedule))
+    except (IndexError, TypeError, ValueError):
+        raise HullError(f"what is given beside {one_line(text.name)} is out of form: a list is too short") from None

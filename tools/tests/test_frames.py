@@ -121,6 +121,16 @@ class Beside(unittest.TestCase):
         for text in self.texts[1:]:
             self.refused(both, text, self.case, self.other("thermal"))
 
+    def test_what_is_out_of_form(self):
+        for kind, member in (("renewable", "most"), ("thermal", "points")):
+            case = copy.deepcopy(self.case)
+            for unit in getattr(case, kind):
+                setattr(unit, member, [])
+            self.refused("^what is given beside hull settle is out of form: a list is too short$", self.settled, case)
+        other = copy.deepcopy(self.schedule)
+        next(iter(other.plans.values())).on.pop()
+        self.refused("it has 23 periods, and the text has 24$", self.settled, None, other)
+
 
 class WithPandas(unittest.TestCase):
     def test_all_that_needs_pandas(self):
